@@ -1,2 +1,6 @@
-mod Computed
+pub mod Computed
 mod WorkedRows
+pub mod CutPackets
+pub mod EndedShares
+mod Statuses
+mod NothingChanges
