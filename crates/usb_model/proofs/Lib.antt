@@ -1,2 +1,4 @@
 mod Computed
 mod WorkedRows
+pub mod Pieces
+pub mod Changes

@@ -1,0 +1,114 @@
+-- What a change of one name does to the interfaces and endpoints as each name sees them.
+use Rattle.std.proofs.Common.{◌≡◌, ℕ, ◌==◌, Bool, true, false, not, ◌&&◌, ◌||◌, Option, Some, None, option_map, refl, ap, ap₂, sym, ◌∙◌}
+use Rattle.std.specs.Prelude.{if◌then◌else◌}
+use Rattle.std.specs.Option.{option_and_then, option_map_or}
+use Rattle.std.proofs.lemmas.Bool.{eqb-true, eqb-false, ne_eqb, and_parts}
+use Rattle.usb_model.specs.declared.plain.endpoint.Endpoint.{Endpoint}
+use Rattle.usb_model.specs.Setup.{Setup, interface_of, is_within}
+use Rattle.usb_model.specs.Endpoint.{fresh}
+use Rattle.usb_model.specs.Machine.{Change, Keeps, Frees, Gains, Drops, Renews, Sets}
+use Rattle.usb_model.specs.Turns.{held_after, ends_after}
+use Rattle.usb_model.specs.World.{Claims, World, holder, is_its, is_others, claims_after, all_ends_after, is_blocked}
+use Rattle.usb_model.proofs.Pieces.{same_name}
+
+-- what was the name's own and is let go is nobody's
+own_freed : (h : ℕ) (o : Option ℕ) → is_its h (if is_its h o then None else o) ≡ false
+own_freed h None = refl
+own_freed h (Some g) = by_test (g == h) refl
+  where
+    by_test : (b : Bool) → (g == h) ≡ b → is_its h (if b then None else Some g) ≡ false
+    by_test true e = refl
+    by_test false e = e
+
+-- and what is another's is not let go
+other_freed : (g h : ℕ) (o : Option ℕ) → (h == g) ≡ false → is_its g (if is_its h o then None else o) ≡ is_its g o
+other_freed g h None differ = refl
+other_freed g h (Some k) differ = by_test (k == h) refl
+  where
+    by_test : (b : Bool) → (k == h) ≡ b → is_its g (if b then None else Some k) ≡ (k == g)
+    by_test true e = rw (eqb-true k h e) (sym differ)
+    by_test false e = refl
+
+own_dropped : (h : ℕ) (b : Bool) (o : Option ℕ) → is_its h (if b && is_its h o then None else o) ≡ (not b && is_its h o)
+own_dropped h true o = own_freed h o
+own_dropped h false o = refl
+
+other_dropped : (g h : ℕ) (b : Bool) (o : Option ℕ) → (h == g) ≡ false → is_its g (if b && is_its h o then None else o) ≡ is_its g o
+other_dropped g h true o differ = other_freed g h o differ
+other_dropped g h false o differ = refl
+
+own_gained : (h : ℕ) (b : Bool) (o : Option ℕ) → is_its h (if b then Some h else o) ≡ (b || is_its h o)
+own_gained h true o = same_name h
+own_gained h false o = refl
+
+-- what a change makes of the name's own interfaces is what its machine makes of them
+pub held_same : (h : ℕ) (claims : Claims) (change : Change) (d i : ℕ) → is_its h (claims_after h claims change d i) ≡ held_after (λ d i. is_its h (claims d i)) change d i
+held_same h claims Keeps d i = refl
+held_same h claims Frees d i = own_freed h (claims d i)
+held_same h claims (Gains dev k) d i = own_gained h ((dev == d) && (k == i)) (claims d i)
+held_same h claims (Drops dev k) d i = own_dropped h ((dev == d) && (k == i)) (claims d i)
+held_same h claims (Renews dev) d i = refl
+held_same h claims (Sets dev ep x) d i = refl
+
+-- an interface that nobody but one holds is not another's
+its_or_free : (g h : ℕ) (o : Option ℕ) → (h == g) ≡ false → is_others h o ≡ false → is_its g o ≡ false
+its_or_free g h None differ free = refl
+its_or_free g h (Some k) differ free = by_test (k == h) refl free
+  where
+    by_test : (b : Bool) → (k == h) ≡ b → not b ≡ false → (k == g) ≡ false
+    by_test true e free = rw (eqb-true k h e) differ
+    by_test false e free = absurd cc
+
+pub places_equal : (a b c d : ℕ) → ((a == c) && (b == d)) ≡ true → (a ≡ c) × (b ≡ d)
+places_equal a b c d e = let p = and_parts (a == c) (b == d) e in (eqb-true a c p.0, eqb-true b d p.1)
+
+other_gained : (g h : ℕ) (claims : Claims) (dev k d i : ℕ) → (h == g) ≡ false → is_others h (claims dev k) ≡ false
+    → is_its g (if (dev == d) && (k == i) then Some h else claims d i) ≡ is_its g (claims d i)
+other_gained g h claims dev k d i differ free = by_place ((dev == d) && (k == i)) refl
+  where
+    by_place : (b : Bool) → ((dev == d) && (k == i)) ≡ b → is_its g (if b then Some h else claims d i) ≡ is_its g (claims d i)
+    by_place true e =
+        let p = places_equal dev k d i e in
+        let free' : is_others h (claims d i) ≡ false = ap₂ (λ a b. is_others h (claims a b)) (sym p.0) (sym p.1) ∙ free in
+        differ ∙ sym (its_or_free g h (claims d i) differ free')
+    by_place false e = refl
+
+-- a change that is in nobody's way leaves another's interfaces
+pub held_other : (setup : Setup) (g h : ℕ) (w : World) (change : Change) (d i : ℕ) → (h == g) ≡ false → is_blocked setup h w change ≡ false
+    → is_its g (claims_after h w.claims change d i) ≡ is_its g (w.claims d i)
+unfolding is_blocked
+held_other setup g h w Keeps d i differ free = refl
+held_other setup g h w Frees d i differ free = other_freed g h (w.claims d i) differ
+held_other setup g h w (Gains dev k) d i differ free = other_gained g h w.claims dev k d i differ free
+held_other setup g h w (Drops dev k) d i differ free = other_dropped g h ((dev == d) && (k == i)) (w.claims d i) differ
+held_other setup g h w (Renews dev) d i differ free = refl
+held_other setup g h w (Sets dev ep x) d i differ free = refl
+
+-- an endpoint as the holder of its interface sees it
+abbrev pub seen : Bool → Endpoint → Option Endpoint
+seen b x = if b then Some x else None
+
+seen_gained : (b held : Bool) (x y : Endpoint) → seen (b || held) (if b then x else y) ≡ (if b then Some x else seen held y)
+seen_gained true held x y = refl
+seen_gained false held x y = refl
+
+seen_dropped : (b held : Bool) (y : Endpoint) → seen (not b && held) y ≡ (if b then None else seen held y)
+seen_dropped true held y = refl
+seen_dropped false held y = refl
+
+seen_renewed : (held : Bool) (x y : Endpoint) → seen held (if held then x else y) ≡ option_map (λ old. x) (seen held y)
+seen_renewed true x y = refl
+seen_renewed false x y = refl
+
+seen_set : (b held : Bool) (x y : Endpoint) → seen held (if b && held then x else y) ≡ (if b then option_map (λ old. x) (seen held y) else seen held y)
+seen_set true true x y = refl
+seen_set true false x y = refl
+seen_set false true x y = refl
+seen_set false false x y = refl
+
+-- whether the endpoint whose interface is k is seen by h
+abbrev holder_at : Claims → ℕ → Option ℕ → Option ℕ
+holder_at claims d k = option_and_then (λ i. claims d i) k
+
+abbrev within_at : ℕ → ℕ → ℕ → Option ℕ → Bool
+within_at dev i d k = (dev == d) && option_map_or (λ j. j == i) k false
