@@ -2,14 +2,15 @@
 use Rattle.std.proofs.Common.{◌≡◌, ℕ, ◌==◌, Bool, true, false, not, ◌&&◌, ◌||◌, Option, Some, None, option_map, refl, ap, ap₂, sym, ◌∙◌}
 use Rattle.std.specs.Prelude.{if◌then◌else◌}
 use Rattle.std.specs.Option.{option_and_then, option_map_or}
-use Rattle.std.proofs.lemmas.Bool.{eqb-true, eqb-false, ne_eqb, and_parts}
+use Rattle.std.proofs.lemmas.Bool.{eqb-true, eqb-false, ne_eqb, and_parts, and_right, false_from_ne_true}
+use Rattle.std.proofs.Math.Bool.{and-false}
 use Rattle.usb_model.specs.declared.plain.endpoint.Endpoint.{Endpoint}
 use Rattle.usb_model.specs.Setup.{Setup, interface_of, is_within}
 use Rattle.usb_model.specs.Endpoint.{fresh}
 use Rattle.usb_model.specs.Machine.{Change, Keeps, Frees, Gains, Drops, Renews, Sets}
 use Rattle.usb_model.specs.Turns.{held_after, ends_after}
 use Rattle.usb_model.specs.World.{Claims, World, holder, is_its, is_others, claims_after, all_ends_after, is_blocked}
-use Rattle.usb_model.proofs.Pieces.{same_name}
+use Rattle.usb_model.proofs.Pieces.{same_name, either_way}
 
 -- what was the name's own and is let go is nobody's
 own_freed : (h : ℕ) (o : Option ℕ) → is_its h (if is_its h o then None else o) ≡ false
@@ -106,9 +107,82 @@ seen_set true false x y = refl
 seen_set false true x y = refl
 seen_set false false x y = refl
 
--- whether the endpoint whose interface is k is seen by h
-abbrev holder_at : Claims → ℕ → Option ℕ → Option ℕ
-holder_at claims d k = option_and_then (λ i. claims d i) k
+-- the holder of an endpoint is that of its interface o
+abbrev held_at : Claims → ℕ → Option ℕ → Option ℕ
+held_at claims d o = option_and_then (λ i. claims d i) o
 
 abbrev within_at : ℕ → ℕ → ℕ → Option ℕ → Bool
-within_at dev i d k = (dev == d) && option_map_or (λ j. j == i) k false
+within_at dev k d o = (dev == d) && option_map_or (λ i. i == k) o false
+
+-- each kind of change, seen at the endpoint by the name whose change it is
+freed_end : (h : ℕ) (claims : Claims) (d : ℕ) (o : Option ℕ) → is_its h (held_at (claims_after h claims Frees) d o) ≡ false
+freed_end h claims d None = refl
+freed_end h claims d (Some i) = own_freed h (claims d i)
+
+gained_end : (h : ℕ) (claims : Claims) (dev k d : ℕ) (o : Option ℕ)
+    → is_its h (held_at (claims_after h claims (Gains dev k)) d o) ≡ (within_at dev k d o || is_its h (held_at claims d o))
+gained_end h claims dev k d None = rw (and-false (dev == d))
+gained_end h claims dev k d (Some i) = rw (either_way i k) (own_gained h ((dev == d) && (k == i)) (claims d i))
+
+dropped_end : (h : ℕ) (claims : Claims) (dev k d : ℕ) (o : Option ℕ)
+    → is_its h (held_at (claims_after h claims (Drops dev k)) d o) ≡ (not (within_at dev k d o) && is_its h (held_at claims d o))
+dropped_end h claims dev k d None = rw (and-false (dev == d))
+dropped_end h claims dev k d (Some i) = rw (either_way i k) (own_dropped h ((dev == d) && (k == i)) (claims d i))
+
+-- what a change makes of the name's own endpoints is what its machine makes of them
+pub ends_same : (setup : Setup) (h : ℕ) (claims : Claims) (ends : ℕ → ℕ → Endpoint) (change : Change) (d e : ℕ)
+    → seen (is_its h (holder setup (claims_after h claims change) d e)) (all_ends_after setup h claims ends change d e)
+    ≡ ends_after setup (λ d e. seen (is_its h (holder setup claims d e)) (ends d e)) change d e
+ends_same setup h claims ends Keeps d e = refl
+ends_same setup h claims ends Frees d e = rw (freed_end h claims d (interface_of setup d e))
+ends_same setup h claims ends (Gains dev k) d e =
+    rw (gained_end h claims dev k d (interface_of setup d e))
+    (seen_gained (is_within setup dev k d e) (is_its h (holder setup claims d e)) (fresh setup d e) (ends d e))
+ends_same setup h claims ends (Drops dev k) d e =
+    rw (dropped_end h claims dev k d (interface_of setup d e)) (seen_dropped (is_within setup dev k d e) (is_its h (holder setup claims d e)) (ends d e))
+ends_same setup h claims ends (Renews dev) d e = seen_renewed (is_its h (holder setup claims d e)) (fresh setup d e) (ends d e)
+ends_same setup h claims ends (Sets dev ep x) d e = seen_set ((dev == d) && (ep == e)) (is_its h (holder setup claims d e)) x (ends d e)
+
+-- an endpoint that a name doesn't see, or that stays
+unseen : (b : Bool) (x y : Endpoint) → (b ≡ true → x ≡ y) → seen b x ≡ seen b y
+unseen true x y e = ap (λ z. Some z) (e refl)
+unseen false x y e = refl
+
+-- an interface has one holder
+not_both : (g h : ℕ) (o : Option ℕ) → (h == g) ≡ false → is_its g o ≡ true → is_its h o ≡ false
+not_both g h None differ e = absurd cc
+not_both g h (Some k) differ e = rw (eqb-true k g e) (ne_eqb g h (λ q. eqb-false h g differ (sym q)))
+
+-- an interface that may be gained is not another's
+not_gained : (g h : ℕ) (claims : Claims) (dev k d : ℕ) (o : Option ℕ) → (h == g) ≡ false → is_others h (claims dev k) ≡ false
+    → is_its g (held_at claims d o) ≡ true → within_at dev k d o ≡ false
+not_gained g h claims dev k d None differ free its = absurd cc
+not_gained g h claims dev k d (Some i) differ free its = false_from_ne_true ((dev == d) && (i == k)) (λ same.
+    let p = places_equal dev i d k same in
+    let free' : is_others h (claims d i) ≡ false = ap₂ (λ a b. is_others h (claims a b)) (sym p.0) p.1 ∙ free in
+    let no : is_its g (claims d i) ≡ false = its_or_free g h (claims d i) differ free' in
+    absurd cc)
+
+ends_other : (setup : Setup) (g h : ℕ) (w : World) (change : Change) (d e : ℕ) → (h == g) ≡ false → is_blocked setup h w change ≡ false
+    → is_its g (holder setup w.claims d e) ≡ true → all_ends_after setup h w.claims w.ends change d e ≡ w.ends d e
+unfolding is_blocked
+ends_other setup g h w Keeps d e differ free its = refl
+ends_other setup g h w Frees d e differ free its = refl
+ends_other setup g h w (Gains dev k) d e differ free its = rw (not_gained g h w.claims dev k d (interface_of setup d e) differ free its)
+ends_other setup g h w (Drops dev k) d e differ free its = refl
+ends_other setup g h w (Renews dev) d e differ free its = rw (not_both g h (holder setup w.claims d e) differ its)
+ends_other setup g h w (Sets dev ep x) d e differ free its =
+    rw (and_right ((dev == d) && (ep == e)) (is_its h (holder setup w.claims d e)) (not_both g h (holder setup w.claims d e) differ its))
+
+holder_other : (setup : Setup) (g h : ℕ) (w : World) (change : Change) (d : ℕ) (o : Option ℕ) → (h == g) ≡ false → is_blocked setup h w change ≡ false
+    → is_its g (held_at (claims_after h w.claims change) d o) ≡ is_its g (held_at w.claims d o)
+holder_other setup g h w change d None differ free = refl
+holder_other setup g h w change d (Some i) differ free = held_other setup g h w change d i differ free
+
+-- a change that is in nobody's way leaves another's endpoints
+pub seen_other : (setup : Setup) (g h : ℕ) (w : World) (change : Change) (d e : ℕ) → (h == g) ≡ false → is_blocked setup h w change ≡ false
+    → seen (is_its g (holder setup (claims_after h w.claims change) d e)) (all_ends_after setup h w.claims w.ends change d e)
+    ≡ seen (is_its g (holder setup w.claims d e)) (w.ends d e)
+seen_other setup g h w change d e differ free =
+    rw (holder_other setup g h w change d (interface_of setup d e) differ free)
+    (unseen (is_its g (holder setup w.claims d e)) (all_ends_after setup h w.claims w.ends change d e) (w.ends d e) (ends_other setup g h w change d e differ free))

@@ -1,13 +1,21 @@
 -- One name's pieces of a shared list, after the first is taken and others join behind.
-use Rattle.std.proofs.Common.{append-nil, ◌≡◌, ℕ, ◌==◌, Bool, true, false, List, [], ◌∷◌, ◌++◌, Some, refl}
+use Rattle.std.proofs.Common.{append-nil, ◌≡◌, ℕ, ◌==◌, Bool, true, false, List, [], ◌∷◌, ◌++◌, Some, refl, sym}
 use Rattle.std.specs.Prelude.{if◌then◌else◌}
-use Rattle.std.proofs.lemmas.Bool.{eq-eqb}
+use Rattle.std.proofs.lemmas.Bool.{eqb-true, eqb-false, eq-eqb, ne_eqb}
 use Rattle.usb_model.specs.declared.plain.tagged.Tagged.{Tagged}
 use Rattle.usb_model.specs.Shared.{pieces_of, tagged, first_name, past_first}
 
 -- a name is the same as itself
 pub same_name : (h : ℕ) → (h == h) ≡ true
 same_name h = eq-eqb h h refl
+
+-- two numbers may be compared either way
+pub either_way : (a b : ℕ) → (a == b) ≡ (b == a)
+either_way a b = by_test (a == b) refl
+  where
+    by_test : (t : Bool) → (a == b) ≡ t → t ≡ (b == a)
+    by_test true e = sym (eq-eqb b a (sym (eqb-true a b e)))
+    by_test false e = sym (ne_eqb b a (λ q. eqb-false a b e (sym q)))
 
 append_if : {A : Type 0} (b : Bool) (x : A) (xs ys : List A) → (if b then x ∷ (xs ++ ys) else (xs ++ ys)) ≡ (if b then x ∷ xs else xs) ++ ys
 append_if true x xs ys = refl
