@@ -2,3 +2,4 @@ mod Computed
 mod WorkedRows
 pub mod Pieces
 pub mod Changes
+pub mod Fair
