@@ -3,3 +3,5 @@ mod WorkedRows
 pub mod Pieces
 pub mod Changes
 pub mod Fair
+pub mod Isolation
+pub mod States
