@@ -129,14 +129,14 @@ if_false : {A : Type 0} (b : Bool) (x y : A) → b ≡ false → (if b then x el
 if_false b x y e = rw e
 
 -- another is in the way of a step: nothing changes
-abbrev blocked_turn : ℕ → World → Turn
+abbrev pub blocked_turn : ℕ → World → Turn
 blocked_turn h w = record { entry = record { owner = Some h; reply = Refused HeldElsewhere }; world = w }
 
 -- nobody is: the step is made
 abbrev pub free_turn : Setup → ℕ → World → Step → Turn
 free_turn setup h w step = record { entry = record { owner = Some h; reply = (effect_to setup h w step).reply }; world = world_after setup h w step (effect_to setup h w step) }
 
-turn_blocked : (setup : Setup) (h : ℕ) (w : World) (step : Step) → is_blocked setup h w (effect_to setup h w step).change ≡ true → turn_of setup h w step ≡ blocked_turn h w
+pub turn_blocked : (setup : Setup) (h : ℕ) (w : World) (step : Step) → is_blocked setup h w (effect_to setup h w step).change ≡ true → turn_of setup h w step ≡ blocked_turn h w
 unfolding turn_of
 turn_blocked setup h w step e = if_true (is_blocked setup h w (effect_to setup h w step).change) _ _ e
 

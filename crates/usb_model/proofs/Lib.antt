@@ -5,3 +5,5 @@ pub mod Changes
 pub mod Fair
 pub mod Isolation
 pub mod States
+pub mod Times
+pub mod Parts
