@@ -7,3 +7,4 @@ pub mod Isolation
 pub mod States
 pub mod Times
 pub mod Parts
+pub mod Lines
