@@ -8,3 +8,4 @@ pub mod States
 pub mod Times
 pub mod Parts
 pub mod Lines
+pub mod Works
