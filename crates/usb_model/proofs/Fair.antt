@@ -29,7 +29,7 @@ use Rattle.usb_model.specs.Packets.{Outcome}
 use Rattle.usb_model.specs.Endpoint.{Doing}
 use Rattle.usb_model.specs.Serve.{next_answer, is_no_packet, serve_by, serve_gone, serve_first, serve}
 use Rattle.usb_model.specs.Command.{command}
-use Rattle.usb_model.specs.Deliver.{leads_blank, blanked, needs_reset, resume, deliver}
+use Rattle.usb_model.specs.Deliver.{leads_blank, needs_reset, resume, deliver}
 use Rattle.usb_model.specs.Machine.{Machine, end_at, Effect, refused_if, doing_at}
 use Rattle.usb_model.specs.Calls.{open_it, close_it, claim_it, release_it, reset_it, clear_it, submit_at, submit_it, Home, asks, ask_at, ask_it, callback_of, answer_at, answer_it}
 use Rattle.usb_model.specs.Turns.{serve_it, command_at, command_it, deliver_at, deliver_it, take_it, effect}

@@ -1,25 +1,22 @@
 -- What a handle sees of the world is what it sees alone.
-use Rattle.std.proofs.Common.{append-nil, ◌≡◌, ℕ, ◌==◌, Bool, true, false, not, ◌&&◌, List, [], ◌∷◌, ◌++◌, ◌⊎◌, inl, inr, Option, Some, None, map, refl, ap, ap₂, sym, ◌∙◌, subst}
+use Rattle.std.proofs.Common.{append-nil, ◌≡◌, ℕ, ◌==◌, Bool, true, false, List, [], ◌∷◌, ◌⊎◌, inl, inr, Option, Some, None, refl, ap, ap₂, sym, ◌∙◌, subst}
 use Rattle.std.specs.Prelude.{if◌then◌else◌}
 use Rattle.std.specs.Option.{option_and_then}
-use Rattle.std.specs.List.{list_any}
 use Rattle.std.proofs.lemmas.Bool.{eqb-true, and_right}
-use Rattle.std.proofs.lemmas.List.{map-append}
 use Rattle.usb_model.specs.declared.refused.Refused.TheVariants.{HeldElsewhere}
 use Rattle.usb_model.specs.declared.reply.Reply.{Reply}
 use Rattle.usb_model.specs.declared.reply.Reply.TheVariants.{Refused}
 use Rattle.usb_model.specs.declared.entry.Entry.{Entry}
 use Rattle.usb_model.specs.declared.step.Step.{Step}
-use Rattle.usb_model.specs.declared.step.Step.TheVariants.{Serve, Command, Deliver, Take, Unplug}
+use Rattle.usb_model.specs.declared.step.Step.TheVariants.{Command, Deliver, Take, Unplug}
 use Rattle.usb_model.specs.declared.plain.handle.Handle.{Handle}
-use Rattle.usb_model.specs.declared.plain.tagged.Tagged.{Tagged}
-use Rattle.usb_model.specs.Shared.{pieces_of, tagged, first_name, past_first}
-use Rattle.usb_model.specs.Setup.{Setup, interface_of, interfaces_of}
+use Rattle.usb_model.specs.Shared.{pieces_of, first_name}
+use Rattle.usb_model.specs.Setup.{Setup, interface_of}
 use Rattle.usb_model.specs.Endpoint.{fresh}
-use Rattle.usb_model.specs.Machine.{unused, Machine, new_machine, Change, Keeps, Frees, Gains, Drops, Renews, Sets, Effect}
-use Rattle.usb_model.specs.Turns.{effect, unplug_reply, takes_order, takes_news, takes_result, gone_after, machine_after, maker, alone_from, alone}
-use Rattle.usb_model.specs.World.{Claims, World, new_world, holder, is_its, is_others, machine_of, owner_of, claims_after, world_after, is_blocked, Turn, turn_of, turn_of_nobody, turn_by, turn}
-use Rattle.usb_model.specs.Journal.{Place, journal_from, journal, entries_in, steps_in, world_run, is_held_elsewhere, is_unplug, is_own, own_places, own, entries}
+use Rattle.usb_model.specs.Machine.{unused, new_machine, Effect}
+use Rattle.usb_model.specs.Turns.{effect, takes_order, takes_news, takes_result, gone_after, machine_after, maker, alone_from, alone}
+use Rattle.usb_model.specs.World.{World, new_world, is_its, machine_of, owner_of, world_after, is_blocked, Turn, turn_of, turn_of_nobody, turn_by, turn}
+use Rattle.usb_model.specs.Journal.{Place, journal_from, journal, entries_in, steps_in, is_held_elsewhere, is_unplug, is_own, own_places, own, entries}
 use Rattle.usb_model.proofs.Pieces.{same_name, pieces_kept, pieces_untouched}
 use Rattle.usb_model.proofs.Fair.{effect_is_fair}
 use Rattle.usb_model.proofs.Changes.{held_same, held_other, ends_same, seen_other}

@@ -9,3 +9,4 @@ pub mod Times
 pub mod Parts
 pub mod Lines
 pub mod Works
+pub mod Moves

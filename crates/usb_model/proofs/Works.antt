@@ -1,5 +1,5 @@
 -- Each kind of work at an endpoint is sound.
-use Rattle.std.proofs.Common.{◌≡◌, ℕ, ◌+◌, ◌≤◌, Bool, true, false, List, [], ◌∷◌, ◌++◌, Option, Some, None, map, refl, ap, sym, ◌∙◌, arith}
+use Rattle.std.proofs.Common.{◌≡◌, ℕ, Bool, true, false, List, [], ◌∷◌, Option, Some, None, map, refl, ap, sym, ◌∙◌, arith}
 use Rattle.std.specs.Prelude.{if◌then◌else◌}
 use Rattle.usb_model.specs.declared.errand.Errand.{Errand}
 use Rattle.usb_model.specs.declared.errand.Errand.TheVariants as errand
@@ -15,14 +15,13 @@ use Rattle.usb_model.specs.declared.plain.news.Event.{Event}
 use Rattle.usb_model.specs.declared.plain.news.Event.TheVariants as event
 use Rattle.usb_model.specs.Packets.{Outcome}
 use Rattle.usb_model.specs.Status.{halts}
-use Rattle.usb_model.specs.Endpoint.{Doing, is_waiting, is_blank, first_waiting, past_blanks, in_progress, past_number, live_numbers}
+use Rattle.usb_model.specs.Endpoint.{Doing, is_waiting, is_blank, first_waiting, past_blanks, in_progress, past_number}
 use Rattle.usb_model.specs.Serve.{serve_by, serve_gone, serve_first, serve}
 use Rattle.usb_model.specs.Command.{command}
-use Rattle.usb_model.specs.Deliver.{blanked, withdrawn, leads_blank, orders_it, resume, needs_reset, finished_result, line_after, deliver}
+use Rattle.usb_model.specs.Deliver.{blanked, withdrawn, leads_blank, resume, needs_reset, finished_result, line_after, deliver}
 use Rattle.usb_model.specs.Calls.{asks}
 use Rattle.usb_model.specs.Cut.{times}
-use Rattle.usb_model.proofs.Parts.{IsPart}
-use Rattle.usb_model.proofs.Lines.{keys, same_lives, keys-with_first, keys-with_ask, keys-past_blanks, result_numbers, uncut_keys, withdrawn_times, withdrawn_part, withdrawn_cut, finished_times, finished_part, IsSound, no_result}
+use Rattle.usb_model.proofs.Lines.{keys, same_lives, keys-with_first, keys-with_ask, keys-past_blanks, withdrawn_times, withdrawn_part, withdrawn_cut, finished_times, finished_part, IsSound, no_result}
 
 -- the first item that waits is in the state of waiting
 pub first_waits : (line : List Item) (x : Item) → first_waiting line ≡ Some x → x.state ≡ Waiting
