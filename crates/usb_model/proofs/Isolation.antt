@@ -22,15 +22,15 @@ use Rattle.usb_model.proofs.Fair.{effect_is_fair}
 use Rattle.usb_model.proofs.Changes.{held_same, held_other, ends_same, seen_other}
 
 -- the owner of a step that takes a piece has the first piece
-takes_its_order : (setup : Setup) (h : ℕ) (w : World) (step : Step) → owner_of setup w step ≡ Some h → takes_order step ≡ true → first_name w.orders ≡ Some h
+pub takes_its_order : (setup : Setup) (h : ℕ) (w : World) (step : Step) → owner_of setup w step ≡ Some h → takes_order step ≡ true → first_name w.orders ≡ Some h
 takes_its_order setup h w Command own takes = own
 takes_its_order setup h w _ own takes = absurd cc
 
-takes_its_news : (setup : Setup) (h : ℕ) (w : World) (step : Step) → owner_of setup w step ≡ Some h → takes_news step ≡ true → first_name w.news ≡ Some h
+pub takes_its_news : (setup : Setup) (h : ℕ) (w : World) (step : Step) → owner_of setup w step ≡ Some h → takes_news step ≡ true → first_name w.news ≡ Some h
 takes_its_news setup h w Deliver own takes = own
 takes_its_news setup h w _ own takes = absurd cc
 
-takes_its_result : (setup : Setup) (h : ℕ) (w : World) (step : Step) → owner_of setup w step ≡ Some h → takes_result step ≡ true → first_name w.results ≡ Some h
+pub takes_its_result : (setup : Setup) (h : ℕ) (w : World) (step : Step) → owner_of setup w step ≡ Some h → takes_result step ≡ true → first_name w.results ≡ Some h
 takes_its_result setup h w Take own takes = own
 takes_its_result setup h w _ own takes = absurd cc
 
@@ -39,7 +39,7 @@ owned_is_no_unplug : (setup : Setup) (h : ℕ) (w : World) (step : Step) → own
 owned_is_no_unplug setup h w (Unplug dev) own = absurd cc
 owned_is_no_unplug setup h w _ own = refl
 
-made_by_owner : (setup : Setup) (h : ℕ) (w : World) (step : Step) → owner_of setup w step ≡ Some h → maker h step ≡ Some h
+pub made_by_owner : (setup : Setup) (h : ℕ) (w : World) (step : Step) → owner_of setup w step ≡ Some h → maker h step ≡ Some h
 made_by_owner setup h w (Unplug dev) own = absurd cc
 made_by_owner setup h w _ own = refl
 

@@ -1,0 +1,12 @@
+//! The laws of isolation, over the definitions of the model. Each is the contract of a function with an empty body.
+
+ghost use Rattle.std.specs.Prelude.{ℕ, List};
+ghost use Rattle.usb_model.specs.declared.step.Step.{Step};
+ghost use Rattle.usb_model.specs.Setup.{Setup};
+ghost use Rattle.usb_purge.specs.Laws.{SeesAlone, RunsAlone};
+
+/// Handles are isolated, over any setup and any steps.
+pub fn purge()
+    ensures sees { (setup : Setup) (steps : List Step) (h : ℕ) → SeesAlone setup steps h }
+    ensures runs { (setup : Setup) (steps : List Step) (h : ℕ) → RunsAlone setup steps h }
+{}
