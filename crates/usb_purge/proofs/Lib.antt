@@ -1,1 +1,3 @@
 mod Alone
+mod Rises
+mod Calls

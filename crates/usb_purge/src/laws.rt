@@ -2,11 +2,19 @@
 
 ghost use Rattle.std.specs.Prelude.{ℕ, List};
 ghost use Rattle.usb_model.specs.declared.step.Step.{Step};
+ghost use Rattle.usb_model.specs.declared.verdict.Rule.{Rule};
+ghost use Rattle.usb_model.specs.declared.plan.Plan.{Plan};
 ghost use Rattle.usb_model.specs.Setup.{Setup};
-ghost use Rattle.usb_purge.specs.Laws.{SeesAlone, RunsAlone};
+ghost use Rattle.usb_purge.specs.Laws.{SeesAlone, RunsAlone, StatesAlone, ExpandsAlone, CallsOnce, CallsAfterNumber, CallsInOrder};
 
-/// Handles are isolated, over any setup and any steps.
+/// What a handle sees of any run is what it sees alone over its own steps.
 pub fn purge()
     ensures sees { (setup : Setup) (steps : List Step) (h : ℕ) → SeesAlone setup steps h }
     ensures runs { (setup : Setup) (steps : List Step) (h : ℕ) → RunsAlone setup steps h }
 {}
+
+/// Where any run ends, each handle has what it has alone.
+pub fn states()
+    ensures { (setup : Setup) (steps : List Step) (h : ℕ) → StatesAlone setup steps h }
+{}
+
