@@ -1,3 +1,4 @@
 mod Alone
 mod Rises
 mod Calls
+mod Order
