@@ -2,3 +2,6 @@ mod Alone
 mod Rises
 mod Calls
 mod Order
+mod Runs
+mod Verdicts
+mod Expansion

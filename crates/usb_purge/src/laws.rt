@@ -18,3 +18,14 @@ pub fn states()
     ensures { (setup : Setup) (steps : List Step) (h : ℕ) → StatesAlone setup steps h }
 {}
 
+/// Each transfer is called back at most once, after its number was given, and in order.
+pub fn callbacks()
+    ensures once { (setup : Setup) (steps : List Step) (h : ℕ) → CallsOnce setup steps h }
+    ensures after { (setup : Setup) (steps : List Step) (h : ℕ) → CallsAfterNumber setup steps h }
+    ensures order { (setup : Setup) (steps : List Step) (h : ℕ) → CallsInOrder setup steps h }
+{}
+
+/// A handle's part of any plan stands for the handle's own steps.
+pub fn plans()
+    ensures { (setup : Setup) (plan : List Plan) (rules : List Rule) (h : ℕ) → ExpandsAlone setup plan rules h }
+{}
