@@ -10,18 +10,17 @@ use Rattle.usb_model.specs.declared.reply.Returned.{Returned}
 use Rattle.usb_model.specs.declared.entry.Entry.{Entry}
 use Rattle.usb_model.specs.declared.step.Step.{Step}
 use Rattle.usb_model.specs.declared.step.Step.TheVariants.{Unplug}
-use Rattle.usb_model.specs.declared.plain.result.TransferResult.{TransferResult}
 use Rattle.usb_model.specs.Setup.{Setup, is_device}
-use Rattle.usb_model.specs.Machine.{Machine, new_machine, Effect}
+use Rattle.usb_model.specs.Machine.{Machine, new_machine}
 use Rattle.usb_model.specs.Turns.{unplug_reply, effect, machine_after, maker, alone_from, alone}
-use Rattle.usb_model.specs.Journal.{own, entries}
+use Rattle.usb_model.specs.Journal.{own}
 use Rattle.usb_model.specs.Cut.{times}
 use Rattle.usb_model.specs.Places.{call_of, number_of, calls, numbers_given, numbers_called}
 use Rattle.usb_model.proofs.Isolation.{sees_alone}
 use Rattle.usb_model.proofs.Times.{times-cons, times-append, times_one, times_none}
 use Rattle.usb_model.proofs.Lines.{result_numbers}
 use Rattle.usb_model.proofs.Moves.{lives_at, told, DoesWork, Submits, Takes, Moves, work_less, moves}
-use Rattle.usb_purge.specs.Laws.{CallsOnce, IsCallOf, CallsAfterNumber}
+use Rattle.usb_purge.specs.Laws.{CallsOnce, CallsAfterNumber}
 
 -- how often the number is called by this reply
 abbrev called_now : ℕ → Reply → ℕ

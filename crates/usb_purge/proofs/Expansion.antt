@@ -14,7 +14,7 @@ use Rattle.usb_model.specs.declared.plan.Plan.{Plan}
 use Rattle.usb_model.specs.declared.plan.Plan.TheVariants.{Do, Return}
 use Rattle.usb_model.specs.Setup.{Setup}
 use Rattle.usb_model.specs.Calls.{callback_of}
-use Rattle.usb_model.specs.World.{World, new_world, machine_of, is_its, turn, world_from}
+use Rattle.usb_model.specs.World.{machine_of, is_its, turn}
 use Rattle.usb_model.specs.Journal.{journal_from, journal, is_held_elsewhere, is_unplug}
 use Rattle.usb_model.specs.Plans.{Book, noted_by, noted, verdict_by, needs_stop, return_steps, is_submit, rules_past, rules_after, first_rule, rule_for, once_only, Stage, first_stage, returning, steps_of, stage_after, expand_from, is_own_piece, is_submission, own_plan_from, own_rules_from}
 use Rattle.usb_model.proofs.Isolation.{is_own_step, IsEither, turn_to, own_from}

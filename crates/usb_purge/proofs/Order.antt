@@ -1,8 +1,8 @@
 -- At one endpoint, transfers that were neither cancelled nor timed out are called back in order.
-use Rattle.std.proofs.Common.{◌≡◌, ℕ, ◌+◌, ◌==◌, Bool, true, false, ◌&&◌, ◌⊎◌, inl, inr, List, [], ◌∷◌, ◌++◌, Option, map, refl, ap, ap₂, sym, ◌∙◌, subst, append-nil, append_assoc}
+use Rattle.std.proofs.Common.{◌≡◌, ℕ, ◌==◌, Bool, true, false, ◌&&◌, ◌⊎◌, inl, inr, List, [], ◌∷◌, ◌++◌, map, refl, ap, sym, ◌∙◌, subst, append-nil, append_assoc}
 use Rattle.std.specs.Prelude.{if◌then◌else◌}
 use Rattle.std.specs.List.{filter}
-use Rattle.std.proofs.lemmas.Bool.{eqb-true, eqb-false, ne_eqb}
+use Rattle.std.proofs.lemmas.Bool.{eqb-true}
 use Rattle.std.proofs.lemmas.List.{map-append}
 use Rattle.std.proofs.lemmas.List.Elements.{filter-append}
 use Rattle.usb_model.specs.declared.reply.Reply.{Reply}
@@ -18,7 +18,7 @@ use Rattle.usb_model.proofs.Pieces.{same_name}
 use Rattle.usb_model.proofs.Isolation.{sees_alone}
 use Rattle.usb_model.proofs.Parts.{IsPart, nothing, skips, keeps, part_behind, part_map, part_filter}
 use Rattle.usb_model.proofs.Lines.{Key, uncut_keys}
-use Rattle.usb_model.proofs.Moves.{keys_of, keys_at, told, DoesWork, Submits, Takes, Moves, moves}
+use Rattle.usb_model.proofs.Moves.{keys_at, told, DoesWork, Submits, Takes, Moves, moves}
 use Rattle.usb_purge.specs.Rising.{Rises, is_uncut, uncut_numbers}
 use Rattle.usb_purge.specs.Laws.{CallsInOrder}
 use Rattle.usb_purge.proofs.Rises.{AllBelow, part_rises, part_below, below_more, below_up, rises_more, rises_front}
