@@ -2,8 +2,6 @@
 use Rattle.std.proofs.Common.{◌≡◌, ℕ, Bool, true, false, not, List, [], ◌∷◌, Option, Some, None, refl}
 use Rattle.std.specs.Prelude.{if◌then◌else◌}
 use Rattle.usb_model.specs.declared.request.Request.{Request}
-use Rattle.usb_model.specs.declared.errand.Errand.{Errand}
-use Rattle.usb_model.specs.declared.errand.Errand.TheVariants as errand
 use Rattle.usb_model.specs.declared.refused.Refused.{Refused}
 use Rattle.usb_model.specs.declared.reply.Reply.{Reply}
 use Rattle.usb_model.specs.declared.reply.Reply.TheVariants as reply
@@ -12,28 +10,20 @@ use Rattle.usb_model.specs.declared.step.Step.TheVariants.{Open, Close, Claim, R
 use Rattle.usb_model.specs.declared.verdict.Verdict.{Verdict}
 use Rattle.usb_model.specs.declared.verdict.Verdict.TheVariants as verdict
 use Rattle.usb_model.specs.declared.plain.endpoint.Endpoint.{Endpoint}
-use Rattle.usb_model.specs.declared.plain.endpoint.EndpointState.{EndpointState}
-use Rattle.usb_model.specs.declared.plain.endpoint.EndpointState.TheVariants.{Running, Stopped, Halted}
 use Rattle.usb_model.specs.declared.plain.handle.Handle.{Handle}
 use Rattle.usb_model.specs.declared.plain.item.Ask.{Ask}
 use Rattle.usb_model.specs.declared.plain.item.Ask.TheVariants as ask
-use Rattle.usb_model.specs.declared.plain.item.Item.{Item}
-use Rattle.usb_model.specs.declared.plain.news.Event.{Event}
-use Rattle.usb_model.specs.declared.plain.news.Event.TheVariants as event
 use Rattle.usb_model.specs.declared.plain.news.News.{News}
 use Rattle.usb_model.specs.declared.plain.order.Order.{Order}
 use Rattle.usb_model.specs.declared.plain.result.InCallback.{InCallback}
 use Rattle.usb_model.specs.declared.plain.result.TransferResult.{TransferResult}
 use Rattle.usb_model.specs.Setup.{Setup, is_device}
-use Rattle.usb_model.specs.Packets.{Outcome}
 use Rattle.usb_model.specs.Endpoint.{Doing}
-use Rattle.usb_model.specs.Serve.{next_answer, is_no_packet, serve_by, serve_gone, serve_first, serve}
-use Rattle.usb_model.specs.Command.{command}
-use Rattle.usb_model.specs.Deliver.{leads_blank, needs_reset, resume, deliver}
 use Rattle.usb_model.specs.Machine.{Machine, end_at, Effect, refused_if, doing_at}
-use Rattle.usb_model.specs.Calls.{open_it, close_it, claim_it, release_it, reset_it, clear_it, submit_at, submit_it, Home, asks, ask_at, ask_it, callback_of, answer_at, answer_it}
+use Rattle.usb_model.specs.Calls.{open_it, close_it, claim_it, release_it, reset_it, clear_it, submit_at, submit_it, Home, ask_at, ask_it, callback_of, answer_at, answer_it}
 use Rattle.usb_model.specs.Turns.{serve_it, command_at, command_it, deliver_at, deliver_it, take_it, effect}
 use Rattle.usb_model.specs.Journal.{is_held_elsewhere}
+use Rattle.usb_model.proofs.Replies.{told_fair, serve_told, command_told, deliver_told, asks_told}
 
 abbrev pub IsFair : Reply → Type 0
 IsFair r = is_held_elsewhere r ≡ false
@@ -51,45 +41,6 @@ fair_doing : (handle : Handle) (dev ep : ℕ) (x : Doing) → IsFair x.reply →
 unfolding doing_at
 fair_doing handle dev ep x p = p
 
-fair_serve_by : (e : Endpoint) (x : Item) (before after : Outcome) (code : Option ℕ) → IsFair (serve_by e x before after code).reply
-unfolding serve_by
-fair_serve_by e x before after None = fair_or (is_no_packet (next_answer e)) _ _ refl refl
-fair_serve_by e x before after (Some code) = refl
-
-fair_serve_first : (size : ℕ) (gone : Bool) (e : Endpoint) (s : EndpointState) (o : Option Item) → IsFair (serve_first size gone e s o).reply
-unfolding serve_first serve_gone
-fair_serve_first size true e Running (Some x) = refl
-fair_serve_first size false e Running (Some x) = fair_serve_by e x _ _ _
-fair_serve_first size gone e _ _ = refl
-
-fair_serve : (size : ℕ) (gone : Bool) (e : Endpoint) → IsFair (serve size gone e).reply
-unfolding serve
-fair_serve size gone e = fair_serve_first size gone e _ _
-
-fair_command : (size ep : ℕ) (e : Endpoint) (errand : Errand) (s : EndpointState) → IsFair (command size ep e errand s).reply
-unfolding command
-fair_command size ep e errand.Stop Running = refl
-fair_command size ep e errand.Reset Halted = refl
-fair_command size ep e errand.Move Stopped = refl
-fair_command size ep e _ _ = refl
-
-fair_doing_or : (b : Bool) (x y : Doing) → IsFair x.reply → IsFair y.reply → IsFair (if b then x else y).reply
-fair_doing_or true x y p q = p
-fair_doing_or false x y p q = q
-
-fair_resume : (size : ℕ) (e : Endpoint) (r : Reply) (line : List Item) → IsFair r → IsFair (resume size e r line).reply
-unfolding resume
-fair_resume size e r line fair = fair_doing_or (leads_blank _) _ _ fair fair
-
-fair_deliver : (size ep : ℕ) (gone : Bool) (e : Endpoint) (event : Event) → IsFair (deliver size ep gone e event).reply
-unfolding deliver
-fair_deliver size ep gone e (event.Finished n code) = fair_doing_or (needs_reset code e.errand) _ _ refl refl
-fair_deliver size ep gone e (event.Paused n) = refl
-fair_deliver size ep gone e (event.Settled errand.Stop false) = refl
-fair_deliver size ep gone e (event.Settled errand.Stop true) = fair_resume size e _ _ refl
-fair_deliver size ep gone e (event.Settled errand.Reset ok) = refl
-fair_deliver size ep gone e (event.Settled errand.Move ok) = fair_resume size e _ _ refl
-
 fair_submit_at : (setup : Setup) (m : Machine) (handle : Handle) (request : Request) (round : ℕ) (o : Option Endpoint) → IsFair (submit_at setup m handle request round o).reply
 unfolding submit_at
 fair_submit_at setup m handle request round None = refl
@@ -100,9 +51,9 @@ unfolding submit_it
 fair_submit setup m handle request round = fair_submit_at setup m handle request round (end_at m request.ep)
 
 fair_ask_at : (m : Machine) (n : ℕ) (ask : Ask) (timed : Bool) (o : Option Home) → IsFair (ask_at m n ask timed o).reply
-unfolding ask_at asks
+unfolding ask_at
 fair_ask_at m n ask timed None = refl
-fair_ask_at m n ask timed (Some home) = fair_if m _ _ _ refl (fair_doing _ _ _ _ refl)
+fair_ask_at m n ask timed (Some home) = fair_if m _ _ _ refl (fair_doing _ _ _ _ (told_fair _ (asks_told home.endpoint n ask)))
 
 fair_ask : (setup : Setup) (m : Machine) (n : ℕ) (ask : Ask) (timed : Bool) → IsFair (ask_it setup m n ask timed).reply
 unfolding ask_it
@@ -126,7 +77,7 @@ fair_command_it setup m (order ∷ orders) = at_end (end_at m order.ep)
   where
     at_end : (o : Option Endpoint) → IsFair (command_at setup m order o).reply
     at_end None = refl
-    at_end (Some e) = fair_doing _ _ _ _ (fair_command _ _ e _ _)
+    at_end (Some e) = fair_doing _ _ _ _ (told_fair _ (command_told _ _ e _ _))
 
 fair_deliver_it : (setup : Setup) (m : Machine) (news : List News) → IsFair (deliver_it setup m news).reply
 unfolding deliver_it deliver_at
@@ -135,7 +86,7 @@ fair_deliver_it setup m (news ∷ rest) = at_end (end_at m news.ep)
   where
     at_end : (o : Option Endpoint) → IsFair (deliver_at setup m news o).reply
     at_end None = refl
-    at_end (Some e) = fair_doing _ _ _ _ (fair_deliver _ _ _ e _)
+    at_end (Some e) = fair_doing _ _ _ _ (told_fair _ (deliver_told _ _ _ e _))
 
 fair_take : (h : ℕ) (m : Machine) (results : List TransferResult) → IsFair (take_it h m results).reply
 unfolding take_it
@@ -150,7 +101,7 @@ fair_clear m ep (Some e) = fair_if m _ _ _ refl (fair_if m _ _ _ refl refl)
 fair_serve_it : (setup : Setup) (m : Machine) (dev ep : ℕ) (o : Option Endpoint) → IsFair (serve_it setup m dev ep o).reply
 unfolding serve_it
 fair_serve_it setup m dev ep None = refl
-fair_serve_it setup m dev ep (Some e) = fair_doing _ _ _ _ (fair_serve _ _ e)
+fair_serve_it setup m dev ep (Some e) = fair_doing _ _ _ _ (told_fair _ (serve_told _ _ e))
 
 -- no step of a machine is refused because another handle holds an interface
 pub effect_is_fair : (setup : Setup) (h : ℕ) (m : Machine) (step : Step) → is_held_elsewhere (effect setup h m step).reply ≡ false

@@ -5,7 +5,6 @@ use Rattle.std.specs.Option.{unwrap_or, option_and_then}
 use Rattle.std.proofs.lemmas.Bool.{eqb-true}
 use Rattle.usb_model.specs.declared.request.Request.{Request}
 use Rattle.usb_model.specs.declared.errand.Errand.{Errand}
-use Rattle.usb_model.specs.declared.errand.Errand.TheVariants as errand
 use Rattle.usb_model.specs.declared.refused.Refused.{Refused}
 use Rattle.usb_model.specs.declared.reply.Reply.{Reply}
 use Rattle.usb_model.specs.declared.reply.Reply.TheVariants as reply
@@ -17,23 +16,20 @@ use Rattle.usb_model.specs.declared.verdict.Verdict.{Verdict}
 use Rattle.usb_model.specs.declared.verdict.Verdict.TheVariants as verdict
 use Rattle.usb_model.specs.declared.plain.endpoint.Endpoint.{Endpoint}
 use Rattle.usb_model.specs.declared.plain.endpoint.EndpointState.{EndpointState}
-use Rattle.usb_model.specs.declared.plain.endpoint.EndpointState.TheVariants.{Running, Stopped, Halted}
 use Rattle.usb_model.specs.declared.plain.handle.Handle.{Handle}
 use Rattle.usb_model.specs.declared.plain.item.Ask.{Ask}
 use Rattle.usb_model.specs.declared.plain.item.Ask.TheVariants as ask
 use Rattle.usb_model.specs.declared.plain.item.Item.{Item}
 use Rattle.usb_model.specs.declared.plain.news.Event.{Event}
-use Rattle.usb_model.specs.declared.plain.news.Event.TheVariants as event
 use Rattle.usb_model.specs.declared.plain.news.News.{News}
 use Rattle.usb_model.specs.declared.plain.order.Order.{Order}
 use Rattle.usb_model.specs.declared.plain.result.InCallback.{InCallback}
 use Rattle.usb_model.specs.declared.plain.result.TransferResult.{TransferResult}
 use Rattle.usb_model.specs.Setup.{Setup, is_device, is_within, size_of}
-use Rattle.usb_model.specs.Packets.{Outcome}
 use Rattle.usb_model.specs.Endpoint.{Doing, fresh, in_progress}
-use Rattle.usb_model.specs.Serve.{next_answer, is_no_packet, serve_by, serve_gone, serve_first, serve}
+use Rattle.usb_model.specs.Serve.{serve}
 use Rattle.usb_model.specs.Command.{command}
-use Rattle.usb_model.specs.Deliver.{blanked, leads_blank, resume, needs_reset, deliver}
+use Rattle.usb_model.specs.Deliver.{deliver}
 use Rattle.usb_model.specs.Machine.{Machine, device_of, end_at, Change, Keeps, Frees, Gains, Drops, Renews, Sets, Effect, says, does, refused_if, doing_at}
 use Rattle.usb_model.specs.Calls.{open_it, close_it, claim_it, release_it, reset_it, clear_it, submitted, submit_at, submit_it, Home, home_by, home_in, home_of, asks, ask_at, ask_it, callback_of, called_back, answer_at, answer_it}
 use Rattle.usb_model.specs.Turns.{serve_it, command_at, command_it, deliver_at, deliver_it, take_it, effect, takes_result, ends_after, machine_after}
@@ -42,7 +38,8 @@ use Rattle.usb_model.specs.Places.{call_of, number_of, numbers_at}
 use Rattle.usb_model.proofs.Pieces.{same_name}
 use Rattle.usb_model.proofs.Parts.{IsPart, nothing, whole, none_of, part_map, part_times}
 use Rattle.usb_model.proofs.Lines.{Key, keys, live_numbers-keys, lives-push, keys-push, result_numbers, uncut_keys, IsSound}
-use Rattle.usb_model.proofs.Works.{serve_sound, command_sound, deliver_sound, ask_sound}
+use Rattle.usb_model.proofs.Replies.{told_plain, serve_told, command_told, deliver_told, asks_told}
+use Rattle.usb_model.proofs.Works.{serve_makes_none, serve_sound, command_sound, deliver_sound, ask_sound}
 
 -- the transfers in progress at an endpoint that may be the handle's
 abbrev pub keys_of : Option Endpoint → List Key
@@ -255,48 +252,17 @@ plain_if : (b : Bool) (x y : Reply) → IsPlain x → IsPlain y → IsPlain (if 
 plain_if true x y p q = p
 plain_if false x y p q = q
 
-plain_serve_by : (e : Endpoint) (x : Item) (before after : Outcome) (code : Option ℕ) → IsPlain (serve_by e x before after code).reply × ((serve_by e x before after code).results ≡ [])
-unfolding serve_by
-plain_serve_by e x before after None = (plain_if (is_no_packet (next_answer e)) _ _ (refl, refl) (refl, refl), refl)
-plain_serve_by e x before after (Some code) = ((refl, refl), refl)
-
-plain_serve_first : (size : ℕ) (gone : Bool) (e : Endpoint) (s : EndpointState) (o : Option Item) → IsPlain (serve_first size gone e s o).reply × ((serve_first size gone e s o).results ≡ [])
-unfolding serve_first serve_gone
-plain_serve_first size true e Running (Some x) = ((refl, refl), refl)
-plain_serve_first size false e Running (Some x) = plain_serve_by e x _ _ _
-plain_serve_first size gone e _ _ = ((refl, refl), refl)
-
 pub plain_serve : (size : ℕ) (gone : Bool) (e : Endpoint) → IsPlain (serve size gone e).reply × ((serve size gone e).results ≡ [])
-unfolding serve
-plain_serve size gone e = plain_serve_first size gone e _ _
+plain_serve size gone e = (told_plain _ (serve_told size gone e), serve_makes_none size gone e)
 
 pub plain_command : (size ep : ℕ) (e : Endpoint) (errand : Errand) (s : EndpointState) → IsPlain (command size ep e errand s).reply
-unfolding command
-plain_command size ep e errand.Stop Running = (refl, refl)
-plain_command size ep e errand.Reset Halted = (refl, refl)
-plain_command size ep e errand.Move Stopped = (refl, refl)
-plain_command size ep e _ _ = (refl, refl)
-
-plain_either : (b : Bool) (x y : Doing) → IsPlain x.reply → IsPlain y.reply → IsPlain (if b then x else y).reply
-plain_either true x y p q = p
-plain_either false x y p q = q
-
-plain_resume : (size : ℕ) (e : Endpoint) (r : Reply) (line : List Item) → IsPlain r → IsPlain (resume size e r line).reply
-unfolding resume
-plain_resume size e r line plain = plain_either (leads_blank (map blanked line)) _ _ plain plain
+plain_command size ep e errand s = told_plain _ (command_told size ep e errand s)
 
 pub plain_deliver : (size ep : ℕ) (gone : Bool) (e : Endpoint) (event : Event) → IsPlain (deliver size ep gone e event).reply
-unfolding deliver
-plain_deliver size ep gone e (event.Finished n code) = plain_either (needs_reset code e.errand) _ _ (refl, refl) (refl, refl)
-plain_deliver size ep gone e (event.Paused n) = (refl, refl)
-plain_deliver size ep gone e (event.Settled errand.Stop false) = (refl, refl)
-plain_deliver size ep gone e (event.Settled errand.Stop true) = plain_resume size e _ _ (refl, refl)
-plain_deliver size ep gone e (event.Settled errand.Reset ok) = (refl, refl)
-plain_deliver size ep gone e (event.Settled errand.Move ok) = plain_resume size e _ _ (refl, refl)
+plain_deliver size ep gone e event = told_plain _ (deliver_told size ep gone e event)
 
 pub plain_asked : (e : Endpoint) (n : ℕ) (ask : Ask) → IsPlain (asks e n ask).reply
-unfolding asks
-plain_asked e n ask = (refl, refl)
+plain_asked e n ask = told_plain _ (asks_told e n ask)
 
 -- a served endpoint of another device is none of the handle's own device
 serve_elsewhere : (setup : Setup) (ends : ℕ → ℕ → Option Endpoint) (device : Option ℕ) (dev ep at : ℕ) (y : Endpoint) → ((d : ℕ) → device ≡ Some d → (dev == d) ≡ false)

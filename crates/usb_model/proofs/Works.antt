@@ -50,6 +50,22 @@ pub serve_sound : (size : ℕ) (gone : Bool) (e : Endpoint) → IsSound e (serve
 unfolding serve
 serve_sound size gone e = serve_first_sound size gone e e.state (first_waiting e.line) refl
 
+serve_by_makes_none : (e : Endpoint) (x : Item) (before after : Outcome) (code : Option ℕ) → (serve_by e x before after code).results ≡ []
+unfolding serve_by
+serve_by_makes_none e x before after None = refl
+serve_by_makes_none e x before after (Some code) = refl
+
+serve_first_makes_none : (size : ℕ) (gone : Bool) (e : Endpoint) (s : EndpointState) (o : Option Item) → (serve_first size gone e s o).results ≡ []
+unfolding serve_first serve_gone
+serve_first_makes_none size true e Running (Some x) = refl
+serve_first_makes_none size false e Running (Some x) = serve_by_makes_none e x _ _ _
+serve_first_makes_none size gone e _ _ = refl
+
+-- that makes no result
+pub serve_makes_none : (size : ℕ) (gone : Bool) (e : Endpoint) → (serve size gone e).results ≡ []
+unfolding serve
+serve_makes_none size gone e = serve_first_makes_none size gone e _ _
+
 -- the controller carries out an order
 pub command_sound : (size ep : ℕ) (e : Endpoint) (errand : Errand) (s : EndpointState) → IsSound e (command size ep e errand s)
 unfolding command
