@@ -30,14 +30,17 @@ other_freed g h (Some k) differ = by_test (k == h) refl
     by_test true e = rw (eqb-true k h e) (sym differ)
     by_test false e = refl
 
+-- what is given up is not held
 own_dropped : (h : ℕ) (b : Bool) (o : Option ℕ) → is_its h (if b && is_its h o then None else o) ≡ (not b && is_its h o)
 own_dropped h true o = own_freed h o
 own_dropped h false o = refl
 
+-- and is what it was to another
 other_dropped : (g h : ℕ) (b : Bool) (o : Option ℕ) → (h == g) ≡ false → is_its g (if b && is_its h o then None else o) ≡ is_its g o
 other_dropped g h true o differ = other_freed g h o differ
 other_dropped g h false o differ = refl
 
+-- what is gained is held
 own_gained : (h : ℕ) (b : Bool) (o : Option ℕ) → is_its h (if b then Some h else o) ≡ (b || is_its h o)
 own_gained h true o = same_name h
 own_gained h false o = refl
@@ -60,9 +63,11 @@ its_or_free g h (Some k) differ free = by_test (k == h) refl free
     by_test true e free = rw (eqb-true k h e) differ
     by_test false e free = absurd cc
 
+-- two places that pass the test are one
 pub places_equal : (a b c d : ℕ) → ((a == c) && (b == d)) ≡ true → (a ≡ c) × (b ≡ d)
 places_equal a b c d e = let p = and_parts (a == c) (b == d) e in (eqb-true a c p.0, eqb-true b d p.1)
 
+-- what may be gained is not another's, before and after
 other_gained : (g h : ℕ) (claims : Claims) (dev k d i : ℕ) → (h == g) ≡ false → is_others h (claims dev k) ≡ false
     → is_its g (if (dev == d) && (k == i) then Some h else claims d i) ≡ is_its g (claims d i)
 other_gained g h claims dev k d i differ free = by_place ((dev == d) && (k == i)) refl
@@ -89,18 +94,22 @@ held_other setup g h w (Sets dev ep x) d i differ free = refl
 abbrev pub seen : Bool → Endpoint → Option Endpoint
 seen b x = if b then Some x else None
 
+-- an endpoint whose interface is gained is seen, and new
 seen_gained : (b held : Bool) (x y : Endpoint) → seen (b || held) (if b then x else y) ≡ (if b then Some x else seen held y)
 seen_gained true held x y = refl
 seen_gained false held x y = refl
 
+-- one whose interface is given up is not seen
 seen_dropped : (b held : Bool) (y : Endpoint) → seen (not b && held) y ≡ (if b then None else seen held y)
 seen_dropped true held y = refl
 seen_dropped false held y = refl
 
+-- one that is seen is made new
 seen_renewed : (held : Bool) (x y : Endpoint) → seen held (if held then x else y) ≡ option_map (λ old. x) (seen held y)
 seen_renewed true x y = refl
 seen_renewed false x y = refl
 
+-- one that is seen is set
 seen_set : (b held : Bool) (x y : Endpoint) → seen held (if b && held then x else y) ≡ (if b then option_map (λ old. x) (seen held y) else seen held y)
 seen_set true true x y = refl
 seen_set true false x y = refl
@@ -111,6 +120,7 @@ seen_set false false x y = refl
 abbrev held_at : Claims → ℕ → Option ℕ → Option ℕ
 held_at claims d o = option_and_then (λ i. claims d i) o
 
+-- whether it is interface k of device dev
 abbrev within_at : ℕ → ℕ → ℕ → Option ℕ → Bool
 within_at dev k d o = (dev == d) && option_map_or (λ i. i == k) o false
 
@@ -119,11 +129,13 @@ freed_end : (h : ℕ) (claims : Claims) (d : ℕ) (o : Option ℕ) → is_its h 
 freed_end h claims d None = refl
 freed_end h claims d (Some i) = own_freed h (claims d i)
 
+-- its interface is gained
 gained_end : (h : ℕ) (claims : Claims) (dev k d : ℕ) (o : Option ℕ)
     → is_its h (held_at (claims_after h claims (Gains dev k)) d o) ≡ (within_at dev k d o || is_its h (held_at claims d o))
 gained_end h claims dev k d None = rw (and-false (dev == d))
 gained_end h claims dev k d (Some i) = rw (either_way i k) (own_gained h ((dev == d) && (k == i)) (claims d i))
 
+-- its interface is given up
 dropped_end : (h : ℕ) (claims : Claims) (dev k d : ℕ) (o : Option ℕ)
     → is_its h (held_at (claims_after h claims (Drops dev k)) d o) ≡ (not (within_at dev k d o) && is_its h (held_at claims d o))
 dropped_end h claims dev k d None = rw (and-false (dev == d))
@@ -163,6 +175,7 @@ not_gained g h claims dev k d (Some i) differ free its = false_from_ne_true ((de
     let no : is_its g (claims d i) ≡ false = its_or_free g h (claims d i) differ free' in
     absurd cc)
 
+-- an endpoint that another name sees stays
 ends_other : (setup : Setup) (g h : ℕ) (w : World) (change : Change) (d e : ℕ) → (h == g) ≡ false → is_blocked setup h w change ≡ false
     → is_its g (holder setup w.claims d e) ≡ true → all_ends_after setup h w.claims w.ends change d e ≡ w.ends d e
 unfolding is_blocked
@@ -174,6 +187,7 @@ ends_other setup g h w (Renews dev) d e differ free its = rw (not_both g h (hold
 ends_other setup g h w (Sets dev ep x) d e differ free its =
     rw (and_right ((dev == d) && (ep == e)) (is_its h (holder setup w.claims d e)) (not_both g h (holder setup w.claims d e) differ its))
 
+-- so does its holder, to another name
 holder_other : (setup : Setup) (g h : ℕ) (w : World) (change : Change) (d : ℕ) (o : Option ℕ) → (h == g) ≡ false → is_blocked setup h w change ≡ false
     → is_its g (held_at (claims_after h w.claims change) d o) ≡ is_its g (held_at w.claims d o)
 holder_other setup g h w change d None differ free = refl

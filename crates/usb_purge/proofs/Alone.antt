@@ -25,10 +25,12 @@ pub record OnlyOf (h : ℕ) (v : World) : Type 0 where
   pub news : v.news ≡ tagged h (pieces_of h v.news)
   pub results : v.results ≡ tagged h (pieces_of h v.results)
 
+-- what is the name's is held by it
 is_its-some : (h : ℕ) (o : Option ℕ) → is_its h o ≡ true → o ≡ Some h
 is_its-some h None e = absurd cc
 is_its-some h (Some g) e = ap (λ k. Some k) (eqb-true g h e)
 
+-- and the other way round
 some-is_its : (h : ℕ) (o : Option ℕ) → o ≡ Some h → is_its h o ≡ true
 some-is_its h o e = rw e (same_name h)
 
@@ -37,6 +39,7 @@ first_of_tagged : {A : Type 0} (h : ℕ) (xs : List (Tagged A)) → first_name x
 first_of_tagged h [] e = absurd cc
 first_of_tagged h (x ∷ xs) e = let n : x.name ≡ h = cc in rw (n, same_name h)
 
+-- two worlds that are the same to a name, in one of which it is alone: there too the list begins with its piece
 same_first : {A : Type 0} (h : ℕ) (xs ys : List (Tagged A)) → pieces_of h xs ≡ pieces_of h ys → ys ≡ tagged h (pieces_of h ys) → first_name xs ≡ Some h → first_name ys ≡ Some h
 same_first h xs ys same all first = ap first_name all ∙ (ap (λ l. first_name (tagged h l)) (sym same) ∙ first_of_tagged h xs first)
 
@@ -53,6 +56,7 @@ owner_again setup h w v Deliver same only own = same_first h w.news v.news (ap (
 owner_again setup h w v Take same only own = same_first h w.results v.results (ap (λ m. m.results) same) only.results own
 owner_again setup h w v _ same only own = own
 
+-- none passes a test that nothing passes
 none_any : (test : ℕ → Bool) (xs : List ℕ) → ((x : ℕ) → test x ≡ false) → list_any test xs ≡ false
 none_any test [] none = refl
 none_any test (x ∷ xs) none = rw (none x, none_any test xs none)
@@ -64,6 +68,7 @@ never_blocked setup h v (Gains dev k) only = only.claims dev k
 never_blocked setup h v (Renews dev) only = none_any (λ i. is_others h (v.claims dev i)) (interfaces_of setup dev) (λ i. only.claims dev i)
 never_blocked setup h v _ only = refl
 
+-- the first of a name's own list is taken
 past_first-tagged : {A : Type 0} (h : ℕ) (b : Bool) (xs : List A) → past_first b (tagged h xs) ≡ tagged h (past_first b xs)
 past_first-tagged h true [] = refl
 past_first-tagged h true (x ∷ xs) = refl
@@ -83,10 +88,12 @@ others_if_none : (h : ℕ) (b : Bool) (o : Option ℕ) → is_others h o ≡ fal
 others_if_none h true o e = refl
 others_if_none h false o e = e
 
+-- the same where it becomes the name's
 others_if_its : (h : ℕ) (b : Bool) (o : Option ℕ) → is_others h o ≡ false → is_others h (if b then Some h else o) ≡ false
 others_if_its h true o e = rw (same_name h)
 others_if_its h false o e = e
 
+-- a change of the name gives no other an interface
 only_claims : (h : ℕ) (claims : Claims) (change : Change) → ((d i : ℕ) → is_others h (claims d i) ≡ false) → (d i : ℕ) → is_others h (claims_after h claims change d i) ≡ false
 only_claims h claims Keeps only d i = only d i
 only_claims h claims Frees only d i = others_if_none h (is_its h (claims d i)) (claims d i) (only d i)
@@ -109,6 +116,7 @@ only_after setup h v step done own only = record {
 abbrev pub TurnsSame : Setup → ℕ → Turn → Turn → Type 0
 TurnsSame setup h t u = (u.entry ≡ t.entry) × (machine_of setup h t.world ≡ machine_of setup h u.world) × OnlyOf h u.world
 
+-- a step with an owner
 owned_turn_again : (setup : Setup) (h : ℕ) (w v : World) (step : Step) → is_unplug step ≡ false → machine_of setup h w ≡ machine_of setup h v → OnlyOf h v
     → IsOwnTurn setup h w step (turn setup w step) → TurnsSame setup h (turn setup w step) (turn setup v step)
 unfolding turn
@@ -172,6 +180,7 @@ pub only_new : (setup : Setup) (h : ℕ) → OnlyOf h (new_world setup)
 unfolding new_world
 only_new setup h = record { claims = λ d i. refl; orders = refl; news = refl; results = refl }
 
+-- over any run, from the world with no name open
 pub runs_alone : (setup : Setup) (steps : List Step) (h : ℕ) → world_run setup (own setup steps h) ≡ entries setup steps h
 unfolding journal
 runs_alone setup steps h = runs_alone_from setup h (new_world setup) (new_world setup) steps refl (only_new setup h)

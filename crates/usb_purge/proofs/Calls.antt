@@ -1,42 +1,38 @@
--- Each transfer of a handle is called back at most once, and after its number was given.
-use Rattle.std.proofs.Common.{◌≡◌, ℕ, ◌+◌, ◌<◌, ◌≤◌, ◌==◌, Bool, true, false, not, ◌⊎◌, inl, inr, List, [], ◌∷◌, ◌++◌, Option, Some, map, refl, ap, sym, ◌∙◌, subst, arith, append-nil, append_assoc}
-use Rattle.std.specs.Prelude.{if◌then◌else◌}
-use Rattle.std.proofs.lemmas.Bool.{eqb-true, eqb-false, cases_lt}
+-- Each transfer of a handle is called back at most once.
+use Rattle.std.proofs.Common.{◌≡◌, ℕ, ◌+◌, ◌≤◌, ◌==◌, Bool, true, false, inl, inr, List, [], ◌∷◌, map, refl, ap, sym, ◌∙◌, subst, arith}
+use Rattle.std.proofs.lemmas.Bool.{eqb-true, eqb-false}
 use Rattle.std.proofs.lemmas.List.{map-append}
 use Rattle.usb_model.specs.declared.reply.Reply.{Reply}
-use Rattle.usb_model.specs.declared.refused.Refused.TheVariants.{NotFound, NoDevice}
-use Rattle.usb_model.specs.declared.reply.Reply.TheVariants.{Done, Refused, Called}
 use Rattle.usb_model.specs.declared.reply.Returned.{Returned}
-use Rattle.usb_model.specs.declared.entry.Entry.{Entry}
 use Rattle.usb_model.specs.declared.step.Step.{Step}
-use Rattle.usb_model.specs.declared.step.Step.TheVariants.{Unplug}
-use Rattle.usb_model.specs.Setup.{Setup, is_device}
+use Rattle.usb_model.specs.Setup.{Setup}
 use Rattle.usb_model.specs.Machine.{Machine, new_machine}
-use Rattle.usb_model.specs.Turns.{unplug_reply, effect, machine_after, maker, alone_from, alone}
+use Rattle.usb_model.specs.Turns.{effect, machine_after, alone_from, alone}
 use Rattle.usb_model.specs.Journal.{own}
 use Rattle.usb_model.specs.Cut.{times}
-use Rattle.usb_model.specs.Places.{call_of, number_of, calls, numbers_given, numbers_called}
+use Rattle.usb_model.specs.Places.{call_of, calls, numbers_called}
 use Rattle.usb_model.proofs.Isolation.{sees_alone}
 use Rattle.usb_model.proofs.Times.{times-cons, times-append, times_one, times_none}
 use Rattle.usb_model.proofs.Lines.{result_numbers}
-use Rattle.usb_model.proofs.Moves.{lives_at, told, DoesWork, Submits, Takes, Moves, work_less, moves}
-use Rattle.usb_purge.specs.Laws.{CallsOnce, CallsAfterNumber}
+use Rattle.usb_model.proofs.Moves.{lives_at, DoesWork, Submits, Takes, Moves, work_less, moves}
+use Rattle.usb_purge.specs.Laws.{CallsOnce}
 
 -- how often the number is called by this reply
-abbrev called_now : ℕ → Reply → ℕ
+abbrev pub called_now : ℕ → Reply → ℕ
 called_now n reply = times n (map (λ r. r.n) (call_of reply))
 
 -- how often it waits in results, or is in progress at this endpoint
-abbrev waiting : ℕ → Machine → ℕ → ℕ
+abbrev pub waiting : ℕ → Machine → ℕ → ℕ
 waiting n m home = times n (result_numbers m.results) + times n (lives_at m home)
 
 -- so often was the number called back: together with where it still is, at most once; and not before it is given
-record IsOnce (n called : ℕ) (m : Machine) : Type 0 where
-  home : ℕ
-  at_most : called + waiting n m home ≤ 1
-  no_other : (at : ℕ) → (home == at) ≡ false → times n (lives_at m at) ≡ 0
-  to_come : m.handle.next ≤ n → called + waiting n m home ≡ 0
+pub record IsOnce (n called : ℕ) (m : Machine) : Type 0 where
+  pub home : ℕ
+  pub at_most : called + waiting n m home ≤ 1
+  pub no_other : (at : ℕ) → (home == at) ≡ false → times n (lives_at m at) ≡ 0
+  pub to_come : m.handle.next ≤ n → called + waiting n m home ≡ 0
 
+-- no call calls no number
 no_call : (n : ℕ) (reply : Reply) → call_of reply ≡ [] → called_now n reply ≡ 0
 no_call n reply e = ap (λ l. times n (map (λ r. r.n) l)) e
 
@@ -52,6 +48,7 @@ work_waits n m m' reply w home no_other = by_test (home == w.ep) refl
     by_test true e = subst (λ k. waiting n m' k ≤ waiting n m k) (sym (eqb-true home w.ep e)) (omega (arith, after, w.once n))
     by_test false e = omega (arith, after, w.once n, no_other w.ep e, work_less m m' reply w n home)
 
+-- work at an endpoint keeps it
 work_once : (n called : ℕ) (m m' : Machine) (reply : Reply) → IsOnce n called m → DoesWork m m' reply → IsOnce n called m'
 work_once n called m m' reply o w = record {
   home = o.home;
@@ -71,6 +68,7 @@ nowhere n called m o ahead at = by_test (o.home == at) refl
     by_test true e = subst (λ k. times n (lives_at m k) ≡ 0) (eqb-true o.home at e) (let none : called + waiting n m o.home ≡ 0 = o.to_come ahead in omega (arith, none))
     by_test false e = o.no_other at e
 
+-- a submission that gives this number
 given_once : (n called : ℕ) (m m' : Machine) (reply : Reply) → IsOnce n called m → Submits m m' reply → m.handle.next ≡ n → IsOnce n called m'
 given_once n called m m' reply o s is = record {
   home = s.ep;
@@ -88,6 +86,7 @@ given_once n called m m' reply o s is = record {
     here : times n (lives_at m' s.ep) ≡ times n (lives_at m s.ep) + 1
     here = ap (times n) s.here ∙ (times-append n (lives_at m s.ep) (m.handle.next ∷ []) ∙ ap (λ k. times n (lives_at m s.ep) + k) (times_one n m.handle.next is))
 
+-- one that gives another
 other_once : (n called : ℕ) (m m' : Machine) (reply : Reply) → IsOnce n called m → Submits m m' reply → (m.handle.next ≡ n → ⊥) → IsOnce n called m'
 other_once n called m m' reply o s differs = record {
   home = o.home;
@@ -112,6 +111,7 @@ taken_waits : (n h : ℕ) (m m' : Machine) (reply : Reply) → Takes h m m' repl
 taken_waits n h m m' reply t home =
     rw (t.calls, t.results, t.others home) (omega (arith, times-cons n t.result.n [], times-cons n t.result.n (result_numbers m'.results)))
 
+-- a call
 take_once : (n called h : ℕ) (m m' : Machine) (reply : Reply) → IsOnce n called m → Takes h m m' reply → IsOnce n (called + called_now n reply) m'
 take_once n called h m m' reply o t = record {
   home = o.home;
@@ -121,7 +121,7 @@ take_once n called h m m' reply o t = record {
 }
 
 -- every step keeps it
-once_kept : (n called h : ℕ) (m m' : Machine) (reply : Reply) → IsOnce n called m → Moves h m m' reply → IsOnce n (called + called_now n reply) m'
+pub once_kept : (n called h : ℕ) (m m' : Machine) (reply : Reply) → IsOnce n called m → Moves h m m' reply → IsOnce n (called + called_now n reply) m'
 once_kept n called h m m' reply o moved = by_case moved
   where
     uncalled : called_now n reply ≡ 0 → IsOnce n called m' → IsOnce n (called + called_now n reply) m'
@@ -140,6 +140,7 @@ once_kept n called h m m' reply o moved = by_case moved
 abbrev pub next_machine : Setup → ℕ → Machine → Step → Machine
 next_machine setup h m step = machine_after setup m step (effect setup h m step)
 
+-- and what it replies
 abbrev pub reply_to : Setup → ℕ → Machine → Step → Reply
 reply_to setup h m step = (effect setup h m step).reply
 
@@ -147,10 +148,12 @@ reply_to setup h m step = (effect setup h m step).reply
 abbrev called_from : ℕ → Setup → ℕ → Machine → List Step → ℕ
 called_from n setup h m steps = times n (numbers_called (alone_from setup h m steps))
 
+-- no step calls none
 called_none : (n : ℕ) (setup : Setup) (h : ℕ) (m : Machine) → called_from n setup h m [] ≡ 0
 unfolding alone_from calls
 called_none n setup h m = refl
 
+-- the first step's calls, and the others'
 called_more : (n : ℕ) (setup : Setup) (h : ℕ) (m : Machine) (step : Step) (steps : List Step)
     → called_from n setup h m (step ∷ steps) ≡ called_now n (reply_to setup h m step) + called_from n setup h (next_machine setup h m step) steps
 unfolding alone_from calls
@@ -159,6 +162,7 @@ called_more n setup h m step steps =
     ap (times n) (map-append (λ r. r.n) (call_of (reply_to setup h m step)) rest)
     ∙ times-append n (map (λ r. r.n) (call_of (reply_to setup h m step))) (map (λ r. r.n) rest)
 
+-- so over a run it is called at most once
 once_from : (n called : ℕ) (setup : Setup) (h : ℕ) (m : Machine) (steps : List Step) → IsOnce n called m → called + called_from n setup h m steps ≤ 1
 once_from n called setup h m [] o = omega (arith, o.at_most, called_none n setup h m)
 once_from n called setup h m (step ∷ steps) o =
@@ -166,7 +170,8 @@ once_from n called setup h m (step ∷ steps) o =
     let rest = once_from n (called + now) setup h (next_machine setup h m step) steps (once_kept n called h m (next_machine setup h m step) (reply_to setup h m step) o (moves setup h m step)) in
     omega (arith, rest, called_more n setup h m step steps)
 
-once_new : (n : ℕ) → IsOnce n 0 new_machine
+-- at first each number is still to come
+pub once_new : (n : ℕ) → IsOnce n 0 new_machine
 unfolding new_machine
 once_new n = record { home = 0; at_most = omega arith; no_other = λ at far. refl; to_come = λ ahead. refl }
 
@@ -176,117 +181,3 @@ unfolding alone
 calls_once setup steps h n =
     let most : 0 + called_from n setup h new_machine (own setup steps h) ≤ 1 = once_from n 0 setup h new_machine (own setup steps h) (once_new n) in
     subst (λ es. times n (numbers_called es) ≤ 1) (sym (sees_alone setup steps h)) (omega (arith, most))
-
--- each number is somewhere at most once
-abbrev AllOnce : Machine → Type 0
-AllOnce m = (n : ℕ) → (called : ℕ) × IsOnce n called m
-
--- each number below the next was given
-abbrev IsGiven : List ℕ → Machine → Type 0
-IsGiven given m = (n : ℕ) → n < m.handle.next → 0 < times n given
-
-given_kept : (given : List ℕ) (h : ℕ) (m m' : Machine) (reply : Reply) → IsGiven given m → Moves h m m' reply → IsGiven (given ++ number_of reply) m'
-given_kept given h m m' reply all moved n below = by_case moved
-  where
-    sum : times n (given ++ number_of reply) ≡ times n given + times n (number_of reply)
-    sum = times-append n given (number_of reply)
-
-    before : n < m.handle.next → 0 < times n (given ++ number_of reply)
-    before lt = omega (arith, sum, all n lt)
-
-    by_test : Submits m m' reply → (b : Bool) → (m.handle.next == n) ≡ b → 0 < times n (given ++ number_of reply)
-    by_test s true e = omega (arith, sum, ap (times n) s.gives, times_one n m.handle.next (eqb-true m.handle.next n e))
-    by_test s false e = let differs : m.handle.next ≡ n → ⊥ = eqb-false m.handle.next n e in before (omega (arith, s.next, below, differs))
-
-    by_case : Moves h m m' reply → 0 < times n (given ++ number_of reply)
-    by_case (inl w) = before (omega (arith, w.next, below))
-    by_case (inr (inl s)) = by_test s (m.handle.next == n) refl
-    by_case (inr (inr t)) = before (omega (arith, t.next, below))
-
--- an Unplug calls nothing back
-unplug_calls : (setup : Setup) (gone : ℕ → Bool) (dev : ℕ) → call_of (unplug_reply setup gone dev) ≡ []
-unplug_calls setup gone dev = by_test (is_device setup dev) (gone dev)
-  where
-    by_test : (b c : Bool) → call_of (if not b then Refused NotFound else (if c then Refused NoDevice else Done)) ≡ []
-    by_test false c = refl
-    by_test true true = refl
-    by_test true false = refl
-
--- so a call has an owner
-call_owned : (setup : Setup) (h : ℕ) (m : Machine) (step : Step) (r : Returned) → call_of (reply_to setup h m step) ≡ r ∷ [] → maker h step ≡ Some h
-unfolding effect
-call_owned setup h m (Unplug dev) r is = let none : call_of (unplug_reply setup m.gone dev) ≡ [] = unplug_calls setup m.gone dev in absurd cc
-call_owned setup h m _ r is = refl
-
--- what is called is the handle's, and its number was given
-abbrev IsOwnCall : ℕ → List ℕ → Option ℕ → Returned → Type 0
-IsOwnCall h given owner r = (owner ≡ Some h) × (r.h ≡ h) × (0 < times r.n given)
-
-call_given : (given : List ℕ) (h : ℕ) (m m' : Machine) (reply : Reply) (owner : Option ℕ) (r : Returned) → owner ≡ Some h → IsGiven given m → AllOnce m → Moves h m m' reply → call_of reply ≡ r ∷ [] → IsOwnCall h given owner r
-call_given given h m m' reply owner r owned all once (inl w) is = let none : call_of reply ≡ [] = w.calls in absurd cc
-call_given given h m m' reply owner r owned all once (inr (inl s)) is = let none : call_of reply ≡ [] = s.calls in absurd cc
-call_given given h m m' reply owner r owned all once (inr (inr t)) is = (owned, ap (λ x. x.h) (sym same), all r.n below)
-  where
-    only : (x y : Returned) → x ∷ [] ≡ y ∷ [] → x ≡ y
-    only x y e = cc
-
-    same : told h t.result ≡ r
-    same = only (told h t.result) r (sym t.calls ∙ is)
-
-    waits : times r.n (result_numbers m.results) ≡ times r.n (t.result.n ∷ []) + times r.n (result_numbers m'.results)
-    waits = rw t.results (omega (arith, times-cons r.n t.result.n [], times-cons r.n t.result.n (result_numbers m'.results)))
-
-    one : times r.n (t.result.n ∷ []) ≡ 1
-    one = times_one r.n t.result.n (ap (λ x. x.n) same)
-
-    by_order : (r.n < m.handle.next) ⊎ (m.handle.next ≤ r.n) → r.n < m.handle.next
-    by_order (inl lt) = lt
-    by_order (inr ahead) = absurd (omega (arith, waits, one, (once r.n).1.to_come ahead))
-
-    below : r.n < m.handle.next
-    below = by_order (cases_lt r.n m.handle.next)
-
-entries_tail : (x y : Entry) (xs ys : List Entry) → x ∷ xs ≡ y ∷ ys → xs ≡ ys
-entries_tail x y xs ys e = cc
-
-entries_head : (x y : Entry) (xs ys : List Entry) → x ∷ xs ≡ y ∷ ys → x ≡ y
-entries_head x y xs ys e = cc
-
-calls_given : (setup : Setup) (h : ℕ) (given : List ℕ) (m : Machine) (steps : List Step) (before after : List Entry) (owner : Option ℕ) (r : Returned) → IsGiven given m → AllOnce m
-    → alone_from setup h m steps ≡ before ++ record { owner = owner; reply = Called r } ∷ after → IsOwnCall h (given ++ numbers_given before) owner r
-unfolding alone_from numbers_given
-calls_given setup h given m [] [] after owner r all once is = absurd cc
-calls_given setup h given m [] (b ∷ before) after owner r all once is = absurd cc
-calls_given setup h given m (step ∷ steps) [] after owner r all once is =
-    rw (append-nil given) (call_given given h m (next_machine setup h m step) (reply_to setup h m step) owner r owned all once (moves setup h m step) called)
-  where
-    entry_is : ◌≡◌ {A = Entry} (record { owner = maker h step; reply = reply_to setup h m step }) (record { owner = owner; reply = Called r })
-    entry_is = entries_head _ _ _ _ is
-
-    called : call_of (reply_to setup h m step) ≡ r ∷ []
-    called = ap (λ x. call_of x.reply) entry_is
-
-    owned : owner ≡ Some h
-    owned = sym (ap (λ x. x.owner) entry_is) ∙ call_owned setup h m step r called
-calls_given setup h given m (step ∷ steps) (b ∷ before) after owner r all once is =
-    subst (λ l. IsOwnCall h l owner r) (append_assoc given (number_of (reply_to setup h m step)) (numbers_given before) ∙ ap (λ x. given ++ (number_of x ++ numbers_given before)) reply_is)
-    (calls_given setup h (given ++ number_of (reply_to setup h m step)) (next_machine setup h m step) steps before after owner r
-    (given_kept given h m (next_machine setup h m step) (reply_to setup h m step) all (moves setup h m step)) once_next (entries_tail _ _ _ _ is))
-  where
-    reply_is : reply_to setup h m step ≡ b.reply
-    reply_is = ap (λ x. x.reply) (entries_head _ _ _ _ is)
-
-    once_next : AllOnce (next_machine setup h m step)
-    once_next n = ((once n).0 + called_now n (reply_to setup h m step), once_kept n (once n).0 h m (next_machine setup h m step) (reply_to setup h m step) (once n).1 (moves setup h m step))
-
-given_new : IsGiven [] new_machine
-unfolding new_machine
-given_new n below = absurd (omega (arith, below))
-
--- each call is the handle's, after its number was given
-pub calls_after_number : (setup : Setup) (steps : List Step) (h : ℕ) → CallsAfterNumber setup steps h
-unfolding alone
-calls_after_number setup steps h before after owner r is = record { owned = c.0; its = c.1; given = c.2 }
-  where
-    c : IsOwnCall h (numbers_given before) owner r
-    c = calls_given setup h [] new_machine (own setup steps h) before after owner r given_new (λ n. (0, once_new n)) (sym (sees_alone setup steps h) ∙ is)

@@ -99,10 +99,7 @@ record IsOthersPiece (setup : Setup) (h : ℕ) (s : Stage) (piece : Plan) : Type
   here : steps_of setup s piece ≡ first ∷ more
   none : NoneOwn setup h s.world (first ∷ more)
 
--- the steps of a return, by whether again is refused
-steps_by : ℕ → ℕ → Verdict → Bool → List Step
-steps_by h n v b = if b then Answer h n v ∷ Answer h n verdict.Stop ∷ [] else Answer h n v ∷ []
-
+-- a return of the handle's own
 own_return : (setup : Setup) (h : ℕ) (s t : Stage) (n : ℕ) → IsSame setup h s t → IsOwnPiece setup h s t (Return h n)
 unfolding machine_of
 own_return setup h s t n same = by_test (needs_stop v (turn setup s.world (Answer h n v)).entry.reply) refl
@@ -132,6 +129,7 @@ own_return setup h s t n same = by_test (needs_stop v (turn setup s.world (Answe
       all = (answer_own setup h s.world n v, tt);
     }
 
+-- another's return
 others_return : (setup : Setup) (h : ℕ) (s : Stage) (g n : ℕ) → (g == h) ≡ false → IsOthersPiece setup h s (Return g n)
 others_return setup h s g n differ = by_test (needs_stop v (turn setup s.world (Answer g n v)).entry.reply) refl
   where
@@ -147,6 +145,7 @@ others_return setup h s g n differ = by_test (needs_stop v (turn setup s.world (
     }
     by_test false e = record { first = Answer g n v; more = []; here = rw e; none = (answer_others setup g h s.world n v differ, tt) }
 
+-- any piece of its own
 own_piece : (setup : Setup) (h : ℕ) (s t : Stage) (piece : Plan) → IsSame setup h s t → is_own_piece setup h s piece ≡ true → IsOwnPiece setup h s t piece
 own_piece setup h s t (Do step) same mine = by_turn (turn_to setup h s.world step)
   where
@@ -155,6 +154,7 @@ own_piece setup h s t (Do step) same mine = by_turn (turn_to setup h s.world ste
     by_turn (inr x) = let not_mine : is_own_piece setup h s (Do step) ≡ false = x.0 in absurd cc
 own_piece setup h s t (Return g n) same mine = subst (λ k. IsOwnPiece setup h s t (Return k n)) (sym (eqb-true g h mine)) (own_return setup h s t n same)
 
+-- any other
 others_piece : (setup : Setup) (h : ℕ) (s : Stage) (piece : Plan) → is_own_piece setup h s piece ≡ false → IsOthersPiece setup h s piece
 others_piece setup h s (Do step) others = by_turn (turn_to setup h s.world step)
   where
@@ -167,6 +167,7 @@ others_piece setup h s (Return g n) others = others_return setup h s g n others
 abbrev with_first_rule : Bool → List Rule → List Rule → List Rule
 with_first_rule b rules rest = if b then first_rule rules ∷ rest else rest
 
+-- it has the same rule
 rule_same : (setup : Setup) (h : ℕ) (s t : Stage) (piece : Plan) (rest : List Rule) → IsSame setup h s t → is_own_piece setup h s piece ≡ true → t.rules ≡ with_first_rule (is_submission piece) s.rules rest
     → rule_for s.book s.rules piece ≡ rule_for t.book t.rules piece
 rule_same setup h s t (Do step) rest same mine rules = rw rules (by_test (is_submit step))
@@ -176,6 +177,7 @@ rule_same setup h s t (Do step) rest same mine rules = rw rules (by_test (is_sub
     by_test false = refl
 rule_same setup h s t (Return g n) rest same mine rules = subst (λ k. s.book k n ≡ t.book k n) (sym (eqb-true g h mine)) (same.book n)
 
+-- and leaves the rest
 rules_left : (piece : Plan) (rules rest : List Rule) → rules_after piece (with_first_rule (is_submission piece) rules rest) ≡ rest
 rules_left (Do step) rules rest = by_test (is_submit step)
   where
@@ -193,9 +195,11 @@ ExpandsFrom setup h plan = (s t : Stage) → IsSame setup h s t → t.rules ≡ 
 abbrev plan_behind : Setup → ℕ → Stage → Plan → List Plan → List Step → List Plan
 plan_behind setup h s piece plan steps = own_plan_from setup h (stage_after setup s piece steps) plan
 
+-- and of its rules
 abbrev rules_behind : Setup → ℕ → Stage → Plan → List Plan → List Step → List Rule
 rules_behind setup h s piece plan steps = own_rules_from setup h (stage_after setup s piece steps) plan
 
+-- a piece of its own, before the rest
 own_in_front : (setup : Setup) (h : ℕ) (piece : Plan) (plan : List Plan) (s t : Stage) → IsSame setup h s t → is_own_piece setup h s piece ≡ true
     → t.rules ≡ with_first_rule (is_submission piece) s.rules (rules_behind setup h s piece plan (steps_of setup s piece)) → ExpandsFrom setup h plan
     → expand_from setup t (piece ∷ plan_behind setup h s piece plan (steps_of setup s piece)) ≡ own_from setup h s.world (expand_from setup s (piece ∷ plan))
@@ -223,6 +227,7 @@ own_in_front setup h piece plan s t same mine rules rest =
     left : later_t.rules ≡ own_rules_from setup h later_s plan
     left = ap (rules_after piece) rules ∙ (rules_left piece s.rules (rules_behind setup h s piece plan (steps_of setup s piece)) ∙ ap (rules_behind setup h s piece plan) p.here)
 
+-- another, before the rest
 others_in_front : (setup : Setup) (h : ℕ) (piece : Plan) (plan : List Plan) (s t : Stage) → IsSame setup h s t → is_own_piece setup h s piece ≡ false
     → t.rules ≡ rules_behind setup h s piece plan (steps_of setup s piece) → ExpandsFrom setup h plan
     → expand_from setup t (plan_behind setup h s piece plan (steps_of setup s piece)) ≡ own_from setup h s.world (expand_from setup s (piece ∷ plan))
@@ -243,6 +248,7 @@ others_in_front setup h piece plan s t same others rules rest =
     later : Stage
     later = stage_after setup s piece steps
 
+-- so it is of any plan
 expands_from : (setup : Setup) (h : ℕ) (plan : List Plan) → ExpandsFrom setup h plan
 unfolding expand_from own_plan_from own_rules_from journal_from
 expands_from setup h [] s t same rules = refl

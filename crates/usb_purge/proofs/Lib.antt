@@ -1,6 +1,7 @@
 mod Alone
 mod Rises
 mod Calls
+mod Given
 mod Order
 mod Runs
 mod Verdicts

@@ -28,9 +28,11 @@ use Rattle.usb_purge.proofs.Calls.{next_machine, reply_to}
 abbrev numbers_for : ℕ → List Key → List ℕ
 numbers_for ep ks = map (λ k. k.n) (filter (λ k. k.ep == ep) ks)
 
+-- of two lists together
 numbers_for-append : (ep : ℕ) (xs ys : List Key) → numbers_for ep (xs ++ ys) ≡ numbers_for ep xs ++ numbers_for ep ys
 numbers_for-append ep xs ys = ap (map (λ k. k.n)) (filter-append (λ k. k.ep == ep) xs ys) ∙ map-append (λ k. k.n) (filter (λ k. k.ep == ep) xs) (filter (λ k. k.ep == ep) ys)
 
+-- of a part
 numbers_for_part : (ep : ℕ) {xs ys : List Key} → IsPart xs ys → IsPart (numbers_for ep xs) (numbers_for ep ys)
 numbers_for_part ep p = part_map (λ k. k.n) (part_filter (λ k. k.ep == ep) p)
 
@@ -39,19 +41,23 @@ abbrev AreAt : ℕ → List Key → Type 0
 AreAt ep [] = Unit {0}
 AreAt ep (k ∷ ks) = (k.ep ≡ ep) × AreAt ep ks
 
+-- so it is of a part
 are_at_part : {xs ys : List Key} (ep : ℕ) → IsPart xs ys → AreAt ep ys → AreAt ep xs
 are_at_part ep nothing a = a
 are_at_part ep (skips p) a = are_at_part ep p a.1
 are_at_part ep (keeps p) a = (a.0, are_at_part ep p a.1)
 
+-- of the first of them
 are_at_front : (ep : ℕ) (xs ys : List Key) → AreAt ep (xs ++ ys) → AreAt ep xs
 are_at_front ep [] ys a = tt
 are_at_front ep (x ∷ xs) ys a = (a.0, are_at_front ep xs ys a.1)
 
+-- of the rest
 are_at_tail : (ep : ℕ) (xs ys : List Key) → AreAt ep (xs ++ ys) → AreAt ep ys
 are_at_tail ep [] ys a = a
 are_at_tail ep (x ∷ xs) ys a = are_at_tail ep xs ys a.1
 
+-- with one more of the endpoint
 are_at_more : (ep n : ℕ) (xs : List Key) → AreAt ep xs → AreAt ep (xs ++ record { n = n; ep = ep } ∷ [])
 are_at_more ep n [] a = (refl, tt)
 are_at_more ep n (x ∷ xs) a = (a.0, are_at_more ep n xs a.1)
@@ -65,6 +71,7 @@ none_for at ep (x ∷ xs) differ a = rw (a.0, differ) (none_for at ep xs differ 
 abbrev ArePlaced : Machine → Type 0
 ArePlaced m = (at : ℕ) → AreAt at (keys_at m at)
 
+-- every step keeps them there
 placed_kept : (h : ℕ) (m m' : Machine) (reply : Reply) → ArePlaced m → Moves h m m' reply → ArePlaced m'
 placed_kept h m m' reply placed (inl w) at = by_test (w.ep == at) refl
   where
@@ -91,6 +98,7 @@ record IsOrdered (ep : ℕ) (called : List ℕ) (m : Machine) : Type 0 where
 abbrev called_now : ℕ → Reply → List ℕ
 called_now ep reply = uncut_numbers ep (call_of reply)
 
+-- of two lists of results together
 uncut_keys-append : (xs ys : List TransferResult) → uncut_keys (xs ++ ys) ≡ uncut_keys xs ++ uncut_keys ys
 uncut_keys-append xs ys =
     ap (map (λ x. record { n = x.n; ep = x.request.ep })) (filter-append (λ x. is_uncut x.status) xs ys)
@@ -130,6 +138,7 @@ submit_coming ep m m' reply s = by_test (s.ep == ep) refl
         (sym (append_assoc (numbers_for s.ep (uncut_keys m.results)) (numbers_for s.ep (keys_at m s.ep)) (m.handle.next ∷ [])))))
     by_test false e = inr (rw (s.results, s.others ep e) refl)
 
+-- the first result, and those behind it
 first_coming : (ep h : ℕ) (x : TransferResult) (xs : List TransferResult) → numbers_for ep (uncut_keys (x ∷ xs)) ≡ uncut_numbers ep (told h x ∷ []) ++ numbers_for ep (uncut_keys xs)
 first_coming ep h x xs = by_test (is_uncut x.status) (x.request.ep == ep) refl
   where
@@ -184,10 +193,12 @@ ordered_kept ep h called m m' reply o placed moved = by_case moved
 abbrev called_from : ℕ → Setup → ℕ → Machine → List Step → List ℕ
 called_from ep setup h m steps = uncut_numbers ep (calls (alone_from setup h m steps))
 
+-- no step calls none
 called_none : (ep : ℕ) (setup : Setup) (h : ℕ) (m : Machine) → called_from ep setup h m [] ≡ []
 unfolding alone_from calls
 called_none ep setup h m = refl
 
+-- the first step's calls, and the others'
 called_more : (ep : ℕ) (setup : Setup) (h : ℕ) (m : Machine) (step : Step) (steps : List Step)
     → called_from ep setup h m (step ∷ steps) ≡ called_now ep (reply_to setup h m step) ++ called_from ep setup h (next_machine setup h m step) steps
 unfolding alone_from calls
@@ -197,6 +208,7 @@ called_more ep setup h m step steps =
     ap (map (λ r. r.n)) (filter-append (λ r. (r.ep == ep) && is_uncut r.status) now rest)
     ∙ map-append (λ r. r.n) (filter (λ r. (r.ep == ep) && is_uncut r.status) now) (filter (λ r. (r.ep == ep) && is_uncut r.status) rest)
 
+-- so over a run the calls rise
 rises_from : (ep : ℕ) (setup : Setup) (h : ℕ) (called : List ℕ) (m : Machine) (steps : List Step) → IsOrdered ep called m → ArePlaced m → Rises (called ++ called_from ep setup h m steps)
 rises_from ep setup h called m [] o placed = rw (called_none ep setup h m, append-nil called) (rises_front called (coming ep m) o.rises)
 rises_from ep setup h called m (step ∷ steps) o placed =
@@ -205,10 +217,12 @@ rises_from ep setup h called m (step ∷ steps) o placed =
     (ordered_kept ep h called m (next_machine setup h m step) (reply_to setup h m step) o placed (moves setup h m step))
     (placed_kept h m (next_machine setup h m step) (reply_to setup h m step) placed (moves setup h m step)))
 
+-- at first nothing is to come
 ordered_new : (ep : ℕ) → IsOrdered ep [] new_machine
 unfolding new_machine
 ordered_new ep = record { rises = tt; below = tt }
 
+-- and nothing is in progress
 placed_new : ArePlaced new_machine
 unfolding new_machine
 placed_new at = tt

@@ -8,6 +8,7 @@ abbrev pub AllBelow : ℕ → List ℕ → Type 0
 AllBelow k [] = Unit {0}
 AllBelow k (x ∷ xs) = (x < k) × AllBelow k xs
 
+-- with some left out, the others are above
 part_above : {xs ys : List ℕ} (k : ℕ) → IsPart xs ys → AllAbove k ys → AllAbove k xs
 part_above k nothing a = a
 part_above k (skips p) a = part_above k p a.1
@@ -35,6 +36,7 @@ pub below_up : (k : ℕ) (xs : List ℕ) → AllBelow k xs → AllBelow (k + 1) 
 below_up k [] a = tt
 below_up k (x ∷ xs) a = (omega (arith, a.0), below_up k xs a.1)
 
+-- with a larger one behind them too
 above_more : (x k : ℕ) (xs : List ℕ) → AllAbove x xs → x < k → AllAbove x (xs ++ k ∷ [])
 above_more x k [] a lt = (lt, tt)
 above_more x k (y ∷ ys) a lt = (a.0, above_more x k ys a.1 lt)
@@ -44,6 +46,7 @@ pub rises_more : (k : ℕ) (xs : List ℕ) → Rises xs → AllBelow k xs → Ri
 rises_more k [] r b = (tt, tt)
 rises_more k (x ∷ xs) r b = (above_more x k xs r.0 b.0, rises_more k xs r.1 b.1)
 
+-- the first of those that are above
 above_front : (k : ℕ) (xs ys : List ℕ) → AllAbove k (xs ++ ys) → AllAbove k xs
 above_front k [] ys a = tt
 above_front k (x ∷ xs) ys a = (a.0, above_front k xs ys a.1)

@@ -35,11 +35,13 @@ abbrev pub NoneOwn : Setup → ℕ → World → List Step → Type 0
 NoneOwn setup h w [] = Unit {0}
 NoneOwn setup h w (step ∷ steps) = IsNothing setup h w step (turn setup w step) × NoneOwn setup h (turn setup w step).world steps
 
+-- then all are its own steps
 pub own_all : (setup : Setup) (h : ℕ) (w : World) (steps : List Step) → AllOwn setup h w steps → own_from setup h w steps ≡ steps
 unfolding journal_from
 own_all setup h w [] all = refl
 own_all setup h w (step ∷ steps) all = own_more setup h w step steps all.0.2 ∙ ap (λ l. step ∷ l) (own_all setup h (turn setup w step).world steps all.1)
 
+-- then none is
 pub own_none : (setup : Setup) (h : ℕ) (w : World) (steps : List Step) → NoneOwn setup h w steps → own_from setup h w steps ≡ []
 unfolding journal_from
 own_none setup h w [] none = refl

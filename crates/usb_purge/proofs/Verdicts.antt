@@ -20,16 +20,19 @@ use Rattle.usb_model.proofs.Isolation.{IsOwnTurn, IsNothing, IsEither, turn_free
 abbrev IsGentle : Setup → ℕ → World → Effect → Type 0
 IsGentle setup h w done = is_blocked setup h w done.change ≡ false
 
+-- a refusal, or what stands behind it
 gentle_if : (setup : Setup) (h : ℕ) (w : World) (m : Machine) (b : Bool) (why : Refused) (rest : Effect) → IsGentle setup h w rest → IsGentle setup h w (refused_if m b why rest)
 unfolding refused_if is_blocked
 gentle_if setup h w m true why rest g = refl
 gentle_if setup h w m false why rest g = g
 
+-- a submission
 gentle_submit : (setup : Setup) (h : ℕ) (w : World) (m : Machine) (handle : Handle) (request : Request) (round : ℕ) (o : Option Endpoint) → IsGentle setup h w (submit_at setup m handle request round o)
 unfolding submit_at is_blocked doing_at
 gentle_submit setup h w m handle request round None = refl
 gentle_submit setup h w m handle request round (Some e) = gentle_if setup h w m _ _ _ (gentle_if setup h w m _ _ _ (gentle_if setup h w m _ _ _ (gentle_if setup h w m _ _ _ (gentle_if setup h w m _ _ _ refl))))
 
+-- a verdict
 gentle_answer : (setup : Setup) (h : ℕ) (w : World) (m : Machine) (v : Verdict) (o : Option InCallback) → IsGentle setup h w (answer_at setup m v o)
 unfolding answer_at submit_it is_blocked
 gentle_answer setup h w m v None = refl

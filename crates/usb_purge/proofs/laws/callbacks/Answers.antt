@@ -1,4 +1,5 @@
-use Rattle.usb_purge.proofs.Calls.{calls_once, calls_after_number}
+use Rattle.usb_purge.proofs.Calls.{calls_once}
+use Rattle.usb_purge.proofs.Given.{calls_after_number}
 use Rattle.usb_purge.proofs.Order.{calls_in_order}
 use Rattle.usb_purge.proofs.laws.callbacks.Goals as goal
 
