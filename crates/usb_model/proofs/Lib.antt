@@ -4,3 +4,14 @@ pub mod CutPackets
 pub mod EndedShares
 mod Statuses
 mod NothingChanges
+pub mod Pieces
+pub mod Changes
+pub mod Replies
+pub mod Fair
+pub mod Isolation
+pub mod States
+pub mod Times
+pub mod Parts
+pub mod Lines
+pub mod Works
+pub mod Moves
