@@ -4,6 +4,15 @@
 //! The one promise: `read_config` gives the configuration that the bytes describe, or the first fault in them.
 #![tactic(auto)]
 
+mod config;
+mod descriptor;
 mod fault;
+mod piece;
+mod read;
+mod reader;
+#[cfg(test)]
+mod tests;
 
+pub use config::Config;
 pub use fault::DescFault;
+pub use read::read_config;

@@ -1,0 +1,6 @@
+mod Tables
+mod Cut
+mod Items
+mod OneMore
+mod Steps
+mod Runs
