@@ -36,9 +36,12 @@ unfolding pieces_from
 pieces_from-front most at bytes begins = cond-true (begins_with_piece bytes) _ [] begins
 
 -- no bytes begin no piece
+pub short_is_stuck : (bytes : List ℕ) → length bytes ≤ 0 → begins_with_piece bytes ≡ false
+short_is_stuck bytes short =
+    false_from_ne_true _ (λ begins. let two = (front bytes begins).two in absurd (omega arith))
+
 pieces_from-short : (most at : ℕ) (bytes : List ℕ) → length bytes ≤ 0 → pieces_from most at bytes ≡ []
-pieces_from-short most at bytes short =
-    pieces_from-stuck most at bytes (false_from_ne_true _ (λ begins. let two = (front bytes begins).two in absurd (omega arith)))
+pieces_from-short most at bytes short = pieces_from-stuck most at bytes (short_is_stuck bytes short)
 
 -- any number of pieces from the number of bytes on is enough
 enough : (n m at : ℕ) (bytes : List ℕ) → length bytes ≤ n → length bytes ≤ m → pieces_from n at bytes ≡ pieces_from m at bytes
@@ -64,7 +67,7 @@ pieces-front at bytes begins =
     ∙ ap (λ ps. first at bytes ∷ ps) (enough (length bytes) (length (behind bytes)) (at + byte 0 bytes) (behind bytes) (omega arith) (omega arith))
 
 -- a piece more reaches as many bytes further
-extent-cons : (p : Piece) (ps : List Piece) → extent (p ∷ ps) ≡ length p.bytes + extent ps
+pub extent-cons : (p : Piece) (ps : List Piece) → extent (p ∷ ps) ≡ length p.bytes + extent ps
 extent-cons p ps = sum_by-cons (λ q. length q.bytes) p ps
 
 -- how far the pieces reach doesn't depend on where they begin

@@ -1,5 +1,6 @@
 mod Tables
 mod Cut
+mod IsCut
 mod Items
 mod OneMore
 mod Steps

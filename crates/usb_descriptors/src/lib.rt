@@ -7,6 +7,7 @@
 mod config;
 mod descriptor;
 mod fault;
+pub mod laws;
 mod piece;
 mod read;
 mod reader;
