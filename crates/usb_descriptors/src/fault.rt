@@ -19,7 +19,7 @@ pub enum DescFault {
     #[error("two endpoints have the address {address:02x}", address = .0.address())]
     SharedEndpoint(EpAddr),
     /// The bulk or interrupt endpoint of this address has a packet size outside 1 to 1,024.
-    #[error("the packet size of endpoint {address:02x} is outside 1 to 1024", address = .0.address())]
+    #[error("the packet size of endpoint {address:02x} is outside 1 to 1,024", address = .0.address())]
     BadPacketSize(EpAddr),
     /// There are more than 32 interfaces.
     #[error("there are more than 32 interfaces")]
