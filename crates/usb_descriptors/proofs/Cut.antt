@@ -48,13 +48,14 @@ enough : (n m at : ℕ) (bytes : List ℕ) → length bytes ≤ n → length byt
 enough zero m at bytes ln lm = pieces_from-short zero at bytes ln ∙ sym (pieces_from-short m at bytes ln)
 enough (suc n) zero at bytes ln lm = pieces_from-short (suc n) at bytes lm ∙ sym (pieces_from-short zero at bytes lm)
 enough (suc n) (suc m) at bytes ln lm = by_test (begins_with_piece bytes) refl (enough n m (at + byte 0 bytes) (behind bytes))
-  where by_test : (b : Bool) → begins_with_piece bytes ≡ b → (length (behind bytes) ≤ n → length (behind bytes) ≤ m → pieces_from n (at + byte 0 bytes) (behind bytes) ≡ pieces_from m (at + byte 0 bytes) (behind bytes)) → pieces_from (suc n) at bytes ≡ pieces_from (suc m) at bytes
-        by_test true begins further =
-            let f = front bytes begins in
-            let long = f.long in
-            let shorter = length-drop (byte 0 bytes) bytes in
-            pieces_from-front n at bytes begins ∙ ap (λ ps. first at bytes ∷ ps) (further (omega arith) (omega arith)) ∙ sym (pieces_from-front m at bytes begins)
-        by_test false stuck further = pieces_from-stuck (suc n) at bytes stuck ∙ sym (pieces_from-stuck (suc m) at bytes stuck)
+  where
+    by_test : (b : Bool) → begins_with_piece bytes ≡ b → (length (behind bytes) ≤ n → length (behind bytes) ≤ m → pieces_from n (at + byte 0 bytes) (behind bytes) ≡ pieces_from m (at + byte 0 bytes) (behind bytes)) → pieces_from (suc n) at bytes ≡ pieces_from (suc m) at bytes
+    by_test true begins further =
+        let f = front bytes begins in
+        let long = f.long in
+        let shorter = length-drop (byte 0 bytes) bytes in
+        pieces_from-front n at bytes begins ∙ ap (λ ps. first at bytes ∷ ps) (further (omega arith) (omega arith)) ∙ sym (pieces_from-front m at bytes begins)
+    by_test false stuck further = pieces_from-stuck (suc n) at bytes stuck ∙ sym (pieces_from-stuck (suc m) at bytes stuck)
 
 pub pieces-stuck : (at : ℕ) (bytes : List ℕ) → begins_with_piece bytes ≡ false → pieces at bytes ≡ []
 pieces-stuck at bytes stuck = pieces_from-stuck (length bytes) at bytes stuck
@@ -75,12 +76,13 @@ pieces_from-extent : (most a b : ℕ) (bytes : List ℕ) → extent (pieces_from
 unfolding pieces_from
 pieces_from-extent zero a b bytes = refl
 pieces_from-extent (suc most) a b bytes = by_test (begins_with_piece bytes) (pieces_from-extent most (a + byte 0 bytes) (b + byte 0 bytes) (behind bytes))
-  where by_test : (t : Bool) → extent (pieces_from most (a + byte 0 bytes) (behind bytes)) ≡ extent (pieces_from most (b + byte 0 bytes) (behind bytes)) → extent (cond t (first a bytes ∷ pieces_from most (a + byte 0 bytes) (behind bytes)) []) ≡ extent (cond t (first b bytes ∷ pieces_from most (b + byte 0 bytes) (behind bytes)) [])
-        by_test true same =
-            extent-cons (first a bytes) (pieces_from most (a + byte 0 bytes) (behind bytes))
-            ∙ ap (λ n. length (take (byte 0 bytes) bytes) + n) same
-            ∙ sym (extent-cons (first b bytes) (pieces_from most (b + byte 0 bytes) (behind bytes)))
-        by_test false same = refl
+  where
+    by_test : (t : Bool) → extent (pieces_from most (a + byte 0 bytes) (behind bytes)) ≡ extent (pieces_from most (b + byte 0 bytes) (behind bytes)) → extent (cond t (first a bytes ∷ pieces_from most (a + byte 0 bytes) (behind bytes)) []) ≡ extent (cond t (first b bytes ∷ pieces_from most (b + byte 0 bytes) (behind bytes)) [])
+    by_test true same =
+        extent-cons (first a bytes) (pieces_from most (a + byte 0 bytes) (behind bytes))
+        ∙ ap (λ n. length (take (byte 0 bytes) bytes) + n) same
+        ∙ sym (extent-cons (first b bytes) (pieces_from most (b + byte 0 bytes) (behind bytes)))
+    by_test false same = refl
 
 pub extent-at : (a b : ℕ) (bytes : List ℕ) → extent (pieces a bytes) ≡ extent (pieces b bytes)
 extent-at a b bytes = pieces_from-extent (length bytes) a b bytes

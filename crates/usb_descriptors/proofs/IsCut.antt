@@ -19,12 +19,13 @@ joined ps = flat_map (λ p. p.bytes) ps
 cut_induction : (P : ℕ → List ℕ → Type 0) → ((at : ℕ) (bytes : List ℕ) → begins_with_piece bytes ≡ false → P at bytes) → ((at : ℕ) (bytes : List ℕ) → begins_with_piece bytes ≡ true → P (at + byte 0 bytes) (behind bytes) → P at bytes) → (most at : ℕ) (bytes : List ℕ) → length bytes ≤ most → P at bytes
 cut_induction P none more zero at bytes short = none at bytes (short_is_stuck bytes short)
 cut_induction P none more (suc most) at bytes short = by_test (begins_with_piece bytes) refl (cut_induction P none more most (at + byte 0 bytes) (behind bytes))
-  where by_test : (b : Bool) → begins_with_piece bytes ≡ b → (length (behind bytes) ≤ most → P (at + byte 0 bytes) (behind bytes)) → P at bytes
-        by_test true begins further =
-            let long = (has_front bytes begins).long in
-            let shorter = length-drop (byte 0 bytes) bytes in
-            more at bytes begins (further (omega arith))
-        by_test false stuck further = none at bytes stuck
+  where
+    by_test : (b : Bool) → begins_with_piece bytes ≡ b → (length (behind bytes) ≤ most → P (at + byte 0 bytes) (behind bytes)) → P at bytes
+    by_test true begins further =
+        let long = (has_front bytes begins).long in
+        let shorter = length-drop (byte 0 bytes) bytes in
+        more at bytes begins (further (omega arith))
+    by_test false stuck further = none at bytes stuck
 
 -- where pieces begin, when one more stands in front of them
 offsets_behind : (at : ℕ) (q : Piece) (ps : List Piece) → q.at ≡ at → ((front back : List Piece) (p : Piece) → ps ≡ front ++ p ∷ back → p.at ≡ at + length q.bytes + extent front) → (front back : List Piece) (p : Piece) → q ∷ ps ≡ front ++ p ∷ back → p.at ≡ at + extent front
@@ -42,9 +43,10 @@ offsets_behind at q ps starts further (r ∷ front) back p is =
 cut_stuck : (at : ℕ) (bytes : List ℕ) → begins_with_piece bytes ≡ false → IsCut at bytes [] bytes
 cut_stuck at bytes stuck =
     record { joined = refl; sound = All-nil IsLong; offsets = none; stuck = stuck }
-  where none : (front back : List Piece) (p : Piece) → [] ≡ front ++ p ∷ back → p.at ≡ at + extent front
-        none [] back p is = cc
-        none (q ∷ front) back p is = cc
+  where
+    none : (front back : List Piece) (p : Piece) → [] ≡ front ++ p ∷ back → p.at ≡ at + extent front
+    none [] back p is = cc
+    none (q ∷ front) back p is = cc
 
 -- a piece in front of a cut
 cut_front : (at : ℕ) (bytes : List ℕ) (ps : List Piece) (left : List ℕ) → begins_with_piece bytes ≡ true → IsCut (at + byte 0 bytes) (behind bytes) ps left → IsCut at bytes (first at bytes ∷ ps) left

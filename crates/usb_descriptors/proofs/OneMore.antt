@@ -54,14 +54,15 @@ has_number n q = is_first_setting q && (interface_number q == n)
 -- a piece that isn't used adds no number that none before it had
 same_numbers : (before : List Piece) (p : Piece) (n : ℕ) → (list_any (has_number n) before || has_number n p) ≡ (list_any (has_number n) before || list_any (λ k. k == n) (cond (is_used before p) (interface_number p ∷ []) []))
 same_numbers before p n = by_test (is_first_setting p) (interface_number p == n) (list_any (has_number (interface_number p)) before) refl refl refl
-  where by_test : (first same known : Bool) → is_first_setting p ≡ first → (interface_number p == n) ≡ same → list_any (has_number (interface_number p)) before ≡ known → (list_any (has_number n) before || has_number n p) ≡ (list_any (has_number n) before || list_any (λ k. k == n) (cond (is_used before p) (interface_number p ∷ []) []))
-        by_test false same known f s k = rw f refl
-        by_test true false false f s k = rw (f, k, s) refl
-        by_test true false true f s k = rw (f, k, s) refl
-        by_test true true false f s k = rw (f, k, s) refl
-        by_test true true true f s k =
-            let earlier : list_any (has_number n) before ≡ true = subst (λ m. list_any (has_number m) before ≡ true) (eqb-true (interface_number p) n s) k in
-            rw earlier refl
+  where
+    by_test : (first same known : Bool) → is_first_setting p ≡ first → (interface_number p == n) ≡ same → list_any (has_number (interface_number p)) before ≡ known → (list_any (has_number n) before || has_number n p) ≡ (list_any (has_number n) before || list_any (λ k. k == n) (cond (is_used before p) (interface_number p ∷ []) []))
+    by_test false same known f s k = rw f refl
+    by_test true false false f s k = rw (f, k, s) refl
+    by_test true false true f s k = rw (f, k, s) refl
+    by_test true true false f s k = rw (f, k, s) refl
+    by_test true true true f s k =
+        let earlier : list_any (has_number n) before ≡ true = subst (λ m. list_any (has_number m) before ≡ true) (eqb-true (interface_number p) n s) k in
+        rw earlier refl
 
 -- the numbers of the interfaces among some pieces, behind others
 abbrev used_from : List Piece → List Piece → List ℕ
@@ -70,14 +71,15 @@ used_from earlier ps = each_from (λ b q. cond (is_used b q) (interface_number q
 -- a first setting of this number stands among the pieces exactly where a used interface has it
 pub numbers_used : (before : List Piece) (n : ℕ) → list_any (has_number n) before ≡ list_any (λ k. k == n) (interfaces before)
 numbers_used before n = from [] before
-  where from : (earlier ps : List Piece) → list_any (has_number n) (earlier ++ ps) ≡ (list_any (has_number n) earlier || list_any (λ k. k == n) (used_from earlier ps))
-        from earlier [] = ap (list_any (has_number n)) (append-nil earlier) ∙ sym (or-false (list_any (has_number n) earlier))
-        from earlier (p ∷ ps) =
-            let had = list_any (has_number n) earlier in
-            let here = cond (is_used earlier p) (interface_number p ∷ []) [] in
-            let further = used_from (earlier ++ p ∷ []) ps in
-            ap (list_any (has_number n)) (sym (append_assoc earlier (p ∷ []) ps))
-            ∙ from (earlier ++ p ∷ []) ps
-            ∙ ap (λ b. b || list_any (λ k. k == n) further) (list_any-append (has_number n) earlier (p ∷ []) ∙ ap (λ b. had || b) (or-false (has_number n p)) ∙ same_numbers earlier p n)
-            ∙ or_assoc had (list_any (λ k. k == n) here) (list_any (λ k. k == n) further)
-            ∙ ap (λ b. had || b) (sym (list_any-append (λ k. k == n) here further))
+  where
+    from : (earlier ps : List Piece) → list_any (has_number n) (earlier ++ ps) ≡ (list_any (has_number n) earlier || list_any (λ k. k == n) (used_from earlier ps))
+    from earlier [] = ap (list_any (has_number n)) (append-nil earlier) ∙ sym (or-false (list_any (has_number n) earlier))
+    from earlier (p ∷ ps) =
+        let had = list_any (has_number n) earlier in
+        let here = cond (is_used earlier p) (interface_number p ∷ []) [] in
+        let further = used_from (earlier ++ p ∷ []) ps in
+        ap (list_any (has_number n)) (sym (append_assoc earlier (p ∷ []) ps))
+        ∙ from (earlier ++ p ∷ []) ps
+        ∙ ap (λ b. b || list_any (λ k. k == n) further) (list_any-append (has_number n) earlier (p ∷ []) ∙ ap (λ b. had || b) (or-false (has_number n p)) ∙ same_numbers earlier p n)
+        ∙ or_assoc had (list_any (λ k. k == n) here) (list_any (λ k. k == n) further)
+        ∙ ap (λ b. had || b) (sym (list_any-append (λ k. k == n) here further))

@@ -49,13 +49,14 @@ opened (Err fault) = Err fault
 -- the grammar, by its opening
 pub opened-opening : (input : List ℕ) → opened (opening input) ≡ reading input
 opened-opening input = by_tests (nat_lt (length input) 9) (not (byte 1 input == 2)) (nat_lt (header_length input) 9 || nat_lt (total_length input) (header_length input)) (nat_lt (length input) (total_length input)) (Truncated (length input)) (WrongType 0) (BadLength 0)
-  where by_tests : (a b c d : Bool) (x y z : DescFault) → opened (cond a (Err x) (cond b (Err y) (cond c (Err z) (cond d (Err x) (Ok (items (header_length input) (body input)))))))
-                       ≡ cond a (Err x) (cond b (Err y) (cond c (Err z) (cond d (Err x) (read_by (faults (header_length input) (body input)) (configuration (pieces (header_length input) (body input)))))))
-        by_tests true b c d x y z = refl
-        by_tests false true c d x y z = refl
-        by_tests false false true d x y z = refl
-        by_tests false false false true x y z = refl
-        by_tests false false false false x y z = read_on-items (header_length input) (body input)
+  where
+    by_tests : (a b c d : Bool) (x y z : DescFault) → opened (cond a (Err x) (cond b (Err y) (cond c (Err z) (cond d (Err x) (Ok (items (header_length input) (body input)))))))
+        ≡ cond a (Err x) (cond b (Err y) (cond c (Err z) (cond d (Err x) (read_by (faults (header_length input) (body input)) (configuration (pieces (header_length input) (body input)))))))
+    by_tests true b c d x y z = refl
+    by_tests false true c d x y z = refl
+    by_tests false false true d x y z = refl
+    by_tests false false false true x y z = refl
+    by_tests false false false false x y z = read_on-items (header_length input) (body input)
 
 -- a reader between two descriptors: what it has read, and that what is left leads to the grammar's answer
 pub record IsUnderway (input : List ℕ) (reader : Reader) (left : List (Result Piece DescFault)) : Type 0 where

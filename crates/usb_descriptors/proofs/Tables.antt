@@ -70,9 +70,10 @@ places_distinct (b ∷ bs) ns apart = (places_differ b bs ns.0 ns.1 apart.0, pla
 -- each place is one of 30
 places_below : (bs : List ℕ) → AllByRecursion IsNumbered bs → (q : ℕ) → list_any (nat_eq q) (map place bs) ≡ true → q < 30
 places_below [] ns q found = absurd (false≢true found)
-places_below (b ∷ bs) ns q found = elim (or_cases (nat_eq q (place b)) (list_any (nat_eq q) (map place bs)) found)
-      [ inl here ↦ rw (eqb-true q (place b) here) (place-lt b ns.0)
-      | inr there ↦ places_below bs ns.1 q there ]
+places_below (b ∷ bs) ns q found = elim (or_cases (nat_eq q (place b)) (list_any (nat_eq q) (map place bs)) found) [
+  | inl here ↦ rw (eqb-true q (place b) here) (place-lt b ns.0)
+  | inr there ↦ places_below bs ns.1 q there
+]
 
 -- a table has 30 endpoints at most
 IsTable-length : (xs : List EndpointInfo) → IsTable xs → length xs ≤ 30

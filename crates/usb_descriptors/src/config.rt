@@ -1,19 +1,18 @@
 //! The tables of a configuration: its interfaces and endpoints.
 
-ghost use Rattle.std.specs.Prelude.{◌≡◌, ◌==◌, ◌<◌, ◌≤◌, ◌↔◌, [], ◌∷◌, ◌++◌, length, option_map, OnOk, OnErr, IfErr, MatchResult};
+ghost use Rattle.std.specs.Prelude.{◌≡◌, ◌==◌, ◌<◌, ◌≤◌, [], ◌∷◌, ◌++◌, length, option_map, OnOk, OnErr, IfErr, MatchResult};
 ghost use Rattle.std.specs.List.{list_any};
 ghost use Rattle.std.specs.Option.{option_copied};
 ghost use Rattle.usb_descriptors.specs.Grammar.{is_bad_size};
-ghost use Rattle.usb_descriptors.specs.Table.{info_at, faults_beside, IsNumbered};
-
-use std::marker::Model;
-
-use arrayvec::ArrayVec;
-use usb_model::{EndpointInfo, EpAddr, Kind};
+ghost use Rattle.usb_descriptors.specs.Table.{info_at, faults_beside, IsNumbered, IsTable};
 
 use crate::fault::DescFault;
+use arrayvec::ArrayVec;
+use std::marker::Model;
+use usb_model::{EndpointInfo, EpAddr, Kind};
 
-/// A device's configuration (USB 2.0, 9.6.3). Contracts see the lists `interfaces` and `endpoints`.
+/// A device's configuration (USB 2.0, 9.6.3): at most 32 interfaces and 30 endpoints, in its own room. Contracts see
+/// usb_model's record of the lists `interfaces` and `endpoints`.
 #[derive(Debug, Drop)]
 pub struct Config {
     interfaces: ArrayVec<u8, 32>,
@@ -42,7 +41,7 @@ impl Config {
         }
     }
 
-    /// The numbers of its interfaces, in order.
+    /// The numbers of its interfaces (USB 2.0, 9.6.5), in the order of their descriptors.
     pub fn interfaces(&self) -> &[u8]
         ensures value { result.now ≡ self.now.interfaces }
         ensures room { length result.now ≤ 32 }
@@ -50,28 +49,31 @@ impl Config {
         self.interfaces.as_slice()
     }
 
-    /// Its endpoints, in order.
+    /// Its endpoints (USB 2.0, 9.6.6), in the order of their descriptors. Their addresses differ, have bits 6..4 as 0
+    /// and a number other than 0; a bulk or interrupt endpoint has a packet size of 1 to 1,024 bytes.
     pub fn endpoints(&self) -> &[EndpointInfo]
         ensures value { result.now ≡ self.now.endpoints }
         ensures room { length result.now ≤ 30 }
+        ensures table { IsTable self.now.endpoints }
     {
         self.endpoints.as_slice()
     }
 
-    /// The interface that an endpoint belongs to.
+    /// The number of the interface that an endpoint belongs to; None where no endpoint has just this address.
     pub fn interface_of(&self, ep: EpAddr) -> Option<u8>
         ensures { result ≡ option_map (λ x. x.interface) (info_at self.now ep) }
     {
         self.info(ep).map(|info| info.interface)
     }
 
-    /// The kind and the packet size of an endpoint.
+    /// The kind and the packet size in bytes of an endpoint; None where no endpoint has just this address.
     pub fn endpoint(&self, ep: EpAddr) -> Option<(Kind, u16)>
         ensures { result ≡ option_map (λ x. (x.kind, x.size)) (info_at self.now ep) }
     {
         self.info(ep).map(|info| (info.kind, info.size))
     }
 
+    /// What it says of an endpoint; None where no endpoint has just this address.
     fn info(&self, ep: EpAddr) -> Option<&EndpointInfo>
         ensures { option_copied result ≡ info_at self.now ep }
     {
@@ -104,7 +106,8 @@ impl Config {
             .map_err(|_| DescFault::TooMany)
     }
 
-    /// Adds an endpoint; SharedEndpoint where one has its address, else BadPacketSize where its size can't be.
+    /// Adds an endpoint, for which there is always room; SharedEndpoint where one has its address, else BadPacketSize
+    /// where it is bulk or interrupt with a size outside 1 to 1,024.
     pub(crate) fn add_endpoint(&mut self, info: EndpointInfo) -> Result<(), DescFault>
         requires { IsNumbered info.address }
         ensures ok { OnOk result (self.new ≡ record self.old { endpoints = self.old.endpoints ++ info ∷ [] }) }

@@ -5,9 +5,8 @@ ghost use Rattle.std.specs.Iterator.{YieldsFirst, item_count};
 ghost use Rattle.usb_descriptors.specs.Pieces.{byte, begins_with_piece};
 ghost use Rattle.usb_descriptors.specs.Items.{items};
 
-use std::marker::Model;
-
 use crate::fault::DescFault;
+use std::marker::Model;
 
 /// A descriptor: its offset, and its bytes.
 #[derive(Drop)]

@@ -9,7 +9,7 @@ use crate::descriptor::{Descriptor, Endpoint, Interface};
 use crate::fault::DescFault;
 use crate::piece::Piece;
 
-/// What stands in front of a descriptor: the nearest earlier interface.
+/// What a descriptor stands under: the nearest interface descriptor in front of it.
 #[derive(Clone, Copy)]
 pub(crate) enum Section {
     /// There is none.
@@ -20,7 +20,7 @@ pub(crate) enum Section {
     Used(u8),
 }
 
-/// What the descriptors so far say.
+/// What the descriptors so far say. After a fault nothing is said of it.
 #[derive(Drop)]
 pub(crate) struct Reader {
     config: Config,
@@ -48,13 +48,14 @@ impl Reader {
         config
     }
 
-    /// Reads one more descriptor, or gives its fault.
+    /// Reads one more descriptor. Refuses: what the descriptor by itself is refused for, and then TooMany at the
+    /// 33rd interface; WrongType of an endpoint before any interface, then SharedEndpoint, then BadPacketSize.
     pub(crate) fn read(&mut self, piece: &Piece<'_>) -> Result<(), DescFault>
         ensures { ReadsOn piece.now self.old self.new result }
     {
         match Descriptor::read(piece)? {
-            Descriptor::Interface(interface) => self.interface(interface),
-            Descriptor::Endpoint(endpoint) => self.endpoint(piece.at(), endpoint),
+            Descriptor::Interface(interface) => self.read_interface(interface),
+            Descriptor::Endpoint(endpoint) => self.read_endpoint(piece.at(), endpoint),
             Descriptor::Other => Ok(()),
         }
     }
@@ -66,8 +67,8 @@ impl Reader {
         interface.setting == 0 && !self.config.has_interface(interface.number)
     }
 
-    /// An interface that is used is added.
-    fn interface(&mut self, interface: Interface) -> Result<(), DescFault>
+    /// Adds an interface, where it is used; TooMany where there are 32.
+    fn read_interface(&mut self, interface: Interface) -> Result<(), DescFault>
         ensures { (p : Cut) → descriptor_of p ≡ Ok (Descriptor.Interface interface) → ReadsOn p self.old self.new result }
     {
         if !self.is_new(interface) {
@@ -79,15 +80,16 @@ impl Reader {
         Ok(())
     }
 
-    /// An endpoint with a number other than 0 is added, where the nearest earlier interface is used.
-    fn endpoint(&mut self, at: usize, endpoint: Endpoint) -> Result<(), DescFault>
+    /// Adds an endpoint with a number other than 0, where it stands under an interface that is used. WrongType
+    /// before any interface, SharedEndpoint where one has its address, BadPacketSize where its size can't be.
+    fn read_endpoint(&mut self, at: usize, endpoint: Endpoint) -> Result<(), DescFault>
         requires { endpoint.address % 128 < 16 }
         ensures { (p : Cut) → p.at ≡ at → descriptor_of p ≡ Ok (Descriptor.Endpoint endpoint) → ReadsOn p self.old self.new result }
     {
         match self.section {
             Section::Start => Err(DescFault::WrongType(at)),
             Section::Unused => Ok(()),
-            Section::Used(_) if endpoint.address.number() == 0 => Ok(()),
+            Section::Used(_) if endpoint.has_number_0() => Ok(()),
             Section::Used(interface) => self.config.add_endpoint(endpoint.info(interface)),
         }
     }

@@ -1,12 +1,10 @@
 //! Rows of bytes with what they read as, and the sentences of the faults.
 
+use crate::{Config, DescFault, read_config};
 use std::alloc::{AllocError, Global};
 use std::process::Abort;
 use std::test::Fail;
-
 use usb_model::{EndpointInfo, EpAddr, Kind};
-
-use crate::{Config, DescFault, read_config};
 
 /// Interface 0 with the endpoints 81 and 02, and interface 1 with 83.
 const TWO_INTERFACES: [u8; 48] = [
@@ -53,7 +51,12 @@ fn info(address: u8, interface: u8, kind: Kind) -> EndpointInfo {
 }
 
 /// The bytes describe these interfaces and endpoints.
-fn describes(rt: &impl Abort, bytes: &[u8], interfaces: &[u8], endpoints: &[EndpointInfo]) -> Result<Config, Fail> {
+fn describes(
+    rt: &impl Abort,
+    bytes: &[u8],
+    interfaces: &[u8],
+    endpoints: &[EndpointInfo],
+) -> Result<Config, Fail> {
     let config = read_config(bytes)?;
     assert_eq!(rt; config.interfaces(), interfaces);
     assert_eq!(rt; config.endpoints(), endpoints);
@@ -80,7 +83,10 @@ fn two_interfaces_with_three_endpoints(rt: HostRuntime) -> Result<(), Fail> {
     assert_eq!(rt; config.interface_of(EpAddr::new(0x83)), Some(1));
     assert_eq!(rt; config.interface_of(EpAddr::new(0x82)), None);
     assert_eq!(rt; config.endpoint(EpAddr::new(0x02)), Some((Kind::Bulk, 8)));
-    assert_eq!(rt; config.endpoint(EpAddr::new(0x83)), Some((Kind::Interrupt, 8)));
+    assert_eq!(rt;
+        config.endpoint(EpAddr::new(0x83)),
+        Some((Kind::Interrupt, 8))
+    );
     assert_eq!(rt; config.endpoint(EpAddr::new(0x93)), None);
     Ok(())
 }
@@ -101,7 +107,12 @@ fn what_is_left_out(rt: HostRuntime) -> Result<(), Fail> {
         0x0a, 0x02, 0x1e, 0x00, 0x01, 0x01, 0x00, 0x80, 0x32, 0x00, 0x0b, 0x04, 0x03, 0x00, 0x01,
         0xff, 0x00, 0x00, 0x00, 0x00, 0x00, 0x09, 0x05, 0x81, 0x03, 0x08, 0x00, 0x0a, 0x00, 0x00,
     ];
-    describes(&rt, &longer_descriptors, &[3], &[info(0x81, 3, Kind::Interrupt)])?;
+    describes(
+        &rt,
+        &longer_descriptors,
+        &[3],
+        &[info(0x81, 3, Kind::Interrupt)],
+    )?;
     Ok(())
 }
 
@@ -112,8 +123,16 @@ fn the_first_fault(rt: HostRuntime) {
     }
     refuses(&rt, &changed(0, 0x08), DescFault::BadLength(0));
     refuses(&rt, &changed(41, 0x08), DescFault::BadLength(41));
-    refuses(&rt, &changed(43, 0x81), DescFault::SharedEndpoint(EpAddr::new(0x81)));
-    refuses(&rt, &changed(22, 0x00), DescFault::BadPacketSize(EpAddr::new(0x81)));
+    refuses(
+        &rt,
+        &changed(43, 0x81),
+        DescFault::SharedEndpoint(EpAddr::new(0x81)),
+    );
+    refuses(
+        &rt,
+        &changed(22, 0x00),
+        DescFault::BadPacketSize(EpAddr::new(0x81)),
+    );
 
     let one_byte_left = [0x09, 0x02, 0x0a, 0x00, 0x00, 0x01, 0x00, 0x80, 0x32, 0x00];
     refuses(&rt, &one_byte_left, DescFault::BadLength(9));
@@ -129,18 +148,37 @@ fn the_first_fault(rt: HostRuntime) {
 fn at_most_32_interfaces(rt: HostRuntime) -> Result<(), Fail> {
     let config = read_config(interfaces(rt.alloc(), 32)?.as_slice())?;
     assert_eq!(rt; config.interfaces().len(), 32);
-    refuses(&rt, interfaces(rt.alloc(), 33)?.as_slice(), DescFault::TooMany);
+    refuses(
+        &rt,
+        interfaces(rt.alloc(), 33)?.as_slice(),
+        DescFault::TooMany,
+    );
     Ok(())
 }
 
 #[test]
 fn a_sentence_for_each_fault(rt: HostRuntime) -> Result<(), Fail> {
     let rows = [
-        (DescFault::Truncated(47), "the input ends at byte 47, before the configuration does"),
-        (DescFault::BadLength(41), "the length of the descriptor at byte 41 can't be"),
-        (DescFault::WrongType(9), "the type of the descriptor at byte 9 can't stand there"),
-        (DescFault::SharedEndpoint(EpAddr::new(0x8a)), "two endpoints have the address 8a"),
-        (DescFault::BadPacketSize(EpAddr::new(0x02)), "the packet size of endpoint 02 is outside 1 to 1,024"),
+        (
+            DescFault::Truncated(47),
+            "the input ends at byte 47, before the configuration does",
+        ),
+        (
+            DescFault::BadLength(41),
+            "the descriptor at byte 41 has an impossible length",
+        ),
+        (
+            DescFault::WrongType(9),
+            "the descriptor at byte 9 has a type that can't stand there",
+        ),
+        (
+            DescFault::SharedEndpoint(EpAddr::new(0x8a)),
+            "two endpoints have the address 8a",
+        ),
+        (
+            DescFault::BadPacketSize(EpAddr::new(0x02)),
+            "endpoint 02 has a packet size outside 1 to 1,024",
+        ),
         (DescFault::TooMany, "there are more than 32 interfaces"),
     ];
     for (fault, text) in rows {

@@ -1,6 +1,5 @@
 -- An endpoint is kept where the nearest earlier interface is used and its number isn't 0, and else passed over.
 use Rattle.std.proofs.Common.{◌≡◌, ◌==◌, ◌%◌, false, true, cond, not, [], ◌∷◌, ◌++◌, Some, None, Ok, Err, Result, OnOk, MatchResult, refl, sym, ap, ap₂, subst, ◌∙◌}
-use Rattle.std.proofs.lemmas.Bool.{eq-eqb, ne_eqb}
 use Rattle.std.proofs.lemmas.Result.{MatchResult-weaker}
 use Rattle.usb_descriptors.specs.declared.config.Config.{Config}
 use Rattle.usb_descriptors.specs.declared.descriptor.Endpoint.{Endpoint}
@@ -11,7 +10,7 @@ use Rattle.usb_descriptors.specs.Grammar.{nearest, faults_of, endpoints}
 use Rattle.usb_descriptors.specs.Table.{faults_beside}
 use Rattle.usb_descriptors.specs.Reading.{nearest_in, HasRead}
 use Rattle.usb_descriptors.proofs.Steps.{StepsTo, step_passed_over, step_kept, info_in, reads_on}
-use Rattle.usb_descriptors.proofs.reader.Reader.endpoint.Goals as goal
+use Rattle.usb_descriptors.proofs.reader.Reader.read_endpoint.Goals as goal
 
 -- what holds at `Ok`, beside what holds by cases
 both : {T E : Type 0} (r : Result T E) (A : Type 0) (P : T → Type 0) (Q : E → Type 0) → OnOk r A → MatchResult r P Q → MatchResult r (λ x. A × P x) Q
@@ -26,14 +25,14 @@ returns-in-Unused c = λ p at is before has.
 pub returns-in-Used : goal.returns-in-Used
 returns-in-Used c = λ p at is before has.
     let there : nearest before ≡ Some (Some c.in-Used.field-0) = sym has.section ∙ ap nearest_in c.in-Used.is in
-    let zero : (c.args.endpoint.address % 16 == 0) ≡ true = eq-eqb _ 0 (sym c.number.ensures ∙ c.if-number-eq0.true) in
+    let zero : (c.args.endpoint.address % 16 == 0) ≡ true = sym c.has_number_0.ensures ∙ c.if-has_number_0.true in
     let none = ap (λ b. cond (not b) (info_in c.in-Used.field-0 c.args.endpoint ∷ []) []) zero in
     reads_on c.args.self.now (step_passed_over before p c.args.endpoint (Some c.in-Used.field-0) is there none) refl has.config (has.section ∙ there)
 
 pub returns-in-Used-2 : goal.returns-in-Used-2
 returns-in-Used-2 c = λ p at is before has.
     let there : nearest before ≡ Some (Some c.in-Used-2.interface) = sym has.section ∙ ap nearest_in c.in-Used-2.is in
-    let numbered : (c.args.endpoint.address % 16 == 0) ≡ false = ne_eqb _ 0 (λ zero. c.if-number-eq0.false (c.number.ensures ∙ zero)) in
+    let numbered : (c.args.endpoint.address % 16 == 0) ≡ false = sym c.has_number_0.ensures ∙ c.if-has_number_0.false in
     let step = step_kept before p c.args.endpoint c.in-Used-2.interface is there numbered in
     let same : faults_beside (endpoints before) (info_in c.in-Used-2.interface c.args.endpoint) ≡ faults_beside c.args.self.now.config.endpoints c.info.result = ap₂ (λ config x. faults_beside config.endpoints x) (sym has.config) (sym c.info.ensures) in
     let grown = ap₂ (λ config x. record { interfaces = config.interfaces; endpoints = config.endpoints ++ x ∷ [] }) has.config c.info.ensures in

@@ -7,7 +7,7 @@ use Rattle.usb_descriptors.specs.declared.reader.Section.TheVariants.{Unused, Us
 use Rattle.usb_descriptors.specs.Grammar.{interfaces}
 use Rattle.usb_descriptors.specs.Reading.{is_new}
 use Rattle.usb_descriptors.proofs.Steps.{step_unused, step_used, reads_on}
-use Rattle.usb_descriptors.proofs.reader.Reader.interface.Goals as goal
+use Rattle.usb_descriptors.proofs.reader.Reader.read_interface.Goals as goal
 
 pub returns-then-not-is_new : goal.returns-then-not-is_new
 returns-then-not-is_new c = λ p is before has.
