@@ -31,7 +31,8 @@ pieces_from-stuck zero at bytes stuck = refl
 pieces_from-stuck (suc most) at bytes stuck = cond-false (begins_with_piece bytes) _ [] stuck
 
 -- where one begins it is the first
-pieces_from-front : (most at : ℕ) (bytes : List ℕ) → begins_with_piece bytes ≡ true → pieces_from (suc most) at bytes ≡ first at bytes ∷ pieces_from most (at + byte 0 bytes) (behind bytes)
+pieces_from-front : (most at : ℕ) (bytes : List ℕ) → begins_with_piece bytes ≡ true
+    → pieces_from (suc most) at bytes ≡ first at bytes ∷ pieces_from most (at + byte 0 bytes) (behind bytes)
 unfolding pieces_from
 pieces_from-front most at bytes begins = cond-true (begins_with_piece bytes) _ [] begins
 
@@ -49,7 +50,9 @@ enough zero m at bytes ln lm = pieces_from-short zero at bytes ln ∙ sym (piece
 enough (suc n) zero at bytes ln lm = pieces_from-short (suc n) at bytes lm ∙ sym (pieces_from-short zero at bytes lm)
 enough (suc n) (suc m) at bytes ln lm = by_test (begins_with_piece bytes) refl (enough n m (at + byte 0 bytes) (behind bytes))
   where
-    by_test : (b : Bool) → begins_with_piece bytes ≡ b → (length (behind bytes) ≤ n → length (behind bytes) ≤ m → pieces_from n (at + byte 0 bytes) (behind bytes) ≡ pieces_from m (at + byte 0 bytes) (behind bytes)) → pieces_from (suc n) at bytes ≡ pieces_from (suc m) at bytes
+    by_test : (b : Bool) → begins_with_piece bytes ≡ b
+        → (length (behind bytes) ≤ n → length (behind bytes) ≤ m → pieces_from n (at + byte 0 bytes) (behind bytes) ≡ pieces_from m (at + byte 0 bytes) (behind bytes))
+        → pieces_from (suc n) at bytes ≡ pieces_from (suc m) at bytes
     by_test true begins further =
         let f = front bytes begins in
         let long = f.long in
@@ -60,7 +63,8 @@ enough (suc n) (suc m) at bytes ln lm = by_test (begins_with_piece bytes) refl (
 pub pieces-stuck : (at : ℕ) (bytes : List ℕ) → begins_with_piece bytes ≡ false → pieces at bytes ≡ []
 pieces-stuck at bytes stuck = pieces_from-stuck (length bytes) at bytes stuck
 
-pub pieces-front : (at : ℕ) (bytes : List ℕ) → begins_with_piece bytes ≡ true → pieces at bytes ≡ first at bytes ∷ pieces (at + byte 0 bytes) (behind bytes)
+pub pieces-front : (at : ℕ) (bytes : List ℕ) → begins_with_piece bytes ≡ true
+    → pieces at bytes ≡ first at bytes ∷ pieces (at + byte 0 bytes) (behind bytes)
 pieces-front at bytes begins =
     let shorter = length-drop (byte 0 bytes) bytes in
     enough (length bytes) (suc (length bytes)) at bytes (omega arith) (omega arith)
@@ -77,7 +81,9 @@ unfolding pieces_from
 pieces_from-extent zero a b bytes = refl
 pieces_from-extent (suc most) a b bytes = by_test (begins_with_piece bytes) (pieces_from-extent most (a + byte 0 bytes) (b + byte 0 bytes) (behind bytes))
   where
-    by_test : (t : Bool) → extent (pieces_from most (a + byte 0 bytes) (behind bytes)) ≡ extent (pieces_from most (b + byte 0 bytes) (behind bytes)) → extent (cond t (first a bytes ∷ pieces_from most (a + byte 0 bytes) (behind bytes)) []) ≡ extent (cond t (first b bytes ∷ pieces_from most (b + byte 0 bytes) (behind bytes)) [])
+    by_test : (t : Bool)
+        → extent (pieces_from most (a + byte 0 bytes) (behind bytes)) ≡ extent (pieces_from most (b + byte 0 bytes) (behind bytes))
+        → extent (cond t (first a bytes ∷ pieces_from most (a + byte 0 bytes) (behind bytes)) []) ≡ extent (cond t (first b bytes ∷ pieces_from most (b + byte 0 bytes) (behind bytes)) [])
     by_test true same =
         extent-cons (first a bytes) (pieces_from most (a + byte 0 bytes) (behind bytes))
         ∙ ap (λ n. length (take (byte 0 bytes) bytes) + n) same
@@ -88,7 +94,8 @@ pub extent-at : (a b : ℕ) (bytes : List ℕ) → extent (pieces a bytes) ≡ e
 extent-at a b bytes = pieces_from-extent (length bytes) a b bytes
 
 -- the first piece reaches to what stands behind it
-pub extent-front : (at : ℕ) (bytes : List ℕ) → begins_with_piece bytes ≡ true → extent (pieces at bytes) ≡ byte 0 bytes + extent (pieces (at + byte 0 bytes) (behind bytes))
+pub extent-front : (at : ℕ) (bytes : List ℕ) → begins_with_piece bytes ≡ true
+    → extent (pieces at bytes) ≡ byte 0 bytes + extent (pieces (at + byte 0 bytes) (behind bytes))
 extent-front at bytes begins =
     let further = pieces (at + byte 0 bytes) (behind bytes) in
     ap extent (pieces-front at bytes begins)

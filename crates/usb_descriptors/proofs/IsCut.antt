@@ -16,7 +16,9 @@ abbrev joined : List Piece → List ℕ
 joined ps = flat_map (λ p. p.bytes) ps
 
 -- what holds where no piece begins, and before a piece where it holds behind it, holds of all bytes
-cut_induction : (P : ℕ → List ℕ → Type 0) → ((at : ℕ) (bytes : List ℕ) → begins_with_piece bytes ≡ false → P at bytes) → ((at : ℕ) (bytes : List ℕ) → begins_with_piece bytes ≡ true → P (at + byte 0 bytes) (behind bytes) → P at bytes) → (most at : ℕ) (bytes : List ℕ) → length bytes ≤ most → P at bytes
+cut_induction : (P : ℕ → List ℕ → Type 0) → ((at : ℕ) (bytes : List ℕ) → begins_with_piece bytes ≡ false → P at bytes)
+    → ((at : ℕ) (bytes : List ℕ) → begins_with_piece bytes ≡ true → P (at + byte 0 bytes) (behind bytes) → P at bytes)
+    → (most at : ℕ) (bytes : List ℕ) → length bytes ≤ most → P at bytes
 cut_induction P none more zero at bytes short = none at bytes (short_is_stuck bytes short)
 cut_induction P none more (suc most) at bytes short = by_test (begins_with_piece bytes) refl (cut_induction P none more most (at + byte 0 bytes) (behind bytes))
   where
@@ -28,7 +30,9 @@ cut_induction P none more (suc most) at bytes short = by_test (begins_with_piece
     by_test false stuck further = none at bytes stuck
 
 -- where pieces begin, when one more stands in front of them
-offsets_behind : (at : ℕ) (q : Piece) (ps : List Piece) → q.at ≡ at → ((front back : List Piece) (p : Piece) → ps ≡ front ++ p ∷ back → p.at ≡ at + length q.bytes + extent front) → (front back : List Piece) (p : Piece) → q ∷ ps ≡ front ++ p ∷ back → p.at ≡ at + extent front
+offsets_behind : (at : ℕ) (q : Piece) (ps : List Piece) → q.at ≡ at
+    → ((front back : List Piece) (p : Piece) → ps ≡ front ++ p ∷ back → p.at ≡ at + length q.bytes + extent front)
+    → (front back : List Piece) (p : Piece) → q ∷ ps ≡ front ++ p ∷ back → p.at ≡ at + extent front
 offsets_behind at q ps starts further [] back p is =
     let same : q ≡ p = cc in
     sym (ap (λ r. r.at) same) ∙ starts ∙ sym (add-zero at)
@@ -49,7 +53,8 @@ cut_stuck at bytes stuck =
     none (q ∷ front) back p is = cc
 
 -- a piece in front of a cut
-cut_front : (at : ℕ) (bytes : List ℕ) (ps : List Piece) (left : List ℕ) → begins_with_piece bytes ≡ true → IsCut (at + byte 0 bytes) (behind bytes) ps left → IsCut at bytes (first at bytes ∷ ps) left
+cut_front : (at : ℕ) (bytes : List ℕ) (ps : List Piece) (left : List ℕ) → begins_with_piece bytes ≡ true
+    → IsCut (at + byte 0 bytes) (behind bytes) ps left → IsCut at bytes (first at bytes ∷ ps) left
 cut_front at bytes ps left begins cut =
     let front = has_front bytes begins in
     let long = front.long in
@@ -75,7 +80,8 @@ record HasFirst (at : ℕ) (bytes : List ℕ) (p : Piece) (ps : List Piece) (lef
   is_first : p ≡ first at bytes
   others : IsCut (at + byte 0 bytes) (behind bytes) ps left
 
-first_of_cut : (at : ℕ) (bytes : List ℕ) (p : Piece) (ps : List Piece) (left : List ℕ) → IsCut at bytes (p ∷ ps) left → HasFirst at bytes p ps left
+first_of_cut : (at : ℕ) (bytes : List ℕ) (p : Piece) (ps : List Piece) (left : List ℕ) → IsCut at bytes (p ∷ ps) left
+    → HasFirst at bytes p ps left
 first_of_cut at bytes p ps left cut =
     let tail = joined ps ++ left in
     let whole : p.bytes ++ tail ≡ bytes = sym (append_assoc p.bytes (joined ps) left) ∙ cut.joined in
@@ -97,7 +103,8 @@ first_of_cut at bytes p ps left cut =
     }
 
 -- there is no other cut
-pub is_the_cut : (at : ℕ) (bytes : List ℕ) (ps : List Piece) (left : List ℕ) → IsCut at bytes ps left → (ps ≡ pieces at bytes) × (left ≡ rest bytes)
+pub is_the_cut : (at : ℕ) (bytes : List ℕ) (ps : List Piece) (left : List ℕ) → IsCut at bytes ps left
+    → (ps ≡ pieces at bytes) × (left ≡ rest bytes)
 is_the_cut at bytes [] left cut =
     let stuck = ap begins_with_piece (sym cut.joined) ∙ cut.stuck in
     (sym (pieces-stuck at bytes stuck), cut.joined ∙ sym (rest-stuck bytes stuck))

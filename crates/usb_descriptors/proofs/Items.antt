@@ -19,13 +19,15 @@ items-stuck at (x ∷ xs) some stuck =
 items-stuck at [] some stuck = absurd (omega arith)
 
 -- else the first piece, and then what comes of the bytes behind it
-items-front : (at : ℕ) (bytes : List ℕ) → begins_with_piece bytes ≡ true → items at bytes ≡ Ok (first at bytes) ∷ items (at + byte 0 bytes) (behind bytes)
+items-front : (at : ℕ) (bytes : List ℕ) → begins_with_piece bytes ≡ true
+    → items at bytes ≡ Ok (first at bytes) ∷ items (at + byte 0 bytes) (behind bytes)
 unfolding items
 items-front at bytes begins =
     rw (extent-front at bytes begins, pieces-front at bytes begins, rest-front bytes begins, add_assoc) refl
 
 -- the same by what the first piece's bytes and those behind it are
-pub items-split : (at : ℕ) (bytes front back : List ℕ) → begins_with_piece bytes ≡ true → front ≡ take (byte 0 bytes) bytes → back ≡ drop (byte 0 bytes) bytes → items at bytes ≡ Ok (record { at = at; bytes = front }) ∷ items (at + length front) back
+pub items-split : (at : ℕ) (bytes front back : List ℕ) → begins_with_piece bytes ≡ true → front ≡ take (byte 0 bytes) bytes
+    → back ≡ drop (byte 0 bytes) bytes → items at bytes ≡ Ok (record { at = at; bytes = front }) ∷ items (at + length front) back
 items-split at bytes front back begins is_front is_back =
     let reach : length front ≡ byte 0 bytes = ap length is_front ∙ length-take-le (byte 0 bytes) bytes (has_front bytes begins).fits in
     rw (reach, is_front, is_back) (items-front at bytes begins)

@@ -9,7 +9,8 @@ use Rattle.usb_descriptors.specs.Pieces.{Piece}
 use Rattle.usb_descriptors.specs.Grammar.{is_interface, is_first_setting, interface_number, is_used, each_from, each, interfaces, last_of, nearest, endpoints, kept}
 
 -- what a test gives along two lists of pieces, one behind the other
-each_from-append : {A : Type 0} (f : List Piece → Piece → List A) (before ps qs : List Piece) → each_from f before (ps ++ qs) ≡ each_from f before ps ++ each_from f (before ++ ps) qs
+each_from-append : {A : Type 0} (f : List Piece → Piece → List A) (before ps qs : List Piece)
+    → each_from f before (ps ++ qs) ≡ each_from f before ps ++ each_from f (before ++ ps) qs
 each_from-append f before [] qs = ap (λ b. each_from f b qs) (sym (append-nil before))
 each_from-append f before (p ∷ ps) qs =
     ap (λ xs. f before p ++ xs) (each_from-append f (before ++ p ∷ []) ps qs)
@@ -17,11 +18,13 @@ each_from-append f before (p ∷ ps) qs =
     ∙ ap (λ b. (f before p ++ each_from f (before ++ p ∷ []) ps) ++ each_from f b qs) (append_assoc before (p ∷ []) ps)
 
 -- one more piece adds what the test gives of it
-pub each-push : {A : Type 0} (f : List Piece → Piece → List A) (before : List Piece) (p : Piece) → each f (before ++ p ∷ []) ≡ each f before ++ f before p
+pub each-push : {A : Type 0} (f : List Piece → Piece → List A) (before : List Piece) (p : Piece)
+    → each f (before ++ p ∷ []) ≡ each f before ++ f before p
 each-push f before p =
     each_from-append f [] before (p ∷ []) ∙ ap (λ xs. each f before ++ xs) (append-nil (f before p))
 
-pub interfaces-push : (before : List Piece) (p : Piece) → interfaces (before ++ p ∷ []) ≡ interfaces before ++ cond (is_used before p) (interface_number p ∷ []) []
+pub interfaces-push : (before : List Piece) (p : Piece)
+    → interfaces (before ++ p ∷ []) ≡ interfaces before ++ cond (is_used before p) (interface_number p ∷ []) []
 interfaces-push before p = each-push (λ earlier q. cond (is_used earlier q) (interface_number q ∷ []) []) before p
 
 pub endpoints-push : (before : List Piece) (p : Piece) → endpoints (before ++ p ∷ []) ≡ endpoints before ++ kept before p
@@ -37,7 +40,8 @@ abbrev section_of : List Piece → Piece → List (Option ℕ)
 section_of before p = cond (is_interface p) (cond (is_used before p) (Some (interface_number p)) None ∷ []) []
 
 -- an interface is the nearest to what follows it
-pub nearest-interface : (before : List Piece) (p : Piece) → is_interface p ≡ true → nearest (before ++ p ∷ []) ≡ Some (cond (is_used before p) (Some (interface_number p)) None)
+pub nearest-interface : (before : List Piece) (p : Piece) → is_interface p ≡ true
+    → nearest (before ++ p ∷ []) ≡ Some (cond (is_used before p) (Some (interface_number p)) None)
 nearest-interface before p is =
     ap last_of (each-push section_of before p ∙ ap (λ xs. each section_of before ++ xs) (cond-true (is_interface p) _ [] is))
     ∙ last_of-push (each section_of before) (cond (is_used before p) (Some (interface_number p)) None)
@@ -52,10 +56,13 @@ abbrev has_number : ℕ → Piece → Bool
 has_number n q = is_first_setting q && (interface_number q == n)
 
 -- a piece that isn't used adds no number that none before it had
-same_numbers : (before : List Piece) (p : Piece) (n : ℕ) → (list_any (has_number n) before || has_number n p) ≡ (list_any (has_number n) before || list_any (λ k. k == n) (cond (is_used before p) (interface_number p ∷ []) []))
+same_numbers : (before : List Piece) (p : Piece) (n : ℕ)
+    → (list_any (has_number n) before || has_number n p) ≡ (list_any (has_number n) before || list_any (λ k. k == n) (cond (is_used before p) (interface_number p ∷ []) []))
 same_numbers before p n = by_test (is_first_setting p) (interface_number p == n) (list_any (has_number (interface_number p)) before) refl refl refl
   where
-    by_test : (first same known : Bool) → is_first_setting p ≡ first → (interface_number p == n) ≡ same → list_any (has_number (interface_number p)) before ≡ known → (list_any (has_number n) before || has_number n p) ≡ (list_any (has_number n) before || list_any (λ k. k == n) (cond (is_used before p) (interface_number p ∷ []) []))
+    by_test : (first same known : Bool) → is_first_setting p ≡ first → (interface_number p == n) ≡ same
+        → list_any (has_number (interface_number p)) before ≡ known
+        → (list_any (has_number n) before || has_number n p) ≡ (list_any (has_number n) before || list_any (λ k. k == n) (cond (is_used before p) (interface_number p ∷ []) []))
     by_test false same known f s k = rw f refl
     by_test true false false f s k = rw (f, k, s) refl
     by_test true false true f s k = rw (f, k, s) refl
@@ -72,7 +79,8 @@ used_from earlier ps = each_from (λ b q. cond (is_used b q) (interface_number q
 pub numbers_used : (before : List Piece) (n : ℕ) → list_any (has_number n) before ≡ list_any (λ k. k == n) (interfaces before)
 numbers_used before n = from [] before
   where
-    from : (earlier ps : List Piece) → list_any (has_number n) (earlier ++ ps) ≡ (list_any (has_number n) earlier || list_any (λ k. k == n) (used_from earlier ps))
+    from : (earlier ps : List Piece)
+        → list_any (has_number n) (earlier ++ ps) ≡ (list_any (has_number n) earlier || list_any (λ k. k == n) (used_from earlier ps))
     from earlier [] = ap (list_any (has_number n)) (append-nil earlier) ∙ sym (or-false (list_any (has_number n) earlier))
     from earlier (p ∷ ps) =
         let had = list_any (has_number n) earlier in

@@ -21,13 +21,18 @@ use Rattle.usb_descriptors.proofs.OneMore.{interfaces-push, endpoints-push, near
 -- what one more piece does: its fault, and what is read with it
 pub record StepsTo (before : List Piece) (p : Piece) (found : List DescFault) (numbers : List ℕ) (infos : List EndpointInfo) (near : Option (Option ℕ)) : Type 0 where
   pub faults : faults_of before p ≡ found
-  pub config : configuration (before ++ p ∷ []) ≡ record { interfaces = numbers; endpoints = infos }
+  pub interfaces : interfaces (before ++ p ∷ []) ≡ numbers
+  pub endpoints : endpoints (before ++ p ∷ []) ≡ infos
   pub section : nearest (before ++ p ∷ []) ≡ near
 
 -- a reader that is left so has read a piece without a fault
-pub reads_on : {before : List Piece} {p : Piece} {found : List DescFault} {numbers : List ℕ} {infos : List EndpointInfo} {near : Option (Option ℕ)} (new : Reader) → StepsTo before p found numbers infos near → found ≡ [] → new.config ≡ record { interfaces = numbers; endpoints = infos } → nearest_in new.section ≡ near → (faults_of before p ≡ []) × HasRead (before ++ p ∷ []) new
+pub reads_on : {before : List Piece} {p : Piece} {found : List DescFault} {numbers : List ℕ} {infos : List EndpointInfo} {near : Option (Option ℕ)} (new : Reader)
+    → StepsTo before p found numbers infos near → found ≡ []
+    → new.config ≡ record { interfaces = numbers; endpoints = infos } → nearest_in new.section ≡ near
+    → (faults_of before p ≡ []) × HasRead (before ++ p ∷ []) new
 reads_on new step none config section =
-    (step.faults ∙ none, record { config = config ∙ sym step.config; section = section ∙ sym step.section })
+    let same = ap₂ (λ n e. record { interfaces = n; endpoints = e }) step.interfaces step.endpoints in
+    (step.faults ∙ none, record { config = config ∙ sym same; section = section ∙ sym step.section })
 
 -- the fields of a piece that is taken for an interface, and for an endpoint
 abbrev interface_at : Piece → Interface
@@ -44,7 +49,9 @@ decided two four short five shorter at interface endpoint =
     (cond five (cond shorter (Err (BadLength at)) (Ok (descriptor.Endpoint endpoint)))
     (Ok descriptor.Other)))
 
-decided_interface : (two four short five shorter : Bool) (at : ℕ) (i j : Interface) (e : Endpoint) → decided two four short five shorter at i e ≡ Ok (descriptor.Interface j) → (two ≡ false) × (four ≡ true) × (short ≡ false) × (i ≡ j)
+decided_interface : (two four short five shorter : Bool) (at : ℕ) (i j : Interface) (e : Endpoint)
+    → decided two four short five shorter at i e ≡ Ok (descriptor.Interface j)
+    → (two ≡ false) × (four ≡ true) × (short ≡ false) × (i ≡ j)
 decided_interface true four short five shorter at i j e is = cc
 decided_interface false true true five shorter at i j e is = cc
 decided_interface false true false five shorter at i j e is = (refl, refl, refl, cc)
@@ -52,7 +59,9 @@ decided_interface false false short true true at i j e is = cc
 decided_interface false false short true false at i j e is = cc
 decided_interface false false short false shorter at i j e is = cc
 
-decided_endpoint : (two four short five shorter : Bool) (at : ℕ) (i : Interface) (e f : Endpoint) → decided two four short five shorter at i e ≡ Ok (descriptor.Endpoint f) → (two ≡ false) × (four ≡ false) × (five ≡ true) × (shorter ≡ false) × (e ≡ f)
+decided_endpoint : (two four short five shorter : Bool) (at : ℕ) (i : Interface) (e f : Endpoint)
+    → decided two four short five shorter at i e ≡ Ok (descriptor.Endpoint f)
+    → (two ≡ false) × (four ≡ false) × (five ≡ true) × (shorter ≡ false) × (e ≡ f)
 decided_endpoint true four short five shorter at i e f is = cc
 decided_endpoint false true true five shorter at i e f is = cc
 decided_endpoint false true false five shorter at i e f is = cc
@@ -60,13 +69,34 @@ decided_endpoint false false short true true at i e f is = cc
 decided_endpoint false false short true false at i e f is = (refl, refl, refl, refl, cc)
 decided_endpoint false false short false shorter at i e f is = cc
 
-decided_other : (two four short five shorter : Bool) (at : ℕ) (i : Interface) (e : Endpoint) → decided two four short five shorter at i e ≡ Ok descriptor.Other → (two ≡ false) × (four ≡ false) × (five ≡ false)
+decided_other : (two four short five shorter : Bool) (at : ℕ) (i : Interface) (e : Endpoint)
+    → decided two four short five shorter at i e ≡ Ok descriptor.Other → (two ≡ false) × (four ≡ false) × (five ≡ false)
 decided_other true four short five shorter at i e is = cc
 decided_other false true true five shorter at i e is = cc
 decided_other false true false five shorter at i e is = cc
 decided_other false false short true true at i e is = cc
 decided_other false false short true false at i e is = cc
 decided_other false false short false shorter at i e is = (refl, refl, refl)
+
+-- the tests of a piece, by what its descriptor is
+interface_tests : (p : Piece) (i : Interface) → descriptor_of p ≡ Ok (descriptor.Interface i)
+    → ((type_of p == 2) ≡ false) × (is_interface p ≡ true) × (nat_lt (length p.bytes) 9 ≡ false) × (interface_at p ≡ i)
+interface_tests p i is =
+    decided_interface (type_of p == 2) (is_interface p) (nat_lt (length p.bytes) 9) (is_endpoint p) (nat_lt (length p.bytes) 7)
+    p.at (interface_at p) i (endpoint_at p) is
+
+endpoint_tests : (p : Piece) (e : Endpoint) → descriptor_of p ≡ Ok (descriptor.Endpoint e)
+    → ((type_of p == 2) ≡ false) × (is_interface p ≡ false) × (is_endpoint p ≡ true)
+      × (nat_lt (length p.bytes) 7 ≡ false) × (endpoint_at p ≡ e)
+endpoint_tests p e is =
+    decided_endpoint (type_of p == 2) (is_interface p) (nat_lt (length p.bytes) 9) (is_endpoint p) (nat_lt (length p.bytes) 7)
+    p.at (interface_at p) (endpoint_at p) e is
+
+other_tests : (p : Piece) → descriptor_of p ≡ Ok descriptor.Other
+    → ((type_of p == 2) ≡ false) × (is_interface p ≡ false) × (is_endpoint p ≡ false)
+other_tests p is =
+    decided_other (type_of p == 2) (is_interface p) (nat_lt (length p.bytes) 9) (is_endpoint p) (nat_lt (length p.bytes) 7)
+    p.at (interface_at p) (endpoint_at p) is
 
 -- what is no endpoint is kept nowhere
 kept_under-other : (near : Option (Option ℕ)) (p : Piece) → is_endpoint p ≡ false → kept_under near p ≡ []
@@ -77,79 +107,72 @@ kept_under-other (Some (Some i)) p isnt = rw isnt refl
 kept-other : (before : List Piece) (p : Piece) → is_endpoint p ≡ false → kept before p ≡ []
 kept-other before p isnt = kept_under-other (nearest before) p isnt
 
+-- so it leaves the endpoints as they are
+endpoints-other : (before : List Piece) (p : Piece) → is_endpoint p ≡ false → endpoints (before ++ p ∷ []) ≡ endpoints before
+endpoints-other before p isnt =
+    endpoints-push before p ∙ ap (λ xs. endpoints before ++ xs) (kept-other before p isnt) ∙ append-nil (endpoints before)
+
 -- what isn't an interface is not used
 used-other : (before : List Piece) (p : Piece) → is_interface p ≡ false → is_used before p ≡ false
 used-other before p isnt = rw isnt refl
 
--- so it adds no number
+-- so it leaves the interfaces as they are
 interfaces-other : (before : List Piece) (p : Piece) → is_interface p ≡ false → interfaces (before ++ p ∷ []) ≡ interfaces before
 interfaces-other before p isnt =
     interfaces-push before p
     ∙ ap (λ b. interfaces before ++ cond b (interface_number p ∷ []) []) (used-other before p isnt)
     ∙ append-nil (interfaces before)
 
--- a configuration by its two lists
-configured : (ps : List Piece) (numbers : List ℕ) (infos : List EndpointInfo) → interfaces ps ≡ numbers → endpoints ps ≡ infos → configuration ps ≡ record { interfaces = numbers; endpoints = infos }
-configured ps numbers infos same_numbers same_infos = ap₂ (λ n e. record { interfaces = n; endpoints = e }) same_numbers same_infos
-
--- and no endpoint
-endpoints-other : (before : List Piece) (p : Piece) → is_endpoint p ≡ false → endpoints (before ++ p ∷ []) ≡ endpoints before
-endpoints-other before p isnt =
-    endpoints-push before p ∙ ap (λ xs. endpoints before ++ xs) (kept-other before p isnt) ∙ append-nil (endpoints before)
-
 -- a descriptor that is passed over has no fault and changes nothing
-pub step_other : (before : List Piece) (p : Piece) → descriptor_of p ≡ Ok descriptor.Other → StepsTo before p [] (interfaces before) (endpoints before) (nearest before)
+pub step_other : (before : List Piece) (p : Piece) → descriptor_of p ≡ Ok descriptor.Other
+    → StepsTo before p [] (interfaces before) (endpoints before) (nearest before)
 step_other before p is =
-    let tests = decided_other (type_of p == 2) (is_interface p) (nat_lt (length p.bytes) 9) (is_endpoint p) (nat_lt (length p.bytes) 7) p.at (interface_at p) (endpoint_at p) is in
+    let tests = other_tests p is in
     record {
       faults = rw (tests.0, tests.1, tests.2) refl;
-      config = configured (before ++ p ∷ []) (interfaces before) (endpoints before) (interfaces-other before p tests.1) (endpoints-other before p tests.2);
+      interfaces = interfaces-other before p tests.1;
+      endpoints = endpoints-other before p tests.2;
       section = nearest-other before p tests.1;
     }
 
--- an interface piece by its descriptor
-record IsInterface (before : List Piece) (p : Piece) (i : Interface) : Type 0 where
-  used : is_used before p ≡ is_new (interfaces before) i
-  faults : faults_of before p ≡ cond (is_used before p && nat_le 32 (length (interfaces before))) (TooMany ∷ []) []
-  numbers : interfaces (before ++ p ∷ []) ≡ interfaces before ++ cond (is_used before p) (i.number ∷ []) []
-  infos : endpoints (before ++ p ∷ []) ≡ endpoints before
-  section : nearest (before ++ p ∷ []) ≡ Some (cond (is_used before p) (Some i.number) None)
+-- an interface is a fault where it is used and there are 32
+abbrev fault_where : Bool → List Piece → List DescFault
+fault_where used before = cond (used && nat_le 32 (length (interfaces before))) (TooMany ∷ []) []
 
-interface_piece : (before : List Piece) (p : Piece) (i : Interface) → descriptor_of p ≡ Ok (descriptor.Interface i) → IsInterface before p i
-interface_piece before p i is =
-    let tests = decided_interface (type_of p == 2) (is_interface p) (nat_lt (length p.bytes) 9) (is_endpoint p) (nat_lt (length p.bytes) 7) p.at (interface_at p) i (endpoint_at p) is in
+-- an interface adds its number where it is used
+step_interface : (before : List Piece) (p : Piece) (i : Interface) (used : Bool) → descriptor_of p ≡ Ok (descriptor.Interface i)
+    → is_new (interfaces before) i ≡ used
+    → StepsTo before p (fault_where used before) (interfaces before ++ cond used (i.number ∷ []) []) (endpoints before) (Some (cond used (Some i.number) None))
+step_interface before p i used is new =
+    let tests = interface_tests p i is in
     let number = ap (λ j. j.number) tests.3 in
     let setting = ap (λ j. j.setting) tests.3 in
     let isnt : is_endpoint p ≡ false = ap (λ t. t == 5) (eqb-true (type_of p) 4 tests.1) in
+    let same : is_used before p ≡ is_new (interfaces before) i = rw (tests.1, setting, numbers_used before (interface_number p), number) refl in
+    let known = same ∙ new in
     record {
-      used = rw (tests.1, setting, numbers_used before (interface_number p), number) refl;
-      faults = cond-false (type_of p == 2) _ _ tests.0 ∙ cond-true (is_interface p) _ _ tests.1 ∙ cond-false (nat_lt (length p.bytes) 9) _ _ tests.2;
-      numbers = interfaces-push before p ∙ ap (λ n. interfaces before ++ cond (is_used before p) (n ∷ []) []) number;
-      infos = endpoints-other before p isnt;
-      section = nearest-interface before p tests.1 ∙ ap (λ n. Some (cond (is_used before p) (Some n) None)) number;
+      faults =
+        cond-false (type_of p == 2) _ _ tests.0
+        ∙ cond-true (is_interface p) _ _ tests.1
+        ∙ cond-false (nat_lt (length p.bytes) 9) _ _ tests.2
+        ∙ ap (λ b. fault_where b before) known;
+      interfaces = interfaces-push before p ∙ ap₂ (λ b n. interfaces before ++ cond b (n ∷ []) []) known number;
+      endpoints = endpoints-other before p isnt;
+      section = nearest-interface before p tests.1 ∙ ap₂ (λ b n. Some (cond b (Some n) None)) known number;
     }
 
--- an interface that isn't used adds nothing
-pub step_unused : (before : List Piece) (p : Piece) (i : Interface) → descriptor_of p ≡ Ok (descriptor.Interface i) → is_new (interfaces before) i ≡ false → StepsTo before p [] (interfaces before) (endpoints before) (Some None)
+-- one that isn't used adds nothing
+pub step_unused : (before : List Piece) (p : Piece) (i : Interface) → descriptor_of p ≡ Ok (descriptor.Interface i)
+    → is_new (interfaces before) i ≡ false → StepsTo before p [] (interfaces before) (endpoints before) (Some None)
 step_unused before p i is unused =
-    let piece = interface_piece before p i is in
-    let known = piece.used ∙ unused in
-    record {
-      faults = piece.faults ∙ ap (λ b. cond (b && nat_le 32 (length (interfaces before))) (TooMany ∷ []) []) known;
-      config = configured (before ++ p ∷ []) (interfaces before) (endpoints before) (piece.numbers ∙ ap (λ b. interfaces before ++ cond b (i.number ∷ []) []) known ∙ append-nil (interfaces before)) piece.infos;
-      section = piece.section ∙ ap (λ b. Some (cond b (Some i.number) None)) known;
-    }
+    let step = step_interface before p i false is unused in
+    record { faults = step.faults; interfaces = step.interfaces ∙ append-nil (interfaces before); endpoints = step.endpoints; section = step.section }
 
--- one that is used adds its number, and is a fault where there are 32
-pub step_used : (before : List Piece) (p : Piece) (i : Interface) → descriptor_of p ≡ Ok (descriptor.Interface i) → is_new (interfaces before) i ≡ true → StepsTo before p (cond (nat_le 32 (length (interfaces before))) (TooMany ∷ []) []) (interfaces before ++ i.number ∷ []) (endpoints before) (Some (Some i.number))
-step_used before p i is used =
-    let piece = interface_piece before p i is in
-    let known = piece.used ∙ used in
-    record {
-      faults = piece.faults ∙ ap (λ b. cond (b && nat_le 32 (length (interfaces before))) (TooMany ∷ []) []) known;
-      config = configured (before ++ p ∷ []) (interfaces before ++ i.number ∷ []) (endpoints before) (piece.numbers ∙ ap (λ b. interfaces before ++ cond b (i.number ∷ []) []) known) piece.infos;
-      section = piece.section ∙ ap (λ b. Some (cond b (Some i.number) None)) known;
-    }
+-- one that is used adds its number
+pub step_used : (before : List Piece) (p : Piece) (i : Interface) → descriptor_of p ≡ Ok (descriptor.Interface i)
+    → is_new (interfaces before) i ≡ true
+    → StepsTo before p (cond (nat_le 32 (length (interfaces before))) (TooMany ∷ []) []) (interfaces before ++ i.number ∷ []) (endpoints before) (Some (Some i.number))
+step_used before p i is used = step_interface before p i true is used
 
 -- an endpoint as a configuration has it under an interface
 abbrev pub info_in : ℕ → Endpoint → EndpointInfo
@@ -161,7 +184,8 @@ kept_in (Some (Some interface)) e = cond (not (e.address % 16 == 0)) (info_in in
 kept_in _ e = []
 
 -- what is kept of a piece is told by its descriptor
-kept_under-endpoint : (near : Option (Option ℕ)) (p : Piece) (e : Endpoint) → is_endpoint p ≡ true → endpoint_at p ≡ e → kept_under near p ≡ kept_in near e
+kept_under-endpoint : (near : Option (Option ℕ)) (p : Piece) (e : Endpoint) → is_endpoint p ≡ true → endpoint_at p ≡ e
+    → kept_under near p ≡ kept_in near e
 kept_under-endpoint None p e is same = refl
 kept_under-endpoint (Some None) p e is same = refl
 kept_under-endpoint (Some (Some interface)) p e is same =
@@ -169,45 +193,52 @@ kept_under-endpoint (Some (Some interface)) p e is same =
     ap₂ (λ b n. cond (b && not (n == 0)) (info_in interface (endpoint_at p) ∷ []) []) is number
     ∙ ap (λ (x : Endpoint). cond (not (x.address % 16 == 0)) (info_in interface x ∷ []) []) same
 
--- an endpoint is kept by the nearest interface in front; before any it is a fault, else its faults are those of what is kept
-step_endpoint : (before : List Piece) (p : Piece) (e : Endpoint) (near : Option (Option ℕ)) → descriptor_of p ≡ Ok (descriptor.Endpoint e) → nearest before ≡ near → StepsTo before p (cond (is_none_before near) (WrongType p.at ∷ []) (faults_of_kept before (kept_in near e))) (interfaces before) (endpoints before ++ kept_in near e) near
+-- before any interface an endpoint is a fault, and else its faults are those of what is kept
+abbrev faults_under : Option (Option ℕ) → List Piece → Piece → List EndpointInfo → List DescFault
+faults_under near before p xs = cond (is_none_before near) (WrongType p.at ∷ []) (faults_of_kept before xs)
+
+-- an endpoint is kept by the nearest interface in front
+step_endpoint : (before : List Piece) (p : Piece) (e : Endpoint) (near : Option (Option ℕ))
+    → descriptor_of p ≡ Ok (descriptor.Endpoint e) → nearest before ≡ near
+    → StepsTo before p (faults_under near before p (kept_in near e)) (interfaces before) (endpoints before ++ kept_in near e) near
 step_endpoint before p e near is there =
-    let tests = decided_endpoint (type_of p == 2) (is_interface p) (nat_lt (length p.bytes) 9) (is_endpoint p) (nat_lt (length p.bytes) 7) p.at (interface_at p) (endpoint_at p) e is in
+    let tests = endpoint_tests p e is in
     let keeps : kept before p ≡ kept_in near e = ap (λ o. kept_under o p) there ∙ kept_under-endpoint near p e tests.2 tests.4 in
     record {
-      faults = cond-false (type_of p == 2) _ _ tests.0 ∙ cond-false (is_interface p) _ _ tests.1 ∙ cond-true (is_endpoint p) _ _ tests.2 ∙ cond-false (nat_lt (length p.bytes) 7) _ _ tests.3 ∙ ap₂ (λ o xs. cond (is_none_before o) (WrongType p.at ∷ []) (faults_of_kept before xs)) there keeps;
-      config = configured (before ++ p ∷ []) (interfaces before) (endpoints before ++ kept_in near e) (interfaces-other before p tests.1) (endpoints-push before p ∙ ap (λ xs. endpoints before ++ xs) keeps);
+      faults =
+        cond-false (type_of p == 2) _ _ tests.0
+        ∙ cond-false (is_interface p) _ _ tests.1
+        ∙ cond-true (is_endpoint p) _ _ tests.2
+        ∙ cond-false (nat_lt (length p.bytes) 7) _ _ tests.3
+        ∙ ap₂ (λ o xs. faults_under o before p xs) there keeps;
+      interfaces = interfaces-other before p tests.1;
+      endpoints = endpoints-push before p ∙ ap (λ xs. endpoints before ++ xs) keeps;
       section = nearest-other before p tests.1 ∙ there;
     }
 
--- before any interface it is a fault
-pub step_early : (before : List Piece) (p : Piece) (e : Endpoint) → descriptor_of p ≡ Ok (descriptor.Endpoint e) → nearest before ≡ None → faults_of before p ≡ WrongType p.at ∷ []
-step_early before p e is there = (step_endpoint before p e None is there).faults
-
 -- where nothing is kept it is passed over
-pub step_passed_over : (before : List Piece) (p : Piece) (e : Endpoint) (section : Option ℕ) → descriptor_of p ≡ Ok (descriptor.Endpoint e) → nearest before ≡ Some section → kept_in (Some section) e ≡ [] → StepsTo before p [] (interfaces before) (endpoints before) (Some section)
+pub step_passed_over : (before : List Piece) (p : Piece) (e : Endpoint) (section : Option ℕ)
+    → descriptor_of p ≡ Ok (descriptor.Endpoint e) → nearest before ≡ Some section → kept_in (Some section) e ≡ []
+    → StepsTo before p [] (interfaces before) (endpoints before) (Some section)
 step_passed_over before p e section is there none =
     let step = step_endpoint before p e (Some section) is there in
     record {
       faults = step.faults ∙ ap (faults_of_kept before) none;
-      config = step.config ∙ ap (λ xs. record { interfaces = interfaces before; endpoints = xs }) (ap (λ xs. endpoints before ++ xs) none ∙ append-nil (endpoints before));
+      interfaces = step.interfaces;
+      endpoints = step.endpoints ∙ ap (λ xs. endpoints before ++ xs) none ∙ append-nil (endpoints before);
       section = step.section;
     }
 
 -- else it is added, and its faults are those beside the endpoints that are there
-pub step_kept : (before : List Piece) (p : Piece) (e : Endpoint) (interface : ℕ) → descriptor_of p ≡ Ok (descriptor.Endpoint e) → nearest before ≡ Some (Some interface) → (e.address % 16 == 0) ≡ false → StepsTo before p (faults_beside (endpoints before) (info_in interface e)) (interfaces before) (endpoints before ++ info_in interface e ∷ []) (Some (Some interface))
+pub step_kept : (before : List Piece) (p : Piece) (e : Endpoint) (interface : ℕ) → descriptor_of p ≡ Ok (descriptor.Endpoint e)
+    → nearest before ≡ Some (Some interface) → (e.address % 16 == 0) ≡ false
+    → StepsTo before p (faults_beside (endpoints before) (info_in interface e)) (interfaces before) (endpoints before ++ info_in interface e ∷ []) (Some (Some interface))
 step_kept before p e interface is there numbered =
     let step = step_endpoint before p e (Some (Some interface)) is there in
-    let keeps : kept_in (Some (Some interface)) e ≡ info_in interface e ∷ [] = ap (λ b. cond (not b) (info_in interface e ∷ []) []) numbered in
+    let keeps = ap (λ b. cond (not b) (info_in interface e ∷ []) []) numbered in
     record {
       faults = step.faults ∙ ap (faults_of_kept before) keeps;
-      config = step.config ∙ ap (λ xs. record { interfaces = interfaces before; endpoints = endpoints before ++ xs }) keeps;
+      interfaces = step.interfaces;
+      endpoints = step.endpoints ∙ ap (λ xs. endpoints before ++ xs) keeps;
       section = step.section;
     }
-
--- the address of an endpoint has no bits 6 to 4
-pub plain_address : (p : Piece) (e : Endpoint) → descriptor_of p ≡ Ok (descriptor.Endpoint e) → e.address % 128 < 16
-plain_address p e is =
-    let tests = decided_endpoint (type_of p == 2) (is_interface p) (nat_lt (length p.bytes) 9) (is_endpoint p) (nat_lt (length p.bytes) 7) p.at (interface_at p) (endpoint_at p) e is in
-    let same : address_of p ≡ e.address = ap (λ x. x.address) tests.4 in
-    omega arith

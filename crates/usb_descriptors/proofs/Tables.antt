@@ -15,13 +15,15 @@ AllByRecursion-push P [] x all here = (here, tt)
 AllByRecursion-push P (y ∷ xs) x all here = (all.0, AllByRecursion-push P xs x all.1 here)
 
 -- numbers that differ, and one more that is none of them
-IsDistinct-push : (ks : List ℕ) (k : ℕ) → IsDistinct nat_eq ks → AllByRecursion (λ y. nat_eq y k ≡ false) ks → IsDistinct nat_eq (ks ++ k ∷ [])
+IsDistinct-push : (ks : List ℕ) (k : ℕ) → IsDistinct nat_eq ks → AllByRecursion (λ y. nat_eq y k ≡ false) ks
+    → IsDistinct nat_eq (ks ++ k ∷ [])
 unfolding IsDistinct
 IsDistinct-push [] k apart new = (tt, tt)
 IsDistinct-push (y ∷ ks) k apart new = (AllByRecursion-push _ ks k apart.0 new.0, IsDistinct-push ks k apart.1 new.1)
 
 -- where no endpoint has the address, it is none of the addresses
-new_address : (xs : List EndpointInfo) (a : ℕ) → list_any (λ y. nat_eq y.address a) xs ≡ false → AllByRecursion (λ b. nat_eq b a ≡ false) (addresses xs)
+new_address : (xs : List EndpointInfo) (a : ℕ) → list_any (λ y. nat_eq y.address a) xs ≡ false
+    → AllByRecursion (λ b. nat_eq b a ≡ false) (addresses xs)
 new_address [] a none = tt
 new_address (x ∷ xs) a none =
     let parts = or_parts (nat_eq x.address a) (list_any (λ y. nat_eq y.address a) xs) none in (parts.0, new_address xs a parts.1)
@@ -36,7 +38,8 @@ unfolding IsDistinct
 IsTable-nil = record { numbered = tt; distinct = tt; sized = tt }
 
 -- a table with one more endpoint that has no fault beside it
-pub IsTable-push : (xs : List EndpointInfo) (x : EndpointInfo) → IsTable xs → IsNumbered x.address → list_any (λ y. nat_eq y.address x.address) xs ≡ false → is_bad_size x ≡ false → IsTable (xs ++ x ∷ [])
+pub IsTable-push : (xs : List EndpointInfo) (x : EndpointInfo) → IsTable xs → IsNumbered x.address
+    → list_any (λ y. nat_eq y.address x.address) xs ≡ false → is_bad_size x ≡ false → IsTable (xs ++ x ∷ [])
 IsTable-push xs x table numbered new sized =
     let address = sym (addresses-push xs x) in
     record {
@@ -56,7 +59,8 @@ place-injective : (a b : ℕ) → IsNumbered a → IsNumbered b → place a ≡ 
 place-injective a b n m same = omega (arith, n.byte, n.plain, n.number, m.byte, m.plain, m.number)
 
 -- a number that is none of some addresses has a place that is none of theirs
-places_differ : (a : ℕ) (bs : List ℕ) → IsNumbered a → AllByRecursion IsNumbered bs → AllByRecursion (λ b. nat_eq a b ≡ false) bs → AllByRecursion (λ p. nat_eq (place a) p ≡ false) (map place bs)
+places_differ : (a : ℕ) (bs : List ℕ) → IsNumbered a → AllByRecursion IsNumbered bs → AllByRecursion (λ b. nat_eq a b ≡ false) bs
+    → AllByRecursion (λ p. nat_eq (place a) p ≡ false) (map place bs)
 places_differ a [] n ns differ = tt
 places_differ a (b ∷ bs) n ns differ =
     (ne_eqb (place a) (place b) (λ same. eqb-false a b differ.0 (place-injective a b n ns.0 same)), places_differ a bs n ns.1 differ.1)
