@@ -1,5 +1,5 @@
 -- How the cut goes: a piece in front and then the cut of what stands behind it, or no piece.
-use Rattle.std.proofs.Common.{◌≡◌, ℕ, zero, suc, ◌+◌, ◌<◌, ◌≤◌, Bool, true, false, cond, List, [], ◌∷◌, length, take, drop, refl, sym, ◌∙◌, ap, arith, add_assoc, length-drop, length-take-le}
+use Rattle.std.proofs.Common.{◌≡◌, ℕ, zero, suc, ◌+◌, ◌≤◌, Bool, true, false, cond, List, [], ◌∷◌, length, take, drop, refl, sym, ◌∙◌, ap, ap₂, arith, length-drop, length-take-le}
 use Rattle.std.proofs.lemmas.Bool.{and_parts, leb-true, cond-true, cond-false, false_from_ne_true}
 use Rattle.std.proofs.lemmas.List.{drop-drop}
 use Rattle.std.proofs.lemmas.List.Sums.{sum_by-cons}
@@ -44,20 +44,26 @@ short_is_stuck bytes short =
 pieces_from-short : (most at : ℕ) (bytes : List ℕ) → length bytes ≤ 0 → pieces_from most at bytes ≡ []
 pieces_from-short most at bytes short = pieces_from-stuck most at bytes (short_is_stuck bytes short)
 
--- any number of pieces from the number of bytes on is enough
-enough : (n m at : ℕ) (bytes : List ℕ) → length bytes ≤ n → length bytes ≤ m → pieces_from n at bytes ≡ pieces_from m at bytes
+-- so many pieces at most, and so many, are the same pieces
+abbrev IsEnough : ℕ → ℕ → ℕ → List ℕ → Type 0
+IsEnough n m at bytes = pieces_from n at bytes ≡ pieces_from m at bytes
+
+-- any number from the number of bytes on is enough
+enough : (n m at : ℕ) (bytes : List ℕ) → length bytes ≤ n → length bytes ≤ m → IsEnough n m at bytes
 enough zero m at bytes ln lm = pieces_from-short zero at bytes ln ∙ sym (pieces_from-short m at bytes ln)
 enough (suc n) zero at bytes ln lm = pieces_from-short (suc n) at bytes lm ∙ sym (pieces_from-short zero at bytes lm)
 enough (suc n) (suc m) at bytes ln lm = by_test (begins_with_piece bytes) refl (enough n m (at + byte 0 bytes) (behind bytes))
   where
     by_test : (b : Bool) → begins_with_piece bytes ≡ b
-        → (length (behind bytes) ≤ n → length (behind bytes) ≤ m → pieces_from n (at + byte 0 bytes) (behind bytes) ≡ pieces_from m (at + byte 0 bytes) (behind bytes))
-        → pieces_from (suc n) at bytes ≡ pieces_from (suc m) at bytes
+        → (length (behind bytes) ≤ n → length (behind bytes) ≤ m → IsEnough n m (at + byte 0 bytes) (behind bytes))
+        → IsEnough (suc n) (suc m) at bytes
     by_test true begins further =
         let f = front bytes begins in
         let long = f.long in
         let shorter = length-drop (byte 0 bytes) bytes in
-        pieces_from-front n at bytes begins ∙ ap (λ ps. first at bytes ∷ ps) (further (omega arith) (omega arith)) ∙ sym (pieces_from-front m at bytes begins)
+        pieces_from-front n at bytes begins
+        ∙ ap (λ ps. first at bytes ∷ ps) (further (omega arith) (omega arith))
+        ∙ sym (pieces_from-front m at bytes begins)
     by_test false stuck further = pieces_from-stuck (suc n) at bytes stuck ∙ sym (pieces_from-stuck (suc m) at bytes stuck)
 
 pub pieces-stuck : (at : ℕ) (bytes : List ℕ) → begins_with_piece bytes ≡ false → pieces at bytes ≡ []
@@ -69,26 +75,26 @@ pieces-front at bytes begins =
     let shorter = length-drop (byte 0 bytes) bytes in
     enough (length bytes) (suc (length bytes)) at bytes (omega arith) (omega arith)
     ∙ pieces_from-front (length bytes) at bytes begins
-    ∙ ap (λ ps. first at bytes ∷ ps) (enough (length bytes) (length (behind bytes)) (at + byte 0 bytes) (behind bytes) (omega arith) (omega arith))
+    ∙ ap (λ ps. first at bytes ∷ ps)
+    (enough (length bytes) (length (behind bytes)) (at + byte 0 bytes) (behind bytes) (omega arith) (omega arith))
 
 -- a piece more reaches as many bytes further
 pub extent-cons : (p : Piece) (ps : List Piece) → extent (p ∷ ps) ≡ length p.bytes + extent ps
 extent-cons p ps = sum_by-cons (λ q. length q.bytes) p ps
 
+-- whether or not a piece stands in front, what is as long reaches as far
+extent-cond : (b : Bool) (p q : Piece) (ps qs : List Piece) → length p.bytes ≡ length q.bytes → extent ps ≡ extent qs
+    → extent (cond b (p ∷ ps) []) ≡ extent (cond b (q ∷ qs) [])
+extent-cond true p q ps qs long same = extent-cons p ps ∙ ap₂ ◌+◌ long same ∙ sym (extent-cons q qs)
+extent-cond false p q ps qs long same = refl
+
 -- how far the pieces reach doesn't depend on where they begin
 pieces_from-extent : (most a b : ℕ) (bytes : List ℕ) → extent (pieces_from most a bytes) ≡ extent (pieces_from most b bytes)
 unfolding pieces_from
 pieces_from-extent zero a b bytes = refl
-pieces_from-extent (suc most) a b bytes = by_test (begins_with_piece bytes) (pieces_from-extent most (a + byte 0 bytes) (b + byte 0 bytes) (behind bytes))
-  where
-    by_test : (t : Bool)
-        → extent (pieces_from most (a + byte 0 bytes) (behind bytes)) ≡ extent (pieces_from most (b + byte 0 bytes) (behind bytes))
-        → extent (cond t (first a bytes ∷ pieces_from most (a + byte 0 bytes) (behind bytes)) []) ≡ extent (cond t (first b bytes ∷ pieces_from most (b + byte 0 bytes) (behind bytes)) [])
-    by_test true same =
-        extent-cons (first a bytes) (pieces_from most (a + byte 0 bytes) (behind bytes))
-        ∙ ap (λ n. length (take (byte 0 bytes) bytes) + n) same
-        ∙ sym (extent-cons (first b bytes) (pieces_from most (b + byte 0 bytes) (behind bytes)))
-    by_test false same = refl
+pieces_from-extent (suc most) a b bytes =
+    let further = pieces_from-extent most (a + byte 0 bytes) (b + byte 0 bytes) (behind bytes) in
+    extent-cond (begins_with_piece bytes) (first a bytes) (first b bytes) _ _ refl further
 
 pub extent-at : (a b : ℕ) (bytes : List ℕ) → extent (pieces a bytes) ≡ extent (pieces b bytes)
 extent-at a b bytes = pieces_from-extent (length bytes) a b bytes

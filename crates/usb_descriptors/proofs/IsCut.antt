@@ -1,8 +1,8 @@
 -- The pieces are the cut of the bytes, and the only one.
-use Rattle.std.proofs.Common.{◌≡◌, ℕ, zero, suc, ◌+◌, ◌<◌, ◌≤◌, Bool, true, false, List, [], ◌∷◌, ◌++◌, length, take, drop, refl, sym, ◌∙◌, ap, ap₂, subst, arith, add-zero, add_assoc, append_assoc, length-append, length-take-le, take-append-drop}
-use Rattle.std.specs.List.{All, flat_map}
+use Rattle.std.proofs.Common.{◌≡◌, ℕ, zero, suc, ◌+◌, ◌≤◌, Bool, true, false, List, [], ◌∷◌, ◌++◌, length, take, drop, refl, sym, ◌∙◌, ap, ap₂, arith, add-zero, append_assoc, length-append, length-take-le, take-append-drop}
+use Rattle.std.specs.List.{flat_map}
 use Rattle.std.proofs.lemmas.Bool.{le-leb, and_from}
-use Rattle.std.proofs.lemmas.List.{length-drop, take_at, drop_at, get_or_append_left, get_or-take, append-nil}
+use Rattle.std.proofs.lemmas.List.{length-drop, take_at, drop_at, get_or_append_left, get_or-take}
 use Rattle.std.proofs.lemmas.List.Elements.{All-nil, All-cons, All-head, All-tail}
 use Rattle.usb_descriptors.specs.Pieces.{Piece, byte, begins_with_piece, pieces, extent, rest, IsCut}
 use Rattle.usb_descriptors.proofs.Cut.{front as has_front, first, behind, pieces-front, pieces-stuck, rest-front, rest-stuck, extent-cons, short_is_stuck}
@@ -20,7 +20,8 @@ cut_induction : (P : ℕ → List ℕ → Type 0) → ((at : ℕ) (bytes : List 
     → ((at : ℕ) (bytes : List ℕ) → begins_with_piece bytes ≡ true → P (at + byte 0 bytes) (behind bytes) → P at bytes)
     → (most at : ℕ) (bytes : List ℕ) → length bytes ≤ most → P at bytes
 cut_induction P none more zero at bytes short = none at bytes (short_is_stuck bytes short)
-cut_induction P none more (suc most) at bytes short = by_test (begins_with_piece bytes) refl (cut_induction P none more most (at + byte 0 bytes) (behind bytes))
+cut_induction P none more (suc most) at bytes short =
+    by_test (begins_with_piece bytes) refl (cut_induction P none more most (at + byte 0 bytes) (behind bytes))
   where
     by_test : (b : Bool) → begins_with_piece bytes ≡ b → (length (behind bytes) ≤ most → P (at + byte 0 bytes) (behind bytes)) → P at bytes
     by_test true begins further =
@@ -61,9 +62,14 @@ cut_front at bytes ps left begins cut =
     let length_is = length-take-le (byte 0 bytes) bytes front.fits in
     let first_byte = get_or-take (byte 0 bytes) bytes 0 0 (omega arith) in
     record {
-      joined = append_assoc (first at bytes).bytes (joined ps) left ∙ ap (λ xs. (first at bytes).bytes ++ xs) cut.joined ∙ take-append-drop (byte 0 bytes) bytes;
+      joined =
+          append_assoc (first at bytes).bytes (joined ps) left
+          ∙ ap (λ xs. (first at bytes).bytes ++ xs) cut.joined
+          ∙ take-append-drop (byte 0 bytes) bytes;
       sound = All-cons IsLong (first at bytes) ps (omega arith, first_byte ∙ sym length_is) cut.sound;
-      offsets = offsets_behind at (first at bytes) ps refl (λ front back p is. cut.offsets front back p is ∙ ap (λ n. at + n + extent front) (sym length_is));
+      offsets =
+          offsets_behind at (first at bytes) ps refl
+          (λ front back p is. cut.offsets front back p is ∙ ap (λ n. at + n + extent front) (sym length_is));
       stuck = cut.stuck;
     }
 
@@ -71,7 +77,8 @@ cut_front at bytes ps left begins cut =
 pub is_cut : (at : ℕ) (bytes : List ℕ) → IsCut at bytes (pieces at bytes) (rest bytes)
 is_cut at bytes = cut_induction (λ a bs. IsCut a bs (pieces a bs) (rest bs))
     (λ a bs stuck. rw (pieces-stuck a bs stuck, rest-stuck bs stuck) (cut_stuck a bs stuck))
-    (λ a bs begins further. rw (pieces-front a bs begins, rest-front bs begins) (cut_front a bs (pieces (a + byte 0 bs) (behind bs)) (rest (behind bs)) begins further))
+    (λ a bs begins further. rw (pieces-front a bs begins, rest-front bs begins)
+    (cut_front a bs (pieces (a + byte 0 bs) (behind bs)) (rest (behind bs)) begins further))
     (length bytes) at bytes (omega arith)
 
 -- the first piece of a cut is the first of the bytes, and the others are a cut of what stands behind it
@@ -86,13 +93,16 @@ first_of_cut at bytes p ps left cut =
     let tail = joined ps ++ left in
     let whole : p.bytes ++ tail ≡ bytes = sym (append_assoc p.bytes (joined ps) left) ∙ cut.joined in
     let long = All-head IsLong p ps cut.sound in
-    let first_byte : byte 0 bytes ≡ length p.bytes = ap (byte 0) (sym whole) ∙ get_or_append_left p.bytes tail 0 0 (omega (arith, long.0)) ∙ long.1 in
+    let first_byte : byte 0 bytes ≡ length p.bytes =
+    ap (byte 0) (sym whole) ∙ get_or_append_left p.bytes tail 0 0 (omega (arith, long.0)) ∙ long.1 in
     let lengths : length p.bytes + length tail ≡ length bytes = sym (length-append p.bytes tail) ∙ ap length whole in
     let front : take (byte 0 bytes) bytes ≡ p.bytes = ap₂ take first_byte (sym whole) ∙ take_at p.bytes tail (length p.bytes) refl in
     let back : behind bytes ≡ tail = ap₂ drop first_byte (sym whole) ∙ drop_at p.bytes tail (length p.bytes) refl in
     let starts : p.at ≡ at = cut.offsets [] ps p refl ∙ add-zero at in
     record {
-      begins = and_from _ _ (le-leb 2 (length bytes) (omega (arith, long.0))) (and_from _ _ (le-leb 2 (byte 0 bytes) (omega (arith, long.0))) (le-leb (byte 0 bytes) (length bytes) (omega arith)));
+      begins =
+          and_from _ _ (le-leb 2 (length bytes) (omega (arith, long.0)))
+          (and_from _ _ (le-leb 2 (byte 0 bytes) (omega (arith, long.0))) (le-leb (byte 0 bytes) (length bytes) (omega arith)));
       is_first = ap₂ (λ a bs. record { at = a; bytes = bs }) starts (sym front);
       others = record {
         joined = sym back;

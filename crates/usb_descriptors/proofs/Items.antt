@@ -1,8 +1,7 @@
 -- What an iterator over descriptors gives next.
-use Rattle.std.proofs.Common.{◌≡◌, ℕ, ◌+◌, ◌<◌, length, take, drop, arith, length-take-le, true, false, List, [], ◌∷◌, ◌++◌, map, Ok, Err, refl, ap, ◌∙◌, add-zero, add_assoc}
+use Rattle.std.proofs.Common.{◌≡◌, ℕ, ◌+◌, ◌<◌, length, take, drop, arith, length-take-le, true, false, List, [], ◌∷◌, Ok, Err, refl, ap, ◌∙◌, add-zero, add_assoc}
 use Rattle.usb_descriptors.specs.declared.fault.DescFault.TheVariants.{BadLength}
-use Rattle.usb_descriptors.specs.Pieces.{byte, begins_with_piece, pieces, pieces_from, extent, rest}
-use Rattle.usb_descriptors.specs.Grammar.{faults_at_end}
+use Rattle.usb_descriptors.specs.Pieces.{byte, begins_with_piece, pieces_from}
 use Rattle.usb_descriptors.specs.Items.{items}
 use Rattle.usb_descriptors.proofs.Cut.{first, behind, front as has_front, pieces-front, pieces-stuck, extent-front, rest-front, rest-stuck}
 

@@ -50,11 +50,17 @@ opened (Err fault) = Err fault
 
 -- the grammar, by its opening
 pub opened-opening : (input : List ℕ) → opened (opening input) ≡ reading input
-opened-opening input = by_tests (nat_lt (length input) 9) (not (byte 1 input == 2)) (nat_lt (header_length input) 9 || nat_lt (total_length input) (header_length input)) (nat_lt (length input) (total_length input)) (Truncated (length input)) (WrongType 0) (BadLength 0)
+opened-opening input =
+    by_tests (nat_lt (length input) 9) (not (byte 1 input == 2))
+    (nat_lt (header_length input) 9 || nat_lt (total_length input) (header_length input))
+    (nat_lt (length input) (total_length input)) (Truncated (length input)) (WrongType 0) (BadLength 0)
   where
+    answer : Result Configuration DescFault
+    answer = read_by (faults (header_length input) (body input)) (configuration (pieces (header_length input) (body input)))
+
     by_tests : (a b c d : Bool) (x y z : DescFault)
         → opened (cond a (Err x) (cond b (Err y) (cond c (Err z) (cond d (Err x) (Ok (items (header_length input) (body input)))))))
-        ≡ cond a (Err x) (cond b (Err y) (cond c (Err z) (cond d (Err x) (read_by (faults (header_length input) (body input)) (configuration (pieces (header_length input) (body input)))))))
+        ≡ cond a (Err x) (cond b (Err y) (cond c (Err z) (cond d (Err x) answer)))
     by_tests true b c d x y z = refl
     by_tests false true c d x y z = refl
     by_tests false false true d x y z = refl
@@ -67,33 +73,32 @@ pub record IsUnderway (input : List ℕ) (reader : Reader) (left : List (Result 
   pub has : HasRead before reader
   pub same : read_on before left ≡ reading input
 
--- where nothing is left, what was read is the answer
-pub answers : (input : List ℕ) (reader : Reader) (left : List (Result Piece DescFault)) → IsUnderway input reader left → left ≡ []
-    → Ok reader.config ≡ reading input
-unfolding read_on
-answers input reader left way none = ap Ok way.has.config ∙ ap (read_on way.before) (sym none) ∙ way.same
-
--- a fault that is next is the answer
-pub fault_is_next : (input : List ℕ) (reader : Reader) (left more : List (Result Piece DescFault)) (fault : DescFault)
-    → IsUnderway input reader left → left ≡ Err fault ∷ more → Err fault ≡ reading input
-unfolding read_on
-fault_is_next input reader left more fault way next = ap (read_on way.before) (sym next) ∙ way.same
-
 -- what comes of a descriptor that is next
-read_on-piece : (before : List Piece) (left more : List (Result Piece DescFault)) (p : Piece) (found : List DescFault)
-    → left ≡ Ok p ∷ more → faults_of before p ≡ found → unless_fault found (read_on (before ++ p ∷ []) more) ≡ read_on before left
+read_on-piece : (before : List Piece) {left more : List (Result Piece DescFault)} {p : Piece} {found : List DescFault}
+    → left ≡ Ok p ∷ more → faults_of before p ≡ found
+    → unless_fault found (read_on (before ++ p ∷ []) more) ≡ read_on before left
 unfolding read_on
-read_on-piece before left more p found next has =
+read_on-piece before {more = more} {p = p} next has =
     ap (λ faults. unless_fault faults (read_on (before ++ p ∷ []) more)) (sym has) ∙ ap (read_on before) (sym next)
 
--- its fault is the answer
-pub piece_has_fault : (input : List ℕ) (reader : Reader) (left more : List (Result Piece DescFault)) (p : Piece) (fault : DescFault) (way : IsUnderway input reader left)
-    → left ≡ Ok p ∷ more → faults_of way.before p ≡ fault ∷ [] → Err fault ≡ reading input
-piece_has_fault input reader left more p fault way next found =
-    read_on-piece way.before left more p (fault ∷ []) next found ∙ way.same
+module _ {input : List ℕ} {reader : Reader} {left : List (Result Piece DescFault)} (way : IsUnderway input reader left) where
+  -- where nothing is left, what was read is the answer
+  pub answers : left ≡ [] → Ok reader.config ≡ reading input
+  unfolding read_on
+  answers none = ap Ok way.has.config ∙ ap (read_on way.before) (sym none) ∙ way.same
 
--- without one it is passed, once the reader has read it
-pub passes : (input : List ℕ) (old new : Reader) (left more : List (Result Piece DescFault)) (p : Piece) (way : IsUnderway input old left)
-    → left ≡ Ok p ∷ more → (faults_of way.before p ≡ []) × HasRead (way.before ++ p ∷ []) new → IsUnderway input new more
-passes input old new left more p way next (none, has) =
-    record { before = way.before ++ p ∷ []; has = has; same = read_on-piece way.before left more p [] next none ∙ way.same }
+  -- a fault that is next is the answer
+  pub fault_is_next : {fault : DescFault} {more : List (Result Piece DescFault)} → left ≡ Err fault ∷ more → Err fault ≡ reading input
+  unfolding read_on
+  fault_is_next next = ap (read_on way.before) (sym next) ∙ way.same
+
+  -- so is the fault of a descriptor that is next
+  pub piece_has_fault : {p : Piece} {fault : DescFault} {more : List (Result Piece DescFault)} → left ≡ Ok p ∷ more
+      → faults_of way.before p ≡ fault ∷ [] → Err fault ≡ reading input
+  piece_has_fault next found = read_on-piece way.before next found ∙ way.same
+
+  -- without one it is passed, once the reader has read it
+  pub passes : {p : Piece} {new : Reader} {more : List (Result Piece DescFault)} → left ≡ Ok p ∷ more
+      → (faults_of way.before p ≡ []) × HasRead (way.before ++ p ∷ []) new → IsUnderway input new more
+  passes {p = p} next (none, has) =
+      record { before = way.before ++ p ∷ []; has = has; same = read_on-piece way.before next none ∙ way.same }

@@ -1,6 +1,5 @@
 -- What a piece does to what is read, by what its descriptor is.
-use Rattle.std.proofs.Common.{◌≡◌, ℕ, ◌+◌, ◌*◌, ◌/◌, ◌%◌, ◌==◌, ◌<◌, nat_lt, nat_le, Bool, true, false, cond, not, ◌&&◌, List, [], ◌∷◌, ◌++◌, length, Option, Some, None, Result, Ok, Err, refl, sym, ◌∙◌, ap, ap₂, arith}
-use Rattle.std.specs.List.{list_any}
+use Rattle.std.proofs.Common.{◌≡◌, ℕ, ◌%◌, ◌==◌, nat_lt, nat_le, Bool, true, false, cond, not, ◌&&◌, List, [], ◌∷◌, ◌++◌, length, Option, Some, None, Result, Ok, Err, refl, sym, ◌∙◌, ap, ap₂, arith}
 use Rattle.std.proofs.lemmas.Bool.{eqb-true, cond-true, cond-false}
 use Rattle.std.proofs.lemmas.List.{append-nil}
 use Rattle.usb_model.specs.declared.setup.EndpointInfo.{EndpointInfo}
@@ -11,7 +10,7 @@ use Rattle.usb_descriptors.specs.declared.descriptor.Descriptor.TheVariants as d
 use Rattle.usb_descriptors.specs.declared.descriptor.Interface.{Interface}
 use Rattle.usb_descriptors.specs.declared.descriptor.Endpoint.{Endpoint}
 use Rattle.usb_descriptors.specs.Pieces.{Piece, byte}
-use Rattle.usb_descriptors.specs.Grammar.{type_of, is_interface, is_endpoint, interface_number, address_of, kind_of, size_of, is_used, interfaces, nearest, endpoints, kept, kept_under, faults_of_kept, is_none_before, faults_of, configuration}
+use Rattle.usb_descriptors.specs.Grammar.{type_of, is_interface, is_endpoint, interface_number, address_of, kind_of, size_of, is_used, interfaces, nearest, endpoints, kept, kept_under, faults_of_kept, is_none_before, faults_of}
 use Rattle.usb_descriptors.specs.Descriptors.{descriptor_of}
 use Rattle.usb_descriptors.specs.Table.{faults_beside}
 use Rattle.usb_descriptors.specs.declared.reader.Reader.{Reader}
@@ -87,7 +86,7 @@ interface_tests p i is =
 
 endpoint_tests : (p : Piece) (e : Endpoint) → descriptor_of p ≡ Ok (descriptor.Endpoint e)
     → ((type_of p == 2) ≡ false) × (is_interface p ≡ false) × (is_endpoint p ≡ true)
-      × (nat_lt (length p.bytes) 7 ≡ false) × (endpoint_at p ≡ e)
+    × (nat_lt (length p.bytes) 7 ≡ false) × (endpoint_at p ≡ e)
 endpoint_tests p e is =
     decided_endpoint (type_of p == 2) (is_interface p) (nat_lt (length p.bytes) 9) (is_endpoint p) (nat_lt (length p.bytes) 7)
     p.at (interface_at p) (endpoint_at p) e is
@@ -152,10 +151,10 @@ step_interface before p i used is new =
     let known = same ∙ new in
     record {
       faults =
-        cond-false (type_of p == 2) _ _ tests.0
-        ∙ cond-true (is_interface p) _ _ tests.1
-        ∙ cond-false (nat_lt (length p.bytes) 9) _ _ tests.2
-        ∙ ap (λ b. fault_where b before) known;
+          cond-false (type_of p == 2) _ _ tests.0
+          ∙ cond-true (is_interface p) _ _ tests.1
+          ∙ cond-false (nat_lt (length p.bytes) 9) _ _ tests.2
+          ∙ ap (λ b. fault_where b before) known;
       interfaces = interfaces-push before p ∙ ap₂ (λ b n. interfaces before ++ cond b (n ∷ []) []) known number;
       endpoints = endpoints-other before p isnt;
       section = nearest-interface before p tests.1 ∙ ap₂ (λ b n. Some (cond b (Some n) None)) known number;
@@ -206,11 +205,11 @@ step_endpoint before p e near is there =
     let keeps : kept before p ≡ kept_in near e = ap (λ o. kept_under o p) there ∙ kept_under-endpoint near p e tests.2 tests.4 in
     record {
       faults =
-        cond-false (type_of p == 2) _ _ tests.0
-        ∙ cond-false (is_interface p) _ _ tests.1
-        ∙ cond-true (is_endpoint p) _ _ tests.2
-        ∙ cond-false (nat_lt (length p.bytes) 7) _ _ tests.3
-        ∙ ap₂ (λ o xs. faults_under o before p xs) there keeps;
+          cond-false (type_of p == 2) _ _ tests.0
+          ∙ cond-false (is_interface p) _ _ tests.1
+          ∙ cond-true (is_endpoint p) _ _ tests.2
+          ∙ cond-false (nat_lt (length p.bytes) 7) _ _ tests.3
+          ∙ ap₂ (λ o xs. faults_under o before p xs) there keeps;
       interfaces = interfaces-other before p tests.1;
       endpoints = endpoints-push before p ∙ ap (λ xs. endpoints before ++ xs) keeps;
       section = nearest-other before p tests.1 ∙ there;

@@ -1,8 +1,7 @@
 -- A table of endpoints never has more than 30: their places, told by number and direction, differ.
-use Rattle.std.proofs.Common.{◌≡◌, ◌≢◌, ℕ, ◌+◌, ◌-◌, ◌*◌, ◌/◌, ◌%◌, ◌<◌, ◌≤◌, Bool, true, false, nat_eq, ◌||◌, List, [], ◌∷◌, ◌++◌, length, map, refl, sym, ◌∙◌, ap, subst, inl, inr, arith, length-append}
+use Rattle.std.proofs.Common.{◌≡◌, ℕ, ◌+◌, ◌-◌, ◌*◌, ◌/◌, ◌%◌, ◌<◌, ◌≤◌, true, false, nat_eq, List, [], ◌∷◌, ◌++◌, length, map, refl, sym, ap, subst, inl, inr, arith, length-append}
 use Rattle.std.proofs.lemmas.List.{length-map}
-use Rattle.std.specs.List.{AllByRecursion, IsDistinct, find, list_any}
-use Rattle.std.specs.Option.{is_some}
+use Rattle.std.specs.List.{AllByRecursion, IsDistinct, list_any}
 use Rattle.std.proofs.lemmas.Map.Steps.{length-le_from_distinct_below}
 use Rattle.std.proofs.lemmas.Bool.{false≢true, or_parts, or_cases, eqb-true, eqb-false, ne_eqb}
 use Rattle.usb_model.specs.declared.setup.EndpointInfo.{EndpointInfo}
@@ -82,7 +81,9 @@ places_below (b ∷ bs) ns q found = elim (or_cases (nat_eq q (place b)) (list_a
 -- a table has 30 endpoints at most
 IsTable-length : (xs : List EndpointInfo) → IsTable xs → length xs ≤ 30
 IsTable-length xs table =
-    let fits = length-le_from_distinct_below (map place (addresses xs)) 30 (places_distinct (addresses xs) table.numbered table.distinct) (places_below (addresses xs) table.numbered) in
+    let differ = places_distinct (addresses xs) table.numbered table.distinct in
+    let below = places_below (addresses xs) table.numbered in
+    let fits = length-le_from_distinct_below (map place (addresses xs)) 30 differ below in
     simp length-map at fits
 
 -- so where one more makes a table, there was room

@@ -1,5 +1,5 @@
 -- What one descriptor says by itself, or its fault (USB 2.0, 9.6.5 and 9.6.6).
-use Rattle.std.specs.Prelude.{ℕ, ◌==◌, nat_lt, length, Result, Ok, Err, if◌then◌else◌}
+use Rattle.std.specs.Prelude.{◌==◌, nat_lt, length, Result, Ok, Err, if◌then◌else◌}
 use Rattle.usb_descriptors.specs.declared.fault.DescFault.{DescFault}
 use Rattle.usb_descriptors.specs.declared.fault.DescFault.TheVariants.{WrongType, BadLength}
 use Rattle.usb_descriptors.specs.declared.descriptor.Descriptor.{Descriptor}

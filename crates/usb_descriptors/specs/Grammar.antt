@@ -1,7 +1,6 @@
 -- What a configuration descriptor says (USB 2.0, 9.6.3, 9.6.5, 9.6.6), read off the list of its pieces; and its first fault.
-use Rattle.std.specs.Prelude.{◌≡◌, ℕ, ◌+◌, ◌*◌, ◌-◌, ◌%◌, ◌/◌, ◌==◌, nat_lt, nat_le, Bool, true, false, not, ◌&&◌, ◌||◌, List, [], ◌∷◌, ◌++◌, length, take, drop, map, Option, Some, None, Result, Ok, Err, if◌then◌else◌}
-use Rattle.std.specs.Option.{option_map_or}
-use Rattle.std.specs.List.{filter, list_any}
+use Rattle.std.specs.Prelude.{ℕ, ◌+◌, ◌*◌, ◌%◌, ◌/◌, ◌==◌, nat_lt, nat_le, Bool, true, false, not, ◌&&◌, ◌||◌, List, [], ◌∷◌, ◌++◌, length, take, drop, Option, Some, None, Result, Ok, Err, if◌then◌else◌}
+use Rattle.std.specs.List.{list_any}
 use Rattle.usb_model.specs.declared.request.Kind.{Kind}
 use Rattle.usb_model.specs.declared.request.Kind.TheVariants.{Control, Isochronous, Bulk, Interrupt}
 use Rattle.usb_model.specs.declared.setup.Configuration.{Configuration}

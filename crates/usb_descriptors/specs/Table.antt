@@ -1,5 +1,5 @@
 -- A configuration's endpoints as a table: what stands in it, what may be added, and how one is found.
-use Rattle.std.specs.Prelude.{◌≡◌, ℕ, ◌<◌, ◌%◌, ◌==◌, nat_eq, Bool, false, List, [], ◌∷◌, map, Option, if◌then◌else◌}
+use Rattle.std.specs.Prelude.{◌≡◌, ℕ, ◌<◌, ◌%◌, ◌==◌, nat_eq, false, List, [], ◌∷◌, map, Option, if◌then◌else◌}
 use Rattle.std.specs.List.{AllByRecursion, IsDistinct, find, list_any}
 use Rattle.usb_model.specs.declared.setup.Configuration.{Configuration}
 use Rattle.usb_model.specs.declared.setup.EndpointInfo.{EndpointInfo}

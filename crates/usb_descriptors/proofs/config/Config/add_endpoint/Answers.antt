@@ -9,12 +9,14 @@ use Rattle.usb_descriptors.proofs.config.Config.add_endpoint.Goals.{After-has_ba
 -- where neither test refuses the endpoint, it belongs in the table
 belongs : (c : After-has_bad_size) → c.has_bad_size.result ≡ false → IsTable (c.self.inside.endpoints.items ++ c.args.info ∷ [])
 belongs c sized =
-    let new : list_any (λ x. x.address == c.args.info.address) c.self.inside.endpoints.items ≡ false = ap (λ v. list_any (λ x. x.address == c.args.info.address) v.endpoints) c.self.view_is ∙ sym c.has_endpoint.ensures ∙ c.if-has_endpoint.false in
+    let known = ap (λ v. list_any (λ x. x.address == c.args.info.address) v.endpoints) c.self.view_is in
+    let new = known ∙ sym c.has_endpoint.ensures ∙ c.if-has_endpoint.false in
     IsTable-push c.self.inside.endpoints.items c.args.info c.self.invariant c.requires new (sym c.has_bad_size.ensures ∙ sized)
 
 pub push-requires : goal.push-requires
 push-requires c =
-    (lit< tt, IsTable-room c.self.inside.endpoints.items c.args.info (belongs (goal.at.push-requires c).After-has_bad_size c.if-has_bad_size.false))
+    let table = belongs (goal.at.push-requires c).After-has_bad_size c.if-has_bad_size.false in
+    (lit< tt, IsTable-room c.self.inside.endpoints.items c.args.info table)
 
 pub invariant_of-self : goal.invariant_of-self
 invariant_of-self c =

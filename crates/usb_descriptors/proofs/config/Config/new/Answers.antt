@@ -1,5 +1,4 @@
 -- The empty table.
-use Rattle.std.proofs.Common.{rules}
 use Rattle.usb_descriptors.proofs.Tables.{IsTable-nil}
 use Rattle.usb_descriptors.proofs.config.Config.new.Goals as goal
 

@@ -1,5 +1,5 @@
 -- What is left is what comes of the bytes that are left.
-use Rattle.std.proofs.Common.{rules, ◌≡◌, ◌<◌, [], ◌∷◌, length, Err, sym, ap, ◌∙◌, arith}
+use Rattle.std.proofs.Common.{rules, ◌<◌, ◌∷◌, length, Err, sym, ap, ◌∙◌, arith}
 use Rattle.std.proofs.lemmas.List.{nil_from_length}
 use Rattle.usb_descriptors.specs.declared.fault.DescFault.TheVariants.{BadLength}
 use Rattle.usb_descriptors.specs.Items.{items}
@@ -8,7 +8,8 @@ use Rattle.usb_descriptors.proofs.piece.PiecesIterator.next.Goals as goal
 
 pub returns-then-is_empty-clause-steps : goal.returns-then-is_empty-clause-steps
 returns-then-is_empty-clause-steps c =
-    let none : c.args.self.now ≡ [] = sym c.self.view_is ∙ ap (items c.self.inside.at) (nil_from_length c.self.inside.rest.now (search rules)) ∙ items-nil c.self.inside.at in
+    let empty = nil_from_length c.self.inside.rest.now (search rules) in
+    let none = sym c.self.view_is ∙ ap (items c.self.inside.at) empty ∙ items-nil c.self.inside.at in
     (none, none)
 
 pub returns-in_default-clause-steps : goal.returns-in_default-clause-steps
@@ -21,7 +22,8 @@ returns-in_default-clause-steps c =
 pub returns-clause-steps : goal.returns-clause-steps
 returns-clause-steps c =
     let parts = c.in-Some.ensures in
-    sym c.self.view_is ∙ items-split c.self.inside.at c.self.inside.rest.now c.in-Some.bytes.now c.in-Some.rest.now (sym parts.found) parts.front parts.back
+    sym c.self.view_is
+    ∙ items-split c.self.inside.at c.self.inside.rest.now c.in-Some.bytes.now c.in-Some.rest.now (sym parts.found) parts.front parts.back
 
 pub returns-in_default-clause-goes : goal.returns-in_default-clause-goes
 returns-in_default-clause-goes c = let fewer = ap length (returns-in_default-clause-steps c) in search rules
