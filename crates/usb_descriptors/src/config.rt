@@ -97,7 +97,8 @@ impl Config {
     /// Adds an interface; TooMany where there are 32.
     pub(crate) fn add_interface(&mut self, number: u8) -> Result<(), DescFault>
         ensures room { OnOk result (length self.old.interfaces < 32) }
-        ensures ok { OnOk result (self.new ≡ record self.old { interfaces = self.old.interfaces ++ number ∷ [] }) }
+        ensures ok { OnOk result
+            (self.new ≡ record self.old { interfaces = self.old.interfaces ++ number ∷ [] }) }
         ensures full { OnErr result (32 ≤ length self.old.interfaces) }
         ensures err { IfErr result (λ fault. fault ≡ DescFault.TooMany) }
     {
@@ -110,8 +111,11 @@ impl Config {
     /// where it is bulk or interrupt with a size outside 1 to 1,024.
     pub(crate) fn add_endpoint(&mut self, info: EndpointInfo) -> Result<(), DescFault>
         requires { IsNumbered info.address }
-        ensures ok { OnOk result (self.new ≡ record self.old { endpoints = self.old.endpoints ++ info ∷ [] }) }
-        ensures fault { MatchResult result (λ _. faults_beside self.old.endpoints info ≡ []) (λ fault. faults_beside self.old.endpoints info ≡ fault ∷ []) }
+        ensures ok { OnOk result
+            (self.new ≡ record self.old { endpoints = self.old.endpoints ++ info ∷ [] }) }
+        ensures fault { MatchResult result
+            (λ _. faults_beside self.old.endpoints info ≡ [])
+            (λ fault. faults_beside self.old.endpoints info ≡ fault ∷ []) }
     {
         if self.has_endpoint(info.address) {
             return Err(DescFault::SharedEndpoint(info.address));

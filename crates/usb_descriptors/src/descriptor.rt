@@ -71,7 +71,9 @@ impl Descriptor {
 impl Endpoint {
     /// An endpoint by bEndpointAddress, bmAttributes and wMaxPacketSize.
     fn new(address: u8, attributes: u8, size: u16) -> Endpoint
-        ensures { result ≡ record { address = address / 128 * 128 + address % 16; kind = kind_by (attributes % 4); size = size % 2048 } }
+        ensures address { result.address ≡ address / 128 * 128 + address % 16 }
+        ensures kind { result.kind ≡ kind_by (attributes % 4) }
+        ensures size { result.size ≡ size % 2048 }
     {
         Endpoint {
             address: EpAddr::new(address & 0x8f),
@@ -89,7 +91,12 @@ impl Endpoint {
 
     /// What a configuration says of it under this interface.
     pub(crate) fn info(self, interface: u8) -> EndpointInfo
-        ensures { result ≡ record { address = self.address; interface = interface; kind = self.kind; size = self.size } }
+        ensures { result ≡ record {
+          address = self.address;
+          interface = interface;
+          kind = self.kind;
+          size = self.size;
+        } }
     {
         EndpointInfo {
             address: self.address,

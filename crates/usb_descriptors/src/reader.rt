@@ -69,7 +69,8 @@ impl Reader {
 
     /// Adds an interface, where it is used; TooMany where there are 32.
     fn read_interface(&mut self, interface: Interface) -> Result<(), DescFault>
-        ensures { (p : Cut) → descriptor_of p ≡ Ok (Descriptor.Interface interface) → ReadsOn p self.old self.new result }
+        ensures { (p : Cut) → descriptor_of p ≡ Ok (Descriptor.Interface interface)
+            → ReadsOn p self.old self.new result }
     {
         if !self.is_new(interface) {
             self.section = Section::Unused;
@@ -84,7 +85,8 @@ impl Reader {
     /// before any interface, SharedEndpoint where one has its address, BadPacketSize where its size can't be.
     fn read_endpoint(&mut self, at: usize, endpoint: Endpoint) -> Result<(), DescFault>
         requires { endpoint.address % 128 < 16 }
-        ensures { (p : Cut) → p.at ≡ at → descriptor_of p ≡ Ok (Descriptor.Endpoint endpoint) → ReadsOn p self.old self.new result }
+        ensures { (p : Cut) → p.at ≡ at → descriptor_of p ≡ Ok (Descriptor.Endpoint endpoint)
+            → ReadsOn p self.old self.new result }
     {
         match self.section {
             Section::Start => Err(DescFault::WrongType(at)),

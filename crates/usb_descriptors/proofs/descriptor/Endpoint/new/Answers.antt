@@ -1,5 +1,5 @@
 -- The mask keeps bit 7 and bits 3 to 0.
-use Rattle.std.proofs.Common.{◌≡◌, ℕ, ◌+◌, ◌*◌, ◌/◌, ◌%◌, ◌^◌, ◌<◌, bit_and, refl, sym, ap, ◌∙◌, arith}
+use Rattle.std.proofs.Common.{◌≡◌, ℕ, ◌+◌, ◌*◌, ◌/◌, ◌%◌, ◌^◌, ◌<◌, bit_and, sym, ap, ◌∙◌, arith}
 use Rattle.std.proofs.lemmas.Nat.{and_block, and_mask}
 use Rattle.usb_descriptors.proofs.descriptor.Endpoint.new.Goals as goal
 
@@ -11,5 +11,5 @@ bit_and-plain a small =
     let low = and_mask (a % 128) 4 in
     ap (λ n. bit_and n 143) (sym cut) ∙ and_block 7 (a / 128) 1 (a % 128) 15 (omega arith) (omega arith) ∙ omega (arith, high, low)
 
-pub returns : goal.returns
-returns c = rw (c.new.ensures, c.kind_of.ensures, bit_and-plain c.args.address (omega arith)) refl
+pub returns-clause-address : goal.returns-clause-address
+returns-clause-address c = c.new.ensures ∙ bit_and-plain c.args.address (omega arith)
