@@ -1,0 +1,7 @@
+mod Tables
+mod Cut
+mod IsCut
+mod Items
+mod OneMore
+mod Steps
+mod Runs

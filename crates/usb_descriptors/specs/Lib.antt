@@ -1,0 +1,6 @@
+pub mod Pieces
+pub mod Grammar
+pub mod Items
+pub mod Table
+pub mod Descriptors
+pub mod Reading
