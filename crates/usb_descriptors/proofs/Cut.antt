@@ -11,13 +11,14 @@ pub record HasFront (bytes : List ℕ) : Type 0 where
   pub long : 2 ≤ byte 0 bytes
   pub fits : byte 0 bytes ≤ length bytes
 
+-- what the test says
 pub front : (bytes : List ℕ) → begins_with_piece bytes ≡ true → HasFront bytes
 front bytes begins =
     let outer = and_parts _ _ begins in
     let inner = and_parts _ _ outer.1 in
     record { two = leb-true _ _ outer.0; long = leb-true _ _ inner.0; fits = leb-true _ _ inner.1 }
 
--- the first piece, what stands behind it, and where that begins
+-- the first piece, and the bytes behind it
 abbrev pub first : ℕ → List ℕ → Piece
 first at bytes = record { at = at; bytes = take (byte 0 bytes) bytes }
 
@@ -41,6 +42,7 @@ pub short_is_stuck : (bytes : List ℕ) → length bytes ≤ 0 → begins_with_p
 short_is_stuck bytes short =
     false_from_ne_true _ (λ begins. let two = (front bytes begins).two in absurd (omega arith))
 
+-- so there is none in no bytes, however many are asked for
 pieces_from-short : (most at : ℕ) (bytes : List ℕ) → length bytes ≤ 0 → pieces_from most at bytes ≡ []
 pieces_from-short most at bytes short = pieces_from-stuck most at bytes (short_is_stuck bytes short)
 
@@ -66,9 +68,11 @@ enough (suc n) (suc m) at bytes ln lm = by_test (begins_with_piece bytes) refl (
         ∙ sym (pieces_from-front m at bytes begins)
     by_test false stuck further = pieces_from-stuck (suc n) at bytes stuck ∙ sym (pieces_from-stuck (suc m) at bytes stuck)
 
+-- where no piece begins there is none
 pub pieces-stuck : (at : ℕ) (bytes : List ℕ) → begins_with_piece bytes ≡ false → pieces at bytes ≡ []
 pieces-stuck at bytes stuck = pieces_from-stuck (length bytes) at bytes stuck
 
+-- where one begins it is the first, and the others are those of the bytes behind it
 pub pieces-front : (at : ℕ) (bytes : List ℕ) → begins_with_piece bytes ≡ true
     → pieces at bytes ≡ first at bytes ∷ pieces (at + byte 0 bytes) (behind bytes)
 pieces-front at bytes begins =
@@ -96,6 +100,7 @@ pieces_from-extent (suc most) a b bytes =
     let further = pieces_from-extent most (a + byte 0 bytes) (b + byte 0 bytes) (behind bytes) in
     extent-cond (begins_with_piece bytes) (first a bytes) (first b bytes) _ _ refl further
 
+-- so it is for all the pieces
 pub extent-at : (a b : ℕ) (bytes : List ℕ) → extent (pieces a bytes) ≡ extent (pieces b bytes)
 extent-at a b bytes = pieces_from-extent (length bytes) a b bytes
 

@@ -87,6 +87,7 @@ record HasFirst (at : ℕ) (bytes : List ℕ) (p : Piece) (ps : List Piece) (lef
   is_first : p ≡ first at bytes
   others : IsCut (at + byte 0 bytes) (behind bytes) ps left
 
+-- as is so of each cut that has a piece
 first_of_cut : (at : ℕ) (bytes : List ℕ) (p : Piece) (ps : List Piece) (left : List ℕ) → IsCut at bytes (p ∷ ps) left
     → HasFirst at bytes p ps left
 first_of_cut at bytes p ps left cut =

@@ -27,12 +27,15 @@ each-push f before p =
 abbrev pub number_of : List Piece → Piece → List ℕ
 number_of before p = cond (is_used before p) (interface_number p ∷ []) []
 
+-- one more piece adds its number, where it is used
 pub interfaces-push : (before : List Piece) (p : Piece) → interfaces (before ++ p ∷ []) ≡ interfaces before ++ number_of before p
 interfaces-push before p = each-push number_of before p
 
+-- one more piece adds what is kept of it
 pub endpoints-push : (before : List Piece) (p : Piece) → endpoints (before ++ p ∷ []) ≡ endpoints before ++ kept before p
 endpoints-push before p = each-push kept before p
 
+-- the last of some and one more is that one
 last_of-push : {A : Type 0} (xs : List A) (x : A) → last_of (xs ++ x ∷ []) ≡ Some x
 last_of-push [] x = refl
 last_of-push (y ∷ []) x = refl

@@ -21,6 +21,7 @@ read_on before [] = Ok (configuration before)
 read_on before (Err fault ∷ left) = Err fault
 read_on before (Ok p ∷ left) = unless_fault (faults_of before p) (read_on (before ++ p ∷ []) left)
 
+-- the faults in front come before the others
 unless_fault-read_by : (found more : List DescFault) (config : Configuration)
     → unless_fault found (read_by more config) ≡ read_by (found ++ more) config
 unless_fault-read_by [] more config = refl

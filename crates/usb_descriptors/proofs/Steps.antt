@@ -48,6 +48,7 @@ decided two four short five shorter at interface endpoint =
     (cond five (cond shorter (Err (BadLength at)) (Ok (descriptor.Endpoint endpoint)))
     (Ok descriptor.Other)))
 
+-- an interface comes of type 4 and no less than 9 bytes
 decided_interface : (two four short five shorter : Bool) (at : ℕ) (i j : Interface) (e : Endpoint)
     → decided two four short five shorter at i e ≡ Ok (descriptor.Interface j)
     → (two ≡ false) × (four ≡ true) × (short ≡ false) × (i ≡ j)
@@ -58,6 +59,7 @@ decided_interface false false short true true at i j e is = cc
 decided_interface false false short true false at i j e is = cc
 decided_interface false false short false shorter at i j e is = cc
 
+-- an endpoint comes of type 5 and no less than 7 bytes
 decided_endpoint : (two four short five shorter : Bool) (at : ℕ) (i : Interface) (e f : Endpoint)
     → decided two four short five shorter at i e ≡ Ok (descriptor.Endpoint f)
     → (two ≡ false) × (four ≡ false) × (five ≡ true) × (shorter ≡ false) × (e ≡ f)
@@ -68,6 +70,7 @@ decided_endpoint false false short true true at i e f is = cc
 decided_endpoint false false short true false at i e f is = (refl, refl, refl, refl, cc)
 decided_endpoint false false short false shorter at i e f is = cc
 
+-- what is passed over has none of the three types
 decided_other : (two four short five shorter : Bool) (at : ℕ) (i : Interface) (e : Endpoint)
     → decided two four short five shorter at i e ≡ Ok descriptor.Other → (two ≡ false) × (four ≡ false) × (five ≡ false)
 decided_other true four short five shorter at i e is = cc
@@ -77,13 +80,14 @@ decided_other false false short true true at i e is = cc
 decided_other false false short true false at i e is = cc
 decided_other false false short false shorter at i e is = (refl, refl, refl)
 
--- the tests of a piece, by what its descriptor is
+-- the tests of a piece whose descriptor is an interface
 interface_tests : (p : Piece) (i : Interface) → descriptor_of p ≡ Ok (descriptor.Interface i)
     → ((type_of p == 2) ≡ false) × (is_interface p ≡ true) × (nat_lt (length p.bytes) 9 ≡ false) × (interface_at p ≡ i)
 interface_tests p i is =
     decided_interface (type_of p == 2) (is_interface p) (nat_lt (length p.bytes) 9) (is_endpoint p) (nat_lt (length p.bytes) 7)
     p.at (interface_at p) i (endpoint_at p) is
 
+-- those of a piece whose descriptor is an endpoint
 endpoint_tests : (p : Piece) (e : Endpoint) → descriptor_of p ≡ Ok (descriptor.Endpoint e)
     → ((type_of p == 2) ≡ false) × (is_interface p ≡ false) × (is_endpoint p ≡ true)
     × (nat_lt (length p.bytes) 7 ≡ false) × (endpoint_at p ≡ e)
@@ -91,18 +95,20 @@ endpoint_tests p e is =
     decided_endpoint (type_of p == 2) (is_interface p) (nat_lt (length p.bytes) 9) (is_endpoint p) (nat_lt (length p.bytes) 7)
     p.at (interface_at p) (endpoint_at p) e is
 
+-- those of a piece that is passed over
 other_tests : (p : Piece) → descriptor_of p ≡ Ok descriptor.Other
     → ((type_of p == 2) ≡ false) × (is_interface p ≡ false) × (is_endpoint p ≡ false)
 other_tests p is =
     decided_other (type_of p == 2) (is_interface p) (nat_lt (length p.bytes) 9) (is_endpoint p) (nat_lt (length p.bytes) 7)
     p.at (interface_at p) (endpoint_at p) is
 
--- what is no endpoint is kept nowhere
+-- under no interface is anything kept of what is no endpoint
 kept_under-other : (near : Option (Option ℕ)) (p : Piece) → is_endpoint p ≡ false → kept_under near p ≡ []
 kept_under-other None p isnt = refl
 kept_under-other (Some None) p isnt = refl
 kept_under-other (Some (Some i)) p isnt = rw isnt refl
 
+-- so nothing is kept of it
 kept-other : (before : List Piece) (p : Piece) → is_endpoint p ≡ false → kept before p ≡ []
 kept-other before p isnt = kept_under-other (nearest before) p isnt
 

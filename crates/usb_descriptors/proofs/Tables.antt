@@ -32,6 +32,7 @@ addresses-push : (xs : List EndpointInfo) (x : EndpointInfo) → addresses (xs +
 addresses-push [] x = refl
 addresses-push (y ∷ xs) x = ap (λ rest. y.address ∷ rest) (addresses-push xs x)
 
+-- no endpoints are a table
 pub IsTable-nil : IsTable []
 unfolding IsDistinct
 IsTable-nil = record { numbered = tt; distinct = tt; sized = tt }
@@ -51,9 +52,11 @@ IsTable-push xs x table numbered new sized =
 abbrev place : ℕ → ℕ
 place a = 2 * (a % 16) + a / 128 - 2
 
+-- each has one of the 30
 place-lt : (a : ℕ) → IsNumbered a → place a < 30
 place-lt a n = omega (arith, n.byte, n.plain, n.number)
 
+-- no two have the same
 place-injective : (a b : ℕ) → IsNumbered a → IsNumbered b → place a ≡ place b → a ≡ b
 place-injective a b n m same = omega (arith, n.byte, n.plain, n.number, m.byte, m.plain, m.number)
 

@@ -7,6 +7,7 @@ use Rattle.usb_descriptors.specs.declared.descriptor.Descriptor.TheVariants.{Int
 use Rattle.usb_descriptors.specs.Pieces.{Piece, byte}
 use Rattle.usb_descriptors.specs.Grammar.{type_of, is_interface, is_endpoint, interface_number, address_of, kind_of, size_of}
 
+-- the faults are those that a descriptor has wherever it stands; the grammar has them first
 abbrev pub descriptor_of : Piece → Result Descriptor DescFault
 descriptor_of p =
     if type_of p == 2 then Err (WrongType p.at)

@@ -5,6 +5,7 @@ use Rattle.usb_descriptors.specs.declared.fault.DescFault.TheVariants.{Truncated
 use Rattle.usb_descriptors.specs.Pieces.{Piece, byte, pieces, extent, rest}
 use Rattle.usb_descriptors.specs.Grammar.{faults_at_end, header_length, total_length, body}
 
+-- the first descriptor has this offset
 unfoldable pub items : ℕ → List ℕ → List (Result Piece DescFault)
 items at bytes = map Ok (pieces at bytes) ++ map Err (faults_at_end (at + extent (pieces at bytes)) (rest bytes))
 

@@ -1,7 +1,7 @@
 -- What a reader keeps of the descriptors that it has read, and what one more does to it.
 use Rattle.std.specs.Prelude.{◌≡◌, ℕ, ◌==◌, Bool, not, ◌&&◌, List, [], ◌∷◌, ◌++◌, Option, Some, None, Result, MatchResult}
-use Rattle.usb_descriptors.specs.declared.fault.DescFault.{DescFault}
 use Rattle.std.specs.List.{list_any}
+use Rattle.usb_descriptors.specs.declared.fault.DescFault.{DescFault}
 use Rattle.usb_descriptors.specs.declared.descriptor.Interface.{Interface}
 use Rattle.usb_descriptors.specs.declared.reader.Section.{Section}
 use Rattle.usb_descriptors.specs.declared.reader.Section.TheVariants.{Start, Unused, Used}
@@ -27,4 +27,6 @@ pub record HasRead (before : List Piece) (reader : Reader) : Type 0 where
 -- one more piece: where it has no fault the reader has read it too, else its fault is the answer
 abbrev pub ReadsOn : Piece → Reader → Reader → Result (Unit {0}) DescFault → Type 0
 ReadsOn p old new result = (before : List Piece) → HasRead before old
-    → MatchResult result (λ _. (faults_of before p ≡ []) × HasRead (before ++ p ∷ []) new) (λ fault. faults_of before p ≡ fault ∷ [])
+    → MatchResult result
+    (λ _. (faults_of before p ≡ []) × HasRead (before ++ p ∷ []) new)
+    (λ fault. faults_of before p ≡ fault ∷ [])

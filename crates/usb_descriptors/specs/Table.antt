@@ -17,6 +17,7 @@ pub record IsNumbered (address : ℕ) : Type 0 where
   pub plain : address % 128 < 16
   pub number : 0 < address % 16
 
+-- the addresses of endpoints
 abbrev pub addresses : List EndpointInfo → List ℕ
 addresses endpoints = map (λ x. x.address) endpoints
 
