@@ -1,2 +1,4 @@
 mod Computed
 mod WorkedRows
+pub mod Shares
+pub mod More
