@@ -1,4 +1,16 @@
 mod Computed
 mod WorkedRows
+pub mod Pieces
+pub mod Changes
+pub mod Fair
+pub mod Isolation
+pub mod States
+pub mod Times
+pub mod Parts
+pub mod Lines
+pub mod Works
+pub mod Moves
 pub mod Shares
 pub mod More
+pub mod Errands
+pub mod Coherent
