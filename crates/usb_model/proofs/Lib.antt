@@ -13,4 +13,3 @@ pub mod Moves
 pub mod Shares
 pub mod More
 pub mod Errands
-pub mod Coherent
