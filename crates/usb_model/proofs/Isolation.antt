@@ -26,10 +26,12 @@ pub takes_its_order : (setup : Setup) (h : ℕ) (w : World) (step : Step) → ow
 takes_its_order setup h w Command own takes = own
 takes_its_order setup h w _ own takes = absurd cc
 
+-- of the news
 pub takes_its_news : (setup : Setup) (h : ℕ) (w : World) (step : Step) → owner_of setup w step ≡ Some h → takes_news step ≡ true → first_name w.news ≡ Some h
 takes_its_news setup h w Deliver own takes = own
 takes_its_news setup h w _ own takes = absurd cc
 
+-- of the results
 pub takes_its_result : (setup : Setup) (h : ℕ) (w : World) (step : Step) → owner_of setup w step ≡ Some h → takes_result step ≡ true → first_name w.results ≡ Some h
 takes_its_result setup h w Take own takes = own
 takes_its_result setup h w _ own takes = absurd cc
@@ -39,6 +41,7 @@ owned_is_no_unplug : (setup : Setup) (h : ℕ) (w : World) (step : Step) → own
 owned_is_no_unplug setup h w (Unplug dev) own = absurd cc
 owned_is_no_unplug setup h w _ own = refl
 
+-- so its maker is its owner
 pub made_by_owner : (setup : Setup) (h : ℕ) (w : World) (step : Step) → owner_of setup w step ≡ Some h → maker h step ≡ Some h
 made_by_owner setup h w (Unplug dev) own = absurd cc
 made_by_owner setup h w _ own = refl
@@ -48,6 +51,7 @@ gone_stays : (setup : Setup) (gone : ℕ → Bool) (step : Step) (d : ℕ) → i
 gone_stays setup gone (Unplug dev) d owned = absurd cc
 gone_stays setup gone _ d owned = refl
 
+-- a name's own handle is put in its place
 own_handle : (h : ℕ) (x y : Handle) → (if h == h then x else y) ≡ x
 own_handle h x y = rw (same_name h)
 
@@ -104,6 +108,7 @@ IsOwnTurn setup h w step t =
 abbrev pub IsNothing : Setup → ℕ → World → Step → Turn → Type 0
 IsNothing setup h w step t = (is_own_step h step t.entry ≡ false) × (machine_of setup h t.world ≡ machine_of setup h w)
 
+-- one of the two
 abbrev pub IsEither : Setup → ℕ → World → Step → Turn → Type 0
 IsEither setup h w step t = IsOwnTurn setup h w step t ⊎ IsNothing setup h w step t
 
@@ -119,9 +124,11 @@ not_its g h step r owned e = rw (owned, e)
 blocked_is_not : (g h : ℕ) (step : Step) → is_unplug step ≡ false → is_own_step g step (record { owner = Some h; reply = Refused HeldElsewhere }) ≡ false
 blocked_is_not g h step owned = rw owned (and_right (h == g) false refl)
 
+-- a choice, by its test
 if_true : {A : Type 0} (b : Bool) (x y : A) → b ≡ true → (if b then x else y) ≡ x
 if_true b x y e = rw e
 
+-- the other way
 if_false : {A : Type 0} (b : Bool) (x y : A) → b ≡ false → (if b then x else y) ≡ y
 if_false b x y e = rw e
 
@@ -133,10 +140,12 @@ blocked_turn h w = record { entry = record { owner = Some h; reply = Refused Hel
 abbrev pub free_turn : Setup → ℕ → World → Step → Turn
 free_turn setup h w step = record { entry = record { owner = Some h; reply = (effect_to setup h w step).reply }; world = world_after setup h w step (effect_to setup h w step) }
 
+-- the turn of a name where another is in the way
 pub turn_blocked : (setup : Setup) (h : ℕ) (w : World) (step : Step) → is_blocked setup h w (effect_to setup h w step).change ≡ true → turn_of setup h w step ≡ blocked_turn h w
 unfolding turn_of
 turn_blocked setup h w step e = if_true (is_blocked setup h w (effect_to setup h w step).change) _ _ e
 
+-- and where none is
 pub turn_free : (setup : Setup) (h : ℕ) (w : World) (step : Step) → is_blocked setup h w (effect_to setup h w step).change ≡ false → turn_of setup h w step ≡ free_turn setup h w step
 unfolding turn_of
 turn_free setup h w step e = if_false (is_blocked setup h w (effect_to setup h w step).change) _ _ e
@@ -174,6 +183,7 @@ unplug_own setup h w dev = (
   rw (append-nil (pieces_of h w.orders), append-nil (pieces_of h w.news), append-nil (pieces_of h w.results)) refl,
 )
 
+-- a turn of nobody, to any name
 turn_of_nobody_to : (setup : Setup) (g : ℕ) (w : World) (step : Step) → owner_of setup w step ≡ None → IsEither setup g w step (turn_of_nobody setup w step)
 unfolding turn_of_nobody
 turn_of_nobody_to setup g w (Unplug dev) none = inl (unplug_own setup g w dev)
@@ -192,9 +202,11 @@ turn_to setup g w step = by_owner (owner_of setup w step) refl
 abbrev pub places_from : Setup → ℕ → World → List Step → List Place
 places_from setup h w steps = own_places h (journal_from setup w steps)
 
+-- the steps at these places
 abbrev pub own_from : Setup → ℕ → World → List Step → List Step
 own_from setup h w steps = steps_in (places_from setup h w steps)
 
+-- and the entries
 abbrev pub entries_from : Setup → ℕ → World → List Step → List Entry
 entries_from setup h w steps = entries_in (places_from setup h w steps)
 
@@ -204,10 +216,12 @@ pub places_more : (setup : Setup) (h : ℕ) (w : World) (step : Step) (steps : L
 unfolding journal_from
 places_more setup h w step steps e = rw e
 
+-- its steps then begin with that step
 pub own_more : (setup : Setup) (h : ℕ) (w : World) (step : Step) (steps : List Step) → is_own_step h step (turn setup w step).entry ≡ true
     → own_from setup h w (step ∷ steps) ≡ step ∷ own_from setup h (turn setup w step).world steps
 own_more setup h w step steps e = ap steps_in (places_more setup h w step steps e)
 
+-- and its entries with that entry
 pub entries_more : (setup : Setup) (h : ℕ) (w : World) (step : Step) (steps : List Step) → is_own_step h step (turn setup w step).entry ≡ true
     → entries_from setup h w (step ∷ steps) ≡ (turn setup w step).entry ∷ entries_from setup h (turn setup w step).world steps
 entries_more setup h w step steps e = ap entries_in (places_more setup h w step steps e)
@@ -218,10 +232,12 @@ pub places_less : (setup : Setup) (h : ℕ) (w : World) (step : Step) (steps : L
 unfolding journal_from
 places_less setup h w step steps e = rw e
 
+-- its steps are those that follow
 pub own_less : (setup : Setup) (h : ℕ) (w : World) (step : Step) (steps : List Step) → is_own_step h step (turn setup w step).entry ≡ false
     → own_from setup h w (step ∷ steps) ≡ own_from setup h (turn setup w step).world steps
 own_less setup h w step steps e = ap steps_in (places_less setup h w step steps e)
 
+-- and its entries
 pub entries_less : (setup : Setup) (h : ℕ) (w : World) (step : Step) (steps : List Step) → is_own_step h step (turn setup w step).entry ≡ false
     → entries_from setup h w (step ∷ steps) ≡ entries_from setup h (turn setup w step).world steps
 entries_less setup h w step steps e = ap entries_in (places_less setup h w step steps e)

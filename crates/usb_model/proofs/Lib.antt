@@ -2,6 +2,7 @@ mod Computed
 mod WorkedRows
 pub mod Pieces
 pub mod Changes
+pub mod Replies
 pub mod Fair
 pub mod Isolation
 pub mod States

@@ -26,6 +26,7 @@ pub record Key : Type 0 where
   pub n : ℕ
   pub ep : ℕ
 
+-- those of an item
 abbrev pub key_of : Item → Key
 key_of x = record { n = x.n; ep = x.request.ep }
 
@@ -45,6 +46,7 @@ live_numbers-keys (x ∷ xs) = by_test (is_blank x) (live_numbers-keys xs)
     by_test true e = e
     by_test false e = ap (λ l. x.n ∷ l) e
 
+-- where they are the same, so are the numbers in progress
 pub same_lives : (xs ys : List Item) → keys xs ≡ keys ys → live_numbers xs ≡ live_numbers ys
 same_lives xs ys e = live_numbers-keys xs ∙ (ap (map (λ k. k.n)) e ∙ sym (live_numbers-keys ys))
 
@@ -73,6 +75,7 @@ keys-with_first x y (z ∷ zs) first same live = by_test (is_waiting z) refl fir
     by_test true e f rest = let is : z ≡ x = cc in keys_same y z zs zs (live ∙ sym (waits_not_blank z e)) (same ∙ ap key_of (sym is)) refl
     by_test false e f rest = keys_same z z (with_first y zs) zs refl refl (rest f same live)
 
+-- an ask changes neither
 with_ask_kept : (n : ℕ) (ask : Ask) (x : Item) → (is_blank (with_ask n ask x) ≡ is_blank x) × (key_of (with_ask n ask x) ≡ key_of x)
 with_ask_kept n ask x = by_test (x.n == n)
   where
@@ -109,12 +112,15 @@ keys-push (x ∷ xs) n request round = by_test (is_blank x) (keys-push xs n requ
 pub lives-with_first : (x y : Item) (line : List Item) → first_waiting line ≡ Some x → key_of y ≡ key_of x → is_blank y ≡ false → live_numbers (with_first y line) ≡ live_numbers line
 lives-with_first x y line first same live = same_lives (with_first y line) line (keys-with_first x y line first same live)
 
+-- of those that are asked to end
 pub lives-with_ask : (n : ℕ) (ask : Ask) (line : List Item) → live_numbers (map (with_ask n ask) line) ≡ live_numbers line
 lives-with_ask n ask line = same_lives (map (with_ask n ask) line) line (keys-with_ask n ask line)
 
+-- behind the blanks
 pub lives-past_blanks : (line : List Item) → live_numbers (past_blanks line) ≡ live_numbers line
 lives-past_blanks line = same_lives (past_blanks line) line (keys-past_blanks line)
 
+-- with a submission behind them
 pub lives-push : (line : List Item) (n : ℕ) (request : Request) (round : ℕ) → live_numbers (line ++ new_item n request round ∷ []) ≡ live_numbers line ++ n ∷ []
 unfolding live_numbers
 lives-push [] n request round = refl
@@ -125,6 +131,7 @@ lives-push (x ∷ xs) n request round = by_test (is_blank x) (lives-push xs n re
     by_test true e = e
     by_test false e = ap (λ l. x.n ∷ l) e
 
+-- the numbers of results
 abbrev pub result_numbers : List TransferResult → List ℕ
 result_numbers xs = map (λ x. x.n) xs
 
@@ -168,6 +175,7 @@ is_uncut _ = true
 abbrev pub uncut_keys : List TransferResult → List Key
 uncut_keys xs = map (λ x. record { n = x.n; ep = x.request.ep }) (filter (λ x. is_uncut x.status) xs)
 
+-- the status of a transfer that was asked to end and is withdrawn
 cut_when_asked : (ask : Option Ask) (b : Bool) (length actual : ℕ) → is_some ask ≡ true → is_uncut (status_at false 26 ask b length actual) ≡ false
 unfolding status_at status_of
 cut_when_asked None b length actual e = absurd cc

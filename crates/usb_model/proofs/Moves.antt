@@ -5,7 +5,6 @@ use Rattle.std.specs.Option.{unwrap_or, option_and_then}
 use Rattle.std.proofs.lemmas.Bool.{eqb-true}
 use Rattle.usb_model.specs.declared.request.Request.{Request}
 use Rattle.usb_model.specs.declared.errand.Errand.{Errand}
-use Rattle.usb_model.specs.declared.errand.Errand.TheVariants as errand
 use Rattle.usb_model.specs.declared.refused.Refused.{Refused}
 use Rattle.usb_model.specs.declared.reply.Reply.{Reply}
 use Rattle.usb_model.specs.declared.reply.Reply.TheVariants as reply
@@ -17,23 +16,20 @@ use Rattle.usb_model.specs.declared.verdict.Verdict.{Verdict}
 use Rattle.usb_model.specs.declared.verdict.Verdict.TheVariants as verdict
 use Rattle.usb_model.specs.declared.plain.endpoint.Endpoint.{Endpoint}
 use Rattle.usb_model.specs.declared.plain.endpoint.EndpointState.{EndpointState}
-use Rattle.usb_model.specs.declared.plain.endpoint.EndpointState.TheVariants.{Running, Stopped, Halted}
 use Rattle.usb_model.specs.declared.plain.handle.Handle.{Handle}
 use Rattle.usb_model.specs.declared.plain.item.Ask.{Ask}
 use Rattle.usb_model.specs.declared.plain.item.Ask.TheVariants as ask
 use Rattle.usb_model.specs.declared.plain.item.Item.{Item}
 use Rattle.usb_model.specs.declared.plain.news.Event.{Event}
-use Rattle.usb_model.specs.declared.plain.news.Event.TheVariants as event
 use Rattle.usb_model.specs.declared.plain.news.News.{News}
 use Rattle.usb_model.specs.declared.plain.order.Order.{Order}
 use Rattle.usb_model.specs.declared.plain.result.InCallback.{InCallback}
 use Rattle.usb_model.specs.declared.plain.result.TransferResult.{TransferResult}
 use Rattle.usb_model.specs.Setup.{Setup, is_device, is_within, size_of}
-use Rattle.usb_model.specs.Packets.{Outcome}
 use Rattle.usb_model.specs.Endpoint.{Doing, fresh, in_progress}
-use Rattle.usb_model.specs.Serve.{next_answer, is_no_packet, serve_by, serve_gone, serve_first, serve}
+use Rattle.usb_model.specs.Serve.{serve}
 use Rattle.usb_model.specs.Command.{command}
-use Rattle.usb_model.specs.Deliver.{blanked, leads_blank, resume, needs_reset, deliver}
+use Rattle.usb_model.specs.Deliver.{deliver}
 use Rattle.usb_model.specs.Machine.{Machine, device_of, end_at, Change, Keeps, Frees, Gains, Drops, Renews, Sets, Effect, says, does, refused_if, doing_at}
 use Rattle.usb_model.specs.Calls.{open_it, close_it, claim_it, release_it, reset_it, clear_it, submitted, submit_at, submit_it, Home, home_by, home_in, home_of, asks, ask_at, ask_it, callback_of, called_back, answer_at, answer_it}
 use Rattle.usb_model.specs.Turns.{serve_it, command_at, command_it, deliver_at, deliver_it, take_it, effect, takes_result, ends_after, machine_after}
@@ -42,7 +38,8 @@ use Rattle.usb_model.specs.Places.{call_of, number_of, numbers_at}
 use Rattle.usb_model.proofs.Pieces.{same_name}
 use Rattle.usb_model.proofs.Parts.{IsPart, nothing, whole, none_of, part_map, part_times}
 use Rattle.usb_model.proofs.Lines.{Key, keys, live_numbers-keys, lives-push, keys-push, result_numbers, uncut_keys, IsSound}
-use Rattle.usb_model.proofs.Works.{serve_sound, command_sound, deliver_sound, ask_sound}
+use Rattle.usb_model.proofs.Replies.{told_plain, serve_told, command_told, deliver_told, asks_told}
+use Rattle.usb_model.proofs.Works.{serve_makes_none, serve_sound, command_sound, deliver_sound, ask_sound}
 
 -- the transfers in progress at an endpoint that may be the handle's
 abbrev pub keys_of : Option Endpoint → List Key
@@ -57,6 +54,7 @@ keys_at m ep = keys_of (end_at m ep)
 abbrev pub lives_at : Machine → ℕ → List ℕ
 lives_at m ep = numbers_at (end_at m ep)
 
+-- they are the numbers of these transfers
 pub numbers_at-keys : (o : Option Endpoint) → numbers_at o ≡ map (λ k. k.n) (keys_of o)
 numbers_at-keys None = refl
 numbers_at-keys (Some e) = live_numbers-keys e.line
@@ -101,6 +99,7 @@ pub record Takes (h : ℕ) (m m' : Machine) (reply : Reply) : Type 0 where
   pub results : m.results ≡ result ∷ m'.results
   pub others : (at : ℕ) → end_at m' at ≡ end_at m at
 
+-- one of the three
 abbrev pub Moves : ℕ → Machine → Machine → Reply → Type 0
 Moves h m m' reply = DoesWork m m' reply ⊎ (Submits m m' reply ⊎ Takes h m m' reply)
 
@@ -112,6 +111,7 @@ work_less m m' reply w n at = by_test (w.ep == at) refl
     by_test true e = subst (λ k. times n (lives_at m' k) ≤ times n (lives_at m k)) (eqb-true w.ep at e) (omega (arith, w.once n))
     by_test false e = fewer_at (end_at m' at) (end_at m at) n (w.others at e)
 
+-- what a step with this effect does
 abbrev MovesBy : Setup → ℕ → Machine → Step → Effect → Type 0
 MovesBy setup h m step done = Moves h m (machine_after setup m step done) done.reply
 
@@ -119,15 +119,18 @@ MovesBy setup h m step done = Moves h m (machine_after setup m step done) done.r
 abbrev pub IsPlain : Reply → Type 0
 IsPlain reply = (call_of reply ≡ []) × (number_of reply ≡ [])
 
+-- an endpoint that may not be the handle's any more
 part_if_none : (b : Bool) (o : Option Endpoint) → IsPart (keys_of (if b then None else o)) (keys_of o)
 part_if_none true o = none_of (keys_of o)
 part_if_none false o = whole (keys_of o)
 
+-- one that may be made new
 part_if_new : (setup : Setup) (d e : ℕ) (b : Bool) (o : Option Endpoint) → IsPart (keys_of (if b then Some (fresh setup d e) else o)) (keys_of o)
 unfolding fresh
 part_if_new setup d e true o = none_of (keys_of o)
 part_if_new setup d e false o = whole (keys_of o)
 
+-- one that is made new, if it is the handle's
 part_renewed : (setup : Setup) (d e : ℕ) (o : Option Endpoint) → IsPart (keys_of (option_map (λ old. fresh setup d e) o)) (keys_of o)
 unfolding fresh
 part_renewed setup d e None = nothing
@@ -138,6 +141,7 @@ abbrev SetsNone : Change → Type 0
 SetsNone (Sets dev ep x) = ⊥
 SetsNone _ = Unit {0}
 
+-- at any endpoint
 part_after : (setup : Setup) (ends : ℕ → ℕ → Option Endpoint) (change : Change) (d e : ℕ) → SetsNone change → IsPart (keys_of (ends_after setup ends change d e)) (keys_of (ends d e))
 part_after setup ends Keeps d e s = whole (keys_of (ends d e))
 part_after setup ends Frees d e s = none_of (keys_of (ends d e))
@@ -146,6 +150,7 @@ part_after setup ends (Drops dev i) d e s = part_if_none (is_within setup dev i 
 part_after setup ends (Renews dev) d e s = part_renewed setup d e (ends d e)
 part_after setup ends (Sets dev ep x) d e s = absurd s
 
+-- at an endpoint of the handle's device
 part_at : (setup : Setup) (ends : ℕ → ℕ → Option Endpoint) (device : Option ℕ) (change : Change) (at : ℕ) → SetsNone change
     → IsPart (keys_of (option_and_then (λ d. ends_after setup ends change d at) device)) (keys_of (option_and_then (λ d. ends d at) device))
 part_at setup ends None change at s = nothing
@@ -167,9 +172,11 @@ quiet setup h m step done plain stays next none parts = inl (record {
   others = λ at differ. parts at;
 })
 
+-- a reply alone
 says_moves : (setup : Setup) (h : ℕ) (m : Machine) (step : Step) (r : Reply) → IsPlain r → takes_result step ≡ false → MovesBy setup h m step (says m r)
 says_moves setup h m step r plain stays = quiet setup h m step (says m r) plain stays refl refl (λ at. whole (keys_at m at))
 
+-- Done, with a change that sets no endpoint
 does_moves : (setup : Setup) (h : ℕ) (m : Machine) (step : Step) (handle : Handle) (change : Change) → takes_result step ≡ false → handle.next ≡ m.handle.next → handle.device ≡ m.handle.device → SetsNone change
     → MovesBy setup h m step (does handle change)
 does_moves setup h m step handle change stays next same s = quiet setup h m step (does handle change) (refl, refl) stays next refl
@@ -180,9 +187,11 @@ none_at : (device : Option ℕ) → keys_of (option_and_then (λ (d : ℕ). None
 none_at None = refl
 none_at (Some d) = refl
 
+-- Done, with all interfaces freed
 frees_moves : (setup : Setup) (h : ℕ) (m : Machine) (step : Step) (handle : Handle) → takes_result step ≡ false → handle.next ≡ m.handle.next → MovesBy setup h m step (does handle Frees)
 frees_moves setup h m step handle stays next = quiet setup h m step (does handle Frees) (refl, refl) stays next refl (λ at. rw (none_at handle.device) (none_of (keys_at m at)))
 
+-- a refusal, or what stands behind it
 refused_moves : (setup : Setup) (h : ℕ) (m : Machine) (step : Step) (b : Bool) (why : Refused) (rest : Effect) → takes_result step ≡ false → MovesBy setup h m step rest → MovesBy setup h m step (refused_if m b why rest)
 unfolding refused_if
 refused_moves setup h m step true why rest stays later = says_moves setup h m step (reply.Refused why) (refl, refl) stays
@@ -237,6 +246,7 @@ submitted_moves setup h m step handle request round e stays same here = inr (inl
     after : option_and_then (λ k. ends_after setup m.ends (Sets (device_of m) request.ep (submitted m.handle.next request round e).endpoint) k request.ep) m.handle.device ≡ Some (submitted m.handle.next request round e).endpoint
     after = sets_here setup m.ends m.handle.device request.ep e (submitted m.handle.next request round e).endpoint here
 
+-- it may be refused, at an endpoint that may be the handle's
 submit_at_moves : (setup : Setup) (h : ℕ) (m : Machine) (step : Step) (handle : Handle) (request : Request) (round : ℕ) (o : Option Endpoint) → takes_result step ≡ false → handle.device ≡ m.handle.device → end_at m request.ep ≡ o
     → MovesBy setup h m step (submit_at setup m handle request round o)
 unfolding submit_at
@@ -245,6 +255,7 @@ submit_at_moves setup h m step handle request round (Some e) stays same here =
     refused_moves setup h m step _ _ _ stays (refused_moves setup h m step _ _ _ stays (refused_moves setup h m step _ _ _ stays (refused_moves setup h m step _ _ _ stays (refused_moves setup h m step _ _ _ stays
     (submitted_moves setup h m step handle request round e stays same here)))))
 
+-- at the endpoint of the request
 submit_moves : (setup : Setup) (h : ℕ) (m : Machine) (step : Step) (handle : Handle) (request : Request) (round : ℕ) → takes_result step ≡ false → handle.device ≡ m.handle.device
     → MovesBy setup h m step (submit_it setup m handle request round)
 unfolding submit_it
@@ -255,48 +266,21 @@ plain_if : (b : Bool) (x y : Reply) → IsPlain x → IsPlain y → IsPlain (if 
 plain_if true x y p q = p
 plain_if false x y p q = q
 
-plain_serve_by : (e : Endpoint) (x : Item) (before after : Outcome) (code : Option ℕ) → IsPlain (serve_by e x before after code).reply × ((serve_by e x before after code).results ≡ [])
-unfolding serve_by
-plain_serve_by e x before after None = (plain_if (is_no_packet (next_answer e)) _ _ (refl, refl) (refl, refl), refl)
-plain_serve_by e x before after (Some code) = ((refl, refl), refl)
-
-plain_serve_first : (size : ℕ) (gone : Bool) (e : Endpoint) (s : EndpointState) (o : Option Item) → IsPlain (serve_first size gone e s o).reply × ((serve_first size gone e s o).results ≡ [])
-unfolding serve_first serve_gone
-plain_serve_first size true e Running (Some x) = ((refl, refl), refl)
-plain_serve_first size false e Running (Some x) = plain_serve_by e x _ _ _
-plain_serve_first size gone e _ _ = ((refl, refl), refl)
-
+-- of a packet, which makes no result
 pub plain_serve : (size : ℕ) (gone : Bool) (e : Endpoint) → IsPlain (serve size gone e).reply × ((serve size gone e).results ≡ [])
-unfolding serve
-plain_serve size gone e = plain_serve_first size gone e _ _
+plain_serve size gone e = (told_plain _ (serve_told size gone e), serve_makes_none size gone e)
 
+-- of an order
 pub plain_command : (size ep : ℕ) (e : Endpoint) (errand : Errand) (s : EndpointState) → IsPlain (command size ep e errand s).reply
-unfolding command
-plain_command size ep e errand.Stop Running = (refl, refl)
-plain_command size ep e errand.Reset Halted = (refl, refl)
-plain_command size ep e errand.Move Stopped = (refl, refl)
-plain_command size ep e _ _ = (refl, refl)
+plain_command size ep e errand s = told_plain _ (command_told size ep e errand s)
 
-plain_either : (b : Bool) (x y : Doing) → IsPlain x.reply → IsPlain y.reply → IsPlain (if b then x else y).reply
-plain_either true x y p q = p
-plain_either false x y p q = q
-
-plain_resume : (size : ℕ) (e : Endpoint) (r : Reply) (line : List Item) → IsPlain r → IsPlain (resume size e r line).reply
-unfolding resume
-plain_resume size e r line plain = plain_either (leads_blank (map blanked line)) _ _ plain plain
-
+-- of a piece of news
 pub plain_deliver : (size ep : ℕ) (gone : Bool) (e : Endpoint) (event : Event) → IsPlain (deliver size ep gone e event).reply
-unfolding deliver
-plain_deliver size ep gone e (event.Finished n code) = plain_either (needs_reset code e.errand) _ _ (refl, refl) (refl, refl)
-plain_deliver size ep gone e (event.Paused n) = (refl, refl)
-plain_deliver size ep gone e (event.Settled errand.Stop false) = (refl, refl)
-plain_deliver size ep gone e (event.Settled errand.Stop true) = plain_resume size e _ _ (refl, refl)
-plain_deliver size ep gone e (event.Settled errand.Reset ok) = (refl, refl)
-plain_deliver size ep gone e (event.Settled errand.Move ok) = plain_resume size e _ _ (refl, refl)
+plain_deliver size ep gone e event = told_plain _ (deliver_told size ep gone e event)
 
+-- of an ask
 pub plain_asked : (e : Endpoint) (n : ℕ) (ask : Ask) → IsPlain (asks e n ask).reply
-unfolding asks
-plain_asked e n ask = (refl, refl)
+plain_asked e n ask = told_plain _ (asks_told e n ask)
 
 -- a served endpoint of another device is none of the handle's own device
 serve_elsewhere : (setup : Setup) (ends : ℕ → ℕ → Option Endpoint) (device : Option ℕ) (dev ep at : ℕ) (y : Endpoint) → ((d : ℕ) → device ≡ Some d → (dev == d) ≡ false)
@@ -304,6 +288,7 @@ serve_elsewhere : (setup : Setup) (ends : ℕ → ℕ → Option Endpoint) (devi
 serve_elsewhere setup ends None dev ep at y apart = refl
 serve_elsewhere setup ends (Some d) dev ep at y apart = rw (apart d refl)
 
+-- a packet, at an endpoint of the handle's device or of another
 serve_it_moves : (setup : Setup) (h : ℕ) (m : Machine) (dev ep : ℕ) (o : Option Endpoint) → m.ends dev ep ≡ o → MovesBy setup h m (Serve dev ep) (serve_it setup m dev ep o)
 unfolding serve_it doing_at
 serve_it_moves setup h m dev ep None here = says_moves setup h m (Serve dev ep) reply.Idle (refl, refl) refl
@@ -330,21 +315,25 @@ serve_it_moves setup h m dev ep (Some e) here = by_device m.handle.device refl
     by_device None is = apart_moves (λ k q. absurd cc)
     by_device (Some d) is = by_test d (dev == d) is refl
 
+-- an order, at an endpoint that may be the handle's
 command_at_moves : (setup : Setup) (h : ℕ) (m : Machine) (order : Order) (o : Option Endpoint) → end_at m order.ep ≡ o → MovesBy setup h m Command (command_at setup m order o)
 unfolding command_at
 command_at_moves setup h m order None here = says_moves setup h m Command reply.Idle (refl, refl) refl
 command_at_moves setup h m order (Some e) here = doing_moves setup h m Command order.ep e _ (plain_command _ _ e _ _) refl here (command_sound _ order.ep e _ _)
 
+-- the first order
 command_it_moves : (setup : Setup) (h : ℕ) (m : Machine) (orders : List Order) → MovesBy setup h m Command (command_it setup m orders)
 unfolding command_it
 command_it_moves setup h m [] = says_moves setup h m Command reply.Idle (refl, refl) refl
 command_it_moves setup h m (order ∷ orders) = command_at_moves setup h m order (end_at m order.ep) refl
 
+-- a piece of news, at an endpoint that may be the handle's
 deliver_at_moves : (setup : Setup) (h : ℕ) (m : Machine) (news : News) (o : Option Endpoint) → end_at m news.ep ≡ o → MovesBy setup h m Deliver (deliver_at setup m news o)
 unfolding deliver_at
 deliver_at_moves setup h m news None here = says_moves setup h m Deliver reply.Idle (refl, refl) refl
 deliver_at_moves setup h m news (Some e) here = doing_moves setup h m Deliver news.ep e _ (plain_deliver _ _ _ e _) refl here (deliver_sound _ news.ep _ e _)
 
+-- the first piece of news
 deliver_it_moves : (setup : Setup) (h : ℕ) (m : Machine) (news : List News) → MovesBy setup h m Deliver (deliver_it setup m news)
 unfolding deliver_it
 deliver_it_moves setup h m [] = says_moves setup h m Deliver reply.Idle (refl, refl) refl
@@ -355,6 +344,7 @@ abbrev pub IsHome : Machine → Option Home → Type 0
 IsHome m None = Unit {0}
 IsHome m (Some home) = end_at m home.ep ≡ Some home.endpoint
 
+-- so is that where a transfer is found
 pub home_is : (m : Machine) (n : ℕ) (xs : List EndpointInfo) → IsHome m (home_of m n xs)
 unfolding home_of
 home_is m n [] = tt
@@ -368,16 +358,19 @@ home_is m n (x ∷ xs) = by_end (end_at m x.address) refl (home_is m n xs)
     by_end None is rest = rest
     by_end (Some e) is rest = by_item e (in_progress n e.line) is rest
 
+-- an ask, by where the transfer is in progress
 ask_at_moves : (setup : Setup) (h : ℕ) (m : Machine) (step : Step) (n : ℕ) (ask : Ask) (timed : Bool) (o : Option Home) → takes_result step ≡ false → IsHome m o → MovesBy setup h m step (ask_at m n ask timed o)
 unfolding ask_at
 ask_at_moves setup h m step n ask timed None stays home = says_moves setup h m step _ (refl, refl) stays
 ask_at_moves setup h m step n ask timed (Some home) stays is =
     refused_moves setup h m step _ _ _ stays (doing_moves setup h m step home.ep home.endpoint _ (plain_asked home.endpoint n ask) stays is (ask_sound home.endpoint n ask))
 
+-- an ask
 ask_it_moves : (setup : Setup) (h : ℕ) (m : Machine) (step : Step) (n : ℕ) (ask : Ask) (timed : Bool) → takes_result step ≡ false → MovesBy setup h m step (ask_it setup m n ask timed)
 unfolding ask_it
 ask_it_moves setup h m step n ask timed stays = ask_at_moves setup h m step n ask timed _ stays (home_is m n _)
 
+-- the first result
 take_it_moves : (setup : Setup) (h : ℕ) (m : Machine) (results : List TransferResult) → m.results ≡ results → MovesBy setup h m Take (take_it h m results)
 unfolding take_it machine_after
 take_it_moves setup h m [] is = inl (record {
@@ -400,6 +393,7 @@ take_it_moves setup h m (x ∷ xs) is = inr (inr (record {
   others = λ at. refl;
 }))
 
+-- a verdict, by the transfer in its callback
 answer_at_moves : (setup : Setup) (h : ℕ) (m : Machine) (step : Step) (v : Verdict) (o : Option InCallback) → takes_result step ≡ false → MovesBy setup h m step (answer_at setup m v o)
 unfolding answer_at
 answer_at_moves setup h m step v None stays = says_moves setup h m step _ (refl, refl) stays
@@ -407,10 +401,12 @@ answer_at_moves setup h m step verdict.Stop (Some x) stays = does_moves setup h 
 answer_at_moves setup h m step verdict.Again (Some x) stays = submit_moves setup h m step _ _ _ stays refl
 answer_at_moves setup h m step (verdict.AgainWith bytes) (Some x) stays = submit_moves setup h m step _ _ _ stays refl
 
+-- a verdict
 answer_moves : (setup : Setup) (h : ℕ) (m : Machine) (step : Step) (n : ℕ) (v : Verdict) → takes_result step ≡ false → MovesBy setup h m step (answer_it setup m n v)
 unfolding answer_it
 answer_moves setup h m step n v stays = answer_at_moves setup h m step v (callback_of n m.handle.out) stays
 
+-- the end of a halt, which leaves the line
 clear_moves : (setup : Setup) (h : ℕ) (m : Machine) (step : Step) (ep : ℕ) (o : Option Endpoint) → takes_result step ≡ false → end_at m ep ≡ o → MovesBy setup h m step (clear_it m ep o)
 unfolding clear_it
 clear_moves setup h m step ep None stays here = says_moves setup h m step _ (refl, refl) stays
@@ -427,6 +423,7 @@ clear_moves setup h m step ep (Some e) stays here =
     by_test at true is = subst (λ k. IsPart (after k) (keys_at m k)) (eqb-true ep at is) (rw (sets_here setup m.ends m.handle.device ep e cleared here, here) (whole (keys e.line)))
     by_test at false differ = rw (sets_other setup m.ends m.handle.device ep at cleared differ) (whole (keys_at m at))
 
+-- a claim
 claim_moves : (setup : Setup) (h : ℕ) (m : Machine) (step : Step) (i : ℕ) → takes_result step ≡ false → MovesBy setup h m step (claim_it setup m i)
 unfolding claim_it
 claim_moves setup h m step i stays =
