@@ -125,7 +125,7 @@ done_if setup h m step true why rest t later = stays (refuses why) t
 done_if setup h m step false why rest t later = later refl
 
 -- a step that takes of no list
-takes_none : (m : Machine) (step : Step) → takes_order step ≡ false → takes_news step ≡ false → takes_result step ≡ false → TakesNone m step
+pub takes_none : (m : Machine) (step : Step) → takes_order step ≡ false → takes_news step ≡ false → takes_result step ≡ false → TakesNone m step
 takes_none m step o n r = record {
   orders = rw o refl;
   news = rw n refl;

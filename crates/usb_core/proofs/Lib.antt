@@ -2,6 +2,7 @@ pub mod Posts
 pub mod Doings
 pub mod Coherent
 pub mod Deeds
+pub mod Acts
 pub mod Due
 pub mod DueMore
 pub mod DueServe
