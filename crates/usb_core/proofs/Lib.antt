@@ -3,6 +3,7 @@ pub mod Doings
 pub mod Coherent
 pub mod Deeds
 pub mod Acts
+pub mod Well
 pub mod Due
 pub mod DueMore
 pub mod DueServe
