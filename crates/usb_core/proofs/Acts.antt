@@ -51,11 +51,21 @@ pub record Renewed (setup : Setup) (ep : ℕ) (m m' : Machine) (step : Step) : T
   pub end : IsNewOrGone setup ep (end_at m' ep)
   pub lists : ListsStay ep m m' step
 
-abbrev pub Acts : Setup → ℕ → Machine → Machine → Step → Type 0
-Acts setup ep m m' step = Stays ep m m' step ⊎ (Worked setup ep m m' step ⊎ Renewed setup ep m m' step)
+-- no work is done
+abbrev pub Rests : Setup → ℕ → Machine → Machine → Step → Type 0
+Rests setup ep m m' step = Stays ep m m' step ⊎ Renewed setup ep m m' step
 
-abbrev ActsBy : Setup → Machine → Step → Effect → ℕ → Type 0
-ActsBy setup m step done ep = Acts setup ep m (machine_after setup m step done) step
+abbrev pub Acts : Setup → ℕ → Machine → Machine → Step → Type 0
+Acts setup ep m m' step = Rests setup ep m m' step ⊎ Worked setup ep m m' step
+
+-- work is done at one endpoint, and the others stay
+pub record WorkedAt (setup : Setup) (m m' : Machine) (step : Step) : Type 0 where
+  pub ep : ℕ
+  pub worked : Worked setup ep m m' step
+  pub others : (at : ℕ) → (ep == at) ≡ false → Stays at m m' step
+
+abbrev RestsBy : Setup → Machine → Step → Effect → ℕ → Type 0
+RestsBy setup m step done ep = Rests setup ep m (machine_after setup m step done) step
 
 lists_stay : (setup : Setup) (m : Machine) (step : Step) (done : Effect) (ep : ℕ) → TakesNone m step → done.orders ≡ [] → done.news ≡ [] → ListsStay ep m (machine_after setup m step done) step
 unfolding machine_after
@@ -67,7 +77,7 @@ lists_stay setup m step done ep t o n = record {
 }
 
 -- a step that changes no endpoint
-keeps_acts : (setup : Setup) (m : Machine) (step : Step) (done : Effect) (ep : ℕ) → TakesNone m step → done.orders ≡ [] → done.news ≡ [] → done.handle.device ≡ m.handle.device → done.change ≡ Keeps → ActsBy setup m step done ep
+keeps_acts : (setup : Setup) (m : Machine) (step : Step) (done : Effect) (ep : ℕ) → TakesNone m step → done.orders ≡ [] → done.news ≡ [] → done.handle.device ≡ m.handle.device → done.change ≡ Keeps → RestsBy setup m step done ep
 unfolding machine_after
 keeps_acts setup m step done ep t o n same keeps = inl (record {
   end = ap₂ (λ c d. option_and_then (λ k. ends_after setup m.ends c k ep) d) keeps same;
@@ -79,13 +89,13 @@ freed : (device : Option ℕ) → option_and_then {U = Endpoint} (λ d. None) de
 freed None = refl
 freed (Some d) = refl
 
-frees_acts : (setup : Setup) (m : Machine) (step : Step) (handle : Handle) (ep : ℕ) → TakesNone m step → IsIdle ep m → ActsBy setup m step (does handle Frees) ep
+frees_acts : (setup : Setup) (m : Machine) (step : Step) (handle : Handle) (ep : ℕ) → TakesNone m step → IsIdle ep m → RestsBy setup m step (does handle Frees) ep
 unfolding machine_after
-frees_acts setup m step handle ep t idle = inr (inr (record { idle = idle; end = inl (freed handle.device); lists = lists_stay setup m step (does handle Frees) ep t refl refl }))
+frees_acts setup m step handle ep t idle = inr (record { idle = idle; end = inl (freed handle.device); lists = lists_stay setup m step (does handle Frees) ep t refl refl })
 
 -- an interface is gained, or dropped: its endpoints are new, or gone, and the others stay
 stays_or : (setup : Setup) (m : Machine) (step : Step) (change : Change) (ep : ℕ) (test : ℕ → ℕ → Bool) (new : ℕ → ℕ → Option Endpoint) → TakesNone m step → ((d e : ℕ) → ends_after setup m.ends change d e ≡ (if test d e then new d e else m.ends d e))
-    → ((d : ℕ) → IsNewOrGone setup ep (new d ep)) → ((d : ℕ) → m.handle.device ≡ Some d → test d ep ≡ true → IsIdle ep m) → ActsBy setup m step (does m.handle change) ep
+    → ((d : ℕ) → IsNewOrGone setup ep (new d ep)) → ((d : ℕ) → m.handle.device ≡ Some d → test d ep ≡ true → IsIdle ep m) → RestsBy setup m step (does m.handle change) ep
 unfolding machine_after
 stays_or setup m step change ep test new t after fresh_or_gone idle = by_device m.handle.device refl
   where
@@ -95,18 +105,18 @@ stays_or setup m step change ep test new t after fresh_or_gone idle = by_device 
     at : ℕ → Option Endpoint
     at d = ends_after setup m.ends change d ep
 
-    by_test : (d : ℕ) → m.handle.device ≡ Some d → (b : Bool) → test d ep ≡ b → ActsBy setup m step (does m.handle change) ep
-    by_test d is true e = inr (inr (record {
+    by_test : (d : ℕ) → m.handle.device ≡ Some d → (b : Bool) → test d ep ≡ b → RestsBy setup m step (does m.handle change) ep
+    by_test d is true e = inr (record {
       idle = idle d is e;
       end = subst (IsNewOrGone setup ep) (sym (ap (option_and_then at) is ∙ (after d ep ∙ rw e refl))) (fresh_or_gone d);
       lists = lists;
-    }))
+    })
     by_test d is false e = inl (record {
       end = ap (option_and_then at) is ∙ (after d ep ∙ (rw e refl ∙ sym (ap (option_and_then (λ k. m.ends k ep)) is)));
       lists = lists;
     })
 
-    by_device : (o : Option ℕ) → m.handle.device ≡ o → ActsBy setup m step (does m.handle change) ep
+    by_device : (o : Option ℕ) → m.handle.device ≡ o → RestsBy setup m step (does m.handle change) ep
     by_device None is = inl (record { end = ap (option_and_then at) is ∙ sym (ap (option_and_then (λ k. m.ends k ep)) is); lists = lists })
     by_device (Some d) is = by_test d is (test d ep) refl
 
@@ -130,39 +140,36 @@ same_device setup m ep e step handle d (submits (again g k x lent) is fine short
 same_device setup m ep e step handle d (submits (again_with g k bytes x lent) is fine short) = refl
 same_device setup m ep e step handle d _ = refl
 
-works_acts : (setup : Setup) (m : Machine) (step : Step) (handle : Handle) (d : Doing) (ep at : ℕ) (e : Endpoint) → end_at m ep ≡ Some e → IsWork setup m ep e step handle d → ActsBy setup m step (doing_at handle (device_of m) ep d) at
+pub works_here : (setup : Setup) (m : Machine) (step : Step) (handle : Handle) (d : Doing) (ep : ℕ) (e : Endpoint) → end_at m ep ≡ Some e → IsWork setup m ep e step handle d
+    → Worked setup ep m (machine_after setup m step (doing_at handle (device_of m) ep d)) step
 unfolding machine_after doing_at
-works_acts setup m step handle d ep at e here work = by_test (ep == at) refl
-  where
-    same : handle.device ≡ m.handle.device
-    same = same_device setup m ep e step handle d work
+works_here setup m step handle d ep e here work = record {
+  e = e;
+  handle = handle;
+  doing = d;
+  work = work;
+  here = here;
+  end = rw (same_device setup m ep e step handle d work) (sets_here setup m.ends m.handle.device ep e d.endpoint here);
+  orders = posts-append _ _ ep (past_first (takes_order step) m.orders) _ ∙ ap (λ l. errands_of ep (past_first (takes_order step) m.orders) ++ l) (errands_of-at ep d.orders);
+  news = posts-append _ _ ep (past_first (takes_news step) m.news) _ ∙ ap (λ l. events_of ep (past_first (takes_news step) m.news) ++ l) (events_of-at ep d.news);
+}
 
-    by_test : (b : Bool) → (ep == at) ≡ b → ActsBy setup m step (doing_at handle (device_of m) ep d) at
-    by_test true is =
-        subst (ActsBy setup m step (doing_at handle (device_of m) ep d)) (eqb-true ep at is)
-        (inr (inl (record {
-          e = e;
-          handle = handle;
-          doing = d;
-          work = work;
-          here = here;
-          end = rw same (sets_here setup m.ends m.handle.device ep e d.endpoint here);
-          orders = posts-append _ _ ep (past_first (takes_order step) m.orders) _ ∙ ap (λ l. errands_of ep (past_first (takes_order step) m.orders) ++ l) (errands_of-at ep d.orders);
-          news = posts-append _ _ ep (past_first (takes_news step) m.news) _ ∙ ap (λ l. events_of ep (past_first (takes_news step) m.news) ++ l) (events_of-at ep d.news);
-        })))
-    by_test false other =
-        let w = elsewhere setup m ep at e step handle d other work in
-        inl (record {
-          end = rw same (sets_other setup m.ends m.handle.device ep at d.endpoint other);
-          lists = record {
-              orders = posts-append _ _ at (past_first (takes_order step) m.orders) _ ∙ (ap₂ (λ a b. a ++ b) w.0 (errands_of-other at ep d.orders other) ∙ append-nil (errands_of at m.orders));
-              news = posts-append _ _ at (past_first (takes_news step) m.news) _ ∙ (ap₂ (λ a b. a ++ b) w.1 (events_of-other at ep d.news other) ∙ append-nil (events_of at m.news));
-              commands = w.2;
-              delivers = w.3;
-            };
-        })
+pub works_elsewhere : (setup : Setup) (m : Machine) (step : Step) (handle : Handle) (d : Doing) (ep : ℕ) (e : Endpoint) → IsWork setup m ep e step handle d
+    → (at : ℕ) → (ep == at) ≡ false → Stays at m (machine_after setup m step (doing_at handle (device_of m) ep d)) step
+unfolding machine_after doing_at
+works_elsewhere setup m step handle d ep e work at other =
+    let w = elsewhere setup m ep at e step handle d other work in
+    record {
+      end = rw (same_device setup m ep e step handle d work) (sets_other setup m.ends m.handle.device ep at d.endpoint other);
+      lists = record {
+          orders = posts-append _ _ at (past_first (takes_order step) m.orders) _ ∙ (ap₂ (λ a b. a ++ b) w.0 (errands_of-other at ep d.orders other) ∙ append-nil (errands_of at m.orders));
+          news = posts-append _ _ at (past_first (takes_news step) m.news) _ ∙ (ap₂ (λ a b. a ++ b) w.1 (events_of-other at ep d.news other) ∙ append-nil (events_of at m.news));
+          commands = w.2;
+          delivers = w.3;
+        };
+    }
 
-takes_acts : (setup : Setup) (h : ℕ) (m : Machine) (x : TransferResult) (xs : List TransferResult) (ep : ℕ) → ActsBy setup m Take (take_it h m (x ∷ xs)) ep
+takes_acts : (setup : Setup) (h : ℕ) (m : Machine) (x : TransferResult) (xs : List TransferResult) (ep : ℕ) → RestsBy setup m Take (take_it h m (x ∷ xs)) ep
 unfolding machine_after take_it
 takes_acts setup h m x xs ep = inl (record { end = refl; lists = record { orders = ap (errands_of ep) (append-nil m.orders); news = ap (events_of ep) (append-nil m.news); commands = refl; delivers = refl } })
 
@@ -181,25 +188,39 @@ not_held setup m d i ep well free within = by_end (m.ends d ep) refl
         let same : (held.0 == i) ≡ true = ap (λ o. option_map_or (λ k. k == i) o false) (sym held.1) ∙ (and_parts (d == d) _ within).1 in
         absurd (cc (ap (m.held d) (eqb-true held.0 i same), held.2, free))
 
-pub acts : (setup : Setup) (h : ℕ) (m : Machine) (step : Step) (done : Effect) (ep : ℕ) → IsWell setup m → IsDone setup h m step done → ActsBy setup m step done ep
-acts setup h m step done ep well (stays {r = r} bare t) = keeps_acts setup m step (says m r) ep t refl refl refl refl
-acts setup h m step done ep well (claims_again g i) = keeps_acts setup m (Claim g i) (does m.handle Keeps) ep (takes_none m (Claim g i) refl refl refl) refl refl refl refl
-acts setup h m step done ep well (stops g k x lent) = keeps_acts setup m (Answer g k Stop) (does (called_back m x.n) Keeps) ep (takes_none m (Answer g k Stop) refl refl refl) refl refl refl refl
-acts setup h m step done ep well (opens g dev none) = frees_acts setup m (Open g dev) _ ep (takes_none m (Open g dev) refl refl refl) (idle_if_none ep m (no_device m ep none) (well.fits ep))
-acts setup h m step done ep well (closes g idle) = frees_acts setup m (Close g) _ ep (takes_none m (Close g) refl refl refl) (idle ep)
-acts setup h m step done ep well (claims g i opened free) =
-    stays_or setup m (Claim g i) (Gains (device_of m) i) ep (is_within setup (device_of m) i) (λ d e. Some (fresh setup d e)) (takes_none m (Claim g i) refl refl refl) (λ d e. refl) (λ d. inr (d, refl))
+-- an endpoint made new, where there is one
+renewed : (setup : Setup) (d ep : ℕ) (o : Option Endpoint) → IsNewOrGone setup ep (option_map (λ old. fresh setup d ep) o)
+renewed setup d ep None = inl refl
+renewed setup d ep (Some e) = inr (d, refl)
+
+-- a step rests at each endpoint, or works at one
+abbrev pub ActsAll : Setup → Machine → Machine → Step → Type 0
+ActsAll setup m m' step = ((ep : ℕ) → Rests setup ep m m' step) ⊎ WorkedAt setup m m' step
+
+pub acts : (setup : Setup) (h : ℕ) (m : Machine) (step : Step) (done : Effect) → IsWell setup m → IsDone setup h m step done → ActsAll setup m (machine_after setup m step done) step
+acts setup h m step done well (stays {r = r} bare t) = inl (λ ep. keeps_acts setup m step (says m r) ep t refl refl refl refl)
+acts setup h m step done well (claims_again g i) = inl (λ ep. keeps_acts setup m (Claim g i) (does m.handle Keeps) ep (takes_none m (Claim g i) refl refl refl) refl refl refl refl)
+acts setup h m step done well (stops g k x lent) = inl (λ ep. keeps_acts setup m (Answer g k Stop) (does (called_back m x.n) Keeps) ep (takes_none m (Answer g k Stop) refl refl refl) refl refl refl refl)
+acts setup h m step done well (opens g dev none) = inl (λ ep. frees_acts setup m (Open g dev) _ ep (takes_none m (Open g dev) refl refl refl) (idle_if_none ep m (no_device m ep none) (well.fits ep)))
+acts setup h m step done well (closes g idle) = inl (λ ep. frees_acts setup m (Close g) _ ep (takes_none m (Close g) refl refl refl) (idle ep))
+acts setup h m step done well (claims g i opened free) =
+    inl (λ ep. stays_or setup m (Claim g i) (Gains (device_of m) i) ep (is_within setup (device_of m) i) (λ d e. Some (fresh setup d e)) (takes_none m (Claim g i) refl refl refl) (λ d e. refl) (λ d. inr (d, refl))
     (λ d is within.
         let same : device_of m ≡ d = ap (λ o. unwrap_or o 0) is in
-        idle_if_none ep m (ap (option_and_then (λ k. m.ends k ep)) is ∙ not_held setup m d i ep well (subst (λ k. m.held k i ≡ false) same free) (subst (λ k. is_within setup k i d ep ≡ true) same within)) (well.fits ep))
-acts setup h m step done ep well (releases g i idle) =
-    stays_or setup m (Release g i) (Drops (device_of m) i) ep (is_within setup (device_of m) i) (λ d e. None) (takes_none m (Release g i) refl refl refl) (λ d e. refl) (λ d. inl refl)
-    (λ d is within. idle ep (subst (λ k. is_within setup (device_of m) i k ep ≡ true) (sym (ap (λ o. unwrap_or o 0) is)) within))
-acts setup h m step done ep well (resets g idle) =
-    stays_or setup m (Reset g) (Renews (device_of m)) ep (λ d e. true) (λ d e. option_map (λ old. fresh setup d e) (m.ends d e)) (takes_none m (Reset g) refl refl refl) (λ d e. refl) (λ d. by_end d (m.ends d ep)) (λ d is within. idle ep)
+        idle_if_none ep m (ap (option_and_then (λ k. m.ends k ep)) is ∙ not_held setup m d i ep well (subst (λ k. m.held k i ≡ false) same free) (subst (λ k. is_within setup k i d ep ≡ true) same within)) (well.fits ep)))
+acts setup h m step done well (releases g i idle) =
+    inl (λ ep. stays_or setup m (Release g i) (Drops (device_of m) i) ep (is_within setup (device_of m) i) (λ d e. None) (takes_none m (Release g i) refl refl refl) (λ d e. refl) (λ d. inl refl)
+    (λ d is within. idle ep (subst (λ k. is_within setup (device_of m) i k ep ≡ true) (sym (ap (λ o. unwrap_or o 0) is)) within)))
+acts setup h m step done well (resets g idle) =
+    inl (λ ep. stays_or setup m (Reset g) (Renews (device_of m)) ep (λ d e. true) (λ d e. option_map (λ old. fresh setup d e) (m.ends d e)) (takes_none m (Reset g) refl refl refl) (λ d e. refl) (λ d. renewed setup d ep (m.ends d ep)) (λ d is within. idle ep))
+acts setup h m step done well (works {handle = handle} {d = d} ep e here work) = inr (record { ep = ep; worked = works_here setup m step handle d ep e here work; others = works_elsewhere setup m step handle d ep e work })
+acts setup h m step done well (takes x xs is) = inl (λ ep. takes_acts setup h m x xs ep)
+
+-- so at each endpoint it rests, or works
+pub acts_at : (setup : Setup) (m m' : Machine) (step : Step) → ActsAll setup m m' step → (at : ℕ) → Acts setup at m m' step
+acts_at setup m m' step (inl rests) at = inl (rests at)
+acts_at setup m m' step (inr w) at = by_test (w.ep == at) refl
   where
-    by_end : (d : ℕ) (o : Option Endpoint) → IsNewOrGone setup ep (option_map (λ old. fresh setup d ep) o)
-    by_end d None = inl refl
-    by_end d (Some e) = inr (d, refl)
-acts setup h m step done ep well (works {handle = handle} {d = d} at e here work) = works_acts setup m step handle d at ep e here work
-acts setup h m step done ep well (takes x xs is) = takes_acts setup h m x xs ep
+    by_test : (b : Bool) → (w.ep == at) ≡ b → Acts setup at m m' step
+    by_test true is = subst (λ k. Acts setup k m m' step) (eqb-true w.ep at is) (inr w.worked)
+    by_test false other = inl (inl (w.others at other))

@@ -32,7 +32,7 @@ use Rattle.usb_model.specs.Setup.{Setup, interface_of, is_within, size_of}
 use Rattle.usb_model.specs.Shared.{past_first}
 use Rattle.usb_model.specs.Status.{halts}
 use Rattle.usb_model.specs.Turns.{effect, ends_after, held_after, machine_after, take_it, takes_news, takes_order}
-use Rattle.usb_core.proofs.Acts.{Acts, IsNewOrGone, acts, same_device}
+use Rattle.usb_core.proofs.Acts.{Acts, IsNewOrGone, acts, acts_at, same_device}
 use Rattle.usb_core.proofs.Coherent.{LeavesCoherent, coherent_ask, coherent_command, coherent_deliver, coherent_serve, coherent_submit}
 use Rattle.usb_core.proofs.Deeds.{Fits, IsAsk, IsDone, IsFit, IsSubmission, IsWell, IsWork, TakesNone, again, again_with, asks_it, cancels, claims, claims_again, clears, closes, commands, delivers, expires, first, is_done, opens, releases, resets, serves, stays, stops, submits, takes, takes_none, works}
 use Rattle.usb_core.proofs.Doings.{line-command, line-finished, line-resume}
@@ -161,12 +161,12 @@ fits_new setup ep o (inl e) = rw e (refl, refl)
 fits_new setup ep o (inr e) = rw e.1 (fit_fresh setup e.0 ep)
 
 fits_kept : (setup : Setup) (ep : ℕ) (m m' : Machine) (step : Step) → Acts setup ep m m' step → Fits (end_at m ep) (errands_of ep m.orders) (events_of ep m.news) → Fits (end_at m' ep) (errands_of ep m'.orders) (events_of ep m'.news)
-fits_kept setup ep m m' step (inl s) f = rw (s.end, s.lists.orders, s.lists.news) f
-fits_kept setup ep m m' step (inr (inl w)) f =
+fits_kept setup ep m m' step (inl (inl s)) f = rw (s.end, s.lists.orders, s.lists.news) f
+fits_kept setup ep m m' step (inr w) f =
     let fit : IsFit w.e (errands_of ep m.orders) (events_of ep m.news) = subst (λ o. Fits o (errands_of ep m.orders) (events_of ep m.news)) w.here f in
     rw (w.end, w.orders, w.news)
     (record { coherent = coherent_work setup m ep w.e step w.handle w.doing w.work fit.coherent; short = short_work setup m ep w.e step w.handle w.doing w.work fit.short })
-fits_kept setup ep m m' step (inr (inr r)) f = rw (r.lists.orders ∙ r.idle.no_orders, r.lists.news ∙ r.idle.no_news) (fits_new setup ep (end_at m' ep) r.end)
+fits_kept setup ep m m' step (inl (inr r)) f = rw (r.lists.orders ∙ r.idle.no_orders, r.lists.news ∙ r.idle.no_news) (fits_new setup ep (end_at m' ep) r.end)
 
 -- an endpoint is where its device and its interface are
 abbrev IsPlacedIn : Setup → Handle → (ℕ → ℕ → Bool) → ℕ → ℕ → Type 0
@@ -232,7 +232,7 @@ unfolding machine_after
 well_after setup h m step done well is = record {
   at_device = λ d ep x there. (placed_after setup h m step done d ep x well is there).0;
   of_held = λ d ep x there. let p = placed_after setup h m step done d ep x well is there in (p.1, p.2, p.3);
-  fits = λ ep. fits_kept setup ep m (machine_after setup m step done) step (acts setup h m step done ep well is) (well.fits ep);
+  fits = λ ep. fits_kept setup ep m (machine_after setup m step done) step (acts_at setup m (machine_after setup m step done) step (acts setup h m step done well is) ep) (well.fits ep);
 }
 
 pub well_kept : (setup : Setup) (h : ℕ) (m : Machine) (step : Step) → IsWell setup m → IsWell setup (machine_after setup m step (effect setup h m step))
