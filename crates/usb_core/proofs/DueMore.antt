@@ -78,7 +78,7 @@ served_shows n (x ∷ xs) i e w s = by_state x.state refl e s (served_shows n xs
         by_test false q = rest q w s
 
 -- the tail tells no end, and no errand but as it stands
-no_end : (s : EndpointState) (er : Option Errand) (os : List Errand) (fs tail : List Event) (n code : ℕ) (ns : List Event) → IsPhase s er os fs tail → tail ≡ Finished n code ∷ ns → ⊥
+pub no_end : (s : EndpointState) (er : Option Errand) (os : List Errand) (fs tail : List Event) (n code : ℕ) (ns : List Event) → IsPhase s er os fs tail → tail ≡ Finished n code ∷ ns → ⊥
 no_end s er os fs tail n code ns (runs g) told = cc
 no_end s er os fs tail n code ns (ended g) told = cc
 no_end s er os fs tail n code ns (stop_waits g) told = cc
