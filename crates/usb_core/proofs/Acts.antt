@@ -15,7 +15,7 @@ use Rattle.usb_model.specs.Machine.{Change, Drops, Effect, Frees, Gains, Keeps, 
 use Rattle.usb_model.specs.Setup.{Setup, is_within}
 use Rattle.usb_model.specs.Shared.{past_first}
 use Rattle.usb_model.specs.Turns.{ends_after, machine_after, take_it, takes_news, takes_order}
-use Rattle.usb_core.proofs.Deeds.{IsDone, IsIdle, IsWell, IsWork, TakesNone, again, again_with, asks_it, cancels, claims, claims_again, clears, closes, commands, delivers, expires, first, idle_if_none, opens, releases, resets, serves, stays, stops, submits, takes, takes_none, works}
+use Rattle.usb_core.proofs.Deeds.{IsDone, IsIdle, IsWell, IsWork, TakesNone, again, again_with, anew, asks_it, cancels, claims, claims_again, clears, closes, commands, delivers, expires, idle_if_none, opens, releases, resets, serves, stays, stops, submits, takes, takes_none, works}
 use Rattle.usb_core.proofs.Posts.{commands_now, delivers_now, errands_of, errands_of-at, errands_of-other, events_of, events_of-at, events_of-other, posts-append}
 use Rattle.usb_model.proofs.Moves.{sets_here, sets_other}
 
@@ -128,14 +128,14 @@ elsewhere setup m ep at e step handle d other (commands o os is) = rw (is, other
 elsewhere setup m ep at e step handle d other (delivers event ns is) = rw (is, other) (refl, refl, refl, refl)
 elsewhere setup m ep at e step handle d other (asks_it n i (cancels g k) here free) = (refl, refl, refl, refl)
 elsewhere setup m ep at e step handle d other (asks_it n i (expires g k) here free) = (refl, refl, refl, refl)
-elsewhere setup m ep at e step handle d other (submits (first g request) is fine short) = (refl, refl, refl, refl)
+elsewhere setup m ep at e step handle d other (submits (anew g request) is fine short) = (refl, refl, refl, refl)
 elsewhere setup m ep at e step handle d other (submits (again g k x lent) is fine short) = (refl, refl, refl, refl)
 elsewhere setup m ep at e step handle d other (submits (again_with g k bytes x lent) is fine short) = (refl, refl, refl, refl)
 elsewhere setup m ep at e step handle d other (clears g empty) = (refl, refl, refl, refl)
 
 -- and it leaves the handle its device
 pub same_device : (setup : Setup) (m : Machine) (ep : ℕ) (e : Endpoint) (step : Step) (handle : Handle) (d : Doing) → IsWork setup m ep e step handle d → handle.device ≡ m.handle.device
-same_device setup m ep e step handle d (submits (first g request) is fine short) = refl
+same_device setup m ep e step handle d (submits (anew g request) is fine short) = refl
 same_device setup m ep e step handle d (submits (again g k x lent) is fine short) = refl
 same_device setup m ep e step handle d (submits (again_with g k bytes x lent) is fine short) = refl
 same_device setup m ep e step handle d _ = refl

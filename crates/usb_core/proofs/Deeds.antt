@@ -51,7 +51,7 @@ pub data IsAsk : Step → ℕ → Ask → Type 0 where
 
 -- a step that submits: what is left of the handle without the transfer that is submitted again, the request, and the round
 pub data IsSubmission (handle : Handle) : Step → Handle → Request → ℕ → Type 0 where
-  first : (g : ℕ) (request : Request) → IsSubmission handle (Submit g request) handle request 0
+  anew : (g : ℕ) (request : Request) → IsSubmission handle (Submit g request) handle request 0
   again : (g k : ℕ) (x : InCallback) → callback_of k handle.out ≡ Some x
       → IsSubmission handle (Answer g k Again) (record handle { out = without x.n handle.out }) x.request (x.round + 1)
   again_with : (g k : ℕ) (bytes : List ℕ) (x : InCallback) → callback_of k handle.out ≡ Some x
@@ -382,7 +382,7 @@ is_done setup h m (Claim g i) well = claim_done setup h m g i
 is_done setup h m (Release g i) well = release_done setup h m g i well
 is_done setup h m (Reset g) well = reset_done setup h m g well
 is_done setup h m (ClearHalt g ep) well = clear_done setup h m g ep (end_at m ep) refl
-is_done setup h m (Submit g request) well = submit_done setup h m (Submit g request) m.handle request 0 _ (takes_none m (Submit g request) refl refl refl) (first g request) refl
+is_done setup h m (Submit g request) well = submit_done setup h m (Submit g request) m.handle request 0 _ (takes_none m (Submit g request) refl refl refl) (anew g request) refl
 is_done setup h m (Cancel g n) well = ask_done setup h m (Cancel g n) n ask.Cancel false _ (takes_none m (Cancel g n) refl refl refl) (cancels g n) (home_is m n _)
 is_done setup h m (Expire g n) well = ask_done setup h m (Expire g n) n ask.Time true _ (takes_none m (Expire g n) refl refl refl) (expires g n) (home_is m n _)
 is_done setup h m (Serve dev ep) well = serve_done setup h m dev ep (m.ends dev ep) well refl

@@ -2,6 +2,7 @@ pub mod Posts
 pub mod Doings
 pub mod Coherent
 pub mod FirstEnd
+pub mod Exact
 pub mod Deeds
 pub mod Acts
 pub mod Well

@@ -34,7 +34,7 @@ use Rattle.usb_model.specs.Status.{halts}
 use Rattle.usb_model.specs.Turns.{effect, ends_after, held_after, machine_after, take_it, takes_news, takes_order}
 use Rattle.usb_core.proofs.Acts.{Acts, IsNewOrGone, acts, acts_at, same_device}
 use Rattle.usb_core.proofs.Coherent.{LeavesCoherent, coherent_ask, coherent_command, coherent_deliver, coherent_serve, coherent_submit}
-use Rattle.usb_core.proofs.Deeds.{Fits, IsAsk, IsDone, IsFit, IsSubmission, IsWell, IsWork, TakesNone, again, again_with, asks_it, cancels, claims, claims_again, clears, closes, commands, delivers, expires, first, is_done, opens, releases, resets, serves, stays, stops, submits, takes, takes_none, works}
+use Rattle.usb_core.proofs.Deeds.{Fits, IsAsk, IsDone, IsFit, IsSubmission, IsWell, IsWork, TakesNone, again, again_with, anew, asks_it, cancels, claims, claims_again, clears, closes, commands, delivers, expires, is_done, opens, releases, resets, serves, stays, stops, submits, takes, takes_none, works}
 use Rattle.usb_core.proofs.Doings.{line-command, line-finished, line-resume}
 use Rattle.usb_core.proofs.Posts.{errands_of, events_of}
 use Rattle.usb_model.proofs.Errands.{IsCoherent, runs, served_events}
@@ -53,7 +53,7 @@ ask_takes m step n ask (cancels g k) = takes_none m (Cancel g k) refl refl refl
 ask_takes m step n ask (expires g k) = takes_none m (Expire g k) refl refl refl
 
 submission_takes : (m : Machine) (step : Step) (handle : Handle) (request : Request) (round : ℕ) → IsSubmission m.handle step handle request round → TakesNone m step
-submission_takes m step handle request round (first g r) = takes_none m (Submit g r) refl refl refl
+submission_takes m step handle request round (anew g r) = takes_none m (Submit g r) refl refl refl
 submission_takes m step handle request round (again g k x lent) = takes_none m (Answer g k Again) refl refl refl
 submission_takes m step handle request round (again_with g k bytes x lent) = takes_none m (Answer g k (AgainWith bytes)) refl refl refl
 
