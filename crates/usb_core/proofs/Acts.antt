@@ -15,7 +15,7 @@ use Rattle.usb_model.specs.Machine.{Change, Drops, Effect, Frees, Gains, Keeps, 
 use Rattle.usb_model.specs.Setup.{Setup, is_within}
 use Rattle.usb_model.specs.Shared.{past_first}
 use Rattle.usb_model.specs.Turns.{ends_after, machine_after, take_it, takes_news, takes_order}
-use Rattle.usb_core.proofs.Deeds.{IsDone, IsIdle, IsWell, IsWork, TakesNone, again, again_with, anew, asks_it, cancels, claims, claims_again, clears, closes, commands, delivers, expires, idle_if_none, opens, releases, resets, serves, stays, stops, submits, takes, takes_none, works}
+use Rattle.usb_core.proofs.Deeds.{IsDone, IsIdle, IsRest, IsWell, IsWork, TakesNone, again, again_with, anew, asks_it, cancels, claims, claims_again, clears, closes, commands, delivers, expires, idle_if_none, only_rests, opens, releases, resets, serves, stays, stops, submits, takes, takes_none, works}
 use Rattle.usb_core.proofs.Posts.{commands_now, delivers_now, errands_of, errands_of-at, errands_of-other, events_of, events_of-at, events_of-other, posts-append}
 use Rattle.usb_model.proofs.Moves.{sets_here, sets_other}
 
@@ -140,7 +140,13 @@ same_device setup m ep e step handle d (submits (again g k x lent) is fine short
 same_device setup m ep e step handle d (submits (again_with g k bytes x lent) is fine short) = refl
 same_device setup m ep e step handle d _ = refl
 
-pub works_here : (setup : Setup) (m : Machine) (step : Step) (handle : Handle) (d : Doing) (ep : ℕ) (e : Endpoint) → end_at m ep ≡ Some e → IsWork setup m ep e step handle d
+-- where the endpoint is set
+pub end_set : (setup : Setup) (m : Machine) (ep : ℕ) (e : Endpoint) (step : Step) (handle : Handle) (d : Doing) → end_at m ep ≡ Some e → IsWork setup m ep e step handle d
+    → end_at (machine_after setup m step (doing_at handle (device_of m) ep d)) ep ≡ Some d.endpoint
+unfolding machine_after doing_at
+end_set setup m ep e step handle d here work = rw (same_device setup m ep e step handle d work) (sets_here setup m.ends m.handle.device ep e d.endpoint here)
+
+works_here : (setup : Setup) (m : Machine) (step : Step) (handle : Handle) (d : Doing) (ep : ℕ) (e : Endpoint) → end_at m ep ≡ Some e → IsWork setup m ep e step handle d
     → Worked setup ep m (machine_after setup m step (doing_at handle (device_of m) ep d)) step
 unfolding machine_after doing_at
 works_here setup m step handle d ep e here work = record {
@@ -149,7 +155,7 @@ works_here setup m step handle d ep e here work = record {
   doing = d;
   work = work;
   here = here;
-  end = rw (same_device setup m ep e step handle d work) (sets_here setup m.ends m.handle.device ep e d.endpoint here);
+  end = end_set setup m ep e step handle d here work;
   orders = posts-append _ _ ep (past_first (takes_order step) m.orders) _ ∙ ap (λ l. errands_of ep (past_first (takes_order step) m.orders) ++ l) (errands_of-at ep d.orders);
   news = posts-append _ _ ep (past_first (takes_news step) m.news) _ ∙ ap (λ l. events_of ep (past_first (takes_news step) m.news) ++ l) (events_of-at ep d.news);
 }
@@ -193,28 +199,36 @@ renewed : (setup : Setup) (d ep : ℕ) (o : Option Endpoint) → IsNewOrGone set
 renewed setup d ep None = inl refl
 renewed setup d ep (Some e) = inr (d, refl)
 
--- a step rests at each endpoint, or works at one
+-- a step without work rests at each endpoint
+pub rests_at : (setup : Setup) (h : ℕ) (m : Machine) (step : Step) (done : Effect) (ep : ℕ) → IsWell setup m → IsRest setup h m step done → RestsBy setup m step done ep
+rests_at setup h m step done ep well (stays {r = r} bare t) = keeps_acts setup m step (says m r) ep t refl refl refl refl
+rests_at setup h m step done ep well (claims_again g i) = keeps_acts setup m (Claim g i) (does m.handle Keeps) ep (takes_none m (Claim g i) refl refl refl) refl refl refl refl
+rests_at setup h m step done ep well (stops g k x lent) = keeps_acts setup m (Answer g k Stop) (does (called_back m x.n) Keeps) ep (takes_none m (Answer g k Stop) refl refl refl) refl refl refl refl
+rests_at setup h m step done ep well (opens g dev none) = frees_acts setup m (Open g dev) _ ep (takes_none m (Open g dev) refl refl refl) (idle_if_none ep m (no_device m ep none) (well.fits ep))
+rests_at setup h m step done ep well (closes g idle) = frees_acts setup m (Close g) _ ep (takes_none m (Close g) refl refl refl) (idle ep)
+rests_at setup h m step done ep well (claims g i opened free) =
+    stays_or setup m (Claim g i) (Gains (device_of m) i) ep (is_within setup (device_of m) i) (λ d e. Some (fresh setup d e)) (takes_none m (Claim g i) refl refl refl) (λ d e. refl) (λ d. inr (d, refl))
+    (λ d is within.
+        let same : device_of m ≡ d = ap (λ o. unwrap_or o 0) is in
+        idle_if_none ep m (ap (option_and_then (λ k. m.ends k ep)) is ∙ not_held setup m d i ep well (subst (λ k. m.held k i ≡ false) same free) (subst (λ k. is_within setup k i d ep ≡ true) same within)) (well.fits ep))
+rests_at setup h m step done ep well (releases g i idle) =
+    stays_or setup m (Release g i) (Drops (device_of m) i) ep (is_within setup (device_of m) i) (λ d e. None) (takes_none m (Release g i) refl refl refl) (λ d e. refl) (λ d. inl refl)
+    (λ d is within. idle ep (subst (λ k. is_within setup (device_of m) i k ep ≡ true) (sym (ap (λ o. unwrap_or o 0) is)) within))
+rests_at setup h m step done ep well (resets g idle) =
+    stays_or setup m (Reset g) (Renews (device_of m)) ep (λ d e. true) (λ d e. option_map (λ old. fresh setup d e) (m.ends d e)) (takes_none m (Reset g) refl refl refl) (λ d e. refl) (λ d. renewed setup d ep (m.ends d ep)) (λ d is within. idle ep)
+rests_at setup h m step done ep well (takes x xs is) = takes_acts setup h m x xs ep
+
+-- and each step rests at each endpoint, or works at one
 abbrev pub ActsAll : Setup → Machine → Machine → Step → Type 0
 ActsAll setup m m' step = ((ep : ℕ) → Rests setup ep m m' step) ⊎ WorkedAt setup m m' step
 
 pub acts : (setup : Setup) (h : ℕ) (m : Machine) (step : Step) (done : Effect) → IsWell setup m → IsDone setup h m step done → ActsAll setup m (machine_after setup m step done) step
-acts setup h m step done well (stays {r = r} bare t) = inl (λ ep. keeps_acts setup m step (says m r) ep t refl refl refl refl)
-acts setup h m step done well (claims_again g i) = inl (λ ep. keeps_acts setup m (Claim g i) (does m.handle Keeps) ep (takes_none m (Claim g i) refl refl refl) refl refl refl refl)
-acts setup h m step done well (stops g k x lent) = inl (λ ep. keeps_acts setup m (Answer g k Stop) (does (called_back m x.n) Keeps) ep (takes_none m (Answer g k Stop) refl refl refl) refl refl refl refl)
-acts setup h m step done well (opens g dev none) = inl (λ ep. frees_acts setup m (Open g dev) _ ep (takes_none m (Open g dev) refl refl refl) (idle_if_none ep m (no_device m ep none) (well.fits ep)))
-acts setup h m step done well (closes g idle) = inl (λ ep. frees_acts setup m (Close g) _ ep (takes_none m (Close g) refl refl refl) (idle ep))
-acts setup h m step done well (claims g i opened free) =
-    inl (λ ep. stays_or setup m (Claim g i) (Gains (device_of m) i) ep (is_within setup (device_of m) i) (λ d e. Some (fresh setup d e)) (takes_none m (Claim g i) refl refl refl) (λ d e. refl) (λ d. inr (d, refl))
-    (λ d is within.
-        let same : device_of m ≡ d = ap (λ o. unwrap_or o 0) is in
-        idle_if_none ep m (ap (option_and_then (λ k. m.ends k ep)) is ∙ not_held setup m d i ep well (subst (λ k. m.held k i ≡ false) same free) (subst (λ k. is_within setup k i d ep ≡ true) same within)) (well.fits ep)))
-acts setup h m step done well (releases g i idle) =
-    inl (λ ep. stays_or setup m (Release g i) (Drops (device_of m) i) ep (is_within setup (device_of m) i) (λ d e. None) (takes_none m (Release g i) refl refl refl) (λ d e. refl) (λ d. inl refl)
-    (λ d is within. idle ep (subst (λ k. is_within setup (device_of m) i k ep ≡ true) (sym (ap (λ o. unwrap_or o 0) is)) within)))
-acts setup h m step done well (resets g idle) =
-    inl (λ ep. stays_or setup m (Reset g) (Renews (device_of m)) ep (λ d e. true) (λ d e. option_map (λ old. fresh setup d e) (m.ends d e)) (takes_none m (Reset g) refl refl refl) (λ d e. refl) (λ d. renewed setup d ep (m.ends d ep)) (λ d is within. idle ep))
-acts setup h m step done well (works {handle = handle} {d = d} ep e here work) = inr (record { ep = ep; worked = works_here setup m step handle d ep e here work; others = works_elsewhere setup m step handle d ep e work })
-acts setup h m step done well (takes x xs is) = inl (λ ep. takes_acts setup h m x xs ep)
+acts setup h m step done well (only_rests rest) = inl (λ ep. rests_at setup h m step done ep well rest)
+acts setup h m step done well (works {handle = handle} {d = d} ep e here work) = inr (record {
+  ep = ep;
+  worked = works_here setup m step handle d ep e here work;
+  others = works_elsewhere setup m step handle d ep e work;
+})
 
 -- so at each endpoint it rests, or works
 pub acts_at : (setup : Setup) (m m' : Machine) (step : Step) → ActsAll setup m m' step → (at : ℕ) → Acts setup at m m' step

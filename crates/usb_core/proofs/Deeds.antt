@@ -106,22 +106,26 @@ pub record TakesNone (m : Machine) (step : Step) : Type 0 where
   pub commands : (ep : ℕ) → commands_now ep m step ≡ 0
   pub delivers : (ep : ℕ) → delivers_now ep m step ≡ 0
 
--- what a step of the machine of handle h may do
+-- what a step of the machine of handle h may do without work at an endpoint
+pub data IsRest (setup : Setup) (h : ℕ) (m : Machine) : Step → Effect → Type 0 where
+  stays : {step : Step} {r : Reply} → IsBare step r → TakesNone m step → IsRest setup h m step (says m r)
+  claims_again : (g i : ℕ) → IsRest setup h m (Claim g i) (does m.handle Keeps)
+  stops : (g k : ℕ) (x : InCallback) → callback_of k m.handle.out ≡ Some x → IsRest setup h m (Answer g k Stop) (does (called_back m x.n) Keeps)
+  opens : (g dev : ℕ) → m.handle.device ≡ None → IsRest setup h m (Open g dev) (does (record m.handle { device = Some dev }) Frees)
+  closes : (g : ℕ) → ((ep : ℕ) → IsIdle ep m) → IsRest setup h m (Close g) (does (record m.handle { device = None }) Frees)
+  claims : (g i : ℕ) → m.handle.device ≡ Some (device_of m) → m.held (device_of m) i ≡ false → IsRest setup h m (Claim g i) (does m.handle (Gains (device_of m) i))
+  releases : (g i : ℕ) → ((ep : ℕ) → is_within setup (device_of m) i (device_of m) ep ≡ true → IsIdle ep m) → IsRest setup h m (Release g i) (does m.handle (Drops (device_of m) i))
+  resets : (g : ℕ) → ((ep : ℕ) → IsIdle ep m) → IsRest setup h m (Reset g) (does m.handle (Renews (device_of m)))
+  takes : (x : TransferResult) (xs : List TransferResult) → m.results ≡ x ∷ xs → IsRest setup h m Take (take_it h m (x ∷ xs))
+
+-- and all that it may do
 pub data IsDone (setup : Setup) (h : ℕ) (m : Machine) : Step → Effect → Type 0 where
-  stays : {step : Step} {r : Reply} → IsBare step r → TakesNone m step → IsDone setup h m step (says m r)
-  claims_again : (g i : ℕ) → IsDone setup h m (Claim g i) (does m.handle Keeps)
-  stops : (g k : ℕ) (x : InCallback) → callback_of k m.handle.out ≡ Some x → IsDone setup h m (Answer g k Stop) (does (called_back m x.n) Keeps)
-  opens : (g dev : ℕ) → m.handle.device ≡ None → IsDone setup h m (Open g dev) (does (record m.handle { device = Some dev }) Frees)
-  closes : (g : ℕ) → ((ep : ℕ) → IsIdle ep m) → IsDone setup h m (Close g) (does (record m.handle { device = None }) Frees)
-  claims : (g i : ℕ) → m.handle.device ≡ Some (device_of m) → m.held (device_of m) i ≡ false → IsDone setup h m (Claim g i) (does m.handle (Gains (device_of m) i))
-  releases : (g i : ℕ) → ((ep : ℕ) → is_within setup (device_of m) i (device_of m) ep ≡ true → IsIdle ep m) → IsDone setup h m (Release g i) (does m.handle (Drops (device_of m) i))
-  resets : (g : ℕ) → ((ep : ℕ) → IsIdle ep m) → IsDone setup h m (Reset g) (does m.handle (Renews (device_of m)))
+  only_rests : {step : Step} {done : Effect} → IsRest setup h m step done → IsDone setup h m step done
   works : {step : Step} {handle : Handle} {d : Doing} (ep : ℕ) (e : Endpoint) → end_at m ep ≡ Some e → IsWork setup m ep e step handle d → IsDone setup h m step (doing_at handle (device_of m) ep d)
-  takes : (x : TransferResult) (xs : List TransferResult) → m.results ≡ x ∷ xs → IsDone setup h m Take (take_it h m (x ∷ xs))
 
 done_if : (setup : Setup) (h : ℕ) (m : Machine) (step : Step) (b : Bool) (why : Refused) (rest : Effect) → TakesNone m step → (b ≡ false → IsDone setup h m step rest) → IsDone setup h m step (refused_if m b why rest)
 unfolding refused_if
-done_if setup h m step true why rest t later = stays (refuses why) t
+done_if setup h m step true why rest t later = only_rests (stays (refuses why) t)
 done_if setup h m step false why rest t later = later refl
 
 -- a step that takes of no list
@@ -227,13 +231,14 @@ open_done : (setup : Setup) (h : ℕ) (m : Machine) (g dev : ℕ) → IsDone set
 unfolding open_it
 open_done setup h m g dev =
     let t = takes_none m (Open g dev) refl refl refl in
-    done_if setup h m _ _ _ _ t (λ p. done_if setup h m _ _ _ _ t (λ q. done_if setup h m _ _ _ _ t (λ closed. opens g dev (not_open m.handle.device closed))))
+    done_if setup h m _ _ _ _ t (λ p. done_if setup h m _ _ _ _ t (λ q. done_if setup h m _ _ _ _ t (λ closed. only_rests (opens g dev (not_open m.handle.device closed)))))
 
 close_done : (setup : Setup) (h : ℕ) (m : Machine) (g : ℕ) → IsWell setup m → IsDone setup h m (Close g) (close_it setup m)
 unfolding close_it
 close_done setup h m g well =
     let t = takes_none m (Close g) refl refl refl in
-    done_if setup h m _ _ _ _ t (λ p. done_if setup h m _ _ _ _ t (λ quiet. closes g (λ ep. quiet_idle setup m (λ x. true) ep well (not-false (are_quiet setup m (λ x. true)) quiet) (λ s e. refl))))
+    done_if setup h m _ _ _ _ t (λ p. done_if setup h m _ _ _ _ t (λ quiet. only_rests (closes g (λ ep. quiet_idle setup m (λ x. true) ep well (not-false (are_quiet setup m (λ x. true)) quiet) (λ s e. refl)))))
+
 
 claim_done : (setup : Setup) (h : ℕ) (m : Machine) (g i : ℕ) → IsDone setup h m (Claim g i) (claim_it setup m i)
 unfolding claim_it
@@ -242,8 +247,8 @@ claim_done setup h m g i =
     done_if setup h m _ _ _ _ t (λ opened. done_if setup h m _ _ _ _ t (λ p. done_if setup h m _ _ _ _ t (λ q. by_held opened (m.held (device_of m) i) refl)))
   where
     by_held : not (is_open m) ≡ false → (b : Bool) → m.held (device_of m) i ≡ b → IsDone setup h m (Claim g i) (does m.handle (if b then Keeps else Gains (device_of m) i))
-    by_held opened true e = claims_again g i
-    by_held opened false e = claims g i (open_at m.handle.device opened) e
+    by_held opened true e = only_rests (claims_again g i)
+    by_held opened false e = only_rests (claims g i (open_at m.handle.device opened) e)
 
 -- an endpoint within an interface has it
 within_has : (setup : Setup) (dev i ep : ℕ) (s : EndpointInfo) → info_of setup dev ep ≡ Some s → is_within setup dev i dev ep ≡ true → (s.interface == i) ≡ true
@@ -255,19 +260,19 @@ release_done : (setup : Setup) (h : ℕ) (m : Machine) (g i : ℕ) → IsWell se
 unfolding release_it
 release_done setup h m g i well =
     let t = takes_none m (Release g i) refl refl refl in
-    done_if setup h m _ _ _ _ t (λ p. done_if setup h m _ _ _ _ t (λ quiet. releases g i (λ ep within.
-    quiet_idle setup m (λ x. x.interface == i) ep well (not-false (are_quiet setup m (λ x. x.interface == i)) quiet) (λ s e. within_has setup (device_of m) i ep s e within))))
+    done_if setup h m _ _ _ _ t (λ p. done_if setup h m _ _ _ _ t (λ quiet. only_rests (releases g i (λ ep within.
+    quiet_idle setup m (λ x. x.interface == i) ep well (not-false (are_quiet setup m (λ x. x.interface == i)) quiet) (λ s e. within_has setup (device_of m) i ep s e within)))))
 
 reset_done : (setup : Setup) (h : ℕ) (m : Machine) (g : ℕ) → IsWell setup m → IsDone setup h m (Reset g) (reset_it setup m)
 unfolding reset_it
 reset_done setup h m g well =
     let t = takes_none m (Reset g) refl refl refl in
-    done_if setup h m _ _ _ _ t (λ p. done_if setup h m _ _ _ _ t (λ q. done_if setup h m _ _ _ _ t (λ quiet. resets g (λ ep.
-    quiet_idle setup m (λ x. true) ep well (not-false (are_quiet setup m (λ x. true)) quiet) (λ s e. refl)))))
+    done_if setup h m _ _ _ _ t (λ p. done_if setup h m _ _ _ _ t (λ q. done_if setup h m _ _ _ _ t (λ quiet. only_rests (resets g (λ ep.
+    quiet_idle setup m (λ x. true) ep well (not-false (are_quiet setup m (λ x. true)) quiet) (λ s e. refl))))))
 
 clear_done : (setup : Setup) (h : ℕ) (m : Machine) (g ep : ℕ) (o : Option Endpoint) → end_at m ep ≡ o → IsDone setup h m (ClearHalt g ep) (clear_it m ep o)
 unfolding clear_it doing_at
-clear_done setup h m g ep None here = stays (refuses _) (takes_none m (ClearHalt g ep) refl refl refl)
+clear_done setup h m g ep None here = only_rests (stays (refuses _) (takes_none m (ClearHalt g ep) refl refl refl))
 clear_done setup h m g ep (Some e) here =
     let t = takes_none m (ClearHalt g ep) refl refl refl in
     done_if setup h m _ _ _ _ t (λ p. done_if setup h m _ _ _ _ t (λ empty. works ep e here (clears g (no_items e.line (not-false (length e.line == 0) empty)))))
@@ -275,7 +280,7 @@ clear_done setup h m g ep (Some e) here =
 submit_done : (setup : Setup) (h : ℕ) (m : Machine) (step : Step) (handle : Handle) (request : Request) (round : ℕ) (o : Option Endpoint) → TakesNone m step → IsSubmission m.handle step handle request round → end_at m request.ep ≡ o
     → IsDone setup h m step (submit_at setup m handle request round o)
 unfolding submit_at
-submit_done setup h m step handle request round None t is here = stays (refuses _) t
+submit_done setup h m step handle request round None t is here = only_rests (stays (refuses _) t)
 submit_done setup h m step handle request round (Some e) t is here =
     done_if setup h m _ _ _ _ t (λ p. done_if setup h m _ _ _ _ t (λ q. done_if setup h m _ _ _ _ t (λ fine. done_if setup h m _ _ _ _ t (λ room. done_if setup h m _ _ _ _ t (λ r.
     works request.ep e here (submits is refl (or_parts _ (is_bad_body request.ep request.body) fine).1 (has_room (length e.line) _ (leb-false 16 (places m request.ep e) room))))))))
@@ -285,8 +290,8 @@ submit_done setup h m step handle request round (Some e) t is here =
 
 answer_done : (setup : Setup) (h : ℕ) (m : Machine) (g k : ℕ) (verdict : Verdict) (o : Option InCallback) → callback_of k m.handle.out ≡ o → IsDone setup h m (Answer g k verdict) (answer_at setup m verdict o)
 unfolding answer_at submit_it
-answer_done setup h m g k verdict None is = stays (refuses _) (takes_none m (Answer g k verdict) refl refl refl)
-answer_done setup h m g k Stop (Some x) is = stops g k x is
+answer_done setup h m g k verdict None is = only_rests (stays (refuses _) (takes_none m (Answer g k verdict) refl refl refl))
+answer_done setup h m g k Stop (Some x) is = only_rests (stops g k x is)
 answer_done setup h m g k Again (Some x) is = submit_done setup h m (Answer g k Again) _ _ _ _ (takes_none m (Answer g k Again) refl refl refl) (again g k x is) refl
 answer_done setup h m g k (AgainWith bytes) (Some x) is = submit_done setup h m (Answer g k (AgainWith bytes)) _ _ _ _ (takes_none m (Answer g k (AgainWith bytes)) refl refl refl) (again_with g k bytes x is) refl
 
@@ -314,13 +319,13 @@ not_asked (Some a) e = absurd cc
 
 ask_done : (setup : Setup) (h : ℕ) (m : Machine) (step : Step) (n : ℕ) (ask : Ask) (timed : Bool) (o : Option Home) → TakesNone m step → IsAsk step n ask → IsHome m n o → IsDone setup h m step (ask_at m n ask timed o)
 unfolding ask_at
-ask_done setup h m step n ask timed None t is home = stays (refuses _) t
+ask_done setup h m step n ask timed None t is home = only_rests (stays (refuses _) t)
 ask_done setup h m step n ask timed (Some home) t is at =
     done_if setup h m _ _ _ _ t (λ fine. works home.ep home.endpoint at.0 (asks_it n home.item is at.1 (not_asked home.item.ask (or_parts (is_some home.item.ask) _ fine).0)))
 
 serve_done : (setup : Setup) (h : ℕ) (m : Machine) (dev ep : ℕ) (o : Option Endpoint) → IsWell setup m → m.ends dev ep ≡ o → IsDone setup h m (Serve dev ep) (serve_it setup m dev ep o)
 unfolding serve_it
-serve_done setup h m dev ep None well here = stays idles (takes_none m (Serve dev ep) refl refl refl)
+serve_done setup h m dev ep None well here = only_rests (stays idles (takes_none m (Serve dev ep) refl refl refl))
 serve_done setup h m dev ep (Some e) well here =
     let at = well.at_device dev ep e here in
     let same : device_of m ≡ dev = ap (λ o. unwrap_or o 0) at in
@@ -339,7 +344,7 @@ no_result m none = record { orders = refl; news = refl; results = rw none refl; 
 
 command_done : (setup : Setup) (h : ℕ) (m : Machine) (xs : List Order) → IsWell setup m → m.orders ≡ xs → IsDone setup h m Command (command_it setup m xs)
 unfolding command_it command_at
-command_done setup h m [] well is = stays idles (no_order m is)
+command_done setup h m [] well is = only_rests (stays idles (no_order m is))
 command_done setup h m (order ∷ orders) well is = by_end (end_at m order.ep) refl
   where
     waits : errands_of order.ep m.orders ≡ order.errand ∷ errands_of order.ep orders
@@ -351,7 +356,7 @@ command_done setup h m (order ∷ orders) well is = by_end (end_at m order.ep) r
 
 deliver_done : (setup : Setup) (h : ℕ) (m : Machine) (xs : List News) → IsWell setup m → m.news ≡ xs → IsDone setup h m Deliver (deliver_it setup m xs)
 unfolding deliver_it deliver_at
-deliver_done setup h m [] well is = stays idles (no_piece m is)
+deliver_done setup h m [] well is = only_rests (stays idles (no_piece m is))
 deliver_done setup h m (news ∷ rest) well is = by_end (end_at m news.ep) refl
   where
     waits : events_of news.ep m.news ≡ news.event ∷ events_of news.ep rest
@@ -363,16 +368,16 @@ deliver_done setup h m (news ∷ rest) well is = by_end (end_at m news.ep) refl
 
 take_done : (setup : Setup) (h : ℕ) (m : Machine) (xs : List TransferResult) → m.results ≡ xs → IsDone setup h m Take (take_it h m xs)
 unfolding take_it
-take_done setup h m [] is = stays idles (no_result m is)
-take_done setup h m (x ∷ xs) is = takes x xs is
+take_done setup h m [] is = only_rests (stays idles (no_result m is))
+take_done setup h m (x ∷ xs) is = only_rests (takes x xs is)
 
 unplug_done : (setup : Setup) (h : ℕ) (m : Machine) (dev : ℕ) → IsDone setup h m (Unplug dev) (says m (unplug_reply setup m.gone dev))
 unplug_done setup h m dev = by_tests (not (is_device setup dev)) (m.gone dev)
   where
     by_tests : (a b : Bool) → IsDone setup h m (Unplug dev) (says m (if a then reply.Refused NotFound else (if b then reply.Refused NoDevice else reply.Done)))
-    by_tests true b = stays (refuses _) (takes_none m (Unplug dev) refl refl refl)
-    by_tests false true = stays (refuses _) (takes_none m (Unplug dev) refl refl refl)
-    by_tests false false = stays (unplugs dev) (takes_none m (Unplug dev) refl refl refl)
+    by_tests true b = only_rests (stays (refuses _) (takes_none m (Unplug dev) refl refl refl))
+    by_tests false true = only_rests (stays (refuses _) (takes_none m (Unplug dev) refl refl refl))
+    by_tests false false = only_rests (stays (unplugs dev) (takes_none m (Unplug dev) refl refl refl))
 
 pub is_done : (setup : Setup) (h : ℕ) (m : Machine) (step : Step) → IsWell setup m → IsDone setup h m step (effect setup h m step)
 unfolding effect submit_it ask_it answer_it

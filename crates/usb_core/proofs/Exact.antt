@@ -33,7 +33,8 @@ use Rattle.usb_model.proofs.Works.{first_waits}
 pub record IsExact (e : Endpoint) (d : Doing) : Type 0 where
   pub exact : (n : ℕ) → times n (result_numbers d.results) + times n (live_numbers d.endpoint.line) ≡ times n (live_numbers e.line)
 
-exact_if_same : (e : Endpoint) (d : Doing) → d.results ≡ [] → live_numbers d.endpoint.line ≡ live_numbers e.line → IsExact e d
+-- work that makes no result, and leaves the numbers in progress
+pub exact_if_same : (e : Endpoint) (d : Doing) → d.results ≡ [] → live_numbers d.endpoint.line ≡ live_numbers e.line → IsExact e d
 exact_if_same e d none same = record { exact = λ n. rw (none, same) (omega arith) }
 
 exact_served : (e : Endpoint) (x : Item) (s : ItemState) (share : List Answer) (d : Doing) → first_waiting e.line ≡ Some x → is_blank_state s ≡ false → d.results ≡ [] → d.endpoint.line ≡ with_first (record x { share = share; state = s }) e.line → IsExact e d

@@ -6,6 +6,7 @@ pub mod Exact
 pub mod Deeds
 pub mod Acts
 pub mod Well
+pub mod Placed
 pub mod Due
 pub mod DueMore
 pub mod DueServe

@@ -34,17 +34,17 @@ use Rattle.usb_model.specs.Status.{halts}
 use Rattle.usb_model.specs.Turns.{effect, ends_after, held_after, machine_after, take_it, takes_news, takes_order}
 use Rattle.usb_core.proofs.Acts.{Acts, IsNewOrGone, acts, acts_at, same_device}
 use Rattle.usb_core.proofs.Coherent.{LeavesCoherent, coherent_ask, coherent_command, coherent_deliver, coherent_serve, coherent_submit}
-use Rattle.usb_core.proofs.Deeds.{Fits, IsAsk, IsDone, IsFit, IsSubmission, IsWell, IsWork, TakesNone, again, again_with, anew, asks_it, cancels, claims, claims_again, clears, closes, commands, delivers, expires, is_done, opens, releases, resets, serves, stays, stops, submits, takes, takes_none, works}
+use Rattle.usb_core.proofs.Deeds.{Fits, IsAsk, IsDone, IsFit, IsSubmission, IsWell, IsWork, TakesNone, again, again_with, anew, asks_it, cancels, claims, claims_again, clears, closes, commands, delivers, expires, is_done, only_rests, opens, releases, resets, serves, stays, stops, submits, takes, takes_none, works}
 use Rattle.usb_core.proofs.Doings.{line-command, line-finished, line-resume}
 use Rattle.usb_core.proofs.Posts.{errands_of, events_of}
 use Rattle.usb_model.proofs.Errands.{IsCoherent, runs, served_events}
 use Rattle.usb_model.proofs.Pieces.{either_way, same_name}
 
 -- what a step takes is the first of the endpoint's own
-first_order : (ep : ℕ) (o : Errand) (xs os : List Order) → xs ≡ record { ep = ep; errand = o } ∷ os → (errands_of ep xs ≡ o ∷ errands_of ep (past_first true xs)) × (first_counts (λ x. x.ep == ep) xs ≡ 1)
+pub first_order : (ep : ℕ) (o : Errand) (xs os : List Order) → xs ≡ record { ep = ep; errand = o } ∷ os → (errands_of ep xs ≡ o ∷ errands_of ep (past_first true xs)) × (first_counts (λ x. x.ep == ep) xs ≡ 1)
 first_order ep o xs os is = rw (is, same_name ep) (refl, refl)
 
-first_news : (ep : ℕ) (event : Event) (xs ns : List News) → xs ≡ record { ep = ep; event = event } ∷ ns → (events_of ep xs ≡ event ∷ events_of ep (past_first true xs)) × (first_counts (λ x. x.ep == ep) xs ≡ 1)
+pub first_news : (ep : ℕ) (event : Event) (xs ns : List News) → xs ≡ record { ep = ep; event = event } ∷ ns → (events_of ep xs ≡ event ∷ events_of ep (past_first true xs)) × (first_counts (λ x. x.ep == ep) xs ≡ 1)
 first_news ep event xs ns is = rw (is, same_name ep) (refl, refl)
 
 -- an ask, and a submission, take nothing
@@ -212,19 +212,19 @@ placed_dropped setup m i d ep x well is = by_test (is_within setup (device_of m)
 placed_after : (setup : Setup) (h : ℕ) (m : Machine) (step : Step) (done : Effect) (d ep : ℕ) (x : Endpoint) → IsWell setup m → IsDone setup h m step done → ends_after setup m.ends done.change d ep ≡ Some x
     → IsPlacedIn setup done.handle (λ k j. held_after m.held done.change k j) d ep
 unfolding doing_at take_it
-placed_after setup h m step done d ep x well (stays bare t) is = placed_before setup m d ep x well is
-placed_after setup h m step done d ep x well (claims_again g i) is = placed_before setup m d ep x well is
-placed_after setup h m step done d ep x well (stops g k y lent) is = placed_before setup m d ep x well is
-placed_after setup h m step done d ep x well (opens g dev none) is = absurd cc
-placed_after setup h m step done d ep x well (closes g idle) is = absurd cc
-placed_after setup h m step done d ep x well (claims g i opened free) is = placed_gained setup m i d ep x well opened is
-placed_after setup h m step done d ep x well (releases g i idle) is = placed_dropped setup m i d ep x well is
-placed_after setup h m step done d ep x well (resets g idle) is = let w = was_there true (m.ends d ep) (fresh setup d ep) x is in placed_before setup m d ep w.0 well w.1
+placed_after setup h m step done d ep x well (only_rests (stays bare t)) is = placed_before setup m d ep x well is
+placed_after setup h m step done d ep x well (only_rests (claims_again g i)) is = placed_before setup m d ep x well is
+placed_after setup h m step done d ep x well (only_rests (stops g k y lent)) is = placed_before setup m d ep x well is
+placed_after setup h m step done d ep x well (only_rests (opens g dev none)) is = absurd cc
+placed_after setup h m step done d ep x well (only_rests (closes g idle)) is = absurd cc
+placed_after setup h m step done d ep x well (only_rests (claims g i opened free)) is = placed_gained setup m i d ep x well opened is
+placed_after setup h m step done d ep x well (only_rests (releases g i idle)) is = placed_dropped setup m i d ep x well is
+placed_after setup h m step done d ep x well (only_rests (resets g idle)) is = let w = was_there true (m.ends d ep) (fresh setup d ep) x is in placed_before setup m d ep w.0 well w.1
 placed_after setup h m step done d ep x well (works {handle = handle} {d = doing} at e here work) is =
     let w = was_there ((device_of m == d) && (at == ep)) (m.ends d ep) doing.endpoint x is in
     let b = placed_before setup m d ep w.0 well w.1 in
     (same_device setup m at e step handle doing work ∙ b.0, b.1, b.2, b.3)
-placed_after setup h m step done d ep x well (takes r rs results) is = placed_before setup m d ep x well is
+placed_after setup h m step done d ep x well (only_rests (takes r rs results)) is = placed_before setup m d ep x well is
 
 -- it holds after each step
 pub well_after : (setup : Setup) (h : ℕ) (m : Machine) (step : Step) (done : Effect) → IsWell setup m → IsDone setup h m step done → IsWell setup (machine_after setup m step done)
