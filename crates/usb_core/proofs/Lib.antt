@@ -7,6 +7,8 @@ pub mod Deeds
 pub mod Acts
 pub mod Well
 pub mod Placed
+pub mod Runs
+pub mod Gone
 pub mod Due
 pub mod DueMore
 pub mod DueServe

@@ -26,13 +26,10 @@ use Rattle.usb_core.proofs.Posts.{errands_of, events_of}
 use Rattle.usb_core.proofs.Well.{first_news}
 use Rattle.usb_model.proofs.Errands.{IsCoherent}
 use Rattle.usb_model.proofs.Lines.{lives-push, no_result, result_numbers}
-use Rattle.usb_model.proofs.Moves.{moves}
+use Rattle.usb_model.proofs.Moves.{lives_at, moves}
 use Rattle.usb_model.proofs.Pieces.{either_way}
 use Rattle.usb_model.proofs.Replies.{asks_told, command_told, deliver_told, serve_told, told_plain}
 use Rattle.usb_model.proofs.Times.{times-append, times-cons, times_none, times_one}
-
-abbrev pub lives_in : Machine → ℕ → List ℕ
-lives_in m ep = numbers_at (end_at m ep)
 
 abbrev pub callback_numbers : List InCallback → List ℕ
 callback_numbers xs = map (λ x. x.n) xs
@@ -41,16 +38,16 @@ pub record IsPlaced (m : Machine) (called : List ℕ) : Type 0 where
   pub given : (n : ℕ) → n < m.handle.next → InOnePlace n m called
   pub not_given : (n : ℕ) → m.handle.next ≤ n → InNoPlace n m called
 
--- a number may move, from one endpoint on
-pub record Moves (n : ℕ) (m m' : Machine) (called called' : List ℕ) : Type 0 where
+-- a number may pass on from one endpoint
+pub record Passes (n : ℕ) (m m' : Machine) (called called' : List ℕ) : Type 0 where
   pub from : ℕ
-  pub once : times n called' + (times n (result_numbers m'.results) + times n (lives_in m' from)) ≡ times n called + (times n (result_numbers m.results) + times n (lives_in m from))
-  pub others : (ep : ℕ) → (from == ep) ≡ false → times n (lives_in m' ep) ≡ times n (lives_in m ep)
+  pub once : times n called' + (times n (result_numbers m'.results) + times n (lives_at m' from)) ≡ times n called + (times n (result_numbers m.results) + times n (lives_at m from))
+  pub others : (ep : ℕ) → (from == ep) ≡ false → times n (lives_at m' ep) ≡ times n (lives_at m ep)
   pub onward : times n called + times n (result_numbers m.results) ≤ times n called' + times n (result_numbers m'.results)
   pub out : times n (callback_numbers m'.handle.out) + times n called ≤ times n (callback_numbers m.handle.out) + times n called'
 
 -- it stays in one place
-one_place_kept : (n : ℕ) (m m' : Machine) (called called' : List ℕ) → Moves n m m' called called' → InOnePlace n m called → InOnePlace n m' called'
+one_place_kept : (n : ℕ) (m m' : Machine) (called called' : List ℕ) → Passes n m m' called called' → InOnePlace n m called → InOnePlace n m' called'
 one_place_kept n m m' called called' move p = by_home (move.from == p.home) refl
   where
     by_home : (b : Bool) → (move.from == p.home) ≡ b → InOnePlace n m' called'
@@ -58,14 +55,14 @@ one_place_kept n m m' called called' move p = by_home (move.from == p.home) refl
         let same : move.from ≡ p.home = eqb-true move.from p.home is in
         record {
           home = p.home;
-          once = subst (λ k. times n called' + (times n (result_numbers m'.results) + times n (lives_in m' k)) ≡ times n called + (times n (result_numbers m.results) + times n (lives_in m k))) same move.once ∙ p.once;
+          once = subst (λ k. times n called' + (times n (result_numbers m'.results) + times n (lives_at m' k)) ≡ times n called + (times n (result_numbers m.results) + times n (lives_at m k))) same move.once ∙ p.once;
           nowhere_else = λ ep other. move.others ep (subst (λ k. (k == ep) ≡ false) (sym same) other) ∙ p.nowhere_else ep other;
           in_callback = omega (arith, move.out, p.in_callback);
         }
     by_home false other =
-        let none : times n (lives_in m move.from) ≡ 0 = p.nowhere_else move.from (either_way p.home move.from ∙ other) in
-        let none_now : times n (lives_in m' move.from) ≡ 0 = omega (arith, move.once, move.onward, none) in
-        let here : times n (lives_in m' p.home) ≡ times n (lives_in m p.home) = move.others p.home other in
+        let none : times n (lives_at m move.from) ≡ 0 = p.nowhere_else move.from (either_way p.home move.from ∙ other) in
+        let none_now : times n (lives_at m' move.from) ≡ 0 = omega (arith, move.once, move.onward, none) in
+        let here : times n (lives_at m' p.home) ≡ times n (lives_at m p.home) = move.others p.home other in
         record {
           home = p.home;
           once = omega (arith, move.once, none, none_now, here, p.once);
@@ -73,14 +70,14 @@ one_place_kept n m m' called called' move p = by_home (move.from == p.home) refl
           in_callback = omega (arith, move.out, p.in_callback);
         }
       where
-        by_from : (ep : ℕ) → (p.home == ep) ≡ false → times n (lives_in m' move.from) ≡ 0 → (b : Bool) → (move.from == ep) ≡ b → times n (lives_in m' ep) ≡ 0
-        by_from ep elsewhere none_now true same = subst (λ k. times n (lives_in m' k) ≡ 0) (eqb-true move.from ep same) none_now
+        by_from : (ep : ℕ) → (p.home == ep) ≡ false → times n (lives_at m' move.from) ≡ 0 → (b : Bool) → (move.from == ep) ≡ b → times n (lives_at m' ep) ≡ 0
+        by_from ep elsewhere none_now true same = subst (λ k. times n (lives_at m' k) ≡ 0) (eqb-true move.from ep same) none_now
         by_from ep elsewhere none_now false differ = move.others ep differ ∙ p.nowhere_else ep elsewhere
 
 -- or in none
-no_place_kept : (n : ℕ) (m m' : Machine) (called called' : List ℕ) → Moves n m m' called called' → InNoPlace n m called → InNoPlace n m' called'
+no_place_kept : (n : ℕ) (m m' : Machine) (called called' : List ℕ) → Passes n m m' called called' → InNoPlace n m called → InNoPlace n m' called'
 no_place_kept n m m' called called' move p =
-    let gone : times n called' + (times n (result_numbers m'.results) + times n (lives_in m' move.from)) ≡ 0 = omega (arith, move.once, p.uncalled, p.no_result, p.not_in_progress move.from) in
+    let gone : times n called' + (times n (result_numbers m'.results) + times n (lives_at m' move.from)) ≡ 0 = omega (arith, move.once, p.uncalled, p.no_result, p.not_in_progress move.from) in
     record {
       uncalled = omega (arith, gone);
       no_result = omega (arith, gone);
@@ -88,28 +85,28 @@ no_place_kept n m m' called called' move p =
       in_no_callback = omega (arith, gone, move.out, p.uncalled, p.in_no_callback);
     }
   where
-    by_from : (ep : ℕ) → times n (lives_in m' move.from) ≡ 0 → (b : Bool) → (move.from == ep) ≡ b → times n (lives_in m' ep) ≡ 0
-    by_from ep none true same = subst (λ k. times n (lives_in m' k) ≡ 0) (eqb-true move.from ep same) none
+    by_from : (ep : ℕ) → times n (lives_at m' move.from) ≡ 0 → (b : Bool) → (move.from == ep) ≡ b → times n (lives_at m' ep) ≡ 0
+    by_from ep none true same = subst (λ k. times n (lives_at m' k) ≡ 0) (eqb-true move.from ep same) none
     by_from ep none false differ = move.others ep differ ∙ p.not_in_progress ep
 
-placed_if_moves : (m m' : Machine) (called called' : List ℕ) → m'.handle.next ≡ m.handle.next → ((n : ℕ) → Moves n m m' called called') → IsPlaced m called → IsPlaced m' called'
+placed_if_moves : (m m' : Machine) (called called' : List ℕ) → m'.handle.next ≡ m.handle.next → ((n : ℕ) → Passes n m m' called called') → IsPlaced m called → IsPlaced m' called'
 placed_if_moves m m' called called' same moves p = record {
   given = λ n lt. one_place_kept n m m' called called' (moves n) (p.given n (omega (arith, lt, same)));
   not_given = λ n le. no_place_kept n m m' called called' (moves n) (p.not_given n (omega (arith, le, same)));
 }
 
 -- a number is given: it is in progress at its endpoint
-placed_if_submits : (m m' : Machine) (called : List ℕ) (ep : ℕ) → m'.handle.next ≡ m.handle.next + 1 → m'.results ≡ m.results → lives_in m' ep ≡ lives_in m ep ++ m.handle.next ∷ []
-    → ((at : ℕ) → (ep == at) ≡ false → lives_in m' at ≡ lives_in m at) → ((n : ℕ) → times n (callback_numbers m'.handle.out) ≤ times n (callback_numbers m.handle.out)) → IsPlaced m called → IsPlaced m' called
+placed_if_submits : (m m' : Machine) (called : List ℕ) (ep : ℕ) → m'.handle.next ≡ m.handle.next + 1 → m'.results ≡ m.results → lives_at m' ep ≡ lives_at m ep ++ m.handle.next ∷ []
+    → ((at : ℕ) → (ep == at) ≡ false → lives_at m' at ≡ lives_at m at) → ((n : ℕ) → times n (callback_numbers m'.handle.out) ≤ times n (callback_numbers m.handle.out)) → IsPlaced m called → IsPlaced m' called
 placed_if_submits m m' called ep next results here others fewer p = record {
   given = λ n lt. by_number n (m.handle.next == n) refl (omega (arith, lt, next));
   not_given = λ n le. no_place_kept n m m' called called (moves n (λ q. omega (arith, q, le, next))) (p.not_given n (omega (arith, le, next)));
 }
   where
-    times_here : (n : ℕ) → times n (lives_in m' ep) ≡ times n (lives_in m ep) + times n (m.handle.next ∷ [])
-    times_here n = ap (times n) here ∙ times-append n (lives_in m ep) (m.handle.next ∷ [])
+    times_here : (n : ℕ) → times n (lives_at m' ep) ≡ times n (lives_at m ep) + times n (m.handle.next ∷ [])
+    times_here n = ap (times n) here ∙ times-append n (lives_at m ep) (m.handle.next ∷ [])
 
-    moves : (n : ℕ) → (m.handle.next ≡ n → ⊥) → Moves n m m' called called
+    moves : (n : ℕ) → (m.handle.next ≡ n → ⊥) → Passes n m m' called called
     moves n differ = record {
       from = ep;
       once = rw results (omega (arith, times_here n, times_none n m.handle.next differ));
@@ -133,7 +130,7 @@ placed_if_submits m m' called ep next results here others fewer p = record {
         one_place_kept n m m' called called (moves n differ) (p.given n (omega (arith, lt, differ)))
 
 -- where no work is done, the numbers in progress stay
-lives_rest : (setup : Setup) (ep : ℕ) (m m' : Machine) (step : Step) → Rests setup ep m m' step → lives_in m' ep ≡ lives_in m ep
+lives_rest : (setup : Setup) (ep : ℕ) (m m' : Machine) (step : Step) → Rests setup ep m m' step → lives_at m' ep ≡ lives_at m ep
 unfolding live_numbers fresh
 lives_rest setup ep m m' step (inl s) = ap numbers_at s.end
 lives_rest setup ep m m' step (inr r) = new (end_at m' ep) r.end ∙ sym (idle (end_at m ep) r.idle.no_line)
