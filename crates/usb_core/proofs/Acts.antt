@@ -140,11 +140,21 @@ same_device setup m ep e step handle d (submits (again g k x lent) is fine short
 same_device setup m ep e step handle d (submits (again_with g k bytes x lent) is fine short) = refl
 same_device setup m ep e step handle d _ = refl
 
--- where the endpoint is set
+-- the endpoint that is set, and its pieces of the lists
 pub end_set : (setup : Setup) (m : Machine) (ep : ℕ) (e : Endpoint) (step : Step) (handle : Handle) (d : Doing) → end_at m ep ≡ Some e → IsWork setup m ep e step handle d
     → end_at (machine_after setup m step (doing_at handle (device_of m) ep d)) ep ≡ Some d.endpoint
 unfolding machine_after doing_at
 end_set setup m ep e step handle d here work = rw (same_device setup m ep e step handle d work) (sets_here setup m.ends m.handle.device ep e d.endpoint here)
+
+pub orders_set : (setup : Setup) (m : Machine) (step : Step) (ep : ℕ) (handle : Handle) (d : Doing)
+    → errands_of ep (machine_after setup m step (doing_at handle (device_of m) ep d)).orders ≡ errands_of ep (past_first (takes_order step) m.orders) ++ d.orders
+unfolding machine_after doing_at
+orders_set setup m step ep handle d = posts-append _ _ ep (past_first (takes_order step) m.orders) _ ∙ ap (λ l. errands_of ep (past_first (takes_order step) m.orders) ++ l) (errands_of-at ep d.orders)
+
+pub news_set : (setup : Setup) (m : Machine) (step : Step) (ep : ℕ) (handle : Handle) (d : Doing)
+    → events_of ep (machine_after setup m step (doing_at handle (device_of m) ep d)).news ≡ events_of ep (past_first (takes_news step) m.news) ++ d.news
+unfolding machine_after doing_at
+news_set setup m step ep handle d = posts-append _ _ ep (past_first (takes_news step) m.news) _ ∙ ap (λ l. events_of ep (past_first (takes_news step) m.news) ++ l) (events_of-at ep d.news)
 
 works_here : (setup : Setup) (m : Machine) (step : Step) (handle : Handle) (d : Doing) (ep : ℕ) (e : Endpoint) → end_at m ep ≡ Some e → IsWork setup m ep e step handle d
     → Worked setup ep m (machine_after setup m step (doing_at handle (device_of m) ep d)) step
@@ -156,8 +166,8 @@ works_here setup m step handle d ep e here work = record {
   work = work;
   here = here;
   end = end_set setup m ep e step handle d here work;
-  orders = posts-append _ _ ep (past_first (takes_order step) m.orders) _ ∙ ap (λ l. errands_of ep (past_first (takes_order step) m.orders) ++ l) (errands_of-at ep d.orders);
-  news = posts-append _ _ ep (past_first (takes_news step) m.news) _ ∙ ap (λ l. events_of ep (past_first (takes_news step) m.news) ++ l) (events_of-at ep d.news);
+  orders = orders_set setup m step ep handle d;
+  news = news_set setup m step ep handle d;
 }
 
 pub works_elsewhere : (setup : Setup) (m : Machine) (step : Step) (handle : Handle) (d : Doing) (ep : ℕ) (e : Endpoint) → IsWork setup m ep e step handle d

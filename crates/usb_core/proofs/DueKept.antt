@@ -1,4 +1,4 @@
--- A submission and a further ask leave an asked transfer what is left to it.
+-- A submission, a further ask and a halt that is cleared leave an asked transfer what is left to it.
 use Rattle.std.proofs.Common.{Bool, List, None, Option, Some, [], ap, append-nil, false, inl, inr, map, refl, suc, sym, true, ℕ, ◌++◌, ◌==◌, ◌∙◌, ◌∷◌, ◌≡◌}
 use Rattle.std.specs.Prelude.{if◌then◌else◌, is_some}
 use Rattle.usb_model.specs.declared.errand.Errand.{Errand}
@@ -36,6 +36,10 @@ pub due_submit : (n c d : ℕ) (e : Endpoint) (k : ℕ) (request : Request) (rou
 due_submit n c d e k request round os ns due =
     let p = here-push n e.line (new_item k request round) due.item due.here in
     record { coherent = coherent_submit e k request round os ns due.coherent; item = due.item; here = p.0; asked = due.asked; bound = rw p.1 due.bound }
+
+-- a halt that is cleared is nothing to it
+pub due_clear : (n c d : ℕ) (e : Endpoint) (os : List Errand) (ns : List Event) → IsDue n c d e os ns → IsDue n c d (record e { halted = false }) os ns
+due_clear n c d e os ns due = record { coherent = due.coherent; item = due.item; here = due.here; asked = due.asked; bound = due.bound }
 
 -- an ask leaves each item where it is
 pub here-with_ask : (n k : ℕ) (ask : Ask) (line : List Item) (i : Item) → in_progress n line ≡ Some i

@@ -9,6 +9,7 @@ pub mod Well
 pub mod Placed
 pub mod Runs
 pub mod Gone
+pub mod DueSteps
 pub mod Due
 pub mod DueMore
 pub mod DueServe

@@ -129,19 +129,21 @@ placed_if_submits m m' called ep next results here others fewer p = record {
         let differ : m.handle.next ≡ n → ⊥ = eqb-false m.handle.next n other in
         one_place_kept n m m' called called (moves n differ) (p.given n (omega (arith, lt, differ)))
 
+-- an empty line has none in progress
+pub none_idle : (o : Option Endpoint) → line_at o ≡ [] → numbers_at o ≡ []
+unfolding live_numbers
+none_idle None e = refl
+none_idle (Some x) e = rw e refl
+
+none_new : (setup : Setup) (ep : ℕ) (o : Option Endpoint) → IsNewOrGone setup ep o → numbers_at o ≡ []
+unfolding live_numbers fresh
+none_new setup ep o (inl e) = rw e refl
+none_new setup ep o (inr e) = rw e.1 refl
+
 -- where no work is done, the numbers in progress stay
 lives_rest : (setup : Setup) (ep : ℕ) (m m' : Machine) (step : Step) → Rests setup ep m m' step → lives_at m' ep ≡ lives_at m ep
-unfolding live_numbers fresh
 lives_rest setup ep m m' step (inl s) = ap numbers_at s.end
-lives_rest setup ep m m' step (inr r) = new (end_at m' ep) r.end ∙ sym (idle (end_at m ep) r.idle.no_line)
-  where
-    idle : (o : Option Endpoint) → line_at o ≡ [] → numbers_at o ≡ []
-    idle None e = refl
-    idle (Some x) e = rw e refl
-
-    new : (o : Option Endpoint) → IsNewOrGone setup ep o → numbers_at o ≡ []
-    new o (inl e) = rw e refl
-    new o (inr e) = rw e.1 refl
+lives_rest setup ep m m' step (inr r) = none_new setup ep (end_at m' ep) r.end ∙ sym (none_idle (end_at m ep) r.idle.no_line)
 
 -- a step that makes no result and calls nobody
 placed_rests : (setup : Setup) (m m' : Machine) (step : Step) (called : List ℕ) → m'.handle.next ≡ m.handle.next → m'.results ≡ m.results → ((n : ℕ) → times n (callback_numbers m'.handle.out) ≤ times n (callback_numbers m.handle.out))

@@ -48,11 +48,11 @@ pub first_news : (ep : ℕ) (event : Event) (xs ns : List News) → xs ≡ recor
 first_news ep event xs ns is = rw (is, same_name ep) (refl, refl)
 
 -- an ask, and a submission, take nothing
-ask_takes : (m : Machine) (step : Step) (n : ℕ) (ask : Ask) → IsAsk step n ask → TakesNone m step
+pub ask_takes : (m : Machine) (step : Step) (n : ℕ) (ask : Ask) → IsAsk step n ask → TakesNone m step
 ask_takes m step n ask (cancels g k) = takes_none m (Cancel g k) refl refl refl
 ask_takes m step n ask (expires g k) = takes_none m (Expire g k) refl refl refl
 
-submission_takes : (m : Machine) (step : Step) (handle : Handle) (request : Request) (round : ℕ) → IsSubmission m.handle step handle request round → TakesNone m step
+pub submission_takes : (m : Machine) (step : Step) (handle : Handle) (request : Request) (round : ℕ) → IsSubmission m.handle step handle request round → TakesNone m step
 submission_takes m step handle request round (anew g r) = takes_none m (Submit g r) refl refl refl
 submission_takes m step handle request round (again g k x lent) = takes_none m (Answer g k Again) refl refl refl
 submission_takes m step handle request round (again_with g k bytes x lent) = takes_none m (Answer g k (AgainWith bytes)) refl refl refl
@@ -68,7 +68,7 @@ abbrev pub IsCoherentAt : ℕ → Machine → Endpoint → Type 0
 IsCoherentAt ep m e = IsCoherent e (errands_of ep m.orders) (events_of ep m.news)
 
 -- what has to be known of work that takes nothing is known before it
-nothing_taken : (P : List Errand → List Event → Type 0) (ep : ℕ) (m : Machine) (step : Step) → TakesNone m step → P (errands_of ep m.orders) (events_of ep m.news) → P (errands_behind ep m step) (events_behind ep m step)
+pub nothing_taken : (P : List Errand → List Event → Type 0) (ep : ℕ) (m : Machine) (step : Step) → TakesNone m step → P (errands_of ep m.orders) (events_of ep m.news) → P (errands_behind ep m step) (events_behind ep m step)
 nothing_taken P ep m step t p = subst₂ P (ap (errands_of ep) (sym t.orders)) (ap (events_of ep) (sym t.news)) p
 
 pub coherent_work : (setup : Setup) (m : Machine) (ep : ℕ) (e : Endpoint) (step : Step) (handle : Handle) (d : Doing) → IsWork setup m ep e step handle d → IsCoherentAt ep m e → LeavesCoherent d (errands_behind ep m step) (events_behind ep m step)

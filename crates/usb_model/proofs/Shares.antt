@@ -89,7 +89,7 @@ IsWhole request size (In n) xs ps = IsRead n size xs ps
 IsWhole request size (Out bytes) xs ps = IsSent (packets_by request size (Out bytes)) xs ps
 
 -- that is all that leaves it open
-some_same : {A : Type 0} (x y : A) → ◌≡◌ {A = Option A} (Some x) (Some y) → x ≡ y
+pub some_same : {A : Type 0} (x y : A) → ◌≡◌ {A = Option A} (Some x) (Some y) → x ≡ y
 some_same x y e = cc
 
 ended_open : (o : Outcome) (ps : List (List ℕ)) (code : ℕ) → ◌≡◌ {A = Option Outcome} (Some (ended_with ps code)) (Some o) → o.code ≡ None → ⊥
