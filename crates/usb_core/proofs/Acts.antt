@@ -178,11 +178,11 @@ works_elsewhere setup m step handle d ep e work at other =
     record {
       end = rw (same_device setup m ep e step handle d work) (sets_other setup m.ends m.handle.device ep at d.endpoint other);
       lists = record {
-          orders = posts-append _ _ at (past_first (takes_order step) m.orders) _ ∙ (ap₂ (λ a b. a ++ b) w.0 (errands_of-other at ep d.orders other) ∙ append-nil (errands_of at m.orders));
-          news = posts-append _ _ at (past_first (takes_news step) m.news) _ ∙ (ap₂ (λ a b. a ++ b) w.1 (events_of-other at ep d.news other) ∙ append-nil (events_of at m.news));
-          commands = w.2;
-          delivers = w.3;
-        };
+        orders = posts-append _ _ at (past_first (takes_order step) m.orders) _ ∙ (ap₂ (λ a b. a ++ b) w.0 (errands_of-other at ep d.orders other) ∙ append-nil (errands_of at m.orders));
+        news = posts-append _ _ at (past_first (takes_news step) m.news) _ ∙ (ap₂ (λ a b. a ++ b) w.1 (events_of-other at ep d.news other) ∙ append-nil (events_of at m.news));
+        commands = w.2;
+        delivers = w.3;
+      };
     }
 
 takes_acts : (setup : Setup) (h : ℕ) (m : Machine) (x : TransferResult) (xs : List TransferResult) (ep : ℕ) → RestsBy setup m Take (take_it h m (x ∷ xs)) ep
@@ -219,8 +219,8 @@ rests_at setup h m step done ep well (closes g idle) = frees_acts setup m (Close
 rests_at setup h m step done ep well (claims g i opened free) =
     stays_or setup m (Claim g i) (Gains (device_of m) i) ep (is_within setup (device_of m) i) (λ d e. Some (fresh setup d e)) (takes_none m (Claim g i) refl refl refl) (λ d e. refl) (λ d. inr (d, refl))
     (λ d is within.
-        let same : device_of m ≡ d = ap (λ o. unwrap_or o 0) is in
-        idle_if_none ep m (ap (option_and_then (λ k. m.ends k ep)) is ∙ not_held setup m d i ep well (subst (λ k. m.held k i ≡ false) same free) (subst (λ k. is_within setup k i d ep ≡ true) same within)) (well.fits ep))
+    let same : device_of m ≡ d = ap (λ o. unwrap_or o 0) is in
+    idle_if_none ep m (ap (option_and_then (λ k. m.ends k ep)) is ∙ not_held setup m d i ep well (subst (λ k. m.held k i ≡ false) same free) (subst (λ k. is_within setup k i d ep ≡ true) same within)) (well.fits ep))
 rests_at setup h m step done ep well (releases g i idle) =
     stays_or setup m (Release g i) (Drops (device_of m) i) ep (is_within setup (device_of m) i) (λ d e. None) (takes_none m (Release g i) refl refl refl) (λ d e. refl) (λ d. inl refl)
     (λ d is within. idle ep (subst (λ k. is_within setup (device_of m) i k ep ≡ true) (sym (ap (λ o. unwrap_or o 0) is)) within))

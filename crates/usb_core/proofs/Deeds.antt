@@ -239,7 +239,6 @@ close_done setup h m g well =
     let t = takes_none m (Close g) refl refl refl in
     done_if setup h m _ _ _ _ t (λ p. done_if setup h m _ _ _ _ t (λ quiet. only_rests (closes g (λ ep. quiet_idle setup m (λ x. true) ep well (not-false (are_quiet setup m (λ x. true)) quiet) (λ s e. refl)))))
 
-
 claim_done : (setup : Setup) (h : ℕ) (m : Machine) (g i : ℕ) → IsDone setup h m (Claim g i) (claim_it setup m i)
 unfolding claim_it
 claim_done setup h m g i =

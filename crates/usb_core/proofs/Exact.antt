@@ -80,9 +80,11 @@ lives-line_after k code line = by_test (halts code)
 
 -- the transfer whose end is told is the first in progress, and has one result
 exact_finished : (size ep : ℕ) (gone : Bool) (e : Endpoint) (k code : ℕ) → EndsFirst e.line k code → IsExact e (deliver size ep gone e (Finished k code))
-exact_finished size ep gone e k code f = record { exact = λ n.
-    rw (line-finished size ep gone e k code, results-finished size ep gone e k code, f.found, lives-line_after k code e.line, f.number)
-    (omega (arith, times-cons n k [], times-cons n k (live_numbers (past_number k e.line)), ap (times n) f.lives)) }
+exact_finished size ep gone e k code f = record {
+  exact = λ n.
+      rw (line-finished size ep gone e k code, results-finished size ep gone e k code, f.found, lives-line_after k code e.line, f.number)
+      (omega (arith, times-cons n k [], times-cons n k (live_numbers (past_number k e.line)), ap (times n) f.lives));
+}
 
 -- the first piece of news is handled
 pub exact_deliver : (size ep : ℕ) (gone : Bool) (e : Endpoint) (event : Event) (os : List Errand) (ns : List Event) → IsCoherent e os (event ∷ ns) → IsExact e (deliver size ep gone e event)

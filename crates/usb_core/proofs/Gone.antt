@@ -40,6 +40,15 @@ gone_moves h n ep m m' reply (inr (inl s)) g = record { behind = omega (arith, s
     by_test false other = ap (λ o. times n (numbers_at o)) (s.others ep other) ∙ g.none
 gone_moves h n ep m m' reply (inr (inr t)) g = record { behind = omega (arith, t.next, g.behind); none = ap (λ o. times n (numbers_at o)) (t.others ep) ∙ g.none }
 
+-- numbers go on
+next_moves : (h : ℕ) (m m' : Machine) (reply : Reply) → Moves h m m' reply → m.handle.next ≤ m'.handle.next
+next_moves h m m' reply (inl w) = omega (arith, w.next)
+next_moves h m m' reply (inr (inl s)) = omega (arith, s.next)
+next_moves h m m' reply (inr (inr t)) = omega (arith, t.next)
+
+pub next_rises : (setup : Setup) (h n : ℕ) (m : Machine) (step : Step) → n < m.handle.next → n < (machine_after setup m step (effect setup h m step)).handle.next
+next_rises setup h n m step lt = omega (arith, lt, next_moves h m _ _ (moves setup h m step))
+
 pub gone_kept : (setup : Setup) (h n ep : ℕ) (m : Machine) (step : Step) → IsGone n ep m → IsGone n ep (machine_after setup m step (effect setup h m step))
 gone_kept setup h n ep m step g = gone_moves h n ep m _ _ (moves setup h m step) g
 
@@ -55,6 +64,18 @@ pub gone_from : (setup : Setup) (h n ep : ℕ) (w : World) (steps : List Step) �
 unfolding world_from
 gone_from setup h n ep w [] g = g
 gone_from setup h n ep w (step ∷ steps) g = gone_from setup h n ep (turn setup w step).world steps (gone_turn setup h n ep w step g)
+
+next_turn : (setup : Setup) (h n : ℕ) (w : World) (step : Step) → n < (machine_of setup h w).handle.next → n < (machine_of setup h (turn setup w step).world).handle.next
+next_turn setup h n w step lt = by_turn (turn_to setup h w step)
+  where
+    by_turn : IsEither setup h w step (turn setup w step) → n < (machine_of setup h (turn setup w step).world).handle.next
+    by_turn (inl own) = subst (λ m. n < m.handle.next) (sym own.3) (next_rises setup h n (machine_of setup h w) step lt)
+    by_turn (inr nothing) = subst (λ m. n < m.handle.next) (sym nothing.1) lt
+
+pub next_from : (setup : Setup) (h n : ℕ) (w : World) (steps : List Step) → n < (machine_of setup h w).handle.next → n < (machine_of setup h (world_from setup w steps)).handle.next
+unfolding world_from
+next_from setup h n w [] lt = lt
+next_from setup h n w (step ∷ steps) lt = next_from setup h n (turn setup w step).world steps (next_turn setup h n w step lt)
 
 -- what is in progress is among the numbers in progress, and what is not is not
 pub live_times : (n : ℕ) (o : Option Endpoint) → has_live n o ≡ true → 1 ≤ times n (numbers_at o)

@@ -10,6 +10,7 @@ pub mod Placed
 pub mod Runs
 pub mod Gone
 pub mod DueSteps
+pub mod AskedEnds
 pub mod Due
 pub mod DueMore
 pub mod DueServe

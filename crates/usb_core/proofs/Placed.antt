@@ -25,7 +25,7 @@ use Rattle.usb_core.proofs.Exact.{IsExact, exact_ask, exact_command, exact_deliv
 use Rattle.usb_core.proofs.Posts.{errands_of, events_of}
 use Rattle.usb_core.proofs.Well.{first_news}
 use Rattle.usb_model.proofs.Errands.{IsCoherent}
-use Rattle.usb_model.proofs.Lines.{lives-push, no_result, result_numbers}
+use Rattle.usb_model.proofs.Lines.{lives-push, result_numbers}
 use Rattle.usb_model.proofs.Moves.{lives_at, moves}
 use Rattle.usb_model.proofs.Pieces.{either_way}
 use Rattle.usb_model.proofs.Replies.{asks_told, command_told, deliver_told, serve_told, told_plain}

@@ -13,7 +13,6 @@ use Rattle.usb_core.proofs.Deeds.{IsWell, is_done}
 use Rattle.usb_core.proofs.Placed.{IsPlaced, called_by, placed_after}
 use Rattle.usb_core.proofs.Well.{well_kept, well_new}
 use Rattle.usb_model.proofs.Isolation.{IsEither, effect_to, entries_from, entries_less, entries_more, new_machine_of, turn_to}
-use Rattle.usb_model.proofs.Lines.{no_result}
 
 -- what holds of a handle's machine after these calls
 pub record IsKept (setup : Setup) (m : Machine) (called : List ℕ) : Type 0 where
@@ -33,9 +32,9 @@ unfolding new_machine
 kept_new setup = record {
   well = well_new setup;
   placed = record {
-      given = λ n lt. absurd (omega arith);
-      not_given = λ n le. record { uncalled = refl; no_result = refl; not_in_progress = λ ep. refl; in_no_callback = refl };
-    };
+    given = λ n lt. absurd (omega arith);
+    not_given = λ n le. record { uncalled = refl; no_result = refl; not_in_progress = λ ep. refl; in_no_callback = refl };
+  };
 }
 
 numbers_called-cons : (x : Entry) (xs : List Entry) → numbers_called (x ∷ xs) ≡ called_by x.reply ++ numbers_called xs

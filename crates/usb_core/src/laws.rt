@@ -1,1 +1,18 @@
-//! What holds of every run, whatever the steps are.
+//! What holds of every run, whatever the steps are. Each is a law over definitions, the contract of a function with an
+//! empty body.
+
+ghost use Rattle.std.specs.Prelude.{ℕ, List};
+ghost use Rattle.usb_model.specs.declared.step.Step.{Step};
+ghost use Rattle.usb_model.specs.Bound.{AskedEnds};
+ghost use Rattle.usb_model.specs.Places.{KeepsPlaces};
+ghost use Rattle.usb_model.specs.Setup.{Setup};
+
+/// Each transfer of a handle is in one place: none is lost, and none is doubled.
+pub fn places()
+    ensures { (setup : Setup) (steps : List Step) (h : ℕ) → KeepsPlaces setup steps h }
+{}
+
+/// A transfer that is asked to end, ends: by the seventeenth Deliver of its endpoint its one result is made.
+pub fn asked_ends()
+    ensures { (setup : Setup) (steps : List Step) (h : ℕ) → AskedEnds setup steps h }
+{}
