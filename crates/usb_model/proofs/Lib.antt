@@ -14,3 +14,5 @@ pub mod Moves
 pub mod Shares
 pub mod More
 pub mod Errands
+pub mod Next
+pub mod Cuts
