@@ -1,3 +1,4 @@
+pub mod Lists
 pub mod Posts
 pub mod Doings
 pub mod Coherent
@@ -11,6 +12,7 @@ pub mod Runs
 pub mod Gone
 pub mod DueSteps
 pub mod AskedEnds
+pub mod Ledger
 pub mod Due
 pub mod DueMore
 pub mod DueServe
