@@ -13,6 +13,7 @@ pub mod Gone
 pub mod DueSteps
 pub mod AskedEnds
 pub mod Ledger
+pub mod LedgerCut
 pub mod Due
 pub mod DueMore
 pub mod DueServe
