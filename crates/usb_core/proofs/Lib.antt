@@ -14,6 +14,7 @@ pub mod DueSteps
 pub mod AskedEnds
 pub mod Ledger
 pub mod LedgerCut
+pub mod LedgerRows
 pub mod Due
 pub mod DueMore
 pub mod DueServe
