@@ -1,5 +1,5 @@
 -- One row of a ledger is replaced, and what is told of the others stays.
-use Rattle.std.proofs.Common.{Bool, List, Option, [], ap, append-nil, append_assoc, ap₂, arith, false, inl, inr, map, refl, sym, ℕ, ◌++◌, ◌<◌, ◌==◌, ◌||◌, ◌∙◌, ◌∷◌, ◌≡◌, ◌≤◌, ◌⊎◌}
+use Rattle.std.proofs.Common.{Bool, List, Option, [], ap, append-nil, append_assoc, ap₂, arith, false, inl, inr, map, refl, subst, sym, ℕ, ◌++◌, ◌+◌, ◌<◌, ◌==◌, ◌||◌, ◌∙◌, ◌∷◌, ◌≡◌, ◌≤◌, ◌⊎◌}
 use Rattle.std.proofs.lemmas.Bool.{cases_lt, ne_eqb}
 use Rattle.std.proofs.lemmas.Grind.{flat_map-append}
 use Rattle.std.proofs.lemmas.List.{map-append}
@@ -7,13 +7,15 @@ use Rattle.std.proofs.lemmas.List.Elements.{filter-append}
 use Rattle.std.specs.List.{filter, flat_map}
 use Rattle.usb_model.specs.declared.answer.Answer.{Answer}
 use Rattle.usb_model.specs.declared.plain.item.Ask.{Ask}
+use Rattle.usb_model.specs.declared.plain.item.Item.{Item}
 use Rattle.usb_model.specs.declared.plain.item.ItemState.{ItemState}
 use Rattle.usb_model.specs.Account.{Accepted, Account, Asked, End, Made}
-use Rattle.usb_model.specs.Cut.{AllFit, Cell, Cleared, Ended, Fate, Of, Part, Waits, Withdrawn, asks_of, has_stall, made_of, parts_of, times}
+use Rattle.usb_model.specs.Cut.{AllFit, AreDistinct, Cell, Cleared, Ended, Fate, FitsFate, Of, Part, Waits, Withdrawn, asks_of, has_stall, made_of, parts_of, times}
 use Rattle.usb_model.specs.Endpoint.{fresh}
-use Rattle.usb_core.proofs.Ledger.{GoneTold, GoneToldBy, IsFresh, IsRow, Row, RowToldBy, all_cells, all_parts, cell_of, numbers, part_of, stalled}
-use Rattle.usb_core.proofs.Lists.{Each, each_apart}
+use Rattle.usb_core.proofs.Ledger.{GoneTold, GoneToldBy, Holds, IsFresh, IsQuiet, IsRow, Row, RowToldBy, all_cells, all_parts, cell_of, numbers, part_of, stalled}
+use Rattle.usb_core.proofs.Lists.{Each, distinct_mid, each_apart, each_behind, each_front, times_here}
 use Rattle.usb_model.proofs.Lines.{no_result}
+use Rattle.usb_model.proofs.Times.{times-append}
 
 -- an account with more in each list
 abbrev pub with_more : Account → List Accepted → List Asked → List End → List Made → Account
@@ -96,8 +98,8 @@ row_told_kept size k a a' r s differ Waits t = (s.made r.item.n differ ∙ t.0, 
 row_told_kept size k a a' r s differ (Ended code gone) t = s.made r.item.n differ ∙ t
 row_told_kept size k a a' r s differ (Withdrawn ask) t = (t.0, s.made r.item.n differ ∙ t.1, s.asked r.item.n differ ∙ t.2)
 
-pub gone_kept : (size k : ℕ) (a a' : Account) (gone : List Part) → TellsSame k a a' → times k (numbers gone) ≡ 0 → Each (GoneTold size a) gone → Each (GoneTold size a') gone
-gone_kept size k a a' gone s none t = each_apart (GoneTold size a) (GoneTold size a') (λ x. x.n) k gone none (λ x differ told. gone_told_kept size k a a' x s differ x.fate told) t
+pub parts_kept : (size k : ℕ) (a a' : Account) (gone : List Part) → TellsSame k a a' → times k (numbers gone) ≡ 0 → Each (GoneTold size a) gone → Each (GoneTold size a') gone
+parts_kept size k a a' gone s none t = each_apart (GoneTold size a) (GoneTold size a') (λ x. x.n) k gone none (λ x differ told. gone_told_kept size k a a' x s differ x.fate told) t
 
 row_number : (rows : List Row) → numbers (map part_of rows) ≡ map (λ r. r.item.n) rows
 row_number [] = refl
@@ -120,3 +122,59 @@ fresh_kept k next a a' ps ps' lt s same fresh n le =
     let f = fresh n le in
     let differ : n ≡ k → ⊥ = λ e. omega (arith, e, le, lt) in
     record { no_part = ap (times n) same ∙ f.no_part; no_result = s.made n differ ∙ f.no_result; no_ask = s.asked n differ ∙ f.no_ask }
+
+-- the numbers of a row and of the others differ
+pub row_apart : (gone : List Cell) (front back : List Row) (r : Row) → AreDistinct (numbers (all_parts gone (front ++ r ∷ back)))
+    → (times r.item.n (numbers (flat_map parts_of gone)) ≡ 0) × (times r.item.n (numbers (map part_of front)) ≡ 0) × (times r.item.n (numbers (map part_of back)) ≡ 0)
+row_apart gone front back r d =
+    let k : ℕ = r.item.n in
+    let before : List ℕ = numbers (all_parts gone front) in
+    let mid : numbers (all_parts gone (front ++ r ∷ back)) ≡ before ++ k ∷ numbers (map part_of back) = ap numbers (parts_mid gone front back r) ∙ map-append (λ x. x.n) (all_parts gone front) (part_of r ∷ map part_of back) in
+    let p = distinct_mid k before (numbers (map part_of back)) (subst AreDistinct mid d) in
+    let parts : before ≡ numbers (flat_map parts_of gone) ++ numbers (map part_of front) = map-append (λ x. x.n) (flat_map parts_of gone) (map part_of front) in
+    let both : times k (numbers (flat_map parts_of gone)) + times k (numbers (map part_of front)) ≡ 0 = omega (arith, p.0, ap (times k) parts, times-append k (numbers (flat_map parts_of gone)) (numbers (map part_of front))) in
+    (omega (arith, both), omega (arith, both), p.1)
+
+pub row_there : (gone : List Cell) (front back : List Row) (r : Row) → 1 ≤ times r.item.n (numbers (all_parts gone (front ++ r ∷ back)))
+row_there gone front back r =
+    let k : ℕ = r.item.n in
+    let before : List ℕ = numbers (all_parts gone front) in
+    let mid : numbers (all_parts gone (front ++ r ∷ back)) ≡ before ++ k ∷ numbers (map part_of back) = ap numbers (parts_mid gone front back r) ∙ map-append (λ x. x.n) (all_parts gone front) (part_of r ∷ map part_of back) in
+    omega (arith, ap (times k) mid, times-append k before (k ∷ numbers (map part_of back)), times_here k k (numbers (map part_of back)) refl)
+
+-- a ledger with a row in the middle
+pub record Mid (size : ℕ) (inward : Bool) (next : ℕ) (a : Account) (gone : List Cell) (rows front back : List Row) (r : Row) : Type 0 where
+  pub cells : all_cells gone rows ≡ all_cells gone front ++ cell_of r ∷ map cell_of back
+  pub parts : all_parts gone rows ≡ all_parts gone front ++ part_of r ∷ map part_of back
+  pub apart : (times r.item.n (numbers (flat_map parts_of gone)) ≡ 0) × (times r.item.n (numbers (map part_of front)) ≡ 0) × (times r.item.n (numbers (map part_of back)) ≡ 0)
+  pub below : r.item.n < next
+  pub front_rows : Each (IsRow size inward a) front
+  pub row : IsRow size inward a r
+  pub back_rows : Each (IsRow size inward a) back
+  pub front_fits : AllFit size false (all_cells gone front)
+  pub row_fits : FitsFate size (stalled false (all_cells gone front)) (part_of r) r.fate
+  pub back_fits : AllFit size (stalled false (all_cells gone front) || has_stall r.item.share) (map cell_of back)
+  pub quiet : IsQuiet (front ++ r ∷ back)
+
+pub mid_of : (size : ℕ) (inward : Bool) (next : ℕ) (script : List Answer) (a : Account) (line : List Item) (left : List Answer) (halted : Bool) (taken : List (List ℕ)) (front back : List Row) (r : Row)
+    (h : Holds size inward next script a line left halted taken) → h.rows ≡ front ++ r ∷ back → Mid size inward next a h.gone h.rows front back r
+mid_of size inward next script a line left halted taken front back r h is =
+    let cells : List Cell = all_cells h.gone front in
+    let was_cells : all_cells h.gone h.rows ≡ cells ++ cell_of r ∷ map cell_of back = ap (all_cells h.gone) is ∙ cells_mid h.gone front back r in
+    let was_rows : Each (IsRow size inward a) (front ++ r ∷ back) = subst (Each (IsRow size inward a)) is h.each_row in
+    let was_fit : AllFit size false (cells ++ cell_of r ∷ map cell_of back) = subst (AllFit size false) was_cells h.fits in
+    let rest_fit = fits_behind size false cells (cell_of r ∷ map cell_of back) was_fit in
+    let rest_rows = each_behind (IsRow size inward a) front (r ∷ back) was_rows in
+    record {
+      cells = was_cells;
+      parts = ap (all_parts h.gone) is ∙ parts_mid h.gone front back r;
+      apart = row_apart h.gone front back r (subst (λ l. AreDistinct (numbers (all_parts h.gone l))) is h.distinct);
+      below = below_next r.item.n next a (all_parts h.gone h.rows) h.fresh (subst (λ l. 1 ≤ times r.item.n (numbers (all_parts h.gone l))) (sym is) (row_there h.gone front back r));
+      front_rows = each_front (IsRow size inward a) front (r ∷ back) was_rows;
+      row = rest_rows.0;
+      back_rows = rest_rows.1;
+      front_fits = fits_front size false cells (cell_of r ∷ map cell_of back) was_fit;
+      row_fits = rest_fit.0;
+      back_fits = rest_fit.1;
+      quiet = subst IsQuiet is h.quiet;
+    }

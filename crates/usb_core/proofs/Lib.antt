@@ -15,6 +15,7 @@ pub mod AskedEnds
 pub mod Ledger
 pub mod LedgerCut
 pub mod LedgerRows
+pub mod LedgerWorks
 pub mod Due
 pub mod DueMore
 pub mod DueServe
