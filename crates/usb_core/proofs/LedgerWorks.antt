@@ -10,7 +10,7 @@ use Rattle.usb_model.specs.declared.plain.item.ItemState.{ItemState}
 use Rattle.usb_model.specs.declared.request.Body.TheVariants.{In, Out}
 use Rattle.usb_model.specs.declared.request.Body.{Body}
 use Rattle.usb_model.specs.Account.{Account, Asked, End, Made}
-use Rattle.usb_model.specs.Cut.{AllFit, AreDistinct, Cell, Ended, Fate, FitsFate, Part, Waits, Withdrawn, accepted_as, asks_of, end_of, has_stall, is_of_direction, made_of, packets_taken, packets_taken_by, parts_of}
+use Rattle.usb_model.specs.Cut.{AllFit, AreDistinct, Cell, Ended, Fate, FitsFate, Part, Waits, Withdrawn, accepted_as, asks_of, end_of, has_stall, is_of_direction, made_of, packets_taken, packets_taken_by, parts_of, told}
 use Rattle.usb_model.specs.Endpoint.{fresh, is_blank_state, is_waiting, is_waiting_state}
 use Rattle.usb_model.specs.Packets.{open_with, outcome}
 use Rattle.usb_core.proofs.Ledger.{Holds, IsFate, IsQuiet, IsRow, IsUntouched, Row, RowToldBy, all_cells, all_parts, cell_of, item_of, numbers, part_of, quiet_by, stalled}
@@ -118,7 +118,7 @@ untouched_ends : (rows : List Row) → Each IsUntouched rows → flat_map (λ x.
 untouched_ends [] u = refl
 untouched_ends (r ∷ rows) u = ap₂ (λ k l. k ++ l) u.0.1 (untouched_ends rows u.1)
 
-no_packets : (size : ℕ) (x : Part) → x.share ≡ [] → packets_taken size x ≡ []
+pub no_packets : (size : ℕ) (x : Part) → x.share ≡ [] → packets_taken size x ≡ []
 no_packets size x none = by_body x.request.body
   where
     by_body : (body : Body) → packets_taken_by size x body ≡ []
@@ -138,14 +138,14 @@ all_untouched_fit : (size : ℕ) (behind : Bool) (rows : List Row) → Each IsUn
 all_untouched_fit size behind [] u = tt
 all_untouched_fit size behind (r ∷ rows) u = (untouched_fits size behind r u.0.0 r.fate u.0.1, all_untouched_fit size (behind || has_stall r.item.share) rows u.1)
 
+pub or_no : (b : Bool) → (b || false) ≡ b
+or_no true = refl
+or_no false = refl
+
 untouched_flag : (behind : Bool) (rows : List Row) → Each IsUntouched rows → stalled behind (map cell_of rows) ≡ behind
 untouched_flag behind [] u = refl
 untouched_flag behind (r ∷ rows) u =
     untouched_flag (behind || has_stall r.item.share) rows u.1 ∙ (ap (λ l. behind || has_stall l) u.0.0 ∙ or_no behind)
-  where
-    or_no : (b : Bool) → (b || false) ≡ b
-    or_no true = refl
-    or_no false = refl
 
 -- a beginning of which none waits
 quiet_front : (front rows : List Row) → Each (λ r. is_waiting r.item ≡ false) front → IsQuiet rows → IsQuiet (front ++ rows)

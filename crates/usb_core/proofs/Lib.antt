@@ -16,6 +16,7 @@ pub mod Ledger
 pub mod LedgerCut
 pub mod LedgerRows
 pub mod LedgerWorks
+pub mod LedgerLeaves
 pub mod Due
 pub mod DueMore
 pub mod DueServe
