@@ -142,7 +142,7 @@ pub or_no : (b : Bool) → (b || false) ≡ b
 or_no true = refl
 or_no false = refl
 
-untouched_flag : (behind : Bool) (rows : List Row) → Each IsUntouched rows → stalled behind (map cell_of rows) ≡ behind
+pub untouched_flag : (behind : Bool) (rows : List Row) → Each IsUntouched rows → stalled behind (map cell_of rows) ≡ behind
 untouched_flag behind [] u = refl
 untouched_flag behind (r ∷ rows) u =
     untouched_flag (behind || has_stall r.item.share) rows u.1 ∙ (ap (λ l. behind || has_stall l) u.0.0 ∙ or_no behind)

@@ -17,6 +17,7 @@ pub mod LedgerCut
 pub mod LedgerRows
 pub mod LedgerWorks
 pub mod LedgerLeaves
+pub mod LedgerServe
 pub mod Due
 pub mod DueMore
 pub mod DueServe
