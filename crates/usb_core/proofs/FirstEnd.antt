@@ -11,6 +11,7 @@ use Rattle.usb_model.specs.declared.plain.news.Event.{Event}
 use Rattle.usb_model.specs.Endpoint.{in_progress, live_numbers, past_number}
 use Rattle.usb_core.proofs.Coherent.{heads_event}
 use Rattle.usb_core.proofs.DueMore.{no_end}
+use Rattle.usb_core.proofs.Lists.{Each}
 use Rattle.usb_model.proofs.Errands.{IsCoherent, ServedFirst, event_by, first_by, served_events}
 use Rattle.usb_model.proofs.Pieces.{same_name}
 
@@ -18,6 +19,7 @@ use Rattle.usb_model.proofs.Pieces.{same_name}
 pub record EndsFirst (line : List Item) (k code : ℕ) : Type 0 where
   pub front : List Item
   pub item : Item
+  pub blanks : Each (λ x. x.state ≡ Blank) front
   pub split : line ≡ front ++ item ∷ past_number k line
   pub number : item.n ≡ k
   pub served : item.state ≡ Served code
@@ -34,6 +36,7 @@ ends_first (x ∷ xs) k code es f e = by_state x.state refl f e (ends_first xs k
         let past : past_number k (x ∷ xs) ≡ past_number k xs = rw (is, and_right (x.n == k) false refl) refl in
         record {
           front = x ∷ r.front;
+          blanks = (is, r.blanks);
           item = r.item;
           split = ap (λ l. x ∷ l) r.split ∙ ap (λ l. x ∷ (r.front ++ r.item ∷ l)) (sym past);
           number = r.number;
@@ -51,6 +54,7 @@ ends_first (x ∷ xs) k code es f e = by_state x.state refl f e (ends_first xs k
         let past : past_number k (x ∷ xs) ≡ xs = rw (is, number, same_name k) refl in
         record {
           front = [];
+          blanks = tt;
           item = x;
           split = ap (λ l. x ∷ l) (sym past);
           number = number;

@@ -282,22 +282,34 @@ holds_serve_gone size inward next script a e front back r h is waits none_before
     })
     (map-append item_of front (s ∷ back) ∙ (ap (λ l. map item_of front ++ record r.item { share = l; state = Served 4 } ∷ map item_of back) (append-nil r.item.share) ∙ sym (becomes (record r.item { state = Served 4 })))))
 
+holds_serve_waiting : (size : ℕ) (inward : Bool) (next : ℕ) (script : List Answer) (a : Account) (gone : Bool) (e : Endpoint) (x : Item) (h : HoldsAt size inward next script a e) → 0 < size → WaitsAt h.rows x
+    → KeepsLedger size inward next script a gone [] [] (serve_first size gone e Running (Some x))
+unfolding serve_first
+holds_serve_waiting size inward next script a true e x h some t =
+    subst (λ y. KeepsLedger size inward next script a true [] [] (serve_gone e y)) t.item
+    (holds_serve_gone size inward next script a e t.front t.back t.row h t.is t.waits t.none_before (λ y. ap (with_first y) (sym h.is_line) ∙ t.becomes y))
+holds_serve_waiting size inward next script a false e x h some t =
+    subst (λ y. KeepsLedger size inward next script a false [] [] (serve_first size false e Running (Some y))) t.item (with_answer served)
+  where
+    k : WaitingRow size inward a e.halted (stalled false (all_cells h.gone t.front)) t.row
+    k = waiting_row size inward next script a e t.front t.back t.row h t.is t.waits
+
+    body : IsBody inward t.row.item.request.body
+    body = (mid_of size inward next script a e.line e.left e.halted e.taken t.front t.back t.row h t.is).row.body
+
+    served : AfterServe size e.halted t.row.item.request t.row.item.share (next_answer e)
+    served = after_serve size inward e.halted e.left t.row.item.request t.row.item.share some body h.kinds (subst (λ b. IsOpen size b (part_of t.row)) (sym k.flag) k.open_share)
+
+    with_answer : AfterServe size e.halted t.row.item.request t.row.item.share (next_answer e) → KeepsLedger size inward next script a false [] [] (serve_first size false e Running (Some t.row.item))
+    with_answer s =
+        subst (λ o. KeepsLedger size inward next script a false [] [] (serve_by e t.row.item (outcome_of size t.row.item) (unwrap_or o (open_with [])) (unwrap_or o (open_with [])).code)) (sym s.there)
+        (holds_serve_by size inward next script a e t.front t.back t.row h t.is t.waits t.none_before (λ y. ap (with_first y) (sym h.is_line) ∙ t.becomes y) s s.result.code refl)
+
 holds_serve_first : (size : ℕ) (inward : Bool) (next : ℕ) (script : List Answer) (a : Account) (gone : Bool) (e : Endpoint) (s : EndpointState) (i : Option Item) → 0 < size → first_waiting e.line ≡ i → HoldsAt size inward next script a e
     → KeepsLedger size inward next script a gone [] [] (serve_first size gone e s i)
 unfolding serve_first
-holds_serve_first size inward next script a true e Running (Some x) some first h =
-    let t = waits_at h.rows x (ap first_waiting h.is_line ∙ first) in
-    subst (λ y. KeepsLedger size inward next script a true [] [] (serve_gone e y)) t.item
-    (holds_serve_gone size inward next script a e t.front t.back t.row h t.is t.waits t.none_before (λ y. ap (with_first y) (sym h.is_line) ∙ t.becomes y))
-holds_serve_first size inward next script a false e Running (Some x) some first h =
-    let t = waits_at h.rows x (ap first_waiting h.is_line ∙ first) in
-    let k = waiting_row size inward next script a e t.front t.back t.row h t.is t.waits in
-    let m = mid_of size inward next script a e.line e.left e.halted e.taken t.front t.back t.row h t.is in
-    let r : Row = t.row in
-    let s = after_serve size inward e.halted e.left r.item.request r.item.share some m.row.body h.kinds (subst (λ b. IsOpen size b (part_of r)) (sym k.flag) k.open_share) in
-    subst (λ y. KeepsLedger size inward next script a false [] [] (serve_first size false e Running (Some y))) t.item
-    (subst (λ o. KeepsLedger size inward next script a false [] [] (serve_by e r.item (outcome_of size r.item) (unwrap_or o (open_with [])) (unwrap_or o (open_with [])).code)) (sym s.there)
-    (holds_serve_by size inward next script a e t.front t.back r h t.is t.waits t.none_before (λ y. ap (with_first y) (sym h.is_line) ∙ t.becomes y) s s.result.code refl))
+holds_serve_first size inward next script a true e Running (Some x) some first h = holds_serve_waiting size inward next script a true e x h some (waits_at h.rows x (ap first_waiting h.is_line ∙ first))
+holds_serve_first size inward next script a false e Running (Some x) some first h = holds_serve_waiting size inward next script a false e x h some (waits_at h.rows x (ap first_waiting h.is_line ∙ first))
 holds_serve_first size inward next script a gone e _ _ some first h = subst (λ b. HoldsAt size inward next script b e) (sym (no_more a)) h
 
 -- the device answers a packet

@@ -18,6 +18,7 @@ pub mod LedgerRows
 pub mod LedgerWorks
 pub mod LedgerLeaves
 pub mod LedgerServe
+pub mod LedgerDeliver
 pub mod Due
 pub mod DueMore
 pub mod DueServe
