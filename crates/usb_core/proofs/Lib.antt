@@ -19,6 +19,7 @@ pub mod LedgerWorks
 pub mod LedgerLeaves
 pub mod LedgerServe
 pub mod LedgerDeliver
+pub mod CutSteps
 pub mod Due
 pub mod DueMore
 pub mod DueServe
