@@ -1,5 +1,5 @@
 -- Each piece of work keeps the ledger of its endpoint, as the account has it.
-use Rattle.std.proofs.Common.{Bool, List, Some, [], ap, false, length, not, refl, subst, subst₂, sym, true, ℕ, ◌+◌, ◌<◌, ◌∙◌, ◌∷◌, ◌≡◌}
+use Rattle.std.proofs.Common.{Bool, List, Some, [], ap, arith, false, length, not, refl, subst, subst₂, sym, true, ℕ, ◌+◌, ◌<◌, ◌∙◌, ◌∷◌, ◌≡◌, ◌≤◌}
 use Rattle.std.specs.Prelude.{nat_lt}
 use Rattle.std.proofs.lemmas.Bool.{or_parts}
 use Rattle.usb_model.specs.declared.answer.Answer.{Answer}
@@ -18,9 +18,10 @@ use Rattle.usb_model.specs.declared.verdict.Verdict.TheVariants.{Again, AgainWit
 use Rattle.usb_model.specs.Account.{Accepted, Account, Asked, Transfer, accepted_again, accepted_by, asked_by}
 use Rattle.usb_model.specs.Calls.{asks, is_bad_body, submitted}
 use Rattle.usb_model.specs.Endpoint.{Doing}
-use Rattle.usb_model.specs.Machine.{Machine, device_of, end_at, is_gone}
+use Rattle.usb_model.specs.Machine.{Change, Effect, Machine, Sets, device_of, end_at, is_gone}
 use Rattle.usb_model.specs.Setup.{Setup, is_in, size_of}
-use Rattle.usb_core.proofs.Deeds.{IsAsk, IsSubmission, IsWell, IsWork, again, again_with, anew, asks_it, cancels, clears, commands, delivers, expires, serves, submits}
+use Rattle.usb_model.specs.Turns.{take_it}
+use Rattle.usb_core.proofs.Deeds.{IsAsk, IsRest, IsSubmission, IsWell, IsWork, again, again_with, anew, asks_it, cancels, claims, claims_again, clears, closes, commands, delivers, expires, opens, releases, resets, serves, stays, stops, submits, takes}
 use Rattle.usb_core.proofs.FirstEnd.{end_told}
 use Rattle.usb_core.proofs.Ledger.{HoldsAt}
 use Rattle.usb_core.proofs.LedgerDeliver.{IsTrueOf, holds_ask, holds_clear, holds_command, holds_deliver, holds_submit}
@@ -96,3 +97,27 @@ work_holds setup m ep script a e step handle d some well here (submits {handle =
     (accepts m.handle m.handle.next step left request round is) (no_ask_by m.handle m.handle.next step left request round is)
     (holds_submit (size_of setup (device_of m) ep) (is_in ep) m.handle.next script a (is_gone m) e request round (subst (λ k. IsBody (is_in k) request.body) at (good_body request.ep request.body fine)) h)
 work_holds setup m ep script a e step handle d some well here (clears g empty) h = holds_clear (size_of setup (device_of m) ep) (is_in ep) m.handle.next script a (is_gone m) e empty h
+
+-- a change that sets no endpoint
+abbrev pub SetsNone : Change → Type 0
+SetsNone (Sets dev ep x) = ⊥
+SetsNone _ = Unit {0}
+
+-- what is rest sets none, and leaves the next number
+pub rest_sets : (setup : Setup) (h : ℕ) (m : Machine) (step : Step) (done : Effect) → IsRest setup h m step done → SetsNone done.change × (done.handle.next ≡ m.handle.next)
+unfolding take_it
+rest_sets setup h m step done (stays bare t) = (tt, refl)
+rest_sets setup h m step done (claims_again g i) = (tt, refl)
+rest_sets setup h m step done (stops g k x lent) = (tt, refl)
+rest_sets setup h m step done (opens g dev none) = (tt, refl)
+rest_sets setup h m step done (closes g idle) = (tt, refl)
+rest_sets setup h m step done (claims g i opened free) = (tt, refl)
+rest_sets setup h m step done (releases g i idle) = (tt, refl)
+rest_sets setup h m step done (resets g idle) = (tt, refl)
+rest_sets setup h m step done (takes x xs is) = (tt, refl)
+
+-- work goes on with the numbers
+pub work_next : (setup : Setup) (m : Machine) (ep : ℕ) (e : Endpoint) (step : Step) (handle : Handle) (d : Doing) → IsWork setup m ep e step handle d → m.handle.next ≤ handle.next
+work_next setup m ep e step handle d (submits is at fine short) = omega arith
+work_next setup m ep e step handle d _ = omega arith
+

@@ -197,7 +197,7 @@ known : (o : Option EndpointInfo) (i : ℕ) → option_map (λ x. x.interface) o
 known None i e = absurd cc
 known (Some s) i e = (s, refl, cc)
 
-at_device_of : (m : Machine) (ep : ℕ) (e : Endpoint) → end_at m ep ≡ Some e → (m.ends (device_of m) ep ≡ Some e) × (m.handle.device ≡ Some (device_of m))
+pub at_device_of : (m : Machine) (ep : ℕ) (e : Endpoint) → end_at m ep ≡ Some e → (m.ends (device_of m) ep ≡ Some e) × (m.handle.device ≡ Some (device_of m))
 at_device_of m ep e here = by_device m.handle.device here
   where
     by_device : (o : Option ℕ) → option_and_then (λ d. m.ends d ep) o ≡ Some e → (m.ends (unwrap_or o 0) ep ≡ Some e) × (o ≡ Some (unwrap_or o 0))

@@ -20,6 +20,7 @@ pub mod LedgerLeaves
 pub mod LedgerServe
 pub mod LedgerDeliver
 pub mod CutSteps
+pub mod CutRun
 pub mod Due
 pub mod DueMore
 pub mod DueServe

@@ -4,8 +4,15 @@
 ghost use Rattle.std.specs.Prelude.{ℕ, List};
 ghost use Rattle.usb_model.specs.declared.step.Step.{Step};
 ghost use Rattle.usb_model.specs.Bound.{AskedEnds};
+ghost use Rattle.usb_model.specs.Cut.{CutsAt};
 ghost use Rattle.usb_model.specs.Places.{KeepsPlaces};
 ghost use Rattle.usb_model.specs.Setup.{Setup};
+
+/// What the transfers of an endpoint moved is a cut of its device's answers, in order of submission: each result, each
+/// end and each packet that the device took is read off one transfer's share.
+pub fn cut()
+    ensures { (setup : Setup) (steps : List Step) (d e : ℕ) → CutsAt setup steps d e }
+{}
 
 /// Each transfer of a handle is in one place: none is lost, and none is doubled.
 pub fn places()
