@@ -120,4 +120,3 @@ rest_sets setup h m step done (takes x xs is) = (tt, refl)
 pub work_next : (setup : Setup) (m : Machine) (ep : ℕ) (e : Endpoint) (step : Step) (handle : Handle) (d : Doing) → IsWork setup m ep e step handle d → m.handle.next ≤ handle.next
 work_next setup m ep e step handle d (submits is at fine short) = omega arith
 work_next setup m ep e step handle d _ = omega arith
-

@@ -10,10 +10,7 @@ use Rattle.usb_model.specs.declared.plain.item.ItemState.TheVariants.{Blank, Ser
 use Rattle.usb_model.specs.declared.plain.item.ItemState.{ItemState}
 use Rattle.usb_model.specs.Account.{Account, Asked, new_account}
 use Rattle.usb_model.specs.Cut.{AllFit, AreDistinct, Cell, Cleared, Ended, Fate, Of, Part, Waits, Withdrawn, accepted_as, asks_of, end_of, has_stall, is_of_direction, made_of, packets_taken, parts_of, times, told}
-use Rattle.usb_model.specs.Endpoint.{fresh}
-use Rattle.usb_model.specs.Packets.{packets}
 use Rattle.usb_core.proofs.Lists.{Each}
-use Rattle.usb_model.proofs.Lines.{no_result}
 use Rattle.usb_model.proofs.Next.{IsBody}
 
 -- an item of the line, and what came of it

@@ -10,7 +10,6 @@ use Rattle.usb_model.specs.declared.plain.item.ItemState.{ItemState}
 use Rattle.usb_model.specs.Account.{Account}
 use Rattle.usb_model.specs.Cut.{AllTold, AreDistinct, Ended, Fate, IsCut, Part, ToldBy, Waits, Withdrawn, parts_of, times}
 use Rattle.usb_model.specs.Endpoint.{is_blank, is_blank_state, live_numbers}
-use Rattle.usb_model.specs.Packets.{packets}
 use Rattle.usb_core.proofs.Ledger.{GoneTold, GoneToldBy, HoldsAt, IsFate, IsRow, Row, RowToldBy, all_cells, item_of, numbers, part_of, parts_of_cells}
 use Rattle.usb_core.proofs.Lists.{Each, times_here, times_past}
 use Rattle.usb_model.proofs.Times.{times-append, times-cons}

@@ -84,15 +84,15 @@ withdraws size inward a back r ask gone waits asked row = record {
   asked_its = tt;
   made_its = (refl, tt);
   row = record {
-      fate = (ask, refl);
-      body = row.body;
-      told = (
-            gone,
-            filter-append (λ x. x.result.n == k) a.made (made ∷ [])
-                ∙ (ap₂ (λ l n. l ++ n) was_told.0 (rw (same_name k) refl) ∙ ap (λ x. record { result = x; gone = gone } ∷ []) same_result),
-            ap (asks_of k) (append-nil a.asked) ∙ (was_told.1 ∙ ap (ask_list k) asked),
-          );
-    };
+    fate = (ask, refl);
+    body = row.body;
+    told = (
+      gone,
+      filter-append (λ x. x.result.n == k) a.made (made ∷ [])
+          ∙ (ap₂ (λ l n. l ++ n) was_told.0 (rw (same_name k) refl) ∙ ap (λ x. record { result = x; gone = gone } ∷ []) same_result),
+      ap (asks_of k) (append-nil a.asked) ∙ (was_told.1 ∙ ap (ask_list k) asked),
+    );
+  };
   quiet = λ q. untouched_quiet back (subst (λ t. quiet_by t back (IsQuiet back)) waits q);
 }
   where
@@ -142,7 +142,7 @@ holds_withdrawn_from size inward next script a gone front [] left halted taken h
 holds_withdrawn_from size inward next script a gone front (x ∷ xs) left halted taken h =
     by_test (is_withdrawn x) refl
     (λ b y k. subst (λ l. Holds size inward next script (with_more b [] [] [] (made_with gone (withdrawn size xs))) l left halted taken) (append_assoc front (y ∷ []) (map blanked xs))
-        (holds_withdrawn_from size inward next script b gone (front ++ y ∷ []) xs left halted taken (subst (λ l. Holds size inward next script b l left halted taken) (sym (append_assoc front (y ∷ []) xs)) k)))
+    (holds_withdrawn_from size inward next script b gone (front ++ y ∷ []) xs left halted taken (subst (λ l. Holds size inward next script b l left halted taken) (sym (append_assoc front (y ∷ []) xs)) k)))
   where
     Rest : Type 0
     Rest = (b : Account) (y : Item) → Holds size inward next script b (front ++ y ∷ xs) left halted taken → Holds size inward next script (with_more b [] [] [] (made_with gone (withdrawn size xs))) (front ++ y ∷ map blanked xs) left halted taken

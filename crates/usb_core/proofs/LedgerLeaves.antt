@@ -21,7 +21,6 @@ use Rattle.usb_core.proofs.LedgerRows.{Mid, TellsSame, cells_mid, fits_join, fre
 use Rattle.usb_core.proofs.LedgerWorks.{no_packets, or_no, quiet_behind}
 use Rattle.usb_core.proofs.Lists.{Each, distinct_push, each_append, each_behind, each_front}
 use Rattle.usb_model.proofs.Cuts.{open_untouched}
-use Rattle.usb_model.proofs.Lines.{no_result}
 use Rattle.usb_model.proofs.Next.{IsBody}
 use Rattle.usb_model.proofs.Pieces.{same_name}
 use Rattle.usb_model.proofs.Times.{times-append, times_none}

@@ -14,7 +14,6 @@ use Rattle.usb_model.specs.Cut.{AllFit, AreDistinct, Cell, Cleared, Ended, Fate,
 use Rattle.usb_model.specs.Endpoint.{fresh}
 use Rattle.usb_core.proofs.Ledger.{GoneTold, GoneToldBy, Holds, IsFresh, IsQuiet, IsRow, Row, RowToldBy, all_cells, all_parts, cell_of, numbers, part_of, stalled}
 use Rattle.usb_core.proofs.Lists.{Each, distinct_mid, each_apart, each_behind, each_front, times_here}
-use Rattle.usb_model.proofs.Lines.{no_result}
 use Rattle.usb_model.proofs.Times.{times-append}
 
 -- an account with more in each list

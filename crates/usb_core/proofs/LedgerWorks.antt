@@ -10,8 +10,8 @@ use Rattle.usb_model.specs.declared.plain.item.ItemState.{ItemState}
 use Rattle.usb_model.specs.declared.request.Body.TheVariants.{In, Out}
 use Rattle.usb_model.specs.declared.request.Body.{Body}
 use Rattle.usb_model.specs.Account.{Account, Asked, End, Made}
-use Rattle.usb_model.specs.Cut.{AllFit, AreDistinct, Cell, Ended, Fate, FitsFate, Part, Waits, Withdrawn, accepted_as, asks_of, end_of, has_stall, is_of_direction, made_of, packets_taken, packets_taken_by, parts_of, told}
-use Rattle.usb_model.specs.Endpoint.{fresh, is_blank_state, is_waiting, is_waiting_state}
+use Rattle.usb_model.specs.Cut.{AllFit, AreDistinct, Cell, Ended, Fate, FitsFate, Part, Waits, Withdrawn, accepted_as, asks_of, end_of, has_stall, is_of_direction, made_of, packets_taken, packets_taken_by, parts_of}
+use Rattle.usb_model.specs.Endpoint.{is_blank_state, is_waiting, is_waiting_state}
 use Rattle.usb_model.specs.Packets.{open_with, outcome}
 use Rattle.usb_core.proofs.Ledger.{Holds, IsFate, IsQuiet, IsRow, IsUntouched, Row, RowToldBy, all_cells, all_parts, cell_of, item_of, numbers, part_of, quiet_by, stalled}
 use Rattle.usb_core.proofs.LedgerRows.{Mid, TellsSame, cells_mid, fits_join, flat_mid_more, flat_mid_same, fresh_kept, map_mid, mid_of, parts_kept, parts_mid, rows_kept, stalled-append, tells_same, with_more, with_row}

@@ -26,3 +26,4 @@ pub mod DueMore
 pub mod DueServe
 pub mod DueKept
 pub mod Opening
+pub mod Instances

@@ -1,4 +1,4 @@
-mod Computed
+pub mod Computed
 mod WorkedRows
 pub mod Pieces
 pub mod Changes
