@@ -15,3 +15,8 @@ pub mod Parts
 pub mod Lines
 pub mod Works
 pub mod Moves
+pub mod Shares
+pub mod More
+pub mod Errands
+pub mod Next
+pub mod Cuts

@@ -1,0 +1,122 @@
+-- Each piece of work keeps the ledger of its endpoint, as the account has it.
+use Rattle.std.proofs.Common.{Bool, List, Some, [], ap, arith, false, length, not, refl, subst, subst₂, sym, true, ℕ, ◌+◌, ◌<◌, ◌∙◌, ◌∷◌, ◌≡◌, ◌≤◌}
+use Rattle.std.specs.Prelude.{nat_lt}
+use Rattle.std.proofs.lemmas.Bool.{or_parts}
+use Rattle.usb_model.specs.declared.answer.Answer.{Answer}
+use Rattle.usb_model.specs.declared.errand.Errand.{Errand}
+use Rattle.usb_model.specs.declared.plain.endpoint.Endpoint.{Endpoint}
+use Rattle.usb_model.specs.declared.plain.handle.Handle.{Handle}
+use Rattle.usb_model.specs.declared.plain.item.Ask.{Ask}
+use Rattle.usb_model.specs.declared.plain.news.Event.TheVariants.{Finished, Paused, Settled}
+use Rattle.usb_model.specs.declared.plain.news.Event.{Event}
+use Rattle.usb_model.specs.declared.reply.Reply.TheVariants as reply
+use Rattle.usb_model.specs.declared.request.Body.TheVariants.{In, Out}
+use Rattle.usb_model.specs.declared.request.Body.{Body}
+use Rattle.usb_model.specs.declared.request.Request.{Request}
+use Rattle.usb_model.specs.declared.step.Step.{Step}
+use Rattle.usb_model.specs.declared.verdict.Verdict.TheVariants.{Again, AgainWith}
+use Rattle.usb_model.specs.Account.{Accepted, Account, Asked, Transfer, accepted_again, accepted_by, asked_by}
+use Rattle.usb_model.specs.Calls.{asks, is_bad_body, submitted}
+use Rattle.usb_model.specs.Endpoint.{Doing}
+use Rattle.usb_model.specs.Machine.{Change, Effect, Machine, Sets, device_of, end_at, is_gone}
+use Rattle.usb_model.specs.Setup.{Setup, is_in, size_of}
+use Rattle.usb_model.specs.Turns.{take_it}
+use Rattle.usb_core.proofs.Deeds.{IsAsk, IsRest, IsSubmission, IsWell, IsWork, again, again_with, anew, asks_it, cancels, claims, claims_again, clears, closes, commands, delivers, expires, opens, releases, resets, serves, stays, stops, submits, takes}
+use Rattle.usb_core.proofs.FirstEnd.{end_told}
+use Rattle.usb_core.proofs.Ledger.{HoldsAt}
+use Rattle.usb_core.proofs.LedgerDeliver.{IsTrueOf, holds_ask, holds_clear, holds_command, holds_deliver, holds_submit}
+use Rattle.usb_core.proofs.LedgerServe.{KeepsLedger, holds_serve}
+use Rattle.usb_core.proofs.Placed.{fit_at}
+use Rattle.usb_core.proofs.Posts.{errands_of}
+use Rattle.usb_core.proofs.Well.{first_news}
+use Rattle.usb_model.proofs.Errands.{IsCoherent}
+use Rattle.usb_model.proofs.Next.{IsBody}
+
+-- what is submitted goes in the endpoint's direction
+good_body : (ep : ℕ) (body : Body) → is_bad_body ep body ≡ false → IsBody (is_in ep) body
+good_body ep (In n) e = by_test (is_in ep) (or_parts (not (is_in ep)) (nat_lt 262144 n) e).0
+  where
+    by_test : (b : Bool) → not b ≡ false → IsBody b (In n)
+    by_test true q = tt
+    by_test false q = absurd cc
+good_body ep (Out bytes) e = by_test (is_in ep) (or_parts (is_in ep) (nat_lt 262144 (length bytes)) e).0
+  where
+    by_test : (b : Bool) → b ≡ false → IsBody b (Out bytes)
+    by_test true q = absurd cc
+    by_test false q = tt
+
+-- and is accepted, under the next number
+accepts : (handle : Handle) (n : ℕ) (step : Step) (left : Handle) (request : Request) (round : ℕ) → IsSubmission handle step left request round → accepted_by handle step (reply.Number n) ≡ Transfer n request round ∷ []
+accepts handle n step left request round (anew g r) = refl
+accepts handle n step left request round (again g k x lent) = ap (accepted_again n Again) lent
+accepts handle n step left request round (again_with g k bytes x lent) = ap (accepted_again n (AgainWith bytes)) lent
+
+no_ask_by : (handle : Handle) (n : ℕ) (step : Step) (left : Handle) (request : Request) (round : ℕ) → IsSubmission handle step left request round → asked_by step (reply.Number n) ≡ []
+no_ask_by handle n step left request round (anew g r) = refl
+no_ask_by handle n step left request round (again g k x lent) = refl
+no_ask_by handle n step left request round (again_with g k bytes x lent) = refl
+
+-- an ask is in the account
+asks_by : (handle : Handle) (step : Step) (n : ℕ) (ask : Ask) → IsAsk step n ask → (accepted_by handle step reply.Done ≡ []) × (asked_by step reply.Done ≡ record { n = n; ask = ask } ∷ [])
+asks_by handle step n ask (cancels g k) = (refl, refl)
+asks_by handle step n ask (expires g k) = (refl, refl)
+
+reply_of : (e : Endpoint) (n : ℕ) (ask : Ask) → (asks e n ask).reply ≡ reply.Done
+unfolding asks
+reply_of e n ask = refl
+
+-- the account with what a piece of work did
+abbrev pub AddsWork : Setup → Machine → ℕ → List Answer → Account → Step → Handle → Doing → Type 0
+AddsWork setup m ep script a step handle d =
+    KeepsLedger (size_of setup (device_of m) ep) (is_in ep) handle.next script a (is_gone m) (accepted_by m.handle step d.reply) (asked_by step d.reply) d
+
+same_lists : (setup : Setup) (m : Machine) (ep : ℕ) (script : List Answer) (a : Account) (step : Step) (handle : Handle) (d : Doing) (accepted : List Accepted) (asked : List Asked) → accepted_by m.handle step d.reply ≡ accepted → asked_by step d.reply ≡ asked
+    → KeepsLedger (size_of setup (device_of m) ep) (is_in ep) handle.next script a (is_gone m) accepted asked d → AddsWork setup m ep script a step handle d
+same_lists setup m ep script a step handle d accepted asked p q k =
+    subst₂ (λ xs ys. KeepsLedger (size_of setup (device_of m) ep) (is_in ep) handle.next script a (is_gone m) xs ys d) (sym p) (sym q) k
+
+-- news is true of its endpoint
+true_of : (e : Endpoint) (os : List Errand) (event : Event) (ns : List Event) → IsCoherent e os (event ∷ ns) → IsTrueOf e event
+true_of e os (Finished k code) ns c = end_told e os ns k code c
+true_of e os (Paused k) ns c = tt
+true_of e os (Settled o ok) ns c = tt
+
+pub work_holds : (setup : Setup) (m : Machine) (ep : ℕ) (script : List Answer) (a : Account) (e : Endpoint) (step : Step) (handle : Handle) (d : Doing) → 0 < size_of setup (device_of m) ep → IsWell setup m → end_at m ep ≡ Some e → IsWork setup m ep e step handle d
+    → HoldsAt (size_of setup (device_of m) ep) (is_in ep) m.handle.next script a e → AddsWork setup m ep script a step handle d
+work_holds setup m ep script a e step handle d some well here (serves dev) h = holds_serve (size_of setup (device_of m) ep) (is_in ep) m.handle.next script a (is_gone m) e some h
+work_holds setup m ep script a e step handle d some well here (commands o os is) h = holds_command (size_of setup (device_of m) ep) ep (is_in ep) m.handle.next script a (is_gone m) e o e.state h
+work_holds setup m ep script a e step handle d some well here (delivers event ns is) h =
+    holds_deliver (size_of setup (device_of m) ep) ep (is_in ep) m.handle.next script a (is_gone m) e event
+    (true_of e _ event _ (subst (λ l. IsCoherent e (errands_of ep m.orders) l) (first_news ep event m.news ns is).0 (fit_at setup m ep e well here).coherent)) h
+work_holds setup m ep script a e step handle d some well here (asks_it {ask = ask} n i is at free) h =
+    let l = asks_by m.handle step n ask is in
+    same_lists setup m ep script a step m.handle (asks e n ask) [] (record { n = n; ask = ask } ∷ []) (ap (accepted_by m.handle step) (reply_of e n ask) ∙ l.0) (ap (asked_by step) (reply_of e n ask) ∙ l.1)
+    (holds_ask (size_of setup (device_of m) ep) (is_in ep) m.handle.next script a (is_gone m) e n ask i at free h)
+work_holds setup m ep script a e step handle d some well here (submits {handle = left} {request = request} {round = round} is at fine short) h =
+    same_lists setup m ep script a step (record left { next = m.handle.next + 1 }) (submitted m.handle.next request round e) (Transfer m.handle.next request round ∷ []) []
+    (accepts m.handle m.handle.next step left request round is) (no_ask_by m.handle m.handle.next step left request round is)
+    (holds_submit (size_of setup (device_of m) ep) (is_in ep) m.handle.next script a (is_gone m) e request round (subst (λ k. IsBody (is_in k) request.body) at (good_body request.ep request.body fine)) h)
+work_holds setup m ep script a e step handle d some well here (clears g empty) h = holds_clear (size_of setup (device_of m) ep) (is_in ep) m.handle.next script a (is_gone m) e empty h
+
+-- a change that sets no endpoint
+abbrev pub SetsNone : Change → Type 0
+SetsNone (Sets dev ep x) = ⊥
+SetsNone _ = Unit {0}
+
+-- what is rest sets none, and leaves the next number
+pub rest_sets : (setup : Setup) (h : ℕ) (m : Machine) (step : Step) (done : Effect) → IsRest setup h m step done → SetsNone done.change × (done.handle.next ≡ m.handle.next)
+unfolding take_it
+rest_sets setup h m step done (stays bare t) = (tt, refl)
+rest_sets setup h m step done (claims_again g i) = (tt, refl)
+rest_sets setup h m step done (stops g k x lent) = (tt, refl)
+rest_sets setup h m step done (opens g dev none) = (tt, refl)
+rest_sets setup h m step done (closes g idle) = (tt, refl)
+rest_sets setup h m step done (claims g i opened free) = (tt, refl)
+rest_sets setup h m step done (releases g i idle) = (tt, refl)
+rest_sets setup h m step done (resets g idle) = (tt, refl)
+rest_sets setup h m step done (takes x xs is) = (tt, refl)
+
+-- work goes on with the numbers
+pub work_next : (setup : Setup) (m : Machine) (ep : ℕ) (e : Endpoint) (step : Step) (handle : Handle) (d : Doing) → IsWork setup m ep e step handle d → m.handle.next ≤ handle.next
+work_next setup m ep e step handle d (submits is at fine short) = omega arith
+work_next setup m ep e step handle d _ = omega arith

@@ -1,0 +1,78 @@
+-- The laws at worked rows, computed.
+use Rattle.std.proofs.Common.{◌≡◌, ℕ, true, false, inr, [], ◌∷◌, Some, refl, arith}
+use Rattle.usb_model.specs.declared.answer.Answer.{Answer}
+use Rattle.usb_model.specs.declared.answer.Answer.TheVariants.{Data, Stall}
+use Rattle.usb_model.specs.declared.request.Body.TheVariants.{In}
+use Rattle.usb_model.specs.Packets.{Outcome, outcome, open_with, ended_with, Ends}
+use Rattle.usb_model.specs.Endpoint.{live_numbers}
+use Rattle.usb_model.specs.Account.{account, account_from, account_of}
+use Rattle.usb_model.specs.Places.{calls}
+use Rattle.usb_model.specs.Bound.{commands_in, delivers_in}
+use Rattle.usb_model.specs.Rows.{bulk}
+use Rattle.usb_model.specs.Rows.Halting.{stall_and_clear_halt}
+use Rattle.usb_model.specs.Rows.Unplugging.{unplug_amid_transfers}
+use Rattle.usb_model.proofs.Computed.{computed}
+use Rattle.usb_model.proofs.Cuts.{ends_now}
+use Rattle.usb_model.proofs.Shares.{open_if, outcome_nothing}
+use Rattle.usb_core.specs.Instances.{ReachesBound, IsCutInto, stalled_cells, unplugged_cells}
+
+pub reaches_bound : ReachesBound
+unfolding computed commands_in delivers_in calls live_numbers
+reaches_bound = record {
+  are_its = refl;
+  accepted = refl;
+  commands = refl;
+  delivers = refl;
+  still = refl;
+  not_made = refl;
+  no_more = refl;
+  made = refl;
+}
+
+-- shares that one answer makes end
+ends_by : (x : Answer) (o : Outcome) (code : ℕ) → outcome (bulk 0x81 (In 8)) 8 (x ∷ []) false ≡ Some o → o.code ≡ Some code → Ends (bulk 0x81 (In 8)) 8 (x ∷ []) code
+ends_by x o code is ended = ends_now (bulk 0x81 (In 8)) 8 [] (x ∷ []) o code (omega arith) (open_if (outcome (bulk 0x81 (In 8)) 8 [] false) (open_with []) (outcome_nothing (bulk 0x81 (In 8)) 8) refl) is ended
+
+ends_stalled : Ends (bulk 0x81 (In 8)) 8 (Stall ∷ []) 6
+unfolding computed
+ends_stalled = ends_by Stall (ended_with [] 6) 6 refl refl
+
+ends_short : Ends (bulk 0x81 (In 8)) 8 (Data (1 ∷ []) ∷ []) 13
+unfolding computed
+ends_short = ends_by (Data (1 ∷ [])) (ended_with ((1 ∷ []) ∷ []) 13) 13 refl refl
+
+ends_whole : Ends (bulk 0x81 (In 8)) 8 (Data (1 ∷ 2 ∷ 3 ∷ 4 ∷ 5 ∷ 6 ∷ 7 ∷ 8 ∷ []) ∷ []) 1
+unfolding computed
+ends_whole = ends_by (Data (1 ∷ 2 ∷ 3 ∷ 4 ∷ 5 ∷ 6 ∷ 7 ∷ 8 ∷ [])) (ended_with ((1 ∷ 2 ∷ 3 ∷ 4 ∷ 5 ∷ 6 ∷ 7 ∷ 8 ∷ []) ∷ []) 1) 1 refl refl
+
+pub stalled_is_cut : IsCutInto stall_and_clear_halt stalled_cells
+unfolding computed account account_from account_of live_numbers
+stalled_is_cut = (
+  record {
+    cells = stalled_cells;
+    all = refl;
+    numbers = (refl, (refl, (refl, tt)));
+    shares = refl;
+    fits = (ends_stalled, ((refl, refl), (ends_short, tt)));
+    ended = refl;
+    told = (inr (refl, false, refl), (inr (refl, false, refl), (inr (refl, false, refl), tt)));
+    packets = refl;
+  },
+  refl,
+)
+
+pub unplugged_is_cut : IsCutInto unplug_amid_transfers unplugged_cells
+unfolding computed account account_from account_of live_numbers
+unplugged_is_cut = (
+  record {
+    cells = unplugged_cells;
+    all = refl;
+    numbers = (refl, (refl, tt));
+    shares = refl;
+    fits = (ends_whole, ((refl, refl), tt));
+    ended = refl;
+    told = (inr (refl, true, refl), (inr (refl, true, refl), tt));
+    packets = refl;
+  },
+  refl,
+)

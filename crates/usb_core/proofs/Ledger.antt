@@ -1,0 +1,151 @@
+-- The account of an endpoint as it stands: what left its line, and the line.
+use Rattle.std.proofs.Common.{Bool, List, None, Option, Some, [], ap, false, map, refl, true, ℕ, ◌++◌, ◌==◌, ◌||◌, ◌∙◌, ◌∷◌, ◌≡◌, ◌≤◌}
+use Rattle.std.proofs.lemmas.Grind.{flat_map-append}
+use Rattle.std.specs.List.{flat_map, list_all}
+use Rattle.usb_model.specs.declared.answer.Answer.{Answer}
+use Rattle.usb_model.specs.declared.plain.endpoint.Endpoint.{Endpoint}
+use Rattle.usb_model.specs.declared.plain.item.Ask.{Ask}
+use Rattle.usb_model.specs.declared.plain.item.Item.{Item}
+use Rattle.usb_model.specs.declared.plain.item.ItemState.TheVariants.{Blank, Served, Waiting}
+use Rattle.usb_model.specs.declared.plain.item.ItemState.{ItemState}
+use Rattle.usb_model.specs.Account.{Account, Asked, new_account}
+use Rattle.usb_model.specs.Cut.{AllFit, AreDistinct, Cell, Cleared, Ended, Fate, Of, Part, Waits, Withdrawn, accepted_as, asks_of, end_of, has_stall, is_of_direction, made_of, packets_taken, parts_of, times, told}
+use Rattle.usb_core.proofs.Lists.{Each}
+use Rattle.usb_model.proofs.Next.{IsBody}
+
+-- an item of the line, and what came of it
+pub record Row : Type 0 where
+  pub item : Item
+  pub fate : Fate
+
+abbrev pub item_of : Row → Item
+item_of r = r.item
+
+abbrev pub part_of : Row → Part
+part_of r = record { n = r.item.n; request = r.item.request; round = r.item.round; share = r.item.share; fate = r.fate }
+
+abbrev pub cell_of : Row → Cell
+cell_of r = Of (part_of r)
+
+-- what left the line, and the line, as cells and as parts
+abbrev pub all_cells : List Cell → List Row → List Cell
+all_cells gone rows = gone ++ map cell_of rows
+
+abbrev pub all_parts : List Cell → List Row → List Part
+all_parts gone rows = flat_map parts_of gone ++ map part_of rows
+
+abbrev pub numbers : List Part → List ℕ
+numbers ps = map (λ x. x.n) ps
+
+-- what came of an item, by its state
+abbrev pub IsFate : ItemState → Fate → Type 0
+IsFate Waiting f = f ≡ Waits
+IsFate (Served code) f = (gone : Bool) × (f ≡ Ended code gone) × ((code == 26) ≡ false)
+IsFate Blank f = (ask : Ask) × (f ≡ Withdrawn ask)
+
+-- the asks that were accepted of an item
+abbrev pub ask_list : ℕ → Option Ask → List Asked
+ask_list n None = []
+ask_list n (Some ask) = record { n = n; ask = ask } ∷ []
+
+-- the one result of a transfer that was withdrawn, and of one that ended
+abbrev pub IsWithdrawnTold : ℕ → Account → Part → Ask → Type 0
+IsWithdrawnTold size a x ask =
+    (later : Bool) × (made_of x.n a.made ≡ record { result = told size false 26 (Some ask) x; gone = later } ∷ []) × (asks_of x.n a.asked ≡ record { n = x.n; ask = ask } ∷ [])
+
+abbrev pub IsEndTold : ℕ → Account → Part → ℕ → Type 0
+IsEndTold size a x code = (later : Bool) × (made_of x.n a.made ≡ record { result = told size later code None x; gone = later } ∷ [])
+
+-- what is told of what left the line
+abbrev pub GoneToldBy : ℕ → Account → Part → Fate → Type 0
+GoneToldBy size a x Waits = ⊥
+GoneToldBy size a x (Ended code gone) = IsEndTold size a x code
+GoneToldBy size a x (Withdrawn ask) = IsWithdrawnTold size a x ask
+
+abbrev pub GoneTold : ℕ → Account → Part → Type 0
+GoneTold size a x = GoneToldBy size a x x.fate
+
+-- and of an item of the line
+abbrev pub RowToldBy : ℕ → Account → Row → Fate → Type 0
+RowToldBy size a r Waits = (made_of r.item.n a.made ≡ []) × (asks_of r.item.n a.asked ≡ ask_list r.item.n r.item.ask)
+RowToldBy size a r (Ended code gone) = made_of r.item.n a.made ≡ []
+RowToldBy size a r (Withdrawn ask) = IsWithdrawnTold size a (part_of r) ask
+
+pub record IsRow (size : ℕ) (inward : Bool) (a : Account) (r : Row) : Type 0 where
+  pub fate : IsFate r.item.state r.fate
+  pub body : IsBody inward r.item.request.body
+  pub told : RowToldBy size a r r.fate
+
+-- nothing was taken, and nothing ended, behind an item that waits
+abbrev pub IsUntouched : Row → Type 0
+IsUntouched r = (r.item.share ≡ []) × (end_of r.item.n r.fate ≡ [])
+
+abbrev pub quiet_by : ItemState → List Row → Type 0 → Type 0
+quiet_by Waiting rows rest = Each IsUntouched rows
+quiet_by (Served code) rows rest = rest
+quiet_by Blank rows rest = rest
+
+abbrev pub IsQuiet : List Row → Type 0
+IsQuiet [] = Unit {0}
+IsQuiet (r ∷ rows) = quiet_by r.item.state rows (IsQuiet rows)
+
+-- whether a stall stands before, and no clearing since
+abbrev pub stalled : Bool → List Cell → Bool
+stalled behind [] = behind
+stalled behind (Of x ∷ cells) = stalled (behind || has_stall x.share) cells
+stalled behind (Cleared ∷ cells) = stalled false cells
+
+-- the number is nowhere in the account
+pub record IsFresh (n : ℕ) (a : Account) (ps : List Part) : Type 0 where
+  pub no_part : times n (numbers ps) ≡ 0
+  pub no_result : made_of n a.made ≡ []
+  pub no_ask : asks_of n a.asked ≡ []
+
+-- the cut law, with the line; each number is below this one
+pub record Holds (size : ℕ) (inward : Bool) (next : ℕ) (script : List Answer) (a : Account) (line : List Item) (left : List Answer) (halted : Bool) (taken : List (List ℕ)) : Type 0 where
+  pub gone : List Cell
+  pub rows : List Row
+  pub is_line : map item_of rows ≡ line
+  pub all : map accepted_as (all_cells gone rows) ≡ a.accepted
+  pub distinct : AreDistinct (numbers (all_parts gone rows))
+  pub fresh : (n : ℕ) → next ≤ n → IsFresh n a (all_parts gone rows)
+  pub shares : flat_map (λ x. x.share) (all_parts gone rows) ++ left ≡ script
+  pub fits : AllFit size false (all_cells gone rows)
+  pub halt : halted ≡ stalled false (all_cells gone rows)
+  pub ended : flat_map (λ x. end_of x.n x.fate) (all_parts gone rows) ≡ a.ended
+  pub packets : flat_map (packets_taken size) (all_parts gone rows) ≡ taken
+  pub gone_told : Each (GoneTold size a) (flat_map parts_of gone)
+  pub each_row : Each (IsRow size inward a) rows
+  pub quiet : IsQuiet rows
+  pub kinds : list_all (is_of_direction inward) left ≡ true
+
+abbrev pub HoldsAt : ℕ → Bool → ℕ → List Answer → Account → Endpoint → Type 0
+HoldsAt size inward next script a e = Holds size inward next script a e.line e.left e.halted e.taken
+
+-- of an endpoint made new
+pub holds_new : (size : ℕ) (inward : Bool) (next : ℕ) (script : List Answer) → list_all (is_of_direction inward) script ≡ true → Holds size inward next script new_account [] script false []
+holds_new size inward next script k = record {
+  gone = [];
+  rows = [];
+  is_line = refl;
+  all = refl;
+  distinct = tt;
+  fresh = λ n le. record { no_part = refl; no_result = refl; no_ask = refl };
+  shares = refl;
+  fits = tt;
+  halt = refl;
+  ended = refl;
+  packets = refl;
+  gone_told = tt;
+  each_row = tt;
+  quiet = tt;
+  kinds = k;
+}
+
+-- the parts of all cells
+pub parts_of_cells : (gone : List Cell) (rows : List Row) → flat_map parts_of (all_cells gone rows) ≡ all_parts gone rows
+parts_of_cells gone rows = flat_map-append parts_of gone (map cell_of rows) ∙ ap (λ l. flat_map parts_of gone ++ l) (parts_of_rows rows)
+  where
+    parts_of_rows : (rs : List Row) → flat_map parts_of (map cell_of rs) ≡ map part_of rs
+    parts_of_rows [] = refl
+    parts_of_rows (r ∷ rs) = ap (λ l. part_of r ∷ l) (parts_of_rows rs)

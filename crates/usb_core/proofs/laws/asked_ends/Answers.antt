@@ -1,0 +1,5 @@
+use Rattle.usb_core.proofs.AskedEnds.{asked_ends}
+use Rattle.usb_core.proofs.laws.asked_ends.Goals as goal
+
+pub returns : goal.returns
+returns c = asked_ends

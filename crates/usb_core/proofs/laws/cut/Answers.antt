@@ -1,0 +1,5 @@
+use Rattle.usb_core.proofs.CutRun.{cuts_at}
+use Rattle.usb_core.proofs.laws.cut.Goals as goal
+
+pub returns : goal.returns
+returns c = cuts_at

@@ -1,0 +1,11 @@
+use Rattle.usb_core.proofs.Instances.{reaches_bound, stalled_is_cut, unplugged_is_cut}
+use Rattle.usb_core.proofs.laws.instances.Goals as goal
+
+pub returns-clause-bound : goal.returns-clause-bound
+returns-clause-bound c = reaches_bound
+
+pub returns-clause-behind_a_stall : goal.returns-clause-behind_a_stall
+returns-clause-behind_a_stall c = stalled_is_cut
+
+pub returns-clause-at_a_gone_device : goal.returns-clause-at_a_gone_device
+returns-clause-at_a_gone_device c = unplugged_is_cut

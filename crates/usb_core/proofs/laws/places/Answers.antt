@@ -1,0 +1,5 @@
+use Rattle.usb_core.proofs.Runs.{keeps_places}
+use Rattle.usb_core.proofs.laws.places.Goals as goal
+
+pub returns : goal.returns
+returns c = keeps_places

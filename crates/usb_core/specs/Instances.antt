@@ -1,0 +1,57 @@
+-- The laws at worked rows: a bound that is reached, and scripts that are cut.
+use Rattle.std.specs.Prelude.{◌≡◌, ℕ, true, false, List, [], ◌∷◌, ◌++◌, take, drop}
+use Rattle.usb_model.specs.declared.answer.Answer.TheVariants.{Data, Stall}
+use Rattle.usb_model.specs.declared.request.Body.TheVariants.{In}
+use Rattle.usb_model.specs.declared.step.Step.{Step}
+use Rattle.usb_model.specs.declared.step.Step.TheVariants.{Cancel}
+use Rattle.usb_model.specs.Setup.{size_of, script_of}
+use Rattle.usb_model.specs.World.{new_world, world_from}
+use Rattle.usb_model.specs.Plans.{expand}
+use Rattle.usb_model.specs.Account.{account}
+use Rattle.usb_model.specs.Cut.{Ended, Of, Cleared, Cell, IsCut}
+use Rattle.usb_model.specs.Bound.{IsAccepted, is_in_progress, commands_in, delivers_in, world_at, asked_world, results_of}
+use Rattle.usb_model.specs.Rows.{Row, bulk}
+use Rattle.usb_model.specs.Rows.Cancelling.{cancel_at_its_bound}
+
+abbrev pub steps_of : Row → List Step
+steps_of row = expand row.setup row.plan row.rules
+
+-- the steps before transfer 15 is asked to end, and so many of those after
+abbrev pub before_ask : List Step
+before_ask = take 34 (steps_of cancel_at_its_bound)
+
+abbrev pub after_ask : ℕ → List Step
+after_ask k = take k (drop 35 (steps_of cancel_at_its_bound))
+
+-- a Command and sixteen Delivers leave it in progress, and the seventeenth makes its result
+pub record ReachesBound : Type 0 where
+  pub are_its : before_ask ++ Cancel 1 15 ∷ after_ask 18 ≡ take 53 (steps_of cancel_at_its_bound)
+  pub accepted : IsAccepted cancel_at_its_bound.setup (world_at cancel_at_its_bound.setup before_ask) (Cancel 1 15)
+  pub commands : commands_in cancel_at_its_bound.setup 1 0x81 (asked_world cancel_at_its_bound.setup before_ask (Cancel 1 15)) (after_ask 17) ≡ 1
+  pub delivers : delivers_in cancel_at_its_bound.setup 1 0x81 (asked_world cancel_at_its_bound.setup before_ask (Cancel 1 15)) (after_ask 17) ≡ 16
+  pub still : is_in_progress cancel_at_its_bound.setup 1 0x81 15 (world_at cancel_at_its_bound.setup (before_ask ++ Cancel 1 15 ∷ after_ask 17)) ≡ true
+  pub not_made : results_of cancel_at_its_bound.setup (before_ask ++ Cancel 1 15 ∷ after_ask 17) 1 15 ≡ 0
+  pub no_more : is_in_progress cancel_at_its_bound.setup 1 0x81 15 (world_at cancel_at_its_bound.setup (before_ask ++ Cancel 1 15 ∷ after_ask 18)) ≡ false
+  pub made : results_of cancel_at_its_bound.setup (before_ask ++ Cancel 1 15 ∷ after_ask 18) 1 15 ≡ 1
+
+-- the script of the endpoint 81 of device 0 is cut into these
+abbrev pub IsCutInto : Row → List Cell → Type 0
+IsCutInto row cells =
+    (c : IsCut (size_of row.setup 0 0x81) (script_of row.setup 0 0x81) (account row.setup 0 0x81 (steps_of row)) ((world_from row.setup (new_world row.setup) (steps_of row)).ends 0 0x81))
+    × (c.cells ≡ cells)
+
+-- a stall, one that stalls behind it, and after the halt was cleared a short packet
+abbrev pub stalled_cells : List Cell
+stalled_cells =
+    Of (record { n = 0; request = bulk 0x81 (In 8); round = 0; share = Stall ∷ []; fate = Ended 6 false })
+    ∷ Of (record { n = 1; request = bulk 0x81 (In 8); round = 0; share = []; fate = Ended 6 false })
+    ∷ Cleared
+    ∷ Of (record { n = 2; request = bulk 0x81 (In 8); round = 0; share = Data (1 ∷ []) ∷ []; fate = Ended 13 false })
+    ∷ []
+
+-- a whole packet, and one that ends when its device is gone
+abbrev pub unplugged_cells : List Cell
+unplugged_cells =
+    Of (record { n = 0; request = bulk 0x81 (In 8); round = 0; share = Data (1 ∷ 2 ∷ 3 ∷ 4 ∷ 5 ∷ 6 ∷ 7 ∷ 8 ∷ []) ∷ []; fate = Ended 1 false })
+    ∷ Of (record { n = 1; request = bulk 0x81 (In 8); round = 0; share = []; fate = Ended 4 true })
+    ∷ []

@@ -1,0 +1,35 @@
+//! What holds of every run, whatever the steps are. Each is a law over definitions, the contract of a function with an
+//! empty body.
+
+ghost use Rattle.std.specs.Prelude.{ℕ, List};
+ghost use Rattle.usb_model.specs.declared.step.Step.{Step};
+ghost use Rattle.usb_model.specs.Bound.{AskedEnds};
+ghost use Rattle.usb_model.specs.Cut.{CutsAt};
+ghost use Rattle.usb_model.specs.Places.{KeepsPlaces};
+ghost use Rattle.usb_model.specs.Rows.Halting.{stall_and_clear_halt};
+ghost use Rattle.usb_model.specs.Rows.Unplugging.{unplug_amid_transfers};
+ghost use Rattle.usb_model.specs.Setup.{Setup};
+ghost use Rattle.usb_core.specs.Instances.{ReachesBound, IsCutInto, stalled_cells, unplugged_cells};
+
+/// What the transfers of an endpoint moved is a cut of its device's answers, in order of submission: each result, each
+/// end and each packet that the device took is read off one transfer's share.
+pub fn cut()
+    ensures { (setup : Setup) (steps : List Step) (d e : ℕ) → CutsAt setup steps d e }
+{}
+
+/// Each transfer of a handle is in one place: none is lost, and none is doubled.
+pub fn places()
+    ensures { (setup : Setup) (steps : List Step) (h : ℕ) → KeepsPlaces setup steps h }
+{}
+
+/// A transfer that is asked to end, ends: by the seventeenth Deliver of its endpoint its one result is made.
+pub fn asked_ends()
+    ensures { (setup : Setup) (steps : List Step) (h : ℕ) → AskedEnds setup steps h }
+{}
+
+/// The laws at worked rows, computed: a bound that is reached, and scripts that are cut.
+pub fn instances()
+    ensures bound { ReachesBound }
+    ensures behind_a_stall { IsCutInto stall_and_clear_halt stalled_cells }
+    ensures at_a_gone_device { IsCutInto unplug_amid_transfers unplugged_cells }
+{}

@@ -1,0 +1,7 @@
+//! The core of the library, in which every step of every handle is made; so far the laws that its steps obey
+//! (libusb 1.0; USB 2.0, 8; xHCI 1.2, 4).
+//!
+//! The one promise: no transfer is lost, none is doubled, and none is told what its device didn't do.
+#![tactic(auto)]
+
+pub mod laws;

@@ -1,0 +1,88 @@
+-- One more answer of the endpoint's direction: an open share has an outcome with it, and no packet that moved is lost.
+use Rattle.std.proofs.Common.{Bool, List, None, Option, Some, [], ap, append-nil, drop, false, length, min, refl, sym, take, true, ℕ, ◌*◌, ◌++◌, ◌+◌, ◌-◌, ◌<◌, ◌==◌, ◌∙◌, ◌∷◌, ◌≡◌}
+use Rattle.std.specs.Prelude.{if◌then◌else◌, nat_lt}
+use Rattle.std.proofs.Math.Seq.{drop-append_seam, take-append-add}
+use Rattle.std.proofs.lemmas.List.{take-append-drop}
+use Rattle.usb_model.specs.declared.answer.Answer.TheVariants.{Ack, Broken, Data, Nak, Stall}
+use Rattle.usb_model.specs.declared.answer.Answer.{Answer}
+use Rattle.usb_model.specs.declared.request.Body.TheVariants.{In, Out}
+use Rattle.usb_model.specs.declared.request.Body.{Body}
+use Rattle.usb_model.specs.declared.request.Request.{Request}
+use Rattle.usb_model.specs.Cut.{is_of_direction}
+use Rattle.usb_model.specs.Packets.{Outcome, ended_with, open_with, outcome, packets, packets_by, without_naks}
+use Rattle.usb_model.proofs.More.{next_of, one_more, read_next, sent_next}
+use Rattle.usb_model.proofs.Shares.{IsWhole, open_whole, some_same}
+
+-- a transfer that moves bytes in this direction; inward: to the host
+abbrev pub IsBody : Bool → Body → Type 0
+IsBody true (In n) = Unit {0}
+IsBody true (Out bytes) = ⊥
+IsBody false (In n) = ⊥
+IsBody false (Out bytes) = Unit {0}
+
+-- the outcome after an answer has the packets of that before it, and perhaps more; a device's end is no withdrawal
+pub record IsNext (before after : Outcome) : Type 0 where
+  pub grows : after.packets ≡ before.packets ++ drop (length before.packets) after.packets
+  pub ends : (code : ℕ) → after.code ≡ Some code → (code == 26) ≡ false
+
+same_code : (a b : ℕ) → ◌≡◌ {A = Option ℕ} (Some a) (Some b) → (a == 26) ≡ false → (b == 26) ≡ false
+same_code a b e is = ap (λ k. k == 26) (sym (some_same a b e)) ∙ is
+
+grows_by : (ps more after : List (List ℕ)) → after ≡ ps ++ more → after ≡ ps ++ drop (length ps) after
+grows_by ps more after e = e ∙ ap (λ l. ps ++ l) (sym (ap (drop (length ps)) e ∙ drop-append_seam ps more))
+
+-- it moves nothing and ends nothing
+pub next_same : (o : Outcome) → o.code ≡ None → IsNext o o
+next_same o open_code = record { grows = grows_by o.packets [] o.packets (sym (append-nil o.packets)); ends = λ code e. absurd (cc (open_code, e)) }
+
+-- it ends the transfer
+next_ended : (o : Outcome) (code : ℕ) → (code == 26) ≡ false → IsNext o (ended_with o.packets code)
+next_ended o code is = record { grows = grows_by o.packets [] o.packets (sym (append-nil o.packets)); ends = λ k e. same_code code k e is }
+
+-- a packet joins, and perhaps ends the transfer
+next_packet : (o : Outcome) (b : List ℕ) (code : Option ℕ) → ((k : ℕ) → code ≡ Some k → (k == 26) ≡ false) → IsNext o (record { packets = o.packets ++ b ∷ []; code = code })
+next_packet o b code is = record { grows = grows_by o.packets (b ∷ []) (o.packets ++ b ∷ []) refl; ends = is }
+
+next_read : (n size : ℕ) (o : Outcome) (b : List ℕ) → IsNext o (read_next n size o.packets b)
+next_read n size o b = by_tests (nat_lt (min size (n - length o.packets * size)) (length b)) (length o.packets * size + length b == n) (nat_lt (length b) size)
+  where
+    by_tests : (p q r : Bool) → IsNext o (if p then ended_with o.packets 3 else (if q then ended_with (o.packets ++ b ∷ []) 1 else (if r then ended_with (o.packets ++ b ∷ []) 13 else open_with (o.packets ++ b ∷ []))))
+    by_tests true q r = next_ended o 3 refl
+    by_tests false true r = next_packet o b (Some 1) (λ k e. same_code 1 k e refl)
+    by_tests false false true = next_packet o b (Some 13) (λ k e. same_code 13 k e refl)
+    by_tests false false false = next_packet o b None (λ k e. absurd cc)
+
+next_sent : (all : List (List ℕ)) (o : Outcome) → o.packets ≡ take (length o.packets) all → IsNext o (sent_next all (length o.packets))
+next_sent all o is = by_test (length o.packets + 1 == length all)
+  where
+    rest : List (List ℕ)
+    rest = drop (length o.packets) all
+
+    split : all ≡ o.packets ++ rest
+    split = sym (take-append-drop (length o.packets) all) ∙ ap (λ l. l ++ rest) (sym is)
+
+    by_test : (t : Bool) → IsNext o (if t then ended_with all 1 else open_with (take (length o.packets + 1) all))
+    by_test true = record { grows = grows_by o.packets rest all split; ends = λ k e. same_code 1 k e refl }
+    by_test false = record {
+      grows = grows_by o.packets (take 1 rest) _ (ap (take (length o.packets + 1)) split ∙ take-append-add o.packets rest 1);
+      ends = λ k e. absurd cc;
+    }
+
+next_by : (inward : Bool) (request : Request) (size : ℕ) (body : Body) (xs : List Answer) (y : Answer) (o : Outcome) → IsBody inward body → is_of_direction inward y ≡ true → o.code ≡ None → IsWhole request size body xs o.packets
+    → (p : Outcome) × (next_of request size body o y ≡ Some p) × IsNext o p
+next_by inward request size body xs Nak o b k op w = (o, refl, next_same o op)
+next_by inward request size body xs Stall o b k op w = (ended_with o.packets 6, refl, next_ended o 6 refl)
+next_by inward request size body xs Broken o b k op w = (ended_with o.packets 4, refl, next_ended o 4 refl)
+next_by inward request size (In n) xs (Data bytes) o b k op w = (read_next n size o.packets bytes, refl, next_read n size o bytes)
+next_by true request size (Out all) xs (Data bytes) o b k op w = absurd b
+next_by false request size (Out all) xs (Data bytes) o b k op w = absurd cc
+next_by true request size (In n) xs Ack o b k op w = absurd cc
+next_by false request size (In n) xs Ack o b k op w = absurd b
+next_by inward request size (Out bytes) xs Ack o b k op w = let all : List (List ℕ) = packets_by request size (Out bytes) in (sent_next all (length o.packets), refl, next_sent all o w.packets)
+
+-- so an open share has an outcome with one more answer
+pub next_there : (inward : Bool) (request : Request) (size : ℕ) (share : List Answer) (y : Answer) (o : Outcome) → 0 < size → IsBody inward request.body → is_of_direction inward y ≡ true → outcome request size share false ≡ Some o → o.code ≡ None
+    → (p : Outcome) × (outcome request size (share ++ y ∷ []) false ≡ Some p) × IsNext o p
+next_there inward request size share y o some b k e op =
+    let r = next_by inward request size request.body (without_naks share) y o b k op (open_whole request size share o e op) in
+    (r.0, one_more request size share y o some e op ∙ r.1, r.2)
