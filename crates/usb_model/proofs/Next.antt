@@ -9,7 +9,7 @@ use Rattle.usb_model.specs.declared.request.Body.TheVariants.{In, Out}
 use Rattle.usb_model.specs.declared.request.Body.{Body}
 use Rattle.usb_model.specs.declared.request.Request.{Request}
 use Rattle.usb_model.specs.Cut.{is_of_direction}
-use Rattle.usb_model.specs.Packets.{Outcome, ended_with, open_with, outcome, packets, packets_by, without_naks}
+use Rattle.usb_model.specs.Packets.{Outcome, ended_with, open_with, outcome, packets_by, without_naks}
 use Rattle.usb_model.proofs.More.{next_of, one_more, read_next, sent_next}
 use Rattle.usb_model.proofs.Shares.{IsWhole, open_whole, some_same}
 
