@@ -46,6 +46,7 @@ pub record Worked (setup : Setup) (ep : ℕ) (m m' : Machine) (step : Step) : Ty
 abbrev pub IsNewOrGone : Setup → ℕ → Option Endpoint → Type 0
 IsNewOrGone setup ep o = (o ≡ None) ⊎ ((d : ℕ) × (o ≡ Some (fresh setup d ep)))
 
+-- the endpoint was idle, and is new or gone after the step; nothing of its lists is touched
 pub record Renewed (setup : Setup) (ep : ℕ) (m m' : Machine) (step : Step) : Type 0 where
   pub idle : IsIdle ep m
   pub end : IsNewOrGone setup ep (end_at m' ep)
@@ -64,9 +65,11 @@ pub record WorkedAt (setup : Setup) (m m' : Machine) (step : Step) : Type 0 wher
   pub worked : Worked setup ep m m' step
   pub others : (at : ℕ) → (ep == at) ≡ false → Stays at m m' step
 
+-- what a step that does no work leaves at one endpoint
 abbrev RestsBy : Setup → Machine → Step → Effect → ℕ → Type 0
 RestsBy setup m step done ep = Rests setup ep m (machine_after setup m step done) step
 
+-- a step that takes nothing from the lists and adds nothing to them leaves each endpoint's part of them
 lists_stay : (setup : Setup) (m : Machine) (step : Step) (done : Effect) (ep : ℕ) → TakesNone m step → done.orders ≡ [] → done.news ≡ [] → ListsStay ep m (machine_after setup m step done) step
 unfolding machine_after
 lists_stay setup m step done ep t o n = record {
@@ -89,6 +92,7 @@ freed : (device : Option ℕ) → option_and_then {U = Endpoint} (λ d. None) de
 freed None = refl
 freed (Some d) = refl
 
+-- a step that frees all interfaces renews each endpoint, all of which were idle
 frees_acts : (setup : Setup) (m : Machine) (step : Step) (handle : Handle) (ep : ℕ) → TakesNone m step → IsIdle ep m → RestsBy setup m step (does handle Frees) ep
 unfolding machine_after
 frees_acts setup m step handle ep t idle = inr (record { idle = idle; end = inl (freed handle.device); lists = lists_stay setup m step (does handle Frees) ep t refl refl })
@@ -146,16 +150,19 @@ pub end_set : (setup : Setup) (m : Machine) (ep : ℕ) (e : Endpoint) (step : St
 unfolding machine_after doing_at
 end_set setup m ep e step handle d here work = rw (same_device setup m ep e step handle d work) (sets_here setup m.ends m.handle.device ep e d.endpoint here)
 
+-- the endpoint's orders after work at it: those left, then those that the work gives
 pub orders_set : (setup : Setup) (m : Machine) (step : Step) (ep : ℕ) (handle : Handle) (d : Doing)
     → errands_of ep (machine_after setup m step (doing_at handle (device_of m) ep d)).orders ≡ errands_of ep (past_first (takes_order step) m.orders) ++ d.orders
 unfolding machine_after doing_at
 orders_set setup m step ep handle d = posts-append _ _ ep (past_first (takes_order step) m.orders) _ ∙ ap (λ l. errands_of ep (past_first (takes_order step) m.orders) ++ l) (errands_of-at ep d.orders)
 
+-- the endpoint's news after work at it: those left, then those that the work tells
 pub news_set : (setup : Setup) (m : Machine) (step : Step) (ep : ℕ) (handle : Handle) (d : Doing)
     → events_of ep (machine_after setup m step (doing_at handle (device_of m) ep d)).news ≡ events_of ep (past_first (takes_news step) m.news) ++ d.news
 unfolding machine_after doing_at
 news_set setup m step ep handle d = posts-append _ _ ep (past_first (takes_news step) m.news) _ ∙ ap (λ l. events_of ep (past_first (takes_news step) m.news) ++ l) (events_of-at ep d.news)
 
+-- work at an endpoint is that work there
 works_here : (setup : Setup) (m : Machine) (step : Step) (handle : Handle) (d : Doing) (ep : ℕ) (e : Endpoint) → end_at m ep ≡ Some e → IsWork setup m ep e step handle d
     → Worked setup ep m (machine_after setup m step (doing_at handle (device_of m) ep d)) step
 unfolding machine_after doing_at
@@ -170,6 +177,7 @@ works_here setup m step handle d ep e here work = record {
   news = news_set setup m step ep handle d;
 }
 
+-- work at an endpoint leaves each other endpoint as it was
 pub works_elsewhere : (setup : Setup) (m : Machine) (step : Step) (handle : Handle) (d : Doing) (ep : ℕ) (e : Endpoint) → IsWork setup m ep e step handle d
     → (at : ℕ) → (ep == at) ≡ false → Stays at m (machine_after setup m step (doing_at handle (device_of m) ep d)) step
 unfolding machine_after doing_at
@@ -185,6 +193,7 @@ works_elsewhere setup m step handle d ep e work at other =
       };
     }
 
+-- a result that is taken leaves each endpoint as it was
 takes_acts : (setup : Setup) (h : ℕ) (m : Machine) (x : TransferResult) (xs : List TransferResult) (ep : ℕ) → RestsBy setup m Take (take_it h m (x ∷ xs)) ep
 unfolding machine_after take_it
 takes_acts setup h m x xs ep = inl (record { end = refl; lists = record { orders = ap (errands_of ep) (append-nil m.orders); news = ap (events_of ep) (append-nil m.news); commands = refl; delivers = refl } })
@@ -232,6 +241,7 @@ rests_at setup h m step done ep well (takes x xs is) = takes_acts setup h m x xs
 abbrev pub ActsAll : Setup → Machine → Machine → Step → Type 0
 ActsAll setup m m' step = ((ep : ℕ) → Rests setup ep m m' step) ⊎ WorkedAt setup m m' step
 
+-- what any step does at each endpoint
 pub acts : (setup : Setup) (h : ℕ) (m : Machine) (step : Step) (done : Effect) → IsWell setup m → IsDone setup h m step done → ActsAll setup m (machine_after setup m step done) step
 acts setup h m step done well (only_rests rest) = inl (λ ep. rests_at setup h m step done ep well rest)
 acts setup h m step done well (works {handle = handle} {d = d} ep e here work) = inr (record {

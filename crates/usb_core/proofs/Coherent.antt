@@ -31,11 +31,13 @@ use Rattle.usb_model.proofs.Works.{first_waits}
 abbrev pub LeavesCoherent : Doing → List Errand → List Event → Type 0
 LeavesCoherent d os ns = IsCoherent d.endpoint (os ++ d.orders) (ns ++ d.news)
 
+-- one more result that does not halt
 go_more : (es : List Event) (n code : ℕ) → AllGo es → halts code ≡ false → AllGo (es ++ Finished n code ∷ [])
 go_more [] n code g s = (s, tt)
 go_more (Finished k c ∷ es) n code g s = (g.0, go_more es n code g.1 s)
 go_more (_ ∷ es) n code g s = absurd g
 
+-- one more result, and it halts
 stop_more : (es : List Event) (n code : ℕ) → AllGo es → halts code ≡ true → EndsStop (es ++ Finished n code ∷ [])
 stop_more [] n code g s = inl (s, refl)
 stop_more (Finished k c ∷ es) n code g s = inr (g.0, stop_more es n code g.1 s)
@@ -47,11 +49,13 @@ goes_on : (er : Option Errand) (os : List Errand) (es tail : List Event) (n code
 goes_on er os es tail n code (runs g) s = (refl, runs (go_more es n code g s))
 goes_on er os es tail n code (stop_waits g) s = (refl, stop_waits (go_more es n code g s))
 
+-- a running endpoint that a result halts is a halted one
 comes_to_halt : (er : Option Errand) (os : List Errand) (es tail : List Event) (n code : ℕ) → IsPhase Running er os es tail → halts code ≡ true
     → (tail ≡ []) × IsPhase Halted er os (es ++ Finished n code ∷ []) []
 comes_to_halt er os es tail n code (runs g) s = (refl, ended (stop_more es n code g s))
 comes_to_halt er os es tail n code (stop_waits g) s = (refl, stop_waits_halted (inr (stop_more es n code g s)))
 
+-- a running endpoint behind one more result runs on or is halted, as the code says
 after_served : (er : Option Errand) (os : List Errand) (es tail : List Event) (n code : ℕ) → IsPhase Running er os es tail
     → (tail ≡ []) × IsPhase (if halts code then Halted else Running) er os (es ++ Finished n code ∷ []) []
 after_served er os es tail n code p = by_test (halts code) refl
@@ -60,9 +64,11 @@ after_served er os es tail n code p = by_test (halts code) refl
     by_test true s = comes_to_halt er os es tail n code p s
     by_test false s = goes_on er os es tail n code p s
 
+-- a phase, over an equal state and equal results
 same_phase : {s t : EndpointState} {er : Option Errand} {os : List Errand} {es fs tail : List Event} → s ≡ t → es ≡ fs → IsPhase s er os es tail → IsPhase t er os fs tail
 same_phase {er = er} {os = os} {tail = tail} e f p = subst₂ (λ a b. IsPhase a er os b tail) e f p
 
+-- nothing added to the lists keeps them coherent
 coherent_same : (e : Endpoint) (os : List Errand) (ns : List Event) → IsCoherent e os ns → IsCoherent e (os ++ []) (ns ++ [])
 coherent_same e os ns c = rw (append-nil os, append-nil ns) c
 
@@ -96,12 +102,14 @@ coherent_served e x y code os ns running first same_number served c =
       answered = λ q. asked-with_first x y e.line first (λ w. ap (λ s. is_waiting_state s && is_some y.ask) served) (c.answered q);
     }
 
+-- a packet that a waiting transfer is served keeps the endpoint coherent
 coherent_serve_by : (e : Endpoint) (x : Item) (a b : Outcome) (code : Option ℕ) (os : List Errand) (ns : List Event) → e.state ≡ Running → first_waiting e.line ≡ Some x → x.state ≡ Waiting → IsCoherent e os ns
     → LeavesCoherent (serve_by e x a b code) os ns
 unfolding serve_by
 coherent_serve_by e x a b None os ns running first waits c = coherent_answered e x (record x { share = x.share ++ next_answer e }) os ns first waits (λ w. w) c
 coherent_serve_by e x a b (Some code) os ns running first waits c = coherent_served e x (record x { share = x.share ++ next_answer e; state = Served code }) code os ns running first refl refl c
 
+-- a packet that the first transfer is served keeps the endpoint coherent
 coherent_serve_first : (size : ℕ) (gone : Bool) (e : Endpoint) (s : EndpointState) (o : Option Item) (os : List Errand) (ns : List Event) → e.state ≡ s → first_waiting e.line ≡ o → IsCoherent e os ns
     → LeavesCoherent (serve_first size gone e s o) os ns
 unfolding serve_first serve_gone
@@ -134,6 +142,7 @@ in_phase e s er = record e { state = s; errand = er }
 told_behind : (ns es tail more : List Event) → ns ≡ es ++ tail → ns ++ more ≡ es ++ (tail ++ more)
 told_behind ns es tail more e = ap (λ l. l ++ more) e ∙ append_assoc es tail more
 
+-- the endpoint's next order carried out, in each phase, keeps it coherent
 coherent_command_in : (size ep : ℕ) (e : Endpoint) (s : EndpointState) (er : Option Errand) (o : Errand) (os : List Errand) (ns es tail : List Event)
     → served_events e.line ≡ es → ns ≡ es ++ tail → ServedFirst e.line → IsPhase s er (o ∷ os) es tail → LeavesCoherent (command size ep (in_phase e s er) o s) os ns
 unfolding command
@@ -174,6 +183,7 @@ past_told line n code es order is = by_test (halts code)
         let q = events-past_blanks (past_number n line) p.1 in
         (q.0 ∙ p.0, q.1)
 
+-- a line without an ask has none past a transfer that leaves
 asked-past_number : (n : ℕ) (line : List Item) → has_asked line ≡ false → has_asked (past_number n line) ≡ false
 unfolding past_number
 asked-past_number n [] a = refl
@@ -183,6 +193,7 @@ asked-past_number n (x ∷ xs) a = by_test (is_it n x) (or_parts (is_withdrawn x
     by_test true p rest = p.1
     by_test false p rest = rest p.1
 
+-- a line without an ask has none past the cancelled that leave
 asked-past_blanks : (line : List Item) → has_asked line ≡ false → has_asked (past_blanks line) ≡ false
 unfolding past_blanks
 asked-past_blanks [] a = refl
@@ -206,6 +217,7 @@ stop_left n code es (inl e) = absurd cc
 stop_left n code es (inr (inl p)) = inl p.1
 stop_left n code es (inr (inr p)) = inr p.1
 
+-- equal lists have equal heads and tails
 pub heads_event : (x y : Event) (xs ys : List Event) → x ∷ xs ≡ y ∷ ys → (x ≡ y) × (xs ≡ ys)
 heads_event x y xs ys e = (cc, cc)
 
@@ -266,6 +278,7 @@ coheres_finished line s er os ns fs tail n code is es split news order idle move
 same_event : (size ep : ℕ) (gone : Bool) (e : Endpoint) (os : List Errand) (x event : Event) (rest ns : List Event) → x ∷ rest ≡ event ∷ ns → LeavesCoherent (deliver size ep gone e x) os rest → LeavesCoherent (deliver size ep gone e event) os ns
 same_event size ep gone e os x event rest ns told c = let p = heads_event x event rest ns told in subst₂ (λ y l. LeavesCoherent (deliver size ep gone e y) os l) p.0 p.1 c
 
+-- news that is no transfer's result, delivered, keeps the endpoint coherent
 coherent_tail : (size ep : ℕ) (gone : Bool) (e : Endpoint) (s : EndpointState) (er : Option Errand) (os : List Errand) (fs tail : List Event) (event : Event) (ns : List Event)
     → served_events e.line ≡ fs → fs ≡ [] → tail ≡ event ∷ ns → ServedFirst e.line → IsPhase s er os fs tail → LeavesCoherent (deliver size ep gone (in_phase e s er) event) os ns
 unfolding deliver
@@ -294,6 +307,7 @@ first_is_end (i ∷ is) x es e = by_state i.state e (first_is_end is x es)
     by_state (Served code) e rest = (i.n, code, cc)
     by_state Blank e rest = rest e
 
+-- a result delivered keeps the endpoint coherent, be a reset due or not
 finished_leaves : (size : ℕ) (gone : Bool) (e : Endpoint) (n code : ℕ) (os : List Errand) (ns : List Event) (r : Reply) (results : List TransferResult) → AfterFinished e.line e.state e.errand os ns n code
     → LeavesCoherent (if needs_reset code e.errand then orders_it (record e { line = line_after n code e.line }) errand.Reset r results else record { reply = r; endpoint = record e { line = line_after n code e.line }; orders = []; news = []; results = results }) os ns
 finished_leaves size gone e n code os ns r results c = by_test (needs_reset code e.errand) c
@@ -332,10 +346,12 @@ asks_phase s er os es tail reset_ran = reset_ran
 asks_phase s er os es tail move_waits = move_waits
 asks_phase s er os es tail move_ran = move_ran
 
+-- an endpoint that was asked to stop has an errand
 not_none : (er : Option Errand) → (if is_some er then er else Some errand.Stop) ≡ None → ⊥
 not_none None e = cc
 not_none (Some x) e = cc
 
+-- an ask keeps the endpoint coherent
 pub coherent_ask : (e : Endpoint) (n : ℕ) (ask : Ask) (os : List Errand) (ns : List Event) → IsCoherent e os ns → LeavesCoherent (asks e n ask) os ns
 unfolding asks
 coherent_ask e n ask os ns c = record {
@@ -351,6 +367,7 @@ asked-push : (line : List Item) (y : Item) → is_withdrawn y ≡ false → has_
 asked-push [] y w a = rw w
 asked-push (x ∷ xs) y w a = let p = or_parts (is_withdrawn x) (has_asked xs) a in rw (p.0, asked-push xs y w p.1)
 
+-- a new transfer keeps the endpoint coherent
 pub coherent_submit : (e : Endpoint) (n : ℕ) (request : Request) (round : ℕ) (os : List Errand) (ns : List Event) → IsCoherent e os ns → IsCoherent (record e { line = e.line ++ new_item n request round ∷ [] }) os ns
 coherent_submit e n request round os ns c =
     let same = events-push e.line (new_item n request round) refl in

@@ -51,6 +51,7 @@ accepts handle n step left request round (anew g r) = refl
 accepts handle n step left request round (again g k x lent) = ap (accepted_again n Again) lent
 accepts handle n step left request round (again_with g k bytes x lent) = ap (accepted_again n (AgainWith bytes)) lent
 
+-- a submission is no ask
 no_ask_by : (handle : Handle) (n : ℕ) (step : Step) (left : Handle) (request : Request) (round : ℕ) → IsSubmission handle step left request round → asked_by step (reply.Number n) ≡ []
 no_ask_by handle n step left request round (anew g r) = refl
 no_ask_by handle n step left request round (again g k x lent) = refl
@@ -61,6 +62,7 @@ asks_by : (handle : Handle) (step : Step) (n : ℕ) (ask : Ask) → IsAsk step n
 asks_by handle step n ask (cancels g k) = (refl, refl)
 asks_by handle step n ask (expires g k) = (refl, refl)
 
+-- an ask that is accepted is answered Done
 reply_of : (e : Endpoint) (n : ℕ) (ask : Ask) → (asks e n ask).reply ≡ reply.Done
 unfolding asks
 reply_of e n ask = refl
@@ -70,6 +72,7 @@ abbrev pub AddsWork : Setup → Machine → ℕ → List Answer → Account → 
 AddsWork setup m ep script a step handle d =
     KeepsLedger (size_of setup (device_of m) ep) (is_in ep) handle.next script a (is_gone m) (accepted_by m.handle step d.reply) (asked_by step d.reply) d
 
+-- work that adds what the step is said to accept and to ask keeps the ledger of the account
 same_lists : (setup : Setup) (m : Machine) (ep : ℕ) (script : List Answer) (a : Account) (step : Step) (handle : Handle) (d : Doing) (accepted : List Accepted) (asked : List Asked) → accepted_by m.handle step d.reply ≡ accepted → asked_by step d.reply ≡ asked
     → KeepsLedger (size_of setup (device_of m) ep) (is_in ep) handle.next script a (is_gone m) accepted asked d → AddsWork setup m ep script a step handle d
 same_lists setup m ep script a step handle d accepted asked p q k =
@@ -81,6 +84,7 @@ true_of e os (Finished k code) ns c = end_told e os ns k code c
 true_of e os (Paused k) ns c = tt
 true_of e os (Settled o ok) ns c = tt
 
+-- each piece of work keeps the ledger of its endpoint
 pub work_holds : (setup : Setup) (m : Machine) (ep : ℕ) (script : List Answer) (a : Account) (e : Endpoint) (step : Step) (handle : Handle) (d : Doing) → 0 < size_of setup (device_of m) ep → IsWell setup m → end_at m ep ≡ Some e → IsWork setup m ep e step handle d
     → HoldsAt (size_of setup (device_of m) ep) (is_in ep) m.handle.next script a e → AddsWork setup m ep script a step handle d
 work_holds setup m ep script a e step handle d some well here (serves dev) h = holds_serve (size_of setup (device_of m) ep) (is_in ep) m.handle.next script a (is_gone m) e some h

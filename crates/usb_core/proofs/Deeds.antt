@@ -123,6 +123,7 @@ pub data IsDone (setup : Setup) (h : ℕ) (m : Machine) : Step → Effect → Ty
   only_rests : {step : Step} {done : Effect} → IsRest setup h m step done → IsDone setup h m step done
   works : {step : Step} {handle : Handle} {d : Doing} (ep : ℕ) (e : Endpoint) → end_at m ep ≡ Some e → IsWork setup m ep e step handle d → IsDone setup h m step (doing_at handle (device_of m) ep d)
 
+-- a step that may be refused does what the rest does, or nothing
 done_if : (setup : Setup) (h : ℕ) (m : Machine) (step : Step) (b : Bool) (why : Refused) (rest : Effect) → TakesNone m step → (b ≡ false → IsDone setup h m step rest) → IsDone setup h m step (refused_if m b why rest)
 unfolding refused_if
 done_if setup h m step true why rest t later = only_rests (stays (refuses why) t)
@@ -152,12 +153,14 @@ nothing_waits s er os ns es tail (runs g) idle told none = (refl, told ∙ ap (�
 nothing_waits s er os ns es tail (ended g) idle told none = (refl, told ∙ ap (λ l. l ++ []) none)
 nothing_waits s er os ns es tail _ idle told none = absurd cc
 
+-- an endpoint whose line is empty and that has no errand is idle
 idle_if : (ep : ℕ) (m : Machine) (e : Endpoint) → end_at m ep ≡ Some e → IsCoherent e (errands_of ep m.orders) (events_of ep m.news) → e.line ≡ [] → e.errand ≡ None → IsIdle ep m
 unfolding served_events
 idle_if ep m e here c line errand =
     let w = nothing_waits e.state e.errand _ _ (served_events e.line) c.tail c.phase errand c.news (ap served_events line) in
     record { no_line = ap line_at here ∙ line; no_orders = w.0; no_news = w.1 }
 
+-- an endpoint that is not there is idle
 pub idle_if_none : (ep : ℕ) (m : Machine) → end_at m ep ≡ None → Fits (end_at m ep) (errands_of ep m.orders) (events_of ep m.news) → IsIdle ep m
 idle_if_none ep m none f =
     let g : Fits None (errands_of ep m.orders) (events_of ep m.news) = subst (λ o. Fits o (errands_of ep m.orders) (events_of ep m.news)) none f in
@@ -168,10 +171,12 @@ no_items : (line : List Item) → (length line == 0) ≡ true → line ≡ []
 no_items [] e = refl
 no_items (x ∷ xs) e = absurd (cc (eqb-true (length (x ∷ xs)) 0 e))
 
+-- no errand, by its test
 no_errand : (o : Option Errand) → is_none o ≡ true → o ≡ None
 no_errand None e = refl
 no_errand (Some x) e = absurd cc
 
+-- an endpoint found among those that all pass a test passes it
 found_passes : (test : EndpointInfo → Bool) (ep : ℕ) (xs : List EndpointInfo) (s : EndpointInfo) → list_all test xs ≡ true → find (λ x. x.address == ep) xs ≡ Some s → (test s ≡ true) × (s.address ≡ ep)
 found_passes test ep [] s all e = absurd cc
 found_passes test ep (x ∷ xs) s all e = by_test (x.address == ep) refl e (found_passes test ep xs s p.1)
@@ -183,9 +188,11 @@ found_passes test ep (x ∷ xs) s all e = by_test (x.address == ep) refl e (foun
     by_test true is q rest = let same : x ≡ s = cc in (ap test (sym same) ∙ p.0, ap (λ k. k.address) (sym same) ∙ eqb-true x.address ep is)
     by_test false is q rest = rest q
 
+-- an implication's conclusion, as a test
 quiet_passes : (a b : Bool) → a ≡ true → (not a || b) ≡ true → b ≡ true
 quiet_passes a b t e = rw t at e
 
+-- where all endpoints of a kind are quiet, each of the kind is
 quiet_at : (setup : Setup) (m : Machine) (test : EndpointInfo → Bool) (ep : ℕ) (s : EndpointInfo) → are_quiet setup m test ≡ true → info_of setup (device_of m) ep ≡ Some s → test s ≡ true → is_quiet m ep (end_at m ep) ≡ true
 unfolding info_of
 quiet_at setup m test ep s quiet is passes =
@@ -197,6 +204,7 @@ known : (o : Option EndpointInfo) (i : ℕ) → option_map (λ x. x.interface) o
 known None i e = absurd cc
 known (Some s) i e = (s, refl, cc)
 
+-- an endpoint that a machine has is one of its device's
 pub at_device_of : (m : Machine) (ep : ℕ) (e : Endpoint) → end_at m ep ≡ Some e → (m.ends (device_of m) ep ≡ Some e) × (m.handle.device ≡ Some (device_of m))
 at_device_of m ep e here = by_device m.handle.device here
   where
@@ -204,6 +212,7 @@ at_device_of m ep e here = by_device m.handle.device here
     by_device None q = absurd cc
     by_device (Some d) q = (q, refl)
 
+-- where all endpoints of a kind are quiet, each of the kind is idle
 pub quiet_idle : (setup : Setup) (m : Machine) (test : EndpointInfo → Bool) (ep : ℕ) → IsWell setup m → are_quiet setup m test ≡ true
     → ((s : EndpointInfo) → info_of setup (device_of m) ep ≡ Some s → test s ≡ true) → IsIdle ep m
 quiet_idle setup m test ep well quiet passes = by_end (end_at m ep) refl
@@ -223,22 +232,26 @@ not_open : (o : Option ℕ) → is_some o ≡ false → o ≡ None
 not_open None e = refl
 not_open (Some d) e = absurd cc
 
+-- an option that is there is its value
 open_at : (o : Option ℕ) → not (is_some o) ≡ false → o ≡ Some (unwrap_or o 0)
 open_at None e = absurd cc
 open_at (Some d) e = refl
 
+-- Open does nothing at the endpoints
 open_done : (setup : Setup) (h : ℕ) (m : Machine) (g dev : ℕ) → IsDone setup h m (Open g dev) (open_it setup m dev)
 unfolding open_it
 open_done setup h m g dev =
     let t = takes_none m (Open g dev) refl refl refl in
     done_if setup h m _ _ _ _ t (λ p. done_if setup h m _ _ _ _ t (λ q. done_if setup h m _ _ _ _ t (λ closed. only_rests (opens g dev (not_open m.handle.device closed)))))
 
+-- Close frees all interfaces, and finds every endpoint idle
 close_done : (setup : Setup) (h : ℕ) (m : Machine) (g : ℕ) → IsWell setup m → IsDone setup h m (Close g) (close_it setup m)
 unfolding close_it
 close_done setup h m g well =
     let t = takes_none m (Close g) refl refl refl in
     done_if setup h m _ _ _ _ t (λ p. done_if setup h m _ _ _ _ t (λ quiet. only_rests (closes g (λ ep. quiet_idle setup m (λ x. true) ep well (not-false (are_quiet setup m (λ x. true)) quiet) (λ s e. refl)))))
 
+-- Claim makes endpoints new
 claim_done : (setup : Setup) (h : ℕ) (m : Machine) (g i : ℕ) → IsDone setup h m (Claim g i) (claim_it setup m i)
 unfolding claim_it
 claim_done setup h m g i =
@@ -255,6 +268,7 @@ within_has setup dev i ep s is within =
     let p = and_parts (dev == dev) _ within in
     ap (λ o. option_map_or (λ k. k == i) (option_map (λ x. x.interface) o) false) (sym is) ∙ p.1
 
+-- Release finds the interface's endpoints idle
 release_done : (setup : Setup) (h : ℕ) (m : Machine) (g i : ℕ) → IsWell setup m → IsDone setup h m (Release g i) (release_it setup m i)
 unfolding release_it
 release_done setup h m g i well =
@@ -262,6 +276,7 @@ release_done setup h m g i well =
     done_if setup h m _ _ _ _ t (λ p. done_if setup h m _ _ _ _ t (λ quiet. only_rests (releases g i (λ ep within.
     quiet_idle setup m (λ x. x.interface == i) ep well (not-false (are_quiet setup m (λ x. x.interface == i)) quiet) (λ s e. within_has setup (device_of m) i ep s e within)))))
 
+-- Reset frees all interfaces, and finds every endpoint idle
 reset_done : (setup : Setup) (h : ℕ) (m : Machine) (g : ℕ) → IsWell setup m → IsDone setup h m (Reset g) (reset_it setup m)
 unfolding reset_it
 reset_done setup h m g well =
@@ -269,6 +284,7 @@ reset_done setup h m g well =
     done_if setup h m _ _ _ _ t (λ p. done_if setup h m _ _ _ _ t (λ q. done_if setup h m _ _ _ _ t (λ quiet. only_rests (resets g (λ ep.
     quiet_idle setup m (λ x. true) ep well (not-false (are_quiet setup m (λ x. true)) quiet) (λ s e. refl))))))
 
+-- ClearHalt is work at its endpoint
 clear_done : (setup : Setup) (h : ℕ) (m : Machine) (g ep : ℕ) (o : Option Endpoint) → end_at m ep ≡ o → IsDone setup h m (ClearHalt g ep) (clear_it m ep o)
 unfolding clear_it doing_at
 clear_done setup h m g ep None here = only_rests (stays (refuses _) (takes_none m (ClearHalt g ep) refl refl refl))
@@ -276,6 +292,7 @@ clear_done setup h m g ep (Some e) here =
     let t = takes_none m (ClearHalt g ep) refl refl refl in
     done_if setup h m _ _ _ _ t (λ p. done_if setup h m _ _ _ _ t (λ empty. works ep e here (clears g (no_items e.line (not-false (length e.line == 0) empty)))))
 
+-- a submission is work at its endpoint
 submit_done : (setup : Setup) (h : ℕ) (m : Machine) (step : Step) (handle : Handle) (request : Request) (round : ℕ) (o : Option Endpoint) → TakesNone m step → IsSubmission m.handle step handle request round → end_at m request.ep ≡ o
     → IsDone setup h m step (submit_at setup m handle request round o)
 unfolding submit_at
@@ -287,6 +304,7 @@ submit_done setup h m step handle request round (Some e) t is here =
     has_room : (a b : ℕ) → a + b < 16 → a + 1 ≤ 16
     has_room a b lt = omega (arith, lt)
 
+-- an answer to a callback frees the callback, or submits once more
 answer_done : (setup : Setup) (h : ℕ) (m : Machine) (g k : ℕ) (verdict : Verdict) (o : Option InCallback) → callback_of k m.handle.out ≡ o → IsDone setup h m (Answer g k verdict) (answer_at setup m verdict o)
 unfolding answer_at submit_it
 answer_done setup h m g k verdict None is = only_rests (stays (refuses _) (takes_none m (Answer g k verdict) refl refl refl))
@@ -299,6 +317,7 @@ abbrev IsHome : Machine → ℕ → Option Home → Type 0
 IsHome m n None = Unit {0}
 IsHome m n (Some home) = (end_at m home.ep ≡ Some home.endpoint) × (in_progress n home.endpoint.line ≡ Some home.item)
 
+-- the endpoint at which a transfer is in progress
 home_is : (m : Machine) (n : ℕ) (xs : List EndpointInfo) → IsHome m n (home_of m n xs)
 unfolding home_of
 home_is m n [] = tt
@@ -312,16 +331,19 @@ home_is m n (x ∷ xs) = by_end (end_at m x.address) refl (home_is m n xs)
     by_end None here rest = rest
     by_end (Some e) here rest = by_item e (in_progress n e.line) here refl rest
 
+-- no ask, by its test
 not_asked : (o : Option Ask) → is_some o ≡ false → o ≡ None
 not_asked None e = refl
 not_asked (Some a) e = absurd cc
 
+-- an ask is work at the endpoint of its transfer
 ask_done : (setup : Setup) (h : ℕ) (m : Machine) (step : Step) (n : ℕ) (ask : Ask) (timed : Bool) (o : Option Home) → TakesNone m step → IsAsk step n ask → IsHome m n o → IsDone setup h m step (ask_at m n ask timed o)
 unfolding ask_at
 ask_done setup h m step n ask timed None t is home = only_rests (stays (refuses _) t)
 ask_done setup h m step n ask timed (Some home) t is at =
     done_if setup h m _ _ _ _ t (λ fine. works home.ep home.endpoint at.0 (asks_it n home.item is at.1 (not_asked home.item.ask (or_parts (is_some home.item.ask) _ fine).0)))
 
+-- Serve is work at its endpoint
 serve_done : (setup : Setup) (h : ℕ) (m : Machine) (dev ep : ℕ) (o : Option Endpoint) → IsWell setup m → m.ends dev ep ≡ o → IsDone setup h m (Serve dev ep) (serve_it setup m dev ep o)
 unfolding serve_it
 serve_done setup h m dev ep None well here = only_rests (stays idles (takes_none m (Serve dev ep) refl refl refl))
@@ -335,12 +357,15 @@ serve_done setup h m dev ep (Some e) well here =
 no_order : (m : Machine) → m.orders ≡ [] → TakesNone m Command
 no_order m none = record { orders = rw none refl; news = refl; results = refl; commands = λ ep. rw none refl; delivers = λ ep. refl }
 
+-- without news Deliver takes none
 no_piece : (m : Machine) → m.news ≡ [] → TakesNone m Deliver
 no_piece m none = record { orders = refl; news = rw none refl; results = refl; commands = λ ep. refl; delivers = λ ep. rw none refl }
 
+-- without results Take takes none
 no_result : (m : Machine) → m.results ≡ [] → TakesNone m Take
 no_result m none = record { orders = refl; news = refl; results = rw none refl; commands = λ ep. refl; delivers = λ ep. refl }
 
+-- Command is work at its order's endpoint
 command_done : (setup : Setup) (h : ℕ) (m : Machine) (xs : List Order) → IsWell setup m → m.orders ≡ xs → IsDone setup h m Command (command_it setup m xs)
 unfolding command_it command_at
 command_done setup h m [] well is = only_rests (stays idles (no_order m is))
@@ -353,6 +378,7 @@ command_done setup h m (order ∷ orders) well is = by_end (end_at m order.ep) r
     by_end None none = absurd (cc ((idle_if_none order.ep m none (well.fits order.ep)).no_orders, waits))
     by_end (Some e) here = works order.ep e here (commands order.errand orders is)
 
+-- Deliver is work at its news' endpoint
 deliver_done : (setup : Setup) (h : ℕ) (m : Machine) (xs : List News) → IsWell setup m → m.news ≡ xs → IsDone setup h m Deliver (deliver_it setup m xs)
 unfolding deliver_it deliver_at
 deliver_done setup h m [] well is = only_rests (stays idles (no_piece m is))
@@ -365,11 +391,13 @@ deliver_done setup h m (news ∷ rest) well is = by_end (end_at m news.ep) refl
     by_end None none = absurd (cc ((idle_if_none news.ep m none (well.fits news.ep)).no_news, waits))
     by_end (Some e) here = works news.ep e here (delivers news.event rest is)
 
+-- Take calls the first result back
 take_done : (setup : Setup) (h : ℕ) (m : Machine) (xs : List TransferResult) → m.results ≡ xs → IsDone setup h m Take (take_it h m xs)
 unfolding take_it
 take_done setup h m [] is = only_rests (stays idles (no_result m is))
 take_done setup h m (x ∷ xs) is = only_rests (takes x xs is)
 
+-- Unplug does nothing at the endpoints
 unplug_done : (setup : Setup) (h : ℕ) (m : Machine) (dev : ℕ) → IsDone setup h m (Unplug dev) (says m (unplug_reply setup m.gone dev))
 unplug_done setup h m dev = by_tests (not (is_device setup dev)) (m.gone dev)
   where
@@ -378,6 +406,7 @@ unplug_done setup h m dev = by_tests (not (is_device setup dev)) (m.gone dev)
     by_tests false true = only_rests (stays (refuses _) (takes_none m (Unplug dev) refl refl refl))
     by_tests false false = only_rests (stays (unplugs dev) (takes_none m (Unplug dev) refl refl refl))
 
+-- what each step does
 pub is_done : (setup : Setup) (h : ℕ) (m : Machine) (step : Step) → IsWell setup m → IsDone setup h m step (effect setup h m step)
 unfolding effect submit_it ask_it answer_it
 is_done setup h m (Open g dev) well = open_done setup h m g dev

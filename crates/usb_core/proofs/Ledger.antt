@@ -71,6 +71,7 @@ RowToldBy size a r Waits = (made_of r.item.n a.made ≡ []) × (asks_of r.item.n
 RowToldBy size a r (Ended code gone) = made_of r.item.n a.made ≡ []
 RowToldBy size a r (Withdrawn ask) = IsWithdrawnTold size a (part_of r) ask
 
+-- a row: its fate is its item's, and the account tells it
 pub record IsRow (size : ℕ) (inward : Bool) (a : Account) (r : Row) : Type 0 where
   pub fate : IsFate r.item.state r.fate
   pub body : IsBody inward r.item.request.body

@@ -55,6 +55,7 @@ record RowOf (rows : List Row) (front : List Item) (x : Item) (back : List Item)
   front_is : map item_of before ≡ front
   back_is : map item_of behind ≡ back
 
+-- the row of an item in the line
 row_of : (rows : List Row) (front : List Item) (x : Item) (back : List Item) → map item_of rows ≡ front ++ x ∷ back → RowOf rows front x back
 row_of rows front x back e = by_rest s.1 s.2 s.4
   where
@@ -135,6 +136,7 @@ more_made a xs ys = λ i. record {
   made = append_assoc a.made xs ys i;
 }
 
+-- the withdrawn become blanks, and their results are made
 holds_withdrawn_from : (size : ℕ) (inward : Bool) (next : ℕ) (script : List Answer) (a : Account) (gone : Bool) (front back : List Item) (left : List Answer) (halted : Bool) (taken : List (List ℕ))
     → Holds size inward next script a (front ++ back) left halted taken → Holds size inward next script (with_more a [] [] [] (made_with gone (withdrawn size back))) (front ++ map blanked back) left halted taken
 unfolding withdrawn
@@ -189,6 +191,7 @@ blank_rows : (rows : List Row) → Each (λ x. x.state ≡ Blank) (map item_of r
 blank_rows [] e = tt
 blank_rows (r ∷ rows) e = (e.0, blank_rows rows e.1)
 
+-- the cancelled at the front leave the line
 holds_past_blanks : (size : ℕ) (inward : Bool) (next : ℕ) (script : List Answer) (a : Account) (line : List Item) (left : List Answer) (halted : Bool) (taken : List (List ℕ))
     → Holds size inward next script a line left halted taken → Holds size inward next script a (past_blanks line) left halted taken
 holds_past_blanks size inward next script a line left halted taken h =
@@ -208,6 +211,7 @@ holds_ended size inward next script a gone line left halted taken k code f h = b
         (holds_finished size inward next script a line (past_number k line) left halted taken t.before t.behind t.row code gone h t.is t.back_is
         (blank_rows t.before (subst (Each (λ x. x.state ≡ Blank)) (sym t.front_is) f.blanks)) (ap (λ x. x.state) t.item ∙ f.served))
 
+-- behind a result the cancelled may leave the line too
 holds_line_after : (size : ℕ) (inward : Bool) (next : ℕ) (script : List Answer) (a : Account) (line : List Item) (left : List Answer) (halted : Bool) (taken : List (List ℕ)) (k code : ℕ)
     → Holds size inward next script a (past_number k line) left halted taken → Holds size inward next script a (line_after k code line) left halted taken
 holds_line_after size inward next script a line left halted taken k code h = by_test (halts code)
@@ -221,6 +225,7 @@ abbrev pub IsTrueOf : Endpoint → Event → Type 0
 IsTrueOf e (Finished k code) = EndsFirst e.line k code
 IsTrueOf e _ = Unit {0}
 
+-- an account to which nothing is added
 holds_same : (size : ℕ) (inward : Bool) (next : ℕ) (script : List Answer) (a : Account) (e : Endpoint) → HoldsAt size inward next script a e → HoldsAt size inward next script (with_more a [] [] [] []) e
 holds_same size inward next script a e h = subst (λ b. HoldsAt size inward next script b e) (sym (no_more a)) h
 

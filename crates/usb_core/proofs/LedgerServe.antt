@@ -35,21 +35,25 @@ use Rattle.usb_model.specs.Serve as service
 abbrev next_by : Bool → List Answer → List Answer
 next_by halted left = if halted then [] else take 1 left
 
+-- the answer that is served is the first of those left
 next_split : (halted : Bool) (left : List Answer) → left ≡ next_by halted left ++ drop (length (next_by halted left)) left
 next_split true left = refl
 next_split false [] = refl
 next_split false (y ∷ ys) = refl
 
+-- at most one answer is served
 next_short : (halted : Bool) (left : List Answer) → length (next_by halted left) ≤ 1
 next_short true left = omega arith
 next_short false [] = omega arith
 next_short false (y ∷ ys) = omega arith
 
+-- the answers left are of the endpoint's direction still
 next_kinds : (inward halted : Bool) (left : List Answer) → list_all (is_of_direction inward) left ≡ true → list_all (is_of_direction inward) (drop (length (next_by halted left)) left) ≡ true
 next_kinds inward true left k = k
 next_kinds inward false [] k = k
 next_kinds inward false (y ∷ ys) k = (and_parts (is_of_direction inward y) (list_all (is_of_direction inward) ys) k).1
 
+-- an answer that is served is a stall or not
 next_stall : (halted : Bool) (left : List Answer) → has_stall (next_by halted left) ≡ service.is_stall (next_by halted left)
 next_stall true left = refl
 next_stall false [] = refl
@@ -86,6 +90,7 @@ after_next size request share next o p short was op is n = record {
       ∙ (n.grows ∙ sym (ap (λ r. (unwrap_or r (open_with [])).packets ++ drop (length (unwrap_or r (open_with [])).packets) p.packets) was));
 }
 
+-- nothing dropped of nothing
 drop_none : (n : ℕ) → drop {A = List ℕ} n [] ≡ []
 drop_none zero = refl
 drop_none (suc n) = refl
@@ -95,6 +100,7 @@ halted_outcome : (request : Request) (size : ℕ) → outcome request size [] tr
 unfolding outcome
 halted_outcome request size = refl
 
+-- one more answer to an open share: what it makes of its transfer
 after_serve : (size : ℕ) (inward halted : Bool) (left : List Answer) (request : Request) (share : List Answer) → 0 < size → IsBody inward request.body → list_all (is_of_direction inward) left ≡ true
     → MatchBool halted (share ≡ []) (IsOpenAt (outcome request size share false)) → AfterServe size halted request share (next_by halted left)
 after_serve size inward true left request share some body kinds none = record {
@@ -127,6 +133,7 @@ record WaitsAt (rows : List Row) (x : Item) : Type 0 where
   waits : row.item.state ≡ Waiting
   becomes : (y : Item) → with_first y (map item_of rows) ≡ map item_of front ++ y ∷ map item_of back
 
+-- the first waiting item has its row, and no row before it waits
 waits_at : (rows : List Row) (x : Item) → first_waiting (map item_of rows) ≡ Some x → WaitsAt rows x
 unfolding first_waiting with_first
 waits_at [] x f = absurd cc
@@ -172,6 +179,7 @@ record WaitingRow (size : ℕ) (inward : Bool) (a : Account) (halted behind : Bo
   open_share : IsOpen size behind (part_of r)
   told : RowToldBy size a r Waits
 
+-- what the ledger says of a row that waits
 waiting_row : (size : ℕ) (inward : Bool) (next : ℕ) (script : List Answer) (a : Account) (e : Endpoint) (front back : List Row) (r : Row) (h : HoldsAt size inward next script a e) → h.rows ≡ front ++ r ∷ back → r.item.state ≡ Waiting
     → WaitingRow size inward a e.halted (stalled false (all_cells h.gone front)) r
 waiting_row size inward next script a e front back r h is waits =
@@ -186,6 +194,7 @@ waiting_row size inward next script a e front back r h is waits =
       told = subst (RowToldBy size a r) fate m.row.told;
     }
 
+-- replies that tell no end, by a test
 not_ended : (gone b : Bool) (p q : Reply) → ended_by gone p ≡ [] → ended_by gone q ≡ [] → ended_by gone (if b then p else q) ≡ []
 not_ended gone true p q e f = e
 not_ended gone false p q e f = f
@@ -199,6 +208,7 @@ takes_packets size r next state fate halted s = by_body r.item.request.body
     by_body (In n) = refl
     by_body (Out bytes) = s.grows
 
+-- a share to which nothing is added moves no packet
 same_but_share : (size : ℕ) (r : Row) (state : ItemState) (fate : Fate) → packets_taken size (part_of (with_row r (r.item.share ++ []) state r.item.ask fate)) ≡ packets_taken size (part_of r) ++ []
 same_but_share size r state fate = by_body r.item.request.body
   where
@@ -206,6 +216,7 @@ same_but_share size r state fate = by_body r.item.request.body
     by_body (In n) = refl
     by_body (Out bytes) = ap (moved r.item.request size) (append-nil r.item.share) ∙ sym (append-nil (moved r.item.request size r.item.share))
 
+-- a packet that a waiting transfer is served keeps the ledger
 holds_serve_by : (size : ℕ) (inward : Bool) (next : ℕ) (script : List Answer) (a : Account) (e : Endpoint) (front back : List Row) (r : Row) (h : HoldsAt size inward next script a e) → h.rows ≡ front ++ r ∷ back
     → r.item.state ≡ Waiting → Each (λ x. is_waiting x.item ≡ false) front → ((y : Item) → with_first y e.line ≡ map item_of front ++ y ∷ map item_of back)
     → (s : AfterServe size e.halted r.item.request r.item.share (next_answer e)) (code : Option ℕ) → s.result.code ≡ code
@@ -282,6 +293,7 @@ holds_serve_gone size inward next script a e front back r h is waits none_before
     })
     (map-append item_of front (s ∷ back) ∙ (ap (λ l. map item_of front ++ record r.item { share = l; state = Served 4 } ∷ map item_of back) (append-nil r.item.share) ∙ sym (becomes (record r.item { state = Served 4 })))))
 
+-- a running endpoint that serves its first waiting transfer keeps the ledger
 holds_serve_waiting : (size : ℕ) (inward : Bool) (next : ℕ) (script : List Answer) (a : Account) (gone : Bool) (e : Endpoint) (x : Item) (h : HoldsAt size inward next script a e) → 0 < size → WaitsAt h.rows x
     → KeepsLedger size inward next script a gone [] [] (serve_first size gone e Running (Some x))
 unfolding serve_first
@@ -305,6 +317,7 @@ holds_serve_waiting size inward next script a false e x h some t =
         subst (λ o. KeepsLedger size inward next script a false [] [] (serve_by e t.row.item (outcome_of size t.row.item) (unwrap_or o (open_with [])) (unwrap_or o (open_with [])).code)) (sym s.there)
         (holds_serve_by size inward next script a e t.front t.back t.row h t.is t.waits t.none_before (λ y. ap (with_first y) (sym h.is_line) ∙ t.becomes y) s s.result.code refl)
 
+-- an endpoint that serves, in each state, keeps the ledger
 holds_serve_first : (size : ℕ) (inward : Bool) (next : ℕ) (script : List Answer) (a : Account) (gone : Bool) (e : Endpoint) (s : EndpointState) (i : Option Item) → 0 < size → first_waiting e.line ≡ i → HoldsAt size inward next script a e
     → KeepsLedger size inward next script a gone [] [] (serve_first size gone e s i)
 unfolding serve_first

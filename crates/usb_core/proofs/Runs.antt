@@ -19,6 +19,7 @@ pub record IsKept (setup : Setup) (m : Machine) (called : List ℕ) : Type 0 whe
   pub well : IsWell setup m
   pub placed : IsPlaced m called
 
+-- a step keeps a machine well and its numbers placed
 pub kept_step : (setup : Setup) (h : ℕ) (m : Machine) (step : Step) (called : List ℕ) → IsKept setup m called
     → IsKept setup (machine_after setup m step (effect setup h m step)) (called ++ called_by (effect setup h m step).reply)
 kept_step setup h m step called k = record {
@@ -37,6 +38,7 @@ kept_new setup = record {
   };
 }
 
+-- what the first entry calls back comes first
 numbers_called-cons : (x : Entry) (xs : List Entry) → numbers_called (x ∷ xs) ≡ called_by x.reply ++ numbers_called xs
 unfolding calls
 numbers_called-cons x xs = map-append (λ r. r.n) (call_of x.reply) (calls xs)

@@ -91,11 +91,13 @@ events_same : (x y : Item) (xs ys : List Item) → x.n ≡ y.n → x.state ≡ y
 unfolding served_events
 events_same x y xs ys n s e = rw (n, s, e)
 
+-- a head before another line with the same results
 first_same : (s : ItemState) (xs ys : List Item) (P Q : Type 0) → served_events ys ≡ served_events xs → (P → Q) → first_by s xs P → first_by s ys Q
 first_same Waiting xs ys P Q e f p = e ∙ p
 first_same (Served code) xs ys P Q e f p = f p
 first_same Blank xs ys P Q e f p = f p
 
+-- what stands behind a head, by an equal state
 first_at : (s t : ItemState) (xs : List Item) (P : Type 0) → s ≡ t → first_by s xs P → first_by t xs P
 first_at s t xs P e p = subst (λ k. first_by k xs P) e p
 
@@ -107,10 +109,12 @@ asked_kept n ask x = by_test (x.n == n)
     by_test true = (refl, refl)
     by_test false = (refl, refl)
 
+-- an ask leaves the results served
 pub events-with_ask : (n : ℕ) (ask : Ask) (line : List Item) → served_events (map (with_ask n ask) line) ≡ served_events line
 events-with_ask n ask [] = refl
 events-with_ask n ask (x ∷ xs) = events_same (with_ask n ask x) x (map (with_ask n ask) xs) xs (asked_kept n ask x).0 (asked_kept n ask x).1 (events-with_ask n ask xs)
 
+-- an ask leaves the served first
 pub first-with_ask : (n : ℕ) (ask : Ask) (line : List Item) → ServedFirst line → ServedFirst (map (with_ask n ask) line)
 first-with_ask n ask [] f = tt
 first-with_ask n ask (x ∷ xs) f =
@@ -127,11 +131,13 @@ events_blanked x es = by_state x.state (is_some x.ask)
     by_state (Served code) b = refl
     by_state Blank b = refl
 
+-- the withdrawn become blanks: the results served stay
 pub events-blanked : (line : List Item) → served_events (map blanked line) ≡ served_events line
 unfolding served_events
 events-blanked [] = refl
 events-blanked (x ∷ xs) = events_blanked x (served_events (map blanked xs)) ∙ ap (event_by x.n x.state) (events-blanked xs)
 
+-- where nothing was served the served are first
 pub no_events_first : (line : List Item) → served_events line ≡ [] → ServedFirst line
 unfolding served_events
 no_events_first [] e = tt
@@ -142,6 +148,7 @@ no_events_first (x ∷ xs) e = by_state x.state e (no_events_first xs)
     by_state (Served code) e rest = absurd cc
     by_state Blank e rest = rest e
 
+-- a head that becomes a blank, or stays
 first_blanked : (x : Item) (xs ys : List Item) (P Q : Type 0) → served_events ys ≡ served_events xs → (served_events ys ≡ [] → Q) → (P → Q) → first_by x.state xs P → first_by (blanked x).state ys Q
 first_blanked x xs ys P Q e g f p = by_state x.state (is_some x.ask) p
   where
@@ -151,11 +158,13 @@ first_blanked x xs ys P Q e g f p = by_state x.state (is_some x.ask) p
     by_state (Served code) b p = f p
     by_state Blank b p = f p
 
+-- the withdrawn become blanks: the served stay first
 pub first-blanked : (line : List Item) → ServedFirst line → ServedFirst (map blanked line)
 first-blanked [] f = tt
 first-blanked (x ∷ xs) f =
     first_blanked x xs (map blanked xs) (ServedFirst xs) (ServedFirst (map blanked xs)) (events-blanked xs) (no_events_first (map blanked xs)) (first-blanked xs) f
 
+-- what became a blank is not withdrawn
 none_asked : (x : Item) → is_withdrawn (blanked x) ≡ false
 none_asked x = by_test (is_withdrawn x) refl
   where
@@ -163,6 +172,7 @@ none_asked x = by_test (is_withdrawn x) refl
     by_test true e = refl
     by_test false e = e
 
+-- once the withdrawn are blanks no ask stands
 pub asked-blanked : (line : List Item) → has_asked (map blanked line) ≡ false
 asked-blanked [] = refl
 asked-blanked (x ∷ xs) = rw (none_asked x, asked-blanked xs)
@@ -196,6 +206,7 @@ events-with_first x y (z ∷ zs) f o live = by_state z.state f o (events-with_fi
     by_state (Served code) f o rest = let r = rest f o live in (ap (λ l. Finished z.n code ∷ l) r.0, r.1)
     by_state Blank f o rest = rest f o live
 
+-- the first waiting transfer replaced by one that is not withdrawn brings no ask
 pub asked-with_first : (x y : Item) (line : List Item) → first_waiting line ≡ Some x → (is_withdrawn x ≡ false → is_withdrawn y ≡ false) → has_asked line ≡ false → has_asked (with_first y line) ≡ false
 unfolding first_waiting with_first
 asked-with_first x y [] f k a = absurd cc
@@ -216,6 +227,7 @@ unfolding served_events
 events-push [] y w = rw w
 events-push (x ∷ xs) y w = ap (event_by x.n x.state) (events-push xs y w)
 
+-- a new transfer leaves the served first
 pub first-push : (line : List Item) (y : Item) → y.state ≡ Waiting → ServedFirst line → ServedFirst (line ++ y ∷ [])
 unfolding served_events
 first-push [] y w f = rw w refl

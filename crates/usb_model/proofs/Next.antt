@@ -25,9 +25,11 @@ pub record IsNext (before after : Outcome) : Type 0 where
   pub grows : after.packets ≡ before.packets ++ drop (length before.packets) after.packets
   pub ends : (code : ℕ) → after.code ≡ Some code → (code == 26) ≡ false
 
+-- equal codes are equally 26
 same_code : (a b : ℕ) → ◌≡◌ {A = Option ℕ} (Some a) (Some b) → (a == 26) ≡ false → (b == 26) ≡ false
 same_code a b e is = ap (λ k. k == 26) (sym (some_same a b e)) ∙ is
 
+-- what was appended is what is behind
 grows_by : (ps more after : List (List ℕ)) → after ≡ ps ++ more → after ≡ ps ++ drop (length ps) after
 grows_by ps more after e = e ∙ ap (λ l. ps ++ l) (sym (ap (drop (length ps)) e ∙ drop-append_seam ps more))
 
@@ -43,6 +45,7 @@ next_ended o code is = record { grows = grows_by o.packets [] o.packets (sym (ap
 next_packet : (o : Outcome) (b : List ℕ) (code : Option ℕ) → ((k : ℕ) → code ≡ Some k → (k == 26) ≡ false) → IsNext o (record { packets = o.packets ++ b ∷ []; code = code })
 next_packet o b code is = record { grows = grows_by o.packets (b ∷ []) (o.packets ++ b ∷ []) refl; ends = is }
 
+-- one more packet read
 next_read : (n size : ℕ) (o : Outcome) (b : List ℕ) → IsNext o (read_next n size o.packets b)
 next_read n size o b = by_tests (nat_lt (min size (n - length o.packets * size)) (length b)) (length o.packets * size + length b == n) (nat_lt (length b) size)
   where
@@ -52,6 +55,7 @@ next_read n size o b = by_tests (nat_lt (min size (n - length o.packets * size))
     by_tests false false true = next_packet o b (Some 13) (λ k e. same_code 13 k e refl)
     by_tests false false false = next_packet o b None (λ k e. absurd cc)
 
+-- one more packet sent
 next_sent : (all : List (List ℕ)) (o : Outcome) → o.packets ≡ take (length o.packets) all → IsNext o (sent_next all (length o.packets))
 next_sent all o is = by_test (length o.packets + 1 == length all)
   where
@@ -68,6 +72,7 @@ next_sent all o is = by_test (length o.packets + 1 == length all)
       ends = λ k e. absurd cc;
     }
 
+-- one more answer of the endpoint's direction
 next_by : (inward : Bool) (request : Request) (size : ℕ) (body : Body) (xs : List Answer) (y : Answer) (o : Outcome) → IsBody inward body → is_of_direction inward y ≡ true → o.code ≡ None → IsWhole request size body xs o.packets
     → (p : Outcome) × (next_of request size body o y ≡ Some p) × IsNext o p
 next_by inward request size body xs Nak o b k op w = (o, refl, next_same o op)
