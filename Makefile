@@ -3,7 +3,7 @@
 .PHONY: run test
 
 run:
-	@cat crates/usb_model/example.txt
+	@sed -n '/^cancel_amid_transfer = /,/^}/p' crates/usb_model/specs/Rows/Cancelling.antt
 
 test:
 	rt ci

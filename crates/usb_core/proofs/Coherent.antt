@@ -21,7 +21,7 @@ use Rattle.usb_model.specs.Command.{command, pause_of}
 use Rattle.usb_model.specs.Cut.{told}
 use Rattle.usb_model.specs.Deliver.{blanked, deliver, is_withdrawn, leads_blank, line_after, needs_reset, orders_it, resume, withdrawn}
 use Rattle.usb_model.specs.Endpoint.{Doing, first_waiting, is_blank, is_blank_state, is_it, is_waiting_state, new_item, outcome_of, past_blanks, past_number, with_first}
-use Rattle.usb_model.specs.Packets.{Outcome}
+use Rattle.usb_model.specs.declared.plain.outcome.Outcome.{Outcome}
 use Rattle.usb_model.specs.Serve.{next_answer, serve, serve_by, serve_first, serve_gone}
 use Rattle.usb_model.specs.Status.{halts}
 use Rattle.usb_model.proofs.Errands.{AllGo, Coheres, EndsStop, IsCoherent, IsPhase, MayStop, ServedFirst, asked-blanked, asked-with_first, ended, event_by, events-blanked, events-past_blanks, events-past_number, events-push, events-with_ask, events-with_first, first-blanked, first-push, first-with_ask, has_asked, move_ran, move_waits, reset_ran, reset_waits, runs, served_events, stop_failed, stop_ran, stop_ran_paused, stop_waits, stop_waits_halted}

@@ -11,7 +11,7 @@ use Rattle.usb_model.specs.declared.plain.item.ItemState.TheVariants.{Blank, Ser
 use Rattle.usb_model.specs.declared.plain.item.ItemState.{ItemState}
 use Rattle.usb_model.specs.declared.plain.news.Event.{Event}
 use Rattle.usb_model.specs.Endpoint.{first_waiting, in_progress, is_blank, is_it, is_waiting, is_waiting_state, with_first}
-use Rattle.usb_model.specs.Packets.{Outcome}
+use Rattle.usb_model.specs.declared.plain.outcome.Outcome.{Outcome}
 use Rattle.usb_model.specs.Serve.{next_answer, serve, serve_by, serve_first, serve_gone}
 use Rattle.usb_core.proofs.Coherent.{LeavesCoherent, coherent_serve}
 use Rattle.usb_core.proofs.Due.{IsDue, IsLeft, LeavesDue, ahead_of, asked_waits}

@@ -3,7 +3,8 @@ use Rattle.std.proofs.Common.{◌≡◌, ℕ, true, false, inr, [], ◌∷◌, S
 use Rattle.usb_model.specs.declared.answer.Answer.{Answer}
 use Rattle.usb_model.specs.declared.answer.Answer.TheVariants.{Data, Stall}
 use Rattle.usb_model.specs.declared.request.Body.TheVariants.{In}
-use Rattle.usb_model.specs.Packets.{Outcome, outcome, open_with, ended_with, Ends}
+use Rattle.usb_model.specs.declared.plain.outcome.Outcome.{Outcome}
+use Rattle.usb_model.specs.Packets.{outcome, open_with, ended_with, Ends}
 use Rattle.usb_model.specs.Endpoint.{live_numbers}
 use Rattle.usb_model.specs.Account.{account, account_from, account_of}
 use Rattle.usb_model.specs.Places.{calls}

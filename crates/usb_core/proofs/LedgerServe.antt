@@ -19,7 +19,8 @@ use Rattle.usb_model.specs.declared.request.Request.{Request}
 use Rattle.usb_model.specs.Account.{Accepted, Account, Asked, ended_by}
 use Rattle.usb_model.specs.Cut.{Ended, Fate, FitsFate, IsOpen, Waits, has_stall, is_of_direction, packets_taken, packets_taken_by}
 use Rattle.usb_model.specs.Endpoint.{Doing, first_waiting, is_blank_state, is_waiting, is_waiting_state, outcome_of, with_first}
-use Rattle.usb_model.specs.Packets.{Ends, IsOpenAt, Outcome, ended_with, open_with, outcome}
+use Rattle.usb_model.specs.declared.plain.outcome.Outcome.{Outcome}
+use Rattle.usb_model.specs.Packets.{Ends, IsOpenAt, ended_with, open_with, outcome}
 use Rattle.usb_model.specs.Serve.{acknowledged, is_no_packet, next_answer, serve, serve_by, serve_first, serve_gone}
 use Rattle.usb_core.proofs.Ledger.{Holds, HoldsAt, IsFate, IsQuiet, IsUntouched, Row, RowToldBy, all_cells, cell_of, item_of, part_of, quiet_by, stalled}
 use Rattle.usb_core.proofs.LedgerLeaves.{no_more}

@@ -1,5 +1,9 @@
 pub mod Computed
 mod WorkedRows
+pub mod CutPackets
+pub mod EndedShares
+mod Statuses
+mod NothingChanges
 pub mod Pieces
 pub mod Changes
 pub mod Replies

@@ -8,8 +8,10 @@ use Rattle.usb_model.specs.declared.answer.Answer.TheVariants.{Data, Ack, Nak, S
 use Rattle.usb_model.specs.declared.request.Body.{Body}
 use Rattle.usb_model.specs.declared.request.Body.TheVariants.{In, Out}
 use Rattle.usb_model.specs.declared.request.Request.{Request}
-use Rattle.usb_model.specs.Packets.{Outcome, outcome, count_of, open_with, ended_with, moved_by, packets_by, without_naks, acks, sent_with, full_front, read_with}
-use Rattle.usb_model.proofs.Shares.{IsRead, IsSent, IsWhole, full_count, no_front, read_behind, sent_behind, open_if_whole, outcome_is, naks-append, open_whole}
+use Rattle.usb_model.specs.declared.plain.outcome.Outcome.{Outcome}
+use Rattle.usb_model.specs.Packets.{outcome, count_of, open_with, ended_with, moved_by, packets_by, without_naks, acks, sent_with, full_front, read_with}
+use Rattle.usb_model.proofs.EndedShares.{outcome_is}
+use Rattle.usb_model.proofs.Shares.{IsRead, IsSent, IsWhole, full_count, no_front, read_behind, sent_behind, open_if_whole, naks-append, open_whole}
 
 -- a packet that comes behind these, with room for n bytes in all
 abbrev pub read_next : ℕ → ℕ → List (List ℕ) → List ℕ → Outcome

@@ -10,9 +10,11 @@ use Rattle.usb_model.specs.declared.answer.Answer.TheVariants.{Data, Ack, Nak, S
 use Rattle.usb_model.specs.declared.request.Body.{Body}
 use Rattle.usb_model.specs.declared.request.Body.TheVariants.{In, Out}
 use Rattle.usb_model.specs.declared.request.Request.{Request}
-use Rattle.usb_model.specs.Packets.{Outcome, outcome, open_with, ended_with, moved_by, packets_by, cut, full_packets, pieces, is_nak, without_naks, acks, sent_with, full_front, read_with, front_of, IsOpenAt}
+use Rattle.usb_model.specs.declared.plain.outcome.Outcome.{Outcome}
+use Rattle.usb_model.specs.Packets.{outcome, open_with, ended_with, moved_by, packets_by, cut, full_packets, pieces, is_nak, without_naks, acks, sent_with, full_front, read_with, front_of, IsOpenAt}
 use Rattle.usb_model.specs.Requests.{adds_zero_packet}
 use Rattle.usb_model.specs.Cut.{has_stall}
+use Rattle.usb_model.proofs.EndedShares.{outcome_is}
 
 -- each packet has exactly this size
 abbrev pub AllFull : ℕ → List (List ℕ) → Type 0
@@ -186,12 +188,6 @@ open_if_whole request size (Out bytes) xs ps w =
     ap (moved_by request size (Out bytes)) (w.answers ∙ sym (append-nil (replicate (length ps) Ack)))
     ∙ (sent_behind request size (length ps) bytes []
     ∙ (ap (λ k. sent_with all k []) same ∙ (rw (lt-ltb (length ps) (length all) w.room) (ap (λ l. Some (open_with l)) (sym w.packets)))))
-
--- naks change no outcome
-pub outcome_is : (request : Request) (size : ℕ) (share : List Answer) → outcome request size share false ≡ moved_by request size request.body (without_naks share)
-unfolding outcome
-outcome_is request size [] = refl
-outcome_is request size (x ∷ xs) = refl
 
 -- naks are no stall
 stall-without_naks : (xs : List Answer) → has_stall (without_naks xs) ≡ has_stall xs

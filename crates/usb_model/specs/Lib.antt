@@ -20,4 +20,5 @@ pub mod Account
 pub mod Cut
 pub mod Places
 pub mod Bound
+pub mod Laws
 pub mod Rows

@@ -5,6 +5,7 @@ mod handle;
 mod item;
 mod news;
 mod order;
+mod outcome;
 mod result;
 mod tagged;
 
@@ -13,5 +14,6 @@ pub use handle::Handle;
 pub use item::{Ask, Item, ItemState};
 pub use news::{Event, News};
 pub use order::Order;
+pub use outcome::Outcome;
 pub use result::{InCallback, TransferResult};
 pub use tagged::Tagged;

@@ -1,0 +1,8 @@
+mod Alone
+mod Rises
+mod Calls
+mod Given
+mod Order
+mod Runs
+mod Verdicts
+mod Expansion

@@ -1,0 +1,5 @@
+use Rattle.usb_model.proofs.States.{states_alone}
+use Rattle.usb_purge.proofs.laws.states.Goals as goal
+
+pub returns : goal.returns
+returns c = states_alone

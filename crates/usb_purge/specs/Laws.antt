@@ -1,0 +1,52 @@
+-- What holds of every run, and of every plan.
+use Rattle.std.specs.Prelude.{◌≡◌, ℕ, ◌<◌, ◌≤◌, List, ◌∷◌, ◌++◌, Option, Some}
+use Rattle.usb_model.specs.declared.reply.Reply.TheVariants.{Called}
+use Rattle.usb_model.specs.declared.reply.Returned.{Returned}
+use Rattle.usb_model.specs.declared.entry.Entry.{Entry}
+use Rattle.usb_model.specs.declared.step.Step.{Step}
+use Rattle.usb_model.specs.declared.verdict.Rule.{Rule}
+use Rattle.usb_model.specs.declared.plan.Plan.{Plan}
+use Rattle.usb_model.specs.Setup.{Setup}
+use Rattle.usb_model.specs.Machine.{new_machine}
+use Rattle.usb_model.specs.Turns.{alone, machine_from}
+use Rattle.usb_model.specs.World.{new_world, machine_of, world_from}
+use Rattle.usb_model.specs.Journal.{world_run, own, entries}
+use Rattle.usb_model.specs.Plans.{expand, own_plan, own_rules}
+use Rattle.usb_model.specs.Cut.{times}
+use Rattle.usb_model.specs.Places.{calls, numbers_given, numbers_called}
+use Rattle.usb_purge.specs.Rising.{Rises, uncut_numbers}
+
+-- what a handle sees is what it sees alone over its own steps
+abbrev pub SeesAlone : Setup → List Step → ℕ → Type 0
+SeesAlone setup steps h = entries setup steps h ≡ alone setup (own setup steps h) h
+
+-- and that is what the system does where no other handle makes a step
+abbrev pub RunsAlone : Setup → List Step → ℕ → Type 0
+RunsAlone setup steps h = world_run setup (own setup steps h) ≡ entries setup steps h
+
+-- where a run ends, what the world is to a handle is where its machine ends alone over its own steps
+abbrev pub StatesAlone : Setup → List Step → ℕ → Type 0
+StatesAlone setup steps h = machine_of setup h (world_from setup (new_world setup) steps) ≡ machine_from setup h new_machine (own setup steps h)
+
+-- what a handle's part of a plan stands for, alone, is its part of what the plan stands for
+abbrev pub ExpandsAlone : Setup → List Plan → List Rule → ℕ → Type 0
+ExpandsAlone setup plan rules h = expand setup (own_plan setup plan rules h) (own_rules setup plan rules h) ≡ own setup (expand setup plan rules) h
+
+-- each transfer is called back at most once
+abbrev pub CallsOnce : Setup → List Step → ℕ → Type 0
+CallsOnce setup steps h = (n : ℕ) → times n (numbers_called (entries setup steps h)) ≤ 1
+
+-- a call among a handle's entries is the handle's, and its number was given before
+pub record IsCallOf (h : ℕ) (before : List Entry) (owner : Option ℕ) (r : Returned) : Type 0 where
+  pub owned : owner ≡ Some h
+  pub its : r.h ≡ h
+  pub given : 0 < times r.n (numbers_given before)
+
+abbrev pub CallsAfterNumber : Setup → List Step → ℕ → Type 0
+CallsAfterNumber setup steps h = (before after : List Entry) (owner : Option ℕ) (r : Returned)
+    → entries setup steps h ≡ before ++ record { owner = owner; reply = Called r } ∷ after
+    → IsCallOf h before owner r
+
+-- at one endpoint those that were neither cancelled nor timed out are called back in the order of their numbers
+abbrev pub CallsInOrder : Setup → List Step → ℕ → Type 0
+CallsInOrder setup steps h = (ep : ℕ) → Rises (uncut_numbers ep (calls (entries setup steps h)))

@@ -1,0 +1,6 @@
+//! Isolation of handles: what each handle sees of a shared system is what it sees alone.
+//!
+//! The one promise: no step of another handle changes an entry of a handle's own, nor what its plan stands for.
+#![tactic(auto)]
+
+pub mod laws;
