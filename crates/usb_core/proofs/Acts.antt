@@ -56,6 +56,7 @@ pub record Renewed (setup : Setup) (ep : ℕ) (m m' : Machine) (step : Step) : T
 abbrev pub Rests : Setup → ℕ → Machine → Machine → Step → Type 0
 Rests setup ep m m' step = Stays ep m m' step ⊎ Renewed setup ep m m' step
 
+-- what any step does at one endpoint
 abbrev pub Acts : Setup → ℕ → Machine → Machine → Step → Type 0
 Acts setup ep m m' step = Rests setup ep m m' step ⊎ Worked setup ep m m' step
 
@@ -133,15 +134,15 @@ elsewhere setup m ep at e step handle d other (delivers event ns is) = rw (is, o
 elsewhere setup m ep at e step handle d other (asks_it n i (cancels g k) here free) = (refl, refl, refl, refl)
 elsewhere setup m ep at e step handle d other (asks_it n i (expires g k) here free) = (refl, refl, refl, refl)
 elsewhere setup m ep at e step handle d other (submits (anew g request) is fine short) = (refl, refl, refl, refl)
-elsewhere setup m ep at e step handle d other (submits (again g k x lent) is fine short) = (refl, refl, refl, refl)
-elsewhere setup m ep at e step handle d other (submits (again_with g k bytes x lent) is fine short) = (refl, refl, refl, refl)
+elsewhere setup m ep at e step handle d other (submits (again g k x in_call) is fine short) = (refl, refl, refl, refl)
+elsewhere setup m ep at e step handle d other (submits (again_with g k bytes x in_call) is fine short) = (refl, refl, refl, refl)
 elsewhere setup m ep at e step handle d other (clears g empty) = (refl, refl, refl, refl)
 
 -- and it leaves the handle its device
 pub same_device : (setup : Setup) (m : Machine) (ep : ℕ) (e : Endpoint) (step : Step) (handle : Handle) (d : Doing) → IsWork setup m ep e step handle d → handle.device ≡ m.handle.device
 same_device setup m ep e step handle d (submits (anew g request) is fine short) = refl
-same_device setup m ep e step handle d (submits (again g k x lent) is fine short) = refl
-same_device setup m ep e step handle d (submits (again_with g k bytes x lent) is fine short) = refl
+same_device setup m ep e step handle d (submits (again g k x in_call) is fine short) = refl
+same_device setup m ep e step handle d (submits (again_with g k bytes x in_call) is fine short) = refl
 same_device setup m ep e step handle d _ = refl
 
 -- the endpoint that is set, and its pieces of the lists
@@ -222,7 +223,7 @@ renewed setup d ep (Some e) = inr (d, refl)
 pub rests_at : (setup : Setup) (h : ℕ) (m : Machine) (step : Step) (done : Effect) (ep : ℕ) → IsWell setup m → IsRest setup h m step done → RestsBy setup m step done ep
 rests_at setup h m step done ep well (stays {r = r} bare t) = keeps_acts setup m step (says m r) ep t refl refl refl refl
 rests_at setup h m step done ep well (claims_again g i) = keeps_acts setup m (Claim g i) (does m.handle Keeps) ep (takes_none m (Claim g i) refl refl refl) refl refl refl refl
-rests_at setup h m step done ep well (stops g k x lent) = keeps_acts setup m (Answer g k Stop) (does (called_back m x.n) Keeps) ep (takes_none m (Answer g k Stop) refl refl refl) refl refl refl refl
+rests_at setup h m step done ep well (stops g k x in_call) = keeps_acts setup m (Answer g k Stop) (does (called_back m x.n) Keeps) ep (takes_none m (Answer g k Stop) refl refl refl) refl refl refl refl
 rests_at setup h m step done ep well (opens g dev none) = frees_acts setup m (Open g dev) _ ep (takes_none m (Open g dev) refl refl refl) (idle_if_none ep m (no_device m ep none) (well.fits ep))
 rests_at setup h m step done ep well (closes g idle) = frees_acts setup m (Close g) _ ep (takes_none m (Close g) refl refl refl) (idle ep)
 rests_at setup h m step done ep well (claims g i opened free) =

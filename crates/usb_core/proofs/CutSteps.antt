@@ -48,14 +48,14 @@ good_body ep (Out bytes) e = by_test (is_in ep) (or_parts (is_in ep) (nat_lt 262
 -- and is accepted, under the next number
 accepts : (handle : Handle) (n : ℕ) (step : Step) (left : Handle) (request : Request) (round : ℕ) → IsSubmission handle step left request round → accepted_by handle step (reply.Number n) ≡ Transfer n request round ∷ []
 accepts handle n step left request round (anew g r) = refl
-accepts handle n step left request round (again g k x lent) = ap (accepted_again n Again) lent
-accepts handle n step left request round (again_with g k bytes x lent) = ap (accepted_again n (AgainWith bytes)) lent
+accepts handle n step left request round (again g k x in_call) = ap (accepted_again n Again) in_call
+accepts handle n step left request round (again_with g k bytes x in_call) = ap (accepted_again n (AgainWith bytes)) in_call
 
 -- a submission is no ask
 no_ask_by : (handle : Handle) (n : ℕ) (step : Step) (left : Handle) (request : Request) (round : ℕ) → IsSubmission handle step left request round → asked_by step (reply.Number n) ≡ []
 no_ask_by handle n step left request round (anew g r) = refl
-no_ask_by handle n step left request round (again g k x lent) = refl
-no_ask_by handle n step left request round (again_with g k bytes x lent) = refl
+no_ask_by handle n step left request round (again g k x in_call) = refl
+no_ask_by handle n step left request round (again_with g k bytes x in_call) = refl
 
 -- an ask is in the account
 asks_by : (handle : Handle) (step : Step) (n : ℕ) (ask : Ask) → IsAsk step n ask → (accepted_by handle step reply.Done ≡ []) × (asked_by step reply.Done ≡ record { n = n; ask = ask } ∷ [])
@@ -112,7 +112,7 @@ pub rest_sets : (setup : Setup) (h : ℕ) (m : Machine) (step : Step) (done : Ef
 unfolding take_it
 rest_sets setup h m step done (stays bare t) = (tt, refl)
 rest_sets setup h m step done (claims_again g i) = (tt, refl)
-rest_sets setup h m step done (stops g k x lent) = (tt, refl)
+rest_sets setup h m step done (stops g k x in_call) = (tt, refl)
 rest_sets setup h m step done (opens g dev none) = (tt, refl)
 rest_sets setup h m step done (closes g idle) = (tt, refl)
 rest_sets setup h m step done (claims g i opened free) = (tt, refl)

@@ -72,6 +72,7 @@ pub record IsFit (e : Endpoint) (os : List Errand) (ns : List Event) : Type 0 wh
   pub coherent : IsCoherent e os ns
   pub short : length e.line ≤ 16
 
+-- the same of an endpoint that may not be there
 abbrev pub Fits : Option Endpoint → List Errand → List Event → Type 0
 Fits None os ns = (os ≡ []) × (ns ≡ [])
 Fits (Some e) os ns = IsFit e os ns
@@ -82,6 +83,7 @@ pub record IsWell (setup : Setup) (m : Machine) : Type 0 where
   pub of_held : (d ep : ℕ) (e : Endpoint) → m.ends d ep ≡ Some e → (i : ℕ) × (interface_of setup d ep ≡ Some i) × (m.held d i ≡ true)
   pub fits : (ep : ℕ) → Fits (end_at m ep) (errands_of ep m.orders) (events_of ep m.news)
 
+-- the line of an endpoint that may not be there
 abbrev pub line_at : Option Endpoint → List Item
 line_at None = []
 line_at (Some e) = e.line

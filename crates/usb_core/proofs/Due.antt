@@ -29,6 +29,7 @@ abbrev pub is_failure : Event → Bool
 is_failure (Settled errand.Stop false) = true
 is_failure _ = false
 
+-- how many failed Stops are told
 abbrev pub failures : List Event → ℕ
 failures [] = 0
 failures (x ∷ xs) = (if is_failure x then 1 else 0) + failures xs

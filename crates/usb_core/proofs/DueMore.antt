@@ -207,6 +207,7 @@ gone_finished size gone code n line i j single here still =
 no_reset : (code : ℕ) (er : Option Errand) → er ≡ Some errand.Stop → needs_reset code er ≡ false
 no_reset code er e = rw e (and_right (halts code) false refl)
 
+-- what is left behind a delivery: one less
 abbrev pub DueAfter : ℕ → ℕ → Bool → ℕ → ℕ → ℕ → Endpoint → List Errand → Event → List Event → Type 0
 DueAfter size ep gone n c d e os event ns = (1 ≤ d) × LeavesDue n c (d - 1) (deliver size ep gone e event) os ns
 

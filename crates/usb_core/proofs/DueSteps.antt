@@ -159,8 +159,8 @@ opens_work setup h n ep m e step handle d well here (serves dev) asked = absurd 
 opens_work setup h n ep m e step handle d well here (commands o os is) asked = absurd cc
 opens_work setup h n ep m e step handle d well here (delivers event ns is) asked = absurd cc
 opens_work setup h n ep m e step handle d well here (submits (anew g r) at fine short) asked = absurd cc
-opens_work setup h n ep m e step handle d well here (submits (again g k x lent) at fine short) asked = absurd cc
-opens_work setup h n ep m e step handle d well here (submits (again_with g k bytes x lent) at fine short) asked = absurd cc
+opens_work setup h n ep m e step handle d well here (submits (again g k x in_call) at fine short) asked = absurd cc
+opens_work setup h n ep m e step handle d well here (submits (again_with g k bytes x in_call) at fine short) asked = absurd cc
 opens_work setup h n ep m e step handle d well here (clears g empty) asked = absurd cc
 
 -- an ask that does no work is not accepted

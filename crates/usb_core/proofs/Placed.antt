@@ -31,6 +31,7 @@ use Rattle.usb_model.proofs.Pieces.{either_way}
 use Rattle.usb_model.proofs.Replies.{asks_told, command_told, deliver_told, serve_told, told_plain}
 use Rattle.usb_model.proofs.Times.{times-append, times-cons, times_none, times_one}
 
+-- the numbers of those in callbacks
 abbrev pub callback_numbers : List InCallback → List ℕ
 callback_numbers xs = map (λ x. x.n) xs
 
@@ -203,8 +204,8 @@ without_fewer n k (x ∷ xs) = by_test (x.n == k) (without_fewer n k xs)
 -- a submission takes no callback's number twice
 submission_out : (handle : Handle) (step : Step) (left : Handle) (request : Request) (round : ℕ) → IsSubmission handle step left request round → (n : ℕ) → times n (callback_numbers left.out) ≤ times n (callback_numbers handle.out)
 submission_out handle step left request round (anew g r) n = omega arith
-submission_out handle step left request round (again g k x lent) n = without_fewer n x.n handle.out
-submission_out handle step left request round (again_with g k bytes x lent) n = without_fewer n x.n handle.out
+submission_out handle step left request round (again g k x in_call) n = without_fewer n x.n handle.out
+submission_out handle step left request round (again_with g k bytes x in_call) n = without_fewer n x.n handle.out
 
 -- the numbers that a step's reply calls back
 abbrev pub called_by : Reply → List ℕ
@@ -222,8 +223,8 @@ takes_no_result setup m ep e step handle d (delivers event ns is) = refl
 takes_no_result setup m ep e step handle d (asks_it n i (cancels g k) here free) = refl
 takes_no_result setup m ep e step handle d (asks_it n i (expires g k) here free) = refl
 takes_no_result setup m ep e step handle d (submits (anew g r) at fine short) = refl
-takes_no_result setup m ep e step handle d (submits (again g k x lent) at fine short) = refl
-takes_no_result setup m ep e step handle d (submits (again_with g k bytes x lent) at fine short) = refl
+takes_no_result setup m ep e step handle d (submits (again g k x in_call) at fine short) = refl
+takes_no_result setup m ep e step handle d (submits (again_with g k bytes x in_call) at fine short) = refl
 takes_no_result setup m ep e step handle d (clears g empty) = refl
 
 -- work that loses no number keeps the places
@@ -298,7 +299,7 @@ unfolding take_it
 rest_placed setup h m step done called well (stays {r = r} bare t) p =
     resting_placed setup h m step (says m r) called well (stays bare t) (bare_calls step r bare) refl (ap (λ l. l ++ []) t.results ∙ append-nil m.results) (λ n. omega arith) p
 rest_placed setup h m step done called well (claims_again g i) p = resting_placed setup h m _ _ called well (claims_again g i) refl refl (append-nil m.results) (λ n. omega arith) p
-rest_placed setup h m step done called well (stops g k x lent) p = resting_placed setup h m _ _ called well (stops g k x lent) refl refl (append-nil m.results) (λ n. without_fewer n x.n m.handle.out) p
+rest_placed setup h m step done called well (stops g k x in_call) p = resting_placed setup h m _ _ called well (stops g k x in_call) refl refl (append-nil m.results) (λ n. without_fewer n x.n m.handle.out) p
 rest_placed setup h m step done called well (opens g dev none) p = resting_placed setup h m _ _ called well (opens g dev none) refl refl (append-nil m.results) (λ n. omega arith) p
 rest_placed setup h m step done called well (closes g idle) p = resting_placed setup h m _ _ called well (closes g idle) refl refl (append-nil m.results) (λ n. omega arith) p
 rest_placed setup h m step done called well (claims g i opened free) p = resting_placed setup h m _ _ called well (claims g i opened free) refl refl (append-nil m.results) (λ n. omega arith) p

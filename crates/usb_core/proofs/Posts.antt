@@ -17,9 +17,11 @@ use Rattle.usb_model.proofs.Pieces.{same_name}
 abbrev pub posts_of : {A B : Type 0} → (A → ℕ) → (A → B) → ℕ → List A → List B
 posts_of place what ep xs = map what (filter (λ x. place x == ep) xs)
 
+-- the orders of an endpoint
 abbrev pub errands_of : ℕ → List Order → List Errand
 errands_of ep xs = posts_of (λ x. x.ep) (λ x. x.errand) ep xs
 
+-- the news of an endpoint
 abbrev pub events_of : ℕ → List News → List Event
 events_of ep xs = posts_of (λ x. x.ep) (λ x. x.event) ep xs
 
@@ -53,11 +55,12 @@ errands_of-other at ep xs e = posts-others (λ x. x.ep) (λ x. x.errand) (λ x. 
 pub events_of-other : (at ep : ℕ) (xs : List Event) → (ep == at) ≡ false → events_of at (news_at ep xs) ≡ []
 events_of-other at ep xs e = posts-others (λ x. x.ep) (λ x. x.event) (λ x. record { ep = ep; event = x }) at xs (λ b. e)
 
--- whether the step takes an order, or a piece of news, of the endpoint
+-- whether the step takes an order of the endpoint
 abbrev pub commands_now : ℕ → Machine → Step → ℕ
 commands_now ep m Command = first_counts (λ x. x.ep == ep) m.orders
 commands_now ep m _ = 0
 
+-- whether the step takes a piece of news of the endpoint
 abbrev pub delivers_now : ℕ → Machine → Step → ℕ
 delivers_now ep m Deliver = first_counts (λ x. x.ep == ep) m.news
 delivers_now ep m _ = 0

@@ -57,16 +57,18 @@ ask_takes m step n ask (expires g k) = takes_none m (Expire g k) refl refl refl
 -- a submission takes nothing from the lists
 pub submission_takes : (m : Machine) (step : Step) (handle : Handle) (request : Request) (round : ℕ) → IsSubmission m.handle step handle request round → TakesNone m step
 submission_takes m step handle request round (anew g r) = takes_none m (Submit g r) refl refl refl
-submission_takes m step handle request round (again g k x lent) = takes_none m (Answer g k Again) refl refl refl
-submission_takes m step handle request round (again_with g k bytes x lent) = takes_none m (Answer g k (AgainWith bytes)) refl refl refl
+submission_takes m step handle request round (again g k x in_call) = takes_none m (Answer g k Again) refl refl refl
+submission_takes m step handle request round (again_with g k bytes x in_call) = takes_none m (Answer g k (AgainWith bytes)) refl refl refl
 
--- an endpoint's pieces behind what a step takes
+-- an endpoint's orders behind what a step takes
 abbrev pub errands_behind : ℕ → Machine → Step → List Errand
 errands_behind ep m step = errands_of ep (past_first (takes_order step) m.orders)
 
+-- an endpoint's news behind what a step takes
 abbrev pub events_behind : ℕ → Machine → Step → List Event
 events_behind ep m step = events_of ep (past_first (takes_news step) m.news)
 
+-- an endpoint is coherent with its part of the machine's lists
 abbrev pub IsCoherentAt : ℕ → Machine → Endpoint → Type 0
 IsCoherentAt ep m e = IsCoherent e (errands_of ep m.orders) (events_of ep m.news)
 
@@ -230,7 +232,7 @@ placed_after : (setup : Setup) (h : ℕ) (m : Machine) (step : Step) (done : Eff
 unfolding doing_at take_it
 placed_after setup h m step done d ep x well (only_rests (stays bare t)) is = placed_before setup m d ep x well is
 placed_after setup h m step done d ep x well (only_rests (claims_again g i)) is = placed_before setup m d ep x well is
-placed_after setup h m step done d ep x well (only_rests (stops g k y lent)) is = placed_before setup m d ep x well is
+placed_after setup h m step done d ep x well (only_rests (stops g k y in_call)) is = placed_before setup m d ep x well is
 placed_after setup h m step done d ep x well (only_rests (opens g dev none)) is = absurd cc
 placed_after setup h m step done d ep x well (only_rests (closes g idle)) is = absurd cc
 placed_after setup h m step done d ep x well (only_rests (claims g i opened free)) is = placed_gained setup m i d ep x well opened is
