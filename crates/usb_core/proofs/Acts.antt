@@ -15,7 +15,9 @@ use Rattle.usb_model.specs.Machine.{Change, Drops, Effect, Frees, Gains, Keeps, 
 use Rattle.usb_model.specs.Setup.{Setup, is_within}
 use Rattle.usb_model.specs.Shared.{past_first}
 use Rattle.usb_model.specs.Turns.{ends_after, machine_after, take_it, takes_news, takes_order}
-use Rattle.usb_core.proofs.Deeds.{IsDone, IsIdle, IsRest, IsWell, IsWork, TakesNone, again, again_with, anew, asks_it, cancels, claims, claims_again, clears, closes, commands, delivers, expires, idle_if_none, only_rests, opens, releases, resets, serves, stays, stops, submits, takes, takes_none, works}
+use Rattle.usb_core.proofs.Deeds.{IsDone, IsIdle, IsRest, IsWell, IsWork, TakesNone, again, again_with, anew, asks_it, cancels, claims, claims_again, clears, closes, commands, delivers, expires, only_rests, opens, releases, resets, serves, stays, stops, submits, takes, works}
+use Rattle.usb_core.proofs.Done.{takes_none}
+use Rattle.usb_core.proofs.Idle.{idle_if_none}
 use Rattle.usb_core.proofs.Posts.{commands_now, delivers_now, errands_of, errands_of-at, errands_of-other, events_of, events_of-at, events_of-other, posts-append}
 use Rattle.usb_model.proofs.Moves.{sets_here, sets_other}
 

@@ -17,7 +17,8 @@ use Rattle.usb_model.specs.Shared.{first_name, pieces_of}
 use Rattle.usb_model.specs.Turns.{effect, machine_after, take_it, takes_news, takes_order}
 use Rattle.usb_model.specs.World.{World, is_blocked, machine_of, new_world, owner_of, turn, turn_by, turn_of, turn_of_nobody, world_from}
 use Rattle.usb_core.proofs.Acts.{acts, acts_at}
-use Rattle.usb_core.proofs.Deeds.{IsDone, IsWell, claims, is_done, only_rests, resets, stays, works}
+use Rattle.usb_core.proofs.Deeds.{IsDone, IsWell, claims, only_rests, resets, stays, works}
+use Rattle.usb_core.proofs.Done.{is_done}
 use Rattle.usb_core.proofs.Due.{something_waits}
 use Rattle.usb_core.proofs.DueSteps.{IsDueAt, Opens, StaysDue, ask_opens, due_acts, due_lives}
 use Rattle.usb_core.proofs.Gone.{IsGone, dead_times, gone_elsewhere, gone_from, gone_is_dead, live_behind, live_once, next_from, next_rises}

@@ -17,7 +17,9 @@ use Rattle.usb_model.specs.Machine.{Change, Drops, Effect, Frees, Gains, Keeps, 
 use Rattle.usb_model.specs.Setup.{Setup, interface_of, is_in, is_within, script_of, size_of}
 use Rattle.usb_model.specs.World.{Claims, World, all_ends_after, claims_after, holder, is_blocked, is_its, machine_of, new_world, owner_of, turn, turn_by, turn_of, turn_of_nobody, world_after, world_from}
 use Rattle.usb_core.proofs.CutSteps.{SetsNone, rest_sets, work_holds, work_next}
-use Rattle.usb_core.proofs.Deeds.{IsDone, IsWell, IsWork, at_device_of, is_done, only_rests, works}
+use Rattle.usb_core.proofs.Deeds.{IsDone, IsWell, IsWork, only_rests, works}
+use Rattle.usb_core.proofs.Done.{is_done}
+use Rattle.usb_core.proofs.Idle.{at_device_of}
 use Rattle.usb_core.proofs.Ledger.{HoldsAt, holds_new}
 use Rattle.usb_core.proofs.LedgerCut.{cut_if_holds}
 use Rattle.usb_core.proofs.LedgerLeaves.{holds_later}

@@ -24,7 +24,8 @@ use Rattle.usb_model.specs.Turns.{take_it}
 use Rattle.usb_core.proofs.Deeds.{IsAsk, IsRest, IsSubmission, IsWell, IsWork, again, again_with, anew, asks_it, cancels, claims, claims_again, clears, closes, commands, delivers, expires, opens, releases, resets, serves, stays, stops, submits, takes}
 use Rattle.usb_core.proofs.FirstEnd.{end_told}
 use Rattle.usb_core.proofs.Ledger.{HoldsAt}
-use Rattle.usb_core.proofs.LedgerDeliver.{IsTrueOf, holds_ask, holds_clear, holds_command, holds_deliver, holds_submit}
+use Rattle.usb_core.proofs.LedgerAsk.{holds_ask, holds_clear, holds_submit}
+use Rattle.usb_core.proofs.LedgerDeliver.{IsTrueOf, holds_command, holds_deliver}
 use Rattle.usb_core.proofs.LedgerServe.{KeepsLedger, holds_serve}
 use Rattle.usb_core.proofs.Placed.{fit_at}
 use Rattle.usb_core.proofs.Posts.{errands_of}

@@ -16,7 +16,8 @@ use Rattle.usb_model.specs.Cut.{times}
 use Rattle.usb_model.specs.Deliver.{blanked, deliver, finished_result, is_withdrawn, line_after, needs_reset, withdrawn}
 use Rattle.usb_model.specs.Endpoint.{in_progress, is_blank, is_blank_state, is_it, is_waiting, is_waiting_state, live_numbers, past_blanks, past_number, result_of}
 use Rattle.usb_model.specs.Status.{halts}
-use Rattle.usb_core.proofs.Coherent.{coherent_deliver, first_is_end, heads_event, in_phase}
+use Rattle.usb_core.proofs.Coherent.{in_phase}
+use Rattle.usb_core.proofs.CoherentDeliver.{coherent_deliver, first_is_end, heads_event}
 use Rattle.usb_core.proofs.Doings.{line-finished, line-resume}
 use Rattle.usb_core.proofs.Due.{IsDue, IsLeft, LeavesDue, ahead_of, ahead_of-past_blanks, ahead_of-past_number, asked_waits, commands_left, delivers_left, failures, found_it}
 use Rattle.usb_model.proofs.Errands.{IsCoherent, IsPhase, ServedFirst, ended, event_by, first_by, move_ran, move_waits, reset_ran, reset_waits, runs, served_events, stop_failed, stop_ran, stop_ran_paused, stop_waits, stop_waits_halted}

@@ -13,7 +13,8 @@ use Rattle.usb_model.specs.declared.plain.news.Event.{Event}
 use Rattle.usb_model.specs.Endpoint.{first_waiting, in_progress, is_blank, is_it, is_waiting, is_waiting_state, with_first}
 use Rattle.usb_model.specs.declared.plain.outcome.Outcome.{Outcome}
 use Rattle.usb_model.specs.Serve.{next_answer, serve, serve_by, serve_first, serve_gone}
-use Rattle.usb_core.proofs.Coherent.{LeavesCoherent, coherent_serve}
+use Rattle.usb_core.proofs.Coherent.{LeavesCoherent}
+use Rattle.usb_core.proofs.CoherentServe.{coherent_serve}
 use Rattle.usb_core.proofs.Due.{IsDue, IsLeft, LeavesDue, ahead_of, asked_waits}
 use Rattle.usb_model.proofs.Errands.{IsCoherent, IsPhase, runs, served_events, stop_waits}
 use Rattle.usb_model.proofs.Works.{first_waits}

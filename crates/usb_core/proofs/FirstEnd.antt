@@ -9,7 +9,7 @@ use Rattle.usb_model.specs.declared.plain.item.ItemState.{ItemState}
 use Rattle.usb_model.specs.declared.plain.news.Event.TheVariants.{Finished}
 use Rattle.usb_model.specs.declared.plain.news.Event.{Event}
 use Rattle.usb_model.specs.Endpoint.{in_progress, live_numbers, past_number}
-use Rattle.usb_core.proofs.Coherent.{heads_event}
+use Rattle.usb_core.proofs.CoherentDeliver.{heads_event}
 use Rattle.usb_core.proofs.DueMore.{no_end}
 use Rattle.usb_core.proofs.Lists.{Each}
 use Rattle.usb_model.proofs.Errands.{IsCoherent, ServedFirst, event_by, first_by, served_events}

@@ -9,7 +9,8 @@ use Rattle.usb_model.specs.Places.{KeepsPlaces, call_of, calls, numbers_called}
 use Rattle.usb_model.specs.Setup.{Setup}
 use Rattle.usb_model.specs.Turns.{effect, machine_after}
 use Rattle.usb_model.specs.World.{World, machine_of, new_world, turn, world_from}
-use Rattle.usb_core.proofs.Deeds.{IsWell, is_done}
+use Rattle.usb_core.proofs.Deeds.{IsWell}
+use Rattle.usb_core.proofs.Done.{is_done}
 use Rattle.usb_core.proofs.Placed.{IsPlaced, called_by, placed_after}
 use Rattle.usb_core.proofs.Well.{well_kept, well_new}
 use Rattle.usb_model.proofs.Isolation.{IsEither, effect_to, entries_from, entries_less, entries_more, new_machine_of, turn_to}

@@ -34,8 +34,11 @@ use Rattle.usb_model.specs.Shared.{past_first}
 use Rattle.usb_model.specs.Status.{halts}
 use Rattle.usb_model.specs.Turns.{effect, ends_after, held_after, machine_after, take_it, takes_news, takes_order}
 use Rattle.usb_core.proofs.Acts.{Acts, IsNewOrGone, acts, acts_at, same_device}
-use Rattle.usb_core.proofs.Coherent.{LeavesCoherent, coherent_ask, coherent_command, coherent_deliver, coherent_serve, coherent_submit}
-use Rattle.usb_core.proofs.Deeds.{Fits, IsAsk, IsDone, IsFit, IsSubmission, IsWell, IsWork, TakesNone, again, again_with, anew, asks_it, cancels, claims, claims_again, clears, closes, commands, delivers, expires, is_done, only_rests, opens, releases, resets, serves, stays, stops, submits, takes, takes_none, works}
+use Rattle.usb_core.proofs.Coherent.{LeavesCoherent, coherent_ask, coherent_command, coherent_submit}
+use Rattle.usb_core.proofs.CoherentDeliver.{coherent_deliver}
+use Rattle.usb_core.proofs.CoherentServe.{coherent_serve}
+use Rattle.usb_core.proofs.Deeds.{Fits, IsAsk, IsDone, IsFit, IsSubmission, IsWell, IsWork, TakesNone, again, again_with, anew, asks_it, cancels, claims, claims_again, clears, closes, commands, delivers, expires, only_rests, opens, releases, resets, serves, stays, stops, submits, takes, works}
+use Rattle.usb_core.proofs.Done.{is_done, takes_none}
 use Rattle.usb_core.proofs.Doings.{line-command, line-finished, line-resume}
 use Rattle.usb_core.proofs.Posts.{errands_of, events_of}
 use Rattle.usb_model.proofs.Errands.{IsCoherent, runs, served_events}
