@@ -15,7 +15,9 @@ use Rattle.usb_model.specs.Machine.{Change, Drops, Effect, Frees, Gains, Keeps, 
 use Rattle.usb_model.specs.Setup.{Setup, is_within}
 use Rattle.usb_model.specs.Shared.{past_first}
 use Rattle.usb_model.specs.Turns.{ends_after, machine_after, take_it, takes_news, takes_order}
-use Rattle.usb_core.proofs.Deeds.{IsDone, IsIdle, IsRest, IsWell, IsWork, TakesNone, again, again_with, anew, asks_it, cancels, claims, claims_again, clears, closes, commands, delivers, expires, idle_if_none, only_rests, opens, releases, resets, serves, stays, stops, submits, takes, takes_none, works}
+use Rattle.usb_core.proofs.Deeds.{IsDone, IsIdle, IsRest, IsWell, IsWork, TakesNone, again, again_with, anew, asks_it, cancels, claims, claims_again, clears, closes, commands, delivers, expires, only_rests, opens, releases, resets, serves, stays, stops, submits, takes, works}
+use Rattle.usb_core.proofs.Done.{takes_none}
+use Rattle.usb_core.proofs.Idle.{idle_if_none}
 use Rattle.usb_core.proofs.Posts.{commands_now, delivers_now, errands_of, errands_of-at, errands_of-other, events_of, events_of-at, events_of-other, posts-append}
 use Rattle.usb_model.proofs.Moves.{sets_here, sets_other}
 
@@ -46,6 +48,7 @@ pub record Worked (setup : Setup) (ep : ℕ) (m m' : Machine) (step : Step) : Ty
 abbrev pub IsNewOrGone : Setup → ℕ → Option Endpoint → Type 0
 IsNewOrGone setup ep o = (o ≡ None) ⊎ ((d : ℕ) × (o ≡ Some (fresh setup d ep)))
 
+-- the endpoint was idle, and is new or gone after the step; nothing of its lists is touched
 pub record Renewed (setup : Setup) (ep : ℕ) (m m' : Machine) (step : Step) : Type 0 where
   pub idle : IsIdle ep m
   pub end : IsNewOrGone setup ep (end_at m' ep)
@@ -55,6 +58,7 @@ pub record Renewed (setup : Setup) (ep : ℕ) (m m' : Machine) (step : Step) : T
 abbrev pub Rests : Setup → ℕ → Machine → Machine → Step → Type 0
 Rests setup ep m m' step = Stays ep m m' step ⊎ Renewed setup ep m m' step
 
+-- what any step does at one endpoint
 abbrev pub Acts : Setup → ℕ → Machine → Machine → Step → Type 0
 Acts setup ep m m' step = Rests setup ep m m' step ⊎ Worked setup ep m m' step
 
@@ -64,9 +68,11 @@ pub record WorkedAt (setup : Setup) (m m' : Machine) (step : Step) : Type 0 wher
   pub worked : Worked setup ep m m' step
   pub others : (at : ℕ) → (ep == at) ≡ false → Stays at m m' step
 
+-- what a step that does no work leaves at one endpoint
 abbrev RestsBy : Setup → Machine → Step → Effect → ℕ → Type 0
 RestsBy setup m step done ep = Rests setup ep m (machine_after setup m step done) step
 
+-- a step that takes nothing from the lists and adds nothing to them leaves each endpoint's part of them
 lists_stay : (setup : Setup) (m : Machine) (step : Step) (done : Effect) (ep : ℕ) → TakesNone m step → done.orders ≡ [] → done.news ≡ [] → ListsStay ep m (machine_after setup m step done) step
 unfolding machine_after
 lists_stay setup m step done ep t o n = record {
@@ -89,6 +95,7 @@ freed : (device : Option ℕ) → option_and_then {U = Endpoint} (λ d. None) de
 freed None = refl
 freed (Some d) = refl
 
+-- a step that frees all interfaces renews each endpoint, all of which were idle
 frees_acts : (setup : Setup) (m : Machine) (step : Step) (handle : Handle) (ep : ℕ) → TakesNone m step → IsIdle ep m → RestsBy setup m step (does handle Frees) ep
 unfolding machine_after
 frees_acts setup m step handle ep t idle = inr (record { idle = idle; end = inl (freed handle.device); lists = lists_stay setup m step (does handle Frees) ep t refl refl })
@@ -129,15 +136,15 @@ elsewhere setup m ep at e step handle d other (delivers event ns is) = rw (is, o
 elsewhere setup m ep at e step handle d other (asks_it n i (cancels g k) here free) = (refl, refl, refl, refl)
 elsewhere setup m ep at e step handle d other (asks_it n i (expires g k) here free) = (refl, refl, refl, refl)
 elsewhere setup m ep at e step handle d other (submits (anew g request) is fine short) = (refl, refl, refl, refl)
-elsewhere setup m ep at e step handle d other (submits (again g k x lent) is fine short) = (refl, refl, refl, refl)
-elsewhere setup m ep at e step handle d other (submits (again_with g k bytes x lent) is fine short) = (refl, refl, refl, refl)
+elsewhere setup m ep at e step handle d other (submits (again g k x in_call) is fine short) = (refl, refl, refl, refl)
+elsewhere setup m ep at e step handle d other (submits (again_with g k bytes x in_call) is fine short) = (refl, refl, refl, refl)
 elsewhere setup m ep at e step handle d other (clears g empty) = (refl, refl, refl, refl)
 
 -- and it leaves the handle its device
 pub same_device : (setup : Setup) (m : Machine) (ep : ℕ) (e : Endpoint) (step : Step) (handle : Handle) (d : Doing) → IsWork setup m ep e step handle d → handle.device ≡ m.handle.device
 same_device setup m ep e step handle d (submits (anew g request) is fine short) = refl
-same_device setup m ep e step handle d (submits (again g k x lent) is fine short) = refl
-same_device setup m ep e step handle d (submits (again_with g k bytes x lent) is fine short) = refl
+same_device setup m ep e step handle d (submits (again g k x in_call) is fine short) = refl
+same_device setup m ep e step handle d (submits (again_with g k bytes x in_call) is fine short) = refl
 same_device setup m ep e step handle d _ = refl
 
 -- the endpoint that is set, and its pieces of the lists
@@ -146,16 +153,19 @@ pub end_set : (setup : Setup) (m : Machine) (ep : ℕ) (e : Endpoint) (step : St
 unfolding machine_after doing_at
 end_set setup m ep e step handle d here work = rw (same_device setup m ep e step handle d work) (sets_here setup m.ends m.handle.device ep e d.endpoint here)
 
+-- the endpoint's orders after work at it: those left, then those that the work gives
 pub orders_set : (setup : Setup) (m : Machine) (step : Step) (ep : ℕ) (handle : Handle) (d : Doing)
     → errands_of ep (machine_after setup m step (doing_at handle (device_of m) ep d)).orders ≡ errands_of ep (past_first (takes_order step) m.orders) ++ d.orders
 unfolding machine_after doing_at
 orders_set setup m step ep handle d = posts-append _ _ ep (past_first (takes_order step) m.orders) _ ∙ ap (λ l. errands_of ep (past_first (takes_order step) m.orders) ++ l) (errands_of-at ep d.orders)
 
+-- the endpoint's news after work at it: those left, then those that the work tells
 pub news_set : (setup : Setup) (m : Machine) (step : Step) (ep : ℕ) (handle : Handle) (d : Doing)
     → events_of ep (machine_after setup m step (doing_at handle (device_of m) ep d)).news ≡ events_of ep (past_first (takes_news step) m.news) ++ d.news
 unfolding machine_after doing_at
 news_set setup m step ep handle d = posts-append _ _ ep (past_first (takes_news step) m.news) _ ∙ ap (λ l. events_of ep (past_first (takes_news step) m.news) ++ l) (events_of-at ep d.news)
 
+-- work at an endpoint is that work there
 works_here : (setup : Setup) (m : Machine) (step : Step) (handle : Handle) (d : Doing) (ep : ℕ) (e : Endpoint) → end_at m ep ≡ Some e → IsWork setup m ep e step handle d
     → Worked setup ep m (machine_after setup m step (doing_at handle (device_of m) ep d)) step
 unfolding machine_after doing_at
@@ -170,6 +180,7 @@ works_here setup m step handle d ep e here work = record {
   news = news_set setup m step ep handle d;
 }
 
+-- work at an endpoint leaves each other endpoint as it was
 pub works_elsewhere : (setup : Setup) (m : Machine) (step : Step) (handle : Handle) (d : Doing) (ep : ℕ) (e : Endpoint) → IsWork setup m ep e step handle d
     → (at : ℕ) → (ep == at) ≡ false → Stays at m (machine_after setup m step (doing_at handle (device_of m) ep d)) step
 unfolding machine_after doing_at
@@ -185,6 +196,7 @@ works_elsewhere setup m step handle d ep e work at other =
       };
     }
 
+-- a result that is taken leaves each endpoint as it was
 takes_acts : (setup : Setup) (h : ℕ) (m : Machine) (x : TransferResult) (xs : List TransferResult) (ep : ℕ) → RestsBy setup m Take (take_it h m (x ∷ xs)) ep
 unfolding machine_after take_it
 takes_acts setup h m x xs ep = inl (record { end = refl; lists = record { orders = ap (errands_of ep) (append-nil m.orders); news = ap (events_of ep) (append-nil m.news); commands = refl; delivers = refl } })
@@ -213,7 +225,7 @@ renewed setup d ep (Some e) = inr (d, refl)
 pub rests_at : (setup : Setup) (h : ℕ) (m : Machine) (step : Step) (done : Effect) (ep : ℕ) → IsWell setup m → IsRest setup h m step done → RestsBy setup m step done ep
 rests_at setup h m step done ep well (stays {r = r} bare t) = keeps_acts setup m step (says m r) ep t refl refl refl refl
 rests_at setup h m step done ep well (claims_again g i) = keeps_acts setup m (Claim g i) (does m.handle Keeps) ep (takes_none m (Claim g i) refl refl refl) refl refl refl refl
-rests_at setup h m step done ep well (stops g k x lent) = keeps_acts setup m (Answer g k Stop) (does (called_back m x.n) Keeps) ep (takes_none m (Answer g k Stop) refl refl refl) refl refl refl refl
+rests_at setup h m step done ep well (stops g k x in_call) = keeps_acts setup m (Answer g k Stop) (does (called_back m x.n) Keeps) ep (takes_none m (Answer g k Stop) refl refl refl) refl refl refl refl
 rests_at setup h m step done ep well (opens g dev none) = frees_acts setup m (Open g dev) _ ep (takes_none m (Open g dev) refl refl refl) (idle_if_none ep m (no_device m ep none) (well.fits ep))
 rests_at setup h m step done ep well (closes g idle) = frees_acts setup m (Close g) _ ep (takes_none m (Close g) refl refl refl) (idle ep)
 rests_at setup h m step done ep well (claims g i opened free) =
@@ -232,6 +244,7 @@ rests_at setup h m step done ep well (takes x xs is) = takes_acts setup h m x xs
 abbrev pub ActsAll : Setup → Machine → Machine → Step → Type 0
 ActsAll setup m m' step = ((ep : ℕ) → Rests setup ep m m' step) ⊎ WorkedAt setup m m' step
 
+-- what any step does at each endpoint
 pub acts : (setup : Setup) (h : ℕ) (m : Machine) (step : Step) (done : Effect) → IsWell setup m → IsDone setup h m step done → ActsAll setup m (machine_after setup m step done) step
 acts setup h m step done well (only_rests rest) = inl (λ ep. rests_at setup h m step done ep well rest)
 acts setup h m step done well (works {handle = handle} {d = d} ep e here work) = inr (record {

@@ -17,7 +17,8 @@ use Rattle.usb_model.specs.Shared.{first_name, pieces_of}
 use Rattle.usb_model.specs.Turns.{effect, machine_after, take_it, takes_news, takes_order}
 use Rattle.usb_model.specs.World.{World, is_blocked, machine_of, new_world, owner_of, turn, turn_by, turn_of, turn_of_nobody, world_from}
 use Rattle.usb_core.proofs.Acts.{acts, acts_at}
-use Rattle.usb_core.proofs.Deeds.{IsDone, IsWell, claims, is_done, only_rests, resets, stays, works}
+use Rattle.usb_core.proofs.Deeds.{IsDone, IsWell, claims, only_rests, resets, stays, works}
+use Rattle.usb_core.proofs.Done.{is_done}
 use Rattle.usb_core.proofs.Due.{something_waits}
 use Rattle.usb_core.proofs.DueSteps.{IsDueAt, Opens, StaysDue, ask_opens, due_acts, due_lives}
 use Rattle.usb_core.proofs.Gone.{IsGone, dead_times, gone_elsewhere, gone_from, gone_is_dead, live_behind, live_once, next_from, next_rises}
@@ -35,6 +36,7 @@ first_is_its : {A : Type 0} (h : ℕ) (test : A → Bool) (xs : List (Tagged A))
 first_is_its h test [] first = absurd cc
 first_is_its h test (x ∷ xs) first = let is : x.name ≡ h = cc in rw (is, same_name h) refl
 
+-- a first piece of another's name counts for nothing
 first_is_others : {A : Type 0} (h : ℕ) (test : A → Bool) (xs : List (Tagged A)) → (first_name xs ≡ Some h → ⊥) → first_counts (λ x. (x.name == h) && test x.piece) xs ≡ 0
 first_is_others h test [] other = refl
 first_is_others h test (x ∷ xs) other = by_name (x.name == h) refl
@@ -49,6 +51,7 @@ unfolding machine_of
 own_commands setup h ep w Command own = first_is_its h (λ x. x.ep == ep) w.orders (own refl)
 own_commands setup h ep w _ own = refl
 
+-- in a turn of the handle's own the Delivers counted are its machine's
 own_delivers : (setup : Setup) (h ep : ℕ) (w : World) (step : Step) → (is_unplug step ≡ false → owner_of setup w step ≡ Some h) → delivers_by h ep w step ≡ delivers_now ep (machine_of setup h w) step
 unfolding machine_of
 own_delivers setup h ep w Deliver own = first_is_its h (λ x. x.ep == ep) w.news (own refl)
@@ -77,6 +80,7 @@ no_commands : (setup : Setup) (h ep : ℕ) (w : World) (step : Step) → IsWell 
 no_commands setup h ep w Command well e = first_is_others h (λ x. x.ep == ep) w.orders (λ own. cc (e, own_turn setup h w Command well refl own))
 no_commands setup h ep w _ well e = refl
 
+-- in a turn that is not the handle's no Deliver is counted for it
 no_delivers : (setup : Setup) (h ep : ℕ) (w : World) (step : Step) → IsWell setup (machine_of setup h w) → is_own_step h step (turn setup w step).entry ≡ false → delivers_by h ep w step ≡ 0
 no_delivers setup h ep w Deliver well e = first_is_others h (λ x. x.ep == ep) w.news (λ own. cc (e, own_turn setup h w Deliver well refl own))
 no_delivers setup h ep w _ well e = refl
@@ -85,6 +89,7 @@ no_delivers setup h ep w _ well e = refl
 abbrev IsKeptAt : Setup → ℕ → World → Type 0
 IsKeptAt setup h w = (called : List ℕ) × IsKept setup (machine_of setup h w) called
 
+-- each turn keeps what holds of the handle's machine
 kept_turn : (setup : Setup) (h : ℕ) (w : World) (step : Step) → IsKeptAt setup h w → IsKeptAt setup h (turn setup w step).world
 kept_turn setup h w step (called, k) = by_turn (turn_to setup h w step)
   where
@@ -97,6 +102,7 @@ abbrev DueTurn : Setup → ℕ → ℕ → ℕ → ℕ → ℕ → World → Ste
 DueTurn setup h n ep c d w step =
     StaysDue n ep c d (commands_by h ep w step) (delivers_by h ep w step) (machine_of setup h (turn setup w step).world) ⊎ IsGone n ep (machine_of setup h (turn setup w step).world)
 
+-- a step of the handle's own leaves the transfer due within the bound, or gone
 due_own : (setup : Setup) (h n ep c d : ℕ) (m : Machine) (step : Step) (called : List ℕ) → IsKept setup m called → IsDueAt n ep c d m
     → StaysDue n ep c d (commands_now ep m step) (delivers_now ep m step) (machine_after setup m step (effect setup h m step)) ⊎ IsGone n ep (machine_after setup m step (effect setup h m step))
 due_own setup h n ep c d m step called k due = by_live (has_live n (end_at m' ep)) refl
@@ -112,6 +118,7 @@ due_own setup h n ep c d m step called k due = by_live (has_live n (end_at m' ep
       none = dead_times n (end_at m' ep) dead;
     })
 
+-- a turn of anyone leaves the transfer due within the bound, or gone
 due_turn : (setup : Setup) (h n ep c d : ℕ) (w : World) (step : Step) → IsKeptAt setup h w → IsDueAt n ep c d (machine_of setup h w) → DueTurn setup h n ep c d w step
 due_turn setup h n ep c d w step (called, k) due = by_turn (turn_to setup h w step)
   where
@@ -152,6 +159,7 @@ unfolding turn_of_nobody
 nobodys_entry setup w (Unplug dev) = refl
 nobodys_entry setup w _ = refl
 
+-- the entry of a turn of a name has that name as its owner
 somebodys_entry : (setup : Setup) (g : ℕ) (w : World) (step : Step) → (turn_of setup g w step).entry.owner ≡ Some g
 somebodys_entry setup g w step = by_test (is_blocked setup g w (effect_to setup g w step).change) refl
   where
@@ -159,6 +167,7 @@ somebodys_entry setup g w step = by_test (is_blocked setup g w (effect_to setup 
     by_test true blocked = ap (λ t. t.entry.owner) (turn_blocked setup g w step blocked)
     by_test false free = ap (λ t. t.entry.owner) (turn_free setup g w step free)
 
+-- the entry of a turn has the step's owner
 entry_owner : (setup : Setup) (w : World) (step : Step) → (turn setup w step).entry.owner ≡ owner_of setup w step
 unfolding turn
 entry_owner setup w step = by_owner (owner_of setup w step)
@@ -167,6 +176,7 @@ entry_owner setup w step = by_owner (owner_of setup w step)
     by_owner None = nobodys_entry setup w step
     by_owner (Some g) = somebodys_entry setup g w step
 
+-- an ask of a handle is its own step
 asks_own : (setup : Setup) (h n : ℕ) (w : World) (step : Step) → is_ask h n step ≡ true → owner_of setup w step ≡ Some h
 asks_own setup h n w (Cancel g k) asked = ap (λ x. Some x) (eqb-true g h (and_parts (g == h) (k == n) asked).0)
 asks_own setup h n w (Expire g k) asked = ap (λ x. Some x) (eqb-true g h (and_parts (g == h) (k == n) asked).0)
@@ -198,6 +208,7 @@ none_waits h ep place what (x ∷ xs) e = by_name (x.name == h) p.0 (none_waits 
     by_name true q rest = rw q rest
     by_name false q rest = rest
 
+-- while a transfer is due something waits at its endpoint
 due_waits : (setup : Setup) (h n ep c d : ℕ) (w : World) → IsDueAt n ep c d (machine_of setup h w) → something_waits_at h ep w ≡ true
 unfolding machine_of
 due_waits setup h n ep c d w due = true_from_ne_false (something_waits_at h ep w) none
@@ -207,6 +218,7 @@ due_waits setup h n ep c d w due = true_from_ne_false (something_waits_at h ep w
         let p = or_parts (list_any (is_order_at h ep) w.orders) (list_any (is_news_at h ep) w.news) e in
         something_waits n c d due.e _ _ due.due (none_waits h ep (λ x. x.ep) (λ x. x.errand) w.orders p.0) (none_waits h ep (λ x. x.ep) (λ x. x.event) w.news p.1)
 
+-- a run over a step in its midst is the run from the world after that step
 world_behind : (setup : Setup) (w : World) (before after : List Step) (step : Step) → world_from setup w (before ++ step ∷ after) ≡ world_from setup (turn setup (world_from setup w before) step).world after
 unfolding world_from
 world_behind setup w [] after step = refl
@@ -234,6 +246,7 @@ made_once setup h n ep u steps called (before, k) live kept dead = by_place (kep
     by_place : InOnePlace n m called → times n (result_numbers m.results) + times n called ≡ 1
     by_place p = omega (arith, p.once, none p.home (ep == p.home) refl)
 
+-- an accepted ask ends its transfer within the bound, and its one result is made
 pub asked_ends : (setup : Setup) (steps : List Step) (h : ℕ) → AskedEnds setup steps h
 asked_ends setup steps h before after ask n is asked accepted = record { ep = ep; was_there = opens.was_there; bounded = bounded; made = made; by_then = by_then }
   where

@@ -17,7 +17,9 @@ use Rattle.usb_model.specs.Machine.{Change, Drops, Effect, Frees, Gains, Keeps, 
 use Rattle.usb_model.specs.Setup.{Setup, interface_of, is_in, is_within, script_of, size_of}
 use Rattle.usb_model.specs.World.{Claims, World, all_ends_after, claims_after, holder, is_blocked, is_its, machine_of, new_world, owner_of, turn, turn_by, turn_of, turn_of_nobody, world_after, world_from}
 use Rattle.usb_core.proofs.CutSteps.{SetsNone, rest_sets, work_holds, work_next}
-use Rattle.usb_core.proofs.Deeds.{IsDone, IsWell, IsWork, at_device_of, is_done, only_rests, works}
+use Rattle.usb_core.proofs.Deeds.{IsDone, IsWell, IsWork, only_rests, works}
+use Rattle.usb_core.proofs.Done.{is_done}
+use Rattle.usb_core.proofs.Idle.{at_device_of}
 use Rattle.usb_core.proofs.Ledger.{HoldsAt, holds_new}
 use Rattle.usb_core.proofs.LedgerCut.{cut_if_holds}
 use Rattle.usb_core.proofs.LedgerLeaves.{holds_later}
@@ -39,6 +41,7 @@ record HoldsBy (setup : Setup) (names : ℕ → Handle) (claims : Claims) (d e :
   holds : HoldsAt (size_of setup d e) (is_in e) next (script_of setup d e) a end
   below : (h : ℕ) → is_its h (holder setup claims d e) ≡ true → next ≤ (names h).next
 
+-- a fresh endpoint holds, by a new account
 holds_fresh : (setup : Setup) (names : ℕ → Handle) (claims : Claims) (d e : ℕ) → list_all (is_of_direction (is_in e)) (script_of setup d e) ≡ true → HoldsBy setup names claims d e new_account (fresh setup d e)
 unfolding fresh
 holds_fresh setup names claims d e k = record { next = 0; holds = holds_new (size_of setup d e) (is_in e) 0 (script_of setup d e) k; below = λ h its. omega arith }
@@ -56,6 +59,7 @@ freed_before : (b : Bool) (g : ℕ) (o : Option ℕ) → is_its g (if b then Non
 freed_before true g o e = absurd cc
 freed_before false g o e = e
 
+-- whoever holds an endpoint held it before, where claims only go
 fewer_hold : (setup : Setup) (claims claims' : Claims) (d e g : ℕ) → ((i : ℕ) → is_its g (claims' d i) ≡ true → is_its g (claims d i) ≡ true) → is_its g (holder setup claims' d e) ≡ true → is_its g (holder setup claims d e) ≡ true
 fewer_hold setup claims claims' d e g fewer = by_interface (interface_of setup d e)
   where
@@ -73,11 +77,13 @@ gained_elsewhere setup h claims dev k d e g = by_interface (interface_of setup d
         let other : ((dev == d) && (k == i)) ≡ false = ap (λ t. (dev == d) && t) (either_way k i) ∙ without in
         rw other at q
 
+-- an endpoint that is new or as it was holds
 either_holds : (setup : Setup) (names : ℕ → Handle) (claims : Claims) (d e : ℕ) (a : Account) (x : Endpoint) (b : Bool) → list_all (is_of_direction (is_in e)) (script_of setup d e) ≡ true → (b ≡ false → HoldsBy setup names claims d e a x)
     → HoldsBy setup names claims d e (if b then new_account else a) (if b then fresh setup d e else x)
 either_holds setup names claims d e a x true k later = holds_fresh setup names claims d e k
 either_holds setup names claims d e a x false k later = later refl
 
+-- a change that sets no endpoint keeps what each endpoint holds
 change_holds : (setup : Setup) (d e h : ℕ) (w : World) (names : ℕ → Handle) (step : Step) (done : Effect) (change : Change) (a : Account) → list_all (is_of_direction (is_in e)) (script_of setup d e) ≡ true → ((g : ℕ) → (w.names g).next ≤ (names g).next)
     → SetsNone change → HoldsIn setup w d e a
     → HoldsBy setup names (λ x i. claims_after h w.claims change x i) d e (account_by setup d e h w step done change a) (all_ends_after setup h w.claims w.ends change d e)
@@ -104,10 +110,12 @@ handle_is : (setup : Setup) (h : ℕ) (w : World) → (machine_of setup h w).han
 unfolding machine_of
 handle_is setup h w = refl
 
+-- the endpoint that a holder's machine has is the world's
 its_end : (setup : Setup) (h : ℕ) (w : World) (d e : ℕ) (x : Endpoint) → is_its h (holder setup w.claims d e) ≡ true → (machine_of setup h w).ends d e ≡ Some x → x ≡ w.ends d e
 unfolding machine_of
 its_end setup h w d e x its is = some_same x (w.ends d e) (sym is ∙ rw its refl)
 
+-- a machine sees a device gone as the world does
 gone_is : (setup : Setup) (h : ℕ) (w : World) (d : ℕ) → (machine_of setup h w).gone d ≡ w.gone d
 unfolding machine_of
 gone_is setup h w d = refl
@@ -135,9 +143,11 @@ one_holder g h (Some k) p q = sym (eqb-true k h q) ∙ eqb-true k g p
 abbrev names_after : ℕ → (ℕ → Handle) → Handle → ℕ → Handle
 names_after h names handle g = if h == g then handle else names g
 
+-- the name's record after its step
 new_handle : (h : ℕ) (names : ℕ → Handle) (handle : Handle) → (names_after h names handle h).next ≡ handle.next
 new_handle h names handle = rw (same_name h) refl
 
+-- work at an endpoint keeps what each endpoint holds
 works_hold : (setup : Setup) (d e h : ℕ) (w : World) (ep : ℕ) (e0 : Endpoint) (step : Step) (handle : Handle) (work : Doing) (a : Account) → 0 < size_of setup d e → IsWell setup (machine_of setup h w) → end_at (machine_of setup h w) ep ≡ Some e0
     → IsWork setup (machine_of setup h w) ep e0 step handle work → HoldsIn setup w d e a
     → HoldsBy setup (names_after h w.names handle) w.claims d e (account_by setup d e h w step (doing_at handle (device_of (machine_of setup h w)) ep work) (Sets (device_of (machine_of setup h w)) ep work.endpoint) a)
@@ -181,6 +191,7 @@ done_holds setup d e h w step done a some k well (only_rests rest) t =
     change_holds setup d e h w (names_after h w.names done.handle) step done done.change a k
     (names_rise h w.names done.handle (omega (arith, r.1, ap (λ x. x.next) (handle_is setup h w)))) r.0 t
 
+-- a step keeps what each endpoint holds
 world_holds : (setup : Setup) (d e h : ℕ) (w : World) (step : Step) (done : Effect) (a : Account) → 0 < size_of setup d e → list_all (is_of_direction (is_in e)) (script_of setup d e) ≡ true → IsWell setup (machine_of setup h w)
     → IsDone setup h (machine_of setup h w) step done → HoldsIn setup w d e a → HoldsIn setup (world_after setup h w step done) d e (account_by setup d e h w step done done.change a)
 unfolding world_after
@@ -192,6 +203,7 @@ world_holds setup d e h w step done a some k well is t =
 abbrev IsWellAll : Setup → World → Type 0
 IsWellAll setup w = (h : ℕ) → IsWell setup (machine_of setup h w)
 
+-- a turn keeps every machine well
 well_turn : (setup : Setup) (w : World) (step : Step) → IsWellAll setup w → IsWellAll setup (turn setup w step).world
 well_turn setup w step well h = by_turn (turn_to setup h w step)
   where
@@ -203,18 +215,22 @@ well_turn setup w step well h = by_turn (turn_to setup h w step)
 if_so : {A : Type 0} (b : Bool) (x y : A) → b ≡ true → (if b then x else y) ≡ x
 if_so b x y e = rw e refl
 
+-- an if whose test is false
 if_not : {A : Type 0} (b : Bool) (x y : A) → b ≡ false → (if b then x else y) ≡ y
 if_not b x y e = rw e refl
 
+-- a step that is blocked leaves the account
 account_blocked : (setup : Setup) (d e g : ℕ) (w : World) (step : Step) (a : Account) → is_blocked setup g w (effect_to setup g w step).change ≡ true → account_of setup d e w step (Some g) a ≡ a
 unfolding account_of
 account_blocked setup d e g w step a q = if_so (is_blocked setup g w (effect_to setup g w step).change) _ _ q
 
+-- a step that is not blocked adds its part to the account
 account_free : (setup : Setup) (d e g : ℕ) (w : World) (step : Step) (a : Account) → is_blocked setup g w (effect_to setup g w step).change ≡ false
     → account_of setup d e w step (Some g) a ≡ account_by setup d e g w step (effect_to setup g w step) (effect_to setup g w step).change a
 unfolding account_of
 account_free setup d e g w step a q = if_not (is_blocked setup g w (effect_to setup g w step).change) _ _ q
 
+-- a turn of a name keeps what each endpoint holds
 holds_owned : (setup : Setup) (d e : ℕ) (w : World) (step : Step) (a : Account) (g : ℕ) → 0 < size_of setup d e → list_all (is_of_direction (is_in e)) (script_of setup d e) ≡ true → IsWell setup (machine_of setup g w) → HoldsIn setup w d e a
     → (b : Bool) → is_blocked setup g w (effect_to setup g w step).change ≡ b → HoldsIn setup (turn_of setup g w step).world d e (account_of setup d e w step (Some g) a)
 holds_owned setup d e w step a g some k well t true q =
@@ -231,17 +247,20 @@ unfolding turn_of_nobody
 holds_nobody setup d e w (Unplug dev) a t = record { next = t.next; holds = t.holds; below = t.below }
 holds_nobody setup d e w _ a t = t
 
+-- a turn of any owner, or of none, keeps what each endpoint holds
 holds_owner : (setup : Setup) (d e : ℕ) (w : World) (step : Step) (a : Account) (o : Option ℕ) → 0 < size_of setup d e → list_all (is_of_direction (is_in e)) (script_of setup d e) ≡ true → IsWellAll setup w → HoldsIn setup w d e a
     → HoldsIn setup (turn_by setup o w step).world d e (account_of setup d e w step o a)
 unfolding account_of
 holds_owner setup d e w step a None some k well t = holds_nobody setup d e w step a t
 holds_owner setup d e w step a (Some g) some k well t = holds_owned setup d e w step a g some k (well g) t (is_blocked setup g w (effect_to setup g w step).change) refl
 
+-- a turn keeps what each endpoint holds
 holds_turn : (setup : Setup) (d e : ℕ) (w : World) (step : Step) (a : Account) → 0 < size_of setup d e → list_all (is_of_direction (is_in e)) (script_of setup d e) ≡ true → IsWellAll setup w → HoldsIn setup w d e a
     → HoldsIn setup (turn setup w step).world d e (account_of setup d e w step (owner_of setup w step) a)
 unfolding turn
 holds_turn setup d e w step a some k well t = holds_owner setup d e w step a (owner_of setup w step) some k well t
 
+-- a run keeps what each endpoint holds
 holds_run : (setup : Setup) (d e : ℕ) (w : World) (a : Account) (steps : List Step) → 0 < size_of setup d e → list_all (is_of_direction (is_in e)) (script_of setup d e) ≡ true → IsWellAll setup w → HoldsIn setup w d e a
     → HoldsIn setup (world_from setup w steps) d e (account_from setup d e w a steps)
 unfolding account_from world_from
@@ -249,9 +268,11 @@ holds_run setup d e w a [] some k well t = t
 holds_run setup d e w a (step ∷ steps) some k well t =
     holds_run setup d e (turn setup w step).world (account_of setup d e w step (owner_of setup w step) a) steps some k (well_turn setup w step well) (holds_turn setup d e w step a some k well t)
 
+-- every machine is well at the start
 well_start : (setup : Setup) → IsWellAll setup (new_world setup)
 well_start setup h = subst (IsWell setup) (sym (new_machine_of setup h)) (well_new setup)
 
+-- each endpoint holds at the start
 holds_start : (setup : Setup) (d e : ℕ) → list_all (is_of_direction (is_in e)) (script_of setup d e) ≡ true → HoldsIn setup (new_world setup) d e new_account
 unfolding new_world
 holds_start setup d e k = let r = holds_fresh setup (λ h. unused) (λ x i. None) d e k in record { next = r.next; holds = r.holds; below = r.below }

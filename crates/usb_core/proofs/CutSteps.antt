@@ -24,7 +24,8 @@ use Rattle.usb_model.specs.Turns.{take_it}
 use Rattle.usb_core.proofs.Deeds.{IsAsk, IsRest, IsSubmission, IsWell, IsWork, again, again_with, anew, asks_it, cancels, claims, claims_again, clears, closes, commands, delivers, expires, opens, releases, resets, serves, stays, stops, submits, takes}
 use Rattle.usb_core.proofs.FirstEnd.{end_told}
 use Rattle.usb_core.proofs.Ledger.{HoldsAt}
-use Rattle.usb_core.proofs.LedgerDeliver.{IsTrueOf, holds_ask, holds_clear, holds_command, holds_deliver, holds_submit}
+use Rattle.usb_core.proofs.LedgerAsk.{holds_ask, holds_clear, holds_submit}
+use Rattle.usb_core.proofs.LedgerDeliver.{IsTrueOf, holds_command, holds_deliver}
 use Rattle.usb_core.proofs.LedgerServe.{KeepsLedger, holds_serve}
 use Rattle.usb_core.proofs.Placed.{fit_at}
 use Rattle.usb_core.proofs.Posts.{errands_of}
@@ -48,19 +49,21 @@ good_body ep (Out bytes) e = by_test (is_in ep) (or_parts (is_in ep) (nat_lt 262
 -- and is accepted, under the next number
 accepts : (handle : Handle) (n : ℕ) (step : Step) (left : Handle) (request : Request) (round : ℕ) → IsSubmission handle step left request round → accepted_by handle step (reply.Number n) ≡ Transfer n request round ∷ []
 accepts handle n step left request round (anew g r) = refl
-accepts handle n step left request round (again g k x lent) = ap (accepted_again n Again) lent
-accepts handle n step left request round (again_with g k bytes x lent) = ap (accepted_again n (AgainWith bytes)) lent
+accepts handle n step left request round (again g k x in_call) = ap (accepted_again n Again) in_call
+accepts handle n step left request round (again_with g k bytes x in_call) = ap (accepted_again n (AgainWith bytes)) in_call
 
+-- a submission is no ask
 no_ask_by : (handle : Handle) (n : ℕ) (step : Step) (left : Handle) (request : Request) (round : ℕ) → IsSubmission handle step left request round → asked_by step (reply.Number n) ≡ []
 no_ask_by handle n step left request round (anew g r) = refl
-no_ask_by handle n step left request round (again g k x lent) = refl
-no_ask_by handle n step left request round (again_with g k bytes x lent) = refl
+no_ask_by handle n step left request round (again g k x in_call) = refl
+no_ask_by handle n step left request round (again_with g k bytes x in_call) = refl
 
 -- an ask is in the account
 asks_by : (handle : Handle) (step : Step) (n : ℕ) (ask : Ask) → IsAsk step n ask → (accepted_by handle step reply.Done ≡ []) × (asked_by step reply.Done ≡ record { n = n; ask = ask } ∷ [])
 asks_by handle step n ask (cancels g k) = (refl, refl)
 asks_by handle step n ask (expires g k) = (refl, refl)
 
+-- an ask that is accepted is answered Done
 reply_of : (e : Endpoint) (n : ℕ) (ask : Ask) → (asks e n ask).reply ≡ reply.Done
 unfolding asks
 reply_of e n ask = refl
@@ -70,6 +73,7 @@ abbrev pub AddsWork : Setup → Machine → ℕ → List Answer → Account → 
 AddsWork setup m ep script a step handle d =
     KeepsLedger (size_of setup (device_of m) ep) (is_in ep) handle.next script a (is_gone m) (accepted_by m.handle step d.reply) (asked_by step d.reply) d
 
+-- work that adds what the step is said to accept and to ask keeps the ledger of the account
 same_lists : (setup : Setup) (m : Machine) (ep : ℕ) (script : List Answer) (a : Account) (step : Step) (handle : Handle) (d : Doing) (accepted : List Accepted) (asked : List Asked) → accepted_by m.handle step d.reply ≡ accepted → asked_by step d.reply ≡ asked
     → KeepsLedger (size_of setup (device_of m) ep) (is_in ep) handle.next script a (is_gone m) accepted asked d → AddsWork setup m ep script a step handle d
 same_lists setup m ep script a step handle d accepted asked p q k =
@@ -81,6 +85,7 @@ true_of e os (Finished k code) ns c = end_told e os ns k code c
 true_of e os (Paused k) ns c = tt
 true_of e os (Settled o ok) ns c = tt
 
+-- each piece of work keeps the ledger of its endpoint
 pub work_holds : (setup : Setup) (m : Machine) (ep : ℕ) (script : List Answer) (a : Account) (e : Endpoint) (step : Step) (handle : Handle) (d : Doing) → 0 < size_of setup (device_of m) ep → IsWell setup m → end_at m ep ≡ Some e → IsWork setup m ep e step handle d
     → HoldsAt (size_of setup (device_of m) ep) (is_in ep) m.handle.next script a e → AddsWork setup m ep script a step handle d
 work_holds setup m ep script a e step handle d some well here (serves dev) h = holds_serve (size_of setup (device_of m) ep) (is_in ep) m.handle.next script a (is_gone m) e some h
@@ -108,7 +113,7 @@ pub rest_sets : (setup : Setup) (h : ℕ) (m : Machine) (step : Step) (done : Ef
 unfolding take_it
 rest_sets setup h m step done (stays bare t) = (tt, refl)
 rest_sets setup h m step done (claims_again g i) = (tt, refl)
-rest_sets setup h m step done (stops g k x lent) = (tt, refl)
+rest_sets setup h m step done (stops g k x in_call) = (tt, refl)
 rest_sets setup h m step done (opens g dev none) = (tt, refl)
 rest_sets setup h m step done (closes g idle) = (tt, refl)
 rest_sets setup h m step done (claims g i opened free) = (tt, refl)

@@ -13,6 +13,7 @@ use Rattle.usb_model.specs.Command.{command}
 use Rattle.usb_model.specs.Deliver.{blanked, deliver, finished_result, leads_blank, line_after, needs_reset, resume, withdrawn}
 use Rattle.usb_model.specs.Endpoint.{Doing, in_progress}
 
+-- what both branches of an if have, it has
 if_same : {A B : Type 0} (f : A → B) (b : Bool) (x y : A) (v : B) → f x ≡ v → f y ≡ v → f (if b then x else y) ≡ v
 if_same f true x y v p q = p
 if_same f false x y v p q = q
@@ -30,6 +31,7 @@ pub line-resume : (size : ℕ) (e : Endpoint) (r : Reply) (line : List Item) →
 unfolding resume
 line-resume size e r line = if_same (λ (d : Doing). d.endpoint.line) (leads_blank (map blanked line)) _ _ _ refl refl
 
+-- results of a halt that is over: the withdrawn transfers'
 pub results-resume : (size : ℕ) (e : Endpoint) (r : Reply) (line : List Item) → (resume size e r line).results ≡ withdrawn size line
 unfolding resume
 results-resume size e r line = if_same (λ (d : Doing). d.results) (leads_blank (map blanked line)) _ _ _ refl refl
@@ -39,6 +41,7 @@ pub line-finished : (size ep : ℕ) (gone : Bool) (e : Endpoint) (n code : ℕ) 
 unfolding deliver
 line-finished size ep gone e n code = if_same (λ (d : Doing). d.endpoint.line) (needs_reset code e.errand) _ _ _ refl refl
 
+-- the result of an end that is delivered: that of its transfer, where that is in progress
 pub results-finished : (size ep : ℕ) (gone : Bool) (e : Endpoint) (n code : ℕ) → (deliver size ep gone e (Finished n code)).results ≡ finished_result size gone code (in_progress n e.line)
 unfolding deliver
 results-finished size ep gone e n code = if_same (λ (d : Doing). d.results) (needs_reset code e.errand) _ _ _ refl refl

@@ -29,6 +29,7 @@ abbrev pub is_failure : Event → Bool
 is_failure (Settled errand.Stop false) = true
 is_failure _ = false
 
+-- how many failed Stops are told
 abbrev pub failures : List Event → ℕ
 failures [] = 0
 failures (x ∷ xs) = (if is_failure x then 1 else 0) + failures xs
@@ -67,6 +68,7 @@ pub record IsDue (n commands delivers : ℕ) (e : Endpoint) (os : List Errand) (
 abbrev pub LeavesDue : ℕ → ℕ → ℕ → Doing → List Errand → List Event → Type 0
 LeavesDue n c d doing os ns = IsDue n c d doing.endpoint (os ++ doing.orders) (ns ++ doing.news)
 
+-- the item found by a number has that number
 pub found_it : (n : ℕ) (line : List Item) (i : Item) → in_progress n line ≡ Some i → is_it n i ≡ true
 unfolding in_progress
 found_it n [] i e = absurd cc
@@ -157,6 +159,7 @@ ahead_of-past_blanks n (x ∷ xs) = by_test (is_blank x) refl (ahead_of-past_bla
         by_number false = rest
     by_test false is rest = rw is (refl, refl)
 
+-- nothing appended to nothing
 append_none : (xs ys : List Event) → xs ++ ys ≡ [] → (xs ≡ []) × (ys ≡ [])
 append_none [] ys e = (refl, e)
 append_none (x ∷ xs) ys e = absurd cc
@@ -206,6 +209,7 @@ pub failures-behind : (es fs : List Event) → failures (es ++ fs) ≡ failures 
 failures-behind [] fs = omega arith
 failures-behind (x ∷ xs) fs = let e = failures-behind xs fs in omega (arith, e)
 
+-- served transfers tell no failure to halt
 pub no_failures : (line : List Item) → failures (served_events line) ≡ 0
 unfolding served_events
 no_failures [] = refl
@@ -216,10 +220,12 @@ no_failures (x ∷ xs) = by_state x.state (no_failures xs)
     by_state (Served code) e = omega (arith, e)
     by_state Blank e = e
 
+-- what is left to an item after the endpoint's next order is carried out
 abbrev CommandLeft : ℕ → ℕ → Endpoint → Errand → Item → ℕ → List Errand → List Event → ℕ → ℕ → Type 0
 CommandLeft size ep e o item b os ns c d =
     (1 ≤ c) × IsLeft item (command size ep e o e.state).endpoint.errand (os ++ (command size ep e o e.state).orders) (ns ++ (command size ep e o e.state).news) b (c - 1) d
 
+-- an order that is carried out uses one command up, in each phase
 command_left_at : (size ep : ℕ) (e : Endpoint) (s : EndpointState) (er : Option Errand) (o : Errand) (os : List Errand) (ns es tail : List Event) (item : Item) (b c d : ℕ)
     → IsPhase s er (o ∷ os) es tail → ns ≡ es ++ tail → failures es ≡ 0 → (is_waiting item ≡ true → length es ≤ b) → IsLeft item er (o ∷ os) ns b c d
     → CommandLeft size ep (in_phase e s er) o item b os ns c d

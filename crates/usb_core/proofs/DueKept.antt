@@ -32,6 +32,7 @@ here-push n (x ∷ xs) y i e = by_it (is_it n x) e (here-push n xs y i)
     by_it true q rest = (q, refl)
     by_it false q rest = let r = rest q in (r.0, ap (λ k. if is_blank x then k else suc k) r.1)
 
+-- a submission leaves an asked transfer what is left to it
 pub due_submit : (n c d : ℕ) (e : Endpoint) (k : ℕ) (request : Request) (round : ℕ) (os : List Errand) (ns : List Event) → IsDue n c d e os ns → IsDue n c d (record e { line = e.line ++ new_item k request round ∷ [] }) os ns
 due_submit n c d e k request round os ns due =
     let p = here-push n e.line (new_item k request round) due.item due.here in
@@ -70,10 +71,12 @@ with_ask_kept k ask i = by_test (i.n == k)
     by_test true = (refl, λ q. refl)
     by_test false = (refl, λ q. q)
 
+-- what is left to an item depends on it only by whether it waits
 left_same : (item heir : Item) (er : Option Errand) (os : List Errand) (ns : List Event) (b c d : ℕ) → is_waiting heir ≡ is_waiting item → IsLeft item er os ns b c d → IsLeft heir er os ns b c d
 left_same item heir er os ns b c d same (inl q) = inl (same ∙ q.0, q.1, q.2, q.3)
 left_same item heir er os ns b c d same (inr q) = inr (same ∙ q.0, q.1, q.2)
 
+-- an option that is not None is there
 stands_some : (er : Option Errand) → (er ≡ None → ⊥) → is_some er ≡ true
 stands_some None some = absurd (some refl)
 stands_some (Some o) some = refl

@@ -16,7 +16,8 @@ use Rattle.usb_model.specs.Cut.{times}
 use Rattle.usb_model.specs.Deliver.{blanked, deliver, finished_result, is_withdrawn, line_after, needs_reset, withdrawn}
 use Rattle.usb_model.specs.Endpoint.{in_progress, is_blank, is_blank_state, is_it, is_waiting, is_waiting_state, live_numbers, past_blanks, past_number, result_of}
 use Rattle.usb_model.specs.Status.{halts}
-use Rattle.usb_core.proofs.Coherent.{coherent_deliver, first_is_end, heads_event, in_phase}
+use Rattle.usb_core.proofs.Coherent.{in_phase}
+use Rattle.usb_core.proofs.CoherentDeliver.{coherent_deliver, first_is_end, heads_event}
 use Rattle.usb_core.proofs.Doings.{line-finished, line-resume}
 use Rattle.usb_core.proofs.Due.{IsDue, IsLeft, LeavesDue, ahead_of, ahead_of-past_blanks, ahead_of-past_number, asked_waits, commands_left, delivers_left, failures, found_it}
 use Rattle.usb_model.proofs.Errands.{IsCoherent, IsPhase, ServedFirst, ended, event_by, first_by, move_ran, move_waits, reset_ran, reset_waits, runs, served_events, stop_failed, stop_ran, stop_ran_paused, stop_waits, stop_waits_halted}
@@ -53,6 +54,7 @@ withdrawn_has size n (x ∷ xs) i e w a = by_tests (is_it n x) (is_withdrawn x) 
     by_tests false true q r e rest = omega (arith, rest e w a, times-cons n x.n (result_numbers (withdrawn size xs)))
     by_tests false false q r e rest = rest e w a
 
+-- an asked transfer that waits is no more in progress once the withdrawn are
 gone_withdrawn : (size n : ℕ) (line : List Item) (i j : Item) → times n (live_numbers line) ≤ 1 → in_progress n line ≡ Some i → is_waiting i ≡ true → is_some i.ask ≡ true → in_progress n (map blanked line) ≡ Some j → ⊥
 gone_withdrawn size n line i j single e w a still =
     omega (arith, single, withdrawn_times size n line, withdrawn_has size n line i e w a, progress_times n (map blanked line) j still)
@@ -91,6 +93,7 @@ no_end s er os fs tail n code ns reset_ran told = cc
 no_end s er os fs tail n code ns move_waits told = cc
 no_end s er os fs tail n code ns move_ran told = cc
 
+-- of the errands Stop alone fails
 no_false : (s : EndpointState) (er : Option Errand) (os : List Errand) (fs tail : List Event) (o : Errand) (ns : List Event) → IsPhase s er os fs tail → tail ≡ Settled o false ∷ ns → o ≡ errand.Stop
 no_false s er os fs tail o ns (runs g) told = absurd cc
 no_false s er os fs tail o ns (ended g) told = absurd cc
@@ -110,6 +113,7 @@ DeliverLeft size ep gone n e event item os ns c d =
     (2 ≤ d) × (in_progress n (deliver size ep gone e event).endpoint.line ≡ Some item)
     × IsLeft item (deliver size ep gone e event).endpoint.errand (os ++ (deliver size ep gone e event).orders) (ns ++ (deliver size ep gone e event).news) (ahead_of n (deliver size ep gone e event).endpoint.line) c (d - 1)
 
+-- news that is no transfer's result uses one delivery up, or ends the asked transfer
 pub tail_left : (size ep : ℕ) (gone : Bool) (n : ℕ) (e : Endpoint) (s : EndpointState) (er : Option Errand) (os : List Errand) (fs tail : List Event) (event : Event) (ns : List Event) (item j : Item) (b c d : ℕ)
     → IsPhase s er os fs tail → tail ≡ event ∷ ns → in_progress n e.line ≡ Some item → is_waiting item ≡ true → is_some item.ask ≡ true → times n (live_numbers e.line) ≤ 1
     → commands_left er os (event ∷ ns) ≤ c → delivers_left er os (event ∷ ns) b ≤ d
@@ -200,9 +204,11 @@ gone_finished size gone code n line i j single here still =
     let one : times n (result_numbers (finished_result size gone code (in_progress n line))) ≡ 1 = ap (λ o. times n (result_numbers (finished_result size gone code o))) here ∙ times_one n i.n number in
     omega (arith, single, finished_times size gone code n n line, one, progress_times n (past_number n line) j still)
 
+-- an end that is delivered gives no order while the endpoint is asked to stop
 no_reset : (code : ℕ) (er : Option Errand) → er ≡ Some errand.Stop → needs_reset code er ≡ false
 no_reset code er e = rw e (and_right (halts code) false refl)
 
+-- what is left behind a delivery: one less
 abbrev pub DueAfter : ℕ → ℕ → Bool → ℕ → ℕ → ℕ → Endpoint → List Errand → Event → List Event → Type 0
 DueAfter size ep gone n c d e os event ns = (1 ≤ d) × LeavesDue n c (d - 1) (deliver size ep gone e event) os ns
 
@@ -222,6 +228,7 @@ due_finished size ep gone n c d k code e os ns item co asked stop here r =
       },
     )
 
+-- a delivery uses one up, or ends the asked transfer
 pub due_deliver : (size ep : ℕ) (gone : Bool) (n c d : ℕ) (e : Endpoint) (os : List Errand) (event : Event) (ns : List Event) (j : Item) → IsDue n c d e os (event ∷ ns) → times n (live_numbers e.line) ≤ 1
     → in_progress n (deliver size ep gone e event).endpoint.line ≡ Some j → DueAfter size ep gone n c d e os event ns
 unfolding deliver

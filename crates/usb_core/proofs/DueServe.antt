@@ -11,37 +11,45 @@ use Rattle.usb_model.specs.declared.plain.item.ItemState.TheVariants.{Blank, Ser
 use Rattle.usb_model.specs.declared.plain.item.ItemState.{ItemState}
 use Rattle.usb_model.specs.declared.plain.news.Event.{Event}
 use Rattle.usb_model.specs.Endpoint.{first_waiting, in_progress, is_blank, is_it, is_waiting, is_waiting_state, with_first}
-use Rattle.usb_model.specs.Packets.{Outcome}
+use Rattle.usb_model.specs.declared.plain.outcome.Outcome.{Outcome}
 use Rattle.usb_model.specs.Serve.{next_answer, serve, serve_by, serve_first, serve_gone}
-use Rattle.usb_core.proofs.Coherent.{LeavesCoherent, coherent_serve}
+use Rattle.usb_core.proofs.Coherent.{LeavesCoherent}
+use Rattle.usb_core.proofs.CoherentServe.{coherent_serve}
 use Rattle.usb_core.proofs.Due.{IsDue, IsLeft, LeavesDue, ahead_of, asked_waits}
 use Rattle.usb_model.proofs.Errands.{IsCoherent, IsPhase, runs, served_events, stop_waits}
 use Rattle.usb_model.proofs.Works.{first_waits}
 
+-- a number is found at the head of a line
 progress_here : (n : ℕ) (z : Item) (zs : List Item) → is_it n z ≡ true → in_progress n (z ∷ zs) ≡ Some z
 unfolding in_progress
 progress_here n z zs e = rw e
 
+-- a number is found past the head
 progress_past : (n : ℕ) (z : Item) (zs : List Item) → is_it n z ≡ false → in_progress n (z ∷ zs) ≡ in_progress n zs
 unfolding in_progress
 progress_past n z zs e = rw e
 
+-- nothing is ahead of the head
 before_here : (n : ℕ) (z : Item) (zs : List Item) → is_it n z ≡ true → ahead_of n (z ∷ zs) ≡ 0
 unfolding ahead_of
 before_here n z zs e = rw e
 
+-- the head counts ahead of those behind it, unless it is a blank
 before_past : (n : ℕ) (z : Item) (zs : List Item) → is_it n z ≡ false → ahead_of n (z ∷ zs) ≡ (if is_blank z then ahead_of n zs else suc (ahead_of n zs))
 unfolding ahead_of
 before_past n z zs e = rw e
 
+-- a head that waits is the first that waits
 waiting_here : (y z : Item) (zs : List Item) → is_waiting z ≡ true → (first_waiting (z ∷ zs) ≡ Some z) × (with_first y (z ∷ zs) ≡ y ∷ zs)
 unfolding first_waiting with_first
 waiting_here y z zs e = rw e (refl, refl)
 
+-- behind a head that does not wait is the first that waits
 waiting_past : (y z : Item) (zs : List Item) → is_waiting z ≡ false → (first_waiting (z ∷ zs) ≡ first_waiting zs) × (with_first y (z ∷ zs) ≡ z ∷ with_first y zs)
 unfolding first_waiting with_first
 waiting_past y z zs e = rw e (refl, refl)
 
+-- a transfer that waits is no blank
 waits_live : (z : Item) → is_waiting z ≡ true → is_blank z ≡ false
 waits_live z e = by_state z.state e
   where
@@ -50,6 +58,7 @@ waits_live z e = by_state z.state e
     by_state (Served code) e = refl
     by_state Blank e = absurd cc
 
+-- equal options have equal items
 same_item : (x y : Item) → ◌≡◌ {A = Option Item} (Some x) (Some y) → x ≡ y
 same_item x y e = cc
 
@@ -59,6 +68,7 @@ StaysDue n x y line i =
     ((in_progress n (with_first y line) ≡ Some i) ⊎ ((i ≡ x) × (in_progress n (with_first y line) ≡ Some y)))
     × (ahead_of n (with_first y line) ≡ ahead_of n line)
 
+-- the first waiting transfer replaced: an asked one is still found, with as many ahead
 due-with_first : (n : ℕ) (x y : Item) (line : List Item) (i : Item) → first_waiting line ≡ Some x → y.n ≡ x.n → is_blank y ≡ false → in_progress n line ≡ Some i → StaysDue n x y line i
 unfolding first_waiting
 due-with_first n x y [] i f same live here = absurd cc
@@ -112,6 +122,7 @@ stop_is_due : (er : Option Errand) (os : List Errand) (es tail : List Event) →
 stop_is_due er os es tail (runs g) = inl refl
 stop_is_due er os es tail (stop_waits g) = inr (refl, refl)
 
+-- to a transfer that waited what is left is left behind a halt too
 still_left : (i y : Item) (ns ms : List Event) (b c d : ℕ) → IsLeft i (Some errand.Stop) (errand.Stop ∷ []) ns b c d → is_waiting i ≡ true → IsLeft y (Some errand.Stop) (errand.Stop ∷ []) ms b c d
 still_left i y ns ms b c d (inl q) w = absurd cc
 still_left i y ns ms b c d (inr q) w = by_test (is_waiting y) refl
@@ -120,6 +131,7 @@ still_left i y ns ms b c d (inr q) w = by_test (is_waiting y) refl
     by_test true e = inr (e, q.1, q.2)
     by_test false e = inl (e, refl, omega (arith, q.1), omega (arith, q.2))
 
+-- behind the order to stop the news alone does not change what is left
 same_left : (i : Item) (ns ms : List Event) (b c d : ℕ) → IsLeft i (Some errand.Stop) (errand.Stop ∷ []) ns b c d → IsLeft i (Some errand.Stop) (errand.Stop ∷ []) ms b c d
 same_left i ns ms b c d (inl q) = inl q
 same_left i ns ms b c d (inr q) = inr q
@@ -132,6 +144,7 @@ record IsServed (e e' : Endpoint) (x y : Item) : Type 0 where
   live : is_blank y ≡ false
   ask : y.ask ≡ x.ask
 
+-- a transfer served leaves an asked one what is left to it
 due_served : (n c d : ℕ) (e e' : Endpoint) (x y : Item) (os : List Errand) (ns ms : List Event) → e.state ≡ Running → first_waiting e.line ≡ Some x → IsServed e e' x y → IsCoherent e' (os ++ []) ms
     → IsDue n c d e os ns → IsDue n c d e' (os ++ []) ms
 due_served n c d e e' x y os ns ms running first served coherent due = by_errand (stop_is_due e.errand os (served_events e.line) due.coherent.tail (subst (λ s. IsPhase s e.errand os (served_events e.line) due.coherent.tail) running due.coherent.phase))
@@ -170,6 +183,7 @@ due_served n c d e e' x y os ns ms running first served coherent due = by_errand
     by_errand (inl none) = by_bound none due.bound
     by_errand (inr q) = by_place q.0 q.1 (subst (λ o. IsLeft due.item o (errand.Stop ∷ []) ns (ahead_of n e.line) c d) q.0 (subst (λ l. IsLeft due.item e.errand l ns (ahead_of n e.line) c d) q.1 due.bound)) stays.0
 
+-- a packet that a waiting transfer is served leaves an asked one what is left to it
 due_serve_by : (n c d : ℕ) (e : Endpoint) (x : Item) (a b : Outcome) (code : Option ℕ) (os : List Errand) (ns : List Event) → e.state ≡ Running → first_waiting e.line ≡ Some x
     → LeavesCoherent (serve_by e x a b code) os ns → IsDue n c d e os ns
     → LeavesDue n c d (serve_by e x a b code) os ns
@@ -179,6 +193,7 @@ due_serve_by n c d e x a b None os ns m f co due =
 due_serve_by n c d e x a b (Some code) os ns m f co due =
     due_served n c d e _ x (record x { share = x.share ++ next_answer e; state = Served code }) os ns _ m f (record { line = refl; errand = refl; n = refl; live = refl; ask = refl }) co due
 
+-- a packet that the first transfer is served leaves an asked one what is left to it
 due_serve_first : (size : ℕ) (gone : Bool) (n c d : ℕ) (e : Endpoint) (s : EndpointState) (o : Option Item) (os : List Errand) (ns : List Event) → e.state ≡ s → first_waiting e.line ≡ o
     → LeavesCoherent (serve_first size gone e s o) os ns → IsDue n c d e os ns
     → LeavesDue n c d (serve_first size gone e s o) os ns
@@ -188,6 +203,7 @@ due_serve_first size true n c d e Running (Some x) os ns m f co due =
 due_serve_first size false n c d e Running (Some x) os ns m f co due = due_serve_by n c d e x _ _ _ os ns m f co due
 due_serve_first size gone n c d e _ _ os ns m f co due = rw (append-nil os, append-nil ns) due
 
+-- a packet that is served leaves an asked transfer what is left to it
 pub due_serve : (size : ℕ) (gone : Bool) (n c d : ℕ) (e : Endpoint) (os : List Errand) (ns : List Event) → IsDue n c d e os ns
     → LeavesDue n c d (serve size gone e) os ns
 unfolding serve

@@ -47,6 +47,7 @@ pub record StaysDue (n ep c d used told : ℕ) (m : Machine) : Type 0 where
   pub fewer : told + delivers ≤ d
   pub due : IsDueAt n ep commands delivers m
 
+-- what is left after work, as commands and deliveries are counted
 abbrev StaysDueBy : ℕ → ℕ → ℕ → ℕ → ℕ → Doing → List Errand → List Event → Type 0
 StaysDueBy n c d used told doing os ns = (c' : ℕ) × (d' : ℕ) × (used + c' ≤ c) × (told + d' ≤ d) × LeavesDue n c' d' doing os ns
 
@@ -77,6 +78,7 @@ due_work setup m ep n c d e step handle doing j (submits {handle = left} {reques
     )
 due_work setup m ep n c d e step handle doing j (clears g empty) due single still = (c, d, omega arith, omega arith, rw (append-nil (errands_of ep m.orders), append-nil (events_of ep m.news)) (due_clear n c d e _ _ due))
 
+-- a number in progress has its item
 live_item : (n : ℕ) (o : Option Endpoint) (e : Endpoint) → o ≡ Some e → has_live n o ≡ true → (i : Item) × (in_progress n e.line ≡ Some i)
 live_item n o e is live = by_item (in_progress n e.line) refl (ap (has_live n) (sym is) ∙ live)
   where
@@ -84,6 +86,7 @@ live_item n o e is live = by_item (in_progress n e.line) refl (ap (has_live n) (
     by_item None is q = absurd cc
     by_item (Some i) is q = (i, is)
 
+-- a transfer that is due is in progress
 pub due_lives : (n ep c d : ℕ) (m : Machine) → IsDueAt n ep c d m → has_live n (end_at m ep) ≡ true
 due_lives n ep c d m due = ap (has_live n) due.here ∙ ap is_some due.due.here
 
@@ -131,6 +134,7 @@ opens_here setup h n k ep m step ask e i well here same is at free =
           (rw (orders_set setup m step ep m.handle (asks e k ask), news_set setup m step ep m.handle (asks e k ask)) behind);
     }
 
+-- an ask tells the number of its transfer
 asked_number : (h n k : ℕ) (step : Step) (ask : Ask) → IsAsk step k ask → is_ask h n step ≡ true → k ≡ n
 asked_number h n k step ask (cancels g j) asked = eqb-true j n (and_parts (g == h) (j == n) asked).1
 asked_number h n k step ask (expires g j) asked = eqb-true j n (and_parts (g == h) (j == n) asked).1
@@ -141,6 +145,7 @@ pub record Opens (setup : Setup) (n : ℕ) (m m' : Machine) : Type 0 where
   pub was_there : has_live n (end_at m ep) ≡ true
   pub due : IsDueAt n ep 2 17 m'
 
+-- an ask that is work opens the bound of its transfer
 opens_work : (setup : Setup) (h n ep : ℕ) (m : Machine) (e : Endpoint) (step : Step) (handle : Handle) (d : Doing) → IsWell setup m → end_at m ep ≡ Some e → IsWork setup m ep e step handle d → is_ask h n step ≡ true
     → Opens setup n m (machine_after setup m step (doing_at handle (device_of m) ep d))
 opens_work setup h n ep m e step handle d well here (asks_it {ask = ask} k i is at free) asked =
@@ -154,10 +159,11 @@ opens_work setup h n ep m e step handle d well here (serves dev) asked = absurd 
 opens_work setup h n ep m e step handle d well here (commands o os is) asked = absurd cc
 opens_work setup h n ep m e step handle d well here (delivers event ns is) asked = absurd cc
 opens_work setup h n ep m e step handle d well here (submits (anew g r) at fine short) asked = absurd cc
-opens_work setup h n ep m e step handle d well here (submits (again g k x lent) at fine short) asked = absurd cc
-opens_work setup h n ep m e step handle d well here (submits (again_with g k bytes x lent) at fine short) asked = absurd cc
+opens_work setup h n ep m e step handle d well here (submits (again g k x in_call) at fine short) asked = absurd cc
+opens_work setup h n ep m e step handle d well here (submits (again_with g k bytes x in_call) at fine short) asked = absurd cc
 opens_work setup h n ep m e step handle d well here (clears g empty) asked = absurd cc
 
+-- an ask that does no work is not accepted
 opens_rest : (setup : Setup) (h n : ℕ) (m m' : Machine) (step : Step) (done : Effect) → IsRest setup h m step done → is_ask h n step ≡ true → done.reply ≡ reply.Done → Opens setup n m m'
 opens_rest setup h n m m' step done (stays {r = r} bare t) asked is = absurd (not_bare h n step r bare asked is)
 opens_rest setup h n m m' step done _ asked is = absurd cc

@@ -19,7 +19,7 @@ use Rattle.usb_model.specs.Command.{command}
 use Rattle.usb_model.specs.Cut.{times}
 use Rattle.usb_model.specs.Deliver.{blanked, deliver, line_after, resume, withdrawn}
 use Rattle.usb_model.specs.Endpoint.{Doing, first_waiting, is_blank_state, live_numbers, past_blanks, past_number, with_first}
-use Rattle.usb_model.specs.Packets.{Outcome}
+use Rattle.usb_model.specs.declared.plain.outcome.Outcome.{Outcome}
 use Rattle.usb_model.specs.Serve.{serve, serve_by, serve_first, serve_gone}
 use Rattle.usb_model.specs.Status.{halts}
 use Rattle.usb_core.proofs.Doings.{line-finished, line-resume, results-finished, results-resume}
@@ -37,14 +37,17 @@ pub record IsExact (e : Endpoint) (d : Doing) : Type 0 where
 pub exact_if_same : (e : Endpoint) (d : Doing) → d.results ≡ [] → live_numbers d.endpoint.line ≡ live_numbers e.line → IsExact e d
 exact_if_same e d none same = record { exact = λ n. rw (none, same) (omega arith) }
 
+-- the first waiting transfer replaced loses no number
 exact_served : (e : Endpoint) (x : Item) (s : ItemState) (share : List Answer) (d : Doing) → first_waiting e.line ≡ Some x → is_blank_state s ≡ false → d.results ≡ [] → d.endpoint.line ≡ with_first (record x { share = share; state = s }) e.line → IsExact e d
 exact_served e x s share d first live none line = exact_if_same e d none (ap live_numbers line ∙ lives-with_first x (record x { share = share; state = s }) e.line first refl live)
 
+-- a packet that a waiting transfer is served loses no number
 exact_serve_by : (e : Endpoint) (x : Item) (a b : Outcome) (code : Option ℕ) → first_waiting e.line ≡ Some x → IsExact e (serve_by e x a b code)
 unfolding serve_by
 exact_serve_by e x a b None first = exact_served e x x.state _ _ first (ap is_blank_state (first_waits e.line x first)) refl refl
 exact_serve_by e x a b (Some code) first = exact_served e x (Served code) _ _ first refl refl refl
 
+-- a packet that the first transfer is served loses no number
 exact_serve_first : (size : ℕ) (gone : Bool) (e : Endpoint) (s : EndpointState) (o : Option Item) → first_waiting e.line ≡ o → IsExact e (serve_first size gone e s o)
 unfolding serve_first serve_gone
 exact_serve_first size true e Running (Some x) first = exact_served e x (Served 4) x.share _ first refl refl refl
@@ -68,9 +71,11 @@ exact_command size ep e _ _ = exact_if_same e _ refl refl
 exact_withdrawn : (size : ℕ) (e : Endpoint) (line : List Item) (d : Doing) → live_numbers line ≡ live_numbers e.line → d.endpoint.line ≡ map blanked line → d.results ≡ withdrawn size line → IsExact e d
 exact_withdrawn size e line d same left made = record { exact = λ n. rw (left, made) (withdrawn_times size n line ∙ ap (times n) same) }
 
+-- a halt that is over: each number is still in the line or in one result
 exact_resume : (size : ℕ) (e : Endpoint) (r : Reply) (line : List Item) → live_numbers line ≡ live_numbers e.line → IsExact e (resume size e r line)
 exact_resume size e r line same = exact_withdrawn size e line _ same (line-resume size e r line) (results-resume size e r line)
 
+-- the numbers of the line that a result leaves
 lives-line_after : (k code : ℕ) (line : List Item) → live_numbers (line_after k code line) ≡ live_numbers (past_number k line)
 lives-line_after k code line = by_test (halts code)
   where

@@ -9,7 +9,7 @@ use Rattle.usb_model.specs.declared.plain.item.ItemState.{ItemState}
 use Rattle.usb_model.specs.declared.plain.news.Event.TheVariants.{Finished}
 use Rattle.usb_model.specs.declared.plain.news.Event.{Event}
 use Rattle.usb_model.specs.Endpoint.{in_progress, live_numbers, past_number}
-use Rattle.usb_core.proofs.Coherent.{heads_event}
+use Rattle.usb_core.proofs.CoherentDeliver.{heads_event}
 use Rattle.usb_core.proofs.DueMore.{no_end}
 use Rattle.usb_core.proofs.Lists.{Each}
 use Rattle.usb_model.proofs.Errands.{IsCoherent, ServedFirst, event_by, first_by, served_events}
@@ -26,6 +26,7 @@ pub record EndsFirst (line : List Item) (k code : ℕ) : Type 0 where
   pub found : in_progress k line ≡ Some item
   pub lives : live_numbers line ≡ k ∷ live_numbers (past_number k line)
 
+-- the first end of a line is that of its first transfer that is no blank
 pub ends_first : (line : List Item) (k code : ℕ) (es : List Event) → ServedFirst line → served_events line ≡ Finished k code ∷ es → EndsFirst line k code
 unfolding served_events past_number in_progress live_numbers
 ends_first [] k code es f e = absurd cc
@@ -72,5 +73,6 @@ told_first e os ns k code c = by_events (served_events e.line) refl
     by_events [] is = absurd (no_end e.state e.errand os (served_events e.line) c.tail k code ns c.phase (sym (c.news ∙ ap (λ l. l ++ c.tail) is)))
     by_events (x ∷ es) is = (es, is ∙ ap (λ y. y ∷ es) (sym (heads_event (Finished k code) x ns (es ++ c.tail) (c.news ∙ ap (λ l. l ++ c.tail) is)).0))
 
+-- an end that is told next is that of the line's first transfer that is no blank
 pub end_told : (e : Endpoint) (os : List Errand) (ns : List Event) (k code : ℕ) → IsCoherent e os (Finished k code ∷ ns) → EndsFirst e.line k code
 end_told e os ns k code c = let t = told_first e os ns k code c in ends_first e.line k code t.0 c.in_order t.1

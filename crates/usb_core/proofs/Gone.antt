@@ -26,6 +26,7 @@ pub record IsGone (n ep : ℕ) (m : Machine) : Type 0 where
   pub behind : n < m.handle.next
   pub none : times n (lives_at m ep) ≡ 0
 
+-- a number that is gone stays gone where it moves only as numbers may
 gone_moves : (h n ep : ℕ) (m m' : Machine) (reply : Reply) → Moves h m m' reply → IsGone n ep m → IsGone n ep m'
 gone_moves h n ep m m' reply (inl w) g = record { behind = omega (arith, w.next, g.behind); none = omega (arith, work_less m m' reply w n ep, g.none) }
 gone_moves h n ep m m' reply (inr (inl s)) g = record { behind = omega (arith, s.next, g.behind); none = by_test (s.ep == ep) refl }
@@ -46,12 +47,15 @@ next_moves h m m' reply (inl w) = omega (arith, w.next)
 next_moves h m m' reply (inr (inl s)) = omega (arith, s.next)
 next_moves h m m' reply (inr (inr t)) = omega (arith, t.next)
 
+-- a number that was given stays given
 pub next_rises : (setup : Setup) (h n : ℕ) (m : Machine) (step : Step) → n < m.handle.next → n < (machine_after setup m step (effect setup h m step)).handle.next
 next_rises setup h n m step lt = omega (arith, lt, next_moves h m _ _ (moves setup h m step))
 
+-- a number that is gone at an endpoint is gone after each step
 pub gone_kept : (setup : Setup) (h n ep : ℕ) (m : Machine) (step : Step) → IsGone n ep m → IsGone n ep (machine_after setup m step (effect setup h m step))
 gone_kept setup h n ep m step g = gone_moves h n ep m _ _ (moves setup h m step) g
 
+-- a number that is gone at an endpoint is gone after each turn
 gone_turn : (setup : Setup) (h n ep : ℕ) (w : World) (step : Step) → IsGone n ep (machine_of setup h w) → IsGone n ep (machine_of setup h (turn setup w step).world)
 gone_turn setup h n ep w step g = by_turn (turn_to setup h w step)
   where
@@ -65,6 +69,7 @@ unfolding world_from
 gone_from setup h n ep w [] g = g
 gone_from setup h n ep w (step ∷ steps) g = gone_from setup h n ep (turn setup w step).world steps (gone_turn setup h n ep w step g)
 
+-- a number that was given stays given after each turn
 next_turn : (setup : Setup) (h n : ℕ) (w : World) (step : Step) → n < (machine_of setup h w).handle.next → n < (machine_of setup h (turn setup w step).world).handle.next
 next_turn setup h n w step lt = by_turn (turn_to setup h w step)
   where
@@ -72,6 +77,7 @@ next_turn setup h n w step lt = by_turn (turn_to setup h w step)
     by_turn (inl own) = subst (λ m. n < m.handle.next) (sym own.3) (next_rises setup h n (machine_of setup h w) step lt)
     by_turn (inr nothing) = subst (λ m. n < m.handle.next) (sym nothing.1) lt
 
+-- a number that was given stays given in each run
 pub next_from : (setup : Setup) (h n : ℕ) (w : World) (steps : List Step) → n < (machine_of setup h w).handle.next → n < (machine_of setup h (world_from setup w steps)).handle.next
 unfolding world_from
 next_from setup h n w [] lt = lt
@@ -86,6 +92,7 @@ live_times n (Some x) e = by_item (in_progress n x.line) refl e
     by_item None is q = absurd cc
     by_item (Some i) is q = progress_times n x.line i is
 
+-- a number that is not found is not in the line
 none_there : (n : ℕ) (line : List Item) → in_progress n line ≡ None → times n (live_numbers line) ≡ 0
 unfolding in_progress live_numbers
 none_there n [] e = refl
@@ -97,6 +104,7 @@ none_there n (x ∷ xs) e = by_tests (x.n == n) (is_blank x) refl e (none_there 
     by_tests false true q e rest = rest e
     by_tests false false q e rest = omega (arith, rest e, rw q at (times-cons n x.n (live_numbers xs)))
 
+-- a number that is not in progress is not among the numbers
 pub dead_times : (n : ℕ) (o : Option Endpoint) → has_live n o ≡ false → times n (numbers_at o) ≡ 0
 dead_times n None e = refl
 dead_times n (Some x) e = by_item (in_progress n x.line) refl e
@@ -105,6 +113,7 @@ dead_times n (Some x) e = by_item (in_progress n x.line) refl e
     by_item None is q = none_there n x.line is
     by_item (Some i) is q = absurd cc
 
+-- a number that is gone is not in progress
 pub gone_is_dead : (n ep : ℕ) (m : Machine) → IsGone n ep m → has_live n (end_at m ep) ≡ true → ⊥
 gone_is_dead n ep m g live = omega (arith, g.none, live_times n (end_at m ep) live)
 
@@ -131,6 +140,7 @@ live_once n ep m called p = by_order (cases_lt n m.handle.next)
     by_order (inl lt) = by_home (p.given n lt)
     by_order (inr le) = omega (arith, (p.not_given n le).not_in_progress ep)
 
+-- a number in progress at one endpoint is gone at each other
 pub gone_elsewhere : (n ep at : ℕ) (m : Machine) (called : List ℕ) → IsPlaced m called → has_live n (end_at m ep) ≡ true → (ep == at) ≡ false → IsGone n at m
 gone_elsewhere n ep at m called p live other = record { behind = live_behind n ep m called p live; none = by_home (p.given n (live_behind n ep m called p live)) }
   where

@@ -3,7 +3,8 @@ use Rattle.std.proofs.Common.{◌≡◌, ℕ, true, false, inr, [], ◌∷◌, S
 use Rattle.usb_model.specs.declared.answer.Answer.{Answer}
 use Rattle.usb_model.specs.declared.answer.Answer.TheVariants.{Data, Stall}
 use Rattle.usb_model.specs.declared.request.Body.TheVariants.{In}
-use Rattle.usb_model.specs.Packets.{Outcome, outcome, open_with, ended_with, Ends}
+use Rattle.usb_model.specs.declared.plain.outcome.Outcome.{Outcome}
+use Rattle.usb_model.specs.Packets.{outcome, open_with, ended_with, Ends}
 use Rattle.usb_model.specs.Endpoint.{live_numbers}
 use Rattle.usb_model.specs.Account.{account, account_from, account_of}
 use Rattle.usb_model.specs.Places.{calls}
@@ -16,6 +17,7 @@ use Rattle.usb_model.proofs.Cuts.{ends_now}
 use Rattle.usb_model.proofs.Shares.{open_if, outcome_nothing}
 use Rattle.usb_core.specs.Instances.{ReachesBound, IsCutInto, stalled_cells, unplugged_cells}
 
+-- the bound is reached: the 17th Deliver makes the result, and no earlier one
 pub reaches_bound : ReachesBound
 unfolding computed commands_in delivers_in calls live_numbers
 reaches_bound = record {
@@ -33,18 +35,22 @@ reaches_bound = record {
 ends_by : (x : Answer) (o : Outcome) (code : ℕ) → outcome (bulk 0x81 (In 8)) 8 (x ∷ []) false ≡ Some o → o.code ≡ Some code → Ends (bulk 0x81 (In 8)) 8 (x ∷ []) code
 ends_by x o code is ended = ends_now (bulk 0x81 (In 8)) 8 [] (x ∷ []) o code (omega arith) (open_if (outcome (bulk 0x81 (In 8)) 8 [] false) (open_with []) (outcome_nothing (bulk 0x81 (In 8)) 8) refl) is ended
 
+-- a stall ends a transfer
 ends_stalled : Ends (bulk 0x81 (In 8)) 8 (Stall ∷ []) 6
 unfolding computed
 ends_stalled = ends_by Stall (ended_with [] 6) 6 refl refl
 
+-- a short packet ends a transfer
 ends_short : Ends (bulk 0x81 (In 8)) 8 (Data (1 ∷ []) ∷ []) 13
 unfolding computed
 ends_short = ends_by (Data (1 ∷ [])) (ended_with ((1 ∷ []) ∷ []) 13) 13 refl refl
 
+-- a full packet ends a transfer of its length
 ends_whole : Ends (bulk 0x81 (In 8)) 8 (Data (1 ∷ 2 ∷ 3 ∷ 4 ∷ 5 ∷ 6 ∷ 7 ∷ 8 ∷ []) ∷ []) 1
 unfolding computed
 ends_whole = ends_by (Data (1 ∷ 2 ∷ 3 ∷ 4 ∷ 5 ∷ 6 ∷ 7 ∷ 8 ∷ [])) (ended_with ((1 ∷ 2 ∷ 3 ∷ 4 ∷ 5 ∷ 6 ∷ 7 ∷ 8 ∷ []) ∷ []) 1) 1 refl refl
 
+-- the cells of an endpoint that stalls and is cleared
 pub stalled_is_cut : IsCutInto stall_and_clear_halt stalled_cells
 unfolding computed account account_from account_of live_numbers
 stalled_is_cut = (
@@ -61,6 +67,7 @@ stalled_is_cut = (
   refl,
 )
 
+-- the cells of an endpoint whose device is unplugged
 pub unplugged_is_cut : IsCutInto unplug_amid_transfers unplugged_cells
 unfolding computed account account_from account_of live_numbers
 unplugged_is_cut = (

@@ -18,12 +18,15 @@ pub record Row : Type 0 where
   pub item : Item
   pub fate : Fate
 
+-- the item of a row
 abbrev pub item_of : Row → Item
 item_of r = r.item
 
+-- the row as a transfer of the cut
 abbrev pub part_of : Row → Part
 part_of r = record { n = r.item.n; request = r.item.request; round = r.item.round; share = r.item.share; fate = r.fate }
 
+-- and as a cell of it
 abbrev pub cell_of : Row → Cell
 cell_of r = Of (part_of r)
 
@@ -31,9 +34,11 @@ cell_of r = Of (part_of r)
 abbrev pub all_cells : List Cell → List Row → List Cell
 all_cells gone rows = gone ++ map cell_of rows
 
+-- and their transfers
 abbrev pub all_parts : List Cell → List Row → List Part
 all_parts gone rows = flat_map parts_of gone ++ map part_of rows
 
+-- the numbers of transfers
 abbrev pub numbers : List Part → List ℕ
 numbers ps = map (λ x. x.n) ps
 
@@ -48,11 +53,12 @@ abbrev pub ask_list : ℕ → Option Ask → List Asked
 ask_list n None = []
 ask_list n (Some ask) = record { n = n; ask = ask } ∷ []
 
--- the one result of a transfer that was withdrawn, and of one that ended
+-- the one result of a transfer that was withdrawn, and its one ask
 abbrev pub IsWithdrawnTold : ℕ → Account → Part → Ask → Type 0
 IsWithdrawnTold size a x ask =
     (later : Bool) × (made_of x.n a.made ≡ record { result = told size false 26 (Some ask) x; gone = later } ∷ []) × (asks_of x.n a.asked ≡ record { n = x.n; ask = ask } ∷ [])
 
+-- the one result of a transfer that ended
 abbrev pub IsEndTold : ℕ → Account → Part → ℕ → Type 0
 IsEndTold size a x code = (later : Bool) × (made_of x.n a.made ≡ record { result = told size later code None x; gone = later } ∷ [])
 
@@ -62,6 +68,7 @@ GoneToldBy size a x Waits = ⊥
 GoneToldBy size a x (Ended code gone) = IsEndTold size a x code
 GoneToldBy size a x (Withdrawn ask) = IsWithdrawnTold size a x ask
 
+-- what is told of a transfer that left the line
 abbrev pub GoneTold : ℕ → Account → Part → Type 0
 GoneTold size a x = GoneToldBy size a x x.fate
 
@@ -71,6 +78,7 @@ RowToldBy size a r Waits = (made_of r.item.n a.made ≡ []) × (asks_of r.item.n
 RowToldBy size a r (Ended code gone) = made_of r.item.n a.made ≡ []
 RowToldBy size a r (Withdrawn ask) = IsWithdrawnTold size a (part_of r) ask
 
+-- a row: its fate is its item's, and the account tells it
 pub record IsRow (size : ℕ) (inward : Bool) (a : Account) (r : Row) : Type 0 where
   pub fate : IsFate r.item.state r.fate
   pub body : IsBody inward r.item.request.body
@@ -80,11 +88,13 @@ pub record IsRow (size : ℕ) (inward : Bool) (a : Account) (r : Row) : Type 0 w
 abbrev pub IsUntouched : Row → Type 0
 IsUntouched r = (r.item.share ≡ []) × (end_of r.item.n r.fate ≡ [])
 
+-- behind an item of this state: nothing was taken, if it waits
 abbrev pub quiet_by : ItemState → List Row → Type 0 → Type 0
 quiet_by Waiting rows rest = Each IsUntouched rows
 quiet_by (Served code) rows rest = rest
 quiet_by Blank rows rest = rest
 
+-- nothing was taken behind any item that waits
 abbrev pub IsQuiet : List Row → Type 0
 IsQuiet [] = Unit {0}
 IsQuiet (r ∷ rows) = quiet_by r.item.state rows (IsQuiet rows)
@@ -119,6 +129,7 @@ pub record Holds (size : ℕ) (inward : Bool) (next : ℕ) (script : List Answer
   pub quiet : IsQuiet rows
   pub kinds : list_all (is_of_direction inward) left ≡ true
 
+-- the ledger of an endpoint
 abbrev pub HoldsAt : ℕ → Bool → ℕ → List Answer → Account → Endpoint → Type 0
 HoldsAt size inward next script a e = Holds size inward next script a e.line e.left e.halted e.taken
 

@@ -56,6 +56,7 @@ told_row size inward a r live is row = by_state r.item.state is row.fate
         let t : RowToldBy size a r (Withdrawn f.0) = subst (RowToldBy size a r) f.1 row.told in
         subst (ToldBy size a live (part_of r)) (sym f.1) (l, t.0, t.1, t.2)
 
+-- the transfers in the line are told by their rows
 told_rows : (size : ℕ) (inward : Bool) (a : Account) (live : List ℕ) (rows : List Row) → AreDistinct (numbers (map part_of rows)) → ((n : ℕ) → 1 ≤ times n (numbers (map part_of rows)) → times n live ≡ times n (live_numbers (map item_of rows)))
     → Each (IsRow size inward a) rows → AllTold size a live (map part_of rows)
 told_rows size inward a live [] d same rows = tt
@@ -72,6 +73,7 @@ told_gone size a x live none Waits t = absurd t
 told_gone size a x live none (Ended code gone) t = inr (none, t.0, t.1)
 told_gone size a x live none (Withdrawn ask) t = (none, t.0, t.1, t.2)
 
+-- every transfer of the ledger is told, those that left the line too
 told_all : (size : ℕ) (inward : Bool) (a : Account) (gone : List Part) (rows : List Row) → Each (GoneTold size a) gone → AreDistinct (numbers (gone ++ map part_of rows)) → Each (IsRow size inward a) rows
     → AllTold size a (live_numbers (map item_of rows)) (gone ++ map part_of rows)
 told_all size inward a [] rows t d each = told_rows size inward a (live_numbers (map item_of rows)) rows d (λ n some. refl) each

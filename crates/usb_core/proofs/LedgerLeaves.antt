@@ -29,6 +29,7 @@ use Rattle.usb_model.proofs.Times.{times-append, times_none}
 left_cells : (gone : List Cell) (front back : List Row) → all_cells (gone ++ map cell_of front) back ≡ all_cells gone (front ++ back)
 left_cells gone front back = append_assoc gone (map cell_of front) (map cell_of back) ∙ ap (λ l. gone ++ l) (sym (map-append cell_of front back))
 
+-- rows that leave the line are parts still
 left_parts : (gone : List Cell) (front back : List Row) → all_parts (gone ++ map cell_of front) back ≡ all_parts gone (front ++ back)
 left_parts gone front back =
     ap (λ l. l ++ map part_of back) (parts_of_cells gone front)
@@ -66,6 +67,7 @@ blank_told size inward a r blank row =
     let f : IsFate Blank r.fate = subst (λ s. IsFate s r.fate) blank row.fate in
     subst (GoneToldBy size a (part_of r)) (sym f.1) (subst (RowToldBy size a r) f.1 row.told)
 
+-- blanks are told, as those that left the line are
 blanks_told : (size : ℕ) (inward : Bool) (a : Account) (rows : List Row) → Each (λ r. r.item.state ≡ Blank) rows → Each (IsRow size inward a) rows → Each (GoneTold size a) (map part_of rows)
 blanks_told size inward a [] blank each = tt
 blanks_told size inward a (r ∷ rows) blank each = (blank_told size inward a r blank.0 each.0, blanks_told size inward a rows blank.1 each.1)
@@ -133,6 +135,7 @@ quiet_push (z ∷ rows) r u waits q = by_state z.item.state q (quiet_push rows r
     by_state (Served code) q rest = rest q
     by_state Blank q rest = rest q
 
+-- a new transfer joins the line
 pub holds_submitted : (size : ℕ) (inward : Bool) (next : ℕ) (script : List Answer) (a : Account) (line : List Item) (left : List Answer) (halted : Bool) (taken : List (List ℕ)) (request : Request) (round : ℕ)
     → IsBody inward request.body → Holds size inward next script a line left halted taken
     → Holds size inward (next + 1) script (with_more a (Transfer next request round ∷ []) [] [] []) (line ++ new_item next request round ∷ []) left halted taken
@@ -252,5 +255,6 @@ holds_later size inward next later script a line left halted taken le h = record
   kinds = h.kinds;
 }
 
+-- nothing added to an account
 pub no_more : (a : Account) → with_more a [] [] [] [] ≡ a
 no_more a = λ i. record { accepted = append-nil a.accepted i; asked = append-nil a.asked i; ended = append-nil a.ended i; made = append-nil a.made i }

@@ -29,9 +29,11 @@ pub map_mid : {A B : Type 0} (f : A → B) (xs : List A) (x y : A) (ys : List A)
 map_mid f [] x y ys e = ap (λ k. k ∷ map f ys) e
 map_mid f (z ∷ zs) x y ys e = ap (λ l. f z ∷ l) (map_mid f zs x y ys e)
 
+-- one element replaced, of the same image
 pub flat_mid_same : {A B : Type 0} (f : A → List B) (xs : List A) (x y : A) (ys : List A) → f y ≡ f x → flat_map f (xs ++ y ∷ ys) ≡ flat_map f (xs ++ x ∷ ys)
 flat_mid_same f xs x y ys e = flat_map-append f xs (y ∷ ys) ∙ (ap (λ k. flat_map f xs ++ (k ++ flat_map f ys)) e ∙ sym (flat_map-append f xs (x ∷ ys)))
 
+-- one element replaced, of a longer image, and none behind it has any
 pub flat_mid_more : {A B : Type 0} (f : A → List B) (xs : List A) (x y : A) (ys : List A) (more : List B) → f y ≡ f x ++ more → flat_map f ys ≡ [] → flat_map f (xs ++ y ∷ ys) ≡ flat_map f (xs ++ x ∷ ys) ++ more
 flat_mid_more f xs x y ys more e none =
     flat_map-append f xs (y ∷ ys)
@@ -44,6 +46,7 @@ flat_mid_more f xs x y ys more e none =
 pub cells_mid : (gone : List Cell) (front back : List Row) (r : Row) → all_cells gone (front ++ r ∷ back) ≡ all_cells gone front ++ cell_of r ∷ map cell_of back
 cells_mid gone front back r = ap (λ l. gone ++ l) (map-append cell_of front (r ∷ back)) ∙ sym (append_assoc gone (map cell_of front) (map cell_of (r ∷ back)))
 
+-- the parts about one row
 pub parts_mid : (gone : List Cell) (front back : List Row) (r : Row) → all_parts gone (front ++ r ∷ back) ≡ all_parts gone front ++ part_of r ∷ map part_of back
 parts_mid gone front back r = ap (λ l. flat_map parts_of gone ++ l) (map-append part_of front (r ∷ back)) ∙ sym (append_assoc (flat_map parts_of gone) (map part_of front) (map part_of (r ∷ back)))
 
@@ -53,16 +56,19 @@ stalled-append behind [] ys = refl
 stalled-append behind (Of x ∷ xs) ys = stalled-append (behind || has_stall x.share) xs ys
 stalled-append behind (Cleared ∷ xs) ys = stalled-append false xs ys
 
+-- what fits fits at its front
 pub fits_front : (size : ℕ) (behind : Bool) (xs ys : List Cell) → AllFit size behind (xs ++ ys) → AllFit size behind xs
 fits_front size behind [] ys f = tt
 fits_front size behind (Of x ∷ xs) ys f = (f.0, fits_front size (behind || has_stall x.share) xs ys f.1)
 fits_front size behind (Cleared ∷ xs) ys f = fits_front size false xs ys f
 
+-- what fits fits behind its front
 pub fits_behind : (size : ℕ) (behind : Bool) (xs ys : List Cell) → AllFit size behind (xs ++ ys) → AllFit size (stalled behind xs) ys
 fits_behind size behind [] ys f = f
 fits_behind size behind (Of x ∷ xs) ys f = fits_behind size (behind || has_stall x.share) xs ys f.1
 fits_behind size behind (Cleared ∷ xs) ys f = fits_behind size false xs ys f
 
+-- a front that fits, and what fits behind it
 pub fits_join : (size : ℕ) (behind : Bool) (xs ys : List Cell) → AllFit size behind xs → AllFit size (stalled behind xs) ys → AllFit size behind (xs ++ ys)
 fits_join size behind [] ys f g = g
 fits_join size behind (Of x ∷ xs) ys f g = (f.0, fits_join size (behind || has_stall x.share) xs ys f.1 g)
@@ -73,13 +79,16 @@ pub record TellsSame (k : ℕ) (a a' : Account) : Type 0 where
   pub made : (n : ℕ) → (n ≡ k → ⊥) → made_of n a'.made ≡ made_of n a.made
   pub asked : (n : ℕ) → (n ≡ k → ⊥) → asks_of n a'.asked ≡ asks_of n a.asked
 
+-- what has one number only is not found by another
 none_of_other : {A : Type 0} (number : A → ℕ) (k n : ℕ) (xs : List A) → (n ≡ k → ⊥) → Each (λ x. number x ≡ k) xs → filter (λ x. number x == n) xs ≡ []
 none_of_other number k n [] differ e = refl
 none_of_other number k n (x ∷ xs) differ e = rw (ne_eqb (number x) n (λ q. differ (sym q ∙ e.0))) (none_of_other number k n xs differ e.1)
 
+-- what is appended and fails a test is not found by it
 filter_more : {A : Type 0} (test : A → Bool) (xs ys : List A) → filter test ys ≡ [] → filter test (xs ++ ys) ≡ filter test xs
 filter_more test xs ys none = filter-append test xs ys ∙ (ap (λ l. filter test xs ++ l) none ∙ append-nil (filter test xs))
 
+-- what is added of one number says nothing of the others
 pub tells_same : (k : ℕ) (a : Account) (accepted : List Accepted) (asked : List Asked) (ended : List End) (made : List Made) → Each (λ q. q.n ≡ k) asked → Each (λ m. m.result.n ≡ k) made → TellsSame k a (with_more a accepted asked ended made)
 tells_same k a accepted asked ended made qs ms = record {
   made = λ n differ. filter_more (λ m. m.result.n == n) a.made made (none_of_other (λ m. m.result.n) k n made differ ms);
@@ -92,18 +101,22 @@ gone_told_kept size k a a' x s differ Waits t = t
 gone_told_kept size k a a' x s differ (Ended code gone) t = (t.0, s.made x.n differ ∙ t.1)
 gone_told_kept size k a a' x s differ (Withdrawn ask) t = (t.0, s.made x.n differ ∙ t.1, s.asked x.n differ ∙ t.2)
 
+-- a row of another number is told as before
 row_told_kept : (size k : ℕ) (a a' : Account) (r : Row) → TellsSame k a a' → (r.item.n ≡ k → ⊥) → (f : Fate) → RowToldBy size a r f → RowToldBy size a' r f
 row_told_kept size k a a' r s differ Waits t = (s.made r.item.n differ ∙ t.0, s.asked r.item.n differ ∙ t.1)
 row_told_kept size k a a' r s differ (Ended code gone) t = s.made r.item.n differ ∙ t
 row_told_kept size k a a' r s differ (Withdrawn ask) t = (t.0, s.made r.item.n differ ∙ t.1, s.asked r.item.n differ ∙ t.2)
 
+-- transfers of other numbers that left are told as before
 pub parts_kept : (size k : ℕ) (a a' : Account) (gone : List Part) → TellsSame k a a' → times k (numbers gone) ≡ 0 → Each (GoneTold size a) gone → Each (GoneTold size a') gone
 parts_kept size k a a' gone s none t = each_apart (GoneTold size a) (GoneTold size a') (λ x. x.n) k gone none (λ x differ told. gone_told_kept size k a a' x s differ x.fate told) t
 
+-- the numbers of rows are their items'
 row_number : (rows : List Row) → numbers (map part_of rows) ≡ map (λ r. r.item.n) rows
 row_number [] = refl
 row_number (r ∷ rows) = ap (λ l. r.item.n ∷ l) (row_number rows)
 
+-- rows of other numbers are rows as before
 pub rows_kept : (size : ℕ) (inward : Bool) (k : ℕ) (a a' : Account) (rows : List Row) → TellsSame k a a' → times k (numbers (map part_of rows)) ≡ 0 → Each (IsRow size inward a) rows → Each (IsRow size inward a') rows
 rows_kept size inward k a a' rows s none t = each_apart (IsRow size inward a) (IsRow size inward a') (λ r. r.item.n) k rows (ap (times k) (sym (row_number rows)) ∙ none)
     (λ r differ row. record { fate = row.fate; body = row.body; told = row_told_kept size k a a' r s differ r.fate row.told }) t
@@ -116,6 +129,7 @@ below_next n next a ps fresh some = by_order (cases_lt n next)
     by_order (inl lt) = lt
     by_order (inr le) = absurd (omega (arith, some, (fresh n le).no_part))
 
+-- numbers that are not given yet stay fresh
 pub fresh_kept : (k next : ℕ) (a a' : Account) (ps ps' : List Part) → k < next → TellsSame k a a' → numbers ps' ≡ numbers ps → ((n : ℕ) → next ≤ n → IsFresh n a ps) → (n : ℕ) → next ≤ n → IsFresh n a' ps'
 fresh_kept k next a a' ps ps' lt s same fresh n le =
     let f = fresh n le in
@@ -134,6 +148,7 @@ row_apart gone front back r d =
     let both : times k (numbers (flat_map parts_of gone)) + times k (numbers (map part_of front)) ≡ 0 = omega (arith, p.0, ap (times k) parts, times-append k (numbers (flat_map parts_of gone)) (numbers (map part_of front))) in
     (omega (arith, both), omega (arith, both), p.1)
 
+-- a row's number is in the ledger
 pub row_there : (gone : List Cell) (front back : List Row) (r : Row) → 1 ≤ times r.item.n (numbers (all_parts gone (front ++ r ∷ back)))
 row_there gone front back r =
     let k : ℕ = r.item.n in
@@ -155,6 +170,7 @@ pub record Mid (size : ℕ) (inward : Bool) (next : ℕ) (a : Account) (gone : L
   pub back_fits : AllFit size (stalled false (all_cells gone front) || has_stall r.item.share) (map cell_of back)
   pub quiet : IsQuiet (front ++ r ∷ back)
 
+-- what the ledger says about one row, and about those before it and behind it
 pub mid_of : (size : ℕ) (inward : Bool) (next : ℕ) (script : List Answer) (a : Account) (line : List Item) (left : List Answer) (halted : Bool) (taken : List (List ℕ)) (front back : List Row) (r : Row)
     (h : Holds size inward next script a line left halted taken) → h.rows ≡ front ++ r ∷ back → Mid size inward next a h.gone h.rows front back r
 mid_of size inward next script a line left halted taken front back r h is =

@@ -1,10 +1,7 @@
 -- A packet that is served keeps the ledger of its endpoint.
-use Rattle.std.proofs.Common.{Bool, List, None, Option, Some, [], ap, append-nil, ap₂, arith, drop, false, length, map, refl, subst, suc, sym, take, true, zero, ℕ, ◌++◌, ◌<◌, ◌==◌, ◌||◌, ◌∙◌, ◌∷◌, ◌≡◌, ◌≤◌}
+use Rattle.std.proofs.Common.{Bool, List, None, Option, Some, [], ap, append-nil, ap₂, drop, false, length, map, refl, subst, sym, true, ℕ, ◌++◌, ◌<◌, ◌||◌, ◌∙◌, ◌∷◌, ◌≡◌}
 use Rattle.std.specs.Prelude.{MatchBool, if◌then◌else◌, unwrap_or}
-use Rattle.std.proofs.lemmas.Bool.{and_parts}
 use Rattle.std.proofs.lemmas.List.{map-append}
-use Rattle.std.specs.List.{list_all}
-use Rattle.usb_model.specs.declared.answer.Answer.TheVariants.{Ack, Broken, Data, Nak, Stall}
 use Rattle.usb_model.specs.declared.answer.Answer.{Answer}
 use Rattle.usb_model.specs.declared.plain.endpoint.Endpoint.{Endpoint}
 use Rattle.usb_model.specs.declared.plain.endpoint.EndpointState.TheVariants.{Running}
@@ -15,106 +12,20 @@ use Rattle.usb_model.specs.declared.plain.item.ItemState.{ItemState}
 use Rattle.usb_model.specs.declared.reply.Reply.{Reply}
 use Rattle.usb_model.specs.declared.request.Body.TheVariants.{In, Out}
 use Rattle.usb_model.specs.declared.request.Body.{Body}
-use Rattle.usb_model.specs.declared.request.Request.{Request}
 use Rattle.usb_model.specs.Account.{Accepted, Account, Asked, ended_by}
-use Rattle.usb_model.specs.Cut.{Ended, Fate, FitsFate, IsOpen, Waits, has_stall, is_of_direction, packets_taken, packets_taken_by}
+use Rattle.usb_model.specs.Cut.{Ended, Fate, FitsFate, IsOpen, Waits, has_stall, packets_taken, packets_taken_by}
 use Rattle.usb_model.specs.Endpoint.{Doing, first_waiting, is_blank_state, is_waiting, is_waiting_state, outcome_of, with_first}
-use Rattle.usb_model.specs.Packets.{Ends, IsOpenAt, Outcome, ended_with, open_with, outcome}
+use Rattle.usb_model.specs.Packets.{Ends, IsOpenAt, open_with, outcome}
 use Rattle.usb_model.specs.Serve.{acknowledged, is_no_packet, next_answer, serve, serve_by, serve_first, serve_gone}
 use Rattle.usb_core.proofs.Ledger.{Holds, HoldsAt, IsFate, IsQuiet, IsUntouched, Row, RowToldBy, all_cells, cell_of, item_of, part_of, quiet_by, stalled}
 use Rattle.usb_core.proofs.LedgerLeaves.{no_more}
 use Rattle.usb_core.proofs.LedgerRows.{mid_of, stalled-append, with_more, with_row}
 use Rattle.usb_core.proofs.LedgerWorks.{holds_served, quiet_behind, untouched_flag}
 use Rattle.usb_core.proofs.Lists.{Each}
-use Rattle.usb_model.proofs.Cuts.{ends_now, open_flag, stall-append}
-use Rattle.usb_model.proofs.Next.{IsBody, IsNext, next_same, next_there}
-use Rattle.usb_model.proofs.Shares.{open_at, open_if, some_same}
-use Rattle.usb_model.specs.Serve as service
-
--- the answer that is taken now
-abbrev next_by : Bool → List Answer → List Answer
-next_by halted left = if halted then [] else take 1 left
-
-next_split : (halted : Bool) (left : List Answer) → left ≡ next_by halted left ++ drop (length (next_by halted left)) left
-next_split true left = refl
-next_split false [] = refl
-next_split false (y ∷ ys) = refl
-
-next_short : (halted : Bool) (left : List Answer) → length (next_by halted left) ≤ 1
-next_short true left = omega arith
-next_short false [] = omega arith
-next_short false (y ∷ ys) = omega arith
-
-next_kinds : (inward halted : Bool) (left : List Answer) → list_all (is_of_direction inward) left ≡ true → list_all (is_of_direction inward) (drop (length (next_by halted left)) left) ≡ true
-next_kinds inward true left k = k
-next_kinds inward false [] k = k
-next_kinds inward false (y ∷ ys) k = (and_parts (is_of_direction inward y) (list_all (is_of_direction inward) ys) k).1
-
-next_stall : (halted : Bool) (left : List Answer) → has_stall (next_by halted left) ≡ service.is_stall (next_by halted left)
-next_stall true left = refl
-next_stall false [] = refl
-next_stall false (Nak ∷ ys) = refl
-next_stall false (Ack ∷ ys) = refl
-next_stall false (Data b ∷ ys) = refl
-next_stall false (Stall ∷ ys) = refl
-next_stall false (Broken ∷ ys) = refl
-
--- the packets that a share moved
-abbrev moved : Request → ℕ → List Answer → List (List ℕ)
-moved request size share = (unwrap_or (outcome request size share false) (open_with [])).packets
-
--- what the next answer makes of a transfer that waits
-record AfterServe (size : ℕ) (halted : Bool) (request : Request) (share next : List Answer) : Type 0 where
-  result : Outcome
-  there : outcome request size (share ++ next) halted ≡ Some result
-  open_still : result.code ≡ None → MatchBool halted (share ++ next ≡ []) (IsOpenAt (outcome request size (share ++ next) false))
-  ends : (code : ℕ) → result.code ≡ Some code → MatchBool halted ((share ++ next ≡ []) × (code ≡ 6)) (Ends request size (share ++ next) code)
-  uncut : (code : ℕ) → result.code ≡ Some code → (code == 26) ≡ false
-  grows : moved request size (share ++ next) ≡ moved request size share ++ drop (length (moved request size share)) result.packets
-
--- a device that isn't halted: the outcome with the next answer
-after_next : (size : ℕ) (request : Request) (share next : List Answer) (o p : Outcome) → length next ≤ 1 → outcome request size share false ≡ Some o → o.code ≡ None → outcome request size (share ++ next) false ≡ Some p → IsNext o p
-    → AfterServe size false request share next
-after_next size request share next o p short was op is n = record {
-  result = p;
-  there = is;
-  open_still = λ e. open_if (outcome request size (share ++ next) false) p is e;
-  ends = λ code e. ends_now request size share next p code short (open_if (outcome request size share false) o was op) is e;
-  uncut = n.ends;
-  grows =
-      ap (λ r. (unwrap_or r (open_with [])).packets) is
-      ∙ (n.grows ∙ sym (ap (λ r. (unwrap_or r (open_with [])).packets ++ drop (length (unwrap_or r (open_with [])).packets) p.packets) was));
-}
-
-drop_none : (n : ℕ) → drop {A = List ℕ} n [] ≡ []
-drop_none zero = refl
-drop_none (suc n) = refl
-
--- one that is halted stalls
-halted_outcome : (request : Request) (size : ℕ) → outcome request size [] true ≡ Some (ended_with [] 6)
-unfolding outcome
-halted_outcome request size = refl
-
-after_serve : (size : ℕ) (inward halted : Bool) (left : List Answer) (request : Request) (share : List Answer) → 0 < size → IsBody inward request.body → list_all (is_of_direction inward) left ≡ true
-    → MatchBool halted (share ≡ []) (IsOpenAt (outcome request size share false)) → AfterServe size halted request share (next_by halted left)
-after_serve size inward true left request share some body kinds none = record {
-  result = ended_with [] 6;
-  there = ap (λ l. outcome request size l true) empty ∙ halted_outcome request size;
-  open_still = λ e. absurd cc;
-  ends = λ code e. (empty, sym (some_same 6 code e));
-  uncut = λ code e. ap (λ k. k == 26) (sym (some_same 6 code e));
-  grows = ap (moved request size) (append-nil share) ∙ (sym (append-nil (moved request size share)) ∙ ap (λ l. moved request size share ++ l) (sym (drop_none (length (moved request size share)))));
-}
-  where
-    empty : share ++ [] ≡ []
-    empty = append-nil share ∙ none
-after_serve size inward false [] request share some body kinds op =
-    let o = open_at (outcome request size share false) op in
-    after_next size request share [] o.0 o.0 (omega arith) o.1 o.2 (ap (λ l. outcome request size l false) (append-nil share) ∙ o.1) (next_same o.0 o.2)
-after_serve size inward false (y ∷ ys) request share some body kinds op =
-    let o = open_at (outcome request size share false) op in
-    let r = next_there inward request size share y o.0 some body (and_parts (is_of_direction inward y) (list_all (is_of_direction inward) ys) kinds).0 o.1 o.2 in
-    after_next size request share (y ∷ []) o.0 r.0 (omega arith) o.1 o.2 r.1 r.2
+use Rattle.usb_model.proofs.Cuts.{open_flag, stall-append}
+use Rattle.usb_model.proofs.Next.{IsBody}
+use Rattle.usb_model.proofs.Shares.{some_same}
+use Rattle.usb_core.proofs.NextAnswer.{AfterServe, after_serve, moved, next_kinds, next_split, next_stall}
 
 -- the first row that waits
 record WaitsAt (rows : List Row) (x : Item) : Type 0 where
@@ -127,6 +38,7 @@ record WaitsAt (rows : List Row) (x : Item) : Type 0 where
   waits : row.item.state ≡ Waiting
   becomes : (y : Item) → with_first y (map item_of rows) ≡ map item_of front ++ y ∷ map item_of back
 
+-- the first waiting item has its row, and no row before it waits
 waits_at : (rows : List Row) (x : Item) → first_waiting (map item_of rows) ≡ Some x → WaitsAt rows x
 unfolding first_waiting with_first
 waits_at [] x f = absurd cc
@@ -172,6 +84,7 @@ record WaitingRow (size : ℕ) (inward : Bool) (a : Account) (halted behind : Bo
   open_share : IsOpen size behind (part_of r)
   told : RowToldBy size a r Waits
 
+-- what the ledger says of a row that waits
 waiting_row : (size : ℕ) (inward : Bool) (next : ℕ) (script : List Answer) (a : Account) (e : Endpoint) (front back : List Row) (r : Row) (h : HoldsAt size inward next script a e) → h.rows ≡ front ++ r ∷ back → r.item.state ≡ Waiting
     → WaitingRow size inward a e.halted (stalled false (all_cells h.gone front)) r
 waiting_row size inward next script a e front back r h is waits =
@@ -186,6 +99,7 @@ waiting_row size inward next script a e front back r h is waits =
       told = subst (RowToldBy size a r) fate m.row.told;
     }
 
+-- replies that tell no end, by a test
 not_ended : (gone b : Bool) (p q : Reply) → ended_by gone p ≡ [] → ended_by gone q ≡ [] → ended_by gone (if b then p else q) ≡ []
 not_ended gone true p q e f = e
 not_ended gone false p q e f = f
@@ -199,6 +113,7 @@ takes_packets size r next state fate halted s = by_body r.item.request.body
     by_body (In n) = refl
     by_body (Out bytes) = s.grows
 
+-- a share to which nothing is added moves no packet
 same_but_share : (size : ℕ) (r : Row) (state : ItemState) (fate : Fate) → packets_taken size (part_of (with_row r (r.item.share ++ []) state r.item.ask fate)) ≡ packets_taken size (part_of r) ++ []
 same_but_share size r state fate = by_body r.item.request.body
   where
@@ -206,6 +121,7 @@ same_but_share size r state fate = by_body r.item.request.body
     by_body (In n) = refl
     by_body (Out bytes) = ap (moved r.item.request size) (append-nil r.item.share) ∙ sym (append-nil (moved r.item.request size r.item.share))
 
+-- a packet that a waiting transfer is served keeps the ledger
 holds_serve_by : (size : ℕ) (inward : Bool) (next : ℕ) (script : List Answer) (a : Account) (e : Endpoint) (front back : List Row) (r : Row) (h : HoldsAt size inward next script a e) → h.rows ≡ front ++ r ∷ back
     → r.item.state ≡ Waiting → Each (λ x. is_waiting x.item ≡ false) front → ((y : Item) → with_first y e.line ≡ map item_of front ++ y ∷ map item_of back)
     → (s : AfterServe size e.halted r.item.request r.item.share (next_answer e)) (code : Option ℕ) → s.result.code ≡ code
@@ -282,6 +198,7 @@ holds_serve_gone size inward next script a e front back r h is waits none_before
     })
     (map-append item_of front (s ∷ back) ∙ (ap (λ l. map item_of front ++ record r.item { share = l; state = Served 4 } ∷ map item_of back) (append-nil r.item.share) ∙ sym (becomes (record r.item { state = Served 4 })))))
 
+-- a running endpoint that serves its first waiting transfer keeps the ledger
 holds_serve_waiting : (size : ℕ) (inward : Bool) (next : ℕ) (script : List Answer) (a : Account) (gone : Bool) (e : Endpoint) (x : Item) (h : HoldsAt size inward next script a e) → 0 < size → WaitsAt h.rows x
     → KeepsLedger size inward next script a gone [] [] (serve_first size gone e Running (Some x))
 unfolding serve_first
@@ -305,6 +222,7 @@ holds_serve_waiting size inward next script a false e x h some t =
         subst (λ o. KeepsLedger size inward next script a false [] [] (serve_by e t.row.item (outcome_of size t.row.item) (unwrap_or o (open_with [])) (unwrap_or o (open_with [])).code)) (sym s.there)
         (holds_serve_by size inward next script a e t.front t.back t.row h t.is t.waits t.none_before (λ y. ap (with_first y) (sym h.is_line) ∙ t.becomes y) s s.result.code refl)
 
+-- an endpoint that serves, in each state, keeps the ledger
 holds_serve_first : (size : ℕ) (inward : Bool) (next : ℕ) (script : List Answer) (a : Account) (gone : Bool) (e : Endpoint) (s : EndpointState) (i : Option Item) → 0 < size → first_waiting e.line ≡ i → HoldsAt size inward next script a e
     → KeepsLedger size inward next script a gone [] [] (serve_first size gone e s i)
 unfolding serve_first

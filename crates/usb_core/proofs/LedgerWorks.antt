@@ -31,10 +31,12 @@ same_packets size r state ask fate = by_body r.item.request.body
 untouched_same : (r : Row) (state : ItemState) (ask : Option Ask) (fate : Fate) → end_of r.item.n fate ≡ end_of r.item.n r.fate → IsUntouched r → IsUntouched (with_row r r.item.share state ask fate)
 untouched_same r state ask fate e u = (u.0, e ∙ u.1)
 
+-- one element replaced, of which the same holds
 each_mid : {A : Type 0} (P : A → Type 0) (xs : List A) (x y : A) (ys : List A) → (P x → P y) → Each P (xs ++ x ∷ ys) → Each P (xs ++ y ∷ ys)
 each_mid P [] x y ys f p = (f p.0, p.1)
 each_mid P (z ∷ zs) x y ys f p = (p.0, each_mid P zs x y ys f p.1)
 
+-- a row replaced by one that is as quiet
 quiet_mid : (front back : List Row) (r s : Row) → (IsUntouched r → IsUntouched s) → (quiet_by r.item.state back (IsQuiet back) → quiet_by s.item.state back (IsQuiet back)) → IsQuiet (front ++ r ∷ back) → IsQuiet (front ++ s ∷ back)
 quiet_mid [] back r s f g q = g q
 quiet_mid (z ∷ front) back r s f g q = by_state z.item.state q (quiet_mid front back r s f g)
@@ -63,6 +65,7 @@ pub record Alters (size : ℕ) (inward : Bool) (a : Account) (back : List Row) (
   pub row : IsRow size inward (with_more a [] asked [] made) (with_row r r.item.share state ask fate)
   pub quiet : quiet_by r.item.state back (IsQuiet back) → quiet_by state back (IsQuiet back)
 
+-- a row whose share stays is replaced, and what is asked or made is added to the account
 pub holds_altered : (size : ℕ) (inward : Bool) (next : ℕ) (script : List Answer) (a : Account) (line line' : List Item) (left : List Answer) (halted : Bool) (taken : List (List ℕ))
     (front back : List Row) (r : Row) (state : ItemState) (ask : Option Ask) (fate : Fate) (asked : List Asked) (made : List Made) (h : Holds size inward next script a line left halted taken) → h.rows ≡ front ++ r ∷ back
     → Alters size inward a back r state ask fate asked made → map item_of (front ++ with_row r r.item.share state ask fate ∷ back) ≡ line'
@@ -114,10 +117,12 @@ untouched_shares : (rows : List Row) → Each IsUntouched rows → flat_map (λ 
 untouched_shares [] u = refl
 untouched_shares (r ∷ rows) u = ap₂ (λ k l. k ++ l) u.0.0 (untouched_shares rows u.1)
 
+-- untouched rows tell no end
 untouched_ends : (rows : List Row) → Each IsUntouched rows → flat_map (λ x. end_of x.n x.fate) (map part_of rows) ≡ []
 untouched_ends [] u = refl
 untouched_ends (r ∷ rows) u = ap₂ (λ k l. k ++ l) u.0.1 (untouched_ends rows u.1)
 
+-- an empty share has no packets
 pub no_packets : (size : ℕ) (x : Part) → x.share ≡ [] → packets_taken size x ≡ []
 no_packets size x none = by_body x.request.body
   where
@@ -125,23 +130,28 @@ no_packets size x none = by_body x.request.body
     by_body (In n) = refl
     by_body (Out bytes) = ap (λ l. (unwrap_or (outcome x.request size l false) (open_with [])).packets) none ∙ ap (λ o. (unwrap_or o (open_with [])).packets) (outcome_nothing x.request size)
 
+-- untouched rows have no packets
 untouched_packets : (size : ℕ) (rows : List Row) → Each IsUntouched rows → flat_map (packets_taken size) (map part_of rows) ≡ []
 untouched_packets size [] u = refl
 untouched_packets size (r ∷ rows) u = ap₂ (λ k l. k ++ l) (no_packets size (part_of r) u.0.0) (untouched_packets size rows u.1)
 
+-- an empty share fits what has not ended
 untouched_fits : (size : ℕ) (behind : Bool) (r : Row) → r.item.share ≡ [] → (f : Fate) → end_of r.item.n f ≡ [] → FitsFate size behind (part_of r) f
 untouched_fits size behind r none Waits e = open_untouched size behind (part_of r) none
 untouched_fits size behind r none (Withdrawn ask) e = open_untouched size behind (part_of r) none
 untouched_fits size behind r none (Ended code gone) e = absurd cc
 
+-- untouched rows fit
 all_untouched_fit : (size : ℕ) (behind : Bool) (rows : List Row) → Each IsUntouched rows → AllFit size behind (map cell_of rows)
 all_untouched_fit size behind [] u = tt
 all_untouched_fit size behind (r ∷ rows) u = (untouched_fits size behind r u.0.0 r.fate u.0.1, all_untouched_fit size (behind || has_stall r.item.share) rows u.1)
 
+-- or with a false
 pub or_no : (b : Bool) → (b || false) ≡ b
 or_no true = refl
 or_no false = refl
 
+-- untouched rows have no stall
 pub untouched_flag : (behind : Bool) (rows : List Row) → Each IsUntouched rows → stalled behind (map cell_of rows) ≡ behind
 untouched_flag behind [] u = refl
 untouched_flag behind (r ∷ rows) u =
@@ -173,6 +183,7 @@ row_told_as size a a' r made asked Waits t = (ap (made_of r.item.n) made ∙ t.0
 row_told_as size a a' r made asked (Ended code gone) t = ap (made_of r.item.n) made ∙ t
 row_told_as size a a' r made asked (Withdrawn ask) t = (t.0, ap (made_of r.item.n) made ∙ t.1, ap (asks_of r.item.n) asked ∙ t.2)
 
+-- behind a row that was served all are untouched
 quiet_served : (state : ItemState) (back : List Row) → Each IsUntouched back → is_blank_state state ≡ false → quiet_by state back (IsQuiet back)
 quiet_served Waiting back u live = u
 quiet_served (Served code) back u live = untouched_quiet back u
@@ -192,6 +203,7 @@ pub record Serves (size : ℕ) (inward : Bool) (a : Account) (left left' : List 
   pub left_is : left ≡ more ++ left'
   pub kinds : list_all (is_of_direction inward) left' ≡ true
 
+-- the first row that waits is served: its share grows, and its end is added to the account
 pub holds_served : (size : ℕ) (inward : Bool) (next : ℕ) (script : List Answer) (a : Account) (line line' : List Item) (left left' : List Answer) (halted halted' : Bool) (taken : List (List ℕ))
     (front back : List Row) (r : Row) (more : List Answer) (state : ItemState) (fate : Fate) (ended : List End) (packets : List (List ℕ)) (h : Holds size inward next script a line left halted taken) → h.rows ≡ front ++ r ∷ back
     → Serves size inward a left left' halted' (stalled false (all_cells h.gone front)) front back r more state fate ended packets → map item_of (front ++ with_row r (r.item.share ++ more) state r.item.ask fate ∷ back) ≡ line'

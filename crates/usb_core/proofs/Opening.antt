@@ -70,10 +70,12 @@ opens_at item s er os ns es tail b phase told fine low behind shown = by_wait (i
     by_wait true w = waits w s er os es tail (behind w) tells fails phase
     by_wait false w = served w s er os es tail (shown w) phase
 
+-- what is left to an item depends on it only by its state
 waits_same : (i j : Item) (er : Option Errand) (os : List Errand) (ns : List Event) (b c d : ℕ) → j.state ≡ i.state → IsLeft i er os ns b c d → IsLeft j er os ns b c d
 waits_same i j er os ns b c d same (inl q) = inl (ap is_waiting_state same ∙ q.0, q.1, q.2, q.3)
 waits_same i j er os ns b c d same (inr q) = inr (ap is_waiting_state same ∙ q.0, q.1, q.2)
 
+-- a transfer that was asked has an ask
 is_asked_after : (n : ℕ) (ask : Ask) (i : Item) → is_it n i ≡ true → is_some (with_ask n ask i).ask ≡ true
 is_asked_after n ask i it = by_test (i.n == n) it
   where

@@ -31,9 +31,11 @@ use Rattle.usb_model.proofs.Pieces.{either_way}
 use Rattle.usb_model.proofs.Replies.{asks_told, command_told, deliver_told, serve_told, told_plain}
 use Rattle.usb_model.proofs.Times.{times-append, times-cons, times_none, times_one}
 
+-- the numbers of those in callbacks
 abbrev pub callback_numbers : List InCallback → List ℕ
 callback_numbers xs = map (λ x. x.n) xs
 
+-- each number that was given is in one place, and none that was not
 pub record IsPlaced (m : Machine) (called : List ℕ) : Type 0 where
   pub given : (n : ℕ) → n < m.handle.next → InOnePlace n m called
   pub not_given : (n : ℕ) → m.handle.next ≤ n → InNoPlace n m called
@@ -89,6 +91,7 @@ no_place_kept n m m' called called' move p =
     by_from ep none true same = subst (λ k. times n (lives_at m' k) ≡ 0) (eqb-true move.from ep same) none
     by_from ep none false differ = move.others ep differ ∙ p.not_in_progress ep
 
+-- a step that moves each number, and gives none, keeps the places
 placed_if_moves : (m m' : Machine) (called called' : List ℕ) → m'.handle.next ≡ m.handle.next → ((n : ℕ) → Passes n m m' called called') → IsPlaced m called → IsPlaced m' called'
 placed_if_moves m m' called called' same moves p = record {
   given = λ n lt. one_place_kept n m m' called called' (moves n) (p.given n (omega (arith, lt, same)));
@@ -135,6 +138,7 @@ unfolding live_numbers
 none_idle None e = refl
 none_idle (Some x) e = rw e refl
 
+-- a new endpoint has no numbers
 none_new : (setup : Setup) (ep : ℕ) (o : Option Endpoint) → IsNewOrGone setup ep o → numbers_at o ≡ []
 unfolding live_numbers fresh
 none_new setup ep o (inl e) = rw e refl
@@ -197,15 +201,17 @@ without_fewer n k (x ∷ xs) = by_test (x.n == k) (without_fewer n k xs)
     by_test true rest = omega (arith, rest, times-cons n x.n (callback_numbers xs))
     by_test false rest = omega (arith, rest, times-cons n x.n (callback_numbers xs), times-cons n x.n (callback_numbers (without k xs)))
 
+-- a submission takes no callback's number twice
 submission_out : (handle : Handle) (step : Step) (left : Handle) (request : Request) (round : ℕ) → IsSubmission handle step left request round → (n : ℕ) → times n (callback_numbers left.out) ≤ times n (callback_numbers handle.out)
 submission_out handle step left request round (anew g r) n = omega arith
-submission_out handle step left request round (again g k x lent) n = without_fewer n x.n handle.out
-submission_out handle step left request round (again_with g k bytes x lent) n = without_fewer n x.n handle.out
+submission_out handle step left request round (again g k x in_call) n = without_fewer n x.n handle.out
+submission_out handle step left request round (again_with g k bytes x in_call) n = without_fewer n x.n handle.out
 
 -- the numbers that a step's reply calls back
 abbrev pub called_by : Reply → List ℕ
 called_by r = map (λ x. x.n) (call_of r)
 
+-- a reply without a call calls nothing back
 calls_none : (P : List ℕ → Type 0) (called : List ℕ) (r : Reply) → call_of r ≡ [] → P called → P (called ++ called_by r)
 calls_none P called r none p = rw (none, append-nil called) p
 
@@ -217,10 +223,11 @@ takes_no_result setup m ep e step handle d (delivers event ns is) = refl
 takes_no_result setup m ep e step handle d (asks_it n i (cancels g k) here free) = refl
 takes_no_result setup m ep e step handle d (asks_it n i (expires g k) here free) = refl
 takes_no_result setup m ep e step handle d (submits (anew g r) at fine short) = refl
-takes_no_result setup m ep e step handle d (submits (again g k x lent) at fine short) = refl
-takes_no_result setup m ep e step handle d (submits (again_with g k bytes x lent) at fine short) = refl
+takes_no_result setup m ep e step handle d (submits (again g k x in_call) at fine short) = refl
+takes_no_result setup m ep e step handle d (submits (again_with g k bytes x in_call) at fine short) = refl
 takes_no_result setup m ep e step handle d (clears g empty) = refl
 
+-- work that loses no number keeps the places
 exact_placed : (setup : Setup) (m : Machine) (step : Step) (d : Doing) (ep : ℕ) (e : Endpoint) (called : List ℕ) → call_of d.reply ≡ [] → end_at m ep ≡ Some e → IsWork setup m ep e step m.handle d → IsExact e d → IsPlaced m called
     → IsPlaced (machine_after setup m step (doing_at m.handle (device_of m) ep d)) (called ++ called_by d.reply)
 unfolding machine_after doing_at
@@ -230,6 +237,7 @@ exact_placed setup m step d ep e called none here work is p =
     (placed_works setup m (machine_after setup m step done) step called ep e d refl (ap (λ b. past_first b m.results ++ d.results) (takes_no_result setup m ep e step m.handle d work)) refl here
     (end_set setup m ep e step m.handle d here work) (works_elsewhere setup m step m.handle d ep e work) is p)
 
+-- a submission places its new number
 submission_placed : (setup : Setup) (m : Machine) (step : Step) (left : Handle) (request : Request) (round ep : ℕ) (e : Endpoint) (called : List ℕ) → end_at m ep ≡ Some e → IsSubmission m.handle step left request round
     → IsWork setup m ep e step (record left { next = m.handle.next + 1 }) (submitted m.handle.next request round e) → IsPlaced m called
     → IsPlaced (machine_after setup m step (doing_at (record left { next = m.handle.next + 1 }) (device_of m) ep (submitted m.handle.next request round e))) (called ++ [])
@@ -247,6 +255,7 @@ submission_placed setup m step left request round ep e called here is work p =
 pub fit_at : (setup : Setup) (m : Machine) (ep : ℕ) (e : Endpoint) → IsWell setup m → end_at m ep ≡ Some e → IsFit e (errands_of ep m.orders) (events_of ep m.news)
 fit_at setup m ep e well here = subst (λ o. Fits o (errands_of ep m.orders) (events_of ep m.news)) here (well.fits ep)
 
+-- each piece of work keeps the places
 work_placed : (setup : Setup) (m : Machine) (ep : ℕ) (e : Endpoint) (step : Step) (handle : Handle) (d : Doing) (called : List ℕ) → IsWell setup m → end_at m ep ≡ Some e → IsWork setup m ep e step handle d → IsPlaced m called
     → IsPlaced (machine_after setup m step (doing_at handle (device_of m) ep d)) (called ++ called_by d.reply)
 work_placed setup m ep e step handle d called well here (serves dev) p =
@@ -263,6 +272,7 @@ work_placed setup m ep e step handle d called well here (submits {handle = left}
 work_placed setup m ep e step handle d called well here (clears g empty) p =
     exact_placed setup m step d ep e called refl here (clears g empty) (exact_if_same e (cleared e) refl refl) p
 
+-- the reply of a step that does no work, but for Take, calls nothing back
 bare_calls : (step : Step) (r : Reply) → IsBare step r → call_of r ≡ []
 bare_calls step r (refuses why) = refl
 bare_calls step r idles = refl
@@ -276,18 +286,20 @@ resting_placed setup h m step done called well is none next results fewer p =
     calls_none (IsPlaced (machine_after setup m step done)) called done.reply none
     (placed_rests setup m (machine_after setup m step done) step called next results fewer (λ ep. rests_at setup h m step done ep well is) p)
 
+-- a result that is taken goes to what was called back
 taking_placed : (setup : Setup) (h : ℕ) (m : Machine) (x : TransferResult) (xs : List TransferResult) (called : List ℕ) → IsWell setup m → m.results ≡ x ∷ xs → IsPlaced m called → IsPlaced (machine_after setup m Take (take_it h m (x ∷ xs))) (called ++ x.n ∷ [])
 unfolding machine_after take_it
 taking_placed setup h m x xs called well is p =
     placed_takes setup m (machine_after setup m Take (take_it h m (x ∷ xs))) Take called x refl (is ∙ ap (λ l. x ∷ l) (ap (λ l. past_first true l) (sym is) ∙ sym (append-nil (past_first true m.results))))
     (map-append (λ y. y.n) m.handle.out (record { n = x.n; request = x.request; round = x.round; status = x.status } ∷ [])) (λ ep. rests_at setup h m Take (take_it h m (x ∷ xs)) ep well (takes x xs is)) p
 
+-- a step that does no work keeps the places
 rest_placed : (setup : Setup) (h : ℕ) (m : Machine) (step : Step) (done : Effect) (called : List ℕ) → IsWell setup m → IsRest setup h m step done → IsPlaced m called → IsPlaced (machine_after setup m step done) (called ++ called_by done.reply)
 unfolding take_it
 rest_placed setup h m step done called well (stays {r = r} bare t) p =
     resting_placed setup h m step (says m r) called well (stays bare t) (bare_calls step r bare) refl (ap (λ l. l ++ []) t.results ∙ append-nil m.results) (λ n. omega arith) p
 rest_placed setup h m step done called well (claims_again g i) p = resting_placed setup h m _ _ called well (claims_again g i) refl refl (append-nil m.results) (λ n. omega arith) p
-rest_placed setup h m step done called well (stops g k x lent) p = resting_placed setup h m _ _ called well (stops g k x lent) refl refl (append-nil m.results) (λ n. without_fewer n x.n m.handle.out) p
+rest_placed setup h m step done called well (stops g k x in_call) p = resting_placed setup h m _ _ called well (stops g k x in_call) refl refl (append-nil m.results) (λ n. without_fewer n x.n m.handle.out) p
 rest_placed setup h m step done called well (opens g dev none) p = resting_placed setup h m _ _ called well (opens g dev none) refl refl (append-nil m.results) (λ n. omega arith) p
 rest_placed setup h m step done called well (closes g idle) p = resting_placed setup h m _ _ called well (closes g idle) refl refl (append-nil m.results) (λ n. omega arith) p
 rest_placed setup h m step done called well (claims g i opened free) p = resting_placed setup h m _ _ called well (claims g i opened free) refl refl (append-nil m.results) (λ n. omega arith) p

@@ -17,9 +17,11 @@ use Rattle.usb_model.proofs.Pieces.{same_name}
 abbrev pub posts_of : {A B : Type 0} → (A → ℕ) → (A → B) → ℕ → List A → List B
 posts_of place what ep xs = map what (filter (λ x. place x == ep) xs)
 
+-- the orders of an endpoint
 abbrev pub errands_of : ℕ → List Order → List Errand
 errands_of ep xs = posts_of (λ x. x.ep) (λ x. x.errand) ep xs
 
+-- the news of an endpoint
 abbrev pub events_of : ℕ → List News → List Event
 events_of ep xs = posts_of (λ x. x.ep) (λ x. x.event) ep xs
 
@@ -27,10 +29,12 @@ events_of ep xs = posts_of (λ x. x.ep) (λ x. x.event) ep xs
 pub posts-append : {A B : Type 0} (place : A → ℕ) (what : A → B) (ep : ℕ) (xs ys : List A) → posts_of place what ep (xs ++ ys) ≡ posts_of place what ep xs ++ posts_of place what ep ys
 posts-append place what ep xs ys = ap (map what) (filter-append (λ x. place x == ep) xs ys) ∙ map-append what (filter (λ x. place x == ep) xs) (filter (λ x. place x == ep) ys)
 
+-- what is posted at an endpoint is the endpoint's
 posts-own : {A B : Type 0} (place : A → ℕ) (what : A → B) (make : B → A) (ep : ℕ) (xs : List B) → ((b : B) → (place (make b) == ep) ≡ true) → ((b : B) → what (make b) ≡ b) → posts_of place what ep (map make xs) ≡ xs
 posts-own place what make ep [] here is = refl
 posts-own place what make ep (x ∷ xs) here is = rw (here x) (ap₂ (λ a l. a ∷ l) (is x) (posts-own place what make ep xs here is))
 
+-- what is posted at another endpoint is not
 posts-others : {A B : Type 0} (place : A → ℕ) (what : A → B) (make : B → A) (at : ℕ) (xs : List B) → ((b : B) → (place (make b) == at) ≡ false) → posts_of place what at (map make xs) ≡ []
 posts-others place what make at [] there = refl
 posts-others place what make at (x ∷ xs) there = rw (there x) (posts-others place what make at xs there)
@@ -39,20 +43,24 @@ posts-others place what make at (x ∷ xs) there = rw (there x) (posts-others pl
 pub errands_of-at : (ep : ℕ) (xs : List Errand) → errands_of ep (orders_at ep xs) ≡ xs
 errands_of-at ep xs = posts-own (λ x. x.ep) (λ x. x.errand) (λ x. record { ep = ep; errand = x }) ep xs (λ b. same_name ep) (λ b. refl)
 
+-- news of an endpoint, at it
 pub events_of-at : (ep : ℕ) (xs : List Event) → events_of ep (news_at ep xs) ≡ xs
 events_of-at ep xs = posts-own (λ x. x.ep) (λ x. x.event) (λ x. record { ep = ep; event = x }) ep xs (λ b. same_name ep) (λ b. refl)
 
+-- orders of another endpoint
 pub errands_of-other : (at ep : ℕ) (xs : List Errand) → (ep == at) ≡ false → errands_of at (orders_at ep xs) ≡ []
 errands_of-other at ep xs e = posts-others (λ x. x.ep) (λ x. x.errand) (λ x. record { ep = ep; errand = x }) at xs (λ b. e)
 
+-- news of another endpoint
 pub events_of-other : (at ep : ℕ) (xs : List Event) → (ep == at) ≡ false → events_of at (news_at ep xs) ≡ []
 events_of-other at ep xs e = posts-others (λ x. x.ep) (λ x. x.event) (λ x. record { ep = ep; event = x }) at xs (λ b. e)
 
--- whether the step takes an order, or a piece of news, of the endpoint
+-- whether the step takes an order of the endpoint
 abbrev pub commands_now : ℕ → Machine → Step → ℕ
 commands_now ep m Command = first_counts (λ x. x.ep == ep) m.orders
 commands_now ep m _ = 0
 
+-- whether the step takes a piece of news of the endpoint
 abbrev pub delivers_now : ℕ → Machine → Step → ℕ
 delivers_now ep m Deliver = first_counts (λ x. x.ep == ep) m.news
 delivers_now ep m _ = 0

@@ -9,7 +9,8 @@ use Rattle.usb_model.specs.Places.{KeepsPlaces, call_of, calls, numbers_called}
 use Rattle.usb_model.specs.Setup.{Setup}
 use Rattle.usb_model.specs.Turns.{effect, machine_after}
 use Rattle.usb_model.specs.World.{World, machine_of, new_world, turn, world_from}
-use Rattle.usb_core.proofs.Deeds.{IsWell, is_done}
+use Rattle.usb_core.proofs.Deeds.{IsWell}
+use Rattle.usb_core.proofs.Done.{is_done}
 use Rattle.usb_core.proofs.Placed.{IsPlaced, called_by, placed_after}
 use Rattle.usb_core.proofs.Well.{well_kept, well_new}
 use Rattle.usb_model.proofs.Isolation.{IsEither, effect_to, entries_from, entries_less, entries_more, new_machine_of, turn_to}
@@ -19,6 +20,7 @@ pub record IsKept (setup : Setup) (m : Machine) (called : List ℕ) : Type 0 whe
   pub well : IsWell setup m
   pub placed : IsPlaced m called
 
+-- a step keeps a machine well and its numbers placed
 pub kept_step : (setup : Setup) (h : ℕ) (m : Machine) (step : Step) (called : List ℕ) → IsKept setup m called
     → IsKept setup (machine_after setup m step (effect setup h m step)) (called ++ called_by (effect setup h m step).reply)
 kept_step setup h m step called k = record {
@@ -37,6 +39,7 @@ kept_new setup = record {
   };
 }
 
+-- what the first entry calls back comes first
 numbers_called-cons : (x : Entry) (xs : List Entry) → numbers_called (x ∷ xs) ≡ called_by x.reply ++ numbers_called xs
 unfolding calls
 numbers_called-cons x xs = map-append (λ r. r.n) (call_of x.reply) (calls xs)

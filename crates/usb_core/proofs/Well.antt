@@ -26,15 +26,19 @@ use Rattle.usb_model.specs.Calls.{asks, submitted, with_ask}
 use Rattle.usb_model.specs.Deliver.{blanked, deliver, line_after}
 use Rattle.usb_model.specs.Endpoint.{Doing, first_waiting, fresh, is_blank, is_it, is_waiting, new_item, outcome_of, past_blanks, past_number, with_first}
 use Rattle.usb_model.specs.Machine.{Effect, Machine, device_of, doing_at, end_at, is_gone, new_machine}
-use Rattle.usb_model.specs.Packets.{Outcome, open_with, outcome}
+use Rattle.usb_model.specs.declared.plain.outcome.Outcome.{Outcome}
+use Rattle.usb_model.specs.Packets.{open_with, outcome}
 use Rattle.usb_model.specs.Serve.{next_answer, serve, serve_by, serve_first, serve_gone}
 use Rattle.usb_model.specs.Setup.{Setup, interface_of, is_within, size_of}
 use Rattle.usb_model.specs.Shared.{past_first}
 use Rattle.usb_model.specs.Status.{halts}
 use Rattle.usb_model.specs.Turns.{effect, ends_after, held_after, machine_after, take_it, takes_news, takes_order}
 use Rattle.usb_core.proofs.Acts.{Acts, IsNewOrGone, acts, acts_at, same_device}
-use Rattle.usb_core.proofs.Coherent.{LeavesCoherent, coherent_ask, coherent_command, coherent_deliver, coherent_serve, coherent_submit}
-use Rattle.usb_core.proofs.Deeds.{Fits, IsAsk, IsDone, IsFit, IsSubmission, IsWell, IsWork, TakesNone, again, again_with, anew, asks_it, cancels, claims, claims_again, clears, closes, commands, delivers, expires, is_done, only_rests, opens, releases, resets, serves, stays, stops, submits, takes, takes_none, works}
+use Rattle.usb_core.proofs.Coherent.{LeavesCoherent, coherent_ask, coherent_command, coherent_submit}
+use Rattle.usb_core.proofs.CoherentDeliver.{coherent_deliver}
+use Rattle.usb_core.proofs.CoherentServe.{coherent_serve}
+use Rattle.usb_core.proofs.Deeds.{Fits, IsAsk, IsDone, IsFit, IsSubmission, IsWell, IsWork, TakesNone, again, again_with, anew, asks_it, cancels, claims, claims_again, clears, closes, commands, delivers, expires, only_rests, opens, releases, resets, serves, stays, stops, submits, takes, works}
+use Rattle.usb_core.proofs.Done.{is_done, takes_none}
 use Rattle.usb_core.proofs.Doings.{line-command, line-finished, line-resume}
 use Rattle.usb_core.proofs.Posts.{errands_of, events_of}
 use Rattle.usb_model.proofs.Errands.{IsCoherent, runs, served_events}
@@ -44,6 +48,7 @@ use Rattle.usb_model.proofs.Pieces.{either_way, same_name}
 pub first_order : (ep : ℕ) (o : Errand) (xs os : List Order) → xs ≡ record { ep = ep; errand = o } ∷ os → (errands_of ep xs ≡ o ∷ errands_of ep (past_first true xs)) × (first_counts (λ x. x.ep == ep) xs ≡ 1)
 first_order ep o xs os is = rw (is, same_name ep) (refl, refl)
 
+-- the first news, taken, is its endpoint's
 pub first_news : (ep : ℕ) (event : Event) (xs ns : List News) → xs ≡ record { ep = ep; event = event } ∷ ns → (events_of ep xs ≡ event ∷ events_of ep (past_first true xs)) × (first_counts (λ x. x.ep == ep) xs ≡ 1)
 first_news ep event xs ns is = rw (is, same_name ep) (refl, refl)
 
@@ -52,18 +57,21 @@ pub ask_takes : (m : Machine) (step : Step) (n : ℕ) (ask : Ask) → IsAsk step
 ask_takes m step n ask (cancels g k) = takes_none m (Cancel g k) refl refl refl
 ask_takes m step n ask (expires g k) = takes_none m (Expire g k) refl refl refl
 
+-- a submission takes nothing from the lists
 pub submission_takes : (m : Machine) (step : Step) (handle : Handle) (request : Request) (round : ℕ) → IsSubmission m.handle step handle request round → TakesNone m step
 submission_takes m step handle request round (anew g r) = takes_none m (Submit g r) refl refl refl
-submission_takes m step handle request round (again g k x lent) = takes_none m (Answer g k Again) refl refl refl
-submission_takes m step handle request round (again_with g k bytes x lent) = takes_none m (Answer g k (AgainWith bytes)) refl refl refl
+submission_takes m step handle request round (again g k x in_call) = takes_none m (Answer g k Again) refl refl refl
+submission_takes m step handle request round (again_with g k bytes x in_call) = takes_none m (Answer g k (AgainWith bytes)) refl refl refl
 
--- an endpoint's pieces behind what a step takes
+-- an endpoint's orders behind what a step takes
 abbrev pub errands_behind : ℕ → Machine → Step → List Errand
 errands_behind ep m step = errands_of ep (past_first (takes_order step) m.orders)
 
+-- an endpoint's news behind what a step takes
 abbrev pub events_behind : ℕ → Machine → Step → List Event
 events_behind ep m step = events_of ep (past_first (takes_news step) m.news)
 
+-- an endpoint is coherent with its part of the machine's lists
 abbrev pub IsCoherentAt : ℕ → Machine → Endpoint → Type 0
 IsCoherentAt ep m e = IsCoherent e (errands_of ep m.orders) (events_of ep m.news)
 
@@ -71,6 +79,7 @@ IsCoherentAt ep m e = IsCoherent e (errands_of ep m.orders) (events_of ep m.news
 pub nothing_taken : (P : List Errand → List Event → Type 0) (ep : ℕ) (m : Machine) (step : Step) → TakesNone m step → P (errands_of ep m.orders) (events_of ep m.news) → P (errands_behind ep m step) (events_behind ep m step)
 nothing_taken P ep m step t p = subst₂ P (ap (errands_of ep) (sym t.orders)) (ap (events_of ep) (sym t.news)) p
 
+-- each piece of work keeps its endpoint coherent
 pub coherent_work : (setup : Setup) (m : Machine) (ep : ℕ) (e : Endpoint) (step : Step) (handle : Handle) (d : Doing) → IsWork setup m ep e step handle d → IsCoherentAt ep m e → LeavesCoherent d (errands_behind ep m step) (events_behind ep m step)
 coherent_work setup m ep e step handle d (serves dev) c = coherent_serve _ _ e _ _ c
 coherent_work setup m ep e step handle d (commands o os is) c = coherent_command _ ep e o _ _ (subst (λ l. IsCoherent e l (events_of ep m.news)) (first_order ep o m.orders os is).0 c)
@@ -91,6 +100,7 @@ length-with_first y (x ∷ xs) = by_test (is_waiting x) (length-with_first y xs)
     by_test true e = refl
     by_test false e = ap suc e
 
+-- a line is no longer past a transfer that leaves
 length-past_number : (n : ℕ) (line : List Item) → length (past_number n line) ≤ length line
 unfolding past_number
 length-past_number n [] = omega arith
@@ -100,6 +110,7 @@ length-past_number n (x ∷ xs) = by_test (is_it n x) (length-past_number n xs)
     by_test true e = omega arith
     by_test false e = omega (arith, e)
 
+-- a line is no longer past the cancelled that leave
 length-past_blanks : (line : List Item) → length (past_blanks line) ≤ length line
 unfolding past_blanks
 length-past_blanks [] = omega arith
@@ -109,6 +120,7 @@ length-past_blanks (x ∷ xs) = by_test (is_blank x) (length-past_blanks xs)
     by_test true e = omega (arith, e)
     by_test false e = omega arith
 
+-- a line is no longer behind a result
 length-line_after : (n code : ℕ) (line : List Item) → length (line_after n code line) ≤ length line
 length-line_after n code line = by_test (halts code)
   where
@@ -116,6 +128,7 @@ length-line_after n code line = by_test (halts code)
     by_test true = length-past_number n line
     by_test false = omega (arith, length-past_number n line, length-past_blanks (past_number n line))
 
+-- a packet that the first transfer is served leaves a line as long as it was
 short_serve_first : (size : ℕ) (gone : Bool) (e : Endpoint) (s : EndpointState) (o : Option Item) → length (serve_first size gone e s o).endpoint.line ≡ length e.line
 unfolding serve_first serve_gone serve_by
 short_serve_first size true e Running (Some x) = length-with_first _ e.line
@@ -129,10 +142,12 @@ short_serve_first size false e Running (Some x) = by_code (unwrap_or (outcome x.
     by_code (Some code) = length-with_first _ e.line
 short_serve_first size gone e _ _ = refl
 
+-- a packet that is served leaves a line as long as it was
 short_serve : (size : ℕ) (gone : Bool) (e : Endpoint) → length (serve size gone e).endpoint.line ≡ length e.line
 unfolding serve
 short_serve size gone e = short_serve_first size gone e e.state (first_waiting e.line)
 
+-- a delivery leaves a line no longer
 short_deliver : (size ep : ℕ) (gone : Bool) (e : Endpoint) (event : Event) → length (deliver size ep gone e event).endpoint.line ≤ length e.line
 unfolding deliver
 short_deliver size ep gone e (Finished n code) = omega (arith, length-line_after n code e.line, ap length (line-finished size ep gone e n code))
@@ -142,6 +157,7 @@ short_deliver size ep gone e (Settled errand.Stop true) = omega (arith, ap lengt
 short_deliver size ep gone e (Settled errand.Reset ok) = omega (arith, length-map e.line blanked)
 short_deliver size ep gone e (Settled errand.Move ok) = omega (arith, ap length (line-resume size e (reply.Settled ep errand.Move ok) (past_blanks e.line)), length-map (past_blanks e.line) blanked, length-past_blanks e.line)
 
+-- no work makes a line longer than 16
 short_work : (setup : Setup) (m : Machine) (ep : ℕ) (e : Endpoint) (step : Step) (handle : Handle) (d : Doing) → IsWork setup m ep e step handle d → length e.line ≤ 16 → length d.endpoint.line ≤ 16
 unfolding asks
 short_work setup m ep e step handle d (serves dev) l = omega (arith, short_serve (size_of setup (device_of m) ep) (is_gone m) e, l)
@@ -156,10 +172,12 @@ fit_fresh : (setup : Setup) (d ep : ℕ) → IsFit (fresh setup d ep) [] []
 unfolding fresh served_events
 fit_fresh setup d ep = record { coherent = record { tail = []; news = refl; in_order = tt; phase = runs tt; answered = λ q. refl }; short = omega arith }
 
+-- a new endpoint fits empty lists
 fits_new : (setup : Setup) (ep : ℕ) (o : Option Endpoint) → IsNewOrGone setup ep o → Fits o [] []
 fits_new setup ep o (inl e) = rw e (refl, refl)
 fits_new setup ep o (inr e) = rw e.1 (fit_fresh setup e.0 ep)
 
+-- a step keeps each endpoint fitting its part of the lists
 fits_kept : (setup : Setup) (ep : ℕ) (m m' : Machine) (step : Step) → Acts setup ep m m' step → Fits (end_at m ep) (errands_of ep m.orders) (events_of ep m.news) → Fits (end_at m' ep) (errands_of ep m'.orders) (events_of ep m'.news)
 fits_kept setup ep m m' step (inl (inl s)) f = rw (s.end, s.lists.orders, s.lists.news) f
 fits_kept setup ep m m' step (inr w) f =
@@ -172,11 +190,13 @@ fits_kept setup ep m m' step (inl (inr r)) f = rw (r.lists.orders ∙ r.idle.no_
 abbrev IsPlacedIn : Setup → Handle → (ℕ → ℕ → Bool) → ℕ → ℕ → Type 0
 IsPlacedIn setup handle held d ep = (handle.device ≡ Some d) × (i : ℕ) × (interface_of setup d ep ≡ Some i) × (held d i ≡ true)
 
+-- an endpoint that is there after a change of those there was there
 was_there : (b : Bool) (o : Option Endpoint) (new x : Endpoint) → (if b then option_map (λ old. new) o else o) ≡ Some x → (y : Endpoint) × (o ≡ Some y)
 was_there true None new x e = absurd cc
 was_there true (Some y) new x e = (y, refl)
 was_there false o new x e = (x, e)
 
+-- an endpoint that a machine has is its device's, of an interface it holds
 placed_before : (setup : Setup) (m : Machine) (d ep : ℕ) (x : Endpoint) → IsWell setup m → m.ends d ep ≡ Some x → IsPlacedIn setup m.handle m.held d ep
 placed_before setup m d ep x well is = let h = well.of_held d ep x is in (well.at_device d ep x is, h.0, h.1, h.2)
 
@@ -209,12 +229,13 @@ placed_dropped setup m i d ep x well is = by_test (is_within setup (device_of m)
         let other : ((device_of m == d) && (i == b.1)) ≡ false = ap (λ t. (device_of m == d) && t) (either_way i b.1) ∙ (ap (λ o. (device_of m == d) && option_map_or (λ k. k == i) o false) (sym b.2) ∙ within) in
         (b.0, b.1, b.2, and_from _ _ (ap not other) b.3)
 
+-- an endpoint that a machine has after a step is its device's, of an interface it holds
 placed_after : (setup : Setup) (h : ℕ) (m : Machine) (step : Step) (done : Effect) (d ep : ℕ) (x : Endpoint) → IsWell setup m → IsDone setup h m step done → ends_after setup m.ends done.change d ep ≡ Some x
     → IsPlacedIn setup done.handle (λ k j. held_after m.held done.change k j) d ep
 unfolding doing_at take_it
 placed_after setup h m step done d ep x well (only_rests (stays bare t)) is = placed_before setup m d ep x well is
 placed_after setup h m step done d ep x well (only_rests (claims_again g i)) is = placed_before setup m d ep x well is
-placed_after setup h m step done d ep x well (only_rests (stops g k y lent)) is = placed_before setup m d ep x well is
+placed_after setup h m step done d ep x well (only_rests (stops g k y in_call)) is = placed_before setup m d ep x well is
 placed_after setup h m step done d ep x well (only_rests (opens g dev none)) is = absurd cc
 placed_after setup h m step done d ep x well (only_rests (closes g idle)) is = absurd cc
 placed_after setup h m step done d ep x well (only_rests (claims g i opened free)) is = placed_gained setup m i d ep x well opened is
@@ -235,6 +256,7 @@ well_after setup h m step done well is = record {
   fits = λ ep. fits_kept setup ep m (machine_after setup m step done) step (acts_at setup m (machine_after setup m step done) step (acts setup h m step done well is) ep) (well.fits ep);
 }
 
+-- each step keeps a machine well
 pub well_kept : (setup : Setup) (h : ℕ) (m : Machine) (step : Step) → IsWell setup m → IsWell setup (machine_after setup m step (effect setup h m step))
 well_kept setup h m step well = well_after setup h m step (effect setup h m step) well (is_done setup h m step well)
 

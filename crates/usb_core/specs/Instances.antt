@@ -13,13 +13,15 @@ use Rattle.usb_model.specs.Bound.{IsAccepted, is_in_progress, commands_in, deliv
 use Rattle.usb_model.specs.Rows.{Row, bulk}
 use Rattle.usb_model.specs.Rows.Cancelling.{cancel_at_its_bound}
 
+-- the steps of a worked row
 abbrev pub steps_of : Row → List Step
 steps_of row = expand row.setup row.plan row.rules
 
--- the steps before transfer 15 is asked to end, and so many of those after
+-- the steps before transfer 15 is asked to end
 abbrev pub before_ask : List Step
 before_ask = take 34 (steps_of cancel_at_its_bound)
 
+-- and so many of those behind it
 abbrev pub after_ask : ℕ → List Step
 after_ask k = take k (drop 35 (steps_of cancel_at_its_bound))
 

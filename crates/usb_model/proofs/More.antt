@@ -8,8 +8,10 @@ use Rattle.usb_model.specs.declared.answer.Answer.TheVariants.{Data, Ack, Nak, S
 use Rattle.usb_model.specs.declared.request.Body.{Body}
 use Rattle.usb_model.specs.declared.request.Body.TheVariants.{In, Out}
 use Rattle.usb_model.specs.declared.request.Request.{Request}
-use Rattle.usb_model.specs.Packets.{Outcome, outcome, count_of, open_with, ended_with, moved_by, packets_by, without_naks, acks, sent_with, full_front, read_with}
-use Rattle.usb_model.proofs.Shares.{IsRead, IsSent, IsWhole, full_count, no_front, read_behind, sent_behind, open_if_whole, outcome_is, naks-append, open_whole}
+use Rattle.usb_model.specs.declared.plain.outcome.Outcome.{Outcome}
+use Rattle.usb_model.specs.Packets.{outcome, count_of, open_with, ended_with, moved_by, packets_by, without_naks, acks, sent_with, full_front, read_with}
+use Rattle.usb_model.proofs.EndedShares.{outcome_is}
+use Rattle.usb_model.proofs.Shares.{IsRead, IsSent, IsWhole, full_count, no_front, read_behind, sent_behind, open_if_whole, naks-append, open_whole}
 
 -- a packet that comes behind these, with room for n bytes in all
 abbrev pub read_next : ℕ → ℕ → List (List ℕ) → List ℕ → Outcome
@@ -41,6 +43,7 @@ room_behind n size j less =
     let product : suc j * size ≡ j * size + size = suc-mul j size in
     omega (arith, below, up, product)
 
+-- no room for a byte more behind one packet more
 no_room_behind : (n size j : ℕ) → 0 < size → (n - 1) / size ≤ j → n ≤ j * size + size
 no_room_behind n size j some most =
     let above : n - 1 < size * ((n - 1) / size + 1) = lt-mul-div-succ (n - 1) some in
@@ -92,10 +95,12 @@ read_other : (n size left : ℕ) (ps : List (List ℕ)) (x : Answer) → full_fr
     → read_with n size (ps ++ full_front size left (x ∷ [])) (drop (length (full_front size left (x ∷ []))) (x ∷ [])) ≡ read_with n size ps (x ∷ [])
 read_other n size left ps x none = ap (λ l. read_with n size (ps ++ l) (drop (length l) (x ∷ []))) none ∙ ap (λ l. read_with n size l (x ∷ [])) (append-nil ps)
 
+-- what is no packet is not among the full packets
 no_packet : (size left : ℕ) → (full_front size left (Ack ∷ []) ≡ []) × (full_front size left (Stall ∷ []) ≡ []) × (full_front size left (Broken ∷ []) ≡ [])
 no_packet size zero = (refl, refl, refl)
 no_packet size (suc left) = (refl, refl, refl)
 
+-- one more answer to an IN transfer
 read_one_more : (request : Request) (n size : ℕ) (xs : List Answer) (ps : List (List ℕ)) (x : Answer) → 0 < size → IsRead n size xs ps
     → moved_by request size (In n) (xs ++ without_naks (x ∷ [])) ≡ next_of request size (In n) (open_with ps) x
 read_one_more request n size xs ps x some w = by_answer x
@@ -126,6 +131,7 @@ sent_ack all j room = by_test (j + 1 == length all) refl
         let more : nat_lt (j + 1) (length all) ≡ true = lt-ltb (j + 1) (length all) (omega (arith, room, eqb-false (j + 1) (length all) e)) in
         rw more refl
 
+-- one more answer to an OUT transfer
 sent_one_more : (request : Request) (size : ℕ) (bytes : List ℕ) (xs : List Answer) (ps : List (List ℕ)) (x : Answer) → IsSent (packets_by request size (Out bytes)) xs ps
     → moved_by request size (Out bytes) (xs ++ without_naks (x ∷ [])) ≡ next_of request size (Out bytes) (open_with ps) x
 sent_one_more request size bytes xs ps x w = by_answer x
@@ -143,6 +149,7 @@ sent_one_more request size bytes xs ps x w = by_answer x
     by_answer Stall = behind (length ps) (Stall ∷ []) (omega arith) ∙ rw (lt-ltb (length ps) (length all) w.room) (ap (λ l. Some (ended_with l 6)) (sym w.packets))
     by_answer Broken = behind (length ps) (Broken ∷ []) (omega arith) ∙ rw (lt-ltb (length ps) (length all) w.room) (ap (λ l. Some (ended_with l 4)) (sym w.packets))
 
+-- one more answer to a transfer of either direction
 moved_one_more : (request : Request) (size : ℕ) (body : Body) (xs : List Answer) (ps : List (List ℕ)) (x : Answer) → 0 < size → IsWhole request size body xs ps
     → moved_by request size body (xs ++ without_naks (x ∷ [])) ≡ next_of request size body (open_with ps) x
 moved_one_more request size (In n) xs ps x some w = read_one_more request n size xs ps x some w

@@ -1,6 +1,6 @@
 -- A step of nobody, and a refused step, leave the world as it was.
-use Rattle.std.proofs.Common.{◌≡◌, ℕ, ◌+◌, ◌-◌, ◌==◌, Bool, true, false, ◌&&◌, List, [], ◌∷◌, ◌++◌, length, map, Option, Some, None, refl, sym, ap, subst, ◌∙◌, append-nil}
-use Rattle.std.specs.Prelude.{◌||◌, not, nat_lt, nat_le, is_some, if◌then◌else◌}
+use Rattle.std.proofs.Common.{◌≡◌, ℕ, ◌+◌, ◌-◌, ◌==◌, Bool, true, false, ◌&&◌, List, [], ◌∷◌, ◌++◌, map, Option, Some, None, refl, sym, ap, subst, ◌∙◌, append-nil}
+use Rattle.std.specs.Prelude.{◌||◌, not, if◌then◌else◌}
 use Rattle.std.proofs.lemmas.Bool.{eqb-true}
 use Rattle.usb_model.specs.declared.errand.Errand.{Errand}
 use Rattle.usb_model.specs.declared.errand.Errand.TheVariants as errand
@@ -33,8 +33,8 @@ use Rattle.usb_model.specs.Endpoint.{Doing, first_waiting, outcome_of}
 use Rattle.usb_model.specs.Serve.{serve, serve_first, serve_by, serve_gone, is_no_packet, next_answer}
 use Rattle.usb_model.specs.Command.{command}
 use Rattle.usb_model.specs.Deliver.{deliver, resume, needs_reset, leads_blank, blanked}
-use Rattle.usb_model.specs.Machine.{Machine, Change, Effect, says, does, refused_if, unless, doing_at, end_at, device_of}
-use Rattle.usb_model.specs.Calls.{open_it, close_it, claim_it, release_it, reset_it, clear_it, submit_at, submit_it, Home, home_of, asks, ask_at, ask_it, callback_of, answer_at, answer_it}
+use Rattle.usb_model.specs.Machine.{Machine, Effect, says, refused_if, doing_at, end_at}
+use Rattle.usb_model.specs.Calls.{open_it, close_it, claim_it, release_it, reset_it, clear_it, submit_at, submit_it, Home, asks, ask_at, ask_it, callback_of, answer_at, answer_it}
 use Rattle.usb_model.specs.Turns.{serve_it, command_at, command_it, deliver_at, deliver_it, take_it, unplug_reply, effect, gone_after}
 use Rattle.usb_model.specs.World.{World, Turn, machine_of, owner_of, world_after, is_blocked, turn_of, turn_of_nobody, turn_by, turn}
 use Rattle.usb_model.specs.Journal.{is_unplug}

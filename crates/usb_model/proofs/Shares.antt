@@ -10,9 +10,11 @@ use Rattle.usb_model.specs.declared.answer.Answer.TheVariants.{Data, Ack, Nak, S
 use Rattle.usb_model.specs.declared.request.Body.{Body}
 use Rattle.usb_model.specs.declared.request.Body.TheVariants.{In, Out}
 use Rattle.usb_model.specs.declared.request.Request.{Request}
-use Rattle.usb_model.specs.Packets.{Outcome, outcome, open_with, ended_with, moved_by, packets_by, cut, full_packets, pieces, is_nak, without_naks, acks, sent_with, full_front, read_with, front_of, IsOpenAt}
+use Rattle.usb_model.specs.declared.plain.outcome.Outcome.{Outcome}
+use Rattle.usb_model.specs.Packets.{outcome, open_with, ended_with, moved_by, packets_by, cut, full_packets, pieces, is_nak, without_naks, acks, sent_with, full_front, read_with, front_of, IsOpenAt}
 use Rattle.usb_model.specs.Requests.{adds_zero_packet}
 use Rattle.usb_model.specs.Cut.{has_stall}
+use Rattle.usb_model.proofs.EndedShares.{outcome_is}
 
 -- each packet has exactly this size
 abbrev pub AllFull : ℕ → List (List ℕ) → Type 0
@@ -36,6 +38,7 @@ front_split size (suc most) (Data b ∷ xs) = by_test (length b == size) (front_
     by_test false rest = refl
 front_split size (suc most) (_ ∷ xs) = refl
 
+-- the full packets at the front are full, and no more than are asked for
 front_full : (size most : ℕ) (xs : List Answer) → AllFull size (full_front size most xs) × (length (full_front size most xs) ≤ most)
 front_full size zero xs = (tt, omega arith)
 front_full size (suc most) [] = (tt, omega arith)
@@ -53,6 +56,7 @@ front_behind size most left [] rest f e = ap (λ k. full_front size k rest) (let
 front_behind size zero left (b ∷ ps) rest f e = absurd (omega (arith, e))
 front_behind size (suc most) left (b ∷ ps) rest f e = rw (eq-eqb (length b) size f.0) (ap (λ l. b ∷ l) (front_behind size most left ps rest f.1 (omega (arith, e))))
 
+-- dropped past packets and further
 drop_behind : (ps qs : List (List ℕ)) (rest : List Answer) → drop (length (ps ++ qs)) (map Data ps ++ rest) ≡ drop (length qs) rest
 drop_behind [] qs rest = refl
 drop_behind (b ∷ ps) qs rest = drop_behind ps qs rest
@@ -63,10 +67,12 @@ acks_split [] = refl
 acks_split (Ack ∷ xs) = ap (λ l. Ack ∷ l) (acks_split xs)
 acks_split (_ ∷ xs) = refl
 
+-- acknowledgements are counted past acknowledgements
 acks_behind : (j : ℕ) (rest : List Answer) → acks (replicate j Ack ++ rest) ≡ j + acks rest
 acks_behind zero rest = omega arith
 acks_behind (suc j) rest = omega (arith, acks_behind j rest)
 
+-- dropped past acknowledgements and further
 drop_acks : (j k : ℕ) (rest : List Answer) → drop (j + k) (replicate j Ack ++ rest) ≡ drop k rest
 drop_acks zero k rest = ap (λ i. drop i rest) (let same : zero + k ≡ k = omega arith in same)
 drop_acks (suc j) k rest = ap (λ i. drop i (Ack ∷ (replicate j Ack ++ rest))) (let same : suc j + k ≡ suc (j + k) = omega arith in same) ∙ drop_acks j k rest
@@ -92,9 +98,11 @@ IsWhole request size (Out bytes) xs ps = IsSent (packets_by request size (Out by
 pub some_same : {A : Type 0} (x y : A) → ◌≡◌ {A = Option A} (Some x) (Some y) → x ≡ y
 some_same x y e = cc
 
+-- what has ended is not open
 ended_open : (o : Outcome) (ps : List (List ℕ)) (code : ℕ) → ◌≡◌ {A = Option Outcome} (Some (ended_with ps code)) (Some o) → o.code ≡ None → ⊥
 ended_open o ps code e op = let c : ◌≡◌ {A = Option ℕ} (Some code) None = ap (λ x. x.code) (some_same (ended_with ps code) o e) ∙ op in cc
 
+-- an open IN transfer has full packets alone
 read_open : (n size : ℕ) (front : List (List ℕ)) (rest : List Answer) (o : Outcome) → read_with n size front rest ≡ Some o → o.code ≡ None → (rest ≡ []) × (front ≡ o.packets)
 read_open n size front [] o e op = (refl, ap (λ x. x.packets) (some_same (open_with front) o e))
 read_open n size front (Stall ∷ []) o e op = absurd (ended_open o front 6 e op)
@@ -108,6 +116,7 @@ read_open n size front (Data b ∷ []) o e op = absurd (by_tests (nat_lt (min si
     by_tests false false false e = cc
 read_open n size front _ o e op = absurd cc
 
+-- an open OUT transfer has acknowledgements alone, and packets left to send
 sent_open : (all : List (List ℕ)) (j : ℕ) (rest : List Answer) (o : Outcome) → sent_with all j rest ≡ Some o → o.code ≡ None → (rest ≡ []) × (j < length all) × (take j all ≡ o.packets)
 sent_open all j [] o e op = by_tests (nat_lt j (length all)) refl (j == length all) e
   where
@@ -128,6 +137,7 @@ sent_open all j (Broken ∷ []) o e op = absurd (by_test (nat_lt j (length all))
     by_test false e = cc
 sent_open all j _ o e op = absurd cc
 
+-- an open outcome is that of a whole share
 pub whole_if_open : (request : Request) (size : ℕ) (body : Body) (xs : List Answer) (o : Outcome) → moved_by request size body xs ≡ Some o → o.code ≡ None → IsWhole request size body xs o.packets
 whole_if_open request size (In n) xs o e op =
     let front : List (List ℕ) = front_of n size xs in
@@ -153,16 +163,19 @@ read_behind n size left ps rest request f e =
     let front : front_of n size (map Data ps ++ rest) ≡ ps ++ full_front size left rest = front_behind size ((n - 1) / size) left ps rest f e in
     ap (λ l. read_with n size l (drop (length l) (map Data ps ++ rest))) front ∙ ap (read_with n size (ps ++ full_front size left rest)) (drop_behind ps (full_front size left rest) rest)
 
+-- an OUT transfer past its acknowledgements
 pub sent_behind : (request : Request) (size j : ℕ) (bytes : List ℕ) (rest : List Answer)
     → moved_by request size (Out bytes) (replicate j Ack ++ rest) ≡ sent_with (packets_by request size (Out bytes)) (j + acks rest) (drop (acks rest) rest)
 sent_behind request size j bytes rest =
     ap (λ k. sent_with (packets_by request size (Out bytes)) k (drop k (replicate j Ack ++ rest))) (acks_behind j rest)
     ∙ ap (sent_with (packets_by request size (Out bytes)) (j + acks rest)) (drop_acks j (acks rest) rest)
 
+-- no answers have no full packets
 pub no_front : (size left : ℕ) → full_front size left [] ≡ []
 no_front size zero = refl
 no_front size (suc left) = refl
 
+-- the outcome of a whole share is open, with its packets
 pub open_if_whole : (request : Request) (size : ℕ) (body : Body) (xs : List Answer) (ps : List (List ℕ)) → IsWhole request size body xs ps → moved_by request size body xs ≡ Some (open_with ps)
 open_if_whole request size (In n) xs ps w =
     let left : ℕ = (n - 1) / size - length ps in
@@ -176,12 +189,7 @@ open_if_whole request size (Out bytes) xs ps w =
     ∙ (sent_behind request size (length ps) bytes []
     ∙ (ap (λ k. sent_with all k []) same ∙ (rw (lt-ltb (length ps) (length all) w.room) (ap (λ l. Some (open_with l)) (sym w.packets)))))
 
--- naks change no outcome
-pub outcome_is : (request : Request) (size : ℕ) (share : List Answer) → outcome request size share false ≡ moved_by request size request.body (without_naks share)
-unfolding outcome
-outcome_is request size [] = refl
-outcome_is request size (x ∷ xs) = refl
-
+-- naks are no stall
 stall-without_naks : (xs : List Answer) → has_stall (without_naks xs) ≡ has_stall xs
 stall-without_naks [] = refl
 stall-without_naks (Stall ∷ xs) = refl
@@ -195,6 +203,7 @@ pub open_at : (r : Option Outcome) → IsOpenAt r → (o : Outcome) × (r ≡ So
 open_at None op = absurd op
 open_at (Some o) op = (o, refl, op)
 
+-- an outcome that is there without a code is open
 pub open_if : (r : Option Outcome) (o : Outcome) → r ≡ Some o → o.code ≡ None → IsOpenAt r
 open_if r o e op = subst IsOpenAt (sym e) op
 
@@ -207,14 +216,17 @@ no_stall_in_packets : (ps : List (List ℕ)) → has_stall (map Data ps) ≡ fal
 no_stall_in_packets [] = refl
 no_stall_in_packets (b ∷ ps) = no_stall_in_packets ps
 
+-- acknowledgements are no stall
 no_stall_in_acks : (j : ℕ) → has_stall (replicate j Ack) ≡ false
 no_stall_in_acks zero = refl
 no_stall_in_acks (suc j) = no_stall_in_acks j
 
+-- a whole share has no stall
 whole_no_stall : (request : Request) (size : ℕ) (body : Body) (xs : List Answer) (ps : List (List ℕ)) → IsWhole request size body xs ps → has_stall xs ≡ false
 whole_no_stall request size (In n) xs ps w = ap has_stall w.answers ∙ no_stall_in_packets ps
 whole_no_stall request size (Out bytes) xs ps w = ap has_stall w.answers ∙ no_stall_in_acks (length ps)
 
+-- an open share has no stall
 pub open_no_stall : (request : Request) (size : ℕ) (share : List Answer) → IsOpenAt (outcome request size share false) → has_stall share ≡ false
 open_no_stall request size share op =
     let r = open_at (outcome request size share false) op in
@@ -230,10 +242,12 @@ packets_before (x ∷ xs) ys (b ∷ ps) e =
     let r = packets_before xs ys ps tails in
     (b ∷ r.0, r.1, ap₂ (λ a l. a ∷ l) heads r.2, ap (λ l. b ∷ l) r.3)
 
+-- the front of full packets is full
 full_before : (size : ℕ) (qs rs : List (List ℕ)) → AllFull size (qs ++ rs) → AllFull size qs
 full_before size [] rs f = tt
 full_before size (b ∷ qs) rs f = (f.0, full_before size qs rs f.1)
 
+-- the front of acknowledgements is acknowledgements
 acks_before : (xs ys : List Answer) (j : ℕ) → xs ++ ys ≡ replicate j Ack → (xs ≡ replicate (length xs) Ack) × (length xs ≤ j)
 acks_before [] ys j e = (refl, omega arith)
 acks_before (x ∷ xs) ys zero e = absurd cc
@@ -243,6 +257,7 @@ acks_before (x ∷ xs) ys (suc j) e =
     let r = acks_before xs ys j tails in
     (ap₂ (λ a l. a ∷ l) heads r.0, omega (arith, r.1))
 
+-- the front of a whole share is whole
 whole_before : (request : Request) (size : ℕ) (body : Body) (xs ys : List Answer) (ps : List (List ℕ)) → IsWhole request size body (xs ++ ys) ps → (qs : List (List ℕ)) × IsWhole request size body xs qs
 whole_before request size (In n) xs ys ps w =
     let r = packets_before xs ys ps w.answers in
@@ -254,9 +269,11 @@ whole_before request size (Out bytes) xs ys ps w =
     let many : length (take (length xs) all) ≡ length xs = length-take-le (length xs) all (omega (arith, r.1, w.room)) in
     (take (length xs) all, record { answers = r.0 ∙ ap (λ k. replicate k Ack) (sym many); packets = ap (λ k. take k all) (sym many); room = omega (arith, many, r.1, w.room) })
 
+-- naks are left out of each part
 pub naks-append : (xs ys : List Answer) → without_naks (xs ++ ys) ≡ without_naks xs ++ without_naks ys
 naks-append xs ys = filter-append (λ x. not (is_nak x)) xs ys
 
+-- the front of an open share is open
 pub open_before : (request : Request) (size : ℕ) (xs ys : List Answer) → IsOpenAt (outcome request size (xs ++ ys) false) → IsOpenAt (outcome request size xs false)
 open_before request size xs ys op =
     let r = open_at (outcome request size (xs ++ ys) false) op in
@@ -269,10 +286,12 @@ some_packet : (size k : ℕ) (bytes : List ℕ) → 0 < length (cut size k bytes
 some_packet size zero bytes = omega arith
 some_packet size (suc k) bytes = omega arith
 
+-- nothing is whole
 whole_nothing : (request : Request) (size : ℕ) (body : Body) → IsWhole request size body [] []
 unfolding pieces
 whole_nothing request size (In n) = record { answers = refl; full = tt; room = omega arith }
 whole_nothing request size (Out bytes) = record { answers = refl; packets = refl; room = some_packet size (full_packets (adds_zero_packet request) (length bytes) size) bytes }
 
+-- a transfer that was served nothing is open
 pub outcome_nothing : (request : Request) (size : ℕ) → outcome request size [] false ≡ Some (open_with [])
 outcome_nothing request size = outcome_is request size [] ∙ open_if_whole request size request.body [] [] (whole_nothing request size request.body)
