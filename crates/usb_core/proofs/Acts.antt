@@ -10,8 +10,12 @@ use Rattle.usb_model.specs.declared.step.Step.TheVariants.{Answer, Claim, Close,
 use Rattle.usb_model.specs.declared.step.Step.{Step}
 use Rattle.usb_model.specs.declared.verdict.Verdict.TheVariants.{Stop}
 use Rattle.usb_model.specs.Calls.{called_back}
-use Rattle.usb_model.specs.Endpoint.{Doing, fresh}
-use Rattle.usb_model.specs.Machine.{Change, Drops, Effect, Frees, Gains, Keeps, Machine, Renews, device_of, does, doing_at, end_at, says}
+use Rattle.usb_model.specs.declared.plain.doing.Doing.{Doing}
+use Rattle.usb_model.specs.Endpoint.{fresh}
+use Rattle.usb_model.specs.declared.plain.effect.Effect.{Effect}
+use Rattle.usb_model.specs.declared.plain.effect.Change.{Change}
+use Rattle.usb_model.specs.declared.plain.effect.Change.TheVariants.{Drops, Frees, Gains, Keeps, Renews}
+use Rattle.usb_model.specs.Machine.{Machine, device_of, does, doing_at, end_at, says}
 use Rattle.usb_model.specs.Setup.{Setup, is_within}
 use Rattle.usb_model.specs.Shared.{past_first}
 use Rattle.usb_model.specs.Turns.{ends_after, machine_after, take_it, takes_news, takes_order}

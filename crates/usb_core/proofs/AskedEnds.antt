@@ -10,7 +10,8 @@ use Rattle.usb_model.specs.declared.step.Step.{Step}
 use Rattle.usb_model.specs.Bound.{AskedEnds, IsAccepted, IsBounded, asked_world, commands_by, commands_in, delivers_by, delivers_in, first_counts, has_live, is_ask, is_in_progress, is_news_at, is_order_at, results_of, something_waits_at, world_at}
 use Rattle.usb_model.specs.Cut.{times}
 use Rattle.usb_model.specs.Journal.{entries, is_unplug, own}
-use Rattle.usb_model.specs.Machine.{Effect, Machine, doing_at, end_at}
+use Rattle.usb_model.specs.declared.plain.effect.Effect.{Effect}
+use Rattle.usb_model.specs.Machine.{Machine, doing_at, end_at}
 use Rattle.usb_model.specs.Places.{InOnePlace, numbers_called}
 use Rattle.usb_model.specs.Setup.{Setup}
 use Rattle.usb_model.specs.Shared.{first_name, pieces_of}

@@ -16,7 +16,8 @@ use Rattle.usb_model.specs.Calls.{asks}
 use Rattle.usb_model.specs.Command.{command, pause_of}
 use Rattle.usb_model.specs.Cut.{told}
 use Rattle.usb_model.specs.Deliver.{is_withdrawn}
-use Rattle.usb_model.specs.Endpoint.{Doing, first_waiting, new_item, outcome_of}
+use Rattle.usb_model.specs.declared.plain.doing.Doing.{Doing}
+use Rattle.usb_model.specs.Endpoint.{first_waiting, new_item, outcome_of}
 use Rattle.usb_model.proofs.Errands.{Coheres, IsCoherent, IsPhase, ServedFirst, ended, events-push, events-with_ask, first-push, first-with_ask, has_asked, move_ran, move_waits, reset_ran, reset_waits, runs, served_events, stop_failed, stop_ran, stop_ran_paused, stop_waits, stop_waits_halted}
 
 -- what a piece of work leaves, where these orders and this news are left beside what it adds

@@ -1,7 +1,7 @@
 -- The cut law, at each endpoint, over every list of steps.
 use Rattle.std.proofs.Common.{Bool, List, None, Option, Some, [], ap, arith, false, inl, inr, refl, subst, subst₂, sym, true, ℕ, ◌&&◌, ◌<◌, ◌==◌, ◌∙◌, ◌∷◌, ◌≡◌, ◌≤◌}
 use Rattle.std.specs.Prelude.{if◌then◌else◌, option_and_then}
-use Rattle.std.proofs.lemmas.Bool.{and_parts, eqb-true}
+use Rattle.std.proofs.lemmas.Bool.{and_parts, cond-false, cond-true, eqb-true}
 use Rattle.std.specs.List.{list_all}
 use Rattle.std.specs.Option.{option_map_or}
 use Rattle.usb_model.specs.declared.plain.endpoint.Endpoint.{Endpoint}
@@ -11,12 +11,16 @@ use Rattle.usb_model.specs.declared.step.Step.{Step}
 use Rattle.usb_model.specs.Account.{Account, account, account_by, account_from, account_of, added, new_account}
 use Rattle.usb_model.specs.Calls.{without}
 use Rattle.usb_model.specs.Cut.{CutsAt, is_of_direction}
-use Rattle.usb_model.specs.Endpoint.{Doing, fresh}
+use Rattle.usb_model.specs.declared.plain.doing.Doing.{Doing}
+use Rattle.usb_model.specs.Endpoint.{fresh}
 use Rattle.usb_model.specs.Journal.{own}
-use Rattle.usb_model.specs.Machine.{Change, Drops, Effect, Frees, Gains, Keeps, Machine, Renews, Sets, device_of, doing_at, end_at, unused}
+use Rattle.usb_model.specs.declared.plain.effect.Effect.{Effect}
+use Rattle.usb_model.specs.declared.plain.effect.Change.{Change}
+use Rattle.usb_model.specs.declared.plain.effect.Change.TheVariants.{Drops, Frees, Gains, Keeps, Renews, Sets}
+use Rattle.usb_model.specs.Machine.{Machine, device_of, doing_at, end_at, unused}
 use Rattle.usb_model.specs.Setup.{Setup, interface_of, is_in, is_within, script_of, size_of}
 use Rattle.usb_model.specs.World.{Claims, World, all_ends_after, claims_after, holder, is_blocked, is_its, machine_of, new_world, owner_of, turn, turn_by, turn_of, turn_of_nobody, world_after, world_from}
-use Rattle.usb_core.proofs.CutSteps.{SetsNone, rest_sets, work_holds, work_next}
+use Rattle.usb_core.proofs.CutSteps.{rest_sets, work_holds, work_next}
 use Rattle.usb_core.proofs.Deeds.{IsDone, IsWell, IsWork, only_rests, works}
 use Rattle.usb_core.proofs.Done.{is_done}
 use Rattle.usb_core.proofs.Idle.{at_device_of}
@@ -26,6 +30,7 @@ use Rattle.usb_core.proofs.LedgerLeaves.{holds_later}
 use Rattle.usb_core.proofs.Well.{well_kept, well_new}
 use Rattle.usb_model.proofs.Changes.{places_equal}
 use Rattle.usb_model.proofs.Isolation.{IsEither, effect_to, new_machine_of, turn_blocked, turn_free, turn_to}
+use Rattle.usb_model.proofs.Moves.{SetsNone}
 use Rattle.usb_model.proofs.Pieces.{either_way, same_name}
 use Rattle.usb_model.proofs.Shares.{some_same}
 
@@ -114,11 +119,6 @@ handle_is setup h w = refl
 its_end : (setup : Setup) (h : ℕ) (w : World) (d e : ℕ) (x : Endpoint) → is_its h (holder setup w.claims d e) ≡ true → (machine_of setup h w).ends d e ≡ Some x → x ≡ w.ends d e
 unfolding machine_of
 its_end setup h w d e x its is = some_same x (w.ends d e) (sym is ∙ rw its refl)
-
--- a machine sees a device gone as the world does
-gone_is : (setup : Setup) (h : ℕ) (w : World) (d : ℕ) → (machine_of setup h w).gone d ≡ w.gone d
-unfolding machine_of
-gone_is setup h w d = refl
 
 -- the endpoint at which the work is done
 set_holds : (setup : Setup) (h : ℕ) (w : World) (ep : ℕ) (e0 : Endpoint) (step : Step) (handle : Handle) (work : Doing) (a : Account) → 0 < size_of setup (device_of (machine_of setup h w)) ep → IsWell setup (machine_of setup h w)
@@ -211,24 +211,16 @@ well_turn setup w step well h = by_turn (turn_to setup h w step)
     by_turn (inl own) = subst (IsWell setup) (sym own.3) (well_kept setup h (machine_of setup h w) step (well h))
     by_turn (inr nothing) = subst (IsWell setup) (sym nothing.1) (well h)
 
--- the account after a turn
-if_so : {A : Type 0} (b : Bool) (x y : A) → b ≡ true → (if b then x else y) ≡ x
-if_so b x y e = rw e refl
-
--- an if whose test is false
-if_not : {A : Type 0} (b : Bool) (x y : A) → b ≡ false → (if b then x else y) ≡ y
-if_not b x y e = rw e refl
-
 -- a step that is blocked leaves the account
 account_blocked : (setup : Setup) (d e g : ℕ) (w : World) (step : Step) (a : Account) → is_blocked setup g w (effect_to setup g w step).change ≡ true → account_of setup d e w step (Some g) a ≡ a
 unfolding account_of
-account_blocked setup d e g w step a q = if_so (is_blocked setup g w (effect_to setup g w step).change) _ _ q
+account_blocked setup d e g w step a q = cond-true (is_blocked setup g w (effect_to setup g w step).change) _ _ q
 
 -- a step that is not blocked adds its part to the account
 account_free : (setup : Setup) (d e g : ℕ) (w : World) (step : Step) (a : Account) → is_blocked setup g w (effect_to setup g w step).change ≡ false
     → account_of setup d e w step (Some g) a ≡ account_by setup d e g w step (effect_to setup g w step) (effect_to setup g w step).change a
 unfolding account_of
-account_free setup d e g w step a q = if_not (is_blocked setup g w (effect_to setup g w step).change) _ _ q
+account_free setup d e g w step a q = cond-false (is_blocked setup g w (effect_to setup g w step).change) _ _ q
 
 -- a turn of a name keeps what each endpoint holds
 holds_owned : (setup : Setup) (d e : ℕ) (w : World) (step : Step) (a : Account) (g : ℕ) → 0 < size_of setup d e → list_all (is_of_direction (is_in e)) (script_of setup d e) ≡ true → IsWell setup (machine_of setup g w) → HoldsIn setup w d e a

@@ -17,8 +17,9 @@ use Rattle.usb_model.specs.declared.step.Step.{Step}
 use Rattle.usb_model.specs.declared.verdict.Verdict.TheVariants.{Again, AgainWith}
 use Rattle.usb_model.specs.Account.{Accepted, Account, Asked, Transfer, accepted_again, accepted_by, asked_by}
 use Rattle.usb_model.specs.Calls.{asks, is_bad_body, submitted}
-use Rattle.usb_model.specs.Endpoint.{Doing}
-use Rattle.usb_model.specs.Machine.{Change, Effect, Machine, Sets, device_of, end_at, is_gone}
+use Rattle.usb_model.specs.declared.plain.doing.Doing.{Doing}
+use Rattle.usb_model.specs.declared.plain.effect.Effect.{Effect}
+use Rattle.usb_model.specs.Machine.{Machine, device_of, end_at, is_gone}
 use Rattle.usb_model.specs.Setup.{Setup, is_in, size_of}
 use Rattle.usb_model.specs.Turns.{take_it}
 use Rattle.usb_core.proofs.Deeds.{IsAsk, IsRest, IsSubmission, IsWell, IsWork, again, again_with, anew, asks_it, cancels, claims, claims_again, clears, closes, commands, delivers, expires, opens, releases, resets, serves, stays, stops, submits, takes}
@@ -32,6 +33,7 @@ use Rattle.usb_core.proofs.Posts.{errands_of}
 use Rattle.usb_core.proofs.Well.{first_news}
 use Rattle.usb_model.proofs.Errands.{IsCoherent}
 use Rattle.usb_model.proofs.Next.{IsBody}
+use Rattle.usb_model.proofs.Moves.{SetsNone}
 
 -- what is submitted goes in the endpoint's direction
 good_body : (ep : ℕ) (body : Body) → is_bad_body ep body ≡ false → IsBody (is_in ep) body
@@ -102,11 +104,6 @@ work_holds setup m ep script a e step handle d some well here (submits {handle =
     (accepts m.handle m.handle.next step left request round is) (no_ask_by m.handle m.handle.next step left request round is)
     (holds_submit (size_of setup (device_of m) ep) (is_in ep) m.handle.next script a (is_gone m) e request round (subst (λ k. IsBody (is_in k) request.body) at (good_body request.ep request.body fine)) h)
 work_holds setup m ep script a e step handle d some well here (clears g empty) h = holds_clear (size_of setup (device_of m) ep) (is_in ep) m.handle.next script a (is_gone m) e empty h
-
--- a change that sets no endpoint
-abbrev pub SetsNone : Change → Type 0
-SetsNone (Sets dev ep x) = ⊥
-SetsNone _ = Unit {0}
 
 -- what is rest sets none, and leaves the next number
 pub rest_sets : (setup : Setup) (h : ℕ) (m : Machine) (step : Step) (done : Effect) → IsRest setup h m step done → SetsNone done.change × (done.handle.next ≡ m.handle.next)

@@ -22,8 +22,11 @@ use Rattle.usb_model.specs.declared.verdict.Verdict.TheVariants.{Again, AgainWit
 use Rattle.usb_model.specs.Calls.{asks, callback_of, called_back, is_bad_body, submitted, without}
 use Rattle.usb_model.specs.Command.{command}
 use Rattle.usb_model.specs.Deliver.{deliver}
-use Rattle.usb_model.specs.Endpoint.{Doing, in_progress}
-use Rattle.usb_model.specs.Machine.{Drops, Effect, Frees, Gains, Keeps, Machine, Renews, device_of, does, doing_at, end_at, is_gone, says}
+use Rattle.usb_model.specs.declared.plain.doing.Doing.{Doing}
+use Rattle.usb_model.specs.Endpoint.{in_progress}
+use Rattle.usb_model.specs.declared.plain.effect.Effect.{Effect}
+use Rattle.usb_model.specs.declared.plain.effect.Change.TheVariants.{Drops, Frees, Gains, Keeps, Renews}
+use Rattle.usb_model.specs.Machine.{Machine, device_of, does, doing_at, end_at, is_gone, says}
 use Rattle.usb_model.specs.Serve.{serve}
 use Rattle.usb_model.specs.Setup.{Setup, interface_of, is_within, size_of}
 use Rattle.usb_model.specs.Shared.{past_first}

@@ -11,7 +11,8 @@ use Rattle.usb_model.specs.declared.plain.news.Event.TheVariants.{Finished}
 use Rattle.usb_model.specs.declared.reply.Reply.{Reply}
 use Rattle.usb_model.specs.Command.{command}
 use Rattle.usb_model.specs.Deliver.{blanked, deliver, finished_result, leads_blank, line_after, needs_reset, resume, withdrawn}
-use Rattle.usb_model.specs.Endpoint.{Doing, in_progress}
+use Rattle.usb_model.specs.declared.plain.doing.Doing.{Doing}
+use Rattle.usb_model.specs.Endpoint.{in_progress}
 
 -- what both branches of an if have, it has
 if_same : {A B : Type 0} (f : A → B) (b : Bool) (x y : A) (v : B) → f x ≡ v → f y ≡ v → f (if b then x else y) ≡ v

@@ -7,7 +7,6 @@ use Rattle.usb_model.specs.declared.plain.endpoint.Endpoint.{Endpoint}
 use Rattle.usb_model.specs.declared.plain.handle.Handle.{Handle}
 use Rattle.usb_model.specs.declared.plain.item.Ask.TheVariants as ask
 use Rattle.usb_model.specs.declared.plain.item.Ask.{Ask}
-use Rattle.usb_model.specs.declared.plain.item.Item.{Item}
 use Rattle.usb_model.specs.declared.plain.news.News.{News}
 use Rattle.usb_model.specs.declared.plain.order.Order.{Order}
 use Rattle.usb_model.specs.declared.plain.result.InCallback.{InCallback}
@@ -21,13 +20,15 @@ use Rattle.usb_model.specs.declared.step.Step.TheVariants.{Answer, Cancel, Claim
 use Rattle.usb_model.specs.declared.step.Step.{Step}
 use Rattle.usb_model.specs.declared.verdict.Verdict.TheVariants.{Again, AgainWith, Stop}
 use Rattle.usb_model.specs.declared.verdict.Verdict.{Verdict}
-use Rattle.usb_model.specs.Calls.{Home, answer_at, answer_it, ask_at, ask_it, callback_of, claim_it, clear_it, close_it, home_by, home_in, home_of, is_bad_body, open_it, release_it, reset_it, submit_at, submit_it}
-use Rattle.usb_model.specs.Endpoint.{in_progress}
-use Rattle.usb_model.specs.Machine.{Effect, Gains, Keeps, Machine, are_quiet, device_of, does, doing_at, end_at, is_open, places, refused_if, says}
+use Rattle.usb_model.specs.Calls.{Home, answer_at, answer_it, ask_at, ask_it, callback_of, claim_it, clear_it, close_it, is_bad_body, open_it, release_it, reset_it, submit_at, submit_it}
+use Rattle.usb_model.specs.declared.plain.effect.Effect.{Effect}
+use Rattle.usb_model.specs.declared.plain.effect.Change.TheVariants.{Gains, Keeps}
+use Rattle.usb_model.specs.Machine.{Machine, are_quiet, device_of, does, doing_at, end_at, is_open, places, refused_if, says}
 use Rattle.usb_model.specs.Serve.{serve}
 use Rattle.usb_model.specs.Setup.{Setup, info_of, is_device, is_within, size_of}
 use Rattle.usb_model.specs.Turns.{command_at, command_it, deliver_at, deliver_it, effect, serve_it, take_it, takes_news, takes_order, takes_result, unplug_reply}
 use Rattle.usb_core.proofs.Posts.{commands_now, delivers_now, errands_of, events_of}
+use Rattle.usb_model.proofs.Moves.{IsHome, home_is}
 use Rattle.usb_model.proofs.Pieces.{same_name}
 use Rattle.usb_core.proofs.Deeds.{IsAsk, IsDone, IsSubmission, IsWell, TakesNone, again, again_with, anew, asks_it, cancels, claims, claims_again, clears, closes, commands, delivers, expires, idles, only_rests, opens, refuses, releases, resets, serves, stays, stops, submits, takes, unplugs, works}
 use Rattle.usb_core.proofs.Idle.{idle_if_none, no_items, quiet_idle}
@@ -56,10 +57,10 @@ takes_none m step o n r = record {
     by_news Deliver n ep = absurd cc
     by_news _ n ep = refl
 
--- each step does one of these
-not_open : (o : Option ℕ) → is_some o ≡ false → o ≡ None
-not_open None e = refl
-not_open (Some d) e = absurd cc
+-- an option that is not there is None
+nothing_there : {A : Type 0} (o : Option A) → is_some o ≡ false → o ≡ None
+nothing_there None e = refl
+nothing_there (Some d) e = absurd cc
 
 -- an option that is there is its value
 open_at : (o : Option ℕ) → not (is_some o) ≡ false → o ≡ Some (unwrap_or o 0)
@@ -71,7 +72,7 @@ open_done : (setup : Setup) (h : ℕ) (m : Machine) (g dev : ℕ) → IsDone set
 unfolding open_it
 open_done setup h m g dev =
     let t = takes_none m (Open g dev) refl refl refl in
-    done_if setup h m _ _ _ _ t (λ p. done_if setup h m _ _ _ _ t (λ q. done_if setup h m _ _ _ _ t (λ closed. only_rests (opens g dev (not_open m.handle.device closed)))))
+    done_if setup h m _ _ _ _ t (λ p. done_if setup h m _ _ _ _ t (λ q. done_if setup h m _ _ _ _ t (λ closed. only_rests (opens g dev (nothing_there m.handle.device closed)))))
 
 -- Close frees all interfaces, and finds every endpoint idle
 close_done : (setup : Setup) (h : ℕ) (m : Machine) (g : ℕ) → IsWell setup m → IsDone setup h m (Close g) (close_it setup m)
@@ -141,36 +142,12 @@ answer_done setup h m g k Stop (Some x) is = only_rests (stops g k x is)
 answer_done setup h m g k Again (Some x) is = submit_done setup h m (Answer g k Again) _ _ _ _ (takes_none m (Answer g k Again) refl refl refl) (again g k x is) refl
 answer_done setup h m g k (AgainWith bytes) (Some x) is = submit_done setup h m (Answer g k (AgainWith bytes)) _ _ _ _ (takes_none m (Answer g k (AgainWith bytes)) refl refl refl) (again_with g k bytes x is) refl
 
--- where a transfer is in progress, it is there
-abbrev IsHome : Machine → ℕ → Option Home → Type 0
-IsHome m n None = Unit {0}
-IsHome m n (Some home) = (end_at m home.ep ≡ Some home.endpoint) × (in_progress n home.endpoint.line ≡ Some home.item)
-
--- the endpoint at which a transfer is in progress
-home_is : (m : Machine) (n : ℕ) (xs : List EndpointInfo) → IsHome m n (home_of m n xs)
-unfolding home_of
-home_is m n [] = tt
-home_is m n (x ∷ xs) = by_end (end_at m x.address) refl (home_is m n xs)
-  where
-    by_item : (e : Endpoint) (i : Option Item) → end_at m x.address ≡ Some e → in_progress n e.line ≡ i → IsHome m n (home_of m n xs) → IsHome m n (home_by x.address e (home_of m n xs) i)
-    by_item e None here is rest = rest
-    by_item e (Some i) here is rest = (here, is)
-
-    by_end : (o : Option Endpoint) → end_at m x.address ≡ o → IsHome m n (home_of m n xs) → IsHome m n (home_in n x.address o (home_of m n xs))
-    by_end None here rest = rest
-    by_end (Some e) here rest = by_item e (in_progress n e.line) here refl rest
-
--- no ask, by its test
-not_asked : (o : Option Ask) → is_some o ≡ false → o ≡ None
-not_asked None e = refl
-not_asked (Some a) e = absurd cc
-
 -- an ask is work at the endpoint of its transfer
 ask_done : (setup : Setup) (h : ℕ) (m : Machine) (step : Step) (n : ℕ) (ask : Ask) (timed : Bool) (o : Option Home) → TakesNone m step → IsAsk step n ask → IsHome m n o → IsDone setup h m step (ask_at m n ask timed o)
 unfolding ask_at
 ask_done setup h m step n ask timed None t is home = only_rests (stays (refuses _) t)
 ask_done setup h m step n ask timed (Some home) t is at =
-    done_if setup h m _ _ _ _ t (λ fine. works home.ep home.endpoint at.0 (asks_it n home.item is at.1 (not_asked home.item.ask (or_parts (is_some home.item.ask) _ fine).0)))
+    done_if setup h m _ _ _ _ t (λ fine. works home.ep home.endpoint at.0 (asks_it n home.item is at.1 (nothing_there home.item.ask (or_parts (is_some home.item.ask) _ fine).0)))
 
 -- Serve is work at its endpoint
 serve_done : (setup : Setup) (h : ℕ) (m : Machine) (dev ep : ℕ) (o : Option Endpoint) → IsWell setup m → m.ends dev ep ≡ o → IsDone setup h m (Serve dev ep) (serve_it setup m dev ep o)

@@ -1,7 +1,7 @@
 -- An asked transfer ends within a bounded number of commands and deliveries of its endpoint.
 use Rattle.std.proofs.Common.{Bool, List, None, Option, Some, [], ap, append-nil, ap₂, arith, false, inl, inr, length, length-append, map, not, refl, suc, sym, true, ℕ, ◌&&◌, ◌++◌, ◌+◌, ◌-◌, ◌==◌, ◌∙◌, ◌∷◌, ◌≡◌, ◌≤◌, ◌⊎◌}
 use Rattle.std.specs.Prelude.{if◌then◌else◌, is_some}
-use Rattle.std.proofs.lemmas.Bool.{or_parts}
+use Rattle.std.proofs.lemmas.Bool.{false≢true, or_parts}
 use Rattle.usb_model.specs.declared.errand.Errand.TheVariants as errand
 use Rattle.usb_model.specs.declared.errand.Errand.{Errand}
 use Rattle.usb_model.specs.declared.plain.endpoint.Endpoint.{Endpoint}
@@ -13,7 +13,8 @@ use Rattle.usb_model.specs.declared.plain.news.Event.TheVariants.{Finished, Paus
 use Rattle.usb_model.specs.declared.plain.news.Event.{Event}
 use Rattle.usb_model.specs.Command.{command, pause_of}
 use Rattle.usb_model.specs.Deliver.{blanked, is_withdrawn}
-use Rattle.usb_model.specs.Endpoint.{Doing, first_waiting, in_progress, is_blank, is_blank_state, is_it, is_waiting, is_waiting_state, outcome_of, past_blanks, past_number}
+use Rattle.usb_model.specs.declared.plain.doing.Doing.{Doing}
+use Rattle.usb_model.specs.Endpoint.{first_waiting, in_progress, is_blank, is_blank_state, is_it, is_waiting, is_waiting_state, outcome_of, past_blanks, past_number}
 use Rattle.usb_core.proofs.Coherent.{coherent_command, in_phase}
 use Rattle.usb_core.proofs.Doings.{line-command}
 use Rattle.usb_model.proofs.Errands.{IsCoherent, IsPhase, ServedFirst, ended, event_by, first_by, has_asked, move_ran, move_waits, reset_ran, reset_waits, runs, served_events, stop_failed, stop_ran, stop_ran_paused, stop_waits, stop_waits_halted}
@@ -113,27 +114,30 @@ withdrawn_gone n (x ∷ xs) i e w a = by_test (is_it n (blanked x)) e (withdrawn
     by_test true e rest = let same : blanked x ≡ i = cc in never (is_withdrawn x) refl (ap is_waiting same ∙ w) (ap (λ k. is_some k.ask) same ∙ a)
     by_test false e rest = rest e w a
 
--- the first end that is told is of an item before a waiting one: one fewer stands before it
-pub ahead_of-past_number : (n k code : ℕ) (line : List Item) (i : Item) (es : List Event) → ServedFirst line → served_events line ≡ Finished k code ∷ es → in_progress n line ≡ Some i → is_waiting i ≡ true
+-- the first end that is told is of an item before one that waits, or that has another number: one fewer stands before that
+pub ahead_of-past_number : (n k code : ℕ) (line : List Item) (i : Item) (es : List Event) → ServedFirst line → served_events line ≡ Finished k code ∷ es → in_progress n line ≡ Some i → ((k == n) ≡ true → is_waiting i ≡ true)
     → (in_progress n (past_number k line) ≡ Some i) × (ahead_of n (past_number k line) + 1 ≡ ahead_of n line)
 unfolding in_progress ahead_of past_number served_events
 ahead_of-past_number n k code [] i es f t e w = absurd cc
 ahead_of-past_number n k code (x ∷ xs) i es f t e w = by_state x.state refl f t e (ahead_of-past_number n k code xs i es)
   where
     by_state : (s : ItemState) → x.state ≡ s → first_by s xs (ServedFirst xs) → event_by x.n s (served_events xs) ≡ Finished k code ∷ es → (if (x.n == n) && not (is_blank_state s) then Some x else in_progress n xs) ≡ Some i
-        → (ServedFirst xs → served_events xs ≡ Finished k code ∷ es → in_progress n xs ≡ Some i → is_waiting i ≡ true → (in_progress n (past_number k xs) ≡ Some i) × (ahead_of n (past_number k xs) + 1 ≡ ahead_of n xs))
+        → (ServedFirst xs → served_events xs ≡ Finished k code ∷ es → in_progress n xs ≡ Some i → ((k == n) ≡ true → is_waiting i ≡ true) → (in_progress n (past_number k xs) ≡ Some i) × (ahead_of n (past_number k xs) + 1 ≡ ahead_of n xs))
         → (in_progress n (if (x.n == k) && not (is_blank_state s) then xs else past_number k xs) ≡ Some i)
         × (ahead_of n (if (x.n == k) && not (is_blank_state s) then xs else past_number k xs) + 1 ≡ (if (x.n == n) && not (is_blank_state s) then 0 else (if is_blank_state s then ahead_of n xs else suc (ahead_of n xs))))
     by_state Waiting is f t e rest = absurd (cc (f, t))
-    by_state (Served c) is f t e rest = by_test (x.n == n) e
+    by_state (Served c) is f t e rest = by_test (x.n == n) refl e
       where
         first_is : x.n ≡ k
         first_is = cc
 
-        by_test : (b : Bool) → (if b && true then Some x else in_progress n xs) ≡ Some i
+        by_test : (b : Bool) → (x.n == n) ≡ b → (if b && true then Some x else in_progress n xs) ≡ Some i
             → (in_progress n (if (x.n == k) && true then xs else past_number k xs) ≡ Some i) × (ahead_of n (if (x.n == k) && true then xs else past_number k xs) + 1 ≡ (if b && true then 0 else suc (ahead_of n xs)))
-        by_test true q = let same : x ≡ i = cc in let no_wait : is_waiting x ≡ false = ap is_waiting_state is in absurd (cc (ap is_waiting same))
-        by_test false q = rw (first_is, same_name k) (q, omega arith)
+        by_test true r q =
+            let same : x ≡ i = cc in
+            let ended : is_waiting x ≡ false = ap is_waiting_state is in
+            absurd (false≢true (sym ended ∙ (ap is_waiting same ∙ w (ap (λ y. y == n) (sym first_is) ∙ r))))
+        by_test false r q = rw (first_is, same_name k) (q, omega arith)
     by_state Blank is f t e rest = by_tests (x.n == n) (x.n == k) e
       where
         by_tests : (b c : Bool) → (if b && false then Some x else in_progress n xs) ≡ Some i

@@ -1,7 +1,7 @@
 -- A delivery of the endpoint uses one up, or the asked transfer has its result.
-use Rattle.std.proofs.Common.{Bool, List, None, Option, Some, [], ap, append-nil, ap₂, arith, false, inl, inr, length, map, not, refl, subst, suc, sym, true, ℕ, ◌&&◌, ◌++◌, ◌+◌, ◌-◌, ◌==◌, ◌∙◌, ◌∷◌, ◌≡◌, ◌≤◌, ◌⊎◌}
+use Rattle.std.proofs.Common.{Bool, List, None, Option, Some, [], ap, append-nil, ap₂, arith, false, inl, inr, length, map, not, refl, subst, sym, true, ℕ, ◌&&◌, ◌++◌, ◌+◌, ◌-◌, ◌==◌, ◌∙◌, ◌∷◌, ◌≡◌, ◌≤◌, ◌⊎◌}
 use Rattle.std.specs.Prelude.{if◌then◌else◌, is_some}
-use Rattle.std.proofs.lemmas.Bool.{and_parts, and_right, eqb-true}
+use Rattle.std.proofs.lemmas.Bool.{and_parts, and_right, eqb-true, false≢true}
 use Rattle.usb_model.specs.declared.errand.Errand.TheVariants as errand
 use Rattle.usb_model.specs.declared.errand.Errand.{Errand}
 use Rattle.usb_model.specs.declared.plain.endpoint.Endpoint.{Endpoint}
@@ -20,9 +20,8 @@ use Rattle.usb_core.proofs.Coherent.{in_phase}
 use Rattle.usb_core.proofs.CoherentDeliver.{coherent_deliver, first_is_end, heads_event}
 use Rattle.usb_core.proofs.Doings.{line-finished, line-resume}
 use Rattle.usb_core.proofs.Due.{IsDue, IsLeft, LeavesDue, ahead_of, ahead_of-past_blanks, ahead_of-past_number, asked_waits, commands_left, delivers_left, failures, found_it}
-use Rattle.usb_model.proofs.Errands.{IsCoherent, IsPhase, ServedFirst, ended, event_by, first_by, move_ran, move_waits, reset_ran, reset_waits, runs, served_events, stop_failed, stop_ran, stop_ran_paused, stop_waits, stop_waits_halted}
+use Rattle.usb_model.proofs.Errands.{IsCoherent, IsPhase, ended, event_by, move_ran, move_waits, reset_ran, reset_waits, runs, served_events, stop_failed, stop_ran, stop_ran_paused, stop_waits, stop_waits_halted}
 use Rattle.usb_model.proofs.Lines.{finished_times, lives-past_blanks, result_numbers, withdrawn_times}
-use Rattle.usb_model.proofs.Pieces.{same_name}
 use Rattle.usb_model.proofs.Times.{times-cons, times_one}
 
 -- what is in progress is among the numbers
@@ -167,36 +166,6 @@ stop_left : (os : List Errand) (k code : ℕ) (ns : List Event) (item : Item) (b
 stop_left [] k code ns item b c d w cs ds = (omega (arith, ds), inr (w, omega (arith, cs), omega (arith, ds)))
 stop_left (o ∷ os) k code ns item b c d w cs ds = (omega (arith, ds), inr (w, cs, omega (arith, ds)))
 
--- an end of another number: one fewer stands before this one
-ahead_of-past_other : (n k code : ℕ) (line : List Item) (i : Item) (es : List Event) → ServedFirst line → served_events line ≡ Finished k code ∷ es → in_progress n line ≡ Some i → (k == n) ≡ false
-    → (in_progress n (past_number k line) ≡ Some i) × (ahead_of n (past_number k line) + 1 ≡ ahead_of n line)
-unfolding in_progress ahead_of past_number served_events
-ahead_of-past_other n k code [] i es f t e w = absurd cc
-ahead_of-past_other n k code (x ∷ xs) i es f t e w = by_state x.state refl f t e (ahead_of-past_other n k code xs i es)
-  where
-    by_state : (s : ItemState) → x.state ≡ s → first_by s xs (ServedFirst xs) → event_by x.n s (served_events xs) ≡ Finished k code ∷ es → (if (x.n == n) && not (is_blank_state s) then Some x else in_progress n xs) ≡ Some i
-        → (ServedFirst xs → served_events xs ≡ Finished k code ∷ es → in_progress n xs ≡ Some i → (k == n) ≡ false → (in_progress n (past_number k xs) ≡ Some i) × (ahead_of n (past_number k xs) + 1 ≡ ahead_of n xs))
-        → (in_progress n (if (x.n == k) && not (is_blank_state s) then xs else past_number k xs) ≡ Some i)
-        × (ahead_of n (if (x.n == k) && not (is_blank_state s) then xs else past_number k xs) + 1 ≡ (if (x.n == n) && not (is_blank_state s) then 0 else (if is_blank_state s then ahead_of n xs else suc (ahead_of n xs))))
-    by_state Waiting is f t e rest = absurd (cc (f, t))
-    by_state (Served c) is f t e rest = by_test (x.n == n) refl e
-      where
-        first_is : x.n ≡ k
-        first_is = cc
-
-        by_test : (b : Bool) → (x.n == n) ≡ b → (if b && true then Some x else in_progress n xs) ≡ Some i
-            → (in_progress n (if (x.n == k) && true then xs else past_number k xs) ≡ Some i) × (ahead_of n (if (x.n == k) && true then xs else past_number k xs) + 1 ≡ (if b && true then 0 else suc (ahead_of n xs)))
-        by_test true r q = absurd (cc (ap (λ y. y == n) first_is, r, w))
-        by_test false r q = rw (first_is, same_name k) (q, omega arith)
-    by_state Blank is f t e rest = by_tests (x.n == n) (x.n == k) e
-      where
-        by_tests : (b c : Bool) → (if b && false then Some x else in_progress n xs) ≡ Some i
-            → (in_progress n (if c && false then xs else past_number k xs) ≡ Some i) × (ahead_of n (if c && false then xs else past_number k xs) + 1 ≡ (if b && false then 0 else ahead_of n xs))
-        by_tests true true q = rest f t q w
-        by_tests true false q = rest f t q w
-        by_tests false true q = rest f t q w
-        by_tests false false q = rest f t q w
-
 -- its own end: it is gone
 gone_finished : (size : ℕ) (gone : Bool) (code n : ℕ) (line : List Item) (i j : Item) → times n (live_numbers line) ≤ 1 → in_progress n line ≡ Some i → in_progress n (past_number n line) ≡ Some j → ⊥
 gone_finished size gone code n line i j single here still =
@@ -255,14 +224,14 @@ due_deliver size ep gone n c d e os event ns j due single still = by_events (ser
             absurd (gone_finished size gone code n e.line due.item j single due.here
             (subst (λ m. in_progress n (past_number m e.line) ≡ Some j) (eqb-true k n same) (sym (past_same n k code e.line).0 ∙ left)))
         by_number false differ =
-            let r = ahead_of-past_other n k code e.line due.item es co'.in_order is due.here differ in
+            let r = ahead_of-past_number n k code e.line due.item es co'.in_order is due.here (λ own. absurd (false≢true (sym differ ∙ own))) in
             due_finished size ep gone n c d k code e os ns due.item co' due.asked q.1 r.0 (omega (arith, q.3), inl (q.0, refl, q.2, omega (arith, q.3, r.1)))
     at_end k code co' es is left (inr q) = by_errand (stop_or_none e.state e.errand os (served_events e.line) co'.tail k code es co'.phase is)
       where
         by_errand : (e.errand ≡ None) ⊎ (e.errand ≡ Some errand.Stop) → DueAfter size ep gone n c d e os (Finished k code) ns
         by_errand (inl idle) = absurd (asked_waits n e.line due.item due.here q.0 due.asked (co'.answered idle))
         by_errand (inr stop) =
-            let r = ahead_of-past_number n k code e.line due.item es co'.in_order is due.here q.0 in
+            let r = ahead_of-past_number n k code e.line due.item es co'.in_order is due.here (λ own. q.0) in
             due_finished size ep gone n c d k code e os ns due.item co' due.asked stop r.0
             (stop_left os k code ns due.item (ahead_of n (past_number k e.line)) c d q.0
             (subst (λ o. commands_left o os (Finished k code ∷ ns) ≤ c) stop q.1)

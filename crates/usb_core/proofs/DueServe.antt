@@ -7,8 +7,7 @@ use Rattle.usb_model.specs.declared.plain.endpoint.Endpoint.{Endpoint}
 use Rattle.usb_model.specs.declared.plain.endpoint.EndpointState.TheVariants.{Running}
 use Rattle.usb_model.specs.declared.plain.endpoint.EndpointState.{EndpointState}
 use Rattle.usb_model.specs.declared.plain.item.Item.{Item}
-use Rattle.usb_model.specs.declared.plain.item.ItemState.TheVariants.{Blank, Served, Waiting}
-use Rattle.usb_model.specs.declared.plain.item.ItemState.{ItemState}
+use Rattle.usb_model.specs.declared.plain.item.ItemState.TheVariants.{Served}
 use Rattle.usb_model.specs.declared.plain.news.Event.{Event}
 use Rattle.usb_model.specs.Endpoint.{first_waiting, in_progress, is_blank, is_it, is_waiting, is_waiting_state, with_first}
 use Rattle.usb_model.specs.declared.plain.outcome.Outcome.{Outcome}
@@ -17,6 +16,7 @@ use Rattle.usb_core.proofs.Coherent.{LeavesCoherent}
 use Rattle.usb_core.proofs.CoherentServe.{coherent_serve}
 use Rattle.usb_core.proofs.Due.{IsDue, IsLeft, LeavesDue, ahead_of, asked_waits}
 use Rattle.usb_model.proofs.Errands.{IsCoherent, IsPhase, runs, served_events, stop_waits}
+use Rattle.usb_model.proofs.Lines.{waits_not_blank}
 use Rattle.usb_model.proofs.Works.{first_waits}
 
 -- a number is found at the head of a line
@@ -49,15 +49,6 @@ waiting_past : (y z : Item) (zs : List Item) → is_waiting z ≡ false → (fir
 unfolding first_waiting with_first
 waiting_past y z zs e = rw e (refl, refl)
 
--- a transfer that waits is no blank
-waits_live : (z : Item) → is_waiting z ≡ true → is_blank z ≡ false
-waits_live z e = by_state z.state e
-  where
-    by_state : (s : ItemState) → is_waiting_state s ≡ true → is_blank (record z { state = s }) ≡ false
-    by_state Waiting e = refl
-    by_state (Served code) e = refl
-    by_state Blank e = absurd cc
-
 -- equal options have equal items
 same_item : (x y : Item) → ◌≡◌ {A = Option Item} (Some x) (Some y) → x ≡ y
 same_item x y e = cc
@@ -81,7 +72,7 @@ due-with_first n x y (z ∷ zs) i f same live here = by_tests (is_waiting z) ref
     is_first e = same_item z x (sym (waiting_here y z zs e).0 ∙ f)
 
     as_first : is_waiting z ≡ true → is_it n y ≡ is_it n z
-    as_first e = rw (live, waits_live z e) (ap (λ k. (k == n) && true) (same ∙ ap (λ j. j.n) (sym (is_first e))))
+    as_first e = rw (live, waits_not_blank z e) (ap (λ k. (k == n) && true) (same ∙ ap (λ j. j.n) (sym (is_first e))))
 
     more : (b : Bool) → ahead_of n (with_first y zs) ≡ ahead_of n zs → (if b then ahead_of n (with_first y zs) else suc (ahead_of n (with_first y zs))) ≡ (if b then ahead_of n zs else suc (ahead_of n zs))
     more true e = e
@@ -98,7 +89,7 @@ due-with_first n x y (z ∷ zs) i f same live here = by_tests (is_waiting z) ref
         let wf : with_first y (z ∷ zs) ≡ y ∷ zs = (waiting_here y z zs e).1 in
         let gy : is_it n y ≡ false = as_first e ∙ g in (
           inl (ap (in_progress n) wf ∙ (progress_past n y zs gy ∙ (sym (progress_past n z zs g) ∙ here))),
-          ap (ahead_of n) wf ∙ (before_past n y zs gy ∙ (ap (λ b. if b then ahead_of n zs else suc (ahead_of n zs)) (live ∙ sym (waits_live z e)) ∙ sym (before_past n z zs g))),
+          ap (ahead_of n) wf ∙ (before_past n y zs gy ∙ (ap (λ b. if b then ahead_of n zs else suc (ahead_of n zs)) (live ∙ sym (waits_not_blank z e)) ∙ sym (before_past n z zs g))),
         )
     by_tests false e true g rest =
         let wf : with_first y (z ∷ zs) ≡ z ∷ with_first y zs = (waiting_past y z zs e).1 in (

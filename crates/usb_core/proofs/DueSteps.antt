@@ -14,8 +14,10 @@ use Rattle.usb_model.specs.declared.step.Step.{Step}
 use Rattle.usb_model.specs.Bound.{has_live, is_ask}
 use Rattle.usb_model.specs.Calls.{asks, submitted}
 use Rattle.usb_model.specs.Cut.{times}
-use Rattle.usb_model.specs.Endpoint.{Doing, in_progress, live_numbers}
-use Rattle.usb_model.specs.Machine.{Effect, Machine, device_of, doing_at, end_at, is_gone}
+use Rattle.usb_model.specs.declared.plain.doing.Doing.{Doing}
+use Rattle.usb_model.specs.Endpoint.{in_progress, live_numbers}
+use Rattle.usb_model.specs.declared.plain.effect.Effect.{Effect}
+use Rattle.usb_model.specs.Machine.{Machine, device_of, doing_at, end_at, is_gone}
 use Rattle.usb_model.specs.Places.{numbers_at}
 use Rattle.usb_model.specs.Setup.{Setup, size_of}
 use Rattle.usb_model.specs.Turns.{machine_after}

@@ -18,7 +18,8 @@ use Rattle.usb_model.specs.Calls.{asks}
 use Rattle.usb_model.specs.Command.{command}
 use Rattle.usb_model.specs.Cut.{times}
 use Rattle.usb_model.specs.Deliver.{blanked, deliver, line_after, resume, withdrawn}
-use Rattle.usb_model.specs.Endpoint.{Doing, first_waiting, is_blank_state, live_numbers, past_blanks, past_number, with_first}
+use Rattle.usb_model.specs.declared.plain.doing.Doing.{Doing}
+use Rattle.usb_model.specs.Endpoint.{first_waiting, is_blank_state, live_numbers, past_blanks, past_number, with_first}
 use Rattle.usb_model.specs.declared.plain.outcome.Outcome.{Outcome}
 use Rattle.usb_model.specs.Serve.{serve, serve_by, serve_first, serve_gone}
 use Rattle.usb_model.specs.Status.{halts}

@@ -1,5 +1,6 @@
 -- The first end that is told is that of the line's first transfer that is no blank.
 use Rattle.std.proofs.Common.{List, Some, [], ap, false, refl, sym, ℕ, ◌++◌, ◌==◌, ◌∙◌, ◌∷◌, ◌≡◌}
+use Rattle.std.specs.List.{AllByRecursion}
 use Rattle.std.proofs.lemmas.Bool.{and_right}
 use Rattle.usb_model.specs.declared.errand.Errand.{Errand}
 use Rattle.usb_model.specs.declared.plain.endpoint.Endpoint.{Endpoint}
@@ -11,7 +12,6 @@ use Rattle.usb_model.specs.declared.plain.news.Event.{Event}
 use Rattle.usb_model.specs.Endpoint.{in_progress, live_numbers, past_number}
 use Rattle.usb_core.proofs.CoherentDeliver.{heads_event}
 use Rattle.usb_core.proofs.DueMore.{no_end}
-use Rattle.usb_core.proofs.Lists.{Each}
 use Rattle.usb_model.proofs.Errands.{IsCoherent, ServedFirst, event_by, first_by, served_events}
 use Rattle.usb_model.proofs.Pieces.{same_name}
 
@@ -19,7 +19,7 @@ use Rattle.usb_model.proofs.Pieces.{same_name}
 pub record EndsFirst (line : List Item) (k code : ℕ) : Type 0 where
   pub front : List Item
   pub item : Item
-  pub blanks : Each (λ x. x.state ≡ Blank) front
+  pub blanks : AllByRecursion (λ x. x.state ≡ Blank) front
   pub split : line ≡ front ++ item ∷ past_number k line
   pub number : item.n ≡ k
   pub served : item.state ≡ Served code

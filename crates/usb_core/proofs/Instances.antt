@@ -1,5 +1,6 @@
 -- The laws at worked rows, computed.
 use Rattle.std.proofs.Common.{◌≡◌, ℕ, true, false, inr, [], ◌∷◌, Some, refl, arith}
+use Rattle.std.specs.List.{IsDistinct}
 use Rattle.usb_model.specs.declared.answer.Answer.{Answer}
 use Rattle.usb_model.specs.declared.answer.Answer.TheVariants.{Data, Stall}
 use Rattle.usb_model.specs.declared.request.Body.TheVariants.{In}
@@ -52,12 +53,12 @@ ends_whole = ends_by (Data (1 ∷ 2 ∷ 3 ∷ 4 ∷ 5 ∷ 6 ∷ 7 ∷ 8 ∷ []))
 
 -- the cells of an endpoint that stalls and is cleared
 pub stalled_is_cut : IsCutInto stall_and_clear_halt stalled_cells
-unfolding computed account account_from account_of live_numbers
+unfolding computed account account_from account_of live_numbers IsDistinct
 stalled_is_cut = (
   record {
     cells = stalled_cells;
     all = refl;
-    numbers = (refl, (refl, (refl, tt)));
+    numbers = ((refl, (refl, tt)), ((refl, tt), (tt, tt)));
     shares = refl;
     fits = (ends_stalled, ((refl, refl), (ends_short, tt)));
     ended = refl;
@@ -69,12 +70,12 @@ stalled_is_cut = (
 
 -- the cells of an endpoint whose device is unplugged
 pub unplugged_is_cut : IsCutInto unplug_amid_transfers unplugged_cells
-unfolding computed account account_from account_of live_numbers
+unfolding computed account account_from account_of live_numbers IsDistinct
 unplugged_is_cut = (
   record {
     cells = unplugged_cells;
     all = refl;
-    numbers = (refl, (refl, tt));
+    numbers = ((refl, tt), (tt, tt));
     shares = refl;
     fits = (ends_whole, ((refl, refl), tt));
     ended = refl;

@@ -1,7 +1,7 @@
 -- The account of an endpoint as it stands: what left its line, and the line.
 use Rattle.std.proofs.Common.{Bool, List, None, Option, Some, [], ap, false, map, refl, true, ℕ, ◌++◌, ◌==◌, ◌||◌, ◌∙◌, ◌∷◌, ◌≡◌, ◌≤◌}
 use Rattle.std.proofs.lemmas.Grind.{flat_map-append}
-use Rattle.std.specs.List.{flat_map, list_all}
+use Rattle.std.specs.List.{AllByRecursion, flat_map, list_all}
 use Rattle.usb_model.specs.declared.answer.Answer.{Answer}
 use Rattle.usb_model.specs.declared.plain.endpoint.Endpoint.{Endpoint}
 use Rattle.usb_model.specs.declared.plain.item.Ask.{Ask}
@@ -9,8 +9,8 @@ use Rattle.usb_model.specs.declared.plain.item.Item.{Item}
 use Rattle.usb_model.specs.declared.plain.item.ItemState.TheVariants.{Blank, Served, Waiting}
 use Rattle.usb_model.specs.declared.plain.item.ItemState.{ItemState}
 use Rattle.usb_model.specs.Account.{Account, Asked, new_account}
-use Rattle.usb_model.specs.Cut.{AllFit, AreDistinct, Cell, Cleared, Ended, Fate, Of, Part, Waits, Withdrawn, accepted_as, asks_of, end_of, has_stall, is_of_direction, made_of, packets_taken, parts_of, times, told}
-use Rattle.usb_core.proofs.Lists.{Each}
+use Rattle.usb_model.specs.Cut.{AllFit, Cell, Cleared, Ended, Fate, Of, Part, Waits, Withdrawn, accepted_as, asks_of, end_of, has_stall, is_of_direction, made_of, packets_taken, parts_of, times, told}
+use Rattle.usb_core.proofs.Lists.{StandOnce}
 use Rattle.usb_model.proofs.Next.{IsBody}
 
 -- an item of the line, and what came of it
@@ -90,7 +90,7 @@ IsUntouched r = (r.item.share ≡ []) × (end_of r.item.n r.fate ≡ [])
 
 -- behind an item of this state: nothing was taken, if it waits
 abbrev pub quiet_by : ItemState → List Row → Type 0 → Type 0
-quiet_by Waiting rows rest = Each IsUntouched rows
+quiet_by Waiting rows rest = AllByRecursion IsUntouched rows
 quiet_by (Served code) rows rest = rest
 quiet_by Blank rows rest = rest
 
@@ -117,15 +117,15 @@ pub record Holds (size : ℕ) (inward : Bool) (next : ℕ) (script : List Answer
   pub rows : List Row
   pub is_line : map item_of rows ≡ line
   pub all : map accepted_as (all_cells gone rows) ≡ a.accepted
-  pub distinct : AreDistinct (numbers (all_parts gone rows))
+  pub distinct : StandOnce (numbers (all_parts gone rows))
   pub fresh : (n : ℕ) → next ≤ n → IsFresh n a (all_parts gone rows)
   pub shares : flat_map (λ x. x.share) (all_parts gone rows) ++ left ≡ script
   pub fits : AllFit size false (all_cells gone rows)
   pub halt : halted ≡ stalled false (all_cells gone rows)
   pub ended : flat_map (λ x. end_of x.n x.fate) (all_parts gone rows) ≡ a.ended
   pub packets : flat_map (packets_taken size) (all_parts gone rows) ≡ taken
-  pub gone_told : Each (GoneTold size a) (flat_map parts_of gone)
-  pub each_row : Each (IsRow size inward a) rows
+  pub gone_told : AllByRecursion (GoneTold size a) (flat_map parts_of gone)
+  pub each_row : AllByRecursion (IsRow size inward a) rows
   pub quiet : IsQuiet rows
   pub kinds : list_all (is_of_direction inward) left ≡ true
 

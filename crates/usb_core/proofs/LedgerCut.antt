@@ -2,16 +2,16 @@
 use Rattle.std.proofs.Common.{Bool, List, [], ap, arith, false, inl, inr, map, refl, subst, sym, true, ℕ, ◌++◌, ◌∙◌, ◌∷◌, ◌≡◌, ◌≤◌}
 use Rattle.std.specs.Prelude.{if◌then◌else◌}
 use Rattle.std.proofs.lemmas.List.{map-append}
-use Rattle.std.specs.List.{flat_map}
+use Rattle.std.specs.List.{AllByRecursion, flat_map}
 use Rattle.usb_model.specs.declared.answer.Answer.{Answer}
 use Rattle.usb_model.specs.declared.plain.endpoint.Endpoint.{Endpoint}
 use Rattle.usb_model.specs.declared.plain.item.ItemState.TheVariants.{Blank, Served, Waiting}
 use Rattle.usb_model.specs.declared.plain.item.ItemState.{ItemState}
 use Rattle.usb_model.specs.Account.{Account}
-use Rattle.usb_model.specs.Cut.{AllTold, AreDistinct, Ended, Fate, IsCut, Part, ToldBy, Waits, Withdrawn, parts_of, times}
+use Rattle.usb_model.specs.Cut.{AllTold, Ended, Fate, IsCut, Part, ToldBy, Waits, Withdrawn, parts_of, times}
 use Rattle.usb_model.specs.Endpoint.{is_blank, is_blank_state, live_numbers}
-use Rattle.usb_core.proofs.Ledger.{GoneTold, GoneToldBy, HoldsAt, IsFate, IsRow, Row, RowToldBy, all_cells, item_of, numbers, part_of, parts_of_cells}
-use Rattle.usb_core.proofs.Lists.{Each, times_here, times_past}
+use Rattle.usb_core.proofs.Ledger.{GoneTold, GoneToldBy, HoldsAt, IsFate, IsRow, Row, RowToldBy, all_cells, all_parts, item_of, numbers, part_of, parts_of_cells}
+use Rattle.usb_core.proofs.Lists.{StandOnce, distinct_once, times_here, times_past}
 use Rattle.usb_model.proofs.Times.{times-append, times-cons}
 
 -- the numbers in progress are among those of the line
@@ -57,8 +57,8 @@ told_row size inward a r live is row = by_state r.item.state is row.fate
         subst (ToldBy size a live (part_of r)) (sym f.1) (l, t.0, t.1, t.2)
 
 -- the transfers in the line are told by their rows
-told_rows : (size : ℕ) (inward : Bool) (a : Account) (live : List ℕ) (rows : List Row) → AreDistinct (numbers (map part_of rows)) → ((n : ℕ) → 1 ≤ times n (numbers (map part_of rows)) → times n live ≡ times n (live_numbers (map item_of rows)))
-    → Each (IsRow size inward a) rows → AllTold size a live (map part_of rows)
+told_rows : (size : ℕ) (inward : Bool) (a : Account) (live : List ℕ) (rows : List Row) → StandOnce (numbers (map part_of rows)) → ((n : ℕ) → 1 ≤ times n (numbers (map part_of rows)) → times n live ≡ times n (live_numbers (map item_of rows)))
+    → AllByRecursion (IsRow size inward a) rows → AllTold size a live (map part_of rows)
 told_rows size inward a live [] d same rows = tt
 told_rows size inward a live (r ∷ rs) d same rows = (
   told_row size inward a r (times r.item.n live) (same r.item.n (omega (arith, times_here r.item.n r.item.n (numbers (map part_of rs)) refl)) ∙ live_here r rs d.0) rows.0,
@@ -74,7 +74,7 @@ told_gone size a x live none (Ended code gone) t = inr (none, t.0, t.1)
 told_gone size a x live none (Withdrawn ask) t = (none, t.0, t.1, t.2)
 
 -- every transfer of the ledger is told, those that left the line too
-told_all : (size : ℕ) (inward : Bool) (a : Account) (gone : List Part) (rows : List Row) → Each (GoneTold size a) gone → AreDistinct (numbers (gone ++ map part_of rows)) → Each (IsRow size inward a) rows
+told_all : (size : ℕ) (inward : Bool) (a : Account) (gone : List Part) (rows : List Row) → AllByRecursion (GoneTold size a) gone → StandOnce (numbers (gone ++ map part_of rows)) → AllByRecursion (IsRow size inward a) rows
     → AllTold size a (live_numbers (map item_of rows)) (gone ++ map part_of rows)
 told_all size inward a [] rows t d each = told_rows size inward a (live_numbers (map item_of rows)) rows d (λ n some. refl) each
 told_all size inward a (x ∷ gone) rows t d each =
@@ -89,7 +89,7 @@ cut_if_holds size inward next script a e h =
     record {
       cells = all_cells h.gone h.rows;
       all = h.all;
-      numbers = rw same h.distinct;
+      numbers = rw same (distinct_once (numbers (all_parts h.gone h.rows)) h.distinct);
       shares = rw same h.shares;
       fits = h.fits;
       ended = rw same h.ended;

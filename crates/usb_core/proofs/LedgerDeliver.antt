@@ -1,5 +1,6 @@
 -- A command and a delivery keep the ledger of their endpoint.
 use Rattle.std.proofs.Common.{Bool, List, Some, [], ap, false, map, refl, subst, sym, true, ℕ, ◌++◌, ◌∙◌, ◌∷◌, ◌≡◌}
+use Rattle.std.specs.List.{AllByRecursion}
 use Rattle.std.specs.Prelude.{if◌then◌else◌}
 use Rattle.usb_model.specs.declared.answer.Answer.{Answer}
 use Rattle.usb_model.specs.declared.errand.Errand.TheVariants as errand
@@ -24,23 +25,23 @@ use Rattle.usb_core.proofs.Ledger.{Holds, HoldsAt, Row, item_of}
 use Rattle.usb_core.proofs.LedgerLeaves.{holds_blanks, holds_finished, no_more}
 use Rattle.usb_core.proofs.LedgerRows.{with_more}
 use Rattle.usb_core.proofs.LedgerServe.{KeepsLedger}
-use Rattle.usb_core.proofs.Lists.{Each, map_split}
+use Rattle.usb_core.proofs.Lists.{map_split}
 use Rattle.usb_core.proofs.LedgerResume.{RowOf, holds_resume, holds_withdrawn, made_with, row_of}
 
 -- blanks at the line's beginning, and the rest
-blanks_split : (line : List Item) → (front : List Item) × Each (λ x. x.state ≡ Blank) front × (line ≡ front ++ past_blanks line)
+blanks_split : (line : List Item) → (front : List Item) × AllByRecursion (λ x. x.state ≡ Blank) front × (line ≡ front ++ past_blanks line)
 unfolding past_blanks
 blanks_split [] = ([], tt, refl)
 blanks_split (x ∷ xs) = by_state x.state refl (blanks_split xs)
   where
-    by_state : (s : ItemState) → x.state ≡ s → ((front : List Item) × Each (λ y. y.state ≡ Blank) front × (xs ≡ front ++ past_blanks xs))
-        → (front : List Item) × Each (λ y. y.state ≡ Blank) front × (x ∷ xs ≡ front ++ (if is_blank_state s then past_blanks xs else x ∷ xs))
+    by_state : (s : ItemState) → x.state ≡ s → ((front : List Item) × AllByRecursion (λ y. y.state ≡ Blank) front × (xs ≡ front ++ past_blanks xs))
+        → (front : List Item) × AllByRecursion (λ y. y.state ≡ Blank) front × (x ∷ xs ≡ front ++ (if is_blank_state s then past_blanks xs else x ∷ xs))
     by_state Waiting is rest = ([], tt, refl)
     by_state (Served code) is rest = ([], tt, refl)
     by_state Blank is rest = (x ∷ rest.0, (is, rest.1), ap (λ l. x ∷ l) rest.2)
 
 -- rows of blanks
-blank_rows : (rows : List Row) → Each (λ x. x.state ≡ Blank) (map item_of rows) → Each (λ r. r.item.state ≡ Blank) rows
+blank_rows : (rows : List Row) → AllByRecursion (λ x. x.state ≡ Blank) (map item_of rows) → AllByRecursion (λ r. r.item.state ≡ Blank) rows
 blank_rows [] e = tt
 blank_rows (r ∷ rows) e = (e.0, blank_rows rows e.1)
 
@@ -50,7 +51,7 @@ holds_past_blanks : (size : ℕ) (inward : Bool) (next : ℕ) (script : List Ans
 holds_past_blanks size inward next script a line left halted taken h =
     let b = blanks_split line in
     let s = map_split item_of h.rows b.0 (past_blanks line) (h.is_line ∙ b.2) in
-    holds_blanks size inward next script a line (past_blanks line) left halted taken s.0 s.1 h s.2 s.4 (blank_rows s.0 (subst (Each (λ x. x.state ≡ Blank)) (sym s.3) b.1))
+    holds_blanks size inward next script a line (past_blanks line) left halted taken s.0 s.1 h s.2 s.4 (blank_rows s.0 (subst (AllByRecursion (λ x. x.state ≡ Blank)) (sym s.3) b.1))
 
 -- the end of a transfer is told
 holds_ended : (size : ℕ) (inward : Bool) (next : ℕ) (script : List Answer) (a : Account) (gone : Bool) (line : List Item) (left : List Answer) (halted : Bool) (taken : List (List ℕ)) (k code : ℕ) → EndsFirst line k code
@@ -62,7 +63,7 @@ holds_ended size inward next script a gone line left halted taken k code f h = b
     by_row t =
         subst (λ o. Holds size inward next script (with_more a [] [] [] (made_with gone (finished_result size gone code o))) (past_number k line) left halted taken) (ap (λ x. Some x) t.item ∙ sym f.found)
         (holds_finished size inward next script a line (past_number k line) left halted taken t.before t.behind t.row code gone h t.is t.back_is
-        (blank_rows t.before (subst (Each (λ x. x.state ≡ Blank)) (sym t.front_is) f.blanks)) (ap (λ x. x.state) t.item ∙ f.served))
+        (blank_rows t.before (subst (AllByRecursion (λ x. x.state ≡ Blank)) (sym t.front_is) f.blanks)) (ap (λ x. x.state) t.item ∙ f.served))
 
 -- behind a result the cancelled may leave the line too
 holds_line_after : (size : ℕ) (inward : Bool) (next : ℕ) (script : List Answer) (a : Account) (line : List Item) (left : List Answer) (halted : Bool) (taken : List (List ℕ)) (k code : ℕ)

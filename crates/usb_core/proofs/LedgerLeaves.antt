@@ -1,9 +1,10 @@
 -- Rows join a ledger's line, and leave it.
 use Rattle.std.proofs.Common.{Bool, List, None, Option, [], ap, append-nil, append_assoc, ap₂, arith, false, length, map, refl, subst, sym, ℕ, ◌++◌, ◌+◌, ◌==◌, ◌∙◌, ◌∷◌, ◌≡◌, ◌≤◌}
+use Rattle.std.proofs.Math.Bool.{or-false}
 use Rattle.std.proofs.lemmas.Grind.{flat_map-append}
 use Rattle.std.proofs.lemmas.List.{map-append}
 use Rattle.std.proofs.lemmas.List.Elements.{filter-append}
-use Rattle.std.specs.List.{flat_map}
+use Rattle.std.specs.List.{AllByRecursion, flat_map}
 use Rattle.usb_model.specs.declared.answer.Answer.{Answer}
 use Rattle.usb_model.specs.declared.plain.item.Ask.{Ask}
 use Rattle.usb_model.specs.declared.plain.item.Item.{Item}
@@ -11,15 +12,16 @@ use Rattle.usb_model.specs.declared.plain.item.ItemState.TheVariants.{Blank, Ser
 use Rattle.usb_model.specs.declared.plain.item.ItemState.{ItemState}
 use Rattle.usb_model.specs.declared.request.Request.{Request}
 use Rattle.usb_model.specs.Account.{Account, Clearing, Made, Transfer}
-use Rattle.usb_model.specs.Cut.{AllFit, AreDistinct, Cell, Cleared, Part, Waits, accepted_as, asks_of, end_of, made_of, packets_taken, parts_of, times, told}
+use Rattle.usb_model.specs.Cut.{AllFit, Cell, Cleared, Part, Waits, accepted_as, asks_of, end_of, made_of, packets_taken, parts_of, times, told}
 use Rattle.usb_model.specs.Endpoint.{fresh, new_item, outcome_of, result_of}
 use Rattle.usb_model.specs.Packets.{count_of}
 use Rattle.usb_model.specs.Requests.{is_short_not_ok, length_of}
 use Rattle.usb_model.specs.Status.{status_at, status_of}
 use Rattle.usb_core.proofs.Ledger.{GoneTold, GoneToldBy, Holds, IsFate, IsFresh, IsQuiet, IsRow, IsUntouched, Row, RowToldBy, all_cells, all_parts, cell_of, item_of, numbers, part_of, parts_of_cells, quiet_by, stalled}
 use Rattle.usb_core.proofs.LedgerRows.{Mid, TellsSame, cells_mid, fits_join, fresh_kept, mid_of, parts_kept, parts_mid, rows_kept, stalled-append, tells_same, with_more}
-use Rattle.usb_core.proofs.LedgerWorks.{no_packets, or_no, quiet_behind}
-use Rattle.usb_core.proofs.Lists.{Each, distinct_push, each_append, each_behind, each_front}
+use Rattle.usb_core.proofs.LedgerWorks.{no_packets, quiet_behind}
+use Rattle.usb_core.proofs.Lists.{StandOnce, distinct_push}
+use Rattle.usb_model.proofs.Each.{each_append, each_behind, each_front}
 use Rattle.usb_model.proofs.Cuts.{open_untouched}
 use Rattle.usb_model.proofs.Next.{IsBody}
 use Rattle.usb_model.proofs.Pieces.{same_name}
@@ -38,7 +40,7 @@ left_parts gone front back =
 -- with what is told then
 holds_leave : (size : ℕ) (inward : Bool) (next : ℕ) (script : List Answer) (a a' : Account) (line line' : List Item) (left : List Answer) (halted : Bool) (taken : List (List ℕ)) (front back : List Row)
     (h : Holds size inward next script a line left halted taken) → h.rows ≡ front ++ back → map item_of back ≡ line' → a'.accepted ≡ a.accepted → a'.ended ≡ a.ended
-    → ((n : ℕ) → next ≤ n → IsFresh n a' (all_parts h.gone h.rows)) → Each (GoneTold size a') (flat_map parts_of h.gone) → Each (GoneTold size a') (map part_of front) → Each (IsRow size inward a') back
+    → ((n : ℕ) → next ≤ n → IsFresh n a' (all_parts h.gone h.rows)) → AllByRecursion (GoneTold size a') (flat_map parts_of h.gone) → AllByRecursion (GoneTold size a') (map part_of front) → AllByRecursion (IsRow size inward a') back
     → Holds size inward next script a' line' left halted taken
 holds_leave size inward next script a a' line line' left halted taken front back h is becomes accepted ended fresh told_gone told_front rows =
     let cells : all_cells (h.gone ++ map cell_of front) back ≡ all_cells h.gone h.rows = left_cells h.gone front back ∙ ap (all_cells h.gone) (sym is) in
@@ -48,14 +50,14 @@ holds_leave size inward next script a a' line line' left halted taken front back
       rows = back;
       is_line = becomes;
       all = ap (map accepted_as) cells ∙ (h.all ∙ sym accepted);
-      distinct = subst (λ l. AreDistinct (numbers l)) (sym parts) h.distinct;
+      distinct = subst (λ l. StandOnce (numbers l)) (sym parts) h.distinct;
       fresh = λ n le. subst (IsFresh n a') (sym parts) (fresh n le);
       shares = ap (λ l. flat_map (λ x. x.share) l ++ left) parts ∙ h.shares;
       fits = subst (AllFit size false) (sym cells) h.fits;
       halt = h.halt ∙ ap (stalled false) (sym cells);
       ended = ap (flat_map (λ x. end_of x.n x.fate)) parts ∙ (h.ended ∙ sym ended);
       packets = ap (flat_map (packets_taken size)) parts ∙ h.packets;
-      gone_told = subst (Each (GoneTold size a')) (sym (parts_of_cells h.gone front)) (each_append (GoneTold size a') (flat_map parts_of h.gone) (map part_of front) told_gone told_front);
+      gone_told = subst (AllByRecursion (GoneTold size a')) (sym (parts_of_cells h.gone front)) (each_append (GoneTold size a') (flat_map parts_of h.gone) (map part_of front) told_gone told_front);
       each_row = rows;
       quiet = quiet_behind front back (subst IsQuiet is h.quiet);
       kinds = h.kinds;
@@ -68,15 +70,15 @@ blank_told size inward a r blank row =
     subst (GoneToldBy size a (part_of r)) (sym f.1) (subst (RowToldBy size a r) f.1 row.told)
 
 -- blanks are told, as those that left the line are
-blanks_told : (size : ℕ) (inward : Bool) (a : Account) (rows : List Row) → Each (λ r. r.item.state ≡ Blank) rows → Each (IsRow size inward a) rows → Each (GoneTold size a) (map part_of rows)
+blanks_told : (size : ℕ) (inward : Bool) (a : Account) (rows : List Row) → AllByRecursion (λ r. r.item.state ≡ Blank) rows → AllByRecursion (IsRow size inward a) rows → AllByRecursion (GoneTold size a) (map part_of rows)
 blanks_told size inward a [] blank each = tt
 blanks_told size inward a (r ∷ rows) blank each = (blank_told size inward a r blank.0 each.0, blanks_told size inward a rows blank.1 each.1)
 
 -- blanks leave
 pub holds_blanks : (size : ℕ) (inward : Bool) (next : ℕ) (script : List Answer) (a : Account) (line line' : List Item) (left : List Answer) (halted : Bool) (taken : List (List ℕ)) (front back : List Row)
-    (h : Holds size inward next script a line left halted taken) → h.rows ≡ front ++ back → map item_of back ≡ line' → Each (λ r. r.item.state ≡ Blank) front → Holds size inward next script a line' left halted taken
+    (h : Holds size inward next script a line left halted taken) → h.rows ≡ front ++ back → map item_of back ≡ line' → AllByRecursion (λ r. r.item.state ≡ Blank) front → Holds size inward next script a line' left halted taken
 holds_blanks size inward next script a line line' left halted taken front back h is becomes blank =
-    let each : Each (IsRow size inward a) (front ++ back) = subst (Each (IsRow size inward a)) is h.each_row in
+    let each : AllByRecursion (IsRow size inward a) (front ++ back) = subst (AllByRecursion (IsRow size inward a)) is h.each_row in
     holds_leave size inward next script a a line line' left halted taken front back h is becomes refl refl h.fresh h.gone_told
     (blanks_told size inward a front blank (each_front (IsRow size inward a) front back each)) (each_behind (IsRow size inward a) front back each)
 
@@ -87,12 +89,12 @@ no_ask gone code ask short_not_ok length actual is = rw is refl
 
 -- the first transfer that is no blank leaves with its result, and the blanks before it
 pub holds_finished : (size : ℕ) (inward : Bool) (next : ℕ) (script : List Answer) (a : Account) (line line' : List Item) (left : List Answer) (halted : Bool) (taken : List (List ℕ)) (front back : List Row) (r : Row) (code : ℕ) (gone : Bool)
-    (h : Holds size inward next script a line left halted taken) → h.rows ≡ front ++ r ∷ back → map item_of back ≡ line' → Each (λ x. x.item.state ≡ Blank) front → r.item.state ≡ Served code
+    (h : Holds size inward next script a line left halted taken) → h.rows ≡ front ++ r ∷ back → map item_of back ≡ line' → AllByRecursion (λ x. x.item.state ≡ Blank) front → r.item.state ≡ Served code
     → Holds size inward next script (with_more a [] [] [] (record { result = result_of size gone code r.item; gone = gone } ∷ [])) line' left halted taken
 holds_finished size inward next script a line line' left halted taken front back r code gone h is becomes blank served =
     holds_leave size inward next script a a' line line' left halted taken (front ++ r ∷ []) back h (is ∙ sym (append_assoc front (r ∷ []) back)) becomes (append-nil a.accepted) (append-nil a.ended)
     (fresh_kept k next a a' (all_parts h.gone h.rows) (all_parts h.gone h.rows) m.below tells refl h.fresh) (parts_kept size k a a' (flat_map parts_of h.gone) tells m.apart.0 h.gone_told)
-    (subst (Each (GoneTold size a')) (sym (map-append part_of front (r ∷ [])))
+    (subst (AllByRecursion (GoneTold size a')) (sym (map-append part_of front (r ∷ [])))
     (each_append (GoneTold size a') (map part_of front) (part_of r ∷ []) (parts_kept size k a a' (map part_of front) tells m.apart.1 (blanks_told size inward a front blank m.front_rows)) (told_now, tt)))
     (rows_kept size inward k a a' back tells m.apart.2 m.back_rows)
   where
@@ -144,7 +146,7 @@ holds_submitted size inward next script a line left halted taken request round b
   rows = h.rows ++ r ∷ [];
   is_line = map-append item_of h.rows (r ∷ []) ∙ ap (λ l. l ++ new_item next request round ∷ []) h.is_line;
   all = ap (map accepted_as) cells ∙ (map-append accepted_as (all_cells h.gone h.rows) (cell_of r ∷ []) ∙ ap (λ l. l ++ Transfer next request round ∷ []) h.all);
-  distinct = subst AreDistinct (sym new_numbers) (distinct_push next (numbers (all_parts h.gone h.rows)) h.distinct f.no_part);
+  distinct = subst StandOnce (sym new_numbers) (distinct_push next (numbers (all_parts h.gone h.rows)) h.distinct f.no_part);
   fresh = λ n le.
       let g = h.fresh n (omega (arith, le)) in
       record {
@@ -154,7 +156,7 @@ holds_submitted size inward next script a line left halted taken request round b
       };
   shares = ap (λ l. l ++ left) (nothing_more (λ x. x.share) refl) ∙ h.shares;
   fits = subst (AllFit size false) (sym cells) (fits_join size false (all_cells h.gone h.rows) (cell_of r ∷ []) h.fits (open_untouched size (stalled false (all_cells h.gone h.rows)) (part_of r) refl, tt));
-  halt = h.halt ∙ (sym (or_no (stalled false (all_cells h.gone h.rows))) ∙ (sym (stalled-append false (all_cells h.gone h.rows) (cell_of r ∷ [])) ∙ ap (stalled false) (sym cells)));
+  halt = h.halt ∙ (sym (or-false (stalled false (all_cells h.gone h.rows))) ∙ (sym (stalled-append false (all_cells h.gone h.rows) (cell_of r ∷ [])) ∙ ap (stalled false) (sym cells)));
   ended = nothing_more (λ x. end_of x.n x.fate) refl ∙ (h.ended ∙ sym (append-nil a.ended));
   packets = nothing_more (packets_taken size) (no_packets size (part_of r) refl) ∙ h.packets;
   gone_told = parts_kept size next a a' (flat_map parts_of h.gone) tells (omega (arith, both)) h.gone_told;
@@ -200,7 +202,7 @@ holds_cleared size inward next script a left halted taken h = record {
   rows = [];
   is_line = refl;
   all = ap (map accepted_as) cells ∙ (map-append accepted_as (all_cells h.gone h.rows) (Cleared ∷ []) ∙ ap (λ l. l ++ Clearing ∷ []) h.all);
-  distinct = subst (λ l. AreDistinct (numbers l)) (sym parts) h.distinct;
+  distinct = subst (λ l. StandOnce (numbers l)) (sym parts) h.distinct;
   fresh = λ n le.
       let f = h.fresh n le in
       record { no_part = ap (λ l. times n (numbers l)) parts ∙ f.no_part; no_result = ap (made_of n) (append-nil a.made) ∙ f.no_result; no_ask = ap (asks_of n) (append-nil a.asked) ∙ f.no_ask };
@@ -209,7 +211,7 @@ holds_cleared size inward next script a left halted taken h = record {
   halt = sym (stalled-append false (all_cells h.gone h.rows) (Cleared ∷ [])) ∙ ap (stalled false) (sym cells);
   ended = ap (flat_map (λ x. end_of x.n x.fate)) parts ∙ (h.ended ∙ sym (append-nil a.ended));
   packets = ap (flat_map (packets_taken size)) parts ∙ h.packets;
-  gone_told = subst (Each (GoneTold size (with_more a (Clearing ∷ []) [] [] []))) (sym same_gone)
+  gone_told = subst (AllByRecursion (GoneTold size (with_more a (Clearing ∷ []) [] [] []))) (sym same_gone)
       (parts_kept size next a (with_more a (Clearing ∷ []) [] [] []) (flat_map parts_of h.gone) (tells_same next a (Clearing ∷ []) [] [] [] tt tt) none_next h.gone_told);
   each_row = tt;
   quiet = tt;

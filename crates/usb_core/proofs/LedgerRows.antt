@@ -4,16 +4,17 @@ use Rattle.std.proofs.lemmas.Bool.{cases_lt, ne_eqb}
 use Rattle.std.proofs.lemmas.Grind.{flat_map-append}
 use Rattle.std.proofs.lemmas.List.{map-append}
 use Rattle.std.proofs.lemmas.List.Elements.{filter-append}
-use Rattle.std.specs.List.{filter, flat_map}
+use Rattle.std.specs.List.{AllByRecursion, filter, flat_map}
 use Rattle.usb_model.specs.declared.answer.Answer.{Answer}
 use Rattle.usb_model.specs.declared.plain.item.Ask.{Ask}
 use Rattle.usb_model.specs.declared.plain.item.Item.{Item}
 use Rattle.usb_model.specs.declared.plain.item.ItemState.{ItemState}
 use Rattle.usb_model.specs.Account.{Accepted, Account, Asked, End, Made}
-use Rattle.usb_model.specs.Cut.{AllFit, AreDistinct, Cell, Cleared, Ended, Fate, FitsFate, Of, Part, Waits, Withdrawn, asks_of, has_stall, made_of, parts_of, times}
+use Rattle.usb_model.specs.Cut.{AllFit, Cell, Cleared, Ended, Fate, FitsFate, Of, Part, Waits, Withdrawn, asks_of, has_stall, made_of, parts_of, times}
 use Rattle.usb_model.specs.Endpoint.{fresh}
 use Rattle.usb_core.proofs.Ledger.{GoneTold, GoneToldBy, Holds, IsFresh, IsQuiet, IsRow, Row, RowToldBy, all_cells, all_parts, cell_of, numbers, part_of, stalled}
-use Rattle.usb_core.proofs.Lists.{Each, distinct_mid, each_apart, each_behind, each_front, times_here}
+use Rattle.usb_core.proofs.Lists.{StandOnce, distinct_mid, each_apart, times_here}
+use Rattle.usb_model.proofs.Each.{each_behind, each_front}
 use Rattle.usb_model.proofs.Times.{times-append}
 
 -- an account with more in each list
@@ -80,7 +81,7 @@ pub record TellsSame (k : ℕ) (a a' : Account) : Type 0 where
   pub asked : (n : ℕ) → (n ≡ k → ⊥) → asks_of n a'.asked ≡ asks_of n a.asked
 
 -- what has one number only is not found by another
-none_of_other : {A : Type 0} (number : A → ℕ) (k n : ℕ) (xs : List A) → (n ≡ k → ⊥) → Each (λ x. number x ≡ k) xs → filter (λ x. number x == n) xs ≡ []
+none_of_other : {A : Type 0} (number : A → ℕ) (k n : ℕ) (xs : List A) → (n ≡ k → ⊥) → AllByRecursion (λ x. number x ≡ k) xs → filter (λ x. number x == n) xs ≡ []
 none_of_other number k n [] differ e = refl
 none_of_other number k n (x ∷ xs) differ e = rw (ne_eqb (number x) n (λ q. differ (sym q ∙ e.0))) (none_of_other number k n xs differ e.1)
 
@@ -89,7 +90,7 @@ filter_more : {A : Type 0} (test : A → Bool) (xs ys : List A) → filter test 
 filter_more test xs ys none = filter-append test xs ys ∙ (ap (λ l. filter test xs ++ l) none ∙ append-nil (filter test xs))
 
 -- what is added of one number says nothing of the others
-pub tells_same : (k : ℕ) (a : Account) (accepted : List Accepted) (asked : List Asked) (ended : List End) (made : List Made) → Each (λ q. q.n ≡ k) asked → Each (λ m. m.result.n ≡ k) made → TellsSame k a (with_more a accepted asked ended made)
+pub tells_same : (k : ℕ) (a : Account) (accepted : List Accepted) (asked : List Asked) (ended : List End) (made : List Made) → AllByRecursion (λ q. q.n ≡ k) asked → AllByRecursion (λ m. m.result.n ≡ k) made → TellsSame k a (with_more a accepted asked ended made)
 tells_same k a accepted asked ended made qs ms = record {
   made = λ n differ. filter_more (λ m. m.result.n == n) a.made made (none_of_other (λ m. m.result.n) k n made differ ms);
   asked = λ n differ. filter_more (λ q. q.n == n) a.asked asked (none_of_other (λ q. q.n) k n asked differ qs);
@@ -108,7 +109,7 @@ row_told_kept size k a a' r s differ (Ended code gone) t = s.made r.item.n diffe
 row_told_kept size k a a' r s differ (Withdrawn ask) t = (t.0, s.made r.item.n differ ∙ t.1, s.asked r.item.n differ ∙ t.2)
 
 -- transfers of other numbers that left are told as before
-pub parts_kept : (size k : ℕ) (a a' : Account) (gone : List Part) → TellsSame k a a' → times k (numbers gone) ≡ 0 → Each (GoneTold size a) gone → Each (GoneTold size a') gone
+pub parts_kept : (size k : ℕ) (a a' : Account) (gone : List Part) → TellsSame k a a' → times k (numbers gone) ≡ 0 → AllByRecursion (GoneTold size a) gone → AllByRecursion (GoneTold size a') gone
 parts_kept size k a a' gone s none t = each_apart (GoneTold size a) (GoneTold size a') (λ x. x.n) k gone none (λ x differ told. gone_told_kept size k a a' x s differ x.fate told) t
 
 -- the numbers of rows are their items'
@@ -117,7 +118,7 @@ row_number [] = refl
 row_number (r ∷ rows) = ap (λ l. r.item.n ∷ l) (row_number rows)
 
 -- rows of other numbers are rows as before
-pub rows_kept : (size : ℕ) (inward : Bool) (k : ℕ) (a a' : Account) (rows : List Row) → TellsSame k a a' → times k (numbers (map part_of rows)) ≡ 0 → Each (IsRow size inward a) rows → Each (IsRow size inward a') rows
+pub rows_kept : (size : ℕ) (inward : Bool) (k : ℕ) (a a' : Account) (rows : List Row) → TellsSame k a a' → times k (numbers (map part_of rows)) ≡ 0 → AllByRecursion (IsRow size inward a) rows → AllByRecursion (IsRow size inward a') rows
 rows_kept size inward k a a' rows s none t = each_apart (IsRow size inward a) (IsRow size inward a') (λ r. r.item.n) k rows (ap (times k) (sym (row_number rows)) ∙ none)
     (λ r differ row. record { fate = row.fate; body = row.body; told = row_told_kept size k a a' r s differ r.fate row.told }) t
 
@@ -137,13 +138,13 @@ fresh_kept k next a a' ps ps' lt s same fresh n le =
     record { no_part = ap (times n) same ∙ f.no_part; no_result = s.made n differ ∙ f.no_result; no_ask = s.asked n differ ∙ f.no_ask }
 
 -- the numbers of a row and of the others differ
-pub row_apart : (gone : List Cell) (front back : List Row) (r : Row) → AreDistinct (numbers (all_parts gone (front ++ r ∷ back)))
+pub row_apart : (gone : List Cell) (front back : List Row) (r : Row) → StandOnce (numbers (all_parts gone (front ++ r ∷ back)))
     → (times r.item.n (numbers (flat_map parts_of gone)) ≡ 0) × (times r.item.n (numbers (map part_of front)) ≡ 0) × (times r.item.n (numbers (map part_of back)) ≡ 0)
 row_apart gone front back r d =
     let k : ℕ = r.item.n in
     let before : List ℕ = numbers (all_parts gone front) in
     let mid : numbers (all_parts gone (front ++ r ∷ back)) ≡ before ++ k ∷ numbers (map part_of back) = ap numbers (parts_mid gone front back r) ∙ map-append (λ x. x.n) (all_parts gone front) (part_of r ∷ map part_of back) in
-    let p = distinct_mid k before (numbers (map part_of back)) (subst AreDistinct mid d) in
+    let p = distinct_mid k before (numbers (map part_of back)) (subst StandOnce mid d) in
     let parts : before ≡ numbers (flat_map parts_of gone) ++ numbers (map part_of front) = map-append (λ x. x.n) (flat_map parts_of gone) (map part_of front) in
     let both : times k (numbers (flat_map parts_of gone)) + times k (numbers (map part_of front)) ≡ 0 = omega (arith, p.0, ap (times k) parts, times-append k (numbers (flat_map parts_of gone)) (numbers (map part_of front))) in
     (omega (arith, both), omega (arith, both), p.1)
@@ -162,9 +163,9 @@ pub record Mid (size : ℕ) (inward : Bool) (next : ℕ) (a : Account) (gone : L
   pub parts : all_parts gone rows ≡ all_parts gone front ++ part_of r ∷ map part_of back
   pub apart : (times r.item.n (numbers (flat_map parts_of gone)) ≡ 0) × (times r.item.n (numbers (map part_of front)) ≡ 0) × (times r.item.n (numbers (map part_of back)) ≡ 0)
   pub below : r.item.n < next
-  pub front_rows : Each (IsRow size inward a) front
+  pub front_rows : AllByRecursion (IsRow size inward a) front
   pub row : IsRow size inward a r
-  pub back_rows : Each (IsRow size inward a) back
+  pub back_rows : AllByRecursion (IsRow size inward a) back
   pub front_fits : AllFit size false (all_cells gone front)
   pub row_fits : FitsFate size (stalled false (all_cells gone front)) (part_of r) r.fate
   pub back_fits : AllFit size (stalled false (all_cells gone front) || has_stall r.item.share) (map cell_of back)
@@ -176,14 +177,14 @@ pub mid_of : (size : ℕ) (inward : Bool) (next : ℕ) (script : List Answer) (a
 mid_of size inward next script a line left halted taken front back r h is =
     let cells : List Cell = all_cells h.gone front in
     let was_cells : all_cells h.gone h.rows ≡ cells ++ cell_of r ∷ map cell_of back = ap (all_cells h.gone) is ∙ cells_mid h.gone front back r in
-    let was_rows : Each (IsRow size inward a) (front ++ r ∷ back) = subst (Each (IsRow size inward a)) is h.each_row in
+    let was_rows : AllByRecursion (IsRow size inward a) (front ++ r ∷ back) = subst (AllByRecursion (IsRow size inward a)) is h.each_row in
     let was_fit : AllFit size false (cells ++ cell_of r ∷ map cell_of back) = subst (AllFit size false) was_cells h.fits in
     let rest_fit = fits_behind size false cells (cell_of r ∷ map cell_of back) was_fit in
     let rest_rows = each_behind (IsRow size inward a) front (r ∷ back) was_rows in
     record {
       cells = was_cells;
       parts = ap (all_parts h.gone) is ∙ parts_mid h.gone front back r;
-      apart = row_apart h.gone front back r (subst (λ l. AreDistinct (numbers (all_parts h.gone l))) is h.distinct);
+      apart = row_apart h.gone front back r (subst (λ l. StandOnce (numbers (all_parts h.gone l))) is h.distinct);
       below = below_next r.item.n next a (all_parts h.gone h.rows) h.fresh (subst (λ l. 1 ≤ times r.item.n (numbers (all_parts h.gone l))) (sym is) (row_there h.gone front back r));
       front_rows = each_front (IsRow size inward a) front (r ∷ back) was_rows;
       row = rest_rows.0;

@@ -1,5 +1,6 @@
 -- A packet that is served keeps the ledger of its endpoint.
 use Rattle.std.proofs.Common.{Bool, List, None, Option, Some, [], ap, append-nil, ap₂, drop, false, length, map, refl, subst, sym, true, ℕ, ◌++◌, ◌<◌, ◌||◌, ◌∙◌, ◌∷◌, ◌≡◌}
+use Rattle.std.specs.List.{AllByRecursion}
 use Rattle.std.specs.Prelude.{MatchBool, if◌then◌else◌, unwrap_or}
 use Rattle.std.proofs.lemmas.List.{map-append}
 use Rattle.usb_model.specs.declared.answer.Answer.{Answer}
@@ -14,14 +15,14 @@ use Rattle.usb_model.specs.declared.request.Body.TheVariants.{In, Out}
 use Rattle.usb_model.specs.declared.request.Body.{Body}
 use Rattle.usb_model.specs.Account.{Accepted, Account, Asked, ended_by}
 use Rattle.usb_model.specs.Cut.{Ended, Fate, FitsFate, IsOpen, Waits, has_stall, packets_taken, packets_taken_by}
-use Rattle.usb_model.specs.Endpoint.{Doing, first_waiting, is_blank_state, is_waiting, is_waiting_state, outcome_of, with_first}
+use Rattle.usb_model.specs.declared.plain.doing.Doing.{Doing}
+use Rattle.usb_model.specs.Endpoint.{first_waiting, is_blank_state, is_waiting, is_waiting_state, outcome_of, with_first}
 use Rattle.usb_model.specs.Packets.{Ends, IsOpenAt, open_with, outcome}
 use Rattle.usb_model.specs.Serve.{acknowledged, is_no_packet, next_answer, serve, serve_by, serve_first, serve_gone}
 use Rattle.usb_core.proofs.Ledger.{Holds, HoldsAt, IsFate, IsQuiet, IsUntouched, Row, RowToldBy, all_cells, cell_of, item_of, part_of, quiet_by, stalled}
 use Rattle.usb_core.proofs.LedgerLeaves.{no_more}
 use Rattle.usb_core.proofs.LedgerRows.{mid_of, stalled-append, with_more, with_row}
 use Rattle.usb_core.proofs.LedgerWorks.{holds_served, quiet_behind, untouched_flag}
-use Rattle.usb_core.proofs.Lists.{Each}
 use Rattle.usb_model.proofs.Cuts.{open_flag, stall-append}
 use Rattle.usb_model.proofs.Next.{IsBody}
 use Rattle.usb_model.proofs.Shares.{some_same}
@@ -34,7 +35,7 @@ record WaitsAt (rows : List Row) (x : Item) : Type 0 where
   back : List Row
   is : rows ≡ front ++ row ∷ back
   item : row.item ≡ x
-  none_before : Each (λ r. is_waiting r.item ≡ false) front
+  none_before : AllByRecursion (λ r. is_waiting r.item ≡ false) front
   waits : row.item.state ≡ Waiting
   becomes : (y : Item) → with_first y (map item_of rows) ≡ map item_of front ++ y ∷ map item_of back
 
@@ -91,7 +92,7 @@ waiting_row size inward next script a e front back r h is waits =
     let m = mid_of size inward next script a e.line e.left e.halted e.taken front back r h is in
     let behind : Bool = stalled false (all_cells h.gone front) in
     let fate : r.fate ≡ Waits = subst (λ t. IsFate t r.fate) waits m.row.fate in
-    let untouched : Each IsUntouched back = subst (λ t. quiet_by t back (IsQuiet back)) waits (quiet_behind front (r ∷ back) m.quiet) in
+    let untouched : AllByRecursion IsUntouched back = subst (λ t. quiet_by t back (IsQuiet back)) waits (quiet_behind front (r ∷ back) m.quiet) in
     let op : IsOpen size behind (part_of r) = subst (FitsFate size behind (part_of r)) fate m.row_fits in
     record {
       flag = h.halt ∙ (ap (stalled false) m.cells ∙ (stalled-append false (all_cells h.gone front) (cell_of r ∷ map cell_of back) ∙ (untouched_flag (behind || has_stall r.item.share) back untouched ∙ open_flag size behind (part_of r) op)));
@@ -123,7 +124,7 @@ same_but_share size r state fate = by_body r.item.request.body
 
 -- a packet that a waiting transfer is served keeps the ledger
 holds_serve_by : (size : ℕ) (inward : Bool) (next : ℕ) (script : List Answer) (a : Account) (e : Endpoint) (front back : List Row) (r : Row) (h : HoldsAt size inward next script a e) → h.rows ≡ front ++ r ∷ back
-    → r.item.state ≡ Waiting → Each (λ x. is_waiting x.item ≡ false) front → ((y : Item) → with_first y e.line ≡ map item_of front ++ y ∷ map item_of back)
+    → r.item.state ≡ Waiting → AllByRecursion (λ x. is_waiting x.item ≡ false) front → ((y : Item) → with_first y e.line ≡ map item_of front ++ y ∷ map item_of back)
     → (s : AfterServe size e.halted r.item.request r.item.share (next_answer e)) (code : Option ℕ) → s.result.code ≡ code
     → KeepsLedger size inward next script a false [] [] (serve_by e r.item (outcome_of size r.item) s.result code)
 unfolding serve_by
@@ -173,7 +174,7 @@ holds_serve_by size inward next script a e front back r h is waits none_before b
 
 -- at a gone device it ends with what it has
 holds_serve_gone : (size : ℕ) (inward : Bool) (next : ℕ) (script : List Answer) (a : Account) (e : Endpoint) (front back : List Row) (r : Row) (h : HoldsAt size inward next script a e) → h.rows ≡ front ++ r ∷ back
-    → r.item.state ≡ Waiting → Each (λ x. is_waiting x.item ≡ false) front → ((y : Item) → with_first y e.line ≡ map item_of front ++ y ∷ map item_of back)
+    → r.item.state ≡ Waiting → AllByRecursion (λ x. is_waiting x.item ≡ false) front → ((y : Item) → with_first y e.line ≡ map item_of front ++ y ∷ map item_of back)
     → KeepsLedger size inward next script a true [] [] (serve_gone e r.item)
 unfolding serve_gone
 holds_serve_gone size inward next script a e front back r h is waits none_before becomes =

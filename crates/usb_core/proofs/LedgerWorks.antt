@@ -1,7 +1,8 @@
 -- What each kind of work does to the ledger of its endpoint.
 use Rattle.std.proofs.Common.{Bool, List, Option, [], ap, append-nil, append_assoc, ap₂, false, map, refl, subst, sym, true, ℕ, ◌++◌, ◌||◌, ◌∙◌, ◌∷◌, ◌≡◌}
+use Rattle.std.proofs.Math.Bool.{or-false}
 use Rattle.std.specs.Prelude.{unwrap_or}
-use Rattle.std.specs.List.{flat_map, list_all}
+use Rattle.std.specs.List.{AllByRecursion, flat_map, list_all}
 use Rattle.usb_model.specs.declared.answer.Answer.{Answer}
 use Rattle.usb_model.specs.declared.plain.item.Ask.{Ask}
 use Rattle.usb_model.specs.declared.plain.item.Item.{Item}
@@ -10,12 +11,13 @@ use Rattle.usb_model.specs.declared.plain.item.ItemState.{ItemState}
 use Rattle.usb_model.specs.declared.request.Body.TheVariants.{In, Out}
 use Rattle.usb_model.specs.declared.request.Body.{Body}
 use Rattle.usb_model.specs.Account.{Account, Asked, End, Made}
-use Rattle.usb_model.specs.Cut.{AllFit, AreDistinct, Cell, Ended, Fate, FitsFate, Part, Waits, Withdrawn, accepted_as, asks_of, end_of, has_stall, is_of_direction, made_of, packets_taken, packets_taken_by, parts_of}
+use Rattle.usb_model.specs.Cut.{AllFit, Cell, Ended, Fate, FitsFate, Part, Waits, Withdrawn, accepted_as, asks_of, end_of, has_stall, is_of_direction, made_of, packets_taken, packets_taken_by, parts_of}
 use Rattle.usb_model.specs.Endpoint.{is_blank_state, is_waiting, is_waiting_state}
 use Rattle.usb_model.specs.Packets.{open_with, outcome}
 use Rattle.usb_core.proofs.Ledger.{Holds, IsFate, IsQuiet, IsRow, IsUntouched, Row, RowToldBy, all_cells, all_parts, cell_of, item_of, numbers, part_of, quiet_by, stalled}
 use Rattle.usb_core.proofs.LedgerRows.{Mid, TellsSame, cells_mid, fits_join, flat_mid_more, flat_mid_same, fresh_kept, map_mid, mid_of, parts_kept, parts_mid, rows_kept, stalled-append, tells_same, with_more, with_row}
-use Rattle.usb_core.proofs.Lists.{Each, each_append, each_behind}
+use Rattle.usb_core.proofs.Lists.{StandOnce}
+use Rattle.usb_model.proofs.Each.{each_append, each_behind}
 use Rattle.usb_model.proofs.Cuts.{open_untouched}
 use Rattle.usb_model.proofs.Shares.{outcome_nothing}
 
@@ -32,7 +34,7 @@ untouched_same : (r : Row) (state : ItemState) (ask : Option Ask) (fate : Fate) 
 untouched_same r state ask fate e u = (u.0, e ∙ u.1)
 
 -- one element replaced, of which the same holds
-each_mid : {A : Type 0} (P : A → Type 0) (xs : List A) (x y : A) (ys : List A) → (P x → P y) → Each P (xs ++ x ∷ ys) → Each P (xs ++ y ∷ ys)
+each_mid : {A : Type 0} (P : A → Type 0) (xs : List A) (x y : A) (ys : List A) → (P x → P y) → AllByRecursion P (xs ++ x ∷ ys) → AllByRecursion P (xs ++ y ∷ ys)
 each_mid P [] x y ys f p = (f p.0, p.1)
 each_mid P (z ∷ zs) x y ys f p = (p.0, each_mid P zs x y ys f p.1)
 
@@ -47,7 +49,7 @@ quiet_mid (z ∷ front) back r s f g q = by_state z.item.state q (quiet_mid fron
     by_state Blank q rest = rest q
 
 -- rows of which nothing was taken are quiet
-pub untouched_quiet : (rows : List Row) → Each IsUntouched rows → IsQuiet rows
+pub untouched_quiet : (rows : List Row) → AllByRecursion IsUntouched rows → IsQuiet rows
 untouched_quiet [] u = tt
 untouched_quiet (r ∷ rows) u = by_state r.item.state (untouched_quiet rows u.1)
   where
@@ -60,8 +62,8 @@ untouched_quiet (r ∷ rows) u = by_state r.item.state (untouched_quiet rows u.1
 pub record Alters (size : ℕ) (inward : Bool) (a : Account) (back : List Row) (r : Row) (state : ItemState) (ask : Option Ask) (fate : Fate) (asked : List Asked) (made : List Made) : Type 0 where
   pub fits : (behind : Bool) → FitsFate size behind (part_of r) r.fate → FitsFate size behind (part_of (with_row r r.item.share state ask fate)) fate
   pub end : end_of r.item.n fate ≡ end_of r.item.n r.fate
-  pub asked_its : Each (λ q. q.n ≡ r.item.n) asked
-  pub made_its : Each (λ m. m.result.n ≡ r.item.n) made
+  pub asked_its : AllByRecursion (λ q. q.n ≡ r.item.n) asked
+  pub made_its : AllByRecursion (λ m. m.result.n ≡ r.item.n) made
   pub row : IsRow size inward (with_more a [] asked [] made) (with_row r r.item.share state ask fate)
   pub quiet : quiet_by r.item.state back (IsQuiet back) → quiet_by state back (IsQuiet back)
 
@@ -75,7 +77,7 @@ holds_altered size inward next script a line line' left halted taken front back 
   rows = front ++ s ∷ back;
   is_line = becomes;
   all = ap (map accepted_as) (cells_mid h.gone front back s) ∙ (map_mid accepted_as cells (cell_of r) (cell_of s) (map cell_of back) refl ∙ (ap (map accepted_as) (sym m.cells) ∙ (h.all ∙ sym (append-nil a.accepted))));
-  distinct = subst AreDistinct (sym same_numbers) h.distinct;
+  distinct = subst StandOnce (sym same_numbers) h.distinct;
   fresh = fresh_kept k next a a' (all_parts h.gone h.rows) (all_parts h.gone (front ++ s ∷ back)) m.below tells same_numbers h.fresh;
   shares = ap (λ l. l ++ left) (flat_same (λ x. x.share) refl) ∙ h.shares;
   fits = subst (AllFit size false) (sym (cells_mid h.gone front back s)) (fits_join size false cells (cell_of s ∷ map cell_of back) m.front_fits (alters.fits (stalled false cells) m.row_fits, m.back_fits));
@@ -113,12 +115,12 @@ holds_altered size inward next script a line line' left halted taken front back 
     tells = tells_same k a [] asked [] made alters.asked_its alters.made_its
 
 -- behind what was touched last, nothing was
-untouched_shares : (rows : List Row) → Each IsUntouched rows → flat_map (λ x. x.share) (map part_of rows) ≡ []
+untouched_shares : (rows : List Row) → AllByRecursion IsUntouched rows → flat_map (λ x. x.share) (map part_of rows) ≡ []
 untouched_shares [] u = refl
 untouched_shares (r ∷ rows) u = ap₂ (λ k l. k ++ l) u.0.0 (untouched_shares rows u.1)
 
 -- untouched rows tell no end
-untouched_ends : (rows : List Row) → Each IsUntouched rows → flat_map (λ x. end_of x.n x.fate) (map part_of rows) ≡ []
+untouched_ends : (rows : List Row) → AllByRecursion IsUntouched rows → flat_map (λ x. end_of x.n x.fate) (map part_of rows) ≡ []
 untouched_ends [] u = refl
 untouched_ends (r ∷ rows) u = ap₂ (λ k l. k ++ l) u.0.1 (untouched_ends rows u.1)
 
@@ -131,7 +133,7 @@ no_packets size x none = by_body x.request.body
     by_body (Out bytes) = ap (λ l. (unwrap_or (outcome x.request size l false) (open_with [])).packets) none ∙ ap (λ o. (unwrap_or o (open_with [])).packets) (outcome_nothing x.request size)
 
 -- untouched rows have no packets
-untouched_packets : (size : ℕ) (rows : List Row) → Each IsUntouched rows → flat_map (packets_taken size) (map part_of rows) ≡ []
+untouched_packets : (size : ℕ) (rows : List Row) → AllByRecursion IsUntouched rows → flat_map (packets_taken size) (map part_of rows) ≡ []
 untouched_packets size [] u = refl
 untouched_packets size (r ∷ rows) u = ap₂ (λ k l. k ++ l) (no_packets size (part_of r) u.0.0) (untouched_packets size rows u.1)
 
@@ -142,23 +144,18 @@ untouched_fits size behind r none (Withdrawn ask) e = open_untouched size behind
 untouched_fits size behind r none (Ended code gone) e = absurd cc
 
 -- untouched rows fit
-all_untouched_fit : (size : ℕ) (behind : Bool) (rows : List Row) → Each IsUntouched rows → AllFit size behind (map cell_of rows)
+all_untouched_fit : (size : ℕ) (behind : Bool) (rows : List Row) → AllByRecursion IsUntouched rows → AllFit size behind (map cell_of rows)
 all_untouched_fit size behind [] u = tt
 all_untouched_fit size behind (r ∷ rows) u = (untouched_fits size behind r u.0.0 r.fate u.0.1, all_untouched_fit size (behind || has_stall r.item.share) rows u.1)
 
--- or with a false
-pub or_no : (b : Bool) → (b || false) ≡ b
-or_no true = refl
-or_no false = refl
-
 -- untouched rows have no stall
-pub untouched_flag : (behind : Bool) (rows : List Row) → Each IsUntouched rows → stalled behind (map cell_of rows) ≡ behind
+pub untouched_flag : (behind : Bool) (rows : List Row) → AllByRecursion IsUntouched rows → stalled behind (map cell_of rows) ≡ behind
 untouched_flag behind [] u = refl
 untouched_flag behind (r ∷ rows) u =
-    untouched_flag (behind || has_stall r.item.share) rows u.1 ∙ (ap (λ l. behind || has_stall l) u.0.0 ∙ or_no behind)
+    untouched_flag (behind || has_stall r.item.share) rows u.1 ∙ (ap (λ l. behind || has_stall l) u.0.0 ∙ or-false behind)
 
 -- a beginning of which none waits
-quiet_front : (front rows : List Row) → Each (λ r. is_waiting r.item ≡ false) front → IsQuiet rows → IsQuiet (front ++ rows)
+quiet_front : (front rows : List Row) → AllByRecursion (λ r. is_waiting r.item ≡ false) front → IsQuiet rows → IsQuiet (front ++ rows)
 quiet_front [] rows none q = q
 quiet_front (r ∷ front) rows none q = by_state r.item.state none.0 (quiet_front front rows none.1 q)
   where
@@ -184,14 +181,14 @@ row_told_as size a a' r made asked (Ended code gone) t = ap (made_of r.item.n) m
 row_told_as size a a' r made asked (Withdrawn ask) t = (t.0, ap (made_of r.item.n) made ∙ t.1, ap (asks_of r.item.n) asked ∙ t.2)
 
 -- behind a row that was served all are untouched
-quiet_served : (state : ItemState) (back : List Row) → Each IsUntouched back → is_blank_state state ≡ false → quiet_by state back (IsQuiet back)
+quiet_served : (state : ItemState) (back : List Row) → AllByRecursion IsUntouched back → is_blank_state state ≡ false → quiet_by state back (IsQuiet back)
 quiet_served Waiting back u live = u
 quiet_served (Served code) back u live = untouched_quiet back u
 quiet_served Blank back u live = absurd cc
 
 -- the first row that waits takes more answers; ended and packets: what that ends, and what the device takes
 pub record Serves (size : ℕ) (inward : Bool) (a : Account) (left left' : List Answer) (halted' behind : Bool) (front back : List Row) (r : Row) (more : List Answer) (state : ItemState) (fate : Fate) (ended : List End) (packets : List (List ℕ)) : Type 0 where
-  pub none_before : Each (λ x. is_waiting x.item ≡ false) front
+  pub none_before : AllByRecursion (λ x. is_waiting x.item ≡ false) front
   pub waits : r.item.state ≡ Waiting
   pub live : is_blank_state state ≡ false
   pub fate_fits : IsFate state fate
@@ -213,7 +210,7 @@ holds_served size inward next script a line line' left left' halted halted' take
   rows = front ++ s ∷ back;
   is_line = becomes;
   all = ap (map accepted_as) (cells_mid h.gone front back s) ∙ (map_mid accepted_as cells (cell_of r) (cell_of s) (map cell_of back) refl ∙ (ap (map accepted_as) (sym m.cells) ∙ (h.all ∙ sym (append-nil a.accepted))));
-  distinct = subst AreDistinct (sym same_numbers) h.distinct;
+  distinct = subst StandOnce (sym same_numbers) h.distinct;
   fresh = fresh_kept k next a a' (all_parts h.gone h.rows) (all_parts h.gone (front ++ s ∷ back)) m.below tells same_numbers h.fresh;
   shares = ap (λ l. l ++ left') (flat_more (λ x. x.share) more refl (untouched_shares back untouched)) ∙ (append_assoc _ more left' ∙ (ap (λ l. flat_map (λ x. x.share) (all_parts h.gone h.rows) ++ l) (sym serves.left_is) ∙ h.shares));
   fits = subst (AllFit size false) (sym (cells_mid h.gone front back s)) (fits_join size false cells (cell_of s ∷ map cell_of back) m.front_fits (serves.fits, all_untouched_fit size (stalled false cells || has_stall s.item.share) back untouched));
@@ -245,7 +242,7 @@ holds_served size inward next script a line line' left left' halted halted' take
     was_waiting : r.fate ≡ Waits
     was_waiting = subst (λ t. IsFate t r.fate) serves.waits m.row.fate
 
-    untouched : Each IsUntouched back
+    untouched : AllByRecursion IsUntouched back
     untouched = subst (λ t. quiet_by t back (IsQuiet back)) serves.waits (quiet_behind front (r ∷ back) m.quiet)
 
     flat_more : {B : Type 0} (f : Part → List B) (new : List B) → f (part_of s) ≡ f (part_of r) ++ new → flat_map f (map part_of back) ≡ [] → flat_map f (all_parts h.gone (front ++ s ∷ back)) ≡ flat_map f (all_parts h.gone h.rows) ++ new

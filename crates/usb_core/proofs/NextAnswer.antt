@@ -25,12 +25,6 @@ next_split true left = refl
 next_split false [] = refl
 next_split false (y ∷ ys) = refl
 
--- at most one answer is served
-next_short : (halted : Bool) (left : List Answer) → length (next_by halted left) ≤ 1
-next_short true left = omega arith
-next_short false [] = omega arith
-next_short false (y ∷ ys) = omega arith
-
 -- the answers left are of the endpoint's direction still
 pub next_kinds : (inward halted : Bool) (left : List Answer) → list_all (is_of_direction inward) left ≡ true → list_all (is_of_direction inward) (drop (length (next_by halted left)) left) ≡ true
 next_kinds inward true left k = k

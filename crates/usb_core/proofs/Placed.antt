@@ -13,8 +13,10 @@ use Rattle.usb_model.specs.declared.step.Step.TheVariants.{Take}
 use Rattle.usb_model.specs.declared.step.Step.{Step}
 use Rattle.usb_model.specs.Calls.{submitted, without}
 use Rattle.usb_model.specs.Cut.{times}
-use Rattle.usb_model.specs.Endpoint.{Doing, fresh, live_numbers}
-use Rattle.usb_model.specs.Machine.{Effect, Machine, device_of, doing_at, end_at, is_gone, says}
+use Rattle.usb_model.specs.declared.plain.doing.Doing.{Doing}
+use Rattle.usb_model.specs.Endpoint.{fresh, live_numbers}
+use Rattle.usb_model.specs.declared.plain.effect.Effect.{Effect}
+use Rattle.usb_model.specs.Machine.{Machine, device_of, doing_at, end_at, is_gone, says}
 use Rattle.usb_model.specs.Places.{InNoPlace, InOnePlace, call_of, numbers_at}
 use Rattle.usb_model.specs.Setup.{Setup, size_of}
 use Rattle.usb_model.specs.Shared.{past_first}

@@ -24,8 +24,10 @@ use Rattle.usb_model.specs.declared.verdict.Verdict.TheVariants.{Again, AgainWit
 use Rattle.usb_model.specs.Bound.{first_counts}
 use Rattle.usb_model.specs.Calls.{asks, submitted, with_ask}
 use Rattle.usb_model.specs.Deliver.{blanked, deliver, line_after}
-use Rattle.usb_model.specs.Endpoint.{Doing, first_waiting, fresh, is_blank, is_it, is_waiting, new_item, outcome_of, past_blanks, past_number, with_first}
-use Rattle.usb_model.specs.Machine.{Effect, Machine, device_of, doing_at, end_at, is_gone, new_machine}
+use Rattle.usb_model.specs.declared.plain.doing.Doing.{Doing}
+use Rattle.usb_model.specs.Endpoint.{first_waiting, fresh, is_blank, is_it, is_waiting, new_item, outcome_of, past_blanks, past_number, with_first}
+use Rattle.usb_model.specs.declared.plain.effect.Effect.{Effect}
+use Rattle.usb_model.specs.Machine.{Machine, device_of, doing_at, end_at, is_gone, new_machine}
 use Rattle.usb_model.specs.declared.plain.outcome.Outcome.{Outcome}
 use Rattle.usb_model.specs.Packets.{open_with, outcome}
 use Rattle.usb_model.specs.Serve.{next_answer, serve, serve_by, serve_first, serve_gone}

@@ -5,20 +5,16 @@ use Rattle.std.specs.List.{AllByRecursion, IsDistinct, list_any}
 use Rattle.std.proofs.lemmas.Map.Steps.{length-le_from_distinct_below}
 use Rattle.std.proofs.lemmas.Bool.{false≢true, or_parts, or_cases, eqb-true, eqb-false, ne_eqb}
 use Rattle.usb_model.specs.declared.setup.EndpointInfo.{EndpointInfo}
+use Rattle.usb_model.proofs.Each.{each_append}
 use Rattle.usb_descriptors.specs.Grammar.{is_bad_size}
 use Rattle.usb_descriptors.specs.Table.{IsNumbered, IsTable, addresses}
-
--- what holds of each element holds of one more
-AllByRecursion-push : {X : Type 0} (P : X → Type 0) (xs : List X) (x : X) → AllByRecursion P xs → P x → AllByRecursion P (xs ++ x ∷ [])
-AllByRecursion-push P [] x all here = (here, tt)
-AllByRecursion-push P (y ∷ xs) x all here = (all.0, AllByRecursion-push P xs x all.1 here)
 
 -- numbers that differ, and one more that is none of them
 IsDistinct-push : (ks : List ℕ) (k : ℕ) → IsDistinct nat_eq ks → AllByRecursion (λ y. nat_eq y k ≡ false) ks
     → IsDistinct nat_eq (ks ++ k ∷ [])
 unfolding IsDistinct
 IsDistinct-push [] k apart new = (tt, tt)
-IsDistinct-push (y ∷ ks) k apart new = (AllByRecursion-push _ ks k apart.0 new.0, IsDistinct-push ks k apart.1 new.1)
+IsDistinct-push (y ∷ ks) k apart new = (each_append (λ z. nat_eq y z ≡ false) ks (k ∷ []) apart.0 (new.0, tt), IsDistinct-push ks k apart.1 new.1)
 
 -- where no endpoint has the address, it is none of the addresses
 new_address : (xs : List EndpointInfo) (a : ℕ) → list_any (λ y. nat_eq y.address a) xs ≡ false
@@ -43,9 +39,9 @@ pub IsTable-push : (xs : List EndpointInfo) (x : EndpointInfo) → IsTable xs �
 IsTable-push xs x table numbered new sized =
     let address = sym (addresses-push xs x) in
     record {
-      numbered = subst (AllByRecursion IsNumbered) address (AllByRecursion-push _ (addresses xs) x.address table.numbered numbered);
+      numbered = subst (AllByRecursion IsNumbered) address (each_append IsNumbered (addresses xs) (x.address ∷ []) table.numbered (numbered, tt));
       distinct = subst (IsDistinct nat_eq) address (IsDistinct-push (addresses xs) x.address table.distinct (new_address xs x.address new));
-      sized = AllByRecursion-push _ xs x table.sized sized;
+      sized = each_append (λ y. is_bad_size y ≡ false) xs (x ∷ []) table.sized (sized, tt);
     }
 
 -- an address's place among 30: twice its number, one more for IN, less the two of number 0

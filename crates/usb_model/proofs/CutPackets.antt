@@ -4,6 +4,7 @@ use Rattle.std.specs.Prelude.{◌||◌, if◌then◌else◌}
 use Rattle.std.specs.List.{concat}
 use Rattle.std.proofs.lemmas.Bool.{ne_eqb, eqb-true}
 use Rattle.std.proofs.lemmas.List.{take-append-drop, take_all}
+use Rattle.std.proofs.Math.Bool.{or-true}
 use Rattle.std.proofs.Math.Nat.{suc-mul, div-mul-le_self, lt-mul-div-succ, mul_comm}
 use Rattle.usb_model.specs.Packets.{cut, full_packets, pieces}
 use Rattle.usb_model.specs.Laws.{AreFull, ends_empty, CutsIntoPackets}
@@ -61,10 +62,6 @@ no_more_packets adds_zero n size = by_test (adds_zero && (n % size == 0))
     by_test true = div-mul-le_self n size
     by_test false = omega (arith, div-mul-le_self (n - 1) size)
 
-or_true : (a : Bool) → (a || true) ≡ true
-or_true true = refl
-or_true false = refl
-
 -- the full ones hold all just where there is none to hold, or where they are whole and an empty one is asked for
 last_packet : (adds_zero : Bool) (n size : ℕ) → 0 < size → (n - full_packets adds_zero n size * size == 0) ≡ ((n == 0) || (adds_zero && (n % size == 0)))
 last_packet adds_zero n size some = by_test (adds_zero && (n % size == 0)) refl
@@ -89,7 +86,7 @@ last_packet adds_zero n size some = by_test (adds_zero && (n % size == 0)) refl
     by_test true e =
         let whole : n % size ≡ 0 = eqb-true (n % size) 0 (rest_of (n % size == 0) e) in
         let here : n - n / size * size ≡ 0 = omega (arith, whole, mul_comm size (n / size), some) in
-        rw (here, or_true (n == 0)) refl
+        rw (here, or-true (n == 0)) refl
     by_test false e = by_number n refl
 
 pub cuts_into_packets : CutsIntoPackets

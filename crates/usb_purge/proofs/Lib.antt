@@ -1,4 +1,3 @@
-mod Alone
 mod Rises
 mod Calls
 mod Given

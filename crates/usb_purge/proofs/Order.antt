@@ -1,7 +1,7 @@
 -- At one endpoint, transfers that were neither cancelled nor timed out are called back in order.
-use Rattle.std.proofs.Common.{◌≡◌, ℕ, ◌==◌, Bool, true, false, ◌&&◌, ◌⊎◌, inl, inr, List, [], ◌∷◌, ◌++◌, map, refl, ap, sym, ◌∙◌, subst, append-nil, append_assoc}
+use Rattle.std.proofs.Common.{◌≡◌, ℕ, ◌<◌, ◌==◌, Bool, true, false, ◌&&◌, ◌⊎◌, inl, inr, List, [], ◌∷◌, ◌++◌, map, refl, ap, sym, ◌∙◌, subst, append-nil, append_assoc}
 use Rattle.std.specs.Prelude.{if◌then◌else◌}
-use Rattle.std.specs.List.{filter}
+use Rattle.std.specs.List.{AllByRecursion, filter}
 use Rattle.std.proofs.lemmas.Bool.{eqb-true}
 use Rattle.std.proofs.lemmas.List.{map-append}
 use Rattle.std.proofs.lemmas.List.Elements.{filter-append}
@@ -10,18 +10,19 @@ use Rattle.usb_model.specs.declared.reply.Returned.{Returned}
 use Rattle.usb_model.specs.declared.step.Step.{Step}
 use Rattle.usb_model.specs.declared.plain.result.TransferResult.{TransferResult}
 use Rattle.usb_model.specs.Setup.{Setup}
+use Rattle.usb_model.specs.Status.{is_uncut}
 use Rattle.usb_model.specs.Machine.{Machine, new_machine}
 use Rattle.usb_model.specs.Turns.{alone_from, alone}
-use Rattle.usb_model.specs.Journal.{own}
+use Rattle.usb_model.specs.Journal.{entries, own}
 use Rattle.usb_model.specs.Places.{call_of, calls}
 use Rattle.usb_model.proofs.Pieces.{same_name}
 use Rattle.usb_model.proofs.Isolation.{sees_alone}
-use Rattle.usb_model.proofs.Parts.{IsPart, nothing, skips, keeps, part_behind, part_map, part_filter}
+use Rattle.usb_model.proofs.Each.{each_append, each_behind, each_front, each_part}
+use Rattle.usb_model.proofs.Parts.{IsPart, part_behind, part_map, part_filter}
 use Rattle.usb_model.proofs.Lines.{Key, uncut_keys}
 use Rattle.usb_model.proofs.Moves.{keys_at, told, DoesWork, Submits, Takes, Moves, moves}
-use Rattle.usb_purge.specs.Rising.{Rises, is_uncut, uncut_numbers}
-use Rattle.usb_purge.specs.Laws.{CallsInOrder}
-use Rattle.usb_purge.proofs.Rises.{AllBelow, part_rises, part_below, below_more, below_up, rises_more, rises_front}
+use Rattle.usb_purge.specs.Laws.{CallsInOrder, uncut_numbers}
+use Rattle.usb_purge.proofs.Rises.{AllBelow, Rises, increasing, part_rises, below_more, below_up, rises_more, rises_front}
 use Rattle.usb_purge.proofs.Calls.{next_machine, reply_to}
 
 -- the numbers of the transfers at this endpoint
@@ -38,29 +39,11 @@ numbers_for_part ep p = part_map (λ k. k.n) (part_filter (λ k. k.ep == ep) p)
 
 -- each transfer is one of this endpoint
 abbrev AreAt : ℕ → List Key → Type 0
-AreAt ep [] = Unit {0}
-AreAt ep (k ∷ ks) = (k.ep ≡ ep) × AreAt ep ks
-
--- so it is of a part
-are_at_part : {xs ys : List Key} (ep : ℕ) → IsPart xs ys → AreAt ep ys → AreAt ep xs
-are_at_part ep nothing a = a
-are_at_part ep (skips p) a = are_at_part ep p a.1
-are_at_part ep (keeps p) a = (a.0, are_at_part ep p a.1)
-
--- of the first of them
-are_at_front : (ep : ℕ) (xs ys : List Key) → AreAt ep (xs ++ ys) → AreAt ep xs
-are_at_front ep [] ys a = tt
-are_at_front ep (x ∷ xs) ys a = (a.0, are_at_front ep xs ys a.1)
-
--- of the rest
-are_at_tail : (ep : ℕ) (xs ys : List Key) → AreAt ep (xs ++ ys) → AreAt ep ys
-are_at_tail ep [] ys a = a
-are_at_tail ep (x ∷ xs) ys a = are_at_tail ep xs ys a.1
+AreAt ep ks = AllByRecursion (λ k. k.ep ≡ ep) ks
 
 -- with one more of the endpoint
 are_at_more : (ep n : ℕ) (xs : List Key) → AreAt ep xs → AreAt ep (xs ++ record { n = n; ep = ep } ∷ [])
-are_at_more ep n [] a = (refl, tt)
-are_at_more ep n (x ∷ xs) a = (a.0, are_at_more ep n xs a.1)
+are_at_more ep n xs a = each_append (λ k. k.ep ≡ ep) xs (record { n = n; ep = ep } ∷ []) a (refl, tt)
 
 -- then none is one of another
 none_for : (at ep : ℕ) (xs : List Key) → (at == ep) ≡ false → AreAt at xs → numbers_for ep xs ≡ []
@@ -76,8 +59,8 @@ placed_kept : (h : ℕ) (m m' : Machine) (reply : Reply) → ArePlaced m → Mov
 placed_kept h m m' reply placed (inl w) at = by_test (w.ep == at) refl
   where
     by_test : (b : Bool) → (w.ep == at) ≡ b → AreAt at (keys_at m' at)
-    by_test true e = subst (λ k. AreAt k (keys_at m' k)) (eqb-true w.ep at e) (are_at_tail w.ep (uncut_keys w.made) (keys_at m' w.ep) (are_at_part w.ep w.ordered_at (placed w.ep)))
-    by_test false e = are_at_part at (w.others at e) (placed at)
+    by_test true e = subst (λ k. AreAt k (keys_at m' k)) (eqb-true w.ep at e) (each_behind (λ k. k.ep ≡ w.ep) (uncut_keys w.made) (keys_at m' w.ep) (each_part (λ k. k.ep ≡ w.ep) w.ordered_at (placed w.ep)))
+    by_test false e = each_part (λ k. k.ep ≡ at) (w.others at e) (placed at)
 placed_kept h m m' reply placed (inr (inl s)) at = by_test (s.ep == at) refl
   where
     by_test : (b : Bool) → (s.ep == at) ≡ b → AreAt at (keys_at m' at)
@@ -119,7 +102,7 @@ work_coming ep m m' reply placed w = by_test (w.ep == ep) refl
     split = ap (λ l. l ++ numbers_for ep (keys_at m' ep)) results ∙ append_assoc waiting (numbers_for ep (uncut_keys w.made)) (numbers_for ep (keys_at m' ep))
 
     made_elsewhere : (w.ep == ep) ≡ false → numbers_for ep (uncut_keys w.made) ≡ []
-    made_elsewhere e = none_for w.ep ep (uncut_keys w.made) e (are_at_front w.ep (uncut_keys w.made) (keys_at m' w.ep) (are_at_part w.ep w.ordered_at (placed w.ep)))
+    made_elsewhere e = none_for w.ep ep (uncut_keys w.made) e (each_front (λ k. k.ep ≡ w.ep) (uncut_keys w.made) (keys_at m' w.ep) (each_part (λ k. k.ep ≡ w.ep) w.ordered_at (placed w.ep)))
 
     by_test : (b : Bool) → (w.ep == ep) ≡ b → IsPart (coming ep m') (coming ep m)
     by_test true e =
@@ -173,7 +156,7 @@ ordered_kept ep h called m m' reply o placed moved = by_case moved
     by_work : DoesWork m m' reply → IsOrdered ep called m'
     by_work w =
         let part : IsPart (called ++ coming ep m') (called ++ coming ep m) = part_behind called (work_coming ep m m' reply placed w) in
-        record { rises = part_rises part o.rises; below = rw w.next (part_below m.handle.next part o.below) }
+        record { rises = part_rises part o.rises; below = rw w.next (each_part (λ x. x < m.handle.next) part o.below) }
 
     by_submit : Submits m m' reply → (coming ep m' ≡ coming ep m ++ m.handle.next ∷ []) ⊎ (coming ep m' ≡ coming ep m) → IsOrdered ep called m'
     by_submit s (inl e) =
@@ -231,4 +214,5 @@ placed_new at = tt
 pub calls_in_order : (setup : Setup) (steps : List Step) (h : ℕ) → CallsInOrder setup steps h
 unfolding alone
 calls_in_order setup steps h ep =
-    subst (λ es. Rises (uncut_numbers ep (calls es))) (sym (sees_alone setup steps h)) (rises_from ep setup h [] new_machine (own setup steps h) (ordered_new ep) placed_new)
+    increasing (uncut_numbers ep (calls (entries setup steps h)))
+    (subst (λ es. Rises (uncut_numbers ep (calls es))) (sym (sees_alone setup steps h)) (rises_from ep setup h [] new_machine (own setup steps h) (ordered_new ep) placed_new))

@@ -10,7 +10,8 @@ use Rattle.usb_model.specs.declared.plain.endpoint.Endpoint.{Endpoint}
 use Rattle.usb_model.specs.declared.plain.handle.Handle.{Handle}
 use Rattle.usb_model.specs.declared.plain.result.InCallback.{InCallback}
 use Rattle.usb_model.specs.Setup.{Setup}
-use Rattle.usb_model.specs.Machine.{Machine, Effect, refused_if, doing_at}
+use Rattle.usb_model.specs.declared.plain.effect.Effect.{Effect}
+use Rattle.usb_model.specs.Machine.{Machine, refused_if, doing_at}
 use Rattle.usb_model.specs.Calls.{submit_at, submit_it, callback_of, answer_at, answer_it}
 use Rattle.usb_model.specs.Turns.{effect}
 use Rattle.usb_model.specs.World.{World, machine_of, is_blocked, turn}

@@ -1,5 +1,7 @@
 -- What holds of every run, and of every plan.
-use Rattle.std.specs.Prelude.{◌≡◌, ℕ, ◌<◌, ◌≤◌, List, ◌∷◌, ◌++◌, Option, Some}
+use Rattle.std.specs.Prelude.{◌≡◌, ℕ, ◌<◌, ◌≤◌, ◌==◌, ◌&&◌, List, ◌∷◌, ◌++◌, map, Option, Some}
+use Rattle.std.specs.List.{filter}
+use Rattle.std.specs.List.Sorted.{IsStrictlyIncreasing}
 use Rattle.usb_model.specs.declared.reply.Reply.TheVariants.{Called}
 use Rattle.usb_model.specs.declared.reply.Returned.{Returned}
 use Rattle.usb_model.specs.declared.entry.Entry.{Entry}
@@ -7,6 +9,7 @@ use Rattle.usb_model.specs.declared.step.Step.{Step}
 use Rattle.usb_model.specs.declared.verdict.Rule.{Rule}
 use Rattle.usb_model.specs.declared.plan.Plan.{Plan}
 use Rattle.usb_model.specs.Setup.{Setup}
+use Rattle.usb_model.specs.Status.{is_uncut}
 use Rattle.usb_model.specs.Machine.{new_machine}
 use Rattle.usb_model.specs.Turns.{alone, machine_from}
 use Rattle.usb_model.specs.World.{new_world, machine_of, world_from}
@@ -14,7 +17,6 @@ use Rattle.usb_model.specs.Journal.{world_run, own, entries}
 use Rattle.usb_model.specs.Plans.{expand, own_plan, own_rules}
 use Rattle.usb_model.specs.Cut.{times}
 use Rattle.usb_model.specs.Places.{calls, numbers_given, numbers_called}
-use Rattle.usb_purge.specs.Rising.{Rises, uncut_numbers}
 
 -- what a handle sees is what it sees alone over its own steps
 abbrev pub SeesAlone : Setup → List Step → ℕ → Type 0
@@ -47,6 +49,10 @@ CallsAfterNumber setup steps h = (before after : List Entry) (owner : Option ℕ
     → entries setup steps h ≡ before ++ record { owner = owner; reply = Called r } ∷ after
     → IsCallOf h before owner r
 
--- at one endpoint those that were neither cancelled nor timed out are called back in the order of their numbers
+-- the numbers of the calls at one endpoint that were neither cancelled nor timed out
+abbrev pub uncut_numbers : ℕ → List Returned → List ℕ
+uncut_numbers ep calls = map (λ r. r.n) (filter (λ r. (r.ep == ep) && is_uncut r.status) calls)
+
+-- they are called back in the order of their numbers
 abbrev pub CallsInOrder : Setup → List Step → ℕ → Type 0
-CallsInOrder setup steps h = (ep : ℕ) → Rises (uncut_numbers ep (calls (entries setup steps h)))
+CallsInOrder setup steps h = (ep : ℕ) → IsStrictlyIncreasing (uncut_numbers ep (calls (entries setup steps h)))

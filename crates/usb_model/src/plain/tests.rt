@@ -1,0 +1,243 @@
+//! Each public function of an endpoint once, along the worked row of a cancelled read, and two handles at one device.
+
+use crate::answer::Answer;
+use crate::errand::Errand;
+use crate::flags::Flags;
+use crate::name::{DeviceNo, EpAddr, Name};
+use crate::plain::alone;
+use crate::plain::endpoint::{Endpoint, EndpointState};
+use crate::plain::item::Ask;
+use crate::plain::news::Event;
+use crate::reply::Reply;
+use crate::request::{Body, Kind, Request};
+use crate::sequence::{Bytes, Sequence};
+use crate::setup::{Configuration, DeviceSetup, EndpointInfo, Setup};
+use crate::status::Status;
+use crate::step::Step;
+use bitflags::Flags as _;
+use std::alloc::Global;
+use std::fmt::Display;
+use std::test::Fail;
+
+fn bytes(alloc: Global, values: &[u8]) -> Result<Bytes, Fail> {
+    Ok(Sequence::from_vec(Vec::from_slice(alloc, values)?))
+}
+
+fn device(number: u8) -> Result<DeviceNo, Fail> {
+    Ok(DeviceNo::new(number).ok_or("a device of 4 or more")?)
+}
+
+/// Endpoint 81 with packets of 8 bytes, which answers with so many packets.
+fn setup(alloc: Global, count: u16) -> Result<Setup, Fail> {
+    let mut script = Vec::new(alloc);
+    for _ in 0..count {
+        script.push(Answer::Data(bytes(alloc, &[1, 2, 3, 4, 5, 6, 7, 8])?))?;
+    }
+    let info = EndpointInfo {
+        address: EpAddr::new(0x81),
+        interface: 0,
+        kind: Kind::Bulk,
+        size: 8,
+    };
+    let mut scripts = Vec::new(alloc);
+    for _ in 0..3 {
+        scripts.push(Sequence::new(alloc))?;
+    }
+    scripts.push(Sequence::from_vec(script))?;
+    let config = Configuration {
+        interfaces: bytes(alloc, &[0])?,
+        endpoints: Sequence::from_vec(vec![in alloc; info]?),
+    };
+    let device = DeviceSetup {
+        config,
+        scripts: Sequence::from_vec(scripts),
+    };
+    let mut devices = Vec::new(alloc);
+    devices.push(device)?;
+    Ok(Sequence::from_vec(devices))
+}
+
+fn read(n: u32) -> Request {
+    Request {
+        ep: EpAddr::new(0x81),
+        kind: Kind::Bulk,
+        flags: Flags::empty(),
+        timeout: 0,
+        body: Body::In(n),
+    }
+}
+
+fn serve(alloc: Global, endpoint: Endpoint) -> Result<Endpoint, Fail> {
+    Ok(endpoint.serve(alloc, 8, false)?.endpoint)
+}
+
+#[test]
+fn a_cancelled_read_gives_what_it_moved(rt: HostRuntime) -> Result<(), Fail> {
+    let alloc = rt.alloc();
+    let ep = EpAddr::new(0x81);
+    let setup = setup(alloc, 2)?;
+    let endpoint = Endpoint::fresh(alloc, &setup, device(0)?, ep)?;
+    assert!(rt; endpoint.is_empty());
+    let endpoint = endpoint.submit(alloc, 0, read(24), 0)?.endpoint;
+    let endpoint = serve(alloc, endpoint)?;
+    assert!(rt; endpoint.in_progress(0).is_some());
+    let endpoint = endpoint.ask(alloc, 0, Ask::Cancel)?.endpoint;
+    let stopped = endpoint.command(alloc, 8, ep, Errand::Stop)?;
+    assert_eq!(rt; stopped.news.len(), 2);
+    let paused = stopped
+        .endpoint
+        .deliver(alloc, 8, ep, false, Event::Paused { n: 0 })?;
+    let news = Event::Settled {
+        errand: Errand::Stop,
+        ok: true,
+    };
+    let settled = paused.endpoint.deliver(alloc, 8, ep, false, news)?;
+    let [result] = settled.results.as_slice() else {
+        return Err(Fail::from("not one result"));
+    };
+    assert!(rt; result.status == Status::Cancelled);
+    assert_eq!(rt;
+        result.bytes.as_slice(),
+        [1, 2, 3, 4, 5, 6, 7, 8].as_slice()
+    );
+    let moved = settled.endpoint.command(alloc, 8, ep, Errand::Move)?;
+    assert!(rt; matches!(moved.reply, Reply::Ran { ok: true, .. }));
+    let news = Event::Settled {
+        errand: Errand::Move,
+        ok: true,
+    };
+    let endpoint = moved
+        .endpoint
+        .deliver(alloc, 8, ep, false, news)?
+        .endpoint
+        .unhalt();
+    assert!(rt; endpoint.is_empty() && endpoint.state == EndpointState::Running);
+    Ok(())
+}
+
+#[test]
+fn a_finished_read_leaves_its_line(rt: HostRuntime) -> Result<(), Fail> {
+    let alloc = rt.alloc();
+    let ep = EpAddr::new(0x81);
+    let setup = setup(alloc, 2)?;
+    let endpoint = Endpoint::fresh(alloc, &setup, device(0)?, ep)?;
+    let endpoint = endpoint.submit(alloc, 0, read(16), 0)?.endpoint;
+    let endpoint = serve(alloc, endpoint)?;
+    let served = endpoint.serve(alloc, 8, false)?;
+    assert!(rt; matches!(served.reply, Reply::Ended { n: 0, code: 1 }));
+    let news = Event::Finished { n: 0, code: 1 };
+    let done = served.endpoint.deliver(alloc, 8, ep, false, news)?;
+    let [result] = done.results.as_slice() else {
+        return Err(Fail::from("not one result"));
+    };
+    assert_eq!(rt; result.actual, 16);
+    assert!(rt; done.endpoint.is_empty());
+    Ok(())
+}
+
+/// A device with a bulk endpoint of interface 0 and an interrupt endpoint of interface 1; the first answers one packet.
+fn two_interfaces(alloc: Global) -> Result<Setup, Fail> {
+    let bulk = EndpointInfo {
+        address: EpAddr::new(0x81),
+        interface: 0,
+        kind: Kind::Bulk,
+        size: 8,
+    };
+    let interrupt = EndpointInfo {
+        address: EpAddr::new(0x83),
+        interface: 1,
+        kind: Kind::Interrupt,
+        size: 8,
+    };
+    let mut script = Vec::new(alloc);
+    script.push(Answer::Data(bytes(alloc, &[1, 2, 3, 4, 5, 6, 7, 8])?))?;
+    let mut scripts = Vec::new(alloc);
+    for _ in 0..3 {
+        scripts.push(Sequence::new(alloc))?;
+    }
+    scripts.push(Sequence::from_vec(script))?;
+    let config = Configuration {
+        interfaces: bytes(alloc, &[0, 1])?,
+        endpoints: Sequence::from_vec(vec![in alloc; bulk, interrupt]?),
+    };
+    let device = DeviceSetup {
+        config,
+        scripts: Sequence::from_vec(scripts),
+    };
+    let mut devices = Vec::new(alloc);
+    devices.push(device)?;
+    Ok(Sequence::from_vec(devices))
+}
+
+fn name(number: u8) -> Result<Name, Fail> {
+    Ok(Name::new(number).ok_or("a name of 64 or more")?)
+}
+
+fn submit(h: Name, address: u8, kind: Kind) -> Step {
+    let ep = EpAddr::new(address);
+    Step::Submit {
+        h,
+        request: Request {
+            ep,
+            kind,
+            flags: Flags::empty(),
+            timeout: 0,
+            body: Body::In(8),
+        },
+    }
+}
+
+/// Two handles with transfers at one device, which is unplugged.
+fn unplugged_amid_transfers(alloc: Global) -> Result<Vec<Step>, Fail> {
+    let (one, two, dev) = (name(1)?, name(2)?, device(0)?);
+    let (bulk, interrupt) = (EpAddr::new(0x81), EpAddr::new(0x83));
+    let steps = vec![in alloc;
+        Step::Open { h: one, dev },
+        Step::Open { h: two, dev },
+        Step::Claim { h: one, i: 0 },
+        Step::Claim { h: two, i: 1 },
+        submit(one, 0x81, Kind::Bulk),
+        submit(one, 0x81, Kind::Bulk),
+        submit(two, 0x83, Kind::Interrupt),
+        Step::Serve { dev, ep: bulk },
+        Step::Unplug { dev },
+        Step::Unplug { dev },
+        submit(one, 0x81, Kind::Bulk),
+        Step::Deliver,
+        Step::Serve { dev, ep: bulk },
+        Step::Serve { dev, ep: interrupt },
+        Step::Deliver,
+        Step::Deliver,
+        Step::Take,
+        Step::Take,
+        Step::Take,
+    ]?;
+    Ok(steps)
+}
+
+#[test]
+fn a_handle_sees_alone_what_it_sees_amid_others(rt: HostRuntime) -> Result<(), Fail> {
+    let alloc = rt.alloc();
+    let setup = two_interfaces(alloc)?;
+    let steps = unplugged_amid_transfers(alloc)?;
+    let both = alone(alloc, &setup, &steps, name(2)?)?;
+    let lines = [
+        "h2 done",
+        "h2 done",
+        "h2 number 0",
+        "- done",
+        "- refused 2",
+        "h2 ended 0 code 4",
+        "h2 finished 0",
+        "h2 called 0 ep 83 round 0 NO_DEVICE 0 data -",
+    ];
+    assert_eq!(rt; both.amid.len(), lines.len());
+    assert_eq!(rt; both.alone.len(), lines.len());
+    for (entry, line) in both.amid.as_slice().iter().zip(lines.iter()) {
+        assert_eq!(rt; entry.to_string(alloc)?.as_str(), *line);
+    }
+    for (entry, line) in both.alone.as_slice().iter().zip(lines.iter()) {
+        assert_eq!(rt; entry.to_string(alloc)?.as_str(), *line);
+    }
+    Ok(())
+}

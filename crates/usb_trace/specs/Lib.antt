@@ -1,0 +1,11 @@
+pub mod Reading
+pub mod Number
+pub mod Verb
+pub mod Step
+pub mod Prefix
+pub mod Names
+pub mod Words
+pub mod Option
+pub mod Line
+pub mod Scenario
+pub mod Program

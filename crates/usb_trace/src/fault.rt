@@ -1,0 +1,80 @@
+//! Why a run of the program ends early.
+
+ghost use Rattle.std.specs.Prelude.{◌≡◌};
+ghost use Rattle.usb_trace.specs.Reading.{fault_at, IsOfRun};
+ghost use Rattle.usb_trace.specs.declared.fault.Bad.TheVariants as Bad;
+ghost use Rattle.usb_trace.specs.declared.fault.Fault.TheVariants as Fault;
+
+use std::alloc::{AllocError, AllocFailed};
+use std::io;
+use thiserror::Error;
+
+/// What ends a run, in the words of its message.
+#[derive(Clone, Copy, PartialEq, Eq, Debug, Error)]
+pub(crate) enum Fault {
+    /// The line of this number, from 1, is none that may stand there.
+    #[error("line {0} refused")]
+    Line(u64),
+    /// No memory was to be had.
+    #[error("out of memory")]
+    Memory,
+    /// The input can't be read, or the output not written.
+    #[error("input or output failed")]
+    InputOutput,
+}
+
+impl From<AllocError> for Fault {
+    ghost from_gives = { λ _ e. e ≡ Fault.Memory };
+
+    fn from(_error: AllocError) -> Fault {
+        Fault::Memory
+    }
+}
+
+impl From<io::Error> for Fault {
+    ghost from_gives = { λ _ fault. IsOfRun fault };
+
+    fn from(error: io::Error) -> Fault {
+        match error.kind() {
+            io::ErrorKind::OutOfMemory => Fault::Memory,
+            _ => Fault::InputOutput,
+        }
+    }
+}
+
+/// Why a line isn't taken.
+#[derive(Clone, Copy, PartialEq, Eq, Debug)]
+pub(crate) enum Bad {
+    /// It is none that may stand there.
+    Text,
+    /// No memory was to be had.
+    Memory,
+}
+
+impl Bad {
+    /// The fault of the run, where the line has this number.
+    pub(crate) fn at(self, line: u64) -> Fault
+        ensures { result ≡ fault_at self line }
+    {
+        match self {
+            Bad::Text => Fault::Line(line),
+            Bad::Memory => Fault::Memory,
+        }
+    }
+}
+
+impl From<AllocError> for Bad {
+    ghost from_gives = { λ _ e. e ≡ Bad.Memory };
+
+    fn from(_error: AllocError) -> Bad {
+        Bad::Memory
+    }
+}
+
+impl<T: Drop> From<AllocFailed<T>> for Bad {
+    ghost from_gives = { λ _ e. e ≡ Bad.Memory };
+
+    fn from(_error: AllocFailed<T>) -> Bad {
+        Bad::Memory
+    }
+}

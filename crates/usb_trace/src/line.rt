@@ -1,0 +1,132 @@
+//! One line of a scenario.
+
+ghost use Rattle.std.specs.Prelude.{◌≡◌};
+ghost use Rattle.std.specs.Option.{option_copied};
+ghost use Rattle.std.specs.Result.{result_ok};
+ghost use Rattle.usb_descriptors.specs.Grammar.{reading};
+ghost use Rattle.usb_trace.specs.Line.{is_ascii, ascii_of, device_line_of};
+ghost use Rattle.usb_trace.specs.Reading.{ReadsAs};
+ghost use Rattle.usb_trace.specs.Step.{piece_of_words};
+ghost use Rattle.usb_trace.specs.Words.{words_of};
+
+use crate::fault::Bad;
+use crate::number::{bytes, device, long, name};
+use crate::script::script;
+use crate::step::step;
+use crate::submit::submit;
+use crate::verb::Verb;
+use std::alloc::Global;
+use std::str;
+use usb_descriptors::read_config;
+use usb_model::{Configuration, DeviceNo, EpAddr, Name, Plan, Request, Rule, Script, Sequence};
+
+/// What a line says.
+#[derive(Drop)]
+pub(crate) enum Line {
+    /// The device of this number has this configuration.
+    Device {
+        number: DeviceNo,
+        config: Configuration,
+    },
+    /// The answers of an endpoint of a device.
+    Script {
+        dev: DeviceNo,
+        ep: EpAddr,
+        answers: Script,
+    },
+    /// A transfer is submitted, and its callback answers by this rule.
+    Submit {
+        h: Name,
+        request: Request,
+        rule: Rule,
+    },
+    /// Another piece of the plan.
+    Piece(Plan),
+}
+
+impl Line {
+    ghost use Rattle.usb_trace.specs.Line.{line_of, line_of_text};
+
+    /// What a line says: words between single spaces, all ASCII.
+    pub(crate) fn from_text(alloc: Global, text: &[u8]) -> Result<Line, Bad>
+        ensures { ReadsAs result (line_of_text text.now) }
+    {
+        let text = ascii(text).ok_or(Bad::Text)?;
+        let words: Vec<&str> = text.split(' ').collect(alloc)?;
+        Line::read(alloc, words.as_slice())
+    }
+
+    /// What the words of a line say.
+    fn read(alloc: Global, words: &[&str]) -> Result<Line, Bad>
+        ensures { ReadsAs result (line_of (words_of words.now)) }
+    {
+        let [first, rest @ ..] = words else {
+            return Err(Bad::Text);
+        };
+        match Verb::read(first).ok_or(Bad::Text)? {
+            Verb::Device => device_line(alloc, rest),
+            Verb::Script => script(alloc, rest),
+            Verb::Submit => submit(alloc, rest),
+            verb => piece(verb, rest).map(Line::Piece).ok_or(Bad::Text),
+        }
+    }
+}
+
+/// Whether bytes are all ASCII.
+fn is_ascii(bytes: &[u8]) -> bool
+    ensures { result ≡ is_ascii bytes.now }
+{
+    bytes.iter().all(|byte| *byte < 128)
+}
+
+/// The text of bytes that are all ASCII.
+fn ascii(bytes: &[u8]) -> Option<&str>
+    ensures { option_copied result ≡ ascii_of bytes.now }
+{
+    if is_ascii(bytes) {
+        str::from_utf8(bytes).ok()
+    } else {
+        None
+    }
+}
+
+/// A piece of the plan that is no submission.
+#[tactic(auto, unfolding(crate::specs::Step::piece_of_words))]
+fn piece(verb: Verb, words: &[&str]) -> Option<Plan>
+    ensures { result ≡ piece_of_words verb (words_of words.now) }
+{
+    match (verb, words) {
+        (Verb::Return, [h, n]) => Some(Plan::Return {
+            h: name(h)?,
+            n: long(n)?,
+        }),
+        _ => Some(Plan::Do(step(verb, words)?)),
+    }
+}
+
+/// A device with its configuration descriptor.
+#[tactic(auto, unfolding(crate::specs::Line::device_line_of))]
+fn device_line(alloc: Global, words: &[&str]) -> Result<Line, Bad>
+    ensures { ReadsAs result (device_line_of (words_of words.now)) }
+{
+    let [number, descriptor] = words else {
+        return Err(Bad::Text);
+    };
+    let number = device(number).ok_or(Bad::Text)?;
+    let descriptor = bytes(alloc, descriptor)?;
+    let config = configuration(alloc, descriptor.as_slice())?;
+    Ok(Line::Device { number, config })
+}
+
+/// What a configuration descriptor says.
+fn configuration(alloc: Global, descriptor: &[u8]) -> Result<Configuration, Bad>
+    ensures { ReadsAs result (result_ok (reading descriptor.now)) }
+{
+    let config = read_config(descriptor).map_err(|_| Bad::Text)?;
+    let interfaces = Sequence::from_vec(Vec::from_slice(alloc, config.interfaces())?);
+    let endpoints = Sequence::from_vec(Vec::from_slice(alloc, config.endpoints())?);
+    Ok(Configuration {
+        interfaces,
+        endpoints,
+    })
+}
