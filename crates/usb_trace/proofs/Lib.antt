@@ -5,3 +5,5 @@ pub mod Each
 pub mod Shapes
 pub mod Texts
 pub mod Scenarios
+pub mod CommandLines
+pub mod WordsRead

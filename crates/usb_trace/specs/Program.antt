@@ -1,5 +1,5 @@
 -- What the program does.
-use Rattle.std.specs.Prelude.{◌≡◌, ℕ, ⊤, List, Option, Result, Ok, Err}
+use Rattle.std.specs.Prelude.{◌≡◌, ◌++◌, ℕ, ⊤, List, Option, Result, Ok, Err, codes}
 use Rattle.std.specs.Io.KnownBytes.{Appends, Keeps}
 use Rattle.usb_model.specs.declared.entry.Entry.{Entry}
 use Rattle.usb_model.specs.declared.step.Step.{Step}
@@ -12,6 +12,8 @@ use Rattle.usb_trace.specs.declared.fault.Fault.TheVariants.{Line, Memory, Input
 use Rattle.usb_trace.specs.declared.scenario.Scenario.{Scenario}
 use Rattle.usb_trace.specs.declared.words.Task.{Task}
 use Rattle.usb_trace.specs.declared.words.Task.TheVariants as task
+use Rattle.usb_trace.specs.CommandLine.{AskFor}
+use Rattle.usb_trace.specs.Reading.{fault_text}
 use Rattle.usb_trace.specs.Scenario.{scenario_of}
 
 -- the steps of a scenario: those that its plan stands for under its rules
@@ -30,6 +32,14 @@ Performs t text old new (Err (Line line)) = (scenario_of text ≡ Err line) × K
 Performs t text old new (Err Memory) = ⊤
 Performs t text old new (Err InputOutput) = ⊤
 
--- how a status tells of it: 0 where a task's lines are written
-abbrev pub IsDone : List ℕ → Option (List ℕ) → Option (List ℕ) → Type 0
-IsDone text old new = (t : Task) × (s : Scenario) × (scenario_of text ≡ Ok s) × Appends old new (lines_text (task_entries t s))
+-- what is done at status 0, where the words ask for a task: the text is a scenario, and the task's lines are written
+abbrev pub IsDone : List (List ℕ) → List ℕ → Option (List ℕ) → Option (List ℕ) → Type 0
+IsDone words text old new = (t : Task) × (s : Scenario) × AskFor words t × (scenario_of text ≡ Ok s) × Appends old new (lines_text (task_entries t s))
+
+-- nothing is written where a line of the text is bad
+abbrev pub IsSilentAtBad : List ℕ → Option (List ℕ) → Option (List ℕ) → Type 0
+IsSilentAtBad text old new = (line : ℕ) → scenario_of text ≡ Err line → Keeps old new
+
+-- the message of a fault on standard error
+abbrev pub message_of : Fault → List ℕ
+message_of fault = codes "usbtrace: " ++ fault_text fault ++ codes "\n"

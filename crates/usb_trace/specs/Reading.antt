@@ -1,5 +1,6 @@
 -- What reading a text may answer.
-use Rattle.std.specs.Prelude.{◌≡◌, ℕ, ⊤, Option, Some, None, Result, Ok, Err}
+use Rattle.std.specs.Prelude.{◌≡◌, ◌++◌, ℕ, List, ⊤, Option, Some, None, Result, Ok, Err, codes}
+use Rattle.std.specs.Fmt.{decimal}
 use Rattle.usb_trace.specs.declared.fault.Bad.{Bad}
 use Rattle.usb_trace.specs.declared.fault.Bad.TheVariants.{Text, Memory}
 use Rattle.usb_trace.specs.declared.fault.Fault.{Fault}
@@ -15,6 +16,12 @@ ReadsAs (Err Memory) said = ⊤
 abbrev pub fault_at : Bad → ℕ → Fault
 fault_at Text line = fault.Line line
 fault_at Memory line = fault.Memory
+
+-- a fault in words
+abbrev pub fault_text : Fault → List ℕ
+fault_text (fault.Line line) = codes "line " ++ decimal line ++ codes " refused"
+fault_text fault.Memory = codes "out of memory"
+fault_text fault.InputOutput = codes "input or output failed"
 
 -- the value became what the text makes of it, or the text makes nothing of it; want of memory says nothing
 abbrev pub Becomes : {T S : Type 0} → Result T Bad → Option S → S → Type 0

@@ -1,26 +1,36 @@
 //! Why a run of the program ends early.
 
-ghost use Rattle.std.specs.Prelude.{◌≡◌};
-ghost use Rattle.usb_trace.specs.Reading.{fault_at, IsOfRun};
+ghost use Rattle.std.specs.Prelude.{◌≡◌, Some};
+ghost use Rattle.usb_trace.specs.Reading.{fault_at, fault_text, IsOfRun};
 ghost use Rattle.usb_trace.specs.declared.fault.Bad.TheVariants as Bad;
 ghost use Rattle.usb_trace.specs.declared.fault.Fault.TheVariants as Fault;
 
 use std::alloc::{AllocError, AllocFailed};
-use std::io;
+use std::{fmt, io};
 use thiserror::Error;
 
 /// What ends a run, in the words of its message.
 #[derive(Clone, Copy, PartialEq, Eq, Debug, Error)]
 pub(crate) enum Fault {
     /// The line of this number, from 1, is none that may stand there.
-    #[error("line {0} refused")]
     Line(u64),
     /// No memory was to be had.
-    #[error("out of memory")]
     Memory,
     /// The input can't be read, or the output not written.
-    #[error("input or output failed")]
     InputOutput,
+}
+
+/// The fault in words. They are written here, and not by the derive, whose text no contract knows.
+impl fmt::Display for Fault {
+    ghost output = { λ fault. Some (fault_text fault) };
+
+    fn fmt<W: fmt::Write>(&self, f: &mut fmt::Formatter<W>) -> fmt::Result {
+        match self {
+            Fault::Line(line) => write!(f, "line {line} refused"),
+            Fault::Memory => f.write_str("out of memory"),
+            Fault::InputOutput => f.write_str("input or output failed"),
+        }
+    }
 }
 
 impl From<AllocError> for Fault {

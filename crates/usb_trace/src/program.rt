@@ -4,7 +4,9 @@ ghost use Rattle.std.specs.Prelude.{◌≡◌, ◌≤◌, ◌⊎◌, IfSome, IfE
 ghost use Rattle.std.specs.Io.KnownBytes.{Appends, Keeps};
 ghost use Rattle.usb_model.specs.Text.{lines_text};
 ghost use Rattle.usb_trace.specs.Reading.{IsOfRun};
-ghost use Rattle.usb_trace.specs.Program.{task_entries, Performs, IsDone};
+ghost use Rattle.usb_trace.specs.CommandLine.{AskForHelp, AreBad};
+ghost use Rattle.usb_trace.specs.Program.{message_of, task_entries, IsDone, IsSilentAtBad, Performs};
+ghost use Rattle.usb_trace.specs.Words.{words_of};
 ghost use Rattle.usb_trace.specs.declared.words.Task.TheVariants.{Run, Alone};
 
 use crate::fault::Fault;
@@ -15,7 +17,7 @@ use crate::words::{Task, read_words};
 use clap::Error;
 use clap::error::ErrorKind;
 use std::alloc::Global;
-use std::io::{Read, Write};
+use std::io::{self, Read, Write};
 use usb_model::Name;
 use usb_model::plain::{drive, drive_alone};
 
@@ -36,19 +38,28 @@ pub fn trace<R: Read, W: Write, E: Write>(
 ) -> u8
     ensures status { result ≤ 2 }
     ensures done { result ≡ 0 → IfSome (R.remaining input.old) (λ text.
-        IsDone text (W.contents out.old) (W.contents out.new) ⊎ (input.new ≡ input.old)) }
+        IsDone (words_of words.now) text (W.contents out.old) (W.contents out.new))
+        ⊎ (AskForHelp (words_of words.now) × (input.new ≡ input.old)) }
     ensures quiet { result ≡ 0 → Keeps (E.contents err.old) (E.contents err.new) }
-    ensures refused { result ≡ 2 → Keeps (W.contents out.old) (W.contents out.new) × (input.new ≡ input.old) }
+    ensures refused { result ≡ 2 → AreBad (words_of words.now)
+        × Keeps (W.contents out.old) (W.contents out.new) × (input.new ≡ input.old) }
+    ensures silent { IfSome (R.remaining input.old) (λ text.
+        IsSilentAtBad text (W.contents out.old) (W.contents out.new) ⊎ AskForHelp (words_of words.now)) }
 {
     let ended = match read_words(alloc, words) {
         Ok(task) => perform(alloc, task, input, out),
-        Err(error) if error.kind() == ErrorKind::OutOfMemory => Err(Fault::Memory),
-        Err(error) if error.use_stderr() => return refuse(err, &error),
-        Err(error) => help(out, &error),
+        Err(error) => match error.kind() {
+            ErrorKind::OutOfMemory => Err(Fault::Memory),
+            ErrorKind::DisplayHelp => help(out, &error),
+            _ => return refuse(err, &error),
+        },
     };
     match ended {
         Ok(()) => 0,
-        Err(fault) => complain(err, fault),
+        Err(fault) => {
+            let _ = complain(err, fault);
+            ENDED_EARLY
+        }
     }
 }
 
@@ -59,7 +70,8 @@ fn perform<R: Read, W: Write>(
     input: &mut R,
     out: &mut W,
 ) -> Result<(), Fault>
-    ensures { IfSome (R.remaining input.old) (λ text. Performs task text (W.contents out.old) (W.contents out.new) result) }
+    ensures ends { IfSome (R.remaining input.old) (λ text. Performs task text (W.contents out.old) (W.contents out.new) result) }
+    ensures silent { IfSome (R.remaining input.old) (λ text. IsSilentAtBad text (W.contents out.old) (W.contents out.new)) }
 {
     let text = read_whole(alloc, input)?;
     let scenario = read_scenario(alloc, text.as_slice())?;
@@ -114,10 +126,9 @@ fn refuse<E: Write>(err: &mut E, error: &Error) -> u8
     BAD_WORDS
 }
 
-/// Says what ended the run. The status is the same where that can't be said.
-fn complain<E: Write>(err: &mut E, fault: Fault) -> u8
-    ensures { result ≡ 1 }
+/// Says what ended the run.
+fn complain<E: Write>(err: &mut E, fault: Fault) -> io::Result<()>
+    ensures { OnOk result (Appends (E.contents err.old) (E.contents err.new) (message_of fault)) }
 {
-    let _ = write!(err, "usbtrace: {fault}\n");
-    ENDED_EARLY
+    write!(err, "usbtrace: {fault}\n")
 }

@@ -1,5 +1,15 @@
 //! The words of the command line.
 
+ghost use Rattle.std.specs.Prelude.{◌≡◌, IfOk, Some, false};
+ghost use Rattle.clap.specs.Kinds.{FailsBy};
+ghost use Rattle.clap.specs.Faults.{fault_of};
+ghost use Rattle.clap.specs.Matches.{found_of};
+ghost use Rattle.clap.specs.Simple.{app_of, shape_of};
+ghost use Rattle.clap.specs.declared.builder.command.Command.TheViews.{out-Command as fields_of};
+ghost use Rattle.clap.specs.Walk.{rows_of, rule_of};
+ghost use Rattle.usb_trace.specs.CommandLine.{AskFor, alone_words, grammar, handle_in, handle_word, run_words};
+ghost use Rattle.usb_trace.specs.Words.{words_of};
+
 use clap::builder::ValueParser;
 use clap::{Arg, ArgAction, ArgMatches, Command, Error};
 use std::alloc::{AllocError, Global};
@@ -15,7 +25,10 @@ pub(crate) enum Task {
 }
 
 /// The task of some words, of which the first is the program's name. Else their fault, or the help that they ask for.
-pub(crate) fn read_words(alloc: Global, words: &[&str]) -> Result<Task, Error> {
+pub(crate) fn read_words(alloc: Global, words: &[&str]) -> Result<Task, Error>
+    ensures task { IfOk result (AskFor (words_of words.now)) }
+    ensures fault { FailsBy (fault_of grammar (words_of words.now)) result }
+{
     let matches = command(alloc)?.try_get_matches_from(words)?;
     match matches.subcommand_matches("alone") {
         Some(found) => Ok(Task::Alone(handle_of(found)?)),
@@ -24,21 +37,40 @@ pub(crate) fn read_words(alloc: Global, words: &[&str]) -> Result<Task, Error> {
 }
 
 /// The words that the program takes.
-fn command<'a>(alloc: Global) -> Result<Command<'a>, AllocError> {
-    let run = Command::new(alloc, "run").about("Runs the scenario and prints its entries");
-    let alone = Command::new(alloc, "alone")
-        .about("Prints the entries of one handle, alone over its own steps")
-        .arg(handle(alloc))?;
+fn command<'a>(alloc: Global) -> Result<Command<'a>, AllocError>
+    ensures { IfOk result (λ command. app_of command ≡ grammar) }
+{
     Command::new(alloc, "usbtrace")
         .about("Runs a scenario of USB transfers, read from standard input")
         .disable_help_subcommand(true)
         .subcommand_required(true)
-        .subcommand(run)?
-        .subcommand(alone)
+        .subcommand(run(alloc))?
+        .subcommand(alone(alloc)?)
+}
+
+/// The words `run`.
+fn run<'a>(alloc: Global) -> Command<'a>
+    ensures words { shape_of result ≡ run_words }
+    ensures local { (fields_of result).has_globals ≡ false }
+{
+    Command::new(alloc, "run").about("Runs the scenario and prints its entries")
+}
+
+/// The words `alone H`.
+fn alone<'a>(alloc: Global) -> Result<Command<'a>, AllocError>
+    ensures words { IfOk result (λ command. shape_of command ≡ alone_words) }
+    ensures local { IfOk result (λ command. (fields_of command).has_globals ≡ false) }
+{
+    Command::new(alloc, "alone")
+        .about("Prints the entries of one handle, alone over its own steps")
+        .arg(handle(alloc))
 }
 
 /// The word of a handle.
-fn handle<'a>(alloc: Global) -> Arg<'a> {
+fn handle<'a>(alloc: Global) -> Arg<'a>
+    ensures word { rule_of result ≡ handle_word }
+    ensures local { result.global ≡ false }
+{
     Arg::new(alloc, "H")
         .required(true)
         .action(ArgAction::Set)
@@ -47,9 +79,9 @@ fn handle<'a>(alloc: Global) -> Arg<'a> {
 }
 
 /// The handle that was given.
-fn handle_of(found: &ArgMatches<'_>) -> Result<Name, AllocError> {
-    found
-        .get_one::<u8>("H")
-        .and_then(Name::new)
-        .ok_or(AllocError)
+fn handle_of(found: &ArgMatches<'_>) -> Result<Name, AllocError>
+    ensures { IfOk result (λ h. handle_in (rows_of (found_of found.now)) ≡ Some h) }
+{
+    let number = found.get_one::<u8>("H").ok_or(AllocError)?;
+    Ok(Name::new(number).ok_or(AllocError)?)
 }

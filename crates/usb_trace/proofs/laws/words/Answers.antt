@@ -1,0 +1,26 @@
+use Rattle.usb_trace.proofs.WordsRead.{alone_asks, handle_64_is_bad, help_asks, help_is_no_word, no_handle_is_bad, no_words_are_bad, run_asks, too_many_are_bad}
+use Rattle.usb_trace.proofs.laws.words.Goals as goal
+
+pub returns-clause-run : goal.returns-clause-run
+returns-clause-run c = run_asks
+
+pub returns-clause-alone : goal.returns-clause-alone
+returns-clause-alone c = alone_asks
+
+pub returns-clause-help : goal.returns-clause-help
+returns-clause-help c = help_asks
+
+pub returns-clause-no_words : goal.returns-clause-no_words
+returns-clause-no_words c = no_words_are_bad
+
+pub returns-clause-too_many : goal.returns-clause-too_many
+returns-clause-too_many c = too_many_are_bad
+
+pub returns-clause-no_handle : goal.returns-clause-no_handle
+returns-clause-no_handle c = no_handle_is_bad
+
+pub returns-clause-handle_64 : goal.returns-clause-handle_64
+returns-clause-handle_64 c = handle_64_is_bad
+
+pub returns-clause-no_help : goal.returns-clause-no_help
+returns-clause-no_help c = help_is_no_word
