@@ -1,8 +1,11 @@
-//! What no clause says: whole runs over worked rows, streams that fail, and the words.
+//! What no clause says: whole runs over worked rows, streams that fail, the words, and the public functions of
+//! `usb_model` once each where memory is there.
 
 mod bad_lines;
 mod fakes;
 mod long;
+mod model;
+mod plain;
 mod rows;
 mod streams;
 mod words;

@@ -1,6 +1,6 @@
 //! A transfer is submitted: the refusals in their order, and the transfer joins its line.
 
-ghost use Rattle.std.specs.Prelude.{◌≡◌, ℕ, ◌+◌, ◌<◌, nat_le, length, None, Some, IfErr, IfOk};
+ghost use Rattle.std.specs.Prelude.{◌≡◌, ℕ, ◌+◌, ◌<◌, is_some, nat_le, length, true, None, Some, IfErr, IfOk};
 ghost use Rattle.std.specs.List.{count_by};
 ghost use Rattle.usb_model.specs.Shared.{pieces_of};
 ghost use Rattle.usb_model.specs.declared.plain.effect.Effect.{Effect};
@@ -9,7 +9,7 @@ ghost use Rattle.usb_model.specs.Calls.{is_bad_body, submit_it};
 ghost use Rattle.usb_model.specs.declared.reply.Reply.TheVariants.{Refused as Refuses};
 ghost use Rattle.usb_model.specs.Machine.{is_result_at, says, unless};
 ghost use Rattle.usb_model.specs.Submit.{Admits, after_callback, refused_by, submit_tests};
-ghost use Rattle.usb_model.specs.System.{lent, machine_with, shown};
+ghost use Rattle.usb_model.specs.System.{lent, machine_with, own_end, shown};
 
 use crate::name::{DeviceNo, EpAddr, Name};
 use crate::plain::effect::Effect;
@@ -109,6 +109,7 @@ impl System {
         request: &Request,
     ) -> Result<DeviceNo, Refused>
         ensures admitted { let m = machine_with setup.now h handle.now (shown setup.now self.now) in IfOk result (λ dev. (handle.now.device ≡ Some dev) × (handle.now.next < 18446744073709551615) × Admits setup.now m dev request.now) }
+        ensures there { IfOk result (λ dev. is_some (own_end setup.now h (shown setup.now self.now) dev request.now.ep) ≡ true) }
         ensures refused { let m = machine_with setup.now h handle.now (shown setup.now self.now) in IfErr result (λ why. (after : Handle) (round : ℕ) → submit_it setup.now m after request.now round ≡ says m (Refuses why)) }
     {
         let Some(dev) = handle.device else {
@@ -136,6 +137,7 @@ impl System {
         requires open { handle.device ≡ Some dev }
         requires room { handle.next < 18446744073709551615 }
         requires admitted { Admits setup.now (machine_with setup.now h handle (shown setup.now self.old)) dev submission.request }
+        requires there { is_some (own_end setup.now h (shown setup.now self.old) dev submission.request.ep) ≡ true }
         ensures effect { IfOk result (λ x. x ≡ submit_it setup.now (machine_with setup.now h handle (shown setup.now self.old)) (after_callback submission.ended handle) submission.request submission.round) }
         ensures left { IfOk result (λ x. shown setup.now self.new ≡ lent setup.now h (shown setup.now self.old) x.change) }
     {
@@ -145,9 +147,7 @@ impl System {
             ended,
         } = submission;
         let ep = request.ep;
-        let Some(end) = self.take_end(alloc, setup, h, dev, ep) else {
-            return Err(AllocError);
-        };
+        let end = self.take_end(alloc, setup, h, dev, ep).unwrap();
         let n = handle.next;
         let doing = end.submit(alloc, n, request, round)?;
         let handle = handle.after_callback(alloc, ended)?;

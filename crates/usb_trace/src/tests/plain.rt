@@ -1,23 +1,14 @@
 //! Each public function of an endpoint once, along the worked row of a cancelled read, and two handles at one device.
 
-use crate::answer::Answer;
-use crate::errand::Errand;
-use crate::flags::Flags;
-use crate::name::{DeviceNo, EpAddr, Name};
-use crate::plain::alone;
-use crate::plain::endpoint::{Endpoint, EndpointState};
-use crate::plain::item::Ask;
-use crate::plain::news::Event;
-use crate::reply::Reply;
-use crate::request::{Body, Kind, Request};
-use crate::sequence::{Bytes, Sequence};
-use crate::setup::{Configuration, DeviceSetup, EndpointInfo, Setup};
-use crate::status::Status;
-use crate::step::Step;
 use bitflags::Flags as _;
 use std::alloc::Global;
 use std::fmt::Display;
 use std::test::Fail;
+use usb_model::plain::{Ask, Endpoint, EndpointState, Event, alone, run};
+use usb_model::{
+    Answer, Body, Bytes, Configuration, DeviceNo, DeviceSetup, EndpointInfo, Entry, EpAddr, Errand,
+    Flags, Kind, Name, Reply, Request, Sequence, Setup, Status, Step,
+};
 
 fn bytes(alloc: Global, values: &[u8]) -> Result<Bytes, Fail> {
     Ok(Sequence::from_vec(Vec::from_slice(alloc, values)?))
@@ -215,6 +206,48 @@ fn unplugged_amid_transfers(alloc: Global) -> Result<Vec<Step>, Fail> {
     Ok(steps)
 }
 
+/// Whether the entries print these lines.
+fn print(alloc: Global, entries: &[Entry], lines: &[&str]) -> Result<bool, Fail> {
+    let mut same = entries.len() == lines.len();
+    for (entry, line) in entries.iter().zip(lines.iter()) {
+        same = same && entry.to_string(alloc)?.as_str() == *line;
+    }
+    Ok(same)
+}
+
+#[test]
+fn a_run_prints_every_entry(rt: HostRuntime) -> Result<(), Fail> {
+    let alloc = rt.alloc();
+    let setup = two_interfaces(alloc)?;
+    let steps = unplugged_amid_transfers(alloc)?;
+    let Ok(entries) = run(alloc, &setup, &steps) else {
+        return Err(Fail::from("out of memory"));
+    };
+    let lines = [
+        "h1 done",
+        "h2 done",
+        "h1 done",
+        "h2 done",
+        "h1 number 0",
+        "h1 number 1",
+        "h2 number 0",
+        "h1 ended 0 code 1",
+        "- done",
+        "- refused 2",
+        "h1 refused 2",
+        "h1 finished 0",
+        "h1 ended 1 code 4",
+        "h2 ended 0 code 4",
+        "h1 finished 1",
+        "h2 finished 0",
+        "h1 called 0 ep 81 round 0 COMPLETED 8 data 0102030405060708",
+        "h1 called 1 ep 81 round 0 NO_DEVICE 0 data -",
+        "h2 called 0 ep 83 round 0 NO_DEVICE 0 data -",
+    ];
+    assert!(rt; print(alloc, entries.as_slice(), lines.as_slice())?);
+    Ok(())
+}
+
 #[test]
 fn a_handle_sees_alone_what_it_sees_amid_others(rt: HostRuntime) -> Result<(), Fail> {
     let alloc = rt.alloc();
@@ -231,13 +264,13 @@ fn a_handle_sees_alone_what_it_sees_amid_others(rt: HostRuntime) -> Result<(), F
         "h2 finished 0",
         "h2 called 0 ep 83 round 0 NO_DEVICE 0 data -",
     ];
-    assert_eq!(rt; both.amid.len(), lines.len());
-    assert_eq!(rt; both.alone.len(), lines.len());
-    for (entry, line) in both.amid.as_slice().iter().zip(lines.iter()) {
-        assert_eq!(rt; entry.to_string(alloc)?.as_str(), *line);
-    }
-    for (entry, line) in both.alone.as_slice().iter().zip(lines.iter()) {
-        assert_eq!(rt; entry.to_string(alloc)?.as_str(), *line);
-    }
+    assert!(rt;
+        print(alloc, both.amid.as_slice(), lines.as_slice())?,
+        "amid the others"
+    );
+    assert!(rt;
+        print(alloc, both.alone.as_slice(), lines.as_slice())?,
+        "alone"
+    );
     Ok(())
 }

@@ -1,12 +1,12 @@
 //! The printed lines, each form once, and each public function once.
 
-use crate::{
-    Bytes, DeviceNo, Entry, EpAddr, Errand, Name, Refused, Reply, Returned, Sequence, Status,
-    StatusSet, Step, Verdict,
-};
 use bitflags::Flags as _;
 use std::fmt::Display;
 use std::test::Fail;
+use usb_model::{
+    Bytes, DeviceNo, Entry, EpAddr, Errand, Name, Refused, Reply, Returned, Sequence, Status,
+    StatusSet, Step, Verdict,
+};
 
 fn name(number: u8) -> Result<Name, Fail> {
     Ok(Name::new(number).ok_or("a name of 64 or more")?)
