@@ -1,12 +1,13 @@
 //! The program's body, over any reader and writers.
 
-ghost use Rattle.std.specs.Prelude.{◌≡◌, ◌≤◌, ◌⊎◌, IfSome, IfErr, OnOk};
+ghost use Rattle.std.specs.Prelude.{◌≡◌, ◌≤◌, ◌⊎◌, IfSome, IfErr, IfOk, OnOk};
 ghost use Rattle.std.specs.Io.KnownBytes.{Appends, Keeps};
 ghost use Rattle.usb_model.specs.Text.{lines_text};
 ghost use Rattle.usb_trace.specs.Reading.{IsOfRun};
-ghost use Rattle.usb_trace.specs.CommandLine.{AskForHelp, AreBad};
-ghost use Rattle.usb_trace.specs.Program.{message_of, task_entries, IsDone, IsSilentAtBad, Performs};
+ghost use Rattle.usb_trace.specs.CommandLine.{AreBad, AskFor, AskForHelp};
+ghost use Rattle.usb_trace.specs.Program.{message_of, task_entries, IsDone, IsSilentAtBad, Performs, PrintsTo};
 ghost use Rattle.usb_trace.specs.Words.{words_of};
+ghost use Rattle.usb_trace.specs.declared.words.Task.{Task};
 ghost use Rattle.usb_trace.specs.declared.words.Task.TheVariants.{Run, Alone};
 
 use crate::fault::Fault;
@@ -27,6 +28,15 @@ const ENDED_EARLY: u8 = 1;
 /// The status of bad words.
 const BAD_WORDS: u8 = 2;
 
+/// How far a run comes.
+#[derive(Clone, Copy, PartialEq, Eq, Debug)]
+enum Reach {
+    /// To its end.
+    End,
+    /// To a step that finds no memory.
+    NoMemory,
+}
+
 /// Runs the program on its words, of which the first is its name, and its input, and answers its status: 0, or 1 where
 /// it ended early, or 2 for bad words.
 pub fn trace<R: Read, W: Write, E: Write>(
@@ -37,14 +47,15 @@ pub fn trace<R: Read, W: Write, E: Write>(
     err: &mut E,
 ) -> u8
     ensures status { result ≤ 2 }
-    ensures done { result ≡ 0 → IfSome (R.remaining input.old) (λ text.
-        IsDone (words_of words.now) text (W.contents out.old) (W.contents out.new))
+    ensures done { result ≡ 0 → ((task : Task) × AskFor (words_of words.now) task
+        × IfSome (R.remaining input.old) (λ text. IsDone task text (W.contents out.old) (W.contents out.new)))
         ⊎ (AskForHelp (words_of words.now) × (input.new ≡ input.old)) }
     ensures quiet { result ≡ 0 → Keeps (E.contents err.old) (E.contents err.new) }
     ensures refused { result ≡ 2 → AreBad (words_of words.now)
         × Keeps (W.contents out.old) (W.contents out.new) × (input.new ≡ input.old) }
     ensures silent { IfSome (R.remaining input.old) (λ text.
         IsSilentAtBad text (W.contents out.old) (W.contents out.new) ⊎ AskForHelp (words_of words.now)) }
+    ensures judged { ((task : Task) × AskFor (words_of words.now) task) ⊎ (input.new ≡ input.old) }
 {
     let ended = match read_words(alloc, words) {
         Ok(task) => perform(alloc, task, input, out),
@@ -86,12 +97,26 @@ fn run<W: Write>(alloc: Global, scenario: &Scenario, out: &mut W) -> Result<(), 
     ensures lines { OnOk result (Appends (W.contents out.old) (W.contents out.new) (lines_text (task_entries Run scenario.now))) }
     ensures fault { IfErr result (λ fault. IsOfRun fault) }
 {
+    match print_run(alloc, scenario, out)? {
+        Reach::End => Ok(()),
+        Reach::NoMemory => Err(Fault::Memory),
+    }
+}
+
+/// Prints the entries of a scenario as far as the run comes.
+fn print_run<W: Write>(alloc: Global, scenario: &Scenario, out: &mut W) -> Result<Reach, Fault>
+    ensures lines { IfOk result (λ reach. PrintsTo reach scenario.now (W.contents out.old) (W.contents out.new)) }
+    ensures fault { IfErr result (λ fault. IsOfRun fault) }
+{
     let (plan, rules) = (scenario.plan.as_slice(), scenario.rules.as_slice());
     match drive(alloc, &scenario.setup, plan, rules) {
-        Ok(entries) => print(alloc, out, entries.as_slice()),
+        Ok(entries) => {
+            print(alloc, out, entries.as_slice())?;
+            Ok(Reach::End)
+        }
         Err(stopped) => {
             print(alloc, out, stopped.entries.as_slice())?;
-            Err(Fault::Memory)
+            Ok(Reach::NoMemory)
         }
     }
 }

@@ -9,6 +9,9 @@ use std::process::ExitCode;
 use std::{env, io};
 use usb_trace::trace;
 
+/// The status of bad words.
+const BAD_WORDS: u8 = 2;
+
 /// The texts of the words.
 fn texts<'a>(alloc: Global, words: &'a [String]) -> Result<Vec<&'a str>, AllocError>
     ensures { IfOk result (λ texts. map (λ (text : Bor (List ℕ)). text.now) texts.items ≡ map (λ word. string_bytes word) words.entry.now) }
@@ -32,9 +35,13 @@ fn status(rt: &HostRuntime) -> io::Result<u8> {
 fn main(rt: HostRuntime) -> ExitCode {
     match status(&rt) {
         Ok(status) => ExitCode::from(status),
-        Err(_) => {
+        Err(error) if error.kind() == io::ErrorKind::OutOfMemory => {
             let _ = eprintln!(rt; "usbtrace: out of memory");
             ExitCode::FAILURE
+        }
+        Err(_) => {
+            let _ = eprintln!(rt; "usbtrace: a word isn't UTF-8");
+            ExitCode::from(BAD_WORDS)
         }
     }
 }
