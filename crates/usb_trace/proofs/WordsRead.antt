@@ -90,3 +90,11 @@ alone_asks name h low = (
   is_empty_says _ (held_below 64 h (λ k. is_empty (fault_of grammar (alone_line name k))) (clear_below name) low),
   is_alone_says h _ (held_below 64 h (λ k. is_alone k (task_of (subcommand_of grammar (alone_line name k)))) (named_below name) low),
 )
+
+pub plus_sign_asks : (name : Text) → AskFor (name ∷ codes "alone" ∷ codes "+5" ∷ []) (Alone 5)
+unfolding clap_on_literals
+plus_sign_asks name = (refl, refl)
+
+pub leading_zeros_ask : (name : Text) → AskFor (name ∷ codes "alone" ∷ codes "007" ∷ []) (Alone 7)
+unfolding clap_on_literals
+leading_zeros_ask name = (refl, refl)

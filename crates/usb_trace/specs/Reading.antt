@@ -1,6 +1,8 @@
 -- What reading a text may answer.
 use Rattle.std.specs.Prelude.{◌≡◌, ◌++◌, ℕ, List, ⊤, Option, Some, None, Result, Ok, Err, codes}
 use Rattle.std.specs.Fmt.{decimal}
+use Rattle.std.specs.declared.io.ErrorKind.{ErrorKind}
+use Rattle.std.specs.declared.io.ErrorKind.TheVariants.{OutOfMemory}
 use Rattle.usb_trace.specs.declared.fault.Bad.{Bad}
 use Rattle.usb_trace.specs.declared.fault.Bad.TheVariants.{Text, Memory}
 use Rattle.usb_trace.specs.declared.fault.Fault.{Fault}
@@ -16,6 +18,11 @@ ReadsAs (Err Memory) said = ⊤
 abbrev pub fault_at : Bad → ℕ → Fault
 fault_at Text line = fault.Line line
 fault_at Memory line = fault.Memory
+
+-- the fault of a stream that fails with an error of this kind
+abbrev pub fault_of_kind : ErrorKind → Fault
+fault_of_kind OutOfMemory = fault.Memory
+fault_of_kind _ = fault.InputOutput
 
 -- a fault in words
 abbrev pub fault_text : Fault → List ℕ

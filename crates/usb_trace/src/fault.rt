@@ -1,7 +1,8 @@
 //! Why a run of the program ends early.
 
 ghost use Rattle.std.specs.Prelude.{◌≡◌, Some};
-ghost use Rattle.usb_trace.specs.Reading.{fault_at, fault_text, IsOfRun};
+ghost use Rattle.std.specs.IoError.{error_kind};
+ghost use Rattle.usb_trace.specs.Reading.{fault_at, fault_of_kind, fault_text};
 ghost use Rattle.usb_trace.specs.declared.fault.Bad.TheVariants as Bad;
 ghost use Rattle.usb_trace.specs.declared.fault.Fault.TheVariants as Fault;
 
@@ -42,7 +43,7 @@ impl From<AllocError> for Fault {
 }
 
 impl From<io::Error> for Fault {
-    ghost from_gives = { λ _ fault. IsOfRun fault };
+    ghost from_gives = { λ error fault. fault ≡ fault_of_kind (error_kind error) };
 
     fn from(error: io::Error) -> Fault {
         match error.kind() {

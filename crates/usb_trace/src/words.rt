@@ -78,7 +78,8 @@ fn handle<'a>(alloc: Global) -> Arg<'a>
         .help("The handle, 0 to 63")
 }
 
-/// The handle that was given.
+/// The handle that was given. It was: clap asks for one, and takes no other number; no contract of clap's says so of a
+/// subcommand, so its want counts as want of memory.
 fn handle_of(found: &ArgMatches<'_>) -> Result<Name, AllocError>
     ensures { IfOk result (λ h. handle_in (rows_of (found_of found.now)) ≡ Some h) }
 {

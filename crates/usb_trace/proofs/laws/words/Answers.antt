@@ -1,4 +1,4 @@
-use Rattle.usb_trace.proofs.WordsRead.{alone_asks, handle_64_is_bad, help_asks, help_is_no_word, no_handle_is_bad, no_words_are_bad, run_asks, too_many_are_bad}
+use Rattle.usb_trace.proofs.WordsRead.{alone_asks, handle_64_is_bad, help_asks, help_is_no_word, leading_zeros_ask, no_handle_is_bad, no_words_are_bad, plus_sign_asks, run_asks, too_many_are_bad}
 use Rattle.usb_trace.proofs.laws.words.Goals as goal
 
 pub returns-clause-run : goal.returns-clause-run
@@ -6,6 +6,12 @@ returns-clause-run c = run_asks
 
 pub returns-clause-alone : goal.returns-clause-alone
 returns-clause-alone c = alone_asks
+
+pub returns-clause-plus_sign : goal.returns-clause-plus_sign
+returns-clause-plus_sign c = plus_sign_asks
+
+pub returns-clause-leading_zeros : goal.returns-clause-leading_zeros
+returns-clause-leading_zeros c = leading_zeros_ask
 
 pub returns-clause-help : goal.returns-clause-help
 returns-clause-help c = help_asks
