@@ -2,6 +2,7 @@
 //! `usb_model` once each where memory is there.
 
 mod bad_lines;
+mod edges;
 mod fakes;
 mod long;
 mod model;

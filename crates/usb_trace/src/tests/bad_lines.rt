@@ -148,6 +148,7 @@ const BAD_SETUP: &[&str] = &[
     "script 0 81 a",
     "script 0 02 d:00",
     "script 0 01 n",
+    "script 0 91 n",
     "script 1 81 n",
     "script 0 81 x",
     "device 0 090209000001008032",
@@ -172,6 +173,23 @@ const SETUP: &str = "\
 device 0 0902300002010080320904000002ff00000007058102080000070502020800000904010001ff0000000705830308000a
 script 0 83 n
 ";
+
+/// Four lines with a device whose endpoint 02 is for control transfers, and 83 for isochronous ones.
+const OTHER_KINDS: &str = "\
+# a headset
+
+device 0 0902300002010080320904000002ff00000007058102080000070502000800000904010001ff0000000705830108000a
+script 0 81 n
+";
+
+#[test]
+fn a_script_of_another_kind_s_endpoint_is_refused(rt: HostRuntime) -> Result<(), AllocError> {
+    for line in ["script 0 02 n", "script 0 83 n"] {
+        assert!(rt; refuses_line(rt.alloc(), OTHER_KINDS, line)?, "{line}");
+    }
+    assert!(rt; !refuses_line(rt.alloc(), OTHER_KINDS, "open 1 0")?);
+    Ok(())
+}
 
 #[test]
 fn a_second_script_is_refused(rt: HostRuntime) -> Result<(), AllocError> {

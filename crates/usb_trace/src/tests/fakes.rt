@@ -1,4 +1,4 @@
-//! A reader and a writer over memory that may fail, and a run over them.
+//! Readers and writers over memory that may fail, and runs over them.
 
 use crate::trace;
 use std::alloc::Global;
@@ -10,7 +10,7 @@ use std::io::{ErrorKind, Read, Write};
 pub(crate) struct Input<'a> {
     bytes: &'a [u8],
     step: usize,
-    fails: bool,
+    error: Option<ErrorKind>,
 }
 
 impl<'a> Input<'a> {
@@ -19,16 +19,16 @@ impl<'a> Input<'a> {
         Input {
             bytes,
             step,
-            fails: false,
+            error: None,
         }
     }
 
-    /// The same, and fails where it would end.
-    pub(crate) fn failing(bytes: &'a [u8], step: usize) -> Input<'a> {
+    /// The same, and fails so where it would end.
+    pub(crate) fn failing(bytes: &'a [u8], step: usize, error: ErrorKind) -> Input<'a> {
         Input {
             bytes,
             step,
-            fails: true,
+            error: Some(error),
         }
     }
 }
@@ -36,12 +36,36 @@ impl<'a> Input<'a> {
 impl Read for Input<'_> {
     fn read(&mut self, buf: &mut [u8]) -> io::Result<usize> {
         let count = buf.len().min(self.bytes.len()).min(self.step);
-        if count == 0 && self.fails {
-            return Err(io::Error::from(ErrorKind::ConnectionReset));
+        if count == 0 {
+            if let Some(error) = self.error {
+                return Err(io::Error::from(error));
+            }
         }
         let (front, rest) = self.bytes.split_at(count);
         buf[..count].copy_from_slice(front);
         self.bytes = rest;
+        Ok(count)
+    }
+}
+
+/// Gives one comment: so many times `#`, as many at a time as are asked for.
+#[derive(Drop)]
+pub(crate) struct Comment {
+    left: usize,
+}
+
+impl Comment {
+    /// A comment of so many bytes.
+    pub(crate) fn new(left: usize) -> Comment {
+        Comment { left }
+    }
+}
+
+impl Read for Comment {
+    fn read(&mut self, buf: &mut [u8]) -> io::Result<usize> {
+        let count = buf.len().min(self.left);
+        buf[..count].fill(b'#');
+        self.left -= count;
         Ok(count)
     }
 }
@@ -81,6 +105,30 @@ impl Write for Output {
     }
 }
 
+/// Takes all bytes, but shows them only once they are flushed; or fails then.
+#[derive(Drop)]
+struct Held {
+    held: Vec<u8>,
+    shown: Vec<u8>,
+    error: Option<ErrorKind>,
+}
+
+impl Write for Held {
+    fn write(&mut self, buf: &[u8]) -> io::Result<usize> {
+        self.held.extend_from_slice(buf)?;
+        Ok(buf.len())
+    }
+
+    fn flush(&mut self) -> io::Result<()> {
+        if let Some(error) = self.error {
+            return Err(io::Error::from(error));
+        }
+        self.shown.extend_from_slice(self.held.as_slice())?;
+        self.held.clear();
+        Ok(())
+    }
+}
+
 /// What a run answered and wrote.
 #[derive(Drop)]
 pub(crate) struct Outcome {
@@ -100,14 +148,14 @@ impl Outcome {
         self.out.as_slice() == out.as_bytes() && self.err.as_slice() == err.as_bytes()
     }
 
-    /// Whether nothing stands on standard output.
-    pub(crate) fn says_nothing(&self) -> bool {
-        self.out.is_empty()
+    /// Whether standard output has this text in it.
+    pub(crate) fn shows(&self, part: &str) -> bool {
+        str::from_utf8(self.out.as_slice()).is_ok_and(|text| text.contains(part))
     }
 
-    /// Whether something stands on standard error.
-    pub(crate) fn complains(&self) -> bool {
-        !self.err.is_empty()
+    /// Whether the status is 0, and standard error has nothing.
+    pub(crate) fn ends_well(&self) -> bool {
+        self.status == 0 && self.err.is_empty()
     }
 
     /// Whether standard error has this text, and standard output none.
@@ -128,10 +176,10 @@ pub(crate) fn run(alloc: Global, words: &[&str], mut input: Input<'_>) -> Outcom
 }
 
 /// Runs the program over these streams.
-pub(crate) fn run_into(
+pub(crate) fn run_into<R: Read>(
     alloc: Global,
     words: &[&str],
-    input: &mut Input<'_>,
+    input: &mut R,
     mut out: Output,
     mut err: Output,
 ) -> Outcome {
@@ -139,6 +187,27 @@ pub(crate) fn run_into(
     Outcome {
         status,
         out: out.taken,
+        err: err.taken,
+    }
+}
+
+/// Runs the program where standard output shows what was flushed, or fails so when it is flushed.
+pub(crate) fn run_until_flushed(
+    alloc: Global,
+    words: &[&str],
+    mut input: Input<'_>,
+    error: Option<ErrorKind>,
+) -> Outcome {
+    let mut out = Held {
+        held: Vec::new(alloc),
+        shown: Vec::new(alloc),
+        error,
+    };
+    let mut err = Output::new(alloc, usize::MAX, ErrorKind::BrokenPipe);
+    let status = trace(alloc, words, &mut input, &mut out, &mut err);
+    Outcome {
+        status,
+        out: out.shown,
         err: err.taken,
     }
 }

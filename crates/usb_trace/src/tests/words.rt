@@ -1,31 +1,86 @@
-//! The words that the program takes.
+//! The words that the program takes. Of bad ones it is said, in clap's own words, what is wrong with them.
 
 use super::fakes::{Input, run};
+use std::alloc::AllocError;
+use std::io::ErrorKind;
+
+/// Bad words, what is wrong with them, and how they could be.
+const BAD: &[(&[&str], &str, &str)] = &[
+    (
+        &["usbtrace"],
+        "'usbtrace' requires a subcommand but one was not provided\n  [subcommands: run, alone]",
+        "\n\nUsage: usbtrace <COMMAND>",
+    ),
+    (
+        &["usbtrace", "walk"],
+        "unrecognized subcommand 'walk'",
+        "\n\nUsage: usbtrace <COMMAND>",
+    ),
+    (
+        &["usbtrace", "live"],
+        "unrecognized subcommand 'live'",
+        "\n\nUsage: usbtrace <COMMAND>",
+    ),
+    (
+        &["usbtrace", "help"],
+        "unrecognized subcommand 'help'",
+        "\n\nUsage: usbtrace <COMMAND>",
+    ),
+    (
+        &["usbtrace", "run", "1"],
+        "unexpected argument '1' found",
+        "\n\nUsage: usbtrace run",
+    ),
+    (
+        &["usbtrace", "alone"],
+        "the following required arguments were not provided:\n  <H>",
+        "\n\nUsage: usbtrace alone <H>",
+    ),
+    (
+        &["usbtrace", "alone", "1", "2"],
+        "unexpected argument '2' found",
+        "\n\nUsage: usbtrace alone <H>",
+    ),
+    (
+        &["usbtrace", "alone", "64"],
+        "invalid value '64' for '<H>': 64 is not in 0..=63",
+        "",
+    ),
+    (
+        &["usbtrace", "alone", "one"],
+        "invalid value 'one' for '<H>': invalid digit found in string",
+        "",
+    ),
+];
 
 #[test]
-fn bad_words_are_told_on_standard_error(rt: HostRuntime) {
-    let words: [&[&str]; 6] = [
-        &["usbtrace"],
-        &["usbtrace", "walk"],
-        &["usbtrace", "run", "1"],
-        &["usbtrace", "alone"],
-        &["usbtrace", "alone", "64"],
-        &["usbtrace", "live"],
-    ];
-    for words in words {
-        let outcome = run(rt.alloc(), words, Input::failing(b"", 1));
-        assert_eq!(rt; outcome.status, 2);
-        assert!(rt; outcome.says_nothing(), "standard output");
-        assert!(rt; outcome.complains(), "standard error");
+fn bad_words_are_told_on_standard_error(rt: HostRuntime) -> Result<(), AllocError> {
+    for (words, fault, usage) in BAD {
+        let alloc = rt.alloc();
+        let said = format!(in alloc;
+            "error: {fault}{usage}\n\nFor more information, try '--help'.\n"
+        )?;
+        let input = Input::failing(b"", 1, ErrorKind::ConnectionReset);
+        let outcome = run(alloc, words, input);
+        assert!(rt; outcome.only_says(2, said.as_str()), "{fault}");
     }
+    Ok(())
 }
 
 #[test]
 fn help_is_printed_and_no_fault(rt: HostRuntime) {
-    let outcome = run(rt.alloc(), &["usbtrace", "-h"], Input::failing(b"", 1));
-    assert_eq!(rt; outcome.status, 0);
-    assert!(rt; !outcome.says_nothing(), "standard output");
-    assert!(rt; !outcome.complains(), "standard error");
+    let input = Input::failing(b"", 1, ErrorKind::ConnectionReset);
+    let outcome = run(rt.alloc(), &["usbtrace", "-h"], input);
+    assert!(rt; outcome.ends_well());
+    for part in [
+        "\n\nUsage: usbtrace <COMMAND>\n",
+        "\n  run    Runs the scenario and prints its entries\n",
+        "\n  alone  Prints the entries of one handle, alone over its own steps\n",
+        "\n  -h, --help  Print help\n",
+    ] {
+        assert!(rt; outcome.shows(part), "{part}");
+    }
+    assert!(rt; !outcome.shows("\n  help "), "there is no help subcommand");
 }
 
 #[test]
