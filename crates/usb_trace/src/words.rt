@@ -78,8 +78,8 @@ fn handle<'a>(alloc: Global) -> Arg<'a>
         .help("The handle, 0 to 63")
 }
 
-/// The handle that was given. It was: clap asks for one, and takes no other number; no contract of clap's says so of a
-/// subcommand, so its want counts as want of memory.
+/// The handle that was given. clap has seen that it is there, and at most 63; but no contract of clap's says so of what
+/// stands behind a subcommand, so where it is missing memory counts as wanting.
 fn handle_of(found: &ArgMatches<'_>) -> Result<Name, AllocError>
     ensures { IfOk result (λ h. handle_in (rows_of (found_of found.now)) ≡ Some h) }
 {
