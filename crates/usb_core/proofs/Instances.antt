@@ -1,21 +1,21 @@
 -- The laws at worked rows, computed.
 use Rattle.std.proofs.Common.{◌≡◌, ℕ, true, false, inr, [], ◌∷◌, Some, refl, arith}
 use Rattle.std.specs.List.{IsDistinct}
-use Rattle.usb_model.specs.declared.answer.Answer.{Answer}
-use Rattle.usb_model.specs.declared.answer.Answer.TheVariants.{Data, Stall}
+use Rattle.usb_model.specs.declared.response.Response.{Response}
+use Rattle.usb_model.specs.declared.response.Response.TheVariants.{Data, Stall}
 use Rattle.usb_model.specs.declared.request.Body.TheVariants.{In}
-use Rattle.usb_model.specs.declared.plain.outcome.Outcome.{Outcome}
-use Rattle.usb_model.specs.Packets.{outcome, open_with, ended_with, Ends}
+use Rattle.usb_model.specs.declared.outcome.Outcome.{Outcome}
+use Rattle.usb_model.specs.Endpoint.Packets.{outcome, open_with, ended_with, Ends}
 use Rattle.usb_model.specs.Endpoint.{live_numbers}
-use Rattle.usb_model.specs.Account.{account, account_from, account_of}
-use Rattle.usb_model.specs.Places.{calls}
-use Rattle.usb_model.specs.Bound.{commands_in, delivers_in}
+use Rattle.usb_model.specs.Laws.Account.{account, account_from, account_of}
+use Rattle.usb_model.specs.Laws.Places.{calls}
+use Rattle.usb_model.specs.Laws.Bound.{commands_in, delivers_in}
 use Rattle.usb_model.specs.Rows.{bulk}
 use Rattle.usb_model.specs.Rows.Halting.{stall_and_clear_halt}
 use Rattle.usb_model.specs.Rows.Unplugging.{unplug_amid_transfers}
 use Rattle.usb_model.proofs.Computed.{computed}
-use Rattle.usb_model.proofs.Cuts.{ends_now}
-use Rattle.usb_model.proofs.Shares.{open_if, outcome_nothing}
+use Rattle.usb_lemmas.proofs.Shares.Cuts.{ends_now}
+use Rattle.usb_lemmas.proofs.Shares.OpenShares.{open_if, outcome_nothing}
 use Rattle.usb_core.specs.Instances.{ReachesBound, IsCutInto, stalled_cells, unplugged_cells}
 
 -- the bound is reached: the 17th Deliver makes the result, and no earlier one
@@ -33,7 +33,7 @@ reaches_bound = record {
 }
 
 -- shares that one answer makes end
-ends_by : (x : Answer) (o : Outcome) (code : ℕ) → outcome (bulk 0x81 (In 8)) 8 (x ∷ []) false ≡ Some o → o.code ≡ Some code → Ends (bulk 0x81 (In 8)) 8 (x ∷ []) code
+ends_by : (x : Response) (o : Outcome) (code : ℕ) → outcome (bulk 0x81 (In 8)) 8 (x ∷ []) false ≡ Some o → o.code ≡ Some code → Ends (bulk 0x81 (In 8)) 8 (x ∷ []) code
 ends_by x o code is ended = ends_now (bulk 0x81 (In 8)) 8 [] (x ∷ []) o code (omega arith) (open_if (outcome (bulk 0x81 (In 8)) 8 [] false) (open_with []) (outcome_nothing (bulk 0x81 (In 8)) 8) refl) is ended
 
 -- a stall ends a transfer

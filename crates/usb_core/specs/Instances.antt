@@ -1,15 +1,15 @@
 -- The laws at worked rows: a bound that is reached, and scripts that are cut.
 use Rattle.std.specs.Prelude.{◌≡◌, ℕ, true, false, List, [], ◌∷◌, ◌++◌, take, drop}
-use Rattle.usb_model.specs.declared.answer.Answer.TheVariants.{Data, Stall}
+use Rattle.usb_model.specs.declared.response.Response.TheVariants.{Data, Stall}
 use Rattle.usb_model.specs.declared.request.Body.TheVariants.{In}
 use Rattle.usb_model.specs.declared.step.Step.{Step}
 use Rattle.usb_model.specs.declared.step.Step.TheVariants.{Cancel}
-use Rattle.usb_model.specs.Setup.{size_of, script_of}
+use Rattle.usb_model.specs.Setup.{packet_size_of, script_of}
 use Rattle.usb_model.specs.World.{new_world, world_from}
-use Rattle.usb_model.specs.Plans.{expand}
-use Rattle.usb_model.specs.Account.{account}
-use Rattle.usb_model.specs.Cut.{Ended, Of, Cleared, Cell, IsCut}
-use Rattle.usb_model.specs.Bound.{IsAccepted, is_in_progress, commands_in, delivers_in, world_at, asked_world, results_of}
+use Rattle.usb_model.specs.World.Plans.{expand}
+use Rattle.usb_model.specs.Laws.Account.{account}
+use Rattle.usb_model.specs.Laws.Cut.{Ended, Of, Cleared, Cell, IsCut}
+use Rattle.usb_model.specs.Laws.Bound.{IsAccepted, is_in_progress, commands_in, delivers_in, world_at, asked_world, results_of}
 use Rattle.usb_model.specs.Rows.{Row, bulk}
 use Rattle.usb_model.specs.Rows.Cancelling.{cancel_at_its_bound}
 
@@ -39,7 +39,7 @@ pub record ReachesBound : Type 0 where
 -- the script of the endpoint 81 of device 0 is cut into these
 abbrev pub IsCutInto : Row → List Cell → Type 0
 IsCutInto row cells =
-    (c : IsCut (size_of row.setup 0 0x81) (script_of row.setup 0 0x81) (account row.setup 0 0x81 (steps_of row)) ((world_from row.setup (new_world row.setup) (steps_of row)).ends 0 0x81))
+    (c : IsCut (packet_size_of row.setup 0 0x81) (script_of row.setup 0 0x81) (account row.setup 0 0x81 (steps_of row)) ((world_from row.setup (new_world row.setup) (steps_of row)).endpoints 0 0x81))
     × (c.cells ≡ cells)
 
 -- a stall, one that stalls behind it, and after the halt was cleared a short packet

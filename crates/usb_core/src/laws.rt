@@ -3,9 +3,9 @@
 
 ghost use Rattle.std.specs.Prelude.{ℕ, List};
 ghost use Rattle.usb_model.specs.declared.step.Step.{Step};
-ghost use Rattle.usb_model.specs.Bound.{AskedEnds};
-ghost use Rattle.usb_model.specs.Cut.{CutsAt};
-ghost use Rattle.usb_model.specs.Places.{KeepsPlaces};
+ghost use Rattle.usb_model.specs.Laws.Bound.{AskedEnds};
+ghost use Rattle.usb_model.specs.Laws.Cut.{CutsAt};
+ghost use Rattle.usb_model.specs.Laws.Places.{KeepsPlaces};
 ghost use Rattle.usb_model.specs.Rows.Halting.{stall_and_clear_halt};
 ghost use Rattle.usb_model.specs.Rows.Unplugging.{unplug_amid_transfers};
 ghost use Rattle.usb_model.specs.Setup.{Setup};

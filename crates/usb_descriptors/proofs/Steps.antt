@@ -10,7 +10,7 @@ use Rattle.usb_descriptors.specs.declared.descriptor.Descriptor.TheVariants as d
 use Rattle.usb_descriptors.specs.declared.descriptor.Interface.{Interface}
 use Rattle.usb_descriptors.specs.declared.descriptor.Endpoint.{Endpoint}
 use Rattle.usb_descriptors.specs.Pieces.{Piece, byte}
-use Rattle.usb_descriptors.specs.Grammar.{type_of, is_interface, is_endpoint, interface_number, address_of, kind_of, size_of, is_used, interfaces, nearest, endpoints, kept, kept_under, faults_of_kept, is_none_before, faults_of}
+use Rattle.usb_descriptors.specs.Grammar.{type_of, is_interface, is_endpoint, interface_number, address_of, kind_of, packet_size_of, is_used, interfaces, nearest, endpoints, kept, kept_under, faults_of_kept, is_none_before, faults_of}
 use Rattle.usb_descriptors.specs.Descriptors.{descriptor_of}
 use Rattle.usb_descriptors.specs.Table.{faults_beside}
 use Rattle.usb_descriptors.specs.declared.reader.Reader.{Reader}
@@ -38,7 +38,7 @@ abbrev interface_at : Piece → Interface
 interface_at p = record { number = interface_number p; setting = byte 3 p.bytes }
 
 abbrev endpoint_at : Piece → Endpoint
-endpoint_at p = record { address = address_of p; kind = kind_of p; size = size_of p }
+endpoint_at p = record { address = address_of p; kind = kind_of p; packet_size = packet_size_of p }
 
 -- a descriptor by the tests of its type and length
 abbrev decided : Bool → Bool → Bool → Bool → Bool → ℕ → Interface → Endpoint → Result Descriptor DescFault
@@ -181,7 +181,7 @@ step_used before p i is used = step_interface before p i true is used
 
 -- an endpoint as a configuration has it under an interface
 abbrev pub info_in : ℕ → Endpoint → EndpointInfo
-info_in interface e = record { address = e.address; interface = interface; kind = e.kind; size = e.size }
+info_in interface e = record { address = e.address; interface = interface; kind = e.kind; packet_size = e.packet_size }
 
 -- it is kept where its number isn't 0
 abbrev pub kept_in : Option (Option ℕ) → Endpoint → List EndpointInfo

@@ -5,7 +5,7 @@ use Rattle.usb_descriptors.specs.declared.fault.DescFault.TheVariants.{WrongType
 use Rattle.usb_descriptors.specs.declared.descriptor.Descriptor.{Descriptor}
 use Rattle.usb_descriptors.specs.declared.descriptor.Descriptor.TheVariants.{Interface, Endpoint, Other}
 use Rattle.usb_descriptors.specs.Pieces.{Piece, byte}
-use Rattle.usb_descriptors.specs.Grammar.{type_of, is_interface, is_endpoint, interface_number, address_of, kind_of, size_of}
+use Rattle.usb_descriptors.specs.Grammar.{type_of, is_interface, is_endpoint, interface_number, address_of, kind_of, packet_size_of}
 
 -- the faults are those that a descriptor has wherever it stands; the grammar has them first
 abbrev pub descriptor_of : Piece → Result Descriptor DescFault
@@ -16,5 +16,5 @@ descriptor_of p =
     else Ok (Interface (record { number = interface_number p; setting = byte 3 p.bytes })))
     else if is_endpoint p then
     (if nat_lt (length p.bytes) 7 then Err (BadLength p.at)
-    else Ok (Endpoint (record { address = address_of p; kind = kind_of p; size = size_of p })))
+    else Ok (Endpoint (record { address = address_of p; kind = kind_of p; packet_size = packet_size_of p })))
     else Ok Other

@@ -61,11 +61,11 @@ kind_by n = if n == 0 then Control else if n == 1 then Isochronous else if n == 
 abbrev pub kind_of : Piece → Kind
 kind_of p = kind_by (byte 3 p.bytes % 4)
 
-abbrev pub size_of : Piece → ℕ
-size_of p = word 4 p.bytes % 2048
+abbrev pub packet_size_of : Piece → ℕ
+packet_size_of p = word 4 p.bytes % 2048
 
 abbrev pub info_of : ℕ → Piece → EndpointInfo
-info_of interface p = record { address = address_of p; interface = interface; kind = kind_of p; size = size_of p }
+info_of interface p = record { address = address_of p; interface = interface; kind = kind_of p; packet_size = packet_size_of p }
 
 -- an endpoint is kept where its number isn't 0 and the nearest earlier interface is used
 abbrev pub kept_under : Option (Option ℕ) → Piece → List EndpointInfo
@@ -84,7 +84,7 @@ is_transfer_kind Interrupt = true
 is_transfer_kind _ = false
 
 abbrev pub is_bad_size : EndpointInfo → Bool
-is_bad_size x = is_transfer_kind x.kind && (nat_lt x.size 1 || nat_lt 1024 x.size)
+is_bad_size x = is_transfer_kind x.kind && (nat_lt x.packet_size 1 || nat_lt 1024 x.packet_size)
 
 -- the first fault of an endpoint that would be kept
 abbrev pub faults_of_kept : List Piece → List EndpointInfo → List DescFault

@@ -68,9 +68,9 @@ impl Config {
 
     /// The kind and the packet size in bytes of an endpoint; None where no endpoint has just this address.
     pub fn endpoint(&self, ep: EpAddr) -> Option<(Kind, u16)>
-        ensures { result ≡ option_map (λ x. (x.kind, x.size)) (info_at self.now ep) }
+        ensures { result ≡ option_map (λ x. (x.kind, x.packet_size)) (info_at self.now ep) }
     {
-        self.info(ep).map(|info| (info.kind, info.size))
+        self.info(ep).map(|info| (info.kind, info.packet_size))
     }
 
     /// What it says of an endpoint; None where no endpoint has just this address.
@@ -132,5 +132,5 @@ impl Config {
 fn has_bad_size(info: &EndpointInfo) -> bool
     ensures { result ≡ is_bad_size info.now }
 {
-    matches!(info.kind, Kind::Bulk | Kind::Interrupt) && !(1..=1024).contains(&info.size)
+    matches!(info.kind, Kind::Bulk | Kind::Interrupt) && !(1..=1024).contains(&info.packet_size)
 }

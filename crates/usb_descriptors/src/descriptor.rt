@@ -42,7 +42,7 @@ pub(crate) struct Endpoint {
     /// Bits 1..0 of bmAttributes.
     pub(crate) kind: Kind,
     /// Bits 10..0 of wMaxPacketSize.
-    pub(crate) size: u16,
+    pub(crate) packet_size: u16,
 }
 
 impl Descriptor {
@@ -70,15 +70,15 @@ impl Descriptor {
 
 impl Endpoint {
     /// An endpoint by bEndpointAddress, bmAttributes and wMaxPacketSize.
-    fn new(address: u8, attributes: u8, size: u16) -> Endpoint
+    fn new(address: u8, attributes: u8, packet_size: u16) -> Endpoint
         ensures address { result.address ≡ address / 128 * 128 + address % 16 }
         ensures kind { result.kind ≡ kind_by (attributes % 4) }
-        ensures size { result.size ≡ size % 2048 }
+        ensures packet_size { result.packet_size ≡ packet_size % 2048 }
     {
         Endpoint {
             address: EpAddr::new(address & 0x8f),
             kind: kind_of(attributes),
-            size: size % 2048,
+            packet_size: packet_size % 2048,
         }
     }
 
@@ -95,14 +95,14 @@ impl Endpoint {
           address = self.address;
           interface = interface;
           kind = self.kind;
-          size = self.size;
+          packet_size = self.packet_size;
         } }
     {
         EndpointInfo {
             address: self.address,
             interface,
             kind: self.kind,
-            size: self.size,
+            packet_size: self.packet_size,
         }
     }
 }

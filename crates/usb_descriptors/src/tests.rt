@@ -46,7 +46,7 @@ fn info(address: u8, interface: u8, kind: Kind) -> EndpointInfo {
         address: EpAddr::new(address),
         interface,
         kind,
-        size: 8,
+        packet_size: 8,
     }
 }
 

@@ -7,14 +7,15 @@ use Rattle.usb_model.specs.declared.reply.Returned.{Returned}
 use Rattle.usb_model.specs.declared.step.Step.{Step}
 use Rattle.usb_model.specs.Setup.{Setup}
 use Rattle.usb_model.specs.Machine.{Machine, new_machine}
-use Rattle.usb_model.specs.Turns.{effect, machine_after, alone_from, alone}
-use Rattle.usb_model.specs.Journal.{own}
-use Rattle.usb_model.specs.Cut.{times}
-use Rattle.usb_model.specs.Places.{call_of, calls, numbers_called}
-use Rattle.usb_model.proofs.Isolation.{sees_alone}
-use Rattle.usb_model.proofs.Times.{times-cons, times-append, times_one, times_none}
-use Rattle.usb_model.proofs.Lines.{result_numbers}
-use Rattle.usb_model.proofs.Moves.{lives_at, DoesWork, Submits, Takes, Moves, work_less, moves}
+use Rattle.usb_model.specs.Machine.Turns.{effect, machine_after, alone_from, alone}
+use Rattle.usb_model.specs.World.Journal.{own}
+use Rattle.usb_model.specs.Laws.Cut.{times}
+use Rattle.usb_model.specs.Laws.Places.{call_of, calls, numbers_called}
+use Rattle.usb_lemmas.proofs.Handles.Isolation.{sees_alone}
+use Rattle.usb_lemmas.proofs.Lists.Times.{times-cons, times-append, times_one, times_none}
+use Rattle.usb_lemmas.proofs.Work.Lines.{result_numbers}
+use Rattle.usb_lemmas.proofs.Work.Moves.{lives_at, DoesWork, Submits, Takes, Moves, work_less}
+use Rattle.usb_lemmas.proofs.Work.StepMoves.{moves}
 use Rattle.usb_purge.specs.Laws.{CallsOnce}
 
 -- how often the number is called by this reply
@@ -30,7 +31,7 @@ pub record IsOnce (n called : ℕ) (m : Machine) : Type 0 where
   pub home : ℕ
   pub at_most : called + waiting n m home ≤ 1
   pub no_other : (at : ℕ) → (home == at) ≡ false → times n (lives_at m at) ≡ 0
-  pub to_come : m.handle.next ≤ n → called + waiting n m home ≡ 0
+  pub to_come : m.handle.next_number ≤ n → called + waiting n m home ≡ 0
 
 -- no call calls no number
 no_call : (n : ℕ) (reply : Reply) → call_of reply ≡ [] → called_now n reply ≡ 0
@@ -54,14 +55,14 @@ work_once n called m m' reply o w = record {
   home = o.home;
   at_most = omega (arith, o.at_most, less);
   no_other = λ at far. omega (arith, o.no_other at far, work_less m m' reply w n at);
-  to_come = λ ahead. let before : called + waiting n m o.home ≡ 0 = o.to_come (omega (arith, w.next, ahead)) in omega (arith, before, less);
+  to_come = λ ahead. let before : called + waiting n m o.home ≡ 0 = o.to_come (omega (arith, w.next_number, ahead)) in omega (arith, before, less);
 }
   where
     less : waiting n m' o.home ≤ waiting n m o.home
     less = work_waits n m m' reply w o.home o.no_other
 
 -- a number that is still to come is in progress nowhere
-nowhere : (n called : ℕ) (m : Machine) → IsOnce n called m → m.handle.next ≤ n → (at : ℕ) → times n (lives_at m at) ≡ 0
+nowhere : (n called : ℕ) (m : Machine) → IsOnce n called m → m.handle.next_number ≤ n → (at : ℕ) → times n (lives_at m at) ≡ 0
 nowhere n called m o ahead at = by_test (o.home == at) refl
   where
     by_test : (b : Bool) → (o.home == at) ≡ b → times n (lives_at m at) ≡ 0
@@ -69,12 +70,12 @@ nowhere n called m o ahead at = by_test (o.home == at) refl
     by_test false e = o.no_other at e
 
 -- a submission that gives this number
-given_once : (n called : ℕ) (m m' : Machine) (reply : Reply) → IsOnce n called m → Submits m m' reply → m.handle.next ≡ n → IsOnce n called m'
+given_once : (n called : ℕ) (m m' : Machine) (reply : Reply) → IsOnce n called m → Submits m m' reply → m.handle.next_number ≡ n → IsOnce n called m'
 given_once n called m m' reply o s is = record {
   home = s.ep;
   at_most = omega (arith, before, results, here, nowhere n called m o (omega (arith, is)) s.ep);
   no_other = λ at far. rw (s.others at far) (nowhere n called m o (omega (arith, is)) at);
-  to_come = λ ahead. omega (arith, s.next, ahead, is);
+  to_come = λ ahead. omega (arith, s.next_number, ahead, is);
 }
   where
     before : called + waiting n m o.home ≡ 0
@@ -84,15 +85,15 @@ given_once n called m m' reply o s is = record {
     results = ap (λ l. times n (result_numbers l)) s.results
 
     here : times n (lives_at m' s.ep) ≡ times n (lives_at m s.ep) + 1
-    here = ap (times n) s.here ∙ (times-append n (lives_at m s.ep) (m.handle.next ∷ []) ∙ ap (λ k. times n (lives_at m s.ep) + k) (times_one n m.handle.next is))
+    here = ap (times n) s.here ∙ (times-append n (lives_at m s.ep) (m.handle.next_number ∷ []) ∙ ap (λ k. times n (lives_at m s.ep) + k) (times_one n m.handle.next_number is))
 
 -- one that gives another
-other_once : (n called : ℕ) (m m' : Machine) (reply : Reply) → IsOnce n called m → Submits m m' reply → (m.handle.next ≡ n → ⊥) → IsOnce n called m'
+other_once : (n called : ℕ) (m m' : Machine) (reply : Reply) → IsOnce n called m → Submits m m' reply → (m.handle.next_number ≡ n → ⊥) → IsOnce n called m'
 other_once n called m m' reply o s differs = record {
   home = o.home;
   at_most = omega (arith, o.at_most, results, same o.home);
   no_other = λ at far. same at ∙ o.no_other at far;
-  to_come = λ ahead. let before : called + waiting n m o.home ≡ 0 = o.to_come (omega (arith, s.next, ahead)) in omega (arith, before, results, same o.home);
+  to_come = λ ahead. let before : called + waiting n m o.home ≡ 0 = o.to_come (omega (arith, s.next_number, ahead)) in omega (arith, before, results, same o.home);
 }
   where
     results : times n (result_numbers m'.results) ≡ times n (result_numbers m.results)
@@ -100,7 +101,7 @@ other_once n called m m' reply o s differs = record {
 
     by_test : (at : ℕ) (b : Bool) → (s.ep == at) ≡ b → times n (lives_at m' at) ≡ times n (lives_at m at)
     by_test at true e = subst (λ k. times n (lives_at m' k) ≡ times n (lives_at m k)) (eqb-true s.ep at e)
-        (rw (s.here, times-append n (lives_at m s.ep) (m.handle.next ∷ []), times_none n m.handle.next differs) (omega arith))
+        (rw (s.here, times-append n (lives_at m s.ep) (m.handle.next_number ∷ []), times_none n m.handle.next_number differs) (omega arith))
     by_test at false e = rw (s.others at e) refl
 
     same : (at : ℕ) → times n (lives_at m' at) ≡ times n (lives_at m at)
@@ -117,7 +118,7 @@ take_once n called h m m' reply o t = record {
   home = o.home;
   at_most = omega (arith, o.at_most, taken_waits n h m m' reply t o.home);
   no_other = λ at far. rw (t.others at) (o.no_other at far);
-  to_come = λ ahead. let before : called + waiting n m o.home ≡ 0 = o.to_come (omega (arith, t.next, ahead)) in omega (arith, before, taken_waits n h m m' reply t o.home);
+  to_come = λ ahead. let before : called + waiting n m o.home ≡ 0 = o.to_come (omega (arith, t.next_number, ahead)) in omega (arith, before, taken_waits n h m m' reply t o.home);
 }
 
 -- every step keeps it
@@ -127,13 +128,13 @@ once_kept n called h m m' reply o moved = by_case moved
     uncalled : called_now n reply ≡ 0 → IsOnce n called m' → IsOnce n (called + called_now n reply) m'
     uncalled none o' = subst (λ k. IsOnce n k m') (omega (arith, none)) o'
 
-    by_test : Submits m m' reply → (b : Bool) → (m.handle.next == n) ≡ b → IsOnce n called m'
-    by_test s true e = given_once n called m m' reply o s (eqb-true m.handle.next n e)
-    by_test s false e = other_once n called m m' reply o s (eqb-false m.handle.next n e)
+    by_test : Submits m m' reply → (b : Bool) → (m.handle.next_number == n) ≡ b → IsOnce n called m'
+    by_test s true e = given_once n called m m' reply o s (eqb-true m.handle.next_number n e)
+    by_test s false e = other_once n called m m' reply o s (eqb-false m.handle.next_number n e)
 
     by_case : Moves h m m' reply → IsOnce n (called + called_now n reply) m'
     by_case (inl w) = uncalled (no_call n reply w.calls) (work_once n called m m' reply o w)
-    by_case (inr (inl s)) = uncalled (no_call n reply s.calls) (by_test s (m.handle.next == n) refl)
+    by_case (inr (inl s)) = uncalled (no_call n reply s.calls) (by_test s (m.handle.next_number == n) refl)
     by_case (inr (inr t)) = take_once n called h m m' reply o t
 
 -- the machine after a step of its own

@@ -13,13 +13,13 @@ use Rattle.usb_model.specs.declared.verdict.Rule.{Rule}
 use Rattle.usb_model.specs.declared.plan.Plan.{Plan}
 use Rattle.usb_model.specs.declared.plan.Plan.TheVariants.{Do, Return}
 use Rattle.usb_model.specs.Setup.{Setup}
-use Rattle.usb_model.specs.Calls.{callback_of}
+use Rattle.usb_model.specs.Machine.Calls.{callback_of}
 use Rattle.usb_model.specs.World.{machine_of, is_its, turn}
-use Rattle.usb_model.specs.Journal.{journal_from, journal, is_held_elsewhere, is_unplug}
-use Rattle.usb_model.specs.Plans.{Book, noted_by, noted, verdict_by, needs_stop, return_steps, is_submit, rules_past, rules_after, first_rule, rule_for, once_only, Stage, first_stage, returning, steps_of, stage_after, expand_from, is_own_piece, is_submission, own_plan_from, own_rules_from}
-use Rattle.usb_model.proofs.Isolation.{is_own_step, IsEither, turn_to, own_from}
+use Rattle.usb_model.specs.World.Journal.{journal_from, journal, is_held_elsewhere, is_unplug}
+use Rattle.usb_model.specs.World.Plans.{Book, noted_by, noted, verdict_by, needs_stop, return_steps, is_submit, rules_past, rules_after, first_rule, rule_for, once_only, Stage, first_stage, returning, steps_of, stage_after, expand_from, is_own_piece, is_submission, own_plan_from, own_rules_from}
+use Rattle.usb_lemmas.proofs.Handles.Isolation.{is_own_step, IsEither, turn_to, own_from}
 use Rattle.usb_purge.specs.Laws.{ExpandsAlone}
-use Rattle.usb_model.proofs.Alone.{OnlyOf, turn_again, only_new}
+use Rattle.usb_lemmas.proofs.Handles.Alone.{OnlyOf, turn_again, only_new}
 use Rattle.usb_purge.proofs.Runs.{own-append, AllOwn, NoneOwn, own_all, own_none, run_again, run_stays}
 use Rattle.usb_purge.proofs.Verdicts.{answer_own, answer_others}
 
@@ -108,7 +108,7 @@ own_return setup h s t n same = by_test (needs_stop v (turn setup s.world (Answe
     v = verdict_by (returning s h n) (s.book h n)
 
     verdict_same : v ≡ verdict_by (returning t h n) (t.book h n)
-    verdict_same = ap₂ (λ o r. verdict_by (callback_of n o) r) (ap (λ m. m.handle.out) same.machine) (same.book n)
+    verdict_same = ap₂ (λ o r. verdict_by (callback_of n o) r) (ap (λ m. m.handle.in_callbacks) same.machine) (same.book n)
 
     stop_same : needs_stop v (turn setup t.world (Answer h n v)).entry.reply ≡ needs_stop v (turn setup s.world (Answer h n v)).entry.reply
     stop_same = ap (λ e. needs_stop v e.reply) (turn_again setup h s.world t.world (Answer h n v) same.machine same.only (answer_own setup h s.world n v)).0

@@ -11,14 +11,15 @@ use Rattle.usb_model.specs.declared.step.Step.{Step}
 use Rattle.usb_model.specs.declared.step.Step.TheVariants.{Unplug}
 use Rattle.usb_model.specs.Setup.{Setup, is_device}
 use Rattle.usb_model.specs.Machine.{Machine, new_machine}
-use Rattle.usb_model.specs.Turns.{unplug_reply, effect, maker, alone_from, alone}
-use Rattle.usb_model.specs.Journal.{own}
-use Rattle.usb_model.specs.Cut.{times}
-use Rattle.usb_model.specs.Places.{call_of, number_of, numbers_given}
-use Rattle.usb_model.proofs.Isolation.{sees_alone}
-use Rattle.usb_model.proofs.Times.{times-cons, times-append, times_one}
-use Rattle.usb_model.proofs.Lines.{result_numbers}
-use Rattle.usb_model.proofs.Moves.{told, Submits, Moves, moves}
+use Rattle.usb_model.specs.Machine.Turns.{unplug_reply, effect, maker, alone_from, alone}
+use Rattle.usb_model.specs.World.Journal.{own}
+use Rattle.usb_model.specs.Laws.Cut.{times}
+use Rattle.usb_model.specs.Laws.Places.{call_of, number_of, numbers_given}
+use Rattle.usb_lemmas.proofs.Handles.Isolation.{sees_alone}
+use Rattle.usb_lemmas.proofs.Lists.Times.{times-cons, times-append, times_one}
+use Rattle.usb_lemmas.proofs.Work.Lines.{result_numbers}
+use Rattle.usb_lemmas.proofs.Work.Moves.{told, Submits, Moves}
+use Rattle.usb_lemmas.proofs.Work.StepMoves.{moves}
 use Rattle.usb_purge.specs.Laws.{CallsAfterNumber}
 use Rattle.usb_purge.proofs.Calls.{called_now, IsOnce, once_kept, next_machine, reply_to, once_new}
 
@@ -28,7 +29,7 @@ AllOnce m = (n : ℕ) → (called : ℕ) × IsOnce n called m
 
 -- each number below the next was given
 abbrev IsGiven : List ℕ → Machine → Type 0
-IsGiven given m = (n : ℕ) → n < m.handle.next → 0 < times n given
+IsGiven given m = (n : ℕ) → n < m.handle.next_number → 0 < times n given
 
 -- every step keeps it, with what it gives
 given_kept : (given : List ℕ) (h : ℕ) (m m' : Machine) (reply : Reply) → IsGiven given m → Moves h m m' reply → IsGiven (given ++ number_of reply) m'
@@ -37,17 +38,17 @@ given_kept given h m m' reply all moved n below = by_case moved
     sum : times n (given ++ number_of reply) ≡ times n given + times n (number_of reply)
     sum = times-append n given (number_of reply)
 
-    before : n < m.handle.next → 0 < times n (given ++ number_of reply)
+    before : n < m.handle.next_number → 0 < times n (given ++ number_of reply)
     before lt = omega (arith, sum, all n lt)
 
-    by_test : Submits m m' reply → (b : Bool) → (m.handle.next == n) ≡ b → 0 < times n (given ++ number_of reply)
-    by_test s true e = omega (arith, sum, ap (times n) s.gives, times_one n m.handle.next (eqb-true m.handle.next n e))
-    by_test s false e = let differs : m.handle.next ≡ n → ⊥ = eqb-false m.handle.next n e in before (omega (arith, s.next, below, differs))
+    by_test : Submits m m' reply → (b : Bool) → (m.handle.next_number == n) ≡ b → 0 < times n (given ++ number_of reply)
+    by_test s true e = omega (arith, sum, ap (times n) s.gives, times_one n m.handle.next_number (eqb-true m.handle.next_number n e))
+    by_test s false e = let differs : m.handle.next_number ≡ n → ⊥ = eqb-false m.handle.next_number n e in before (omega (arith, s.next_number, below, differs))
 
     by_case : Moves h m m' reply → 0 < times n (given ++ number_of reply)
-    by_case (inl w) = before (omega (arith, w.next, below))
-    by_case (inr (inl s)) = by_test s (m.handle.next == n) refl
-    by_case (inr (inr t)) = before (omega (arith, t.next, below))
+    by_case (inl w) = before (omega (arith, w.next_number, below))
+    by_case (inr (inl s)) = by_test s (m.handle.next_number == n) refl
+    by_case (inr (inr t)) = before (omega (arith, t.next_number, below))
 
 -- an Unplug calls nothing back
 unplug_calls : (setup : Setup) (gone : ℕ → Bool) (dev : ℕ) → call_of (unplug_reply setup gone dev) ≡ []
@@ -86,12 +87,12 @@ call_given given h m m' reply owner r owned all once (inr (inr t)) is = (owned, 
     one : times r.n (t.result.n ∷ []) ≡ 1
     one = times_one r.n t.result.n (ap (λ x. x.n) same)
 
-    by_order : (r.n < m.handle.next) ⊎ (m.handle.next ≤ r.n) → r.n < m.handle.next
+    by_order : (r.n < m.handle.next_number) ⊎ (m.handle.next_number ≤ r.n) → r.n < m.handle.next_number
     by_order (inl lt) = lt
     by_order (inr ahead) = absurd (omega (arith, waits, one, (once r.n).1.to_come ahead))
 
-    below : r.n < m.handle.next
-    below = by_order (cases_lt r.n m.handle.next)
+    below : r.n < m.handle.next_number
+    below = by_order (cases_lt r.n m.handle.next_number)
 
 -- lists that are the same have the same rest
 entries_tail : (x y : Entry) (xs ys : List Entry) → x ∷ xs ≡ y ∷ ys → xs ≡ ys

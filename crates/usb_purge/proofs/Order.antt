@@ -8,19 +8,19 @@ use Rattle.std.proofs.lemmas.List.Elements.{filter-append}
 use Rattle.usb_model.specs.declared.reply.Reply.{Reply}
 use Rattle.usb_model.specs.declared.reply.Returned.{Returned}
 use Rattle.usb_model.specs.declared.step.Step.{Step}
-use Rattle.usb_model.specs.declared.plain.result.TransferResult.{TransferResult}
+use Rattle.usb_model.specs.declared.result.TransferResult.{TransferResult}
 use Rattle.usb_model.specs.Setup.{Setup}
-use Rattle.usb_model.specs.Status.{is_uncut}
+use Rattle.usb_model.specs.Endpoint.Status.{is_uncut}
 use Rattle.usb_model.specs.Machine.{Machine, new_machine}
-use Rattle.usb_model.specs.Turns.{alone_from, alone}
-use Rattle.usb_model.specs.Journal.{entries, own}
-use Rattle.usb_model.specs.Places.{call_of, calls}
-use Rattle.usb_model.proofs.Pieces.{same_name}
-use Rattle.usb_model.proofs.Isolation.{sees_alone}
-use Rattle.usb_model.proofs.Each.{each_append, each_behind, each_front, each_part}
-use Rattle.usb_model.proofs.Parts.{IsPart, part_behind, part_map, part_filter}
-use Rattle.usb_model.proofs.Lines.{Key, uncut_keys}
-use Rattle.usb_model.proofs.Moves.{keys_at, told, DoesWork, Submits, Takes, Moves, moves}
+use Rattle.usb_model.specs.Machine.Turns.{alone_from, alone}
+use Rattle.usb_model.specs.World.Journal.{entries, own}
+use Rattle.usb_model.specs.Laws.Places.{call_of, calls}
+use Rattle.usb_lemmas.proofs.Lists.Pieces.{same_name}
+use Rattle.usb_lemmas.proofs.Handles.Isolation.{sees_alone}
+use Rattle.usb_lemmas.proofs.Lists.Parts.{each_append, each_behind, each_front, each_part, IsPart, part_behind, part_map, part_filter}
+use Rattle.usb_lemmas.proofs.Work.Lines.{Key, uncut_keys}
+use Rattle.usb_lemmas.proofs.Work.Moves.{keys_at, told, DoesWork, Submits, Takes, Moves}
+use Rattle.usb_lemmas.proofs.Work.StepMoves.{moves}
 use Rattle.usb_purge.specs.Laws.{CallsInOrder, uncut_numbers}
 use Rattle.usb_purge.proofs.Rises.{AllBelow, Rises, increasing, part_rises, below_more, below_up, rises_more, rises_front}
 use Rattle.usb_purge.proofs.Calls.{next_machine, reply_to}
@@ -64,7 +64,7 @@ placed_kept h m m' reply placed (inl w) at = by_test (w.ep == at) refl
 placed_kept h m m' reply placed (inr (inl s)) at = by_test (s.ep == at) refl
   where
     by_test : (b : Bool) → (s.ep == at) ≡ b → AreAt at (keys_at m' at)
-    by_test true e = subst (λ k. AreAt k (keys_at m' k)) (eqb-true s.ep at e) (rw s.key_here (are_at_more s.ep m.handle.next (keys_at m s.ep) (placed s.ep)))
+    by_test true e = subst (λ k. AreAt k (keys_at m' k)) (eqb-true s.ep at e) (rw s.key_here (are_at_more s.ep m.handle.next_number (keys_at m s.ep) (placed s.ep)))
     by_test false e = rw (s.others at e) (placed at)
 placed_kept h m m' reply placed (inr (inr t)) at = rw (t.others at) (placed at)
 
@@ -75,7 +75,7 @@ coming ep m = numbers_for ep (uncut_keys m.results) ++ numbers_for ep (keys_at m
 -- those that were called back until now, and those to come, rise
 record IsOrdered (ep : ℕ) (called : List ℕ) (m : Machine) : Type 0 where
   rises : Rises (called ++ coming ep m)
-  below : AllBelow m.handle.next (called ++ coming ep m)
+  below : AllBelow m.handle.next_number (called ++ coming ep m)
 
 -- the calls of a reply
 abbrev called_now : ℕ → Reply → List ℕ
@@ -111,14 +111,14 @@ work_coming ep m m' reply placed w = by_test (w.ep == ep) refl
     by_test false e = rw (split, made_elsewhere e) (part_behind waiting (numbers_for_part ep (w.others ep e)))
 
 -- a submission is to come behind all, at its endpoint
-submit_coming : (ep : ℕ) (m m' : Machine) (reply : Reply) → Submits m m' reply → (coming ep m' ≡ coming ep m ++ m.handle.next ∷ []) ⊎ (coming ep m' ≡ coming ep m)
+submit_coming : (ep : ℕ) (m m' : Machine) (reply : Reply) → Submits m m' reply → (coming ep m' ≡ coming ep m ++ m.handle.next_number ∷ []) ⊎ (coming ep m' ≡ coming ep m)
 submit_coming ep m m' reply s = by_test (s.ep == ep) refl
   where
-    by_test : (b : Bool) → (s.ep == ep) ≡ b → (coming ep m' ≡ coming ep m ++ m.handle.next ∷ []) ⊎ (coming ep m' ≡ coming ep m)
+    by_test : (b : Bool) → (s.ep == ep) ≡ b → (coming ep m' ≡ coming ep m ++ m.handle.next_number ∷ []) ⊎ (coming ep m' ≡ coming ep m)
     by_test true e =
-        inl (subst (λ k. coming k m' ≡ coming k m ++ m.handle.next ∷ []) (eqb-true s.ep ep e)
-        (rw (s.results, s.key_here, numbers_for-append s.ep (keys_at m s.ep) (record { n = m.handle.next; ep = s.ep } ∷ []), same_name s.ep)
-        (sym (append_assoc (numbers_for s.ep (uncut_keys m.results)) (numbers_for s.ep (keys_at m s.ep)) (m.handle.next ∷ [])))))
+        inl (subst (λ k. coming k m' ≡ coming k m ++ m.handle.next_number ∷ []) (eqb-true s.ep ep e)
+        (rw (s.results, s.key_here, numbers_for-append s.ep (keys_at m s.ep) (record { n = m.handle.next_number; ep = s.ep } ∷ []), same_name s.ep)
+        (sym (append_assoc (numbers_for s.ep (uncut_keys m.results)) (numbers_for s.ep (keys_at m s.ep)) (m.handle.next_number ∷ [])))))
     by_test false e = inr (rw (s.results, s.others ep e) refl)
 
 -- the first result, and those behind it
@@ -156,13 +156,13 @@ ordered_kept ep h called m m' reply o placed moved = by_case moved
     by_work : DoesWork m m' reply → IsOrdered ep called m'
     by_work w =
         let part : IsPart (called ++ coming ep m') (called ++ coming ep m) = part_behind called (work_coming ep m m' reply placed w) in
-        record { rises = part_rises part o.rises; below = rw w.next (each_part (λ x. x < m.handle.next) part o.below) }
+        record { rises = part_rises part o.rises; below = rw w.next_number (each_part (λ x. x < m.handle.next_number) part o.below) }
 
-    by_submit : Submits m m' reply → (coming ep m' ≡ coming ep m ++ m.handle.next ∷ []) ⊎ (coming ep m' ≡ coming ep m) → IsOrdered ep called m'
+    by_submit : Submits m m' reply → (coming ep m' ≡ coming ep m ++ m.handle.next_number ∷ []) ⊎ (coming ep m' ≡ coming ep m) → IsOrdered ep called m'
     by_submit s (inl e) =
-        let behind : called ++ coming ep m' ≡ (called ++ coming ep m) ++ m.handle.next ∷ [] = ap (λ l. called ++ l) e ∙ sym (append_assoc called (coming ep m) (m.handle.next ∷ [])) in
-        record { rises = rw behind (rises_more m.handle.next (called ++ coming ep m) o.rises o.below); below = rw (s.next, behind) (below_more m.handle.next (called ++ coming ep m) o.below) }
-    by_submit s (inr e) = record { rises = rw e o.rises; below = rw (s.next, e) (below_up m.handle.next (called ++ coming ep m) o.below) }
+        let behind : called ++ coming ep m' ≡ (called ++ coming ep m) ++ m.handle.next_number ∷ [] = ap (λ l. called ++ l) e ∙ sym (append_assoc called (coming ep m) (m.handle.next_number ∷ [])) in
+        record { rises = rw behind (rises_more m.handle.next_number (called ++ coming ep m) o.rises o.below); below = rw (s.next_number, behind) (below_more m.handle.next_number (called ++ coming ep m) o.below) }
+    by_submit s (inr e) = record { rises = rw e o.rises; below = rw (s.next_number, e) (below_up m.handle.next_number (called ++ coming ep m) o.below) }
 
     by_case : Moves h m m' reply → IsOrdered ep (called ++ called_now ep reply) m'
     by_case (inl w) = uncalled w.calls (by_work w)
@@ -170,7 +170,7 @@ ordered_kept ep h called m m' reply o placed moved = by_case moved
     by_case (inr (inr t)) =
         let same : (called ++ called_now ep reply) ++ coming ep m' ≡ called ++ coming ep m =
         append_assoc called (called_now ep reply) (coming ep m') ∙ ap (λ l. called ++ l) (sym (take_coming ep h m m' reply t)) in
-        record { rises = rw same o.rises; below = rw (t.next, same) o.below }
+        record { rises = rw same o.rises; below = rw (t.next_number, same) o.below }
 
 -- what is called from here on
 abbrev called_from : ℕ → Setup → ℕ → Machine → List Step → List ℕ

@@ -6,16 +6,16 @@ use Rattle.usb_model.specs.declared.refused.Refused.{Refused}
 use Rattle.usb_model.specs.declared.step.Step.TheVariants.{Answer}
 use Rattle.usb_model.specs.declared.verdict.Verdict.{Verdict}
 use Rattle.usb_model.specs.declared.verdict.Verdict.TheVariants as verdict
-use Rattle.usb_model.specs.declared.plain.endpoint.Endpoint.{Endpoint}
-use Rattle.usb_model.specs.declared.plain.handle.Handle.{Handle}
-use Rattle.usb_model.specs.declared.plain.result.InCallback.{InCallback}
+use Rattle.usb_model.specs.declared.endpoint.Endpoint.{Endpoint}
+use Rattle.usb_model.specs.declared.handle.Handle.{Handle}
+use Rattle.usb_model.specs.declared.result.InCallback.{InCallback}
 use Rattle.usb_model.specs.Setup.{Setup}
-use Rattle.usb_model.specs.declared.plain.effect.Effect.{Effect}
-use Rattle.usb_model.specs.Machine.{Machine, refused_if, doing_at}
-use Rattle.usb_model.specs.Calls.{submit_at, submit_it, callback_of, answer_at, answer_it}
-use Rattle.usb_model.specs.Turns.{effect}
+use Rattle.usb_model.specs.declared.effect.Effect.{Effect}
+use Rattle.usb_model.specs.Machine.{Machine, refused_if, at_endpoint}
+use Rattle.usb_model.specs.Machine.Calls.{submit_to, submit_effect, callback_of, answer_callback, answer_effect}
+use Rattle.usb_model.specs.Machine.Turns.{effect}
 use Rattle.usb_model.specs.World.{World, machine_of, is_blocked, turn}
-use Rattle.usb_model.proofs.Isolation.{IsOwnTurn, IsNothing, IsEither, turn_free, free_own, turn_to}
+use Rattle.usb_lemmas.proofs.Handles.Isolation.{IsOwnTurn, IsNothing, IsEither, turn_free, free_own, turn_to}
 
 -- what no other handle is in the way of
 abbrev IsGentle : Setup → ℕ → World → Effect → Type 0
@@ -28,14 +28,14 @@ gentle_if setup h w m true why rest g = refl
 gentle_if setup h w m false why rest g = g
 
 -- a submission
-gentle_submit : (setup : Setup) (h : ℕ) (w : World) (m : Machine) (handle : Handle) (request : Request) (round : ℕ) (o : Option Endpoint) → IsGentle setup h w (submit_at setup m handle request round o)
-unfolding submit_at is_blocked doing_at
+gentle_submit : (setup : Setup) (h : ℕ) (w : World) (m : Machine) (handle : Handle) (request : Request) (round : ℕ) (o : Option Endpoint) → IsGentle setup h w (submit_to setup m handle request round o)
+unfolding submit_to is_blocked at_endpoint
 gentle_submit setup h w m handle request round None = refl
 gentle_submit setup h w m handle request round (Some e) = gentle_if setup h w m _ _ _ (gentle_if setup h w m _ _ _ (gentle_if setup h w m _ _ _ (gentle_if setup h w m _ _ _ (gentle_if setup h w m _ _ _ refl))))
 
 -- a verdict
-gentle_answer : (setup : Setup) (h : ℕ) (w : World) (m : Machine) (v : Verdict) (o : Option InCallback) → IsGentle setup h w (answer_at setup m v o)
-unfolding answer_at submit_it is_blocked
+gentle_answer : (setup : Setup) (h : ℕ) (w : World) (m : Machine) (v : Verdict) (o : Option InCallback) → IsGentle setup h w (answer_callback setup m v o)
+unfolding answer_callback submit_effect is_blocked
 gentle_answer setup h w m v None = refl
 gentle_answer setup h w m verdict.Stop (Some x) = refl
 gentle_answer setup h w m verdict.Again (Some x) = gentle_submit setup h w m _ _ _ _
@@ -43,9 +43,9 @@ gentle_answer setup h w m (verdict.AgainWith bytes) (Some x) = gentle_submit set
 
 -- it is its handle's own
 pub answer_own : (setup : Setup) (h : ℕ) (w : World) (n : ℕ) (v : Verdict) → IsOwnTurn setup h w (Answer h n v) (turn setup w (Answer h n v))
-unfolding turn effect answer_it
+unfolding turn effect answer_effect
 answer_own setup h w n v =
-    subst (IsOwnTurn setup h w (Answer h n v)) (sym (turn_free setup h w (Answer h n v) (gentle_answer setup h w (machine_of setup h w) v (callback_of n (machine_of setup h w).handle.out))))
+    subst (IsOwnTurn setup h w (Answer h n v)) (sym (turn_free setup h w (Answer h n v) (gentle_answer setup h w (machine_of setup h w) v (callback_of n (machine_of setup h w).handle.in_callbacks))))
     (free_own setup h w (Answer h n v) refl)
 
 -- and nothing to another

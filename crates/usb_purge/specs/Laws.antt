@@ -9,14 +9,14 @@ use Rattle.usb_model.specs.declared.step.Step.{Step}
 use Rattle.usb_model.specs.declared.verdict.Rule.{Rule}
 use Rattle.usb_model.specs.declared.plan.Plan.{Plan}
 use Rattle.usb_model.specs.Setup.{Setup}
-use Rattle.usb_model.specs.Status.{is_uncut}
+use Rattle.usb_model.specs.Endpoint.Status.{is_uncut}
 use Rattle.usb_model.specs.Machine.{new_machine}
-use Rattle.usb_model.specs.Turns.{alone, machine_from}
+use Rattle.usb_model.specs.Machine.Turns.{alone, machine_from}
 use Rattle.usb_model.specs.World.{new_world, machine_of, world_from}
-use Rattle.usb_model.specs.Journal.{world_run, own, entries}
-use Rattle.usb_model.specs.Plans.{expand, own_plan, own_rules}
-use Rattle.usb_model.specs.Cut.{times}
-use Rattle.usb_model.specs.Places.{calls, numbers_given, numbers_called}
+use Rattle.usb_model.specs.World.Journal.{world_run, own, entries}
+use Rattle.usb_model.specs.World.Plans.{expand, own_plan, own_rules}
+use Rattle.usb_model.specs.Laws.Cut.{times}
+use Rattle.usb_model.specs.Laws.Places.{calls, numbers_given, numbers_called}
 
 -- what a handle sees is what it sees alone over its own steps
 abbrev pub SeesAlone : Setup → List Step → ℕ → Type 0

@@ -10,12 +10,13 @@ use Rattle.clap.specs.declared.builder.action.ArgAction.TheVariants.{Set}
 use Rattle.clap.specs.declared.builder.value_parser.ValueParser.TheVariants.{Unsigned}
 use Rattle.clap.specs.declared.error.kind.ErrorKind.{ErrorKind}
 use Rattle.clap.specs.declared.error.kind.ErrorKind.TheVariants.{DisplayHelp}
+use Rattle.usb_text.specs.Number.{last_handle}
 use Rattle.usb_trace.specs.declared.words.Task.{Task}
-use Rattle.usb_trace.specs.declared.words.Task.TheVariants.{Run, Alone}
+use Rattle.usb_trace.specs.declared.words.Task.TheVariants.{Run, Alone, Check}
 
--- the word H: a whole number from 0 to 63, which has to be there
+-- the word H: a whole number from 0 to the last name, which has to be there
 abbrev pub handle_word : Rule
-handle_word = record (new_rule (codes "H")) { action = Some Set; parser = Some (Unsigned 0 63); required = true }
+handle_word = record (new_rule (codes "H")) { action = Some Set; parser = Some (Unsigned 0 last_handle); required = true }
 
 -- run
 abbrev pub run_words : Shape
@@ -25,13 +26,21 @@ run_words = new_shape (codes "run")
 abbrev pub alone_words : Shape
 alone_words = record (new_shape (codes "alone")) { rules = handle_word ∷ [] }
 
--- usbtrace, and then one of the two; there is no subcommand for help
+-- check
+abbrev pub check_words : Shape
+check_words = new_shape (codes "check")
+
+-- usbtrace, and then one of the three; there is no subcommand for help
 abbrev pub first_words : Shape
 first_words = record (new_shape (codes "usbtrace")) { is_leaf = false; disable_help_subcommand = true; subcommand_required = true }
 
+-- the command line before its subcommands are added
+abbrev pub program_alone : App
+program_alone = record { top = record first_words { is_leaf = true }; subs = [] }
+
 -- the command line
 abbrev pub grammar : App
-grammar = record { top = first_words; subs = run_words ∷ alone_words ∷ [] }
+grammar = record { top = first_words; subs = run_words ∷ alone_words ∷ check_words ∷ [] }
 
 -- the number of the handle, as its word says it
 abbrev pub handle_in : List Row → Option ℕ
@@ -41,7 +50,8 @@ handle_in rows = option_map (λ text. digits_value 10 (without_leading_plus text
 abbrev pub task_named : Text → List Row → Option Task
 task_named name rows =
     if bytes_eq name (codes "alone") then option_map Alone (handle_in rows)
-    else (if bytes_eq name (codes "run") then Some Run else None)
+    else (if bytes_eq name (codes "check") then Some Check
+    else (if bytes_eq name (codes "run") then Some Run else None))
 
 -- the task of the subcommand that the words name
 abbrev pub task_of : Option (Text × List Row) → Option Task

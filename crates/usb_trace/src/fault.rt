@@ -2,13 +2,13 @@
 
 ghost use Rattle.std.specs.Prelude.{◌≡◌, Some};
 ghost use Rattle.std.specs.IoError.{error_kind};
-ghost use Rattle.usb_trace.specs.Reading.{fault_at, fault_of_kind, fault_text};
-ghost use Rattle.usb_trace.specs.declared.fault.Bad.TheVariants as Bad;
+ghost use Rattle.usb_trace.specs.Faults.{fault_of_kind, fault_of_text, fault_text};
 ghost use Rattle.usb_trace.specs.declared.fault.Fault.TheVariants as Fault;
 
-use std::alloc::{AllocError, AllocFailed};
+use std::alloc::AllocError;
 use std::{fmt, io};
 use thiserror::Error;
+use usb_text::TextFault;
 
 /// What ends a run, in the words of its message.
 #[derive(Clone, Copy, PartialEq, Eq, Debug, Error)]
@@ -34,8 +34,19 @@ impl fmt::Display for Fault {
     }
 }
 
+impl From<TextFault> for Fault {
+    ghost from_gives = { λ error fault. fault ≡ fault_of_text error };
+
+    fn from(error: TextFault) -> Fault {
+        match error {
+            TextFault::Line(line) => Fault::Line(line),
+            TextFault::Memory => Fault::Memory,
+        }
+    }
+}
+
 impl From<AllocError> for Fault {
-    ghost from_gives = { λ _ e. e ≡ Fault.Memory };
+    ghost from_gives = { λ _ fault. fault ≡ Fault.Memory };
 
     fn from(_error: AllocError) -> Fault {
         Fault::Memory
@@ -50,42 +61,5 @@ impl From<io::Error> for Fault {
             io::ErrorKind::OutOfMemory => Fault::Memory,
             _ => Fault::InputOutput,
         }
-    }
-}
-
-/// Why a line isn't taken.
-#[derive(Clone, Copy, PartialEq, Eq, Debug)]
-pub(crate) enum Bad {
-    /// It is none that may stand there.
-    Text,
-    /// No memory was to be had.
-    Memory,
-}
-
-impl Bad {
-    /// The fault of the run, where the line has this number.
-    pub(crate) fn at(self, line: u64) -> Fault
-        ensures { result ≡ fault_at self line }
-    {
-        match self {
-            Bad::Text => Fault::Line(line),
-            Bad::Memory => Fault::Memory,
-        }
-    }
-}
-
-impl From<AllocError> for Bad {
-    ghost from_gives = { λ _ e. e ≡ Bad.Memory };
-
-    fn from(_error: AllocError) -> Bad {
-        Bad::Memory
-    }
-}
-
-impl<T: Drop> From<AllocFailed<T>> for Bad {
-    ghost from_gives = { λ _ e. e ≡ Bad.Memory };
-
-    fn from(_error: AllocFailed<T>) -> Bad {
-        Bad::Memory
     }
 }

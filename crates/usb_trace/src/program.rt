@@ -1,32 +1,42 @@
 //! The program's body, over any reader and writers.
 
-ghost use Rattle.std.specs.Prelude.{◌≡◌, ◌≤◌, ◌⊎◌, IfSome, IfErr, IfOk, OnOk};
+ghost use Rattle.std.specs.Prelude.{◌≡◌, ◌≢◌, ◌≤◌, ◌⊎◌, [], IfSome, IfErr, IfOk, OnOk, length};
 ghost use Rattle.std.specs.Io.KnownBytes.{Appends, Keeps};
-ghost use Rattle.usb_model.specs.Text.{lines_text};
-ghost use Rattle.usb_trace.specs.Reading.{IsOfRun};
+ghost use Rattle.usb_text.specs.Findings.{bad_lines};
+ghost use Rattle.usb_text.specs.Words.{words_of};
 ghost use Rattle.usb_trace.specs.CommandLine.{AreBad, AskFor, AskForHelp};
-ghost use Rattle.usb_trace.specs.Program.{message_of, task_entries, IsDone, IsSilentAtBad, Performs, PrintsTo};
-ghost use Rattle.usb_trace.specs.Words.{words_of};
+ghost use Rattle.usb_trace.specs.Faults.{message_of, IsOfRun};
+ghost use Rattle.usb_trace.specs.Input.{longest_input};
+ghost use Rattle.usb_trace.specs.Program.{alone_text, run_text, IsDone, IsSilentAtBad, Performs, PrintsTo};
 ghost use Rattle.usb_trace.specs.declared.words.Task.{Task};
-ghost use Rattle.usb_trace.specs.declared.words.Task.TheVariants.{Run, Alone};
+ghost use Rattle.usb_trace.specs.declared.words.Task.TheVariants.{Check};
 
 use crate::fault::Fault;
-use crate::print::print;
+use crate::print::{print, print_findings};
 use crate::read::read_whole;
-use crate::scenario::{Scenario, read_scenario};
 use crate::words::{Task, read_words};
 use clap::Error;
 use clap::error::ErrorKind;
 use std::alloc::Global;
 use std::io::{self, Read, Write};
 use usb_model::Name;
-use usb_model::plain::{drive, drive_alone};
+use usb_plain::{drive, drive_alone};
+use usb_text::{Scenario, check, read_scenario};
 
-/// The status of a run that ended early.
-const ENDED_EARLY: u8 = 1;
+/// The status of a run that ended early, and of a check that found bad lines.
+const FAILED: u8 = 1;
 
 /// The status of bad words.
 const BAD_WORDS: u8 = 2;
+
+/// How a task ends that no fault ends.
+#[derive(Clone, Copy, PartialEq, Eq, Debug)]
+enum Ending {
+    /// Each line of the input was taken, and the task is done.
+    Good,
+    /// A check found bad lines, and told of them.
+    BadLines,
+}
 
 /// How far a run comes.
 #[derive(Clone, Copy, PartialEq, Eq, Debug)]
@@ -38,7 +48,7 @@ enum Reach {
 }
 
 /// Runs the program on its words, of which the first is its name, and its input, and answers its status: 0, or 1 where
-/// it ended early, or 2 for bad words.
+/// it ended early or a check found bad lines, or 2 for bad words.
 pub fn trace<R: Read, W: Write, E: Write>(
     alloc: Global,
     words: &[&str],
@@ -54,7 +64,9 @@ pub fn trace<R: Read, W: Write, E: Write>(
     ensures refused { result ≡ 2 → AreBad (words_of words.now)
         × Keeps (W.contents out.old) (W.contents out.new) × (input.new ≡ input.old) }
     ensures silent { IfSome (R.remaining input.old) (λ text.
-        IsSilentAtBad text (W.contents out.old) (W.contents out.new) ⊎ AskForHelp (words_of words.now)) }
+        IsSilentAtBad text (W.contents out.old) (W.contents out.new) ⊎ AskForHelp (words_of words.now)
+        ⊎ AskFor (words_of words.now) Check) }
+    ensures bad { AskFor (words_of words.now) Check → IfSome (R.remaining input.old) (λ text. bad_lines text ≢ [] → result ≢ 0) }
     ensures judged { ((task : Task) × AskFor (words_of words.now) task) ⊎ (input.new ≡ input.old) }
 {
     let ended = match read_words(alloc, words) {
@@ -66,39 +78,54 @@ pub fn trace<R: Read, W: Write, E: Write>(
         },
     };
     match ended {
-        Ok(()) => 0,
+        Ok(Ending::Good) => 0,
+        Ok(Ending::BadLines) => FAILED,
         Err(fault) => {
             let _ = complain(err, fault);
-            ENDED_EARLY
+            FAILED
         }
     }
 }
 
-/// Reads the scenario and does the task.
+/// Reads the input and does the task.
 fn perform<R: Read, W: Write>(
     alloc: Global,
     task: Task,
     input: &mut R,
     out: &mut W,
-) -> Result<(), Fault>
+) -> Result<Ending, Fault>
     ensures ends { IfSome (R.remaining input.old) (λ text. Performs task text (W.contents out.old) (W.contents out.new) result) }
-    ensures silent { IfSome (R.remaining input.old) (λ text. IsSilentAtBad text (W.contents out.old) (W.contents out.new)) }
+    ensures silent { IfSome (R.remaining input.old) (λ text. task ≢ Check → IsSilentAtBad text (W.contents out.old) (W.contents out.new)) }
 {
     let text = read_whole(alloc, input)?;
-    let scenario = read_scenario(alloc, text.as_slice())?;
     match task {
-        Task::Run => run(alloc, &scenario, out),
-        Task::Alone(h) => run_alone(alloc, &scenario, h, out),
+        Task::Run => run(alloc, &read_scenario(alloc, text.as_slice())?, out),
+        Task::Alone(h) => run_alone(alloc, &read_scenario(alloc, text.as_slice())?, h, out),
+        Task::Check => report(alloc, text.as_slice(), out),
     }
 }
 
+/// Checks a text: prints its bad lines, and how much the good ones say.
+fn report<W: Write>(alloc: Global, text: &[u8], out: &mut W) -> Result<Ending, Fault>
+    requires { length text.now ≤ longest_input }
+    ensures { Performs Check text.now (W.contents out.old) (W.contents out.new) result }
+{
+    let findings = check(alloc, text)?;
+    print_findings(alloc, out, &findings)?;
+    if findings.bad.is_empty() {
+        return Ok(Ending::Good);
+    }
+    Ok(Ending::BadLines)
+}
+
 /// Prints the entries of a scenario; where memory ran out, those before.
-fn run<W: Write>(alloc: Global, scenario: &Scenario, out: &mut W) -> Result<(), Fault>
-    ensures lines { OnOk result (Appends (W.contents out.old) (W.contents out.new) (lines_text (task_entries Run scenario.now))) }
+fn run<W: Write>(alloc: Global, scenario: &Scenario, out: &mut W) -> Result<Ending, Fault>
+    ensures lines { OnOk result (Appends (W.contents out.old) (W.contents out.new) (run_text scenario.now)) }
+    ensures good { IfOk result (λ ending. ending ≡ Ending.Good) }
     ensures fault { IfErr result (λ fault. IsOfRun fault) }
 {
     match print_run(alloc, scenario, out)? {
-        Reach::End => Ok(()),
+        Reach::End => Ok(Ending::Good),
         Reach::NoMemory => Err(Fault::Memory),
     }
 }
@@ -127,20 +154,24 @@ fn run_alone<W: Write>(
     scenario: &Scenario,
     h: Name,
     out: &mut W,
-) -> Result<(), Fault>
-    ensures lines { OnOk result (Appends (W.contents out.old) (W.contents out.new) (lines_text (task_entries (Alone h) scenario.now))) }
+) -> Result<Ending, Fault>
+    ensures lines { OnOk result (Appends (W.contents out.old) (W.contents out.new) (alone_text h scenario.now)) }
+    ensures good { IfOk result (λ ending. ending ≡ Ending.Good) }
     ensures fault { IfErr result (λ fault. IsOfRun fault) }
 {
     let (plan, rules) = (scenario.plan.as_slice(), scenario.rules.as_slice());
     let both = drive_alone(alloc, &scenario.setup, plan, rules, h)?;
-    print(alloc, out, both.alone.as_slice())
+    print(alloc, out, both.alone.as_slice())?;
+    Ok(Ending::Good)
 }
 
 /// Prints the help that the words ask for.
-fn help<W: Write>(out: &mut W, error: &Error) -> Result<(), Fault> {
+fn help<W: Write>(out: &mut W, error: &Error) -> Result<Ending, Fault>
+    ensures { IfOk result (λ ending. ending ≡ Ending.Good) }
+{
     write!(out, "{error}")?;
     out.flush()?;
-    Ok(())
+    Ok(Ending::Good)
 }
 
 /// Says why the words are bad. The status is the same where that can't be said.

@@ -1,7 +1,8 @@
 //! The whole input.
 
 ghost use Rattle.std.specs.Prelude.{◌≡◌, ◌≤◌, IfOk, IfErr, IfSome, vec_len};
-ghost use Rattle.usb_trace.specs.Reading.{IsOfRun};
+ghost use Rattle.usb_trace.specs.Faults.{IsOfRun};
+ghost use Rattle.usb_trace.specs.Input.{longest_input};
 
 use crate::fault::Fault;
 use std::alloc::Global;
@@ -11,7 +12,7 @@ use std::io::Read;
 const LONGEST_INPUT: usize = 67_108_864;
 
 /// How often an input is read at most: a byte each time, and then its end.
-const MOST_READS: u64 = 67_108_865;
+const MOST_READS: u64 = LONGEST_INPUT as u64 + 1;
 
 /// How many bytes are asked for at a time.
 const CHUNK: usize = 16_384;
@@ -21,7 +22,7 @@ const CHUNK: usize = 16_384;
 pub(crate) fn read_whole<R: Read>(alloc: Global, input: &mut R) -> Result<Vec<u8>, Fault>
     ensures whole { IfOk result (λ bytes. IfSome (R.remaining input.old) (λ given. bytes.items ≡ given)) }
     ensures fault { IfErr result (λ fault. IsOfRun fault) }
-    ensures room { IfOk result (λ bytes. vec_len bytes ≤ 67108864) }
+    ensures room { IfOk result (λ bytes. vec_len bytes ≤ longest_input) }
 {
     let mut bytes = Vec::new(alloc);
     let mut chunk = [0u8; CHUNK];

@@ -7,9 +7,10 @@ ghost use Rattle.clap.specs.Matches.{found_of};
 ghost use Rattle.clap.specs.Simple.{app_of, shape_of};
 ghost use Rattle.clap.specs.declared.builder.command.Command.TheViews.{out-Command as fields_of};
 ghost use Rattle.clap.specs.Walk.{rows_of, rule_of};
-ghost use Rattle.usb_trace.specs.CommandLine.{AskFor, alone_words, grammar, handle_in, handle_word, run_words};
-ghost use Rattle.usb_trace.specs.Words.{words_of};
+ghost use Rattle.usb_trace.specs.CommandLine.{AskFor, alone_words, check_words, grammar, handle_in, handle_word, program_alone, run_words};
+ghost use Rattle.usb_text.specs.Words.{words_of};
 
+use crate::help;
 use clap::builder::ValueParser;
 use clap::{Arg, ArgAction, ArgMatches, Command, Error};
 use std::alloc::{AllocError, Global};
@@ -22,7 +23,12 @@ pub(crate) enum Task {
     Run,
     /// Print the entries of this handle alone.
     Alone(Name),
+    /// Print what is wrong with the scenario.
+    Check,
 }
+
+/// The last name of a handle.
+const LAST_HANDLE: u64 = 63;
 
 /// The task of some words, of which the first is the program's name. Else their fault, or the help that they ask for.
 pub(crate) fn read_words(alloc: Global, words: &[&str]) -> Result<Task, Error>
@@ -30,22 +36,34 @@ pub(crate) fn read_words(alloc: Global, words: &[&str]) -> Result<Task, Error>
     ensures fault { FailsBy (fault_of grammar (words_of words.now)) result }
 {
     let matches = command(alloc)?.try_get_matches_from(words)?;
-    match matches.subcommand_matches("alone") {
-        Some(found) => Ok(Task::Alone(handle_of(found)?)),
-        None => Ok(Task::Run),
+    if let Some(found) = matches.subcommand_matches("alone") {
+        return Ok(Task::Alone(handle_of(found)?));
     }
+    if matches.subcommand_matches("check").is_some() {
+        return Ok(Task::Check);
+    }
+    Ok(Task::Run)
 }
 
 /// The words that the program takes.
 fn command<'a>(alloc: Global) -> Result<Command<'a>, AllocError>
     ensures { IfOk result (λ command. app_of command ≡ grammar) }
 {
+    program(alloc)
+        .subcommand(run(alloc))?
+        .subcommand(alone(alloc)?)?
+        .subcommand(check(alloc))
+}
+
+/// The program's name, with what holds for all its words.
+fn program<'a>(alloc: Global) -> Command<'a>
+    ensures { app_of result ≡ program_alone }
+{
     Command::new(alloc, "usbtrace")
         .about("Runs a scenario of USB transfers, read from standard input")
+        .after_help(help::PROGRAM)
         .disable_help_subcommand(true)
         .subcommand_required(true)
-        .subcommand(run(alloc))?
-        .subcommand(alone(alloc)?)
 }
 
 /// The words `run`.
@@ -53,7 +71,9 @@ fn run<'a>(alloc: Global) -> Command<'a>
     ensures words { shape_of result ≡ run_words }
     ensures local { (fields_of result).has_globals ≡ false }
 {
-    Command::new(alloc, "run").about("Runs the scenario and prints its entries")
+    Command::new(alloc, "run")
+        .about("Runs the scenario and prints its entries")
+        .after_help(help::RUN)
 }
 
 /// The words `alone H`.
@@ -63,7 +83,18 @@ fn alone<'a>(alloc: Global) -> Result<Command<'a>, AllocError>
 {
     Command::new(alloc, "alone")
         .about("Prints the entries of one handle, alone over its own steps")
+        .after_help(help::ALONE)
         .arg(handle(alloc))
+}
+
+/// The words `check`.
+fn check<'a>(alloc: Global) -> Command<'a>
+    ensures words { shape_of result ≡ check_words }
+    ensures local { (fields_of result).has_globals ≡ false }
+{
+    Command::new(alloc, "check")
+        .about("Prints what is wrong with the scenario, line by line")
+        .after_help(help::CHECK)
 }
 
 /// The word of a handle.
@@ -74,7 +105,7 @@ fn handle<'a>(alloc: Global) -> Arg<'a>
     Arg::new(alloc, "H")
         .required(true)
         .action(ArgAction::Set)
-        .value_parser(ValueParser::unsigned(0, 63))
+        .value_parser(ValueParser::unsigned(0, LAST_HANDLE))
         .help("The handle, 0 to 63")
 }
 

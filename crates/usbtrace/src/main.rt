@@ -1,4 +1,4 @@
-//! The program `usbtrace`: runs scenarios of USB transfers.
+//! The program `usbtrace`: runs and checks scenarios of USB transfers.
 #![tactic(auto)]
 
 ghost use Rattle.std.specs.Prelude.{◌≡◌, ℕ, List, map, IfOk, string_bytes};
@@ -8,6 +8,9 @@ use std::alloc::{AllocError, Global};
 use std::process::ExitCode;
 use std::{env, io};
 use usb_trace::trace;
+
+#[cfg(test)]
+mod tests;
 
 /// The status of bad words.
 const BAD_WORDS: u8 = 2;

@@ -1,0 +1,3 @@
+pub mod Walks
+mod LineWalks
+mod StandIns

@@ -1,0 +1,4 @@
+pub mod Lists
+pub mod Handles
+pub mod Shares
+pub mod Work

@@ -1,0 +1,20 @@
+-- The own part of a run is what the handle sees, and a run of its own steps is what it sees alone.
+use Rattle.std.proofs.Common.{◌∙◌, ap}
+use Rattle.usb_model.specs.World.Journal.{world_run}
+use Rattle.usb_plain.specs.Comparing.{own_entries, own_steps}
+use Rattle.usb_plain.proofs.Comparing.{entries_are, run_is_alone}
+use Rattle.usb_plain.proofs.comparison.compare.Goals as goal
+
+pub returns-clause-shared : goal.returns-clause-shared
+returns-clause-shared c =
+    c.in_ok-part.ensures.entries
+    ∙ ap (own_entries c.args.h c.args.steps.now) c.requires
+    ∙ entries_are c.args.setup.now c.args.steps.now c.args.h
+
+pub returns-clause-alone : goal.returns-clause-alone
+returns-clause-alone c =
+    c.in_ok-alone.ensures
+    ∙ ap (world_run c.args.setup.now) c.as_slice.ensures
+    ∙ ap (world_run c.args.setup.now) c.in_ok-part.ensures.steps
+    ∙ ap (λ all. world_run c.args.setup.now (own_steps c.args.h c.args.steps.now all)) c.requires
+    ∙ run_is_alone c.args.setup.now c.args.steps.now c.args.h

@@ -1,0 +1,3 @@
+pub mod PlanRuns
+pub mod RuleBooks
+pub mod Comparing

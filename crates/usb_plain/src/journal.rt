@@ -1,0 +1,49 @@
+//! Runs of the plain program.
+
+ghost use Rattle.std.specs.Prelude.{◌≡◌, ◌++◌, ◌∷◌, [], IfErr, IfOk, OnErr};
+ghost use Rattle.usb_model.specs.World.Journal.{world_run, IsBeginning};
+ghost use Rattle.usb_model.specs.World.{turn};
+ghost use Rattle.usb_system.specs.System.{Turns, world_of};
+
+use std::alloc::{AllocError, Global};
+use usb_model::{Entry, Sequence, Setup, Step};
+use usb_system::System;
+
+/// A run that found no memory: the entries before the step that found none.
+#[derive(Debug, Drop)]
+pub struct Stopped {
+    /// The entries so far.
+    pub entries: Sequence<Entry>,
+}
+
+/// One step more: its entry stands behind the others.
+pub(crate) fn advance(
+    alloc: Global,
+    setup: &Setup,
+    system: &mut System,
+    step: &Step,
+    entries: &mut Sequence<Entry>,
+) -> Result<(), AllocError>
+    ensures advanced { IfOk result (λ _. let t = turn setup.now (world_of setup.now system.old) step.now in (entries.new ≡ entries.old ++ t.entry ∷ []) × (world_of setup.now system.new ≡ t.world)) }
+    ensures kept { OnErr result (entries.new ≡ entries.old) }
+{
+    let entry = system.turn(alloc, setup, step)?;
+    entries.push(entry)
+}
+
+/// The entries of these steps, from a system in which no name is open.
+pub fn run(alloc: Global, setup: &Setup, steps: &[Step]) -> Result<Sequence<Entry>, Stopped>
+    ensures entries { IfOk result (λ entries. entries ≡ world_run setup.now steps.now) }
+    ensures stopped { IfErr result (λ stopped. IsBeginning stopped.entries (world_run setup.now steps.now)) }
+{
+    let mut entries = Sequence::new(alloc);
+    let Ok(mut system) = System::new(alloc, setup) else {
+        return Err(Stopped { entries });
+    };
+    for step in steps {
+        let Ok(()) = advance(alloc, setup, &mut system, step, &mut entries) else {
+            return Err(Stopped { entries });
+        };
+    }
+    Ok(entries)
+}

@@ -1,0 +1,9 @@
+mod Asks
+mod Heads
+mod InCallbacks
+mod OfName
+mod Renewals
+mod Steps
+mod Submissions
+mod Tables
+mod TurnOf

@@ -1,0 +1,15 @@
+//! What the bad lines of a text are to its scenario. A law is the contract of a function with an empty body.
+
+ghost use Rattle.std.specs.Prelude.{◌≡◌, ◌∷◌, [], ℕ, List, Ok, Err};
+ghost use Rattle.usb_text.specs.Findings.{bad_lines, good_lines};
+ghost use Rattle.usb_text.specs.Scenario.{scenario_of};
+ghost use Rattle.usb_text.specs.declared.scenario.Scenario.{Scenario};
+
+/// A text has no bad line exactly where it is that of a scenario, which then is what its good lines say; and where it is
+/// none, the line that is named is its first bad one.
+pub fn bad_lines()
+    ensures none { (text : List ℕ) → bad_lines text ≡ [] → scenario_of text ≡ Ok (good_lines text) }
+    ensures scenario { (text : List ℕ) (s : Scenario) → scenario_of text ≡ Ok s → bad_lines text ≡ [] }
+    ensures first { (text : List ℕ) (line : ℕ) → scenario_of text ≡ Err line
+        → (others : List ℕ) × (bad_lines text ≡ line ∷ others) }
+{}

@@ -1,0 +1,27 @@
+//! Scenarios as text: devices and the steps of handles, a line each, in the form that docs/FORMATS.md gives.
+//!
+//! The one promise: what `read_scenario` gives is what the definition `scenario_of` makes of the text, and the lines
+//! that `check` finds bad are those that `bad_lines` names.
+#![tactic(auto)]
+
+mod draft;
+mod fault;
+mod findings;
+pub mod laws;
+mod line;
+mod names;
+mod number;
+mod option;
+mod prefix;
+mod problem;
+mod scenario;
+mod script;
+mod step;
+mod submit;
+mod verb;
+
+pub use fault::TextFault;
+pub use findings::{Counts, Finding, Findings, check};
+pub use problem::{Expected, Misplaced, Problem};
+pub use scenario::{Scenario, read_scenario};
+pub use verb::Verb;

@@ -1,0 +1,35 @@
+//! A scenario: devices, and a plan with the rules of its submissions.
+
+ghost use Rattle.usb_text.specs.Scenario.{scenario_of};
+ghost use Rattle.usb_text.specs.Reading.{AnswersAs};
+
+use crate::draft::Draft;
+use crate::fault::TextFault;
+use std::alloc::Global;
+use usb_model::{Plan, Rule, Sequence, Setup};
+
+/// A scenario that was read.
+#[derive(Drop)]
+pub struct Scenario {
+    /// The devices.
+    pub setup: Setup,
+    /// What is to be done.
+    pub plan: Sequence<Plan>,
+    /// The rule of each submission's callback, in order.
+    pub rules: Sequence<Rule>,
+}
+
+/// The scenario of a text, or the fault in it: its first line that isn't taken, or want of memory.
+pub fn read_scenario(alloc: Global, text: &[u8]) -> Result<Scenario, TextFault>
+    ensures { AnswersAs result (scenario_of text.now) }
+{
+    let mut draft = Draft::new(alloc);
+    let mut at: u64 = 0;
+    for line in text.split(|byte| *byte == b'\n') {
+        at = at.saturating_add(1);
+        if let Err(fault) = draft.read(alloc, line) {
+            return Err(fault.at(at));
+        }
+    }
+    Ok(draft.into_scenario())
+}

@@ -1,0 +1,52 @@
+//! What help says behind the words: the input's form, an example and the statuses.
+
+/// The text of help with an example's words, and when the status is 0 and when 1.
+macro_rules! help_text {
+    ($words:literal, $good:literal, $failed:literal) => {
+        concat!(
+            "Input: a scenario, a line for each device, script and step. Words stand between single spaces.\n",
+            "  device D HEX               the next device, 0 to 3, with this configuration descriptor\n",
+            "  script D EP A A ..         what a bulk or interrupt endpoint answers: d:HEX, a, n, s or b\n",
+            "  open H D                   handle H, 0 to 63, opens a device; so close, claim, release, reset, clear\n",
+            "  submit H EP K B            a transfer of kind bulk or int, of B bytes, or out with x:HEX; so cancel, expire\n",
+            "  serve D EP                 the controller serves an endpoint; so command, deliver, take, return, unplug\n",
+            "  # ..                       a comment\n\n",
+            "Example:\n",
+            "  printf 'open 1 0\\ntake\\n' | usbtrace ",
+            $words,
+            "\n\nStatus: 0 ",
+            $good,
+            ", 1 ",
+            $failed,
+            ", 2 for bad words"
+        )
+    };
+}
+
+/// The help of the program.
+pub(crate) const PROGRAM: &str = help_text!(
+    "run",
+    "where all is done",
+    "where a line is bad, memory is wanting or a stream fails"
+);
+
+/// The help of `run`.
+pub(crate) const RUN: &str = help_text!(
+    "run",
+    "where all entries are printed",
+    "where a line is bad, memory is wanting or a stream fails"
+);
+
+/// The help of `alone`.
+pub(crate) const ALONE: &str = help_text!(
+    "alone 1",
+    "where the handle's entries are printed",
+    "where a line is bad, memory is wanting or a stream fails"
+);
+
+/// The help of `check`.
+pub(crate) const CHECK: &str = help_text!(
+    "check",
+    "where each line is taken",
+    "where one isn't, memory is wanting or a stream fails"
+);
