@@ -14,5 +14,3 @@ mod packet;
 mod result;
 mod share;
 mod status;
-#[cfg(test)]
-mod tests;

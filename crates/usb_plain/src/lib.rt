@@ -8,8 +8,6 @@ mod comparison;
 mod journal;
 mod plan_run;
 mod rule_book;
-#[cfg(test)]
-mod tests;
 
 pub use comparison::{Comparison, alone};
 pub use journal::{Stopped, run};

@@ -4,8 +4,8 @@ use Rattle.std.specs.List.{slice_split}
 use Rattle.std.proofs.lemmas.List.Sums.{count_by-le-length}
 use Rattle.std.proofs.lemmas.List.Splits.{length-slice_split}
 use Rattle.std.proofs.lemmas.List.{at_drop_more, at_drop_all}
-use Rattle.usb_text.specs.declared.fault.LineFault.{LineFault}
-use Rattle.usb_text.specs.declared.fault.LineFault.TheVariants.{Bad, Memory}
+use Rattle.usb_line.specs.declared.fault.LineFault.{LineFault}
+use Rattle.usb_line.specs.declared.fault.LineFault.TheVariants.{Bad, Memory}
 use Rattle.usb_text.specs.declared.scenario.Scenario.{Scenario}
 use Rattle.usb_text.specs.Reading.{Becomes, AnswersAs, fault_at}
 use Rattle.usb_text.specs.Scenario.{scenario_from, taken_at, with_text}
@@ -27,7 +27,7 @@ scenario-end at s texts i end = at_drop_all (scenario_from at s) texts i end
 -- a bad line's fault is that of the scenario
 pub faulty : {A : Type 0} (r : Result A LineFault) (fault : LineFault) (said : Option Scenario) (old new : Scenario) (at : ℕ)
     (further : Scenario → Result Scenario ℕ) (whole : Result Scenario ℕ)
-    → Becomes r said old new → r ≡ Err fault → whole ≡ taken_at at further said → AnswersAs {T = Scenario} (Err (fault_at fault at)) whole
+    → Becomes r said old new → r ≡ Err fault → whole ≡ taken_at at further said → AnswersAs {T = Scenario} (Err (fault_at at fault)) whole
 faulty {A} r (Bad problem) said old new at further whole becomes is all =
     let both : (said ≡ None) × (new ≡ old) = subst (λ (x : Result A LineFault). Becomes x said old new) is becomes in
     all ∙ ap (taken_at at further) both.0

@@ -1,15 +1,6 @@
 pub mod Counts
 pub mod Findings
-pub mod Line
-pub mod Names
-pub mod Number
-pub mod Option
-pub mod Prefix
 pub mod Reading
 pub mod Scenario
-pub mod Step
-pub mod Verb
-pub mod Words
-pub use Rattle.usb_descriptors.specs.Grammar
-pub use Rattle.usb_model.specs.World.Plans
+pub use Rattle.usb_line.specs.Line
 pub use Rattle.usb_model.specs.Setup

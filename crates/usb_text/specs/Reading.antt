@@ -1,15 +1,9 @@
 -- What reading a text may answer.
 use Rattle.std.specs.Prelude.{◌≡◌, ℕ, ⊤, Option, Some, None, Result, Ok, Err}
-use Rattle.usb_text.specs.declared.fault.LineFault.{LineFault}
-use Rattle.usb_text.specs.declared.fault.LineFault.TheVariants.{Bad, Memory}
+use Rattle.usb_line.specs.declared.fault.LineFault.{LineFault}
+use Rattle.usb_line.specs.declared.fault.LineFault.TheVariants.{Bad, Memory}
 use Rattle.usb_text.specs.declared.fault.TextFault.{TextFault}
 use Rattle.usb_text.specs.declared.fault.TextFault.TheVariants as fault
-
--- the answer is what the text says, or that it says nothing; want of memory says nothing of it
-abbrev pub ReadsAs : {T : Type 0} → Result T LineFault → Option T → Type 0
-ReadsAs (Ok x) said = said ≡ Some x
-ReadsAs (Err (Bad problem)) said = said ≡ None
-ReadsAs (Err Memory) said = ⊤
 
 -- the value became what the text makes of it, or the text makes nothing of it and it is as it was; want of memory says nothing
 abbrev pub Becomes : {T S : Type 0} → Result T LineFault → Option S → S → S → Type 0
@@ -18,9 +12,9 @@ Becomes (Err (Bad problem)) said old new = (said ≡ None) × (new ≡ old)
 Becomes (Err Memory) said old new = ⊤
 
 -- the fault of a text whose line of this number isn't taken
-abbrev pub fault_at : LineFault → ℕ → TextFault
-fault_at (Bad problem) line = fault.Line line
-fault_at Memory line = fault.Memory
+abbrev pub fault_at : ℕ → LineFault → TextFault
+fault_at line (Bad problem) = fault.Line line
+fault_at line Memory = fault.Memory
 
 -- the answer is the same as that of the text, a bad line by its number; want of memory says nothing
 abbrev pub AnswersAs : {T : Type 0} → Result T TextFault → Result T ℕ → Type 0

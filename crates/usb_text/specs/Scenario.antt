@@ -11,10 +11,10 @@ use Rattle.usb_model.specs.declared.plan.Plan.{Plan}
 use Rattle.usb_model.specs.declared.plan.Plan.TheVariants.{Do}
 use Rattle.usb_model.specs.declared.step.Step.TheVariants as step
 use Rattle.usb_model.specs.Setup.{endpoint_id}
-use Rattle.usb_text.specs.declared.line.Line.{Line}
-use Rattle.usb_text.specs.declared.line.Line.TheVariants as line
+use Rattle.usb_line.specs.declared.line.Line.{Line}
+use Rattle.usb_line.specs.declared.line.Line.TheVariants as line
 use Rattle.usb_text.specs.declared.scenario.Scenario.{Scenario}
-use Rattle.usb_text.specs.Line.{line_of_text}
+use Rattle.usb_line.specs.Line.{line_of_text}
 
 -- no line is read yet
 abbrev pub nothing_said : Scenario

@@ -5,14 +5,12 @@ ghost use Rattle.usb_text.specs.Counts.{counts_of, scripts_of, written_scripts};
 ghost use Rattle.usb_text.specs.Scenario.{says_nothing, empty_scripts, is_free, takes_script};
 ghost use Rattle.usb_text.specs.Reading.{Becomes, IsJudged};
 
-use crate::fault::LineFault;
 use crate::findings::Counts;
-use crate::line::Line;
-use crate::problem::{Misplaced, Problem};
 use crate::scenario::Scenario;
 use std::alloc::{AllocError, Global};
 use std::marker::Model;
 use std::mem;
+use usb_line::{Line, LineFault, Misplaced, Problem};
 use usb_model::{
     Configuration, DeviceNo, DeviceSetup, EpAddr, Kind, Plan, Rule, Script, Sequence, Setup, Step,
 };

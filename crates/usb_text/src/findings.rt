@@ -5,10 +5,9 @@ ghost use Rattle.usb_text.specs.Counts.{counts_of, counts_text, plural_end};
 ghost use Rattle.usb_text.specs.Findings.{bad_lines, good_lines};
 
 use crate::draft::Draft;
-use crate::fault::LineFault;
-use crate::problem::Problem;
 use std::alloc::{AllocError, Global};
 use std::fmt;
+use usb_line::Problem;
 
 /// A bad line.
 #[derive(Clone, Copy, PartialEq, Eq, Debug)]

@@ -28,7 +28,7 @@ pub fn read_scenario(alloc: Global, text: &[u8]) -> Result<Scenario, TextFault>
     for line in text.split(|byte| *byte == b'\n') {
         at = at.saturating_add(1);
         if let Err(fault) = draft.read(alloc, line) {
-            return Err(fault.at(at));
+            return Err(TextFault::at(at, fault));
         }
     }
     Ok(draft.into_scenario())

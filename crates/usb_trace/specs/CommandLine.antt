@@ -10,7 +10,7 @@ use Rattle.clap.specs.declared.builder.action.ArgAction.TheVariants.{Set}
 use Rattle.clap.specs.declared.builder.value_parser.ValueParser.TheVariants.{Unsigned}
 use Rattle.clap.specs.declared.error.kind.ErrorKind.{ErrorKind}
 use Rattle.clap.specs.declared.error.kind.ErrorKind.TheVariants.{DisplayHelp}
-use Rattle.usb_text.specs.Number.{last_handle}
+use Rattle.usb_words.specs.Number.{last_handle}
 use Rattle.usb_trace.specs.declared.words.Task.{Task}
 use Rattle.usb_trace.specs.declared.words.Task.TheVariants.{Run, Alone, Check}
 

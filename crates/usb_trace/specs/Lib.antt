@@ -9,6 +9,6 @@ pub use Rattle.usb_model.specs.Text
 pub use Rattle.usb_model.specs.Machine.Turns
 pub use Rattle.usb_text.specs.Counts
 pub use Rattle.usb_text.specs.Findings
-pub use Rattle.usb_text.specs.Number
+pub use Rattle.usb_words.specs.Number
 pub use Rattle.usb_text.specs.Scenario
-pub use Rattle.usb_text.specs.Words
+pub use Rattle.usb_words.specs.Words

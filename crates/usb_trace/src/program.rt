@@ -3,7 +3,7 @@
 ghost use Rattle.std.specs.Prelude.{◌≡◌, ◌≢◌, ◌≤◌, ◌⊎◌, [], IfSome, IfErr, IfOk, OnOk, length};
 ghost use Rattle.std.specs.Io.KnownBytes.{Appends, Keeps};
 ghost use Rattle.usb_text.specs.Findings.{bad_lines};
-ghost use Rattle.usb_text.specs.Words.{words_of};
+ghost use Rattle.usb_words.specs.Words.{words_of};
 ghost use Rattle.usb_trace.specs.CommandLine.{AreBad, AskFor, AskForHelp};
 ghost use Rattle.usb_trace.specs.Faults.{message_of, IsOfRun};
 ghost use Rattle.usb_trace.specs.Input.{longest_input};

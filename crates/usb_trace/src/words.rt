@@ -8,7 +8,7 @@ ghost use Rattle.clap.specs.Simple.{app_of, shape_of};
 ghost use Rattle.clap.specs.declared.builder.command.Command.TheViews.{out-Command as fields_of};
 ghost use Rattle.clap.specs.Walk.{rows_of, rule_of};
 ghost use Rattle.usb_trace.specs.CommandLine.{AskFor, alone_words, check_words, grammar, handle_in, handle_word, program_alone, run_words};
-ghost use Rattle.usb_text.specs.Words.{words_of};
+ghost use Rattle.usb_words.specs.Words.{words_of};
 
 use crate::help;
 use clap::builder::ValueParser;

@@ -4,7 +4,7 @@ use Rattle.std.proofs.lemmas.List.{append-nil, length_push, map-append}
 use Rattle.std.proofs.lemmas.Iterator.Splits.{YieldsList-from_slice_split}
 use Rattle.std.proofs.lemmas.Iterator.Consumers.{YieldsList-turn, YieldsList-end}
 use Rattle.usb_text.specs.declared.findings.Finding.{Finding}
-use Rattle.usb_text.specs.declared.problem.Problem.{Problem}
+use Rattle.usb_line.specs.declared.problem.Problem.{Problem}
 use Rattle.usb_text.specs.Reading.{IsJudged}
 use Rattle.usb_text.specs.Scenario.{with_text}
 use Rattle.usb_text.specs.Counts.{counts_of}

@@ -16,8 +16,8 @@ returns-in-Err c =
     let t = YieldsList-turn (YieldsList-from_slice_split {s = c.into_iter-line-iterator.result} _ (λ b. b == 10) c.args.text.now (cc) (cc) (cc) (λ x b q k. search (rules, tests))) c.loop-line.yielded _ c.loop-line.yielded_by _ _ c.in-Some.line c.in-Some.is c.next.ensures.steps in
     let small : length c.args.text.now < 2 ^ 63 = omega arith in
     let at : c.saturating_add-at.result ≡ i + 1 = counted c.args.text.now i c.loop-line.at _ small t.0 c.loop-line.invariant.counted c.saturating_add-at.ensures in
-    let fault : AnswersAs (Err (fault_at c.in-Err.fault (i + 1))) (scenario_of c.args.text.now) = faulty c.read.result c.in-Err.fault _ _ _ (i + 1) _ _ c.read.ensures c.in-Err.is (c.loop-line.invariant.rest ∙ scenario-more (i + 1) c.loop-line.draft texts i c.in-Some.line.now t) in
-    subst (λ fault. AnswersAs {T = Scenario} (Err fault) (scenario_of c.args.text.now)) (sym (c.at.ensures ∙ ap (fault_at c.in-Err.fault) at)) fault
+    let fault : AnswersAs (Err (fault_at (i + 1) c.in-Err.fault)) (scenario_of c.args.text.now) = faulty c.read.result c.in-Err.fault _ _ _ (i + 1) _ _ c.read.ensures c.in-Err.is (c.loop-line.invariant.rest ∙ scenario-more (i + 1) c.loop-line.draft texts i c.in-Some.line.now t) in
+    subst (λ fault. AnswersAs {T = Scenario} (Err fault) (scenario_of c.args.text.now)) (sym (c.at.ensures ∙ ap (λ line. fault_at line c.in-Err.fault) at)) fault
 
 pub loop-line-preserved : goal.loop-line-preserved
 loop-line-preserved c =

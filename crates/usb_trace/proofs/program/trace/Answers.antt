@@ -1,5 +1,5 @@
 use Rattle.std.proofs.Common.{◌≡◌, ◌⊎◌, IfSome, rules}
-use Rattle.usb_text.specs.Words.{words_of}
+use Rattle.usb_words.specs.Words.{words_of}
 use Rattle.usb_trace.specs.CommandLine.{AskFor, AskForHelp}
 use Rattle.usb_trace.specs.Program.{IsDone}
 use Rattle.usb_trace.specs.declared.words.Task.{Task}

@@ -2,7 +2,7 @@ use Rattle.std.proofs.Common.{rules}
 use Rattle.clap.specs.Matches.{found_of}
 use Rattle.clap.specs.Simple.{app_of}
 use Rattle.clap.specs.Walk.{rows_of}
-use Rattle.usb_text.specs.Words.{words_of}
+use Rattle.usb_words.specs.Words.{words_of}
 use Rattle.usb_trace.proofs.CommandLines.{asks_for_alone, asks_for_check, asks_for_run, met, without_fault}
 use Rattle.usb_trace.proofs.words.read_words.Goals as goal
 
