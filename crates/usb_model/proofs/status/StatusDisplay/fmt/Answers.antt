@@ -1,0 +1,1 @@
+-- The search proves every goal of this function.
