@@ -10,7 +10,7 @@ use Rattle.usb_model.specs.declared.request.Body.TheVariants.{In, Out}
 use Rattle.usb_model.specs.declared.request.Request.{Request}
 use Rattle.usb_model.specs.declared.outcome.Outcome.{Outcome}
 use Rattle.usb_model.specs.Endpoint.Packets.{outcome, open_with, ended_with, moved_by, packets_by, without_naks, acks, sent_with, full_front, read_with}
-use Rattle.usb_model.proofs.EndedShares.{outcome_is}
+use Rattle.usb_lemmas.proofs.Shares.Outcome.{outcome_is}
 use Rattle.usb_lemmas.proofs.Shares.OpenShares.{IsRead, IsSent, IsWhole, no_front, read_behind, sent_behind, open_if_whole, naks-append, open_whole}
 
 -- a packet that comes behind these, with room for n bytes in all

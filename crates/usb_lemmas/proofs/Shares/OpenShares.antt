@@ -14,7 +14,7 @@ use Rattle.usb_model.specs.declared.outcome.Outcome.{Outcome}
 use Rattle.usb_model.specs.Endpoint.Packets.{outcome, open_with, ended_with, moved_by, packets_by, cut, full_packets, pieces, is_nak, without_naks, acks, sent_with, full_front, read_with, front_of, IsOpenAt}
 use Rattle.usb_model.specs.Requests.{adds_zero_packet}
 use Rattle.usb_model.specs.Laws.Cut.{has_stall}
-use Rattle.usb_model.proofs.EndedShares.{outcome_is}
+use Rattle.usb_lemmas.proofs.Shares.Outcome.{outcome_is}
 use Rattle.std.proofs.lemmas.Option.{same_Some}
 
 -- each packet has exactly this size
@@ -27,7 +27,7 @@ full_count size [] f = omega arith
 full_count size (b ∷ ps) f = omega (arith, length-append b (concat ps), f.0, full_count size ps f.1, suc-mul (length ps) size)
 
 -- IN: a share is its front of full packets and what stands behind it
-front_split : (size most : ℕ) (xs : List Response) → xs ≡ map Data (full_front size most xs) ++ drop (length (full_front size most xs)) xs
+pub front_split : (size most : ℕ) (xs : List Response) → xs ≡ map Data (full_front size most xs) ++ drop (length (full_front size most xs)) xs
 front_split size zero xs = refl
 front_split size (suc most) [] = refl
 front_split size (suc most) (Data b ∷ xs) = by_test (length b == size) (front_split size most xs)
@@ -39,7 +39,7 @@ front_split size (suc most) (Data b ∷ xs) = by_test (length b == size) (front_
 front_split size (suc most) (_ ∷ xs) = refl
 
 -- the full packets at the front are full, and no more than are asked for
-front_full : (size most : ℕ) (xs : List Response) → AllFull size (full_front size most xs) × (length (full_front size most xs) ≤ most)
+pub front_full : (size most : ℕ) (xs : List Response) → AllFull size (full_front size most xs) × (length (full_front size most xs) ≤ most)
 front_full size zero xs = (tt, omega arith)
 front_full size (suc most) [] = (tt, omega arith)
 front_full size (suc most) (Data b ∷ xs) = by_test (length b == size) refl (front_full size most xs)
@@ -62,7 +62,7 @@ drop_behind [] qs rest = refl
 drop_behind (b ∷ ps) qs rest = drop_behind ps qs rest
 
 -- OUT: a share is its acknowledgements and what stands behind them
-acks_split : (xs : List Response) → xs ≡ replicate (acks xs) Ack ++ drop (acks xs) xs
+pub acks_split : (xs : List Response) → xs ≡ replicate (acks xs) Ack ++ drop (acks xs) xs
 acks_split [] = refl
 acks_split (Ack ∷ xs) = ap (λ l. Ack ∷ l) (acks_split xs)
 acks_split (_ ∷ xs) = refl

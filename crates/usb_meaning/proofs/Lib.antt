@@ -1,0 +1,7 @@
+mod CutPackets
+mod EndedShares
+mod NothingChanges
+mod ReadShares
+mod SentShares
+mod ToldOutcomes
+mod ToldStatuses

@@ -1,0 +1,4 @@
+pub mod Nothing
+pub mod Outcomes
+pub mod Packets
+pub mod Statuses
