@@ -10,10 +10,10 @@ use Rattle.usb_model.specs.Endpoint.{live_numbers}
 use Rattle.usb_model.specs.Laws.Account.{account, account_from, account_of}
 use Rattle.usb_model.specs.Laws.Places.{calls}
 use Rattle.usb_model.specs.Laws.Bound.{commands_in, delivers_in}
-use Rattle.usb_model.specs.Rows.{bulk}
-use Rattle.usb_model.specs.Rows.Halting.{stall_and_clear_halt}
-use Rattle.usb_model.specs.Rows.Unplugging.{unplug_amid_transfers}
-use Rattle.usb_model.proofs.Computed.{computed}
+use Rattle.usb_meaning.specs.Rows.{bulk}
+use Rattle.usb_meaning.specs.Rows.Halting.{stall_and_clear_halt}
+use Rattle.usb_meaning.specs.Rows.Unplugging.{unplug_amid_transfers}
+use Rattle.usb_meaning.proofs.Computed.{computed}
 use Rattle.usb_lemmas.proofs.Shares.Cuts.{ends_now}
 use Rattle.usb_lemmas.proofs.Shares.OpenShares.{open_if, outcome_nothing}
 use Rattle.usb_core.specs.Instances.{ReachesBound, IsCutInto, stalled_cells, unplugged_cells}

@@ -10,8 +10,8 @@ use Rattle.usb_model.specs.World.Plans.{expand}
 use Rattle.usb_model.specs.Laws.Account.{account}
 use Rattle.usb_model.specs.Laws.Cut.{Ended, Of, Cleared, Cell, IsCut}
 use Rattle.usb_model.specs.Laws.Bound.{IsAccepted, is_in_progress, commands_in, delivers_in, world_at, asked_world, results_of}
-use Rattle.usb_model.specs.Rows.{Row, bulk}
-use Rattle.usb_model.specs.Rows.Cancelling.{cancel_at_its_bound}
+use Rattle.usb_meaning.specs.Rows.{Row, bulk}
+use Rattle.usb_meaning.specs.Rows.Cancelling.{cancel_at_its_bound}
 
 -- the steps of a worked row
 abbrev pub steps_of : Row → List Step

@@ -6,8 +6,8 @@ ghost use Rattle.usb_model.specs.declared.step.Step.{Step};
 ghost use Rattle.usb_model.specs.Laws.Bound.{AskedEnds};
 ghost use Rattle.usb_model.specs.Laws.Cut.{CutsAt};
 ghost use Rattle.usb_model.specs.Laws.Places.{KeepsPlaces};
-ghost use Rattle.usb_model.specs.Rows.Halting.{stall_and_clear_halt};
-ghost use Rattle.usb_model.specs.Rows.Unplugging.{unplug_amid_transfers};
+ghost use Rattle.usb_meaning.specs.Rows.Halting.{stall_and_clear_halt};
+ghost use Rattle.usb_meaning.specs.Rows.Unplugging.{unplug_amid_transfers};
 ghost use Rattle.usb_model.specs.Setup.{Setup};
 ghost use Rattle.usb_core.specs.Instances.{ReachesBound, IsCutInto, stalled_cells, unplugged_cells};
 

@@ -5,3 +5,5 @@ mod ReadShares
 mod SentShares
 mod ToldOutcomes
 mod ToldStatuses
+pub mod Computed
+mod WorkedRows

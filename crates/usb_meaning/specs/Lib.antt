@@ -2,3 +2,4 @@ pub mod Nothing
 pub mod Outcomes
 pub mod Packets
 pub mod Statuses
+pub mod Rows

@@ -1,6 +1,8 @@
-//! What the definitions mean: small laws on packets, outcomes of shares, statuses, and steps that change nothing.
+//! What the definitions mean: small laws on packets, outcomes of shares, statuses, and steps that change nothing; and
+//! worked rows.
 //!
-//! The one promise: each rule of the standard that a definition stands for is said here once more, as a relation.
+//! The one promise: rules of the standards are said here once more, as relations, and the definitions meet them.
 #![tactic(auto)]
 
 pub mod laws;
+pub mod rows;
