@@ -132,20 +132,16 @@ held_reset setup h w (dev, open_at, quiet, some) =
     (interface_passes setup dev some.0 (λ i. is_others h (w.claims dev i)) some.1 (held_by_another w h dev some.0 some.2))
 
 -- another is in the way of a step of the name
-pub record IsInTheWay (setup : Setup) (w : World) (step : Step) : Type 0 where
-  pub h : ℕ
-  pub own : owner_of setup w step ≡ Some h
-  pub blocked : is_blocked setup h w (effect_to setup h w step).change ≡ true
-
--- a name is the one that it equals
-same_some : (a b : ℕ) → ◌≡◌ {A = Option ℕ} (Some a) (Some b) → a ≡ b
-same_some a b e = cc
+record IsInTheWay (setup : Setup) (w : World) (step : Step) : Type 0 where
+  h : ℕ
+  own : owner_of setup w step ≡ Some h
+  blocked : is_blocked setup h w (effect_to setup h w step).change ≡ true
 
 -- then another holds what the step wants
 way_held : (setup : Setup) (w : World) (step : Step) → IsInTheWay setup w step → IsHeldByAnother setup w step
 unfolding effect
-way_held setup w (Claim g i) x = subst (λ k. IsHeldByAnother setup w (Claim k i)) (sym (same_some g x.h x.own)) (claim_held setup x.h w i x.blocked)
-way_held setup w (Reset g) x = subst (λ k. IsHeldByAnother setup w (Reset k)) (sym (same_some g x.h x.own)) (reset_held setup x.h w x.blocked)
+way_held setup w (Claim g i) x = let its : x.h ≡ g = cc x.own in subst (λ k. IsHeldByAnother setup w (Claim k i)) its (claim_held setup x.h w i x.blocked)
+way_held setup w (Reset g) x = let its : x.h ≡ g = cc x.own in subst (λ k. IsHeldByAnother setup w (Reset k)) its (reset_held setup x.h w x.blocked)
 way_held setup w step x = absurd (both_ways _ (gentle_else setup x.h w (machine_of setup x.h w) step refl) x.blocked)
 
 -- and the other way round

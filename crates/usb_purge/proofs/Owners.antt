@@ -3,7 +3,7 @@ use Rattle.std.proofs.Common.{◌≡◌, ℕ, Bool, true, false, List, [], ◌�
 use Rattle.std.specs.Prelude.{◌≢◌}
 use Rattle.usb_model.specs.declared.reply.Reply.TheVariants as reply
 use Rattle.usb_model.specs.declared.step.Step.{Step}
-use Rattle.usb_model.specs.declared.step.Step.TheVariants.{Open, Close, Claim, Release, Reset, ClearHalt, Submit, Cancel, Expire, Serve, Command, Deliver, Take, Answer, Unplug}
+use Rattle.usb_model.specs.declared.step.Step.TheVariants.{Serve, Command, Deliver, Take, Unplug}
 use Rattle.usb_model.specs.declared.shared.Tagged.{Tagged}
 use Rattle.usb_model.specs.Setup.{Setup}
 use Rattle.usb_model.specs.World.{World, owner_of, is_blocked, turn_of_nobody, turn_by, turn}
@@ -44,45 +44,22 @@ is_empty : {A : Type 0} (xs : List (Tagged A)) → first_name xs ≡ None → xs
 is_empty [] e = refl
 is_empty (x ∷ xs) e = absurd cc
 
--- a name is the one that it equals
-same_some : (a b : ℕ) → ◌≡◌ {A = Option ℕ} (Some a) (Some b) → a ≡ b
-same_some a b e = cc
-
 -- the step is its owner's
 owned_of : (setup : Setup) (w : World) (h : ℕ) (step : Step) → owner_of setup w step ≡ Some h → IsOf setup w h step
-owned_of setup w h (Open g dev) e = same_some g h e
-owned_of setup w h (Close g) e = same_some g h e
-owned_of setup w h (Claim g i) e = same_some g h e
-owned_of setup w h (Release g i) e = same_some g h e
-owned_of setup w h (Reset g) e = same_some g h e
-owned_of setup w h (ClearHalt g ep) e = same_some g h e
-owned_of setup w h (Submit g request) e = same_some g h e
-owned_of setup w h (Cancel g n) e = same_some g h e
-owned_of setup w h (Expire g n) e = same_some g h e
 owned_of setup w h (Serve dev ep) e = holds_it setup w h dev ep e
 owned_of setup w h Command e = begins_with h w.orders e
 owned_of setup w h Deliver e = begins_with h w.news e
 owned_of setup w h Take e = begins_with h w.results e
-owned_of setup w h (Answer g n v) e = same_some g h e
-owned_of setup w h (Unplug dev) e = cc
+owned_of setup w h _ e = cc
 
 -- and the other way round
 of_owned : (setup : Setup) (w : World) (h : ℕ) (step : Step) → IsOf setup w h step → owner_of setup w step ≡ Some h
-of_owned setup w h (Open g dev) x = ap (λ k. Some k) x
-of_owned setup w h (Close g) x = ap (λ k. Some k) x
-of_owned setup w h (Claim g i) x = ap (λ k. Some k) x
-of_owned setup w h (Release g i) x = ap (λ k. Some k) x
-of_owned setup w h (Reset g) x = ap (λ k. Some k) x
-of_owned setup w h (ClearHalt g ep) x = ap (λ k. Some k) x
-of_owned setup w h (Submit g request) x = ap (λ k. Some k) x
-of_owned setup w h (Cancel g n) x = ap (λ k. Some k) x
-of_owned setup w h (Expire g n) x = ap (λ k. Some k) x
 of_owned setup w h (Serve dev ep) x = holder_is setup w h dev ep x
 of_owned setup w h Command x = first_is h w.orders x
 of_owned setup w h Deliver x = first_is h w.news x
 of_owned setup w h Take x = first_is h w.results x
-of_owned setup w h (Answer g n v) x = ap (λ k. Some k) x
 of_owned setup w h (Unplug dev) x = absurd x
+of_owned setup w h _ x = ap (λ k. Some k) x
 
 -- a step without an owner is nobody's
 unowned : (setup : Setup) (w : World) (step : Step) → owner_of setup w step ≡ None → IsNobodys setup w step
