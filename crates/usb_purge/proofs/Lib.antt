@@ -3,5 +3,10 @@ mod Calls
 mod Given
 mod Order
 mod Runs
+mod Gentle
 mod Verdicts
 mod Expansion
+mod Plans
+mod Endpoints
+mod Held
+mod Owners

@@ -5,7 +5,8 @@ ghost use Rattle.usb_model.specs.declared.step.Step.{Step};
 ghost use Rattle.usb_model.specs.declared.verdict.Rule.{Rule};
 ghost use Rattle.usb_model.specs.declared.plan.Plan.{Plan};
 ghost use Rattle.usb_model.specs.Setup.{Setup};
-ghost use Rattle.usb_purge.specs.Laws.{SeesAlone, RunsAlone, StatesAlone, ExpandsAlone, CallsOnce, CallsAfterNumber, CallsInOrder};
+ghost use Rattle.usb_model.specs.World.{World};
+ghost use Rattle.usb_purge.specs.Laws.{SeesAlone, RunsAlone, StatesAlone, ExpandsAlone, MayExpand, ExpandsOnly, TellsOfAnother, ChangesNothingForAnother, NamesOwner, NamesNobody, IdlesForNobody, CallsOnce, CallsAfterNumber, CallsInOrder};
 
 /// What a handle sees of any run is what it sees alone over its own steps.
 pub fn purge()
@@ -28,4 +29,24 @@ pub fn callbacks()
 /// A handle's part of any plan stands for the handle's own steps.
 pub fn plans()
     ensures { (setup : Setup) (plan : List Plan) (rules : List Rule) (h : ℕ) → ExpandsAlone setup plan rules h }
+{}
+
+/// What a plan stands for by `expand`, it may stand for by `Expands`; and where no rule is Free, that alone.
+pub fn plan_steps()
+    ensures may { (setup : Setup) (plan : List Plan) (rules : List Rule) → MayExpand setup plan rules }
+    ensures only { (setup : Setup) (plan : List Plan) (rules : List Rule) → ExpandsOnly setup plan rules }
+{}
+
+/// A step is refused because another handle holds an interface (5) just where one does and nothing that stands earlier
+/// among the refusals applies; then nothing changes.
+pub fn held_elsewhere()
+    ensures told { (setup : Setup) (w : World) (step : Step) → TellsOfAnother setup w step }
+    ensures unchanged { (setup : Setup) (w : World) (step : Step) → ChangesNothingForAnother setup w step }
+{}
+
+/// A step is its caller's, the holder's of its endpoint, or that of the name whose piece is the first; or nobody's.
+pub fn whose()
+    ensures owner { (setup : Setup) (w : World) (step : Step) (h : ℕ) → NamesOwner setup w step h }
+    ensures nobody { (setup : Setup) (w : World) (step : Step) → NamesNobody setup w step }
+    ensures idle { (setup : Setup) (w : World) (step : Step) → IdlesForNobody setup w step }
 {}
