@@ -1,5 +1,6 @@
 pub mod Coherence
 pub mod Machines
 pub mod Places
+pub mod Calls
 pub mod Bound
 pub mod Cut

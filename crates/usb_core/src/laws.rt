@@ -4,6 +4,7 @@
 ghost use Rattle.std.specs.Prelude.{ℕ, List};
 ghost use Rattle.usb_model.specs.declared.step.Step.{Step};
 ghost use Rattle.usb_model.specs.Laws.Bound.{AskedEnds};
+ghost use Rattle.usb_model.specs.Laws.Calls.{CallbacksAreOfCalls, CallsWhatWasMade};
 ghost use Rattle.usb_model.specs.Laws.Cut.{CutsAt};
 ghost use Rattle.usb_model.specs.Laws.Places.{KeepsPlaces};
 ghost use Rattle.usb_model.specs.Rows.Halting.{stall_and_clear_halt};
@@ -20,6 +21,13 @@ pub fn cut()
 /// Each transfer of a handle is in one place: none is lost, and none is doubled.
 pub fn places()
     ensures { (setup : Setup) (steps : List Step) (h : ℕ) → KeepsPlaces setup steps h }
+{}
+
+/// What is called back is what was made: each result goes out to its callback in order, with all that it has, and a
+/// transfer that is in its callback is of a result that was called back.
+pub fn called()
+    ensures in_order { (setup : Setup) (steps : List Step) (h : ℕ) → CallsWhatWasMade setup steps h }
+    ensures in_callbacks { (setup : Setup) (steps : List Step) (h : ℕ) → CallbacksAreOfCalls setup steps h }
 {}
 
 /// A transfer that is asked to end, ends: by the seventeenth Deliver of its endpoint its one result is made.

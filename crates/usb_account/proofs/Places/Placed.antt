@@ -219,7 +219,7 @@ calls_none : (P : List ℕ → Type 0) (called : List ℕ) (r : Reply) → call_
 calls_none P called r none p = rw (none, append-nil called) p
 
 -- a step that works takes no result
-takes_no_result : (setup : Setup) (m : Machine) (ep : ℕ) (e : Endpoint) (step : Step) (handle : Handle) (d : EndpointEffect) → IsWork setup m ep e step handle d → takes_result step ≡ false
+pub takes_no_result : (setup : Setup) (m : Machine) (ep : ℕ) (e : Endpoint) (step : Step) (handle : Handle) (d : EndpointEffect) → IsWork setup m ep e step handle d → takes_result step ≡ false
 takes_no_result setup m ep e step handle d (serves dev) = refl
 takes_no_result setup m ep e step handle d (commands o os is) = refl
 takes_no_result setup m ep e step handle d (delivers event ns is) = refl
@@ -272,7 +272,7 @@ work_placed setup m ep e step handle d called well here (clears g empty) p =
     exact_placed setup m step d ep e called refl here (clears g empty) (exact_if_same e (cleared e) refl refl) p
 
 -- the reply of a step that does no work, but for Take, calls nothing back
-bare_calls : (step : Step) (r : Reply) → IsBare step r → call_of r ≡ []
+pub bare_calls : (step : Step) (r : Reply) → IsBare step r → call_of r ≡ []
 bare_calls step r (refuses why) = refl
 bare_calls step r idles = refl
 bare_calls step r (unplugs dev) = refl
