@@ -62,8 +62,10 @@ stalled_is_cut = (
     shares = refl;
     fits = (ends_stalled, ((refl, refl), (ends_short, tt)));
     ended = refl;
-    told = (inr (refl, false, refl), (inr (refl, false, refl), (inr (refl, false, refl), tt)));
+    told = (inr (refl, false, (λ q. q), refl), (inr (refl, false, (λ q. q), refl), (inr (refl, false, (λ q. q), refl), tt)));
     packets = refl;
+    results = (omega arith, (omega arith, (omega arith, tt)));
+    asks = tt;
   },
   refl,
 )
@@ -79,8 +81,10 @@ unplugged_is_cut = (
     shares = refl;
     fits = (ends_whole, ((refl, refl), tt));
     ended = refl;
-    told = (inr (refl, true, refl), (inr (refl, true, refl), tt));
+    told = (inr (refl, true, (λ q. refl), refl), (inr (refl, true, (λ q. q), refl), tt));
     packets = refl;
+    results = (omega arith, (omega arith, tt));
+    asks = tt;
   },
   refl,
 )
