@@ -3,11 +3,12 @@ use Rattle.std.specs.Prelude.{◌≡◌, ℕ, true, false, List, [], ◌∷◌, 
 use Rattle.usb_model.specs.declared.response.Response.TheVariants.{Data, Stall}
 use Rattle.usb_model.specs.declared.request.Body.TheVariants.{In}
 use Rattle.usb_model.specs.declared.step.Step.{Step}
-use Rattle.usb_model.specs.declared.step.Step.TheVariants.{Cancel}
-use Rattle.usb_model.specs.Setup.{packet_size_of, script_of}
+use Rattle.usb_model.specs.declared.step.Step.TheVariants.{Open, Claim, Submit, Cancel, Serve}
+use Rattle.usb_model.specs.declared.request.Kind.TheVariants.{Bulk}
+use Rattle.usb_model.specs.Setup.{Setup, packet_size_of, script_of}
 use Rattle.usb_model.specs.World.{new_world, world_from}
 use Rattle.usb_model.specs.World.Plans.{expand}
-use Rattle.usb_model.specs.Laws.Account.{account}
+use Rattle.usb_model.specs.Laws.Account.{Transfer, account}
 use Rattle.usb_model.specs.Laws.Cut.{Ended, Of, Cleared, Cell, IsCut}
 use Rattle.usb_model.specs.Laws.Bound.{IsAccepted, is_in_progress, commands_in, delivers_in, world_at, asked_world, results_of}
 use Rattle.usb_model.specs.Rows.{Row, bulk}
@@ -57,3 +58,20 @@ unplugged_cells =
     Of (record { n = 0; request = bulk 0x81 (In 8); round = 0; share = Data (1 ∷ 2 ∷ 3 ∷ 4 ∷ 5 ∷ 6 ∷ 7 ∷ 8 ∷ []) ∷ []; fate = Ended 1 false })
     ∷ Of (record { n = 1; request = bulk 0x81 (In 8); round = 0; share = []; fate = Ended 4 true })
     ∷ []
+
+-- a device whose endpoint 81 has the packet size 0, and answers with an empty packet
+abbrev pub without_size : Setup
+without_size = record {
+  config = record { interfaces = 0 ∷ []; endpoints = record { address = 0x81; interface = 0; kind = Bulk; packet_size = 0 } ∷ [] };
+  scripts = [] ∷ [] ∷ [] ∷ (Data [] ∷ []) ∷ [];
+} ∷ []
+
+-- a transfer of 8 bytes there, and a packet of it
+abbrev pub reads_nothing : List Step
+reads_nothing = Open 1 0 ∷ Claim 1 0 ∷ Submit 1 (bulk 0x81 (In 8)) ∷ Serve 0 0x81 ∷ []
+
+-- it is accepted, and the script isn't cut: with the empty packet the transfer has no outcome
+pub record IsNotCut : Type 0 where
+  pub size : packet_size_of without_size 0 0x81 ≡ 0
+  pub accepted : (account without_size 0 0x81 reads_nothing).accepted ≡ Transfer 0 (bulk 0x81 (In 8)) 0 ∷ []
+  pub uncut : IsCut 0 (script_of without_size 0 0x81) (account without_size 0 0x81 reads_nothing) ((world_from without_size (new_world without_size) reads_nothing).endpoints 0 0x81) → ⊥

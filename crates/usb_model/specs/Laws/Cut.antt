@@ -151,7 +151,7 @@ abbrev pub is_empty_packet : Response → Bool
 is_empty_packet (response.Data []) = true
 is_empty_packet _ = false
 
--- a packet size of at least 1, or answers without an empty packet: at size 0 that would be full and short at once
+-- a packet size of at least 1, or answers without an empty packet: with one a read at size 0 has no outcome
 abbrev pub HasSize : ℕ → List Response → Type 0
 HasSize size answers = (0 < size) ⊎ IsTrue (list_all (λ x. not (is_empty_packet x)) answers)
 
