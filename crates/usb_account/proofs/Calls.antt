@@ -68,7 +68,7 @@ record IsTold (h : ℕ) (m : Machine) (results : List TransferResult) (told : Li
   in_callbacks : AllByRecursion (IsAmong called) m.handle.in_callbacks
 
 -- of the callbacks that are left it holds too
-each_without : (P : InCallback → Type 0) (n : ℕ) (xs : List InCallback) → AllByRecursion P xs → AllByRecursion P (without n xs)
+pub each_without : (P : InCallback → Type 0) (n : ℕ) (xs : List InCallback) → AllByRecursion P xs → AllByRecursion P (without n xs)
 unfolding without
 each_without P n [] p = tt
 each_without P n (x ∷ xs) p = by_test (x.n == n) (each_without P n xs p.1)
@@ -105,7 +105,7 @@ told_taken setup h m x xs results told is t = record {
     rest = ap (λ l. past_first true l) (sym is) ∙ sym (append-nil (past_first true m.results))
 
 -- work leaves no more in callbacks
-work_callbacks : (setup : Setup) (m : Machine) (ep : ℕ) (e : Endpoint) (step : Step) (handle : Handle) (d : EndpointEffect) (P : InCallback → Type 0) → IsWork setup m ep e step handle d → AllByRecursion P m.handle.in_callbacks → AllByRecursion P handle.in_callbacks
+pub work_callbacks : (setup : Setup) (m : Machine) (ep : ℕ) (e : Endpoint) (step : Step) (handle : Handle) (d : EndpointEffect) (P : InCallback → Type 0) → IsWork setup m ep e step handle d → AllByRecursion P m.handle.in_callbacks → AllByRecursion P handle.in_callbacks
 work_callbacks setup m ep e step handle d P (submits (anew g r) at fine short) p = p
 work_callbacks setup m ep e step handle d P (submits (again g k x in_call) at fine short) p = each_without P x.n m.handle.in_callbacks p
 work_callbacks setup m ep e step handle d P (submits (again_with g k bytes x in_call) at fine short) p = each_without P x.n m.handle.in_callbacks p

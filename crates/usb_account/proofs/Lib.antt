@@ -3,4 +3,5 @@ pub mod Machines
 pub mod Places
 pub mod Calls
 pub mod Bound
+pub mod Bounds
 pub mod Cut

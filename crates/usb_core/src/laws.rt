@@ -4,6 +4,7 @@
 ghost use Rattle.std.specs.Prelude.{ℕ, List};
 ghost use Rattle.usb_model.specs.declared.step.Step.{Step};
 ghost use Rattle.usb_model.specs.Laws.Bound.{AskedEnds};
+ghost use Rattle.usb_model.specs.Laws.Bounds.{KeepsBounds};
 ghost use Rattle.usb_model.specs.Laws.Calls.{CallbacksAreOfCalls, CallsWhatWasMade};
 ghost use Rattle.usb_model.specs.Laws.Cut.{CutsAt};
 ghost use Rattle.usb_model.specs.Laws.Places.{KeepsPlaces};
@@ -33,6 +34,12 @@ pub fn called()
 /// A transfer that is asked to end, ends: by the seventeenth Deliver of its endpoint its one result is made.
 pub fn asked_ends()
     ensures { (setup : Setup) (steps : List Step) (h : ℕ) → AskedEnds setup steps h }
+{}
+
+/// A transfer was submitted before no more often than its number says; and of each endpoint of a handle there wait at
+/// most 1 order, 18 pieces of news, and 16 results and transfers in progress together.
+pub fn bounds()
+    ensures { (setup : Setup) (steps : List Step) (h : ℕ) → KeepsBounds setup steps h }
 {}
 
 /// The laws at worked rows, computed: a bound that is reached, and scripts that are cut. One that isn't, at the packet

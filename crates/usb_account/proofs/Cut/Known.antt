@@ -1,5 +1,5 @@
 -- What an account tells is of transfers that were accepted, and what ended at a gone device is told as of one.
-use Rattle.std.proofs.Common.{Bool, List, Some, [], ap, arith, map, refl, subst, sym, true, ℕ, ◌++◌, ◌<◌, ◌∙◌, ◌∷◌, ◌≡◌, ◌≤◌}
+use Rattle.std.proofs.Common.{Bool, List, Some, [], ap, arith, map, subst, sym, true, ℕ, ◌++◌, ◌<◌, ◌∙◌, ◌∷◌, ◌≡◌, ◌≤◌}
 use Rattle.std.proofs.lemmas.Bool.{or_left}
 use Rattle.std.proofs.lemmas.Grind.{flat_map-append}
 use Rattle.std.proofs.lemmas.List.{map-append}
@@ -29,8 +29,8 @@ use Rattle.usb_account.proofs.Cut.Steps.{asks_by, no_ask_by, reply_of}
 use Rattle.usb_account.proofs.Machines.Deeds.{IsWork, asks_it, clears, commands, delivers, serves, submits}
 use Rattle.usb_account.proofs.Machines.Well.{first_news, fit_at}
 use Rattle.usb_account.proofs.Places.Exact.{exact_ask, exact_command, exact_deliver, exact_serve}
-use Rattle.usb_lemmas.proofs.Lists.Parts.{each_append, each_weaker}
-use Rattle.usb_lemmas.proofs.Lists.Times.{times-append, times-cons, times_here}
+use Rattle.usb_lemmas.proofs.Lists.Parts.{each_append, each_here, each_weaker}
+use Rattle.usb_lemmas.proofs.Lists.Times.{times-append}
 use Rattle.usb_lemmas.proofs.Work.Lines.{progress_times, result_numbers}
 
 -- each result and each ask is of such a transfer; gone: whether the device is
@@ -79,14 +79,6 @@ line_accepted size inward next script a e n h lt =
     let here : accepted_numbers a.accepted ≡ numbers_of (all_cells h.gone h.rows) = ap accepted_numbers (sym h.all) ∙ cell_numbers (all_cells h.gone h.rows) in
     omega (arith, lt, ap (λ l. times n (live_numbers l)) h.is_line, live_less n h.rows, ap (times n) here, ap (times n) joined, times-append n (numbers (flat_map parts_of h.gone)) (numbers (map part_of h.rows)))
 
--- each result's number is among those of the results
-each_result : (rs : List TransferResult) → AllByRecursion (λ r. 0 < times r.n (result_numbers rs)) rs
-each_result [] = tt
-each_result (x ∷ rs) = (
-  omega (arith, times_here x.n x.n (result_numbers rs) refl),
-  each_weaker (λ r. 0 < times r.n (result_numbers rs)) (λ r. 0 < times r.n (result_numbers (x ∷ rs))) rs (λ r lt. omega (arith, lt, times-cons r.n x.n (result_numbers rs))) (each_result rs),
-)
-
 -- results with what the device is
 each_made : (P : ℕ → Type 0) (gone : Bool) (rs : List TransferResult) → AllByRecursion (λ r. P r.n) rs → AllByRecursion (λ x. P x.result.n) (made_with gone rs)
 each_made P gone [] p = tt
@@ -126,6 +118,6 @@ pub known_work : (setup : Setup) (m : Machine) (size : ℕ) (inward : Bool) (scr
 known_work setup m size inward script ep a e step handle d well here work h k =
     known_more (is_gone m) a (accepted_by m.handle step d.reply) (asked_by step d.reply) (ended_by (is_gone m) d.reply) (made_with (is_gone m) d.results)
     (each_made (IsAccepted a) (is_gone m) d.results
-    (each_weaker (λ r. 0 < times r.n (result_numbers d.results)) (λ r. IsAccepted a r.n) d.results (λ r lt. line_accepted size inward m.handle.next_number script a e r.n h (omega (arith, lt, work_results setup m ep e step handle d r.n well here work))) (each_result d.results)))
+    (each_weaker (λ r. 0 < times r.n (result_numbers d.results)) (λ r. IsAccepted a r.n) d.results (λ r lt. line_accepted size inward m.handle.next_number script a e r.n h (omega (arith, lt, work_results setup m ep e step handle d r.n well here work))) (each_here (λ r. r.n) d.results)))
     (each_weaker (λ x. 0 < times x.n (live_numbers e.line)) (λ x. IsAccepted a x.n) (asked_by step d.reply) (λ x lt. line_accepted size inward m.handle.next_number script a e x.n h lt) (work_asks setup m ep e step handle d work))
     (ends_told (is_gone m) d.reply) k

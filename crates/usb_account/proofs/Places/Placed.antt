@@ -148,7 +148,7 @@ none_new setup ep o (inl e) = rw e refl
 none_new setup ep o (inr e) = rw e.1 refl
 
 -- where no work is done, the numbers in progress stay
-lives_rest : (setup : Setup) (ep : ℕ) (m m' : Machine) (step : Step) → Rests setup ep m m' step → lives_at m' ep ≡ lives_at m ep
+pub lives_rest : (setup : Setup) (ep : ℕ) (m m' : Machine) (step : Step) → Rests setup ep m m' step → lives_at m' ep ≡ lives_at m ep
 lives_rest setup ep m m' step (inl s) = ap numbers_at s.end
 lives_rest setup ep m m' step (inr r) = none_new setup ep (endpoint_at m' ep) r.end ∙ sym (none_idle (endpoint_at m ep) r.idle.no_line)
 

@@ -1,0 +1,4 @@
+-- Bounds of what waits for one endpoint, and of how often a transfer was submitted before.
+pub mod Items
+pub mod Waiting
+pub mod Runs
