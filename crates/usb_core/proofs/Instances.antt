@@ -9,6 +9,7 @@ use Rattle.usb_model.specs.Endpoint.Packets.{outcome, open_with, ended_with, End
 use Rattle.usb_model.specs.Endpoint.{live_numbers}
 use Rattle.usb_model.specs.Laws.Account.{Transfer, account, account_from, account_of}
 use Rattle.usb_model.specs.Laws.Cut.{AllFit, Cell, Cleared, Ended, Fate, FitsFate, Of, Part, Waits, Withdrawn, accepted_as, endpoint_of, parts_of}
+use Rattle.usb_model.specs.Laws.Calls.{made, made_from}
 use Rattle.usb_model.specs.Laws.Places.{calls}
 use Rattle.usb_model.specs.Laws.Bound.{commands_in, delivers_in}
 use Rattle.usb_model.specs.Rows.{bulk}
@@ -17,7 +18,7 @@ use Rattle.usb_model.specs.Rows.Unplugging.{unplug_amid_transfers}
 use Rattle.usb_model.proofs.Computed.{computed}
 use Rattle.usb_lemmas.proofs.Shares.Cuts.{ends_now}
 use Rattle.usb_lemmas.proofs.Shares.OpenShares.{open_if, outcome_nothing}
-use Rattle.usb_core.specs.Instances.{ReachesBound, IsCutInto, IsNotCut, stalled_cells, unplugged_cells}
+use Rattle.usb_core.specs.Instances.{CallsBack, ReachesBound, ReachesBounds, IsCutInto, IsNotCut, stalled_cells, unplugged_cells}
 
 -- the bound is reached: the 17th Deliver makes the result, and no earlier one
 pub reaches_bound : ReachesBound
@@ -32,6 +33,16 @@ reaches_bound = record {
   no_more = refl;
   made = refl;
 }
+
+-- the bounds of what waits are reached, but for one piece of news
+pub reaches_bounds : ReachesBounds
+unfolding computed
+reaches_bounds = record { line = refl; orders = refl; news = refl; results = refl; rounds = refl }
+
+-- the results made, those called back and those that wait
+pub calls_back : CallsBack
+unfolding computed calls made made_from
+calls_back = record { called = refl; waits = refl; made = refl }
 
 -- shares that one answer makes end
 ends_by : (x : Response) (o : Outcome) (code : ℕ) → outcome (bulk 0x81 (In 8)) 8 (x ∷ []) false ≡ Some o → o.code ≡ Some code → Ends (bulk 0x81 (In 8)) 8 (x ∷ []) code

@@ -11,7 +11,7 @@ ghost use Rattle.usb_model.specs.Laws.Places.{KeepsPlaces};
 ghost use Rattle.usb_model.specs.Rows.Halting.{stall_and_clear_halt};
 ghost use Rattle.usb_model.specs.Rows.Unplugging.{unplug_amid_transfers};
 ghost use Rattle.usb_model.specs.Setup.{Setup};
-ghost use Rattle.usb_core.specs.Instances.{ReachesBound, IsCutInto, IsNotCut, stalled_cells, unplugged_cells};
+ghost use Rattle.usb_core.specs.Instances.{CallsBack, ReachesBound, ReachesBounds, IsCutInto, IsNotCut, stalled_cells, unplugged_cells};
 
 /// What the transfers of an endpoint moved is a cut of its device's answers, in order of submission: each result, each
 /// end and each packet that the device took is read off one transfer's share.
@@ -42,10 +42,12 @@ pub fn bounds()
     ensures { (setup : Setup) (steps : List Step) (h : ℕ) → KeepsBounds setup steps h }
 {}
 
-/// The laws at worked rows, computed: a bound that is reached, and scripts that are cut. One that isn't, at the packet
-/// size 0.
+/// The laws at worked rows, computed: bounds that are reached, calls of what was made, and scripts that are cut. One that
+/// isn't, at the packet size 0.
 pub fn instances()
     ensures bound { ReachesBound }
+    ensures bounds { ReachesBounds }
+    ensures called { CallsBack }
     ensures behind_a_stall { IsCutInto stall_and_clear_halt stalled_cells }
     ensures at_a_gone_device { IsCutInto unplug_amid_transfers unplugged_cells }
     ensures without_a_size { IsNotCut }
