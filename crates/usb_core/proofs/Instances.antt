@@ -34,7 +34,7 @@ reaches_bound = record {
   made = refl;
 }
 
--- the bounds of what waits are reached, but for one piece of news
+-- the bounds of what waits are reached
 pub reaches_bounds : ReachesBounds
 unfolding computed
 reaches_bounds = record { line = refl; orders = refl; news = refl; results = refl; rounds = refl }

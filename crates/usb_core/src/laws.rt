@@ -37,7 +37,7 @@ pub fn asked_ends()
 {}
 
 /// A transfer was submitted before no more often than its number says; and of each endpoint of a handle there wait at
-/// most 1 order, 18 pieces of news, and 16 results and transfers in progress together.
+/// most 1 order, 17 pieces of news, and 16 results and transfers in progress together.
 pub fn bounds()
     ensures { (setup : Setup) (steps : List Step) (h : ℕ) → KeepsBounds setup steps h }
 {}

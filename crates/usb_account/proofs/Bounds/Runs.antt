@@ -20,15 +20,16 @@ use Rattle.usb_model.specs.Laws.Bounds.{KeepsBounds, line_at}
 use Rattle.usb_model.specs.Laws.Cut.{times}
 use Rattle.usb_model.specs.Laws.Places.{numbers_at}
 use Rattle.usb_model.specs.Machine.Calls.{callback_of}
-use Rattle.usb_model.specs.Machine.Turns.{machine_after, take_effect, takes_result}
+use Rattle.usb_model.specs.Machine.Turns.{effect, machine_after, take_effect, takes_result}
 use Rattle.usb_model.specs.Machine.{Machine, at_endpoint, device_of, endpoint_at, is_gone, is_result_at, new_machine}
 use Rattle.usb_model.specs.Setup.{Setup, packet_size_of}
 use Rattle.usb_model.specs.World.Shared.{past_first}
 use Rattle.usb_model.specs.World.{World, machine_of, new_world, turn, world_from}
 use Rattle.usb_account.proofs.Bounds.Items.{KeepsItems, OfItem, OfResult, keeps_work}
+use Rattle.usb_account.proofs.Bounds.Paused.{PausesWait, acts_wait}
 use Rattle.usb_account.proofs.Bounds.Waiting.{few_waits}
 use Rattle.usb_account.proofs.Calls.{each_without, work_callbacks}
-use Rattle.usb_account.proofs.Machines.Acts.{IsNewOrGone, Rests, end_set, rests_at, works_elsewhere}
+use Rattle.usb_account.proofs.Machines.Acts.{IsNewOrGone, Rests, acts, acts_at, end_set, rests_at, works_elsewhere}
 use Rattle.usb_account.proofs.Machines.Deeds.{IsDone, IsRest, IsSubmission, IsWork, again, again_with, anew, asks_it, claims, claims_again, clears, closes, commands, delivers, only_rests, opens, releases, resets, serves, stays, stops, submits, takes, works}
 use Rattle.usb_account.proofs.Machines.Done.{is_done}
 use Rattle.usb_account.proofs.Machines.Well.{first_news, fit_at}
@@ -223,42 +224,62 @@ within_done : (setup : Setup) (h : ℕ) (m : Machine) (called : List ℕ) (step 
 within_done setup h m called step done kept (only_rests rest) w = within_rest setup h m step done kept.well rest w
 within_done setup h m called step done kept (works {handle = handle} {d = d} ep e here work) w = within_work setup m called ep e step handle d kept here work w
 
+-- and that a transfer waits where a pause is told
+record IsBounded (m : Machine) : Type 0 where
+  within : IsWithin m
+  pauses : (ep : ℕ) → PausesWait (events_of ep m.news) (line_at (endpoint_at m ep))
+
+-- any step keeps it
+bounded_step : (setup : Setup) (h : ℕ) (m : Machine) (called : List ℕ) (step : Step) → IsKept setup m called → IsBounded m → IsBounded (machine_after setup m step (effect setup h m step))
+bounded_step setup h m called step kept b =
+    let done : Effect = effect setup h m step in
+    let is : IsDone setup h m step done = is_done setup h m step kept.well in
+    record {
+      within = within_done setup h m called step done kept is b.within;
+      pauses = λ ep. acts_wait setup ep m (machine_after setup m step done) step kept.well (acts_at setup m (machine_after setup m step done) step (acts setup h m step done kept.well is) ep) (b.pauses ep);
+    }
+
 -- of a machine that was never opened
-within_new : IsWithin new_machine
+bounded_new : IsBounded new_machine
 unfolding new_machine
-within_new = record { items = λ ep. tt; results = tt; in_callbacks = tt; few = λ ep. omega arith }
+bounded_new = record {
+  within = record { items = λ ep. tt; results = tt; in_callbacks = tt; few = λ ep. omega arith };
+  pauses = λ ep p. p;
+}
 
 -- over a run from a world on
-within_from : (setup : Setup) (h : ℕ) (w : World) (steps : List Step) (called : List ℕ) → IsKept setup (machine_of setup h w) called → IsWithin (machine_of setup h w) → IsWithin (machine_of setup h (world_from setup w steps))
+bounded_from : (setup : Setup) (h : ℕ) (w : World) (steps : List Step) (called : List ℕ) → IsKept setup (machine_of setup h w) called → IsBounded (machine_of setup h w) → IsBounded (machine_of setup h (world_from setup w steps))
 unfolding world_from
-within_from setup h w [] called k i = i
-within_from setup h w (step ∷ steps) called k i = by_turn (turn_to setup h w step) (within_from setup h (turn setup w step).world steps)
+bounded_from setup h w [] called k b = b
+bounded_from setup h w (step ∷ steps) called k b = by_turn (turn_to setup h w step) (bounded_from setup h (turn setup w step).world steps)
   where
     later : World
     later = (turn setup w step).world
 
     Later : Type 0
-    Later = (before : List ℕ) → IsKept setup (machine_of setup h later) before → IsWithin (machine_of setup h later) → IsWithin (machine_of setup h (world_from setup later steps))
+    Later = (before : List ℕ) → IsKept setup (machine_of setup h later) before → IsBounded (machine_of setup h later) → IsBounded (machine_of setup h (world_from setup later steps))
 
-    by_turn : IsEither setup h w step (turn setup w step) → Later → IsWithin (machine_of setup h (world_from setup later steps))
+    by_turn : IsEither setup h w step (turn setup w step) → Later → IsBounded (machine_of setup h (world_from setup later steps))
     by_turn (inl own) rest =
         let now : List ℕ = called ++ called_by (effect_to setup h w step).reply in
         rest now (subst (λ m. IsKept setup m now) (sym own.3) (kept_step setup h (machine_of setup h w) step called k))
-        (subst IsWithin (sym own.3) (within_done setup h (machine_of setup h w) called step (effect_to setup h w step) k (is_done setup h (machine_of setup h w) step k.well) i))
-    by_turn (inr nothing) rest = rest called (subst (λ m. IsKept setup m called) (sym nothing.1) k) (subst IsWithin (sym nothing.1) i)
+        (subst IsBounded (sym own.3) (bounded_step setup h (machine_of setup h w) called step k b))
+    by_turn (inr nothing) rest = rest called (subst (λ m. IsKept setup m called) (sym nothing.1) k) (subst IsBounded (sym nothing.1) b)
 
 -- where any run ends
 pub keeps_bounds : (setup : Setup) (steps : List Step) (h : ℕ) → KeepsBounds setup steps h
 keeps_bounds setup steps h =
     let m : Machine = machine_of setup h (world_from setup (new_world setup) steps) in
     let well : IsWell setup m = (kept_at setup h steps).well in
-    let i : IsWithin m = within_from setup h (new_world setup) steps [] (subst (λ m. IsKept setup m []) (sym (new_machine_of setup h)) (kept_new setup)) (subst IsWithin (sym (new_machine_of setup h)) within_new) in
+    let b : IsBounded m = bounded_from setup h (new_world setup) steps [] (subst (λ m. IsKept setup m []) (sym (new_machine_of setup h)) (kept_new setup)) (subst IsBounded (sym (new_machine_of setup h)) bounded_new) in
+    let few : (ep : ℕ) → (length (line_at (endpoint_at m ep)) ≤ 16) × (length (errands_of ep m.orders) ≤ 1) × (length (events_of ep m.news) ≤ 17) =
+    λ ep. few_waits (endpoint_at m ep) (errands_of ep m.orders) (events_of ep m.news) (well.fits ep) (b.pauses ep) in
     record {
-      rounds_in_line = λ ep. each_weaker (OfItem (IsOf ep)) (λ x. x.round ≤ x.n) (line_at (endpoint_at m ep)) (λ x p. p.1) (i.items ep);
-      rounds_of_results = i.results;
-      rounds_in_callbacks = i.in_callbacks;
-      line = λ ep. (few_waits (endpoint_at m ep) (errands_of ep m.orders) (events_of ep m.news) (well.fits ep)).0;
-      orders = λ ep. (few_waits (endpoint_at m ep) (errands_of ep m.orders) (events_of ep m.news) (well.fits ep)).1;
-      news = λ ep. (few_waits (endpoint_at m ep) (errands_of ep m.orders) (events_of ep m.news) (well.fits ep)).2;
-      results = i.few;
+      rounds_in_line = λ ep. each_weaker (OfItem (IsOf ep)) (λ x. x.round ≤ x.n) (line_at (endpoint_at m ep)) (λ x p. p.1) (b.within.items ep);
+      rounds_of_results = b.within.results;
+      rounds_in_callbacks = b.within.in_callbacks;
+      line = λ ep. (few ep).0;
+      orders = λ ep. (few ep).1;
+      news = λ ep. (few ep).2;
+      results = b.within.few;
     }

@@ -16,14 +16,14 @@ line_at None = []
 line_at (Some e) = e.line
 
 -- no transfer was submitted before more often than numbers were given before its own; of each endpoint at most 16 transfers
--- are in its line, 1 order and 18 pieces of news wait, and those in progress and the results that wait are at most 16 together
+-- are in its line, 1 order and 17 pieces of news wait, and those in progress and the results that wait are at most 16 together
 pub record IsWithinBounds (m : Machine) : Type 0 where
   pub rounds_in_line : (ep : ℕ) → AllByRecursion (λ x. x.round ≤ x.n) (line_at (endpoint_at m ep))
   pub rounds_of_results : AllByRecursion (λ x. x.round ≤ x.n) m.results
   pub rounds_in_callbacks : AllByRecursion (λ x. x.round ≤ x.n) m.handle.in_callbacks
   pub line : (ep : ℕ) → length (line_at (endpoint_at m ep)) ≤ 16
   pub orders : (ep : ℕ) → length (errands_of ep m.orders) ≤ 1
-  pub news : (ep : ℕ) → length (events_of ep m.news) ≤ 18
+  pub news : (ep : ℕ) → length (events_of ep m.news) ≤ 17
   pub results : (ep : ℕ) → count_by (is_result_at ep) m.results + length (numbers_at (endpoint_at m ep)) ≤ 16
 
 abbrev pub KeepsBounds : Setup → List Step → ℕ → Type 0
