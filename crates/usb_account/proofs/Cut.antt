@@ -10,4 +10,5 @@ pub mod Resumes
 pub mod Delivers
 pub mod Asks
 pub mod Steps
+pub mod Known
 pub mod Runs

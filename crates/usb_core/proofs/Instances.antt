@@ -1,13 +1,15 @@
 -- The laws at worked rows, computed.
-use Rattle.std.proofs.Common.{◌≡◌, ℕ, true, false, inr, [], ◌∷◌, Some, refl, arith}
-use Rattle.std.specs.List.{IsDistinct}
+use Rattle.std.proofs.Common.{◌≡◌, ℕ, true, false, inr, List, [], ◌∷◌, ◌++◌, ◌∙◌, Some, append-nil, map, refl, subst₂, sym, arith}
+use Rattle.std.specs.List.{IsDistinct, flat_map}
 use Rattle.usb_model.specs.declared.response.Response.{Response}
 use Rattle.usb_model.specs.declared.response.Response.TheVariants.{Data, Stall}
 use Rattle.usb_model.specs.declared.request.Body.TheVariants.{In}
 use Rattle.usb_model.specs.declared.outcome.Outcome.{Outcome}
-use Rattle.usb_model.specs.Endpoint.Packets.{outcome, open_with, ended_with, Ends}
+use Rattle.usb_model.specs.Endpoint.Packets.{outcome, open_with, ended_with, Ends, IsOpenAt}
 use Rattle.usb_model.specs.Endpoint.{live_numbers}
-use Rattle.usb_model.specs.Laws.Account.{account, account_from, account_of}
+use Rattle.usb_model.specs.Laws.Account.{Transfer, account, account_from, account_of}
+use Rattle.usb_model.specs.Laws.Cut.{AllFit, Cell, Cleared, Ended, Fate, FitsFate, Of, Part, Waits, Withdrawn, accepted_as, endpoint_of, parts_of}
+use Rattle.usb_model.specs.Laws.Calls.{made, made_from}
 use Rattle.usb_model.specs.Laws.Places.{calls}
 use Rattle.usb_model.specs.Laws.Bound.{commands_in, delivers_in}
 use Rattle.usb_meaning.specs.Rows.{bulk}
@@ -16,7 +18,7 @@ use Rattle.usb_meaning.specs.Rows.Unplugging.{unplug_amid_transfers}
 use Rattle.usb_meaning.proofs.Computed.{computed}
 use Rattle.usb_lemmas.proofs.Shares.Cuts.{ends_now}
 use Rattle.usb_lemmas.proofs.Shares.OpenShares.{open_if, outcome_nothing}
-use Rattle.usb_core.specs.Instances.{ReachesBound, IsCutInto, stalled_cells, unplugged_cells}
+use Rattle.usb_core.specs.Instances.{CallsBack, ReachesBound, ReachesBounds, IsCutInto, IsNotCut, stalled_cells, unplugged_cells}
 
 -- the bound is reached: the 17th Deliver makes the result, and no earlier one
 pub reaches_bound : ReachesBound
@@ -31,6 +33,16 @@ reaches_bound = record {
   no_more = refl;
   made = refl;
 }
+
+-- the bounds of what waits are reached
+pub reaches_bounds : ReachesBounds
+unfolding computed
+reaches_bounds = record { line = refl; orders = refl; news = refl; results = refl; rounds = refl }
+
+-- the results made, those called back and those that wait
+pub calls_back : CallsBack
+unfolding computed calls made made_from
+calls_back = record { called = refl; waits = refl; made = refl }
 
 -- shares that one answer makes end
 ends_by : (x : Response) (o : Outcome) (code : ℕ) → outcome (bulk 0x81 (In 8)) 8 (x ∷ []) false ≡ Some o → o.code ≡ Some code → Ends (bulk 0x81 (In 8)) 8 (x ∷ []) code
@@ -62,8 +74,10 @@ stalled_is_cut = (
     shares = refl;
     fits = (ends_stalled, ((refl, refl), (ends_short, tt)));
     ended = refl;
-    told = (inr (refl, false, refl), (inr (refl, false, refl), (inr (refl, false, refl), tt)));
+    told = (inr (refl, false, (λ q. q), refl), (inr (refl, false, (λ q. q), refl), (inr (refl, false, (λ q. q), refl), tt)));
     packets = refl;
+    results = (omega arith, (omega arith, (omega arith, tt)));
+    asks = tt;
   },
   refl,
 )
@@ -79,8 +93,40 @@ unplugged_is_cut = (
     shares = refl;
     fits = (ends_whole, ((refl, refl), tt));
     ended = refl;
-    told = (inr (refl, true, refl), (inr (refl, true, refl), tt));
+    told = (inr (refl, true, (λ q. refl), refl), (inr (refl, true, (λ q. q), refl), tt));
     packets = refl;
+    results = (omega arith, (omega arith, tt));
+    asks = tt;
   },
   refl,
 )
+
+-- a share of one empty packet, at the packet size 0, is open to no transfer
+not_open : (x : Part) → x.request ≡ bulk 0x81 (In 8) → x.share ≡ Data [] ∷ [] → IsOpenAt (outcome x.request 0 x.share false) → ⊥
+unfolding computed
+not_open x request share op = let none : ⊥ = subst₂ (λ r l. IsOpenAt (outcome r 0 l false)) request share op in none
+
+-- so what came of it can't be told
+no_fate : (x : Part) (f : Fate) → x.request ≡ bulk 0x81 (In 8) → x.share ≡ Data [] ∷ [] → endpoint_of x.n f ≡ [] → FitsFate 0 false x f → ⊥
+no_fate x Waits request share none fit = not_open x request share fit
+no_fate x (Withdrawn ask) request share none fit = not_open x request share fit
+no_fate x (Ended code gone) request share none fit = cc
+
+-- nor by any cells
+no_cells : (cells : List Cell) → map accepted_as cells ≡ Transfer 0 (bulk 0x81 (In 8)) 0 ∷ [] → flat_map (λ x. x.share) (flat_map parts_of cells) ++ [] ≡ Data [] ∷ []
+    → flat_map (λ x. endpoint_of x.n x.fate) (flat_map parts_of cells) ≡ [] → AllFit 0 false cells → ⊥
+no_cells [] all shares ended fits = cc
+no_cells (Cleared ∷ cells) all shares ended fits = cc
+no_cells (Of x ∷ y ∷ cells) all shares ended fits = cc
+no_cells (Of x ∷ []) all shares ended fits =
+    let request : x.request ≡ bulk 0x81 (In 8) = cc in
+    no_fate x x.fate request (sym (append-nil x.share) ∙ (sym (append-nil (x.share ++ [])) ∙ shares)) (sym (append-nil (endpoint_of x.n x.fate)) ∙ ended) fits.0
+
+-- the packet size 0, with an empty packet: no cut
+pub is_not_cut : IsNotCut
+unfolding computed account account_from account_of live_numbers IsDistinct
+is_not_cut = record {
+  size = refl;
+  accepted = refl;
+  uncut = λ c. no_cells c.cells c.all c.shares c.ended c.fits;
+}

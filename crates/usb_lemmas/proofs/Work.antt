@@ -6,3 +6,4 @@ pub mod Moves
 pub mod StepMoves
 pub mod Errands
 pub mod Phases
+pub mod Each

@@ -15,7 +15,7 @@ use Rattle.usb_model.specs.declared.endpoint_effect.EndpointEffect.{EndpointEffe
 use Rattle.usb_model.specs.Endpoint.{in_progress}
 
 -- what both branches of an if have, it has
-if_same : {A B : Type 0} (f : A → B) (b : Bool) (x y : A) (v : B) → f x ≡ v → f y ≡ v → f (if b then x else y) ≡ v
+pub if_same : {A B : Type 0} (f : A → B) (b : Bool) (x y : A) (v : B) → f x ≡ v → f y ≡ v → f (if b then x else y) ≡ v
 if_same f true x y v p q = p
 if_same f false x y v p q = q
 

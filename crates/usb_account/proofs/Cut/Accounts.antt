@@ -1,5 +1,5 @@
 -- Where the ledger of an endpoint holds, its account is a cut of its script.
-use Rattle.std.proofs.Common.{Bool, List, [], ap, arith, false, inl, inr, map, refl, subst, sym, true, ℕ, ◌++◌, ◌∙◌, ◌∷◌, ◌≡◌, ◌≤◌}
+use Rattle.std.proofs.Common.{Bool, List, [], ap, arith, false, inl, inr, map, refl, subst, sym, true, ℕ, ◌++◌, ◌∙◌, ◌∷◌, ◌<◌, ◌≡◌, ◌≤◌}
 use Rattle.std.specs.Prelude.{if◌then◌else◌}
 use Rattle.std.proofs.lemmas.List.{map-append}
 use Rattle.std.specs.List.{AllByRecursion, flat_map}
@@ -8,13 +8,14 @@ use Rattle.usb_model.specs.declared.endpoint.Endpoint.{Endpoint}
 use Rattle.usb_model.specs.declared.item.ItemState.TheVariants.{Blank, Served, Waiting}
 use Rattle.usb_model.specs.declared.item.ItemState.{ItemState}
 use Rattle.usb_model.specs.Laws.Account.{Account}
-use Rattle.usb_model.specs.Laws.Cut.{AllTold, Ended, Fate, IsCut, Part, ToldBy, Waits, Withdrawn, parts_of, times}
+use Rattle.usb_model.specs.Laws.Cut.{AllTold, Ended, Fate, IsCut, Part, ToldBy, Waits, Withdrawn, numbers_of, parts_of, times}
 use Rattle.usb_model.specs.Endpoint.{is_blank, is_blank_state, live_numbers}
-use Rattle.usb_account.proofs.Cut.Ledger.{GoneTold, GoneToldBy, HoldsAt, IsFate, IsRow, Row, RowToldBy, all_cells, all_parts, item_of, numbers, part_of, parts_of_cells}
+use Rattle.usb_account.proofs.Cut.Ledger.{IsAccepted, accepted_cell, GoneTold, GoneToldBy, HoldsAt, IsFate, IsRow, Row, RowToldBy, all_cells, all_parts, item_of, numbers, part_of, parts_of_cells}
+use Rattle.usb_lemmas.proofs.Lists.Parts.{each_weaker}
 use Rattle.usb_lemmas.proofs.Lists.Times.{StandOnce, distinct_once, times_here, times_past, times-append, times-cons}
 
 -- the numbers in progress are among those of the line
-live_less : (n : ℕ) (rows : List Row) → times n (live_numbers (map item_of rows)) ≤ times n (numbers (map part_of rows))
+pub live_less : (n : ℕ) (rows : List Row) → times n (live_numbers (map item_of rows)) ≤ times n (numbers (map part_of rows))
 unfolding live_numbers
 live_less n [] = omega arith
 live_less n (r ∷ rows) = by_test (is_blank r.item) (live_less n rows)
@@ -69,7 +70,7 @@ told_rows size inward a live (r ∷ rs) d same rows = (
 -- and of what left it
 told_gone : (size : ℕ) (a : Account) (x : Part) (live : ℕ) → live ≡ 0 → (f : Fate) → GoneToldBy size a x f → ToldBy size a live x f
 told_gone size a x live none Waits t = absurd t
-told_gone size a x live none (Ended code gone) t = inr (none, t.0, t.1)
+told_gone size a x live none (Ended code gone) t = inr (none, t.0, t.1, t.2)
 told_gone size a x live none (Withdrawn ask) t = (none, t.0, t.1, t.2)
 
 -- every transfer of the ledger is told, those that left the line too
@@ -82,8 +83,9 @@ told_all size inward a (x ∷ gone) rows t d each =
     (told_gone size a x (times x.n (live_numbers (map item_of rows))) none x.fate t.0, told_all size inward a gone rows t.1 d.1 each)
 
 -- the cut law
-pub cut_if_holds : (size : ℕ) (inward : Bool) (next : ℕ) (script : List Response) (a : Account) (e : Endpoint) → HoldsAt size inward next script a e → IsCut size script a e
-cut_if_holds size inward next script a e h =
+pub cut_if_holds : (size : ℕ) (inward : Bool) (next : ℕ) (script : List Response) (a : Account) (e : Endpoint) → HoldsAt size inward next script a e
+    → AllByRecursion (λ x. IsAccepted a x.result.n) a.made → AllByRecursion (λ x. IsAccepted a x.n) a.asked → IsCut size script a e
+cut_if_holds size inward next script a e h results asks =
     let same = parts_of_cells h.gone h.rows in
     record {
       cells = all_cells h.gone h.rows;
@@ -94,4 +96,6 @@ cut_if_holds size inward next script a e h =
       ended = rw same h.ended;
       told = rw (same, ← h.is_line) (told_all size inward a (flat_map parts_of h.gone) h.rows h.gone_told h.distinct h.each_row);
       packets = rw same h.packets;
+      results = each_weaker (λ x. IsAccepted a x.result.n) (λ x. 0 < times x.result.n (numbers_of (all_cells h.gone h.rows))) a.made (λ x lt. accepted_cell a (all_cells h.gone h.rows) x.result.n h.all lt) results;
+      asks = each_weaker (λ x. IsAccepted a x.n) (λ x. 0 < times x.n (numbers_of (all_cells h.gone h.rows))) a.asked (λ x lt. accepted_cell a (all_cells h.gone h.rows) x.n h.all lt) asks;
     }

@@ -21,7 +21,7 @@ use Rattle.usb_model.specs.Endpoint.Deliver.{deliver, finished_result, line_afte
 use Rattle.usb_model.specs.Endpoint.{in_progress, is_blank_state, past_blanks, past_number}
 use Rattle.usb_model.specs.Endpoint.Status.{halts}
 use Rattle.usb_account.proofs.Coherence.FirstEnd.{EndsFirst}
-use Rattle.usb_account.proofs.Cut.Ledger.{Holds, HoldsAt, Row, item_of}
+use Rattle.usb_account.proofs.Cut.Ledger.{Holds, HoldsAt, KnowsGone, Row, item_of}
 use Rattle.usb_account.proofs.Cut.Leaves.{holds_blanks, holds_finished, no_more}
 use Rattle.usb_account.proofs.Cut.Rows.{with_more}
 use Rattle.usb_account.proofs.Cut.Serves.{KeepsLedger}
@@ -54,16 +54,16 @@ holds_past_blanks size inward next script a line left halted taken h =
     holds_blanks size inward next script a line (past_blanks line) left halted taken s.0 s.1 h s.2 s.4 (blank_rows s.0 (subst (AllByRecursion (λ x. x.state ≡ Blank)) (sym s.3) b.1))
 
 -- the end of a transfer is told
-holds_ended : (size : ℕ) (inward : Bool) (next : ℕ) (script : List Response) (a : Account) (gone : Bool) (line : List Item) (left : List Response) (halted : Bool) (taken : List (List ℕ)) (k code : ℕ) → EndsFirst line k code
+holds_ended : (size : ℕ) (inward : Bool) (next : ℕ) (script : List Response) (a : Account) (gone : Bool) (line : List Item) (left : List Response) (halted : Bool) (taken : List (List ℕ)) (k code : ℕ) → EndsFirst line k code → KnowsGone gone a
     → Holds size inward next script a line left halted taken
     → Holds size inward next script (with_more a [] [] [] (made_with gone (finished_result size gone code (in_progress k line)))) (past_number k line) left halted taken
-holds_ended size inward next script a gone line left halted taken k code f h = by_row (row_of h.rows f.front f.item (past_number k line) (h.is_line ∙ f.split))
+holds_ended size inward next script a gone line left halted taken k code f known h = by_row (row_of h.rows f.front f.item (past_number k line) (h.is_line ∙ f.split))
   where
     by_row : RowOf h.rows f.front f.item (past_number k line) → Holds size inward next script (with_more a [] [] [] (made_with gone (finished_result size gone code (in_progress k line)))) (past_number k line) left halted taken
     by_row t =
         subst (λ o. Holds size inward next script (with_more a [] [] [] (made_with gone (finished_result size gone code o))) (past_number k line) left halted taken) (ap (λ x. Some x) t.item ∙ sym f.found)
         (holds_finished size inward next script a line (past_number k line) left halted taken t.before t.behind t.row code gone h t.is t.back_is
-        (blank_rows t.before (subst (AllByRecursion (λ x. x.state ≡ Blank)) (sym t.front_is) f.blanks)) (ap (λ x. x.state) t.item ∙ f.served))
+        (blank_rows t.before (subst (AllByRecursion (λ x. x.state ≡ Blank)) (sym t.front_is) f.blanks)) (ap (λ x. x.state) t.item ∙ f.served) known)
 
 -- behind a result the cancelled may leave the line too
 holds_line_after : (size : ℕ) (inward : Bool) (next : ℕ) (script : List Response) (a : Account) (line : List Item) (left : List Response) (halted : Bool) (taken : List (List ℕ)) (k code : ℕ)
@@ -84,10 +84,10 @@ holds_same : (size : ℕ) (inward : Bool) (next : ℕ) (script : List Response) 
 holds_same size inward next script a e h = subst (λ b. HoldsAt size inward next script b e) (sym (no_more a)) h
 
 -- the first piece of news is handled
-pub holds_deliver : (size ep : ℕ) (inward : Bool) (next : ℕ) (script : List Response) (a : Account) (gone : Bool) (e : Endpoint) (event : Event) → IsTrueOf e event → HoldsAt size inward next script a e
+pub holds_deliver : (size ep : ℕ) (inward : Bool) (next : ℕ) (script : List Response) (a : Account) (gone : Bool) (e : Endpoint) (event : Event) → IsTrueOf e event → KnowsGone gone a → HoldsAt size inward next script a e
     → KeepsLedger size inward next script a gone [] [] (deliver size ep gone e event)
 unfolding deliver
-holds_deliver size ep inward next script a gone e (Finished k code) f h = by_test (needs_reset code e.errand)
+holds_deliver size ep inward next script a gone e (Finished k code) f known h = by_test (needs_reset code e.errand)
   where
     results : List TransferResult
     results = finished_result size gone code (in_progress k e.line)
@@ -96,16 +96,16 @@ holds_deliver size ep inward next script a gone e (Finished k code) f h = by_tes
     after = record e { line = line_after k code e.line }
 
     holds : HoldsAt size inward next script (with_more a [] [] [] (made_with gone results)) after
-    holds = holds_line_after size inward next script _ e.line e.script_left e.device_halted e.packets_received k code (holds_ended size inward next script a gone e.line e.script_left e.device_halted e.packets_received k code f h)
+    holds = holds_line_after size inward next script _ e.line e.script_left e.device_halted e.packets_received k code (holds_ended size inward next script a gone e.line e.script_left e.device_halted e.packets_received k code f known h)
 
     by_test : (b : Bool) → KeepsLedger size inward next script a gone [] [] (if b then orders_errand after errand.Reset (reply.Finished k) results else record { reply = reply.Finished k; endpoint = after; orders = []; news = []; results = results })
     by_test true = holds
     by_test false = holds
-holds_deliver size ep inward next script a gone e (Paused k) t h = holds_same size inward next script a e h
-holds_deliver size ep inward next script a gone e (Settled errand.Stop false) t h = holds_same size inward next script a e h
-holds_deliver size ep inward next script a gone e (Settled errand.Stop true) t h = holds_resume size inward next script a gone e (reply.Settled ep errand.Stop true) e.line refl h
-holds_deliver size ep inward next script a gone e (Settled errand.Reset ok) t h = holds_withdrawn size inward next script a gone e.line e.script_left e.device_halted e.packets_received h
-holds_deliver size ep inward next script a gone e (Settled errand.Move ok) t h =
+holds_deliver size ep inward next script a gone e (Paused k) t known h = holds_same size inward next script a e h
+holds_deliver size ep inward next script a gone e (Settled errand.Stop false) t known h = holds_same size inward next script a e h
+holds_deliver size ep inward next script a gone e (Settled errand.Stop true) t known h = holds_resume size inward next script a gone e (reply.Settled ep errand.Stop true) e.line refl h
+holds_deliver size ep inward next script a gone e (Settled errand.Reset ok) t known h = holds_withdrawn size inward next script a gone e.line e.script_left e.device_halted e.packets_received h
+holds_deliver size ep inward next script a gone e (Settled errand.Move ok) t known h =
     holds_resume size inward next script a gone e (reply.Settled ep errand.Move ok) (past_blanks e.line) refl (holds_past_blanks size inward next script a e.line e.script_left e.device_halted e.packets_received h)
 
 -- the controller carries out an order

@@ -1,5 +1,5 @@
 -- Rows join a ledger's line, and leave it.
-use Rattle.std.proofs.Common.{Bool, List, None, Option, [], ap, append-nil, append_assoc, ap₂, arith, false, length, map, refl, subst, sym, ℕ, ◌++◌, ◌+◌, ◌==◌, ◌∙◌, ◌∷◌, ◌≡◌, ◌≤◌}
+use Rattle.std.proofs.Common.{Bool, List, None, Option, [], ap, append-nil, append_assoc, ap₂, arith, false, length, map, refl, subst, sym, true, ℕ, ◌++◌, ◌+◌, ◌==◌, ◌∙◌, ◌∷◌, ◌≡◌, ◌≤◌}
 use Rattle.std.proofs.Math.Bool.{or-false}
 use Rattle.std.proofs.lemmas.Grind.{flat_map-append}
 use Rattle.std.proofs.lemmas.List.{map-append}
@@ -17,7 +17,7 @@ use Rattle.usb_model.specs.Endpoint.{fresh, new_item, outcome_of, result_of}
 use Rattle.usb_model.specs.Endpoint.Packets.{count_of}
 use Rattle.usb_model.specs.Requests.{is_short_not_ok, length_of}
 use Rattle.usb_model.specs.Endpoint.Status.{told_status, status_of}
-use Rattle.usb_account.proofs.Cut.Ledger.{GoneTold, GoneToldBy, Holds, IsFate, IsFresh, IsQuiet, IsRow, IsUntouched, Row, RowToldBy, all_cells, all_parts, cell_of, item_of, numbers, part_of, parts_of_cells, quiet_by, stalled}
+use Rattle.usb_account.proofs.Cut.Ledger.{GoneTold, GoneToldBy, Holds, KnowsGone, IsFate, IsFresh, IsQuiet, IsRow, IsUntouched, Row, RowToldBy, all_cells, all_parts, cell_of, item_of, numbers, part_of, parts_of_cells, quiet_by, stalled}
 use Rattle.usb_account.proofs.Cut.Rows.{Mid, TellsSame, cells_mid, fits_join, fresh_kept, mid_of, parts_kept, parts_mid, rows_kept, stalled-append, tells_same, with_more}
 use Rattle.usb_account.proofs.Cut.Works.{no_packets, quiet_behind}
 use Rattle.usb_lemmas.proofs.Lists.Times.{StandOnce, distinct_push, times-append, times_none}
@@ -88,9 +88,9 @@ no_ask gone code ask short_not_ok length actual is = rw is refl
 
 -- the first transfer that is no blank leaves with its result, and the blanks before it
 pub holds_finished : (size : ℕ) (inward : Bool) (next : ℕ) (script : List Response) (a : Account) (line line' : List Item) (left : List Response) (halted : Bool) (taken : List (List ℕ)) (front back : List Row) (r : Row) (code : ℕ) (gone : Bool)
-    (h : Holds size inward next script a line left halted taken) → h.rows ≡ front ++ r ∷ back → map item_of back ≡ line' → AllByRecursion (λ x. x.item.state ≡ Blank) front → r.item.state ≡ Served code
+    (h : Holds size inward next script a line left halted taken) → h.rows ≡ front ++ r ∷ back → map item_of back ≡ line' → AllByRecursion (λ x. x.item.state ≡ Blank) front → r.item.state ≡ Served code → KnowsGone gone a
     → Holds size inward next script (with_more a [] [] [] (record { result = result_of size gone code r.item; gone = gone } ∷ [])) line' left halted taken
-holds_finished size inward next script a line line' left halted taken front back r code gone h is becomes blank served =
+holds_finished size inward next script a line line' left halted taken front back r code gone h is becomes blank served known =
     holds_leave size inward next script a a' line line' left halted taken (front ++ r ∷ []) back h (is ∙ sym (append_assoc front (r ∷ []) back)) becomes (append-nil a.accepted) (append-nil a.ended)
     (fresh_kept k next a a' (all_parts h.gone h.rows) (all_parts h.gone h.rows) m.below tells refl h.fresh) (parts_kept size k a a' (flat_map parts_of h.gone) tells m.apart.0 h.gone_told)
     (subst (AllByRecursion (GoneTold size a')) (sym (map-append part_of front (r ∷ [])))
@@ -118,13 +118,22 @@ holds_finished size inward next script a line line' left halted taken front back
     none_before : made_of k a.made ≡ []
     none_before = subst (RowToldBy size a r) f.1 m.row.told
 
+    -- its end is in the account
+    gone_still : f.0 ≡ true → gone ≡ true
+    gone_still =
+        let all : AllByRecursion (λ x. x.gone ≡ true → gone ≡ true) (flat_map (λ x. endpoint_of x.n x.fate) (all_parts h.gone front) ++ (endpoint_of k r.fate ++ flat_map (λ x. endpoint_of x.n x.fate) (map part_of back))) =
+        subst (AllByRecursion (λ x. x.gone ≡ true → gone ≡ true))
+        (sym h.ended ∙ (ap (flat_map (λ x. endpoint_of x.n x.fate)) m.parts ∙ flat_map-append (λ x. endpoint_of x.n x.fate) (all_parts h.gone front) (part_of r ∷ map part_of back))) known in
+        (subst (λ t. AllByRecursion (λ x. x.gone ≡ true → gone ≡ true) (endpoint_of k t ++ flat_map (λ x. endpoint_of x.n x.fate) (map part_of back))) f.1
+        (each_behind (λ x. x.gone ≡ true → gone ≡ true) (flat_map (λ x. endpoint_of x.n x.fate) (all_parts h.gone front)) (endpoint_of k r.fate ++ flat_map (λ x. endpoint_of x.n x.fate) (map part_of back)) all)).0
+
     -- the ask is of no matter to an end at the device
     same_result : result_of size gone code r.item ≡ told size gone code None (part_of r)
     same_result = ap (λ s. record (result_of size gone code r.item) { status = s }) (no_ask gone code r.item.ask (is_short_not_ok r.item.request) (length_of r.item.request.body) (count_of (outcome_of size r.item)) f.2)
 
     told_now : GoneTold size a' (part_of r)
     told_now = subst (GoneToldBy size a' (part_of r)) (sym f.1)
-        (gone, filter-append (λ x. x.result.n == k) a.made (made ∷ []) ∙ (ap₂ (λ l n. l ++ n) none_before (rw (same_name k) refl) ∙ ap (λ x. record { result = x; gone = gone } ∷ []) same_result))
+        (gone, gone_still, filter-append (λ x. x.result.n == k) a.made (made ∷ []) ∙ (ap₂ (λ l n. l ++ n) none_before (rw (same_name k) refl) ∙ ap (λ x. record { result = x; gone = gone } ∷ []) same_result))
 
 -- a transfer joins the line
 quiet_push : (rows : List Row) (r : Row) → IsUntouched r → r.item.state ≡ Waiting → IsQuiet rows → IsQuiet (rows ++ r ∷ [])

@@ -1,5 +1,5 @@
 -- The account of an endpoint as it stands: what left its line, and the line.
-use Rattle.std.proofs.Common.{Bool, List, None, Option, Some, [], ap, false, map, refl, true, ℕ, ◌++◌, ◌==◌, ◌||◌, ◌∙◌, ◌∷◌, ◌≡◌, ◌≤◌}
+use Rattle.std.proofs.Common.{Bool, List, None, Option, Some, [], ap, false, map, refl, subst, sym, true, ℕ, ◌++◌, ◌<◌, ◌==◌, ◌||◌, ◌∙◌, ◌∷◌, ◌≡◌, ◌≤◌}
 use Rattle.std.proofs.lemmas.Grind.{flat_map-append}
 use Rattle.std.specs.List.{AllByRecursion, flat_map, list_all}
 use Rattle.usb_model.specs.declared.response.Response.{Response}
@@ -8,8 +8,8 @@ use Rattle.usb_model.specs.declared.item.Ask.{Ask}
 use Rattle.usb_model.specs.declared.item.Item.{Item}
 use Rattle.usb_model.specs.declared.item.ItemState.TheVariants.{Blank, Served, Waiting}
 use Rattle.usb_model.specs.declared.item.ItemState.{ItemState}
-use Rattle.usb_model.specs.Laws.Account.{Account, Asked, new_account}
-use Rattle.usb_model.specs.Laws.Cut.{AllFit, Cell, Cleared, Ended, Fate, Of, Part, Waits, Withdrawn, accepted_as, asks_of, endpoint_of, has_stall, is_of_direction, made_of, packets_taken, parts_of, times, told}
+use Rattle.usb_model.specs.Laws.Account.{Accepted, Account, Asked, Clearing, Transfer, new_account}
+use Rattle.usb_model.specs.Laws.Cut.{AllFit, Cell, Cleared, Ended, Fate, Of, Part, Waits, Withdrawn, accepted_as, asks_of, endpoint_of, has_stall, is_of_direction, made_of, numbers_of, packets_taken, parts_of, times, told}
 use Rattle.usb_lemmas.proofs.Lists.Times.{StandOnce}
 use Rattle.usb_model.specs.Direction.{IsBody}
 
@@ -59,13 +59,13 @@ IsWithdrawnTold size a x ask =
     (later : Bool) × (made_of x.n a.made ≡ record { result = told size false 26 (Some ask) x; gone = later } ∷ []) × (asks_of x.n a.asked ≡ record { n = x.n; ask = ask } ∷ [])
 
 -- the one result of a transfer that ended
-abbrev pub IsEndTold : ℕ → Account → Part → ℕ → Type 0
-IsEndTold size a x code = (later : Bool) × (made_of x.n a.made ≡ record { result = told size later code None x; gone = later } ∷ [])
+abbrev pub IsEndTold : ℕ → Account → Part → ℕ → Bool → Type 0
+IsEndTold size a x code gone = (later : Bool) × (gone ≡ true → later ≡ true) × (made_of x.n a.made ≡ record { result = told size later code None x; gone = later } ∷ [])
 
 -- what is told of what left the line
 abbrev pub GoneToldBy : ℕ → Account → Part → Fate → Type 0
 GoneToldBy size a x Waits = ⊥
-GoneToldBy size a x (Ended code gone) = IsEndTold size a x code
+GoneToldBy size a x (Ended code gone) = IsEndTold size a x code gone
 GoneToldBy size a x (Withdrawn ask) = IsWithdrawnTold size a x ask
 
 -- what is told of a transfer that left the line
@@ -83,6 +83,10 @@ pub record IsRow (size : ℕ) (inward : Bool) (a : Account) (r : Row) : Type 0 w
   pub fate : IsFate r.item.state r.fate
   pub body : IsBody inward r.item.request.body
   pub told : RowToldBy size a r r.fate
+
+-- what ended at a gone device: that is gone still
+abbrev pub KnowsGone : Bool → Account → Type 0
+KnowsGone gone a = AllByRecursion (λ x. x.gone ≡ true → gone ≡ true) a.ended
 
 -- nothing was taken, and nothing ended, behind an item that waits
 abbrev pub IsUntouched : Row → Type 0
@@ -160,3 +164,26 @@ parts_of_cells gone rows = flat_map-append parts_of gone (map cell_of rows) ∙ 
     parts_of_rows : (rs : List Row) → flat_map parts_of (map cell_of rs) ≡ map part_of rs
     parts_of_rows [] = refl
     parts_of_rows (r ∷ rs) = ap (λ l. part_of r ∷ l) (parts_of_rows rs)
+
+-- the numbers of the transfers that were accepted
+abbrev pub accepted_number : Accepted → List ℕ
+accepted_number (Transfer n request round) = n ∷ []
+accepted_number Clearing = []
+
+-- in order
+abbrev pub accepted_numbers : List Accepted → List ℕ
+accepted_numbers xs = flat_map accepted_number xs
+
+-- a transfer of this number was accepted
+abbrev pub IsAccepted : Account → ℕ → Type 0
+IsAccepted a n = 0 < times n (accepted_numbers a.accepted)
+
+-- the numbers of the cells are those accepted
+pub cell_numbers : (cells : List Cell) → accepted_numbers (map accepted_as cells) ≡ numbers_of cells
+cell_numbers [] = refl
+cell_numbers (Of x ∷ cells) = ap (λ l. x.n ∷ l) (cell_numbers cells)
+cell_numbers (Cleared ∷ cells) = cell_numbers cells
+
+-- so what was accepted is among them
+pub accepted_cell : (a : Account) (cells : List Cell) (n : ℕ) → map accepted_as cells ≡ a.accepted → IsAccepted a n → 0 < times n (numbers_of cells)
+accepted_cell a cells n all lt = subst (λ l. 0 < times n l) (ap accepted_numbers (sym all) ∙ cell_numbers cells) lt

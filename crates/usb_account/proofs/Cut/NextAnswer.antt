@@ -1,17 +1,18 @@
 -- What the next answer of a device makes of a transfer that waits.
-use Rattle.std.proofs.Common.{Bool, List, None, Some, [], ap, append-nil, arith, drop, false, length, refl, sym, take, true, ℕ, ◌++◌, ◌<◌, ◌==◌, ◌∙◌, ◌∷◌, ◌≡◌, ◌≤◌}
+use Rattle.std.proofs.Common.{Bool, List, None, Some, [], ap, append-nil, arith, drop, false, inl, inr, length, not, refl, sym, take, true, ℕ, ◌++◌, ◌==◌, ◌∙◌, ◌∷◌, ◌≡◌, ◌≤◌}
 use Rattle.std.specs.Prelude.{MatchBool, if◌then◌else◌, unwrap_or}
 use Rattle.std.proofs.lemmas.Bool.{and_parts}
 use Rattle.std.specs.List.{list_all}
 use Rattle.usb_model.specs.declared.response.Response.TheVariants.{Ack, Broken, Data, Nak, Stall}
 use Rattle.usb_model.specs.declared.response.Response.{Response}
 use Rattle.usb_model.specs.declared.request.Request.{Request}
-use Rattle.usb_model.specs.Laws.Cut.{has_stall, is_of_direction}
+use Rattle.usb_model.specs.Laws.Cut.{HasSize, has_stall, is_empty_packet, is_of_direction}
 use Rattle.usb_model.specs.declared.outcome.Outcome.{Outcome}
 use Rattle.usb_model.specs.Endpoint.Packets.{Ends, IsOpenAt, ended_with, open_with, outcome}
 use Rattle.usb_model.specs.Endpoint.Serve.{acknowledged, is_no_packet, next_answer, serve, serve_by, serve_first, serve_gone}
 use Rattle.usb_lemmas.proofs.Shares.Cuts.{ends_now}
-use Rattle.usb_lemmas.proofs.Shares.Next.{IsNext, next_same, next_there}
+use Rattle.usb_lemmas.proofs.Shares.Next.{IsNext, next_same, next_there_sized}
+use Rattle.usb_lemmas.proofs.Shares.More.{IsSized, sized_all}
 use Rattle.usb_model.specs.Direction.{IsBody}
 use Rattle.usb_lemmas.proofs.Shares.OpenShares.{open_at, open_if, halted_outcome}
 use Rattle.std.proofs.lemmas.Option.{same_Some}
@@ -71,8 +72,22 @@ after_next size request share next o p short was op is n = record {
       ∙ (n.grows ∙ sym (ap (λ r. (unwrap_or r (open_with [])).packets ++ drop (length (unwrap_or r (open_with [])).packets) p.packets) was));
 }
 
+-- an answer that is no empty packet may come at any size
+no_empty_sized : (size : ℕ) (y : Response) → not (is_empty_packet y) ≡ true → IsSized size y
+no_empty_sized size (Data []) e = absurd cc
+no_empty_sized size (Data (b ∷ bs)) e = omega arith
+no_empty_sized size Nak e = tt
+no_empty_sized size Ack e = tt
+no_empty_sized size Stall e = tt
+no_empty_sized size Broken e = tt
+
+-- so the first of these may
+first_sized : (size : ℕ) (y : Response) (ys : List Response) → HasSize size (y ∷ ys) → IsSized size y
+first_sized size y ys (inl some) = sized_all size y some
+first_sized size y ys (inr none) = no_empty_sized size y (and_parts (not (is_empty_packet y)) (list_all (λ x. not (is_empty_packet x)) ys) none).0
+
 -- one more answer to an open share: what it makes of its transfer
-pub after_serve : (size : ℕ) (inward halted : Bool) (left : List Response) (request : Request) (share : List Response) → 0 < size → IsBody inward request.body → list_all (is_of_direction inward) left ≡ true
+pub after_serve : (size : ℕ) (inward halted : Bool) (left : List Response) (request : Request) (share : List Response) → HasSize size left → IsBody inward request.body → list_all (is_of_direction inward) left ≡ true
     → MatchBool halted (share ≡ []) (IsOpenAt (outcome request size share false)) → AfterServe size halted request share (next_by halted left)
 after_serve size inward true left request share some body kinds none = record {
   result = ended_with [] 6;
@@ -90,5 +105,5 @@ after_serve size inward false [] request share some body kinds op =
     after_next size request share [] o.0 o.0 (omega arith) o.1 o.2 (ap (λ l. outcome request size l false) (append-nil share) ∙ o.1) (next_same o.0 o.2)
 after_serve size inward false (y ∷ ys) request share some body kinds op =
     let o = open_at (outcome request size share false) op in
-    let r = next_there inward request size share y o.0 some body (and_parts (is_of_direction inward y) (list_all (is_of_direction inward) ys) kinds).0 o.1 o.2 in
+    let r = next_there_sized inward request size share y o.0 (first_sized size y ys some) body (and_parts (is_of_direction inward y) (list_all (is_of_direction inward) ys) kinds).0 o.1 o.2 in
     after_next size request share (y ∷ []) o.0 r.0 (omega arith) o.1 o.2 r.1 r.2

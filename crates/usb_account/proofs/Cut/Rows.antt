@@ -98,7 +98,7 @@ tells_same k a accepted asked ended made qs ms = record {
 -- so what is told of another number stays
 gone_told_kept : (size k : ℕ) (a a' : Account) (x : Part) → TellsSame k a a' → (x.n ≡ k → ⊥) → (f : Fate) → GoneToldBy size a x f → GoneToldBy size a' x f
 gone_told_kept size k a a' x s differ Waits t = t
-gone_told_kept size k a a' x s differ (Ended code gone) t = (t.0, s.made x.n differ ∙ t.1)
+gone_told_kept size k a a' x s differ (Ended code gone) t = (t.0, t.1, s.made x.n differ ∙ t.2)
 gone_told_kept size k a a' x s differ (Withdrawn ask) t = (t.0, s.made x.n differ ∙ t.1, s.asked x.n differ ∙ t.2)
 
 -- a row of another number is told as before

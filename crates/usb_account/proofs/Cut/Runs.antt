@@ -1,5 +1,5 @@
 -- The cut law, at each endpoint, over every list of steps.
-use Rattle.std.proofs.Common.{Bool, List, None, Option, Some, [], ap, arith, false, inl, inr, refl, subst, subst₂, sym, true, ℕ, ◌&&◌, ◌<◌, ◌==◌, ◌∙◌, ◌∷◌, ◌≡◌, ◌≤◌}
+use Rattle.std.proofs.Common.{Bool, List, None, Option, Some, [], ap, arith, false, inl, inr, refl, subst, subst₂, sym, true, ℕ, ◌&&◌, ◌==◌, ◌∙◌, ◌∷◌, ◌≡◌, ◌≤◌}
 use Rattle.std.specs.Prelude.{if◌then◌else◌, option_and_then}
 use Rattle.std.proofs.lemmas.Bool.{and_parts, cond-false, cond-true, eqb-true}
 use Rattle.std.specs.List.{list_all}
@@ -10,7 +10,7 @@ use Rattle.usb_model.specs.declared.step.Step.TheVariants.{Unplug}
 use Rattle.usb_model.specs.declared.step.Step.{Step}
 use Rattle.usb_model.specs.Laws.Account.{Account, account, account_by, account_from, account_of, added, new_account}
 use Rattle.usb_model.specs.Machine.Calls.{without}
-use Rattle.usb_model.specs.Laws.Cut.{CutsAt, is_of_direction}
+use Rattle.usb_model.specs.Laws.Cut.{CutsAt, HasSize, is_of_direction}
 use Rattle.usb_model.specs.declared.endpoint_effect.EndpointEffect.{EndpointEffect}
 use Rattle.usb_model.specs.Endpoint.{fresh}
 use Rattle.usb_model.specs.World.Journal.{own}
@@ -18,8 +18,10 @@ use Rattle.usb_model.specs.declared.effect.Effect.{Effect}
 use Rattle.usb_model.specs.declared.effect.Change.{Change}
 use Rattle.usb_model.specs.declared.effect.Change.TheVariants.{Drops, Frees, Gains, Keeps, Renews, Sets}
 use Rattle.usb_model.specs.Machine.{Machine, device_of, at_endpoint, endpoint_at, unused}
+use Rattle.usb_model.specs.Machine.Turns.{gone_after}
 use Rattle.usb_model.specs.Setup.{Setup, interface_of, is_in, is_within, script_of, packet_size_of}
 use Rattle.usb_model.specs.World.{Claims, World, all_ends_after, claims_after, holder, is_blocked, is_its, machine_of, new_world, owner_of, turn, turn_by, turn_of, turn_of_nobody, world_after, world_from}
+use Rattle.usb_account.proofs.Cut.Known.{IsKnown, gone_rises, known_later, known_new, known_work}
 use Rattle.usb_account.proofs.Cut.Steps.{rest_sets, work_holds, work_next}
 use Rattle.usb_account.proofs.Machines.Deeds.{IsDone, IsWork, only_rests, works}
 use Rattle.usb_model.specs.Fitness.{IsWell}
@@ -40,17 +42,19 @@ pub record HoldsIn (setup : Setup) (w : World) (d e : ℕ) (a : Account) : Type 
   pub next_number : ℕ
   pub holds : HoldsAt (packet_size_of setup d e) (is_in e) next_number (script_of setup d e) a (w.endpoints d e)
   pub below : (h : ℕ) → is_its h (holder setup w.claims d e) ≡ true → next_number ≤ (w.names h).next_number
+  pub known : IsKnown (w.gone d) a
 
--- after a change of a name: the endpoint, the account, and who holds it
-record HoldsBy (setup : Setup) (names : ℕ → Handle) (claims : Claims) (d e : ℕ) (a : Account) (end : Endpoint) : Type 0 where
+-- after a change of a name: the endpoint, the account, and who holds it; gone: whether the device is
+record HoldsBy (setup : Setup) (gone : Bool) (names : ℕ → Handle) (claims : Claims) (d e : ℕ) (a : Account) (end : Endpoint) : Type 0 where
   next_number : ℕ
   holds : HoldsAt (packet_size_of setup d e) (is_in e) next_number (script_of setup d e) a end
   below : (h : ℕ) → is_its h (holder setup claims d e) ≡ true → next_number ≤ (names h).next_number
+  known : IsKnown gone a
 
 -- a fresh endpoint holds, by a new account
-holds_fresh : (setup : Setup) (names : ℕ → Handle) (claims : Claims) (d e : ℕ) → list_all (is_of_direction (is_in e)) (script_of setup d e) ≡ true → HoldsBy setup names claims d e new_account (fresh setup d e)
+holds_fresh : (setup : Setup) (gone : Bool) (names : ℕ → Handle) (claims : Claims) (d e : ℕ) → list_all (is_of_direction (is_in e)) (script_of setup d e) ≡ true → HoldsBy setup gone names claims d e new_account (fresh setup d e)
 unfolding fresh
-holds_fresh setup names claims d e k = record { next_number = 0; holds = holds_new (packet_size_of setup d e) (is_in e) 0 (script_of setup d e) k; below = λ h its. omega arith }
+holds_fresh setup gone names claims d e k = record { next_number = 0; holds = holds_new (packet_size_of setup d e) (is_in e) 0 (script_of setup d e) k; below = λ h its. omega arith; known = known_new gone }
 
 -- numbers go on
 names_rise : (h : ℕ) (names : ℕ → Handle) (handle : Handle) → (names h).next_number ≤ handle.next_number → (g : ℕ) → (names g).next_number ≤ (if h == g then handle else names g).next_number
@@ -84,31 +88,33 @@ gained_elsewhere setup h claims dev k d e g = by_interface (interface_of setup d
         rw other at q
 
 -- an endpoint that is new or as it was holds
-either_holds : (setup : Setup) (names : ℕ → Handle) (claims : Claims) (d e : ℕ) (a : Account) (x : Endpoint) (b : Bool) → list_all (is_of_direction (is_in e)) (script_of setup d e) ≡ true → (b ≡ false → HoldsBy setup names claims d e a x)
-    → HoldsBy setup names claims d e (if b then new_account else a) (if b then fresh setup d e else x)
-either_holds setup names claims d e a x true k later = holds_fresh setup names claims d e k
-either_holds setup names claims d e a x false k later = later refl
+either_holds : (setup : Setup) (gone : Bool) (names : ℕ → Handle) (claims : Claims) (d e : ℕ) (a : Account) (x : Endpoint) (b : Bool) → list_all (is_of_direction (is_in e)) (script_of setup d e) ≡ true → (b ≡ false → HoldsBy setup gone names claims d e a x)
+    → HoldsBy setup gone names claims d e (if b then new_account else a) (if b then fresh setup d e else x)
+either_holds setup gone names claims d e a x true k later = holds_fresh setup gone names claims d e k
+either_holds setup gone names claims d e a x false k later = later refl
 
 -- a change that sets no endpoint keeps what each endpoint holds
 change_holds : (setup : Setup) (d e h : ℕ) (w : World) (names : ℕ → Handle) (step : Step) (done : Effect) (change : Change) (a : Account) → list_all (is_of_direction (is_in e)) (script_of setup d e) ≡ true → ((g : ℕ) → (w.names g).next_number ≤ (names g).next_number)
     → SetsNone change → HoldsIn setup w d e a
-    → HoldsBy setup names (λ x i. claims_after h w.claims change x i) d e (account_by setup d e h w step done change a) (all_ends_after setup h w.claims w.endpoints change d e)
-change_holds setup d e h w names step done Keeps a k rise s t = record { next_number = t.next_number; holds = t.holds; below = λ g its. omega (arith, t.below g its, rise g) }
+    → HoldsBy setup (w.gone d) names (λ x i. claims_after h w.claims change x i) d e (account_by setup d e h w step done change a) (all_ends_after setup h w.claims w.endpoints change d e)
+change_holds setup d e h w names step done Keeps a k rise s t = record { next_number = t.next_number; holds = t.holds; below = λ g its. omega (arith, t.below g its, rise g); known = t.known }
 change_holds setup d e h w names step done Frees a k rise s t = record {
   next_number = t.next_number;
   holds = t.holds;
   below = λ g its. omega (arith, t.below g (fewer_hold setup w.claims (claims_after h w.claims Frees) d e g (λ i q. freed_before (is_its h (w.claims d i)) g (w.claims d i) q) its), rise g);
+  known = t.known;
 }
 change_holds setup d e h w names step done (Gains dev i) a k rise s t =
-    either_holds setup names _ d e a (w.endpoints d e) (is_within setup dev i d e) k
-    (λ without. record { next_number = t.next_number; holds = t.holds; below = λ g its. omega (arith, t.below g (gained_elsewhere setup h w.claims dev i d e g without its), rise g) })
+    either_holds setup (w.gone d) names _ d e a (w.endpoints d e) (is_within setup dev i d e) k
+    (λ without. record { next_number = t.next_number; holds = t.holds; below = λ g its. omega (arith, t.below g (gained_elsewhere setup h w.claims dev i d e g without its), rise g); known = t.known })
 change_holds setup d e h w names step done (Drops dev i) a k rise s t = record {
   next_number = t.next_number;
   holds = t.holds;
   below = λ g its. omega (arith, t.below g (fewer_hold setup w.claims (claims_after h w.claims (Drops dev i)) d e g (λ j q. freed_before (((dev == d) && (i == j)) && is_its h (w.claims d j)) g (w.claims d j) q) its), rise g);
+  known = t.known;
 }
 change_holds setup d e h w names step done (Renews dev) a k rise s t =
-    either_holds setup names _ d e a (w.endpoints d e) (is_its h (holder setup w.claims d e)) k (λ other. record { next_number = t.next_number; holds = t.holds; below = λ g its. omega (arith, t.below g its, rise g) })
+    either_holds setup (w.gone d) names _ d e a (w.endpoints d e) (is_its h (holder setup w.claims d e)) k (λ other. record { next_number = t.next_number; holds = t.holds; below = λ g its. omega (arith, t.below g its, rise g); known = t.known })
 change_holds setup d e h w names step done (Sets dev ep x) a k rise s t = absurd s
 
 -- the name and the endpoints of a handle's machine are the world's
@@ -122,7 +128,7 @@ unfolding machine_of
 its_end setup h w d e x its is = same_Some x (w.endpoints d e) (sym is ∙ rw its refl)
 
 -- the endpoint at which the work is done
-set_holds : (setup : Setup) (h : ℕ) (w : World) (ep : ℕ) (e0 : Endpoint) (step : Step) (handle : Handle) (work : EndpointEffect) (a : Account) → 0 < packet_size_of setup (device_of (machine_of setup h w)) ep → IsWell setup (machine_of setup h w)
+set_holds : (setup : Setup) (h : ℕ) (w : World) (ep : ℕ) (e0 : Endpoint) (step : Step) (handle : Handle) (work : EndpointEffect) (a : Account) → HasSize (packet_size_of setup (device_of (machine_of setup h w)) ep) (script_of setup (device_of (machine_of setup h w)) ep) → IsWell setup (machine_of setup h w)
     → endpoint_at (machine_of setup h w) ep ≡ Some e0 → IsWork setup (machine_of setup h w) ep e0 step handle work → is_its h (holder setup w.claims (device_of (machine_of setup h w)) ep) ≡ true → HoldsIn setup w (device_of (machine_of setup h w)) ep a
     → HoldsAt (packet_size_of setup (device_of (machine_of setup h w)) ep) (is_in ep) handle.next_number (script_of setup (device_of (machine_of setup h w)) ep)
     (added (w.gone (device_of (machine_of setup h w))) (w.names h) step (at_endpoint handle (device_of (machine_of setup h w)) ep work) a) work.endpoint
@@ -133,7 +139,20 @@ set_holds setup h w ep e0 step handle work a some well here is its t =
     let same : e0 ≡ w.endpoints (device_of m) ep = its_end setup h w (device_of m) ep e0 its at.0 in
     let held : HoldsAt (packet_size_of setup (device_of m) ep) (is_in ep) (w.names h).next_number (script_of setup (device_of m) ep) a e0 =
     subst (HoldsAt (packet_size_of setup (device_of m) ep) (is_in ep) (w.names h).next_number (script_of setup (device_of m) ep) a) (sym same) (holds_later _ _ t.next_number (w.names h).next_number _ a _ _ _ _ (t.below h its) t.holds) in
-    work_holds setup m ep (script_of setup (device_of m) ep) a e0 step handle work some well here is held
+    work_holds setup m ep (script_of setup (device_of m) ep) a e0 step handle work some well here is t.known.ends held
+
+-- and its account
+set_known : (setup : Setup) (h : ℕ) (w : World) (ep : ℕ) (e0 : Endpoint) (step : Step) (handle : Handle) (work : EndpointEffect) (a : Account) → IsWell setup (machine_of setup h w)
+    → endpoint_at (machine_of setup h w) ep ≡ Some e0 → IsWork setup (machine_of setup h w) ep e0 step handle work → is_its h (holder setup w.claims (device_of (machine_of setup h w)) ep) ≡ true → HoldsIn setup w (device_of (machine_of setup h w)) ep a
+    → IsKnown (w.gone (device_of (machine_of setup h w))) (added (w.gone (device_of (machine_of setup h w))) (w.names h) step (at_endpoint handle (device_of (machine_of setup h w)) ep work) a)
+unfolding at_endpoint machine_of
+set_known setup h w ep e0 step handle work a well here is its t =
+    let m : Machine = machine_of setup h w in
+    let at = at_device_of m ep e0 here in
+    let same : e0 ≡ w.endpoints (device_of m) ep = its_end setup h w (device_of m) ep e0 its at.0 in
+    let held : HoldsAt (packet_size_of setup (device_of m) ep) (is_in ep) (w.names h).next_number (script_of setup (device_of m) ep) a e0 =
+    subst (HoldsAt (packet_size_of setup (device_of m) ep) (is_in ep) (w.names h).next_number (script_of setup (device_of m) ep) a) (sym same) (holds_later _ _ t.next_number (w.names h).next_number _ a _ _ _ _ (t.below h its) t.holds) in
+    known_work setup m (packet_size_of setup (device_of m) ep) (is_in ep) (script_of setup (device_of m) ep) ep a e0 step handle work well here is held t.known
 
 -- two names that hold one endpoint are one
 one_holder : (g h : ℕ) (o : Option ℕ) → is_its g o ≡ true → is_its h o ≡ true → h ≡ g
@@ -149,9 +168,9 @@ new_handle : (h : ℕ) (names : ℕ → Handle) (handle : Handle) → (names_aft
 new_handle h names handle = rw (same_name h) refl
 
 -- work at an endpoint keeps what each endpoint holds
-works_hold : (setup : Setup) (d e h : ℕ) (w : World) (ep : ℕ) (e0 : Endpoint) (step : Step) (handle : Handle) (work : EndpointEffect) (a : Account) → 0 < packet_size_of setup d e → IsWell setup (machine_of setup h w) → endpoint_at (machine_of setup h w) ep ≡ Some e0
+works_hold : (setup : Setup) (d e h : ℕ) (w : World) (ep : ℕ) (e0 : Endpoint) (step : Step) (handle : Handle) (work : EndpointEffect) (a : Account) → HasSize (packet_size_of setup d e) (script_of setup d e) → IsWell setup (machine_of setup h w) → endpoint_at (machine_of setup h w) ep ≡ Some e0
     → IsWork setup (machine_of setup h w) ep e0 step handle work → HoldsIn setup w d e a
-    → HoldsBy setup (names_after h w.names handle) w.claims d e (account_by setup d e h w step (at_endpoint handle (device_of (machine_of setup h w)) ep work) (Sets (device_of (machine_of setup h w)) ep work.endpoint) a)
+    → HoldsBy setup (w.gone d) (names_after h w.names handle) w.claims d e (account_by setup d e h w step (at_endpoint handle (device_of (machine_of setup h w)) ep work) (Sets (device_of (machine_of setup h w)) ep work.endpoint) a)
     (all_ends_after setup h w.claims w.endpoints (Sets (device_of (machine_of setup h w)) ep work.endpoint) d e)
 works_hold setup d e h w ep e0 step handle work a some well here is t = by_test (((dev == d) && (ep == e)) && is_its h (holder setup w.claims d e)) refl
   where
@@ -164,27 +183,29 @@ works_hold setup d e h w ep e0 step handle work a some well here is t = by_test 
     rise : (g : ℕ) → (w.names g).next_number ≤ (names_after h w.names handle g).next_number
     rise = names_rise h w.names handle (subst (λ x. x.next_number ≤ handle.next_number) (handle_is setup h w) (work_next setup (machine_of setup h w) ep e0 step handle work is))
 
-    here_it_is : dev ≡ d → ep ≡ e → is_its h (holder setup w.claims d e) ≡ true → HoldsBy setup (names_after h w.names handle) w.claims d e (added (w.gone d) (w.names h) step done a) work.endpoint
+    here_it_is : dev ≡ d → ep ≡ e → is_its h (holder setup w.claims d e) ≡ true → HoldsBy setup (w.gone d) (names_after h w.names handle) w.claims d e (added (w.gone d) (w.names h) step done a) work.endpoint
     here_it_is p q its = record {
       next_number = handle.next_number;
       holds = subst₂ (λ x y. HoldsAt (packet_size_of setup x y) (is_in y) handle.next_number (script_of setup x y) (added (w.gone x) (w.names h) step done a) work.endpoint) p q
-          (set_holds setup h w ep e0 step handle work a (subst₂ (λ x y. 0 < packet_size_of setup x y) (sym p) (sym q) some) well here is (subst₂ (λ x y. is_its h (holder setup w.claims x y) ≡ true) (sym p) (sym q) its)
+          (set_holds setup h w ep e0 step handle work a (subst₂ (λ x y. HasSize (packet_size_of setup x y) (script_of setup x y)) (sym p) (sym q) some) well here is (subst₂ (λ x y. is_its h (holder setup w.claims x y) ≡ true) (sym p) (sym q) its)
           (subst₂ (λ x y. HoldsIn setup w x y a) (sym p) (sym q) t));
       below = λ g held. subst (λ k. handle.next_number ≤ (names_after h w.names handle k).next_number) (one_holder g h (holder setup w.claims d e) held its) (omega (arith, new_handle h w.names handle));
+      known = subst₂ (λ x y. IsKnown (w.gone x) (added (w.gone x) (w.names h) step done a)) p q
+          (set_known setup h w ep e0 step handle work a well here is (subst₂ (λ x y. is_its h (holder setup w.claims x y) ≡ true) (sym p) (sym q) its) (subst₂ (λ x y. HoldsIn setup w x y a) (sym p) (sym q) t));
     }
 
     by_test : (b : Bool) → (((dev == d) && (ep == e)) && is_its h (holder setup w.claims d e)) ≡ b
-        → HoldsBy setup (names_after h w.names handle) w.claims d e (if b then added (w.gone d) (w.names h) step done a else a) (if b then work.endpoint else w.endpoints d e)
+        → HoldsBy setup (w.gone d) (names_after h w.names handle) w.claims d e (if b then added (w.gone d) (w.names h) step done a else a) (if b then work.endpoint else w.endpoints d e)
     by_test true q =
         let p = and_parts ((dev == d) && (ep == e)) (is_its h (holder setup w.claims d e)) q in
         let at = places_equal dev ep d e p.0 in
         here_it_is at.0 at.1 p.1
-    by_test false q = record { next_number = t.next_number; holds = t.holds; below = λ g its. omega (arith, t.below g its, rise g) }
+    by_test false q = record { next_number = t.next_number; holds = t.holds; below = λ g its. omega (arith, t.below g its, rise g); known = t.known }
 
 -- after a step of the owner that nobody is in the way of
-done_holds : (setup : Setup) (d e h : ℕ) (w : World) (step : Step) (done : Effect) (a : Account) → 0 < packet_size_of setup d e → list_all (is_of_direction (is_in e)) (script_of setup d e) ≡ true → IsWell setup (machine_of setup h w)
+done_holds : (setup : Setup) (d e h : ℕ) (w : World) (step : Step) (done : Effect) (a : Account) → HasSize (packet_size_of setup d e) (script_of setup d e) → list_all (is_of_direction (is_in e)) (script_of setup d e) ≡ true → IsWell setup (machine_of setup h w)
     → IsDone setup h (machine_of setup h w) step done → HoldsIn setup w d e a
-    → HoldsBy setup (names_after h w.names done.handle) (λ x i. claims_after h w.claims done.change x i) d e (account_by setup d e h w step done done.change a) (all_ends_after setup h w.claims w.endpoints done.change d e)
+    → HoldsBy setup (w.gone d) (names_after h w.names done.handle) (λ x i. claims_after h w.claims done.change x i) d e (account_by setup d e h w step done done.change a) (all_ends_after setup h w.claims w.endpoints done.change d e)
 unfolding at_endpoint
 done_holds setup d e h w step done a some k well (works {handle = handle} {d = work} ep e0 here is) t = works_hold setup d e h w ep e0 step handle work a some well here is t
 done_holds setup d e h w step done a some k well (only_rests rest) t =
@@ -193,12 +214,12 @@ done_holds setup d e h w step done a some k well (only_rests rest) t =
     (names_rise h w.names done.handle (omega (arith, r.1, ap (λ x. x.next_number) (handle_is setup h w)))) r.0 t
 
 -- a step keeps what each endpoint holds
-world_holds : (setup : Setup) (d e h : ℕ) (w : World) (step : Step) (done : Effect) (a : Account) → 0 < packet_size_of setup d e → list_all (is_of_direction (is_in e)) (script_of setup d e) ≡ true → IsWell setup (machine_of setup h w)
+world_holds : (setup : Setup) (d e h : ℕ) (w : World) (step : Step) (done : Effect) (a : Account) → HasSize (packet_size_of setup d e) (script_of setup d e) → list_all (is_of_direction (is_in e)) (script_of setup d e) ≡ true → IsWell setup (machine_of setup h w)
     → IsDone setup h (machine_of setup h w) step done → HoldsIn setup w d e a → HoldsIn setup (world_after setup h w step done) d e (account_by setup d e h w step done done.change a)
 unfolding world_after
 world_holds setup d e h w step done a some k well is t =
     let r = done_holds setup d e h w step done a some k well is t in
-    record { next_number = r.next_number; holds = r.holds; below = r.below }
+    record { next_number = r.next_number; holds = r.holds; below = r.below; known = known_later (w.gone d) (gone_after setup w.gone step d) (account_by setup d e h w step done done.change a) (gone_rises setup w.gone step d) r.known }
 
 -- each machine stays well over a turn
 abbrev IsWellAll : Setup → World → Type 0
@@ -224,7 +245,7 @@ unfolding account_of
 account_free setup d e g w step a q = cond-false (is_blocked setup g w (effect_to setup g w step).change) _ _ q
 
 -- a turn of a name keeps what each endpoint holds
-holds_owned : (setup : Setup) (d e : ℕ) (w : World) (step : Step) (a : Account) (g : ℕ) → 0 < packet_size_of setup d e → list_all (is_of_direction (is_in e)) (script_of setup d e) ≡ true → IsWell setup (machine_of setup g w) → HoldsIn setup w d e a
+holds_owned : (setup : Setup) (d e : ℕ) (w : World) (step : Step) (a : Account) (g : ℕ) → HasSize (packet_size_of setup d e) (script_of setup d e) → list_all (is_of_direction (is_in e)) (script_of setup d e) ≡ true → IsWell setup (machine_of setup g w) → HoldsIn setup w d e a
     → (b : Bool) → is_blocked setup g w (effect_to setup g w step).change ≡ b → HoldsIn setup (turn_of setup g w step).world d e (account_of setup d e w step (Some g) a)
 holds_owned setup d e w step a g some k well t true q =
     subst (λ u. HoldsIn setup u.world d e (account_of setup d e w step (Some g) a)) (sym (turn_blocked setup g w step q))
@@ -237,24 +258,24 @@ holds_owned setup d e w step a g some k well t false q =
 -- nobody's step is nothing to an endpoint
 holds_nobody : (setup : Setup) (d e : ℕ) (w : World) (step : Step) (a : Account) → HoldsIn setup w d e a → HoldsIn setup (turn_of_nobody setup w step).world d e a
 unfolding turn_of_nobody
-holds_nobody setup d e w (Unplug dev) a t = record { next_number = t.next_number; holds = t.holds; below = t.below }
+holds_nobody setup d e w (Unplug dev) a t = record { next_number = t.next_number; holds = t.holds; below = t.below; known = known_later (w.gone d) (gone_after setup w.gone (Unplug dev) d) a (gone_rises setup w.gone (Unplug dev) d) t.known }
 holds_nobody setup d e w _ a t = t
 
 -- a turn of any owner, or of none, keeps what each endpoint holds
-holds_owner : (setup : Setup) (d e : ℕ) (w : World) (step : Step) (a : Account) (o : Option ℕ) → 0 < packet_size_of setup d e → list_all (is_of_direction (is_in e)) (script_of setup d e) ≡ true → IsWellAll setup w → HoldsIn setup w d e a
+holds_owner : (setup : Setup) (d e : ℕ) (w : World) (step : Step) (a : Account) (o : Option ℕ) → HasSize (packet_size_of setup d e) (script_of setup d e) → list_all (is_of_direction (is_in e)) (script_of setup d e) ≡ true → IsWellAll setup w → HoldsIn setup w d e a
     → HoldsIn setup (turn_by setup o w step).world d e (account_of setup d e w step o a)
 unfolding account_of
 holds_owner setup d e w step a None some k well t = holds_nobody setup d e w step a t
 holds_owner setup d e w step a (Some g) some k well t = holds_owned setup d e w step a g some k (well g) t (is_blocked setup g w (effect_to setup g w step).change) refl
 
 -- a turn keeps what each endpoint holds
-holds_turn : (setup : Setup) (d e : ℕ) (w : World) (step : Step) (a : Account) → 0 < packet_size_of setup d e → list_all (is_of_direction (is_in e)) (script_of setup d e) ≡ true → IsWellAll setup w → HoldsIn setup w d e a
+holds_turn : (setup : Setup) (d e : ℕ) (w : World) (step : Step) (a : Account) → HasSize (packet_size_of setup d e) (script_of setup d e) → list_all (is_of_direction (is_in e)) (script_of setup d e) ≡ true → IsWellAll setup w → HoldsIn setup w d e a
     → HoldsIn setup (turn setup w step).world d e (account_of setup d e w step (owner_of setup w step) a)
 unfolding turn
 holds_turn setup d e w step a some k well t = holds_owner setup d e w step a (owner_of setup w step) some k well t
 
 -- a run keeps what each endpoint holds
-holds_run : (setup : Setup) (d e : ℕ) (w : World) (a : Account) (steps : List Step) → 0 < packet_size_of setup d e → list_all (is_of_direction (is_in e)) (script_of setup d e) ≡ true → IsWellAll setup w → HoldsIn setup w d e a
+holds_run : (setup : Setup) (d e : ℕ) (w : World) (a : Account) (steps : List Step) → HasSize (packet_size_of setup d e) (script_of setup d e) → list_all (is_of_direction (is_in e)) (script_of setup d e) ≡ true → IsWellAll setup w → HoldsIn setup w d e a
     → HoldsIn setup (world_from setup w steps) d e (account_from setup d e w a steps)
 unfolding account_from world_from
 holds_run setup d e w a [] some k well t = t
@@ -268,11 +289,11 @@ well_start setup h = subst (IsWell setup) (sym (new_machine_of setup h)) (well_n
 -- each endpoint holds at the start
 holds_start : (setup : Setup) (d e : ℕ) → list_all (is_of_direction (is_in e)) (script_of setup d e) ≡ true → HoldsIn setup (new_world setup) d e new_account
 unfolding new_world
-holds_start setup d e k = let r = holds_fresh setup (λ h. unused) (λ x i. None) d e k in record { next_number = r.next_number; holds = r.holds; below = r.below }
+holds_start setup d e k = let r = holds_fresh setup false (λ h. unused) (λ x i. None) d e k in record { next_number = r.next_number; holds = r.holds; below = r.below; known = r.known }
 
 -- the transfers of an endpoint moved a cut of its device's answers
 pub cuts_at : (setup : Setup) (steps : List Step) (d e : ℕ) → CutsAt setup steps d e
 unfolding account
 cuts_at setup steps d e some k =
     let t = holds_run setup d e (new_world setup) new_account steps some k (well_start setup) (holds_start setup d e k) in
-    cut_if_holds (packet_size_of setup d e) (is_in e) t.next_number (script_of setup d e) (account_from setup d e (new_world setup) new_account steps) ((world_from setup (new_world setup) steps).endpoints d e) t.holds
+    cut_if_holds (packet_size_of setup d e) (is_in e) t.next_number (script_of setup d e) (account_from setup d e (new_world setup) new_account steps) ((world_from setup (new_world setup) steps).endpoints d e) t.holds t.known.results t.known.asks

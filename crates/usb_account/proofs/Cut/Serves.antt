@@ -1,6 +1,7 @@
 -- A packet that is served keeps the ledger of its endpoint.
-use Rattle.std.proofs.Common.{Bool, List, None, Option, Some, [], ap, append-nil, ap₂, drop, false, length, map, refl, subst, sym, true, ℕ, ◌++◌, ◌<◌, ◌||◌, ◌∙◌, ◌∷◌, ◌≡◌}
-use Rattle.std.specs.List.{AllByRecursion}
+use Rattle.std.proofs.Common.{Bool, List, None, Option, Some, [], ap, append-nil, ap₂, drop, false, inl, inr, length, map, not, refl, subst, sym, true, ℕ, ◌++◌, ◌||◌, ◌∙◌, ◌∷◌, ◌≡◌}
+use Rattle.std.proofs.lemmas.Bool.{and_parts}
+use Rattle.std.specs.List.{AllByRecursion, flat_map, list_all}
 use Rattle.std.specs.Prelude.{MatchBool, if◌then◌else◌, unwrap_or}
 use Rattle.std.proofs.lemmas.List.{map-append}
 use Rattle.usb_model.specs.declared.response.Response.{Response}
@@ -14,12 +15,12 @@ use Rattle.usb_model.specs.declared.reply.Reply.{Reply}
 use Rattle.usb_model.specs.declared.request.Body.TheVariants.{In, Out}
 use Rattle.usb_model.specs.declared.request.Body.{Body}
 use Rattle.usb_model.specs.Laws.Account.{Accepted, Account, Asked, ended_by}
-use Rattle.usb_model.specs.Laws.Cut.{Ended, Fate, FitsFate, IsOpen, Waits, has_stall, packets_taken, packets_taken_by}
+use Rattle.usb_model.specs.Laws.Cut.{Ended, Fate, FitsFate, HasSize, IsOpen, Waits, has_stall, is_empty_packet, packets_taken, packets_taken_by}
 use Rattle.usb_model.specs.declared.endpoint_effect.EndpointEffect.{EndpointEffect}
 use Rattle.usb_model.specs.Endpoint.{first_waiting, is_blank_state, is_waiting, is_waiting_state, outcome_of, with_first}
 use Rattle.usb_model.specs.Endpoint.Packets.{Ends, IsOpenAt, open_with, outcome}
 use Rattle.usb_model.specs.Endpoint.Serve.{acknowledged, is_no_packet, next_answer, serve, serve_by, serve_first, serve_gone}
-use Rattle.usb_account.proofs.Cut.Ledger.{Holds, HoldsAt, IsFate, IsQuiet, IsUntouched, Row, RowToldBy, all_cells, cell_of, item_of, part_of, quiet_by, stalled}
+use Rattle.usb_account.proofs.Cut.Ledger.{Holds, HoldsAt, IsFate, IsQuiet, IsUntouched, Row, RowToldBy, all_cells, all_parts, cell_of, item_of, part_of, quiet_by, stalled}
 use Rattle.usb_account.proofs.Cut.Leaves.{no_more}
 use Rattle.usb_account.proofs.Cut.Rows.{mid_of, stalled-append, with_more, with_row}
 use Rattle.usb_account.proofs.Cut.Works.{holds_served, quiet_behind, untouched_flag}
@@ -199,8 +200,17 @@ holds_serve_gone size inward next script a e front back r h is waits none_before
     })
     (map-append item_of front (s ∷ back) ∙ (ap (λ l. map item_of front ++ record r.item { share = l; state = Served 4 } ∷ map item_of back) (append-nil r.item.share) ∙ sym (becomes (record r.item { state = Served 4 })))))
 
+-- answers behind others of which none is an empty packet
+left_sized : (size : ℕ) (front left script : List Response) → front ++ left ≡ script → HasSize size script → HasSize size left
+left_sized size front left script is (inl some) = inl some
+left_sized size front left script is (inr none) = inr (behind front (ap (list_all (λ x. not (is_empty_packet x))) is ∙ none))
+  where
+    behind : (xs : List Response) → list_all (λ x. not (is_empty_packet x)) (xs ++ left) ≡ true → list_all (λ x. not (is_empty_packet x)) left ≡ true
+    behind [] e = e
+    behind (x ∷ xs) e = behind xs (and_parts (not (is_empty_packet x)) (list_all (λ y. not (is_empty_packet y)) (xs ++ left)) e).1
+
 -- a running endpoint that serves its first waiting transfer keeps the ledger
-holds_serve_waiting : (size : ℕ) (inward : Bool) (next : ℕ) (script : List Response) (a : Account) (gone : Bool) (e : Endpoint) (x : Item) (h : HoldsAt size inward next script a e) → 0 < size → WaitsAt h.rows x
+holds_serve_waiting : (size : ℕ) (inward : Bool) (next : ℕ) (script : List Response) (a : Account) (gone : Bool) (e : Endpoint) (x : Item) (h : HoldsAt size inward next script a e) → HasSize size script → WaitsAt h.rows x
     → KeepsLedger size inward next script a gone [] [] (serve_first size gone e Running (Some x))
 unfolding serve_first
 holds_serve_waiting size inward next script a true e x h some t =
@@ -216,7 +226,7 @@ holds_serve_waiting size inward next script a false e x h some t =
     body = (mid_of size inward next script a e.line e.script_left e.device_halted e.packets_received t.front t.back t.row h t.is).row.body
 
     served : AfterServe size e.device_halted t.row.item.request t.row.item.share (next_answer e)
-    served = after_serve size inward e.device_halted e.script_left t.row.item.request t.row.item.share some body h.kinds (subst (λ b. IsOpen size b (part_of t.row)) (sym k.flag) k.open_share)
+    served = after_serve size inward e.device_halted e.script_left t.row.item.request t.row.item.share (left_sized size (flat_map (λ y. y.share) (all_parts h.gone h.rows)) e.script_left script h.shares some) body h.kinds (subst (λ b. IsOpen size b (part_of t.row)) (sym k.flag) k.open_share)
 
     with_answer : AfterServe size e.device_halted t.row.item.request t.row.item.share (next_answer e) → KeepsLedger size inward next script a false [] [] (serve_first size false e Running (Some t.row.item))
     with_answer s =
@@ -224,7 +234,7 @@ holds_serve_waiting size inward next script a false e x h some t =
         (holds_serve_by size inward next script a e t.front t.back t.row h t.is t.waits t.none_before (λ y. ap (with_first y) (sym h.is_line) ∙ t.becomes y) s s.result.code refl)
 
 -- an endpoint that serves, in each state, keeps the ledger
-holds_serve_first : (size : ℕ) (inward : Bool) (next : ℕ) (script : List Response) (a : Account) (gone : Bool) (e : Endpoint) (s : EndpointState) (i : Option Item) → 0 < size → first_waiting e.line ≡ i → HoldsAt size inward next script a e
+holds_serve_first : (size : ℕ) (inward : Bool) (next : ℕ) (script : List Response) (a : Account) (gone : Bool) (e : Endpoint) (s : EndpointState) (i : Option Item) → HasSize size script → first_waiting e.line ≡ i → HoldsAt size inward next script a e
     → KeepsLedger size inward next script a gone [] [] (serve_first size gone e s i)
 unfolding serve_first
 holds_serve_first size inward next script a true e Running (Some x) some first h = holds_serve_waiting size inward next script a true e x h some (waits_at h.rows x (ap first_waiting h.is_line ∙ first))
@@ -232,6 +242,6 @@ holds_serve_first size inward next script a false e Running (Some x) some first 
 holds_serve_first size inward next script a gone e _ _ some first h = subst (λ b. HoldsAt size inward next script b e) (sym (no_more a)) h
 
 -- the device answers a packet
-pub holds_serve : (size : ℕ) (inward : Bool) (next : ℕ) (script : List Response) (a : Account) (gone : Bool) (e : Endpoint) → 0 < size → HoldsAt size inward next script a e → KeepsLedger size inward next script a gone [] [] (serve size gone e)
+pub holds_serve : (size : ℕ) (inward : Bool) (next : ℕ) (script : List Response) (a : Account) (gone : Bool) (e : Endpoint) → HasSize size script → HoldsAt size inward next script a e → KeepsLedger size inward next script a gone [] [] (serve size gone e)
 unfolding serve
 holds_serve size inward next script a gone e some h = holds_serve_first size inward next script a gone e e.state (first_waiting e.line) some refl h

@@ -1,5 +1,5 @@
 -- What a step of a machine may do, once its refusals are passed.
-use Rattle.std.proofs.Common.{List, None, Option, Some, [], false, length, true, ℕ, ◌+◌, ◌∷◌, ◌≡◌, ◌≤◌}
+use Rattle.std.proofs.Common.{List, None, Some, [], false, true, ℕ, ◌+◌, ◌∷◌, ◌≡◌, ◌≤◌}
 use Rattle.usb_model.specs.declared.errand.Errand.{Errand}
 use Rattle.usb_model.specs.declared.endpoint.Endpoint.{Endpoint}
 use Rattle.usb_model.specs.declared.handle.Handle.{Handle}
@@ -26,13 +26,14 @@ use Rattle.usb_model.specs.declared.endpoint_effect.EndpointEffect.{EndpointEffe
 use Rattle.usb_model.specs.Endpoint.{in_progress}
 use Rattle.usb_model.specs.declared.effect.Effect.{Effect}
 use Rattle.usb_model.specs.declared.effect.Change.TheVariants.{Drops, Frees, Gains, Keeps, Renews}
-use Rattle.usb_model.specs.Machine.{Machine, device_of, does, at_endpoint, endpoint_at, is_gone, says}
+use Rattle.usb_model.specs.Machine.{Machine, device_of, does, at_endpoint, endpoint_at, is_gone, places, says}
 use Rattle.usb_model.specs.Endpoint.Serve.{serve}
 use Rattle.usb_model.specs.Setup.{Setup, is_within, packet_size_of}
 use Rattle.usb_model.specs.World.Shared.{past_first}
 use Rattle.usb_model.specs.Machine.Turns.{take_effect, takes_news, takes_order, takes_result}
 use Rattle.usb_account.proofs.Coherence.Posts.{commands_now, delivers_now}
 use Rattle.usb_model.specs.Fitness.{errands_of, events_of}
+pub use Rattle.usb_model.specs.Laws.Bounds.{line_at}
 
 -- the device's halt ends
 abbrev pub cleared : Endpoint → EndpointEffect
@@ -57,14 +58,9 @@ pub data IsWork (setup : Setup) (m : Machine) (ep : ℕ) (e : Endpoint) : Step �
   commands : (o : Errand) (os : List Order) → m.orders ≡ record { ep = ep; errand = o } ∷ os → IsWork setup m ep e Command m.handle (command (packet_size_of setup (device_of m) ep) ep e o e.state)
   delivers : (event : Event) (ns : List News) → m.news ≡ record { ep = ep; event = event } ∷ ns → IsWork setup m ep e Deliver m.handle (deliver (packet_size_of setup (device_of m) ep) ep (is_gone m) e event)
   asks_it : {step : Step} {ask : Ask} (n : ℕ) (i : Item) → IsAsk step n ask → in_progress n e.line ≡ Some i → i.ask ≡ None → IsWork setup m ep e step m.handle (asks e n ask)
-  submits : {step : Step} {handle : Handle} {request : Request} {round : ℕ} → IsSubmission m.handle step handle request round → request.ep ≡ ep → is_bad_body request.ep request.body ≡ false → length e.line + 1 ≤ 16
+  submits : {step : Step} {handle : Handle} {request : Request} {round : ℕ} → IsSubmission m.handle step handle request round → request.ep ≡ ep → is_bad_body request.ep request.body ≡ false → places m ep e + 1 ≤ 16
       → IsWork setup m ep e step (record handle { next_number = m.handle.next_number + 1 }) (submitted m.handle.next_number request round e)
   clears : (g : ℕ) → e.line ≡ [] → IsWork setup m ep e (ClearHalt g ep) m.handle (cleared e)
-
--- the line of an endpoint that may not be there
-abbrev pub line_at : Option Endpoint → List Item
-line_at None = []
-line_at (Some e) = e.line
 
 -- no transfer is in the endpoint's line, and nothing waits for it
 pub record IsIdle (ep : ℕ) (m : Machine) : Type 0 where

@@ -130,10 +130,10 @@ unfolding submit_to
 submit_done setup h m step handle request round None t is here = only_rests (stays (refuses _) t)
 submit_done setup h m step handle request round (Some e) t is here =
     done_if setup h m _ _ _ _ t (λ p. done_if setup h m _ _ _ _ t (λ q. done_if setup h m _ _ _ _ t (λ fine. done_if setup h m _ _ _ _ t (λ room. done_if setup h m _ _ _ _ t (λ r.
-    works request.ep e here (submits is refl (or_parts _ (is_bad_body request.ep request.body) fine).1 (has_room (length e.line) _ (leb-false 16 (places m request.ep e) room))))))))
+    works request.ep e here (submits is refl (or_parts _ (is_bad_body request.ep request.body) fine).1 (has_room (places m request.ep e) (leb-false 16 (places m request.ep e) room))))))))
   where
-    has_room : (a b : ℕ) → a + b < 16 → a + 1 ≤ 16
-    has_room a b lt = omega (arith, lt)
+    has_room : (a : ℕ) → a < 16 → a + 1 ≤ 16
+    has_room a lt = omega (arith, lt)
 
 -- an answer to a callback frees the callback, or submits once more
 answer_done : (setup : Setup) (h : ℕ) (m : Machine) (g k : ℕ) (verdict : Verdict) (o : Option InCallback) → callback_of k m.handle.in_callbacks ≡ o → IsDone setup h m (Answer g k verdict) (answer_callback setup m verdict o)

@@ -1,5 +1,5 @@
 -- Work at an endpoint loses no transfer and doubles none: each that leaves the line is in one result.
-use Rattle.std.proofs.Common.{Bool, List, None, Option, Some, [], ap, arith, false, map, refl, true, ℕ, ◌+◌, ◌∙◌, ◌∷◌, ◌≡◌}
+use Rattle.std.proofs.Common.{Bool, List, None, Option, Some, [], ap, arith, false, length, map, refl, true, ℕ, ◌+◌, ◌∙◌, ◌∷◌, ◌≡◌}
 use Rattle.std.specs.Prelude.{if◌then◌else◌}
 use Rattle.usb_model.specs.declared.response.Response.{Response}
 use Rattle.usb_model.specs.declared.errand.Errand.TheVariants as errand
@@ -26,17 +26,18 @@ use Rattle.usb_model.specs.Endpoint.Status.{halts}
 use Rattle.usb_account.proofs.Coherence.Doings.{line-finished, line-resume, results-finished, results-resume}
 use Rattle.usb_account.proofs.Coherence.FirstEnd.{EndsFirst, end_told}
 use Rattle.usb_model.specs.Coherence.{IsCoherent}
-use Rattle.usb_lemmas.proofs.Work.Lines.{lives-past_blanks, lives-with_ask, lives-with_first, result_numbers, withdrawn_times}
+use Rattle.usb_lemmas.proofs.Work.Lines.{lives-past_blanks, lives-with_ask, lives-with_first, result_numbers, withdrawn_count, withdrawn_times}
 use Rattle.usb_lemmas.proofs.Lists.Times.{times-cons}
 use Rattle.usb_lemmas.proofs.Work.Sound.{first_waits}
 
 -- a piece of work, of which this holds
 pub record IsExact (e : Endpoint) (d : EndpointEffect) : Type 0 where
   pub exact : (n : ℕ) → times n (result_numbers d.results) + times n (live_numbers d.endpoint.line) ≡ times n (live_numbers e.line)
+  pub count : length d.results + length (live_numbers d.endpoint.line) ≡ length (live_numbers e.line)
 
 -- work that makes no result, and leaves the numbers in progress
 pub exact_if_same : (e : Endpoint) (d : EndpointEffect) → d.results ≡ [] → live_numbers d.endpoint.line ≡ live_numbers e.line → IsExact e d
-exact_if_same e d none same = record { exact = λ n. rw (none, same) (omega arith) }
+exact_if_same e d none same = record { exact = λ n. rw (none, same) (omega arith); count = rw (none, same) (omega arith) }
 
 -- the first waiting transfer replaced loses no number
 exact_served : (e : Endpoint) (x : Item) (s : ItemState) (share : List Response) (d : EndpointEffect) → first_waiting e.line ≡ Some x → is_blank_state s ≡ false → d.results ≡ [] → d.endpoint.line ≡ with_first (record x { share = share; state = s }) e.line → IsExact e d
@@ -70,7 +71,7 @@ exact_command size ep e _ _ = exact_if_same e _ refl refl
 
 -- asked items are withdrawn from a line with the endpoint's numbers
 exact_withdrawn : (size : ℕ) (e : Endpoint) (line : List Item) (d : EndpointEffect) → live_numbers line ≡ live_numbers e.line → d.endpoint.line ≡ map blanked line → d.results ≡ withdrawn size line → IsExact e d
-exact_withdrawn size e line d same left made = record { exact = λ n. rw (left, made) (withdrawn_times size n line ∙ ap (times n) same) }
+exact_withdrawn size e line d same left made = record { exact = λ n. rw (left, made) (withdrawn_times size n line ∙ ap (times n) same); count = rw (left, made) (withdrawn_count size line ∙ ap length same) }
 
 -- a halt that is over: each number is still in the line or in one result
 exact_resume : (size : ℕ) (e : Endpoint) (r : Reply) (line : List Item) → live_numbers line ≡ live_numbers e.line → IsExact e (resume size e r line)
@@ -90,6 +91,7 @@ exact_finished size ep gone e k code f = record {
   exact = λ n.
       rw (line-finished size ep gone e k code, results-finished size ep gone e k code, f.found, lives-line_after k code e.line, f.number)
       (omega (arith, times-cons n k [], times-cons n k (live_numbers (past_number k e.line)), ap (times n) f.lives));
+  count = rw (line-finished size ep gone e k code, results-finished size ep gone e k code, f.found, lives-line_after k code e.line) (omega (arith, ap length f.lives));
 }
 
 -- the first piece of news is handled

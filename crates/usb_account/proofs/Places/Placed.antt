@@ -148,7 +148,7 @@ none_new setup ep o (inl e) = rw e refl
 none_new setup ep o (inr e) = rw e.1 refl
 
 -- where no work is done, the numbers in progress stay
-lives_rest : (setup : Setup) (ep : ℕ) (m m' : Machine) (step : Step) → Rests setup ep m m' step → lives_at m' ep ≡ lives_at m ep
+pub lives_rest : (setup : Setup) (ep : ℕ) (m m' : Machine) (step : Step) → Rests setup ep m m' step → lives_at m' ep ≡ lives_at m ep
 lives_rest setup ep m m' step (inl s) = ap numbers_at s.end
 lives_rest setup ep m m' step (inr r) = none_new setup ep (endpoint_at m' ep) r.end ∙ sym (none_idle (endpoint_at m ep) r.idle.no_line)
 
@@ -219,7 +219,7 @@ calls_none : (P : List ℕ → Type 0) (called : List ℕ) (r : Reply) → call_
 calls_none P called r none p = rw (none, append-nil called) p
 
 -- a step that works takes no result
-takes_no_result : (setup : Setup) (m : Machine) (ep : ℕ) (e : Endpoint) (step : Step) (handle : Handle) (d : EndpointEffect) → IsWork setup m ep e step handle d → takes_result step ≡ false
+pub takes_no_result : (setup : Setup) (m : Machine) (ep : ℕ) (e : Endpoint) (step : Step) (handle : Handle) (d : EndpointEffect) → IsWork setup m ep e step handle d → takes_result step ≡ false
 takes_no_result setup m ep e step handle d (serves dev) = refl
 takes_no_result setup m ep e step handle d (commands o os is) = refl
 takes_no_result setup m ep e step handle d (delivers event ns is) = refl
@@ -272,7 +272,7 @@ work_placed setup m ep e step handle d called well here (clears g empty) p =
     exact_placed setup m step d ep e called refl here (clears g empty) (exact_if_same e (cleared e) refl refl) p
 
 -- the reply of a step that does no work, but for Take, calls nothing back
-bare_calls : (step : Step) (r : Reply) → IsBare step r → call_of r ≡ []
+pub bare_calls : (step : Step) (r : Reply) → IsBare step r → call_of r ≡ []
 bare_calls step r (refuses why) = refl
 bare_calls step r idles = refl
 bare_calls step r (unplugs dev) = refl

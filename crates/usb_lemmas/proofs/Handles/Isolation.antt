@@ -122,7 +122,7 @@ not_its : (g h : ℕ) (step : Step) (r : Reply) → is_unplug step ≡ false →
 not_its g h step r owned e = rw (owned, e)
 
 -- nor one that says that another held an interface
-blocked_is_not : (g h : ℕ) (step : Step) → is_unplug step ≡ false → is_own_step g step (record { owner = Some h; reply = Refused HeldElsewhere }) ≡ false
+pub blocked_is_not : (g h : ℕ) (step : Step) → is_unplug step ≡ false → is_own_step g step (record { owner = Some h; reply = Refused HeldElsewhere }) ≡ false
 blocked_is_not g h step owned = rw owned (and_right (h == g) false refl)
 
 -- another is in the way of a step: nothing changes

@@ -1,9 +1,9 @@
 -- Lists of which some are left out, and what holds of each element of a list.
-use Rattle.std.proofs.Common.{ℕ, ◌≤◌, Bool, true, false, List, [], ◌∷◌, ◌++◌, map, arith, ◌≡◌}
+use Rattle.std.proofs.Common.{ℕ, ◌<◌, ◌≤◌, Bool, true, false, List, [], ◌∷◌, ◌++◌, map, arith, refl, ◌≡◌}
 use Rattle.std.specs.Prelude.{if◌then◌else◌}
-use Rattle.std.specs.List.{filter, AllByRecursion}
+use Rattle.std.specs.List.{filter, AllByRecursion, count_by}
 use Rattle.usb_model.specs.Laws.Cut.{times}
-use Rattle.usb_lemmas.proofs.Lists.Times.{times-cons}
+use Rattle.usb_lemmas.proofs.Lists.Times.{count-cons, times-cons, times_here}
 
 -- xs is what is left of ys when some are left out
 pub data IsPart {A : Type 0} : List A → List A → Type 0 where
@@ -52,6 +52,12 @@ part_times n nothing = omega arith
 part_times n (skips {y = y} {ys = ys} p) = let q = part_times n p in omega (arith, q, times-cons n y ys)
 part_times n (keeps {y = y} {xs = xs} {ys = ys} p) = let q = part_times n p in omega (arith, q, times-cons n y xs, times-cons n y ys)
 
+-- as many pass a test at most
+pub part_count : {A : Type 0} (test : A → Bool) {xs ys : List A} → IsPart xs ys → count_by test xs ≤ count_by test ys
+part_count test nothing = omega arith
+part_count test (skips {y = y} {ys = ys} p) = let q = part_count test p in omega (arith, q, count-cons test y ys)
+part_count test (keeps {y = y} {xs = xs} {ys = ys} p) = let q = part_count test p in omega (arith, q, count-cons test y xs, count-cons test y ys)
+
 -- of each of both lists it holds
 pub each_append : {A : Type 0} (P : A → Type 0) (xs ys : List A) → AllByRecursion P xs → AllByRecursion P ys → AllByRecursion P (xs ++ ys)
 each_append P [] ys p q = q
@@ -71,6 +77,14 @@ each_behind P (x ∷ xs) ys p = each_behind P xs ys p.1
 pub each_weaker : {A : Type 0} (P Q : A → Type 0) (xs : List A) → ((x : A) → P x → Q x) → AllByRecursion P xs → AllByRecursion Q xs
 each_weaker P Q [] f p = tt
 each_weaker P Q (x ∷ xs) f p = (f x p.0, each_weaker P Q xs f p.1)
+
+-- the number of each is among their numbers
+pub each_here : {A : Type 0} (number : A → ℕ) (xs : List A) → AllByRecursion (λ x. 0 < times (number x) (map number xs)) xs
+each_here number [] = tt
+each_here number (x ∷ xs) = (
+  omega (arith, times_here (number x) (number x) (map number xs) refl),
+  each_weaker (λ y. 0 < times (number y) (map number xs)) (λ y. 0 < times (number y) (map number (x ∷ xs))) xs (λ y lt. omega (arith, lt, times-cons (number y) (number x) (map number xs))) (each_here number xs),
+)
 
 -- of each that is left, where some are left out, it holds
 pub each_part : {A : Type 0} (P : A → Type 0) {xs ys : List A} → IsPart xs ys → AllByRecursion P ys → AllByRecursion P xs

@@ -5,7 +5,7 @@ use Rattle.std.proofs.lemmas.Bool.{ne_eqb}
 use Rattle.std.proofs.lemmas.List.Sums.{sum_by-cons, sum_by-append}
 use Rattle.usb_model.specs.Laws.Cut.{times}
 use Rattle.usb_lemmas.proofs.Lists.Pieces.{same_name}
-use Rattle.std.specs.List.{AllByRecursion, IsDistinct}
+use Rattle.std.specs.List.{AllByRecursion, IsDistinct, count_by}
 
 -- once more in front, where it is the number
 pub times-cons : (n x : ℕ) (xs : List ℕ) → times n (x ∷ xs) ≡ (if x == n then 1 else 0) + times n xs
@@ -14,6 +14,14 @@ times-cons n x xs = sum_by-cons (λ k. if k == n then 1 else 0) x xs
 -- in two lists together, as often as in each
 pub times-append : (n : ℕ) (xs ys : List ℕ) → times n (xs ++ ys) ≡ times n xs + times n ys
 times-append n xs ys = sum_by-append (λ k. if k == n then 1 else 0) xs ys
+
+-- how many pass a test: one more in front, where it does
+pub count-cons : {A : Type 0} (test : A → Bool) (x : A) (xs : List A) → count_by test (x ∷ xs) ≡ (if test x then 1 else 0) + count_by test xs
+count-cons test x xs = sum_by-cons (λ y. if test y then 1 else 0) x xs
+
+-- in two lists together, as many as in each
+pub count-append : {A : Type 0} (test : A → Bool) (xs ys : List A) → count_by test (xs ++ ys) ≡ count_by test xs + count_by test ys
+count-append test xs ys = sum_by-append (λ y. if test y then 1 else 0) xs ys
 
 -- in the list of itself once
 pub times_one : (n x : ℕ) → x ≡ n → times n (x ∷ []) ≡ 1

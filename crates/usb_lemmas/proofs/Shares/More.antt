@@ -1,7 +1,7 @@
 -- One more answer to an open share.
-use Rattle.std.proofs.Common.{◌≡◌, ℕ, ◌+◌, ◌-◌, ◌*◌, ◌/◌, ◌<◌, ◌≤◌, ◌==◌, zero, suc, min, Bool, true, false, List, [], ◌∷◌, ◌++◌, length, take, drop, Option, Some, None, refl, ap, sym, ◌∙◌, append-nil, arith}
+use Rattle.std.proofs.Common.{◌≡◌, ℕ, ◌+◌, ◌-◌, ◌*◌, ◌/◌, ◌<◌, ◌≤◌, ◌==◌, ◌⊎◌, inl, inr, zero, suc, min, Bool, true, false, List, [], ◌∷◌, ◌++◌, length, take, drop, Option, Some, None, refl, ap, sym, ◌∙◌, append-nil, arith}
 use Rattle.std.specs.Prelude.{if◌then◌else◌, nat_lt}
-use Rattle.std.proofs.lemmas.Bool.{eqb-true, eqb-false, ne_eqb, ltb-false, lt-ltb, le-ltb}
+use Rattle.std.proofs.lemmas.Bool.{cases_lt, eqb-true, eqb-false, ne_eqb, ltb-false, lt-ltb, le-ltb}
 use Rattle.std.proofs.Math.Nat.{suc-mul, div-mul-le_self, lt-mul-div-succ, mul_comm, mul-le-mul_right}
 use Rattle.usb_model.specs.declared.response.Response.{Response}
 use Rattle.usb_model.specs.declared.response.Response.TheVariants.{Data, Ack, Nak, Stall, Broken}
@@ -66,14 +66,35 @@ read_end n size front b ends = by_tests (nat_lt (min size (n - length front * si
     by_tests false false true e = refl
     by_tests false false false e = absurd (e refl refl refl)
 
+-- an answer that may come in packets of this size: an empty packet needs one
+abbrev pub IsSized : ℕ → Response → Type 0
+IsSized size (Data b) = 0 < size + length b
+IsSized size _ = Unit {0}
+
+-- at a size of at least 1 each may
+pub sized_all : (size : ℕ) (x : Response) → 0 < size → IsSized size x
+sized_all size (Data b) some = omega (arith, some)
+sized_all size Nak some = tt
+sized_all size Ack some = tt
+sized_all size Stall some = tt
+sized_all size Broken some = tt
+
+-- the last packet for which there is room leaves none, or overflows
+no_room_left : (n size j count : ℕ) → 0 < size + count → (n - 1) / size ≤ j → count ≤ min size (n - j * size) → n ≤ j * size + size
+no_room_left n size j count some most fits = by_size (cases_lt 0 size)
+  where
+    by_size : (0 < size) ⊎ (size ≤ 0) → n ≤ j * size + size
+    by_size (inl lt) = no_room_behind n size j lt most
+    by_size (inr le) = absurd (omega (arith, some, le, fits))
+
 -- a packet behind the front of full ones; left: how many may still join that
-read_data : (n size left : ℕ) (ps : List (List ℕ)) (b : List ℕ) → 0 < size → (n - 1) / size ≡ length ps + left
+read_data : (n size left : ℕ) (ps : List (List ℕ)) (b : List ℕ) → 0 < size + length b → (n - 1) / size ≡ length ps + left
     → read_with n size (ps ++ full_front size left (Data b ∷ [])) (drop (length (full_front size left (Data b ∷ []))) (Data b ∷ [])) ≡ Some (read_next n size ps b)
 read_data n size zero ps b some e =
-    let none : n ≤ length ps * size + size = no_room_behind n size (length ps) some (omega (arith, e)) in
     ap (λ l. read_with n size l (Data b ∷ [])) (append-nil ps)
     ∙ read_end n size ps b (λ p q r. eqb-false (length ps * size + length b) n q
-    (omega (arith, none, ltb-false (min size (n - length ps * size)) (length b) p, ltb-false (length b) size r)))
+    (let fits : length b ≤ min size (n - length ps * size) = ltb-false (min size (n - length ps * size)) (length b) p in
+    omega (arith, no_room_left n size (length ps) (length b) some (omega (arith, e)) fits, fits, ltb-false (length b) size r)))
 read_data n size (suc left) ps b some e = by_test (length b == size) refl
   where
     by_test : (t : Bool) → (length b == size) ≡ t
@@ -101,9 +122,9 @@ no_packet size zero = (refl, refl, refl)
 no_packet size (suc left) = (refl, refl, refl)
 
 -- one more answer to an IN transfer
-read_one_more : (request : Request) (n size : ℕ) (xs : List Response) (ps : List (List ℕ)) (x : Response) → 0 < size → IsRead n size xs ps
+read_one_more : (request : Request) (n size : ℕ) (xs : List Response) (ps : List (List ℕ)) (x : Response) → IsSized size x → IsRead n size xs ps
     → moved_by request size (In n) (xs ++ without_naks (x ∷ [])) ≡ next_of request size (In n) (open_with ps) x
-read_one_more request n size xs ps x some w = by_answer x
+read_one_more request n size xs ps x some w = by_answer x some
   where
     left : ℕ
     left = (n - 1) / size - length ps
@@ -111,12 +132,12 @@ read_one_more request n size xs ps x some w = by_answer x
     behind : (rest : List Response) → moved_by request size (In n) (xs ++ rest) ≡ read_with n size (ps ++ full_front size left rest) (drop (length (full_front size left rest)) rest)
     behind rest = ap (λ l. moved_by request size (In n) (l ++ rest)) w.answers ∙ read_behind n size left ps rest request w.full (omega (arith, w.room))
 
-    by_answer : (x : Response) → moved_by request size (In n) (xs ++ without_naks (x ∷ [])) ≡ next_of request size (In n) (open_with ps) x
-    by_answer Nak = ap (moved_by request size (In n)) (append-nil xs) ∙ open_if_whole request size (In n) xs ps w
-    by_answer (Data b) = behind (Data b ∷ []) ∙ read_data n size left ps b some (omega (arith, w.room))
-    by_answer Ack = behind (Ack ∷ []) ∙ read_other n size left ps Ack (no_packet size left).0
-    by_answer Stall = behind (Stall ∷ []) ∙ read_other n size left ps Stall (no_packet size left).1
-    by_answer Broken = behind (Broken ∷ []) ∙ read_other n size left ps Broken (no_packet size left).2
+    by_answer : (x : Response) → IsSized size x → moved_by request size (In n) (xs ++ without_naks (x ∷ [])) ≡ next_of request size (In n) (open_with ps) x
+    by_answer Nak some = ap (moved_by request size (In n)) (append-nil xs) ∙ open_if_whole request size (In n) xs ps w
+    by_answer (Data b) some = behind (Data b ∷ []) ∙ read_data n size left ps b some (omega (arith, w.room))
+    by_answer Ack some = behind (Ack ∷ []) ∙ read_other n size left ps Ack (no_packet size left).0
+    by_answer Stall some = behind (Stall ∷ []) ∙ read_other n size left ps Stall (no_packet size left).1
+    by_answer Broken some = behind (Broken ∷ []) ∙ read_other n size left ps Broken (no_packet size left).2
 
 -- an acknowledgement behind others
 sent_ack : (all : List (List ℕ)) (j : ℕ) → j < length all → sent_with all (j + 1) [] ≡ Some (sent_next all j)
@@ -150,7 +171,7 @@ sent_one_more request size bytes xs ps x w = by_answer x
     by_answer Broken = behind (length ps) (Broken ∷ []) (omega arith) ∙ rw (lt-ltb (length ps) (length all) w.room) (ap (λ l. Some (ended_with l 4)) (sym w.packets))
 
 -- one more answer to a transfer of either direction
-moved_one_more : (request : Request) (size : ℕ) (body : Body) (xs : List Response) (ps : List (List ℕ)) (x : Response) → 0 < size → IsWhole request size body xs ps
+moved_one_more : (request : Request) (size : ℕ) (body : Body) (xs : List Response) (ps : List (List ℕ)) (x : Response) → IsSized size x → IsWhole request size body xs ps
     → moved_by request size body (xs ++ without_naks (x ∷ [])) ≡ next_of request size body (open_with ps) x
 moved_one_more request size (In n) xs ps x some w = read_one_more request n size xs ps x some w
 moved_one_more request size (Out bytes) xs ps x some w = sent_one_more request size bytes xs ps x w
@@ -159,11 +180,16 @@ moved_one_more request size (Out bytes) xs ps x some w = sent_one_more request s
 pub open_is : (o : Outcome) → o.code ≡ None → o ≡ open_with o.packets
 open_is o open_code = ap (λ c. record o { code = c }) open_code
 
--- the outcome of an open share with one more answer
-pub one_more : (request : Request) (size : ℕ) (share : List Response) (x : Response) (o : Outcome) → 0 < size → outcome request size share false ≡ Some o → o.code ≡ None
+-- the outcome of an open share with one more answer, which may come at this size
+pub one_more_sized : (request : Request) (size : ℕ) (share : List Response) (x : Response) (o : Outcome) → IsSized size x → outcome request size share false ≡ Some o → o.code ≡ None
     → outcome request size (share ++ x ∷ []) false ≡ next_of request size request.body o x
-one_more request size share x o some e open_code =
+one_more_sized request size share x o some e open_code =
     outcome_is request size (share ++ x ∷ [])
     ∙ (ap (moved_by request size request.body) (naks-append share (x ∷ []))
     ∙ (moved_one_more request size request.body (without_naks share) o.packets x some (open_whole request size share o e open_code)
     ∙ ap (λ p. next_of request size request.body p x) (sym (open_is o open_code))))
+
+-- and at a size of at least 1
+pub one_more : (request : Request) (size : ℕ) (share : List Response) (x : Response) (o : Outcome) → 0 < size → outcome request size share false ≡ Some o → o.code ≡ None
+    → outcome request size (share ++ x ∷ []) false ≡ next_of request size request.body o x
+one_more request size share x o some e open_code = one_more_sized request size share x o (sized_all size x some) e open_code

@@ -11,7 +11,7 @@ use Rattle.usb_model.specs.declared.request.Request.{Request}
 use Rattle.usb_model.specs.Laws.Cut.{is_of_direction}
 use Rattle.usb_model.specs.declared.outcome.Outcome.{Outcome}
 use Rattle.usb_model.specs.Endpoint.Packets.{ended_with, open_with, outcome, packets_by, without_naks}
-use Rattle.usb_lemmas.proofs.Shares.More.{next_of, one_more, read_next, sent_next}
+use Rattle.usb_lemmas.proofs.Shares.More.{IsSized, next_of, one_more_sized, read_next, sent_next, sized_all}
 use Rattle.usb_lemmas.proofs.Shares.OpenShares.{IsWhole, open_whole}
 use Rattle.std.proofs.lemmas.Option.{same_Some}
 use Rattle.usb_model.specs.Direction.{IsBody}
@@ -84,12 +84,17 @@ next_by true request size (In n) xs Ack o b k op w = absurd cc
 next_by false request size (In n) xs Ack o b k op w = absurd b
 next_by inward request size (Out bytes) xs Ack o b k op w = let all : List (List ℕ) = packets_by request size (Out bytes) in (sent_next all (length o.packets), refl, next_sent all o w.packets)
 
--- so an open share has an outcome with one more answer
+-- so an open share has an outcome with one more answer, which may come at this size
+pub next_there_sized : (inward : Bool) (request : Request) (size : ℕ) (share : List Response) (y : Response) (o : Outcome) → IsSized size y → IsBody inward request.body → is_of_direction inward y ≡ true → outcome request size share false ≡ Some o → o.code ≡ None
+    → (p : Outcome) × (outcome request size (share ++ y ∷ []) false ≡ Some p) × IsNext o p
+next_there_sized inward request size share y o some b k e op =
+    let r = next_by inward request size request.body (without_naks share) y o b k op (open_whole request size share o e op) in
+    (r.0, one_more_sized request size share y o some e op ∙ r.1, r.2)
+
+-- and at a size of at least 1
 pub next_there : (inward : Bool) (request : Request) (size : ℕ) (share : List Response) (y : Response) (o : Outcome) → 0 < size → IsBody inward request.body → is_of_direction inward y ≡ true → outcome request size share false ≡ Some o → o.code ≡ None
     → (p : Outcome) × (outcome request size (share ++ y ∷ []) false ≡ Some p) × IsNext o p
-next_there inward request size share y o some b k e op =
-    let r = next_by inward request size request.body (without_naks share) y o b k op (open_whole request size share o e op) in
-    (r.0, one_more request size share y o some e op ∙ r.1, r.2)
+next_there inward request size share y o some b k e op = next_there_sized inward request size share y o (sized_all size y some) b k e op
 
 -- what is submitted goes in the endpoint's direction
 pub good_body : (ep : ℕ) (body : Body) → is_bad_body ep body ≡ false → IsBody (is_in ep) body

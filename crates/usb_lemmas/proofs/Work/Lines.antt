@@ -1,5 +1,5 @@
 -- What each kind of work does to the transfers in progress in a line.
-use Rattle.std.proofs.Common.{◌&&◌, ◌≡◌, ℕ, ◌+◌, ◌≤◌, ◌==◌, Bool, true, false, not, List, [], ◌∷◌, ◌++◌, Option, Some, None, map, refl, ap, ap₂, sym, ◌∙◌, arith}
+use Rattle.std.proofs.Common.{◌&&◌, ◌≡◌, ℕ, ◌+◌, ◌≤◌, ◌==◌, Bool, true, false, not, List, [], ◌∷◌, ◌++◌, Option, Some, None, length, map, refl, ap, ap₂, sym, ◌∙◌, arith}
 use Rattle.std.specs.Prelude.{if◌then◌else◌, is_some}
 use Rattle.std.specs.List.{filter}
 use Rattle.std.proofs.lemmas.Bool.{and_parts, not-true}
@@ -151,6 +151,30 @@ withdrawn_times size n (x ∷ xs) = by_test (is_withdrawn x) (is_blank x) refl r
     by_test true false e f rest = omega (arith, rest, times-cons n x.n (result_numbers (withdrawn size xs)), times-cons n x.n (live_numbers xs))
     by_test false true e f rest = rw f rest
     by_test false false e f rest = rw f (omega (arith, rest, times-cons n x.n (live_numbers (map blanked xs)), times-cons n x.n (live_numbers xs)))
+
+-- so many results are made as transfers become blanks
+pub withdrawn_count : (size : ℕ) (line : List Item) → length (withdrawn size line) + length (live_numbers (map blanked line)) ≡ length (live_numbers line)
+unfolding withdrawn live_numbers
+withdrawn_count size [] = refl
+withdrawn_count size (x ∷ xs) = by_test (is_withdrawn x) (is_blank x) refl refl (withdrawn_count size xs)
+  where
+    by_test : (b c : Bool) → is_withdrawn x ≡ b → is_blank x ≡ c
+        → length (withdrawn size xs) + length (live_numbers (map blanked xs)) ≡ length (live_numbers xs)
+        → length (if b then result_of size false 26 x ∷ withdrawn size xs else withdrawn size xs) + length (live_numbers ((if b then record x { state = Blank } else x) ∷ map blanked xs)) ≡ length (if c then live_numbers xs else x.n ∷ live_numbers xs)
+    by_test true true e f rest = absurd (cc (withdrawn_lives x e))
+    by_test true false e f rest = omega (arith, rest)
+    by_test false true e f rest = rw f rest
+    by_test false false e f rest = rw f (omega (arith, rest))
+
+-- no more are in progress than are in the line
+pub lives_short : (line : List Item) → length (live_numbers line) ≤ length line
+unfolding live_numbers
+lives_short [] = omega arith
+lives_short (x ∷ xs) = by_test (is_blank x) (lives_short xs)
+  where
+    by_test : (b : Bool) → length (live_numbers xs) ≤ length xs → length (if b then live_numbers xs else x.n ∷ live_numbers xs) ≤ length (x ∷ xs)
+    by_test true le = omega (arith, le)
+    by_test false le = omega (arith, le)
 
 -- the others stay, in order
 pub withdrawn_part : (line : List Item) → IsPart (keys (map blanked line)) (keys line)

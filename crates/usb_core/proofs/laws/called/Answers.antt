@@ -1,0 +1,8 @@
+use Rattle.usb_account.proofs.Calls.{callbacks_are_of_calls, calls_what_was_made}
+use Rattle.usb_core.proofs.laws.called.Goals as goal
+
+pub returns-clause-in_order : goal.returns-clause-in_order
+returns-clause-in_order c = calls_what_was_made
+
+pub returns-clause-in_callbacks : goal.returns-clause-in_callbacks
+returns-clause-in_callbacks c = callbacks_are_of_calls
