@@ -1,7 +1,7 @@
--- What no scenario says: callbacks that submit other bytes, requests of unsupported kinds, and the last number.
+-- What no scenario says, or none of a few lines: callbacks that submit other bytes, the longest write, requests of unsupported kinds, the last number.
 use Rattle.std.proofs.Common.{refl}
 use Rattle.usb_model.specs.Rows.{StepsPrint}
-use Rattle.usb_model.specs.Rows.Steps.{again_with_other_bytes, again_with_bytes_for_in, requests_of_unsupported_kinds, last_number_is_given_to_none}
+use Rattle.usb_model.specs.Rows.Steps.{again_with_other_bytes, again_with_bytes_for_in, write_over_the_limit, requests_of_unsupported_kinds, last_number_is_given_to_none}
 use Rattle.usb_model.proofs.Computed.{computed}
 
 pub again_with_other_bytes_holds : StepsPrint again_with_other_bytes
@@ -11,6 +11,10 @@ again_with_other_bytes_holds = refl
 pub again_with_bytes_for_in_holds : StepsPrint again_with_bytes_for_in
 unfolding computed
 again_with_bytes_for_in_holds = refl
+
+pub write_over_the_limit_holds : StepsPrint write_over_the_limit
+unfolding computed
+write_over_the_limit_holds = refl
 
 pub requests_of_unsupported_kinds_holds : StepsPrint requests_of_unsupported_kinds
 unfolding computed

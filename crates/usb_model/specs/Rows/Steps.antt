@@ -1,5 +1,5 @@
--- What no scenario says: callbacks that submit other bytes, requests of unsupported kinds, and the last number.
-use Rattle.std.specs.Prelude.{[], ◌∷◌, codes}
+-- What no scenario says, or none of a few lines: callbacks that submit other bytes, the longest write, requests of unsupported kinds, the last number.
+use Rattle.std.specs.Prelude.{[], ◌∷◌, replicate, codes}
 use Rattle.usb_model.specs.declared.response.Response.TheVariants.{Data, Ack}
 use Rattle.usb_model.specs.declared.request.Kind.TheVariants.{Control, Isochronous}
 use Rattle.usb_model.specs.declared.request.Body.TheVariants.{In, Out}
@@ -41,6 +41,23 @@ again_with_bytes_for_in =
           codes "h1 called 0 ep 81 round 0 COMPLETED 1 data 01" ∷ codes "h1 refused 1" ∷ codes "h1 refused 1" ∷ codes "h1 number 1" ∷
           codes "h1 refused 3" ∷ codes "h1 ended 1 code 13" ∷ codes "h1 finished 1" ∷ codes "h1 called 1 ep 81 round 1 COMPLETED 1 data 02" ∷
           codes "- done" ∷ codes "h1 refused 2" ∷ codes "h1 refused 2" ∷ codes "h1 done" ∷ [];
+    }
+
+-- A write has 262,144 bytes at most, from a callback too.
+abbrev pub write_over_the_limit : StepRow
+write_over_the_limit =
+    let setup : Setup = example [] (Ack ∷ []) [] in
+    record {
+      setup = setup;
+      world = new_world setup;
+      steps =
+          Open 1 0 ∷ Claim 1 0 ∷ Submit 1 (bulk 0x02 (Out (1 ∷ []))) ∷ Serve 0 0x02 ∷ Deliver ∷ Take ∷
+          Submit 1 (bulk 0x02 (Out (replicate 262145 0))) ∷ Submit 1 (bulk 0x02 (Out (replicate 262144 0))) ∷
+          Answer 1 0 (AgainWith (replicate 262145 0)) ∷ Answer 1 0 (AgainWith (replicate 262144 0)) ∷ [];
+      lines =
+          codes "h1 done" ∷ codes "h1 done" ∷ codes "h1 number 0" ∷ codes "h1 ended 0 code 1" ∷ codes "h1 finished 0" ∷
+          codes "h1 called 0 ep 02 round 0 COMPLETED 1 data -" ∷ codes "h1 refused 1" ∷ codes "h1 number 1" ∷ codes "h1 refused 1" ∷
+          codes "h1 number 2" ∷ [];
     }
 
 -- A request of the endpoint's own kind is refused too where that isn't supported; elsewhere such a kind is a wrong one.
