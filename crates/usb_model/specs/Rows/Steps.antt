@@ -87,9 +87,10 @@ last_number_is_given_to_none =
       world = near_the_last_number setup;
       steps =
           Submit 1 (bulk 0x81 (In 8)) ∷ Submit 1 (bulk 0x81 (In 8)) ∷ Submit 1 (interrupt 0x81 (In 8)) ∷ Serve 0 0x81 ∷ Deliver ∷ Take ∷
-          Answer 1 18446744073709551614 Again ∷ Unplug 0 ∷ Submit 1 (bulk 0x81 (In 8)) ∷ Answer 1 18446744073709551614 Stop ∷ [];
+          Answer 1 18446744073709551614 Again ∷ Answer 1 18446744073709551614 (AgainWith []) ∷ Unplug 0 ∷ Submit 1 (bulk 0x81 (In 8)) ∷
+          Answer 1 18446744073709551614 Stop ∷ [];
       lines =
           codes "h1 number 18446744073709551614" ∷ codes "h1 refused 4" ∷ codes "h1 refused 1" ∷ codes "h1 ended 18446744073709551614 code 13" ∷
           codes "h1 finished 18446744073709551614" ∷ codes "h1 called 18446744073709551614 ep 81 round 0 COMPLETED 1 data 01" ∷
-          codes "h1 refused 4" ∷ codes "- done" ∷ codes "h1 refused 2" ∷ codes "h1 done" ∷ [];
+          codes "h1 refused 4" ∷ codes "h1 refused 1" ∷ codes "- done" ∷ codes "h1 refused 2" ∷ codes "h1 done" ∷ [];
     }
