@@ -117,10 +117,10 @@ abbrev pub read_over_the_limit : Row
 read_over_the_limit = record {
   setup = example [] [] [];
   plan =
-      Do (Open 1 0) ∷ Do (Claim 1 0) ∷ Do (Submit 1 (bulk 0x81 (In 262145))) ∷ [];
+      Do (Open 1 0) ∷ Do (Claim 1 0) ∷ Do (Submit 1 (bulk 0x81 (In 262145))) ∷ Do (Submit 1 (bulk 0x81 (In 262144))) ∷ [];
   rules = [];
   lines =
-      codes "h1 done" ∷ codes "h1 done" ∷ codes "h1 refused 1" ∷ [];
+      codes "h1 done" ∷ codes "h1 done" ∷ codes "h1 refused 1" ∷ codes "h1 number 0" ∷ [];
 }
 
 -- Whole packets have one empty packet behind them where that is asked, others none.

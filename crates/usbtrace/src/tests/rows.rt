@@ -1,9 +1,16 @@
 //! The worked rows: what is written of each scenario, word for word.
 
+mod answers;
 mod bad_lines;
 mod cancelling;
+mod closing;
 mod descriptors;
+mod devices;
 mod handles;
+mod places;
+mod refusals;
+mod requests;
+mod statuses;
 mod transfers;
 
 use super::fakes::{Input, run};
@@ -57,4 +64,39 @@ fn cancelled_transfers_print_their_lines(rt: HostRuntime) {
 #[test]
 fn handles_print_their_lines(rt: HostRuntime) {
     assert_eq!(rt; first_to_differ(rt.alloc(), handles::ROWS), None);
+}
+
+#[test]
+fn calls_are_refused_in_their_order(rt: HostRuntime) {
+    assert_eq!(rt; first_to_differ(rt.alloc(), refusals::ROWS), None);
+}
+
+#[test]
+fn requests_are_refused_in_their_order(rt: HostRuntime) {
+    assert_eq!(rt; first_to_differ(rt.alloc(), requests::ROWS), None);
+}
+
+#[test]
+fn interfaces_are_given_back(rt: HostRuntime) {
+    assert_eq!(rt; first_to_differ(rt.alloc(), closing::ROWS), None);
+}
+
+#[test]
+fn places_are_taken_and_given_back(rt: HostRuntime) {
+    assert_eq!(rt; first_to_differ(rt.alloc(), places::ROWS), None);
+}
+
+#[test]
+fn devices_go_while_others_stay(rt: HostRuntime) {
+    assert_eq!(rt; first_to_differ(rt.alloc(), devices::ROWS), None);
+}
+
+#[test]
+fn answers_end_transfers_badly(rt: HostRuntime) {
+    assert_eq!(rt; first_to_differ(rt.alloc(), answers::ROWS), None);
+}
+
+#[test]
+fn statuses_and_flags_are_told(rt: HostRuntime) {
+    assert_eq!(rt; first_to_differ(rt.alloc(), statuses::ROWS), None);
 }

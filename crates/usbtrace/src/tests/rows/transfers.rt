@@ -172,11 +172,13 @@ device 0 0902300002010080320904000002ff00000007058102080000070502020800000904010
 open 1 0
 claim 1 0
 submit 1 81 bulk 262145
+submit 1 81 bulk 262144
 ",
         out: "\
 h1 done
 h1 done
 h1 refused 1
+h1 number 0
 ",
         err: "",
     },
