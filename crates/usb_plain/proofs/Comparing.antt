@@ -25,12 +25,15 @@ places_of_run setup steps = places_from_world setup (new_world setup) steps
 pub entries_are : (setup : Setup) (steps : List Step) (h : ℕ) → own_entries h steps (world_run setup steps) ≡ entries setup steps h
 entries_are setup steps h = ap (λ xs. entries_in (own_places h xs)) (places_of_run setup steps)
 
--- and a run of its own steps is what it says alone
+-- a system of its own over its own steps gives what it says alone
+pub runs_as_alone : (setup : Setup) (steps : List Step) (h : ℕ) → world_run setup (own setup steps h) ≡ alone setup (own setup steps h) h
+runs_as_alone setup steps h = runs_alone setup steps h ∙ sees_alone setup steps h
+
+-- and so does a run of the steps that were kept
 pub run_is_alone : (setup : Setup) (steps : List Step) (h : ℕ) → world_run setup (own_steps h steps (world_run setup steps)) ≡ alone setup (own setup steps h) h
 run_is_alone setup steps h =
     ap (λ xs. world_run setup (steps_in (own_places h xs))) (places_of_run setup steps)
-    ∙ runs_alone setup steps h
-    ∙ sees_alone setup steps h
+    ∙ runs_as_alone setup steps h
 
 -- what is read of the own places of these steps and entries
 abbrev pub of_own : {A : Type 0} → (Place → A) → ℕ → List Step → List Entry → List A

@@ -80,6 +80,8 @@ pub(crate) fn compare(
     requires { all ≡ world_run setup.now steps.now }
     ensures shared { IfOk result (λ b. b.shared ≡ entries setup.now steps.now h) }
     ensures alone { IfOk result (λ b. b.alone ≡ alone setup.now (own setup.now steps.now h) h) }
+    ensures runs { IfOk result (λ b. b.alone ≡ world_run setup.now (own setup.now steps.now h)) }
+    ensures same { IfOk result (λ b. b.shared ≡ b.alone) }
 {
     let part = Part::of(alloc, h, steps, all)?;
     let alone = run_to_end(alloc, setup, part.steps.as_slice())?;
@@ -89,7 +91,7 @@ pub(crate) fn compare(
     })
 }
 
-/// A handle's entries amid the others, and alone over its own steps.
+/// A handle's entries amid the others, and alone over its own steps, in a system of their own. They are the same.
 pub fn alone(
     alloc: Global,
     setup: &Setup,
@@ -98,6 +100,8 @@ pub fn alone(
 ) -> Result<Comparison, AllocError>
     ensures shared { IfOk result (λ b. b.shared ≡ entries setup.now steps.now h) }
     ensures alone { IfOk result (λ b. b.alone ≡ alone setup.now (own setup.now steps.now h) h) }
+    ensures runs { IfOk result (λ b. b.alone ≡ world_run setup.now (own setup.now steps.now h)) }
+    ensures same { IfOk result (λ b. b.shared ≡ b.alone) }
 {
     let all = run_to_end(alloc, setup, steps)?;
     compare(alloc, setup, steps, all, h)

@@ -233,7 +233,8 @@ pub fn drive(
     Ok(entries)
 }
 
-/// A handle's entries of a plan amid the others, and alone over its own steps of the plan.
+/// A handle's entries of a plan amid the others, and alone over its own steps of the plan, in a system of their own. They
+/// are the same.
 pub fn drive_alone(
     alloc: Global,
     setup: &Setup,
@@ -243,6 +244,8 @@ pub fn drive_alone(
 ) -> Result<Comparison, AllocError>
     ensures shared { IfOk result (λ b. b.shared ≡ entries setup.now (expand setup.now plan.now rules.now) h) }
     ensures alone { IfOk result (λ b. b.alone ≡ alone setup.now (own setup.now (expand setup.now plan.now rules.now) h) h) }
+    ensures runs { IfOk result (λ b. b.alone ≡ world_run setup.now (own setup.now (expand setup.now plan.now rules.now) h)) }
+    ensures same { IfOk result (λ b. b.shared ≡ b.alone) }
 {
     let made = Some(Sequence::new(alloc));
     match drive_on(alloc, setup, plan, rules, made) {
