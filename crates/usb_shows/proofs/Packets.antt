@@ -16,7 +16,7 @@ use Rattle.usb_model.specs.Endpoint.{bytes_read}
 use Rattle.usb_model.specs.Endpoint.Packets.{count_of, cut, ended_with, full_packets, open_with, packets_by, pieces}
 use Rattle.usb_model.specs.Requests.{adds_zero_packet, length_of}
 use Rattle.usb_model.specs.Endpoint.Serve.{acknowledged}
-use Rattle.usb_lemmas.proofs.Shares.Packets.{length_cut, no_more_packets}
+use Rattle.usb_model.proofs.CutPackets.{length_cut, no_more_packets}
 use Rattle.usb_lemmas.proofs.Shares.More.{next_of, read_next, sent_next}
 use Rattle.usb_lemmas.proofs.Shares.OpenShares.{IsRead, IsSent, IsWhole, full_count}
 use Rattle.std.proofs.lemmas.Option.{same_Some}
