@@ -5,5 +5,3 @@ mod ReadShares
 mod SentShares
 mod ToldOutcomes
 mod ToldStatuses
-pub mod Computed
-mod WorkedRows

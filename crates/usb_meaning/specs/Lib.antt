@@ -2,4 +2,3 @@ pub mod Nothing
 pub mod Outcomes
 pub mod Packets
 pub mod Statuses
-pub mod Rows

@@ -1,8 +1,6 @@
-//! What the definitions mean: small laws on packets, outcomes of shares, statuses, and steps that change nothing; and
-//! worked rows.
+//! What the definitions mean: small laws on packets, outcomes of shares, statuses, and steps that change nothing.
 //!
 //! The one promise: rules of the standards are said here once more, as relations, and the definitions meet them.
 #![tactic(auto)]
 
 pub mod laws;
-pub mod rows;
