@@ -1,1 +1,0 @@
--- The search proves every goal of this function.
