@@ -8,17 +8,17 @@ use Rattle.usb_model.specs.World.Plans.{expand}
 use Rattle.usb_model.specs.World.Journal.{world_run, own}
 use Rattle.usb_model.specs.Machine.Turns.{alone}
 use Rattle.usb_model.specs.World.Journal.{IsBeginning}
-use Rattle.usb_trace.specs.declared.fault.Fault.{Fault}
-use Rattle.usb_trace.specs.declared.fault.Fault.TheVariants.{Line, Memory, InputOutput}
+use Rattle.usb_streams.specs.declared.fault.Fault.{Fault}
+use Rattle.usb_streams.specs.declared.fault.Fault.TheVariants.{Line, Memory, InputOutput}
 use Rattle.usb_trace.specs.declared.program.Ending.{Ending}
 use Rattle.usb_trace.specs.declared.program.Ending.TheVariants.{Good, BadLines}
 use Rattle.usb_trace.specs.declared.program.Reach.{Reach}
 use Rattle.usb_trace.specs.declared.program.Reach.TheVariants.{End, NoMemory}
 use Rattle.usb_text.specs.declared.scenario.Scenario.{Scenario}
-use Rattle.usb_trace.specs.declared.words.Task.{Task}
-use Rattle.usb_trace.specs.declared.words.Task.TheVariants as task
-use Rattle.usb_trace.specs.Input.{longest_input}
-use Rattle.usb_trace.specs.Printing.{counts_line, AppendsReport}
+use Rattle.usb_command.specs.declared.words.Task.{Task}
+use Rattle.usb_command.specs.declared.words.Task.TheVariants as task
+use Rattle.usb_streams.specs.Input.{longest_input}
+use Rattle.usb_streams.specs.Printing.{counts_line, AppendsReport}
 use Rattle.usb_text.specs.Counts.{counts_of}
 use Rattle.usb_text.specs.Findings.{bad_lines, good_lines}
 use Rattle.usb_text.specs.Scenario.{scenario_of}

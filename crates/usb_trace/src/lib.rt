@@ -4,12 +4,6 @@
 //! The one promise: what is printed is the text of the entries of the scenario that the input spells.
 #![tactic(auto)]
 
-mod fault;
-mod help;
-pub mod laws;
-mod print;
 mod program;
-mod read;
-mod words;
 
 pub use program::trace;

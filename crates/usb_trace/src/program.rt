@@ -4,23 +4,22 @@ ghost use Rattle.std.specs.Prelude.{◌≡◌, ◌≢◌, ◌≤◌, ◌⊎◌, 
 ghost use Rattle.std.specs.Io.KnownBytes.{Appends, Keeps};
 ghost use Rattle.usb_text.specs.Findings.{bad_lines};
 ghost use Rattle.usb_words.specs.Words.{words_of};
-ghost use Rattle.usb_trace.specs.CommandLine.{AreBad, AskFor, AskForHelp};
-ghost use Rattle.usb_trace.specs.Faults.{message_of, IsOfRun};
-ghost use Rattle.usb_trace.specs.Input.{longest_input};
+ghost use Rattle.usb_command.specs.CommandLine.{AreBad, AskFor, AskForHelp};
+ghost use Rattle.usb_streams.specs.Faults.{message_of, IsOfRun};
+ghost use Rattle.usb_streams.specs.Input.{longest_input};
 ghost use Rattle.usb_trace.specs.Program.{alone_text, run_text, IsDone, IsSilentAtBad, Performs, PrintsTo};
-ghost use Rattle.usb_trace.specs.declared.words.Task.{Task};
-ghost use Rattle.usb_trace.specs.declared.words.Task.TheVariants.{Check};
+ghost use Rattle.usb_command.specs.declared.words.Task.{Task};
+ghost use Rattle.usb_command.specs.declared.words.Task.TheVariants.{Check};
 
-use crate::fault::Fault;
-use crate::print::{print, print_findings};
-use crate::read::read_whole;
-use crate::words::{Task, read_words};
 use clap::Error;
 use clap::error::ErrorKind;
 use std::alloc::Global;
 use std::io::{self, Read, Write};
+use usb_command::{Task, read_words};
 use usb_model::Name;
 use usb_plain::{drive, drive_alone};
+use usb_streams::print::{print, print_findings};
+use usb_streams::{Fault, read_whole};
 use usb_text::{Scenario, check, read_scenario};
 
 /// The status of a run that ended early, and of a check that found bad lines.

@@ -1,8 +1,8 @@
 use Rattle.std.proofs.Common.{◌≡◌, ◌⊎◌, IfSome, rules}
 use Rattle.usb_words.specs.Words.{words_of}
-use Rattle.usb_trace.specs.CommandLine.{AskFor, AskForHelp}
+use Rattle.usb_command.specs.CommandLine.{AskFor, AskForHelp}
 use Rattle.usb_trace.specs.Program.{IsDone}
-use Rattle.usb_trace.specs.declared.words.Task.{Task}
+use Rattle.usb_command.specs.declared.words.Task.{Task}
 use Rattle.usb_trace.proofs.Reports.{never_bad}
 use Rattle.usb_trace.proofs.program.trace.Goals as goal
 

@@ -1,0 +1,184 @@
+-- The command line: what its words say.
+use Rattle.std.proofs.Common.{◌≡◌, ◌⊎◌, ◌∙◌, ℕ, Bool, true, false, List, [], ◌∷◌, Option, Some, None, is_some, refl, sym, ap, ap₂, subst, inl, inr, rules, codes}
+use Rattle.std.specs.Prelude.{◌&&◌, Box, find, not, option_map, slice_index_or, unwrap_or}
+use Rattle.std.specs.Box.{box_value}
+use Rattle.std.specs.List.{list_any}
+use Rattle.std.specs.Str.Parse.{ExplainsUnsignedError, HasUnsignedDigitsIfOk, ParsesUnsigned, digits_value, without_leading_plus}
+use Rattle.clap.specs.Matches.{ReadsOne, one_text, subcommand_name_of}
+use Rattle.clap.specs.Faults.{check_fault, defaults_fault, entered_fault, fault_of, is_simple_and_free, level_fault, settle_fault, walk_fault}
+use Rattle.clap.specs.Kinds.{Kinds, check_kinds, or_else}
+use Rattle.clap.specs.Simple.{App, HasMatchesOf, Shape, argument_words, built, entered, label_of, names_of, is_simple, rows_at, subcommand_of, subcommand_rows, subcommand_rows_of}
+use Rattle.clap.specs.Takes.{is_given}
+use Rattle.clap.specs.Walk.{Held, Names, Row, Text, answers_to, finished, nothing_held, rows_of, settled, walk, walk_from}
+use Rattle.clap.specs.declared.parser.matches.ArgMatches.{ArgMatches}
+use Rattle.clap.specs.declared.parser.matches.ArgMatches.TheViews.{out-ArgMatches, out-SubCommand}
+use Rattle.clap.specs.declared.parser.matches.SubCommand.{SubCommand}
+use Rattle.clap.specs.declared.parser.matches.Found.{Found}
+use Rattle.clap.proofs.OnLiterals.{clap_on_literals}
+use Rattle.clap.proofs.WalkLemmas.{one_text-rows}
+use Rattle.usb_command.specs.CommandLine.{grammar, handle_in, task_named, task_of}
+use Rattle.usb_command.specs.declared.words.Task.TheVariants.{Alone, Check, Run}
+
+-- a number that a getter reads is the number that the text says
+pub number_read : (t : List ℕ) (n : ℕ) (r : Option ℕ)
+    → ReadsOne (λ bs r. ParsesUnsigned 8 10 bs r × ExplainsUnsignedError 10 bs r × HasUnsignedDigitsIfOk bs r) t r
+    → r ≡ Some n → n ≡ digits_value 10 (without_leading_plus t)
+number_read t n (Some m) read e = search rules
+number_read t n None read e = cc
+
+-- the handle's number is the one that a getter read from the rows
+pub handle_read : (f : Found) (n : ℕ) (r : Option ℕ)
+    → (one_text f (codes "H") ≡ None → r ≡ None)
+    → ((t : List ℕ) → one_text f (codes "H") ≡ Some t
+    → ReadsOne (λ bs r. ParsesUnsigned 8 10 bs r × ExplainsUnsignedError 10 bs r × HasUnsignedDigitsIfOk bs r) t r)
+    → r ≡ Some n → handle_in (rows_of f) ≡ Some n
+handle_read f n r none some e = by_text (one_text f (codes "H")) refl
+  where
+    by_text : (o : Option (List ℕ)) → one_text f (codes "H") ≡ o → handle_in (rows_of f) ≡ Some n
+    by_text None at = let gone = none at in cc
+    by_text (Some t) at =
+        let row = sym (one_text-rows f (codes "H")) ∙ at in
+        ap (option_map (λ text. digits_value 10 (without_leading_plus text))) row ∙ ap Some (sym (number_read t n r (some t at) e))
+
+-- clap reads the command line by its rules alone
+is_read : is_simple grammar ≡ true
+unfolding clap_on_literals
+is_read = refl
+
+is_judged : is_simple_and_free grammar ≡ true
+unfolding clap_on_literals
+is_judged = refl
+
+-- words that were taken have no fault
+pub without_fault : (a : App) (words : List Text) → a ≡ grammar
+    → (is_simple_and_free a ≡ true → fault_of a words ≡ []) → fault_of grammar words ≡ []
+without_fault a words same judged = subst (λ (b : App). fault_of b words ≡ []) same (judged (rw same is_judged))
+
+-- the subcommand that was met is that of the words
+pub met : (a : App) (words : List Text) (m : ArgMatches) → a ≡ grammar → HasMatchesOf a words m
+    → subcommand_rows_of m ≡ subcommand_of grammar words
+met a words m same read = (read (rw same is_read)).1 ∙ ap (λ (b : App). subcommand_of b words) same
+
+-- what comes second is empty where all is
+second_empty : (first second : Kinds) → or_else first second ≡ [] → second ≡ []
+second_empty [] second e = e
+second_empty (k ∷ ks) second e = cc
+
+-- where one is wanted, words without fault have a subcommand
+wanted : (s : Shape) (rows : List Row) (has : Bool) → s.subcommand_required ≡ true → s.arg_required_else_help ≡ false
+    → check_fault s rows has ≡ [] → has ≡ true
+wanted s rows true required plain e = refl
+wanted s rows false required plain e =
+    let asked : check_kinds false true (not false && list_any (λ a. a.required && not (is_given a.id rows)) s.rules) ≡ [] = rw (required, plain) at e in cc
+
+level_wanted : (s : Shape) (names : Names) (h : Held) (words : List Text) (has : Bool) (below : Kinds)
+    → s.subcommand_required ≡ true → s.arg_required_else_help ≡ false
+    → level_fault s names h words has below ≡ [] → has ≡ true
+level_wanted s names h words has below required plain e =
+    let end = (walk s.rules names h words).held in
+    let last = check_fault s (finished s.rules end) has in
+    let defaults = defaults_fault (settled s.rules end).rows s.rules in
+    let settle = settle_fault s.rules s.args_override_self end in
+    wanted s (finished s.rules end) has required plain
+    (second_empty defaults last
+    (second_empty settle (or_else defaults last)
+    (second_empty below (or_else settle (or_else defaults last))
+    (second_empty (walk_fault s names (walk_from h) words) (or_else below (or_else settle (or_else defaults last))) e))))
+
+pub has_subcommand_without_fault : (words : List Text) → fault_of grammar words ≡ [] → is_some (subcommand_of grammar words) ≡ true
+has_subcommand_without_fault words e =
+    let stop = (walk (built grammar).top.rules (names_of (built grammar)) nothing_held (argument_words grammar words)).stopped in
+    level_wanted (built grammar).top (names_of (built grammar)) nothing_held (argument_words grammar words)
+    (is_some (entered (built grammar) stop)) (entered_fault (built grammar) stop) refl refl e
+
+-- of three shapes the one that is found is one of them
+found : (test : Shape → Bool) (x y z s : Shape) → find test (x ∷ y ∷ z ∷ []) ≡ Some s → (s ≡ x) ⊎ ((s ≡ y) ⊎ (s ≡ z))
+found test x y z s e = by_first (test x) refl
+  where
+    by_third : (t : Bool) → test x ≡ false → test y ≡ false → test z ≡ t → (s ≡ x) ⊎ ((s ≡ y) ⊎ (s ≡ z))
+    by_third true first second t = let got : Some z ≡ Some s = rw (first, second, t) at e in inr (inr (grind rules))
+    by_third false first second t = let got : None ≡ Some s = rw (first, second, t) at e in cc
+
+    by_second : (t : Bool) → test x ≡ false → test y ≡ t → (s ≡ x) ⊎ ((s ≡ y) ⊎ (s ≡ z))
+    by_second true other t = let got : Some y ≡ Some s = rw (other, t) at e in inr (inl (grind rules))
+    by_second false other t = by_third (test z) other t refl
+
+    by_first : (t : Bool) → test x ≡ t → (s ≡ x) ⊎ ((s ≡ y) ⊎ (s ≡ z))
+    by_first true t = let got : Some x ≡ Some s = rw t at e in inl (grind rules)
+    by_first false t = by_second (test y) t refl
+
+-- the subcommand that words name is one of the three
+pub one_of_three : (words : List Text) (named : Text × List Row) → subcommand_of grammar words ≡ Some named
+    → (named.0 ≡ codes "run") ⊎ ((named.0 ≡ codes "alone") ⊎ (named.0 ≡ codes "check"))
+one_of_three words named e = by_stop (walk (built grammar).top.rules (names_of (built grammar)) nothing_held (argument_words grammar words)).stopped e
+  where
+    by_found : (p : Text × List Text) (o : Option Shape) → find (λ s. answers_to p.0 (label_of s)) (built grammar).subs ≡ o
+        → option_map (λ s. rows_at s p.1) o ≡ Some named → (named.0 ≡ codes "run") ⊎ ((named.0 ≡ codes "alone") ⊎ (named.0 ≡ codes "check"))
+    by_found p None at same = cc
+    by_found p (Some s) at same =
+        let name : s.name ≡ named.0 = ap (λ (o : Option (Text × List Row)). unwrap_or (option_map (λ n. n.0) o) []) same in
+        elim (found (λ s. answers_to p.0 (label_of s)) (slice_index_or (built grammar).subs 0 s) (slice_index_or (built grammar).subs 1 s) (slice_index_or (built grammar).subs 2 s) s at) [
+          | inl first ↦ inl (sym name ∙ ap (λ (t : Shape). t.name) first)
+          | inr others ↦ elim others [
+            | inl second ↦ inr (inl (sym name ∙ ap (λ (t : Shape). t.name) second))
+            | inr third ↦ inr (inr (sym name ∙ ap (λ (t : Shape). t.name) third))
+          ]
+        ]
+
+    by_stop : (o : Option (Text × List Text)) → entered (built grammar) o ≡ Some named → (named.0 ≡ codes "run") ⊎ ((named.0 ≡ codes "alone") ⊎ (named.0 ≡ codes "check"))
+    by_stop None same = cc
+    by_stop (Some p) same = by_found p (find (λ s. answers_to p.0 (label_of s)) (built grammar).subs) refl same
+
+-- the name that was met is that of the rows
+name_of_rows : {Z : Type 0} (o : Option (Box SubCommand Z)) → option_map (λ n. n.0) (subcommand_rows o)
+    ≡ option_map (λ b. (out-SubCommand (box_value b)).name.now) o
+name_of_rows None = refl
+name_of_rows (Some b) = refl
+
+-- words whose subcommand is `alone`, with a handle's number behind it, ask for that handle alone
+pub asks_for_alone : (words : List Text) (m : ArgMatches) (rows : List Row) (h : ℕ)
+    → subcommand_rows_of m ≡ subcommand_of grammar words → subcommand_name_of m ≡ Some (codes "alone")
+    → option_map (λ n. n.1) (subcommand_rows_of m) ≡ Some rows → handle_in rows ≡ Some h
+    → task_of (subcommand_of grammar words) ≡ Some (Alone h)
+asks_for_alone words m rows h same name behind number = by_rows (subcommand_rows_of m) refl
+  where
+    by_rows : (o : Option (Text × List Row)) → subcommand_rows_of m ≡ o → task_of (subcommand_of grammar words) ≡ Some (Alone h)
+    by_rows None at = let gone : None ≡ Some rows = rw at at behind in cc
+    by_rows (Some named) at =
+        let its_name : Some named.0 ≡ Some (codes "alone") = ap (option_map (λ n. n.0)) (sym at) ∙ name_of_rows (out-ArgMatches m).subcommand ∙ name in
+        let is_name : named.0 ≡ codes "alone" = ap (λ o. unwrap_or o []) its_name in
+        let its_rows : named.1 ≡ rows = ap (λ o. unwrap_or o []) (ap (option_map (λ n. n.1)) (sym at) ∙ behind) in
+        ap task_of (sym same ∙ at) ∙ ap₂ task_named is_name its_rows ∙ ap (option_map Alone) number
+
+-- words whose subcommand is `check` ask for a check
+pub asks_for_check : (words : List Text) (m : ArgMatches)
+    → subcommand_rows_of m ≡ subcommand_of grammar words → subcommand_name_of m ≡ Some (codes "check")
+    → task_of (subcommand_of grammar words) ≡ Some Check
+asks_for_check words m same name = by_rows (subcommand_rows_of m) refl
+  where
+    by_rows : (o : Option (Text × List Row)) → subcommand_rows_of m ≡ o → task_of (subcommand_of grammar words) ≡ Some Check
+    by_rows None at =
+        let none : None ≡ Some (codes "check") = ap (option_map (λ n. n.0)) (sym at) ∙ name_of_rows (out-ArgMatches m).subcommand ∙ name in cc
+    by_rows (Some named) at =
+        let its_name : Some named.0 ≡ Some (codes "check") = ap (option_map (λ n. n.0)) (sym at) ∙ name_of_rows (out-ArgMatches m).subcommand ∙ name in
+        let is_name : named.0 ≡ codes "check" = ap (λ o. unwrap_or o []) its_name in
+        ap task_of (sym same ∙ at) ∙ ap (λ (name : Text). task_named name named.1) is_name
+
+-- words without fault whose subcommand is neither `alone` nor `check` ask for a run
+pub asks_for_run : (words : List Text) (m : ArgMatches) → subcommand_rows_of m ≡ subcommand_of grammar words
+    → (subcommand_name_of m ≡ Some (codes "alone") → ⊥) → (subcommand_name_of m ≡ Some (codes "check") → ⊥) → fault_of grammar words ≡ []
+    → task_of (subcommand_of grammar words) ≡ Some Run
+asks_for_run words m same other third clear = by_rows (subcommand_of grammar words) refl (has_subcommand_without_fault words clear)
+  where
+    name_is : (named : Text × List Row) (name : Text) → subcommand_of grammar words ≡ Some named → named.0 ≡ name → subcommand_name_of m ≡ Some name
+    name_is named name at is = sym (name_of_rows (out-ArgMatches m).subcommand) ∙ ap (option_map (λ n. n.0)) (same ∙ at) ∙ ap Some is
+
+    by_rows : (o : Option (Text × List Row)) → subcommand_of grammar words ≡ o → is_some o ≡ true → task_of (subcommand_of grammar words) ≡ Some Run
+    by_rows None at some = cc
+    by_rows (Some named) at some = elim (one_of_three words named at) [
+      | inl run ↦ ap task_of at ∙ ap (λ (name : Text). task_named name named.1) run
+      | inr others ↦ elim others [
+        | inl alone ↦ absurd (other (name_is named (codes "alone") at alone))
+        | inr check ↦ absurd (third (name_is named (codes "check") at check))
+      ]
+    ]

@@ -1,0 +1,38 @@
+use Rattle.usb_command.proofs.WordsRead.{alone_asks, check_asks, check_of_a_file_is_bad, handle_64_is_bad, help_asks, help_is_no_word, leading_zeros_ask, no_handle_is_bad, no_words_are_bad, plus_sign_asks, run_asks, too_many_are_bad}
+use Rattle.usb_command.proofs.laws.words.Goals as goal
+
+pub returns-clause-run : goal.returns-clause-run
+returns-clause-run c = run_asks
+
+pub returns-clause-alone : goal.returns-clause-alone
+returns-clause-alone c = alone_asks
+
+pub returns-clause-plus_sign : goal.returns-clause-plus_sign
+returns-clause-plus_sign c = plus_sign_asks
+
+pub returns-clause-leading_zeros : goal.returns-clause-leading_zeros
+returns-clause-leading_zeros c = leading_zeros_ask
+
+pub returns-clause-help : goal.returns-clause-help
+returns-clause-help c = help_asks
+
+pub returns-clause-no_words : goal.returns-clause-no_words
+returns-clause-no_words c = no_words_are_bad
+
+pub returns-clause-too_many : goal.returns-clause-too_many
+returns-clause-too_many c = too_many_are_bad
+
+pub returns-clause-no_handle : goal.returns-clause-no_handle
+returns-clause-no_handle c = no_handle_is_bad
+
+pub returns-clause-handle_64 : goal.returns-clause-handle_64
+returns-clause-handle_64 c = handle_64_is_bad
+
+pub returns-clause-no_help : goal.returns-clause-no_help
+returns-clause-no_help c = help_is_no_word
+
+pub returns-clause-check : goal.returns-clause-check
+returns-clause-check c = check_asks
+
+pub returns-clause-check_of_a_file : goal.returns-clause-check_of_a_file
+returns-clause-check_of_a_file c = check_of_a_file_is_bad

@@ -1,0 +1,119 @@
+//! The words of the command line.
+
+ghost use Rattle.std.specs.Prelude.{◌≡◌, IfOk, Some, false};
+ghost use Rattle.clap.specs.Kinds.{FailsBy};
+ghost use Rattle.clap.specs.Faults.{fault_of};
+ghost use Rattle.clap.specs.Matches.{found_of};
+ghost use Rattle.clap.specs.Simple.{app_of, shape_of};
+ghost use Rattle.clap.specs.declared.builder.command.Command.TheViews.{out-Command as fields_of};
+ghost use Rattle.clap.specs.Walk.{rows_of, rule_of};
+ghost use Rattle.usb_command.specs.CommandLine.{AskFor, alone_words, check_words, grammar, handle_in, handle_word, program_alone, run_words};
+ghost use Rattle.usb_words.specs.Words.{words_of};
+
+use crate::help;
+use clap::builder::ValueParser;
+use clap::{Arg, ArgAction, ArgMatches, Command, Error};
+use std::alloc::{AllocError, Global};
+use usb_model::Name;
+
+/// What the program is asked to do.
+#[derive(Clone, Copy, PartialEq, Eq, Debug)]
+pub enum Task {
+    /// Run the scenario, and print all entries.
+    Run,
+    /// Print the entries of this handle alone.
+    Alone(Name),
+    /// Print what is wrong with the scenario.
+    Check,
+}
+
+/// The last name of a handle.
+const LAST_HANDLE: u64 = 63;
+
+/// The task of some words, of which the first is the program's name. Else their fault, or the help that they ask for.
+pub fn read_words(alloc: Global, words: &[&str]) -> Result<Task, Error>
+    ensures task { IfOk result (AskFor (words_of words.now)) }
+    ensures fault { FailsBy (fault_of grammar (words_of words.now)) result }
+{
+    let matches = command(alloc)?.try_get_matches_from(words)?;
+    if let Some(found) = matches.subcommand_matches("alone") {
+        return Ok(Task::Alone(handle_of(found)?));
+    }
+    if matches.subcommand_matches("check").is_some() {
+        return Ok(Task::Check);
+    }
+    Ok(Task::Run)
+}
+
+/// The words that the program takes.
+fn command<'a>(alloc: Global) -> Result<Command<'a>, AllocError>
+    ensures { IfOk result (λ command. app_of command ≡ grammar) }
+{
+    program(alloc)
+        .subcommand(run(alloc))?
+        .subcommand(alone(alloc)?)?
+        .subcommand(check(alloc))
+}
+
+/// The program's name, with what holds for all its words.
+fn program<'a>(alloc: Global) -> Command<'a>
+    ensures { app_of result ≡ program_alone }
+{
+    Command::new(alloc, "usbtrace")
+        .about("Runs a scenario of USB transfers, read from standard input")
+        .after_help(help::PROGRAM)
+        .disable_help_subcommand(true)
+        .subcommand_required(true)
+}
+
+/// The words `run`.
+fn run<'a>(alloc: Global) -> Command<'a>
+    ensures words { shape_of result ≡ run_words }
+    ensures local { (fields_of result).has_globals ≡ false }
+{
+    Command::new(alloc, "run")
+        .about("Runs the scenario and prints its entries")
+        .after_help(help::RUN)
+}
+
+/// The words `alone H`.
+fn alone<'a>(alloc: Global) -> Result<Command<'a>, AllocError>
+    ensures words { IfOk result (λ command. shape_of command ≡ alone_words) }
+    ensures local { IfOk result (λ command. (fields_of command).has_globals ≡ false) }
+{
+    Command::new(alloc, "alone")
+        .about("Prints the entries of one handle, alone over its own steps")
+        .after_help(help::ALONE)
+        .arg(handle(alloc))
+}
+
+/// The words `check`.
+fn check<'a>(alloc: Global) -> Command<'a>
+    ensures words { shape_of result ≡ check_words }
+    ensures local { (fields_of result).has_globals ≡ false }
+{
+    Command::new(alloc, "check")
+        .about("Prints what is wrong with the scenario, line by line")
+        .after_help(help::CHECK)
+}
+
+/// The word of a handle.
+fn handle<'a>(alloc: Global) -> Arg<'a>
+    ensures word { rule_of result ≡ handle_word }
+    ensures local { result.global ≡ false }
+{
+    Arg::new(alloc, "H")
+        .required(true)
+        .action(ArgAction::Set)
+        .value_parser(ValueParser::unsigned(0, LAST_HANDLE))
+        .help("The handle, 0 to 63")
+}
+
+/// The handle that was given. clap has seen that it is there, and at most 63; but no contract of clap's says so of what
+/// stands behind a subcommand, so where it is missing memory counts as wanting.
+fn handle_of(found: &ArgMatches<'_>) -> Result<Name, AllocError>
+    ensures { IfOk result (λ h. handle_in (rows_of (found_of found.now)) ≡ Some h) }
+{
+    let number = found.get_one::<u8>("H").ok_or(AllocError)?;
+    Ok(Name::new(number).ok_or(AllocError)?)
+}

@@ -1,0 +1,5 @@
+pub mod Faults
+pub mod Input
+pub mod Printing
+pub use Rattle.usb_model.specs.Text
+pub use Rattle.usb_text.specs.Counts

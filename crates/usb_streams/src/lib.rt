@@ -1,0 +1,11 @@
+//! What `usbtrace` reads and writes: the whole input, the entries of a run, the findings of a check, and why it ends early.
+//!
+//! The one promise: what is appended to the output is the text of what was to be printed.
+#![tactic(auto)]
+
+mod fault;
+pub mod print;
+mod read;
+
+pub use fault::Fault;
+pub use read::read_whole;
