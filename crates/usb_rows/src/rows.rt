@@ -14,7 +14,7 @@ ghost use Rattle.usb_rows.specs.Rows.Requests.{unsupported_endpoints, bad_reques
 ghost use Rattle.usb_rows.specs.Rows.Closing.{close_frees_its_interfaces, numbers_go_on_behind_a_close, result_that_waits_is_in_the_way, errand_is_in_the_way, release_looks_at_one_interface, claim_of_what_is_held, reset_ends_a_halt};
 ghost use Rattle.usb_rows.specs.Rows.Places.{blanks_behind_a_failed_transfer, blanks_behind_a_completed_transfer, sixteen_places_at_each_endpoint};
 ghost use Rattle.usb_rows.specs.Rows.Devices.{two_devices_one_unplugged, four_devices_one_unplugged, served_before_the_unplug, unplug_amid_packets, cancel_at_a_gone_device, cancel_loses_to_the_unplug};
-ghost use Rattle.usb_rows.specs.Rows.Answers.{broken_at_first, broken_amid_packets, broken_behind_a_cancel, stall_amid_out};
+ghost use Rattle.usb_rows.specs.Rows.Answers.{broken_at_first, broken_amid_packets, broken_behind_a_cancel, stall_amid_out, stall_and_babble_amid_reads, cancel_behind_a_stall};
 ghost use Rattle.usb_rows.specs.Rows.Statuses.{every_status, every_flag};
 ghost use Rattle.usb_rows.specs.Rows.Steps.{again_with_other_bytes, again_with_bytes_for_in, write_over_the_limit, requests_of_unsupported_kinds, last_number_is_given_to_none};
 
@@ -138,6 +138,8 @@ pub fn answers()
     ensures broken_amid_packets { Prints broken_amid_packets }
     ensures broken_behind_a_cancel { Prints broken_behind_a_cancel }
     ensures stall_amid_out { Prints stall_amid_out }
+    ensures stall_and_babble_amid_reads { Prints stall_and_babble_amid_reads }
+    ensures cancel_behind_a_stall { Prints cancel_behind_a_stall }
 {}
 
 /// Each status and each flag.

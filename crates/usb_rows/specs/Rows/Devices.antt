@@ -11,13 +11,13 @@ abbrev pub two_devices_one_unplugged : Row
 two_devices_one_unplugged = record {
   setup = example (Data (1 ∷ []) ∷ []) [] [] ++ example (Data (2 ∷ []) ∷ []) [] [];
   plan =
-      Do (Open 1 0) ∷ Do (Open 2 1) ∷ Do (Open 1 1) ∷ Do (Claim 1 0) ∷ Do (Claim 2 0) ∷ Do (Submit 1 (bulk 0x81 (In 8))) ∷
-      Do (Submit 2 (bulk 0x81 (In 8))) ∷ Do (Unplug 0) ∷ Do (Serve 0 0x81) ∷ Do (Serve 1 0x81) ∷ Do Deliver ∷ Do Deliver ∷ Do Take ∷ Do Take ∷
+      Do (Open 1 0) ∷ Do (Open 2 1) ∷ Do (Open 1 1) ∷ Do (Claim 2 0) ∷ Do (Submit 2 (bulk 0x81 (In 8))) ∷ Do (Claim 1 0) ∷ Do (Claim 1 1) ∷
+      Do (Submit 1 (bulk 0x81 (In 8))) ∷ Do (Unplug 0) ∷ Do (Serve 0 0x81) ∷ Do (Serve 1 0x81) ∷ Do Deliver ∷ Do Deliver ∷ Do Take ∷ Do Take ∷
       Do (Submit 1 (bulk 0x81 (In 8))) ∷ Do (Submit 2 (bulk 0x81 (In 8))) ∷ Do (Open 3 0) ∷ Do (Open 3 1) ∷ Do (Claim 3 1) ∷ [];
   rules = [];
   lines =
-      codes "h1 done" ∷ codes "h2 done" ∷ codes "h1 refused 4" ∷ codes "h1 done" ∷ codes "h2 done" ∷ codes "h1 number 0" ∷ codes "h2 number 0" ∷
-      codes "- done" ∷ codes "h1 ended 0 code 4" ∷ codes "h2 ended 0 code 13" ∷ codes "h1 finished 0" ∷ codes "h2 finished 0" ∷
+      codes "h1 done" ∷ codes "h2 done" ∷ codes "h1 refused 4" ∷ codes "h2 done" ∷ codes "h2 number 0" ∷ codes "h1 done" ∷ codes "h1 done" ∷
+      codes "h1 number 0" ∷ codes "- done" ∷ codes "h1 ended 0 code 4" ∷ codes "h2 ended 0 code 13" ∷ codes "h1 finished 0" ∷ codes "h2 finished 0" ∷
       codes "h1 called 0 ep 81 round 0 NO_DEVICE 0 data -" ∷ codes "h2 called 0 ep 81 round 0 COMPLETED 1 data 02" ∷ codes "h1 refused 2" ∷
       codes "h2 number 1" ∷ codes "h3 refused 2" ∷ codes "h3 done" ∷ codes "h3 done" ∷ [];
 }

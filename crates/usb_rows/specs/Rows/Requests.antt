@@ -44,13 +44,13 @@ bad_requests_at_a_full_endpoint = record {
       codes "h1 refused 2" ∷ codes "h1 refused 2" ∷ [];
 }
 
--- An ask is refused where its transfer isn't in progress, was asked before, or has no time that can be over. Two asks order one Stop.
+-- An ask is refused where its transfer isn't in progress, was asked before, or has no time that can be over. Two asks order one Stop, and are met in line order.
 abbrev pub refused_asks : Row
 refused_asks = record {
   setup = example [] [] [];
   plan =
       Do (Open 1 0) ∷ Do (Claim 1 0) ∷ Do (Submit 1 (record (bulk 0x81 (In 8)) { timeout = 5 })) ∷ Do (Submit 1 (bulk 0x81 (In 8))) ∷
-      Do (Cancel 1 2) ∷ Do (Expire 1 2) ∷ Do (Expire 1 1) ∷ Do (Expire 1 0) ∷ Do (Expire 1 0) ∷ Do (Cancel 1 1) ∷ Do (Cancel 1 1) ∷ Do Command ∷
+      Do (Cancel 1 2) ∷ Do (Expire 1 2) ∷ Do (Expire 1 1) ∷ Do (Cancel 1 1) ∷ Do (Cancel 1 1) ∷ Do (Expire 1 0) ∷ Do (Expire 1 0) ∷ Do Command ∷
       Do Deliver ∷ Do (Cancel 1 0) ∷ Do (Expire 1 0) ∷ Do Take ∷ Do (Cancel 1 0) ∷ Do Take ∷ Do Command ∷ [];
   rules = [];
   lines =

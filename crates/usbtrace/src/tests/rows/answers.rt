@@ -200,4 +200,83 @@ h1 called 1 ep 02 round 0 STALL 0 data -
 ",
         err: "",
     },
+    Row {
+        name: "stall_and_babble_amid_reads",
+        words: &["usbtrace", "run"],
+        input: b"\
+device 0 0902300002010080320904000002ff00000007058102080000070502020800000904010001ff0000000705830308000a
+script 0 81 d:0102030405060708 s
+script 0 83 d:0102030405060708 d:010203040506070809
+open 1 0
+claim 1 0
+claim 1 1
+submit 1 81 bulk 24
+submit 1 83 int 24
+serve 0 81
+serve 0 81
+serve 0 83
+serve 0 83
+deliver
+deliver
+take
+take
+",
+        out: "\
+h1 done
+h1 done
+h1 done
+h1 number 0
+h1 number 1
+h1 moved 0 8
+h1 ended 0 code 6
+h1 moved 1 8
+h1 ended 1 code 3
+h1 finished 0
+h1 finished 1
+h1 called 0 ep 81 round 0 STALL 8 data 0102030405060708
+h1 called 1 ep 83 round 0 OVERFLOW 8 data 0102030405060708
+",
+        err: "",
+    },
+    Row {
+        name: "cancel_behind_a_stall",
+        words: &["usbtrace", "run"],
+        input: b"\
+device 0 0902300002010080320904000002ff00000007058102080000070502020800000904010001ff0000000705830308000a
+script 0 81 s
+open 1 0
+claim 1 0
+submit 1 81 bulk 8
+submit 1 81 bulk 8
+serve 0 81
+deliver
+cancel 1 1
+command
+deliver
+take
+take
+command
+deliver
+clear 1 81
+command
+",
+        out: "\
+h1 done
+h1 done
+h1 number 0
+h1 number 1
+h1 ended 0 code 6
+h1 finished 0
+h1 done
+h1 ran reset 81 ok
+h1 settled reset 81 ok
+h1 called 0 ep 81 round 0 STALL 0 data -
+h1 called 1 ep 81 round 0 CANCELLED 0 data -
+h1 ran move 81 ok
+h1 settled move 81 ok
+h1 done
+- idle
+",
+        err: "",
+    },
 ];

@@ -14,10 +14,11 @@ script 1 81 d:02
 open 1 0
 open 2 1
 open 1 1
-claim 1 0
 claim 2 0
-submit 1 81 bulk 8
 submit 2 81 bulk 8
+claim 1 0
+claim 1 1
+submit 1 81 bulk 8
 unplug 0
 serve 0 81
 serve 1 81
@@ -35,10 +36,11 @@ claim 3 1
 h1 done
 h2 done
 h1 refused 4
-h1 done
 h2 done
-h1 number 0
 h2 number 0
+h1 done
+h1 done
+h1 number 0
 - done
 h1 ended 0 code 4
 h2 ended 0 code 13

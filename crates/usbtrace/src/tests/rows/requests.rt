@@ -119,10 +119,10 @@ submit 1 81 bulk 8
 cancel 1 2
 expire 1 2
 expire 1 1
-expire 1 0
-expire 1 0
 cancel 1 1
 cancel 1 1
+expire 1 0
+expire 1 0
 command
 deliver
 cancel 1 0
