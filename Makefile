@@ -1,8 +1,9 @@
-# `make run` proves the program and shows the README's example; `make try` shows it unproved; `make test` is the gate.
+# `make run` proves the program and shows the README's example; `make try` shows it unproved; `make test` is the gate;
+# `make plant` makes definitions wrong, and says what refuses that (hours).
 
 SCENARIO = ../../examples/cancel_amid_transfer.txt
 
-.PHONY: run try test
+.PHONY: run try test plant
 
 run:
 	@cd crates/usbtrace && rt run -- run < $(SCENARIO)
@@ -12,3 +13,6 @@ try:
 
 test:
 	rt ci
+
+plant:
+	tools/plant_definitions.py
