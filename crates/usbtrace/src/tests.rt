@@ -1,14 +1,14 @@
-//! What no clause says: whole runs over worked rows, streams that fail, the words, and the public functions of
-//! `usb_model`, `usb_endpoint` and `usb_plain` once each where memory is there.
+//! What no clause says: whole runs over worked rows, streams that fail, the words, and those public
+//! functions of `usb_model` and `usb_plain` that the program doesn't call, once each where memory is there.
 
 mod bad_lines;
 mod check;
 mod edges;
-mod endpoint;
 mod fakes;
 mod long;
 mod model;
 mod rows;
 mod runs;
+mod scenes;
 mod streams;
 mod words;

@@ -1,12 +1,8 @@
-//! The printed lines, each form once, and each public function once.
+//! The printed lines, each form once.
 
-use bitflags::Flags as _;
 use std::fmt::Display;
 use std::test::Fail;
-use usb_model::{
-    Bytes, DeviceNo, Entry, EpAddr, Errand, Name, Refused, Reply, Returned, Sequence, Status,
-    StatusSet, Step, Verdict,
-};
+use usb_model::{Bytes, Entry, EpAddr, Errand, Name, Refused, Reply, Returned, Sequence, Status};
 
 fn name(number: u8) -> Result<Name, Fail> {
     Ok(Name::new(number).ok_or("a name of 64 or more")?)
@@ -114,45 +110,5 @@ fn calls_print_their_bytes(rt: HostRuntime) -> Result<(), Fail> {
         gone.to_string(rt.alloc())?.as_str(),
         "h2 called 0 ep 81 round 2 NO_DEVICE 0 data -"
     );
-    Ok(())
-}
-
-#[test]
-fn names_and_numbers(rt: HostRuntime) -> Result<(), Fail> {
-    assert_eq!(rt; Name::new(64).is_none(), true);
-    assert_eq!(rt; name(63)?.number(), 63);
-    assert_eq!(rt; DeviceNo::new(4).is_none(), true);
-    assert_eq!(rt; DeviceNo::new(3).ok_or("no device 3")?.number(), 3);
-    let ep = EpAddr::new(0x83);
-    assert_eq!(rt;
-        (ep.address(), ep.number(), ep.id(), ep.is_in()),
-        (0x83, 3, 7, true)
-    );
-    assert_eq!(rt; Refused::NotFound.number(), 3);
-    assert_eq!(rt; Refused::NotFound.libusb_number(), -5);
-    assert_eq!(rt;
-        (StatusSet::STALL | StatusSet::ERROR).includes(Status::Stall),
-        true
-    );
-    assert_eq!(rt;
-        (StatusSet::STALL | StatusSet::ERROR).includes(Status::Completed),
-        false
-    );
-    assert_eq!(rt; Step::Take.takes_payload(), false);
-    let again = Step::Answer {
-        h: name(1)?,
-        n: 0,
-        verdict: Verdict::Again,
-    };
-    assert_eq!(rt; again.takes_payload(), true);
-    Ok(())
-}
-
-#[test]
-fn sequences_give_their_vec_back(rt: HostRuntime) -> Result<(), Fail> {
-    let bytes = Sequence::from_vec(vec![in rt.alloc(); 7u8, 8]?);
-    assert_eq!(rt; (bytes.len(), bytes.is_empty()), (2, false));
-    assert_eq!(rt; bytes.as_slice(), [7, 8].as_slice());
-    assert_eq!(rt; bytes.into_vec().as_slice(), [7, 8].as_slice());
     Ok(())
 }

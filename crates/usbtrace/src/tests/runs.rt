@@ -1,56 +1,20 @@
 //! Runs of `usb_plain` by the outside's lines: two handles at one device, which is unplugged amid their transfers.
 
+use super::scenes::setup_of;
 use bitflags::Flags as _;
 use std::alloc::Global;
 use std::fmt::Display;
 use std::test::Fail;
-use usb_model::{
-    Body, Bytes, Configuration, DeviceNo, DeviceSetup, EndpointInfo, Entry, EpAddr, Flags, Kind,
-    Name, Request, Response, Sequence, Setup, Step,
-};
+use usb_model::{Body, DeviceNo, Entry, EpAddr, Flags, Kind, Name, Request, Step};
 use usb_plain::{alone, run};
-
-fn bytes(alloc: Global, values: &[u8]) -> Result<Bytes, Fail> {
-    Ok(Sequence::from_vec(Vec::from_slice(alloc, values)?))
-}
 
 fn device(number: u8) -> Result<DeviceNo, Fail> {
     Ok(DeviceNo::new(number).ok_or("a device of 4 or more")?)
 }
 
-/// A device with a bulk endpoint of interface 0 and an interrupt endpoint of interface 1; the first answers one packet.
-fn two_interfaces(alloc: Global) -> Result<Setup, Fail> {
-    let bulk = EndpointInfo {
-        address: EpAddr::new(0x81),
-        interface: 0,
-        kind: Kind::Bulk,
-        packet_size: 8,
-    };
-    let interrupt = EndpointInfo {
-        address: EpAddr::new(0x83),
-        interface: 1,
-        kind: Kind::Interrupt,
-        packet_size: 8,
-    };
-    let mut script = Vec::new(alloc);
-    script.push(Response::Data(bytes(alloc, &[1, 2, 3, 4, 5, 6, 7, 8])?))?;
-    let mut scripts = Vec::new(alloc);
-    for _ in 0..3 {
-        scripts.push(Sequence::new(alloc))?;
-    }
-    scripts.push(Sequence::from_vec(script))?;
-    let config = Configuration {
-        interfaces: bytes(alloc, &[0, 1])?,
-        endpoints: Sequence::from_vec(vec![in alloc; bulk, interrupt]?),
-    };
-    let device = DeviceSetup {
-        config,
-        scripts: Sequence::from_vec(scripts),
-    };
-    let mut devices = Vec::new(alloc);
-    devices.push(device)?;
-    Ok(Sequence::from_vec(devices))
-}
+/// A device with bulk endpoints of interface 0 and an interrupt endpoint of interface 1; endpoint 81 answers one packet.
+const TWO_INTERFACES: &str =
+    "device 0 0902300002010080320904000002ff00000007058102080000070502020800000904010001ff0000000705830308000a\nscript 0 81 d:0102030405060708\n";
 
 fn name(number: u8) -> Result<Name, Fail> {
     Ok(Name::new(number).ok_or("a name of 64 or more")?)
@@ -110,7 +74,7 @@ fn print(alloc: Global, entries: &[Entry], lines: &[&str]) -> Result<bool, Fail>
 #[test]
 fn a_run_prints_every_entry(rt: HostRuntime) -> Result<(), Fail> {
     let alloc = rt.alloc();
-    let setup = two_interfaces(alloc)?;
+    let setup = setup_of(alloc, TWO_INTERFACES)?;
     let steps = unplugged_amid_transfers(alloc)?;
     let Ok(entries) = run(alloc, &setup, &steps) else {
         return Err(Fail::from("out of memory"));
@@ -143,7 +107,7 @@ fn a_run_prints_every_entry(rt: HostRuntime) -> Result<(), Fail> {
 #[test]
 fn a_handle_sees_alone_what_it_sees_amid_others(rt: HostRuntime) -> Result<(), Fail> {
     let alloc = rt.alloc();
-    let setup = two_interfaces(alloc)?;
+    let setup = setup_of(alloc, TWO_INTERFACES)?;
     let steps = unplugged_amid_transfers(alloc)?;
     let both = alone(alloc, &setup, &steps, name(2)?)?;
     let lines = [
