@@ -1,5 +1,5 @@
 -- TRBs in use are written over.
-use Rattle.std.proofs.Common.{◌≡◌, ◌≢◌, ℕ, suc, ◌+◌, ◌-◌, ◌%◌, ◌<◌, ◌≤◌, Bool, refl, ap, sym, ◌∙◌, subst, arith, List, [], ◌∷◌, length, get_or, inl, inr, ◌⊎◌}
+use Rattle.std.proofs.Common.{◌≡◌, ◌≢◌, ℕ, suc, ◌+◌, ◌-◌, ◌%◌, ◌<◌, ◌≤◌, Bool, ap, sym, ◌∙◌, subst, arith, List, [], ◌∷◌, length, get_or, inl, inr, ◌⊎◌}
 use Rattle.std.specs.Prelude.{not}
 use Rattle.std.proofs.lemmas.Bool.{cases_eq, cases_lt}
 use Rattle.usb_trb.specs.declared.kind.TrbKind.{TrbKind}

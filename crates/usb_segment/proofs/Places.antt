@@ -1,5 +1,5 @@
 -- Places over a width: all that is said of places stands on these.
-use Rattle.std.proofs.Common.{◌≡◌, ℕ, suc, ◌+◌, ◌*◌, ◌-◌, ◌/◌, ◌%◌, ◌<◌, ◌≤◌, Bool, true, false, refl, ap, sym, ◌∙◌, arith, ltb, nat_lt, ◌⊎◌, inl, inr}
+use Rattle.std.proofs.Common.{◌≡◌, ℕ, suc, ◌+◌, ◌*◌, ◌-◌, ◌/◌, ◌%◌, ◌<◌, ◌≤◌, true, false, ap, sym, ◌∙◌, arith, nat_lt, ◌⊎◌, inl, inr}
 use Rattle.std.specs.Prelude.{not}
 use Rattle.std.proofs.Math.Nat.{mod-add-mod, add-mod_right, mod-lt, mod-eq_of_lt, mod-eq-sub-mod, mod-add-div', add-mul-mod_self_right, add-mul, mul-add, mod-mod}
 use Rattle.std.proofs.lemmas.Bool.{cases_lt, lt-ltb, le-ltb}

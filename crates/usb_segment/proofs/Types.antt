@@ -1,10 +1,10 @@
 -- The type of a TRB stands alone in the upper six bits of byte 13.
-use Rattle.std.proofs.Common.{◌≡◌, ℕ, ◌+◌, ◌*◌, ◌/◌, ◌%◌, ◌<◌, ◌≤◌, Bool, true, false, refl, ap, sym, ◌∙◌, arith, nat_eq, List, [], length, get_or}
+use Rattle.std.proofs.Common.{◌≡◌, ℕ, ◌/◌, ◌%◌, ◌<◌, ◌≤◌, Bool, refl, ap, sym, ◌∙◌, arith, nat_eq, List, [], length, get_or}
 use Rattle.std.proofs.lemmas.List.{get_or_read}
 use Rattle.usb_trb.specs.declared.kind.TrbKind.{TrbKind}
 use Rattle.usb_trb.specs.declared.kind.TrbKind.TheVariants.{Normal, Link, NoOp, ResetEndpoint, StopEndpoint, SetDequeue, TransferEvent, CommandCompletion}
 use Rattle.usb_trb.specs.declared.trb.Trb.{Trb}
-use Rattle.usb_trb.specs.Words.{bit, control, type_of, trb_bytes}
+use Rattle.usb_trb.specs.Words.{control, type_of, trb_bytes}
 use Rattle.usb_trb.specs.Read.{cycle_in}
 use Rattle.usb_trb.proofs.Found.{bit≤1}
 use Rattle.usb_segment.specs.Places.{index_of}

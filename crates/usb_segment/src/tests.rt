@@ -1,12 +1,16 @@
 //! Bytes that a consumer would read.
 
+ghost use Rattle.std.specs.Prelude.{◌≤◌, IfOk};
+
 use crate::Segment;
 use std::alloc::Global;
 use std::process::Abort;
 use std::test::Fail;
 use usb_trb::{Length, Pointer, TrbKind};
 
-fn base() -> Result<Pointer, Fail> {
+fn base() -> Result<Pointer, Fail>
+    ensures { IfOk result (λ b. b ≤ 0x1002_3000) }
+{
     let base = Pointer::new(0x1002_3000).ok_or("an address")?;
     if base.address() > 0x1002_3000 {
         return Err("an address")?;

@@ -1,4 +1,4 @@
-use Rattle.std.proofs.Common.{◌≡◌, ◌∙◌, ◌<◌, ap, arith, length}
+use Rattle.std.proofs.Common.{◌≡◌, ◌∙◌, ap, arith, length}
 use Rattle.usb_segment.specs.Memory.{Memory}
 use Rattle.usb_segment.proofs.Fresh.{clear-link, clear-none}
 use Rattle.usb_segment.proofs.segment.Segment.clear.Goals as goal

@@ -1,6 +1,6 @@
-use Rattle.std.proofs.Common.{◌≡◌, ◌+◌, ◌∙◌, suc, replicate, refl, ap, arith, List, ℕ, set}
+use Rattle.std.proofs.Common.{◌≡◌, ◌+◌, ◌∙◌, suc, replicate, refl, ap, arith, ℕ}
 use Rattle.std.specs.List.{each_same}
-use Rattle.usb_segment.specs.Memory.{Memory, zeros}
+use Rattle.usb_segment.specs.Memory.{zeros}
 use Rattle.usb_segment.proofs.segment.Segment.with_link.Goals as goal
 
 pub returns : goal.returns
