@@ -8,7 +8,7 @@ use Rattle.usb_trb.specs.Words.{trb_bytes}
 use Rattle.usb_trb.specs.Read.{kind_of, cycle_in}
 use Rattle.usb_trb.proofs.Numbers.{cycle_in-zeros}
 use Rattle.usb_segment.specs.Places.{index_of, cycle_of}
-use Rattle.usb_segment.specs.Memory.{cell, chain_of, link_at, zeros, cleared}
+use Rattle.usb_segment.specs.Memory.{cell, chain_of, link_at, zeros, cleared_cells, cleared}
 use Rattle.usb_segment.specs.Written.{IsMemory}
 use Rattle.usb_segment.proofs.Cells.{index-below}
 
@@ -18,6 +18,7 @@ unfolding kind_of
 zeros-chain = refl
 
 pub cell-cleared : (w size base q : ℕ) → 0 < w → w ≤ size → cell w (cleared w size base) q ≡ zeros
+unfolding cleared_cells
 cell-cleared w size base q z h =
     let below = index-below w q z in
     let other : index_of w q ≡ w → ⊥ = omega (arith, below) in
@@ -30,14 +31,21 @@ cycle-first w q h =
     let e : q % (w + w) ≡ q = mod-eq_of_lt two in
     lt-ltb (q % (w + w)) w (omega (arith, e))
 
+pub length-cleared : (w size base : ℕ) → length (cleared_cells w size base) ≡ size
+unfolding cleared_cells
+length-cleared w size base = length-set (replicate size zeros) w (trb_bytes (link_at base false false)) ∙ length-replicate size zeros
+
+link-cleared : (w size base : ℕ) → w < size → get_or (cleared_cells w size base) w [] ≡ trb_bytes (link_at base false false)
+unfolding cleared_cells
+link-cleared w size base h = get_or-set_same (replicate size zeros) w (trb_bytes (link_at base false false)) [] (omega (arith, length-replicate size zeros))
+
 -- enqueue is at the first place
 pub memory-cleared : (w size base : ℕ) → 0 < w → w ≤ size → IsMemory w (cleared w size base) 0
 memory-cleared w size base z h = record {
-  cells = omega (arith, length-set (replicate size zeros) w (trb_bytes (link_at base false false)), length-replicate size zeros);
+  cells = omega (arith, length-cleared w size base);
   turned = λ q a b. ap cycle_in (cell-cleared w size base q z h) ∙ cycle_in-zeros ∙ ap not (sym (cycle-first w q (omega arith)));
   linked = λ long.
-      let all : size ≡ suc w = sym (length-replicate size zeros) ∙ sym (length-set (replicate size zeros) w (trb_bytes (link_at base false false))) ∙ long in
-      get_or-set_same (replicate size zeros) w (trb_bytes (link_at base false false)) [] (omega (arith, length-replicate size zeros, all))
+      link-cleared w size base (omega (arith, length-cleared w size base, long))
       ∙ ap (λ (b : Bool). trb_bytes (link_at base b false)) (sym (ap (λ (c : List ℕ). chain_of (kind_of c)) (cell-cleared w size base (w - 1) z h) ∙ zeros-chain))
       ∙ ap (λ (b : Bool). trb_bytes (link_at base (chain_of (kind_of (cell w (cleared w size base) (w - 1)))) (not b))) (sym (cycle-first w 0 z));
 }
@@ -64,6 +72,7 @@ same-zeros w size cells x len a b h =
 -- with a Link behind them
 pub clear-link : (w b base size : ℕ) (cells : List (List ℕ)) (x : List ℕ) → length cells ≡ size → w < size → size ≤ suc w → ((k : ℕ) → k < w → get_or cells k [] ≡ zeros) → b ≡ base
     → x ≡ trb_bytes (link_at b false false) → record { base = b; cells = set cells w x } ≡ cleared w size base
+unfolding cleared_cells
 clear-link w b base size cells x len a c h e f =
     ap (λ (y : List ℕ). record { base = b; cells = set cells w y }) f
     ∙ ap (λ (xs : List (List ℕ)). record { base = b; cells = xs }) (same-zeros w size cells (trb_bytes (link_at b false false)) len (omega arith) c h)
@@ -72,6 +81,7 @@ clear-link w b base size cells x len a c h e f =
 -- with none
 pub clear-none : (w b base size : ℕ) (cells : List (List ℕ)) → length cells ≡ size → size ≤ w → w ≤ size → ((k : ℕ) → k < w → get_or cells k [] ≡ zeros) → b ≡ base
     → record { base = b; cells = cells } ≡ cleared w size base
+unfolding cleared_cells
 clear-none w b base size cells len a c h e =
     ap (λ (xs : List (List ℕ)). record { base = b; cells = xs })
     (sym (set_past cells w (trb_bytes (link_at b false false)) (omega arith)) ∙ same-zeros w size cells (trb_bytes (link_at b false false)) len c (omega arith) h)
@@ -79,6 +89,12 @@ clear-none w b base size cells len a c h e =
 
 -- no Link is written where there is no cell for it
 pub made-none : (w base : ℕ) (cells : List (List ℕ)) → cells ≡ replicate w zeros → record { base = base; cells = cells } ≡ cleared w w base
+unfolding cleared_cells
 made-none w base cells e =
     ap (λ (xs : List (List ℕ)). record { base = base; cells = xs })
     (e ∙ sym (set_past (replicate w zeros) w (trb_bytes (link_at base false false)) (omega (arith, length-replicate w zeros))))
+
+pub made-link : (w base : ℕ) (cells : List (List ℕ)) (x : List ℕ) → cells ≡ replicate (suc w) zeros → x ≡ trb_bytes (link_at base false false)
+    → record { base = base; cells = set cells w x } ≡ cleared w (suc w) base
+unfolding cleared_cells
+made-link w base cells x e f = rw (e, f) refl

@@ -38,8 +38,11 @@ abbrev pub zeros : List ℕ
 zeros = replicate 16 0
 
 -- so many cells as they are made: zeros, and behind the last place the Link of a turn before the first. Where no cell is there, there is no Link
+unfoldable pub cleared_cells : ℕ → ℕ → ℕ → List (List ℕ)
+cleared_cells width size base = slice_set (replicate size zeros) width (trb_bytes (link_at base false false))
+
 abbrev pub cleared : ℕ → ℕ → ℕ → Memory
-cleared width size base = record { base = base; cells = slice_set (replicate size zeros) width (trb_bytes (link_at base false false)) }
+cleared width size base = record { base = base; cells = cleared_cells width size base }
 
 -- a TRB is written at a place. Behind the last place the Link gets its cycle and its CH; where no cell is there, there is no Link
 abbrev pub put_cells : ℕ → ℕ → List (List ℕ) → ℕ → TrbKind → List (List ℕ)

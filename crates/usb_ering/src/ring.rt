@@ -1,0 +1,119 @@
+//! A ring that one side posts to and the other takes from.
+
+use std::marker::Model;
+use usb_segment::{Segment, cycle, index, place_after};
+use usb_trb::TrbKind;
+
+/// A ring of `N` places.
+#[derive(Drop)]
+pub struct Ring<const N: usize> {
+    segment: Segment<N>,
+    /// Where the next TRB is put.
+    enqueue: usize,
+    /// Where the next TRB is taken.
+    dequeue: usize,
+}
+
+impl<const N: usize> Model for Ring<N> {
+    ghost use Rattle.usb_ering.specs.Ring.{Ring as Line, ring_in, IsSound};
+
+    ghost Value = { Line };
+
+    ghost view = { λ r. ring_in N r.segment r.enqueue r.dequeue };
+
+    ghost invariant = { λ r. IsSound N r.segment r.enqueue r.dequeue };
+}
+
+ghost use Rattle.std.specs.Prelude.{◌≡◌, ◌+◌, ◌-◌, ◌*◌, ◌<◌, ◌≤◌, ◌↔◌, length, [], ◌∷◌, ◌++◌, IsNone, IfSome, IfNone, slice_get};
+ghost use Rattle.usb_segment.specs.Places.{after, index_of, IsWidth};
+ghost use Rattle.usb_segment.specs.Memory.{put, cleared};
+ghost use Rattle.usb_segment.specs.Written.{IsMemory};
+ghost use Rattle.usb_ering.specs.Ring.{unused, between, dequeue_of, IsRing};
+
+/// How many places from dequeue to enqueue.
+fn waiting<const N: usize>(dequeue: usize, enqueue: usize) -> usize
+    requires width { IsWidth N }
+    requires dequeue { dequeue < N + N }
+    requires enqueue { enqueue < N + N }
+    ensures { result ≡ between N dequeue enqueue }
+{
+    if dequeue <= enqueue {
+        enqueue - dequeue
+    } else {
+        enqueue + (N + N) - dequeue
+    }
+}
+
+impl<const N: usize> Ring<N> {
+    /// A ring over a segment that was just made.
+    pub(crate) fn over(segment: Segment<N>) -> Ring<N>
+        requires width { IsWidth N }
+        requires made { IsMemory N segment 0 }
+        ensures { result ≡ unused segment.entry }
+    {
+        Ring {
+            segment,
+            enqueue: 0,
+            dequeue: 0,
+        }
+    }
+
+    /// How many TRBs more fit. One place always stays free, so that enqueue and dequeue are equal only where nothing waits.
+    pub fn room(&self) -> usize
+        ensures { result ≡ N - 1 - length self.now.waits }
+    {
+        let waiting = waiting::<N>(self.dequeue, self.enqueue);
+        N - 1 - waiting
+    }
+
+    /// Puts a TRB behind all that wait, and gives the index of its place.
+    pub fn post(&mut self, kind: TrbKind) -> usize
+        requires { length self.old.waits < N - 1 }
+        ensures index { result ≡ index_of N self.old.posted }
+        ensures posted { self.new.posted ≡ after N self.old.posted 1 }
+        ensures list { self.new.waits ≡ self.old.waits ++ kind ∷ [] }
+        ensures memory { self.new.memory ≡ put N self.old.memory self.old.posted kind }
+    {
+        let at = self.enqueue;
+        self.segment.put(at, kind);
+        self.enqueue = place_after::<N>(at, 1);
+        index::<N>(at)
+    }
+
+    /// Takes the first TRB that waits, with the index of its place.
+    pub fn take(&mut self) -> Option<(usize, TrbKind)>
+        ensures empty { IsNone result ↔ (self.old.waits ≡ []) }
+        ensures first { IfSome result (λ r. (self.old.waits ≡ r.1 ∷ self.new.waits) × (r.0 ≡ index_of N (dequeue_of N self.old))) }
+        ensures same { (self.new.posted ≡ self.old.posted) × (self.new.memory ≡ self.old.memory) }
+        ensures none { IfNone result (self.new ≡ self.old) }
+    {
+        let at = self.dequeue;
+        if self.segment.cycle_at(at) != cycle::<N>(at) {
+            return None;
+        }
+        match self.segment.read(at) {
+            Ok(trb) => {
+                self.dequeue = place_after::<N>(at, 1);
+                Some((index::<N>(at), trb.kind))
+            }
+            Err(_) => None,
+        }
+    }
+
+    /// The sixteen bytes at an index of memory; None past the last.
+    pub fn bytes_at(&self, index: usize) -> Option<[u8; 16]>
+        ensures bytes { result ≡ slice_get self.now.memory.cells index }
+        ensures ring { IsRing N self.now }
+    {
+        let _enqueue = self.enqueue;
+        self.segment.bytes_at(index)
+    }
+
+    /// The address of the TRB at an index, by which an order is named.
+    pub fn address(&self, index: usize) -> u64
+        requires { index < N }
+        ensures { result ≡ self.now.memory.base + 16 * index }
+    {
+        self.segment.address(index)
+    }
+}
