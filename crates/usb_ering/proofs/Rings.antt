@@ -158,7 +158,7 @@ taken-waits w m e d s some = by_count (between w d e) refl
         let one : suc d ≡ d + 1 = omega arith in
         ap (kinds w m d) h
         ∙ ap (λ (ks : List TrbKind). kind_at w m d ∷ ks)
-            (kinds-same w m (suc d) (after w d 1) n z (ap (λ (x : ℕ). x % (w + w)) one ∙ sym (same-after w d 1)) ∙ ap (kinds w m (after w d 1)) (sym rest))
+        (kinds-same w m (suc d) (after w d 1) n z (ap (λ (x : ℕ). x % (w + w)) one ∙ sym (same-after w d 1)) ∙ ap (kinds w m (after w d 1)) (sym rest))
 
 pub taken-sound : (w : ℕ) (m : Memory) (e d : ℕ) → IsSound w m e d → 0 < between w d e → IsSound w m e (after w d 1)
 taken-sound w m e d s some = by_count (between w d e) refl
