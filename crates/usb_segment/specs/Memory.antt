@@ -1,7 +1,7 @@
 -- The bytes of a ring's segment (xHCI 1.2, 4.9.2 to 4.9.4).
 use Rattle.std.specs.Prelude.{ℕ, suc, ◌+◌, ◌*◌, ◌^◌, ◌≤◌, ◌==◌, Bool, true, false, List, [], ◌∷◌, replicate, slice_set, get_or, if◌then◌else◌}
 use Rattle.usb_trb.specs.declared.kind.TrbKind.{TrbKind}
-use Rattle.usb_trb.specs.declared.kind.TrbKind.TheVariants.{Normal, Link, NoOp}
+use Rattle.usb_trb.specs.declared.kind.TrbKind.TheVariants.{Normal, Link}
 use Rattle.usb_trb.specs.declared.trb.Trb.{Trb}
 use Rattle.usb_trb.specs.Words.{trb_bytes}
 use Rattle.usb_trb.specs.Read.{kind_of}
@@ -22,12 +22,8 @@ kind_at width m p = kind_of (cell width m p)
 
 -- whether the next TRB belongs to the same transfer
 abbrev pub chain_of : TrbKind → Bool
-chain_of (Normal buffer size short chain done) = chain
+chain_of (Normal n) = n.chain
 chain_of _ = false
-
-abbrev pub is_no_op : TrbKind → Bool
-is_no_op NoOp = true
-is_no_op _ = false
 
 -- a TRB as it is written at a place: with the cycle of the place
 abbrev pub trb_at : ℕ → TrbKind → ℕ → Trb

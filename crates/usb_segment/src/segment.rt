@@ -2,7 +2,7 @@
 
 ghost use Rattle.std.specs.Prelude.{◌≡◌, ◌+◌, ◌*◌, ◌≤◌, ◌<◌, ◌^◌, suc, IfOk, Ok, slice_get, length};
 ghost use Rattle.usb_trb.specs.Words.{trb_bytes, IsTrb, IsKind};
-ghost use Rattle.usb_trb.specs.Read.{cycle_in};
+ghost use Rattle.usb_trb.specs.Read.{cycle_in, is_no_op};
 ghost use Rattle.usb_trb.specs.declared.trb.Trb.{Trb};
 ghost use Rattle.usb_segment.specs.Places.{IsWidth};
 
@@ -51,14 +51,14 @@ impl<const N: usize> Model for Segment<N> {
     ghost invariant = { λ s. IsSegment N s.base (length s.cells.items) };
 }
 
-ghost use Rattle.usb_segment.specs.Memory.{cell, chain_of, link_at, cleared, put, is_no_op, IsSegment};
+ghost use Rattle.usb_segment.specs.Memory.{cell, chain_of, link_at, cleared, put, IsSegment};
 
 /// Whether the transfer goes on behind such a TRB.
 fn is_chained(kind: &TrbKind) -> bool
     ensures { result ≡ chain_of kind.now }
 {
     match kind {
-        TrbKind::Normal { chain, .. } => *chain,
+        TrbKind::Normal(normal) => normal.chain,
         _ => false,
     }
 }
@@ -162,7 +162,7 @@ impl<const N: usize> Segment<N> {
         requires { place < N + N }
         ensures { (t : Trb) → IsTrb t → trb_bytes t ≡ cell N self.now place → result ≡ is_no_op t.kind }
     {
-        self.cells[index::<N>(place)][13] / 4 == 8
+        usb_trb::is_no_op(&self.cells[index::<N>(place)])
     }
 
     /// The sixteen bytes at an index; None past the last.

@@ -6,7 +6,7 @@ use crate::Segment;
 use std::alloc::Global;
 use std::process::Abort;
 use std::test::Fail;
-use usb_trb::{Length, Pointer, TrbKind};
+use usb_trb::{Length, Normal, Pointer, TrbKind};
 
 fn base() -> Result<Pointer, Fail>
     ensures { IfOk result (λ b. b ≤ 0x1002_3000) }
@@ -24,13 +24,13 @@ fn linked(alloc: Global) -> Result<Segment<4>, Fail> {
 }
 
 fn normal(chain: bool) -> Result<TrbKind, Fail> {
-    Ok(TrbKind::Normal {
+    Ok(TrbKind::Normal(Normal {
         buffer: 0x1_0000_0000,
         length: Length::new(8).ok_or("a length")?,
         short: true,
         chain,
         done: !chain,
-    })
+    }))
 }
 
 fn has_bytes(rt: &impl Abort, segment: &Segment<4>, index: usize, bytes: [u8; 16]) {

@@ -1,6 +1,6 @@
-use Rattle.std.proofs.Common.{◌≡◌}
+use Rattle.std.proofs.Common.{◌≡◌, sym, ◌∙◌}
 use Rattle.usb_segment.specs.Memory.{Memory, cell}
-use Rattle.usb_segment.proofs.Types.{no_op-read, cell-read}
+use Rattle.usb_segment.proofs.Types.{cell-read}
 use Rattle.usb_segment.proofs.segment.Segment.is_no_op.Goals as goal
 
 pub returns : goal.returns
@@ -8,4 +8,4 @@ returns g c =
     let m : Memory = record { base = c.self.inside.base; cells = c.self.inside.cells.items } in
     let there : c.index-2.result.now ≡ cell g.row.N c.args.self.now c.args.place =
     cell-read g.row.N m c.args.self.now c.args.place c.index.result c.index-2.result.now c.index.ensures.below c.self.invariant.cells c.index.ensures.value c.index-2.ensures c.self.view_is in
-    λ t h e. no_op-read t c.index-2.result.now (cell g.row.N c.args.self.now c.args.place) there e
+    λ t h e. c.is_no_op.ensures.told t h (e ∙ sym there)
