@@ -1,12 +1,12 @@
 -- A ring through posts and takes.
 use Rattle.std.proofs.Common.{◌≡◌, ℕ, zero, suc, ◌+◌, ◌-◌, ◌%◌, ◌<◌, ◌≤◌, Bool, true, false, refl, ap, sym, ◌∙◌, subst, arith, List, [], ◌∷◌, ◌++◌, length, inl, inr, ◌⊎◌}
 use Rattle.std.specs.Prelude.{not}
-use Rattle.std.proofs.Math.Nat.{mod-eq_of_lt, mod-mod, mod-lt}
+use Rattle.std.proofs.Math.Nat.{mod-eq_of_lt, mod-lt}
 use Rattle.std.proofs.lemmas.Bool.{cases_lt, true≢false, false≢true}
 use Rattle.std.proofs.Math.Bool.{beq}
 use Rattle.usb_trb.specs.declared.kind.TrbKind.{TrbKind}
 use Rattle.usb_trb.specs.Words.{IsKind}
-use Rattle.usb_trb.specs.Read.{cycle_in, kind_of}
+use Rattle.usb_trb.specs.Read.{cycle_in}
 use Rattle.usb_trb.proofs.Numbers.{cycle_in-bytes}
 use Rattle.usb_segment.specs.Places.{after, cycle_of, IsWidth}
 use Rattle.usb_segment.specs.Memory.{Memory, cell, kind_at, trb_at, put, cleared}

@@ -1,5 +1,4 @@
-use Rattle.std.proofs.Common.{◌≡◌, ◌<◌, ◌-◌, ◌++◌, ◌∷◌, [], ◌∙◌, ap, arith, length, List}
-use Rattle.usb_trb.specs.declared.kind.TrbKind.{TrbKind}
+use Rattle.std.proofs.Common.{◌<◌, ◌-◌, ◌++◌, ◌∷◌, [], ◌∙◌, ap, arith, length}
 use Rattle.usb_segment.specs.Places.{after}
 use Rattle.usb_ering.specs.Ring.{Ring, between}
 use Rattle.usb_ering.proofs.Rings.{length-waits, posted-sound, posted-waits}

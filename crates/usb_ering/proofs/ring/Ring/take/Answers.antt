@@ -1,10 +1,9 @@
-use Rattle.std.proofs.Common.{◌≡◌, ◌<◌, ◌+◌, ◌∷◌, [], ℕ, Bool, List, ap, sym, ◌∙◌, refl, arith, true, false, length}
+use Rattle.std.proofs.Common.{◌≡◌, ◌<◌, ◌∷◌, ℕ, ap, sym, ◌∙◌, refl, arith, length}
 use Rattle.std.proofs.lemmas.Bool.{true≢false}
 use Rattle.usb_trb.specs.declared.kind.TrbKind.{TrbKind}
 use Rattle.usb_trb.specs.declared.trb.Trb.{Trb}
-use Rattle.usb_trb.specs.Read.{cycle_in}
-use Rattle.usb_segment.specs.Places.{after, index_of, cycle_of}
-use Rattle.usb_segment.specs.Memory.{cell, kind_at, trb_at}
+use Rattle.usb_segment.specs.Places.{after, index_of}
+use Rattle.usb_segment.specs.Memory.{kind_at, trb_at}
 use Rattle.usb_segment.specs.Written.{kinds}
 use Rattle.usb_ering.specs.Ring.{Ring, between, dequeue_of}
 use Rattle.usb_ering.proofs.Rings.{bits-differ, bits-same, stale-none, new-some, first-cell, taken-waits, taken-sound, dequeue-is, length-waits}
