@@ -1,12 +1,12 @@
 -- A ring through posts and takes.
 use Rattle.std.proofs.Common.{◌≡◌, ℕ, zero, suc, ◌+◌, ◌-◌, ◌%◌, ◌<◌, ◌≤◌, Bool, true, false, refl, ap, sym, ◌∙◌, subst, arith, List, [], ◌∷◌, ◌++◌, length, inl, inr, ◌⊎◌}
 use Rattle.std.specs.Prelude.{not}
-use Rattle.std.proofs.Math.Nat.{mod-eq_of_lt, mod-mod, mod-lt}
+use Rattle.std.proofs.Math.Nat.{mod-eq_of_lt, mod-lt}
 use Rattle.std.proofs.lemmas.Bool.{cases_lt, true≢false, false≢true}
 use Rattle.std.proofs.Math.Bool.{beq}
 use Rattle.usb_trb.specs.declared.kind.TrbKind.{TrbKind}
 use Rattle.usb_trb.specs.Words.{IsKind}
-use Rattle.usb_trb.specs.Read.{cycle_in, kind_of}
+use Rattle.usb_trb.specs.Read.{cycle_in}
 use Rattle.usb_trb.proofs.Numbers.{cycle_in-bytes}
 use Rattle.usb_segment.specs.Places.{after, cycle_of, IsWidth}
 use Rattle.usb_segment.specs.Memory.{Memory, cell, kind_at, trb_at, put, cleared}
@@ -158,7 +158,7 @@ taken-waits w m e d s some = by_count (between w d e) refl
         let one : suc d ≡ d + 1 = omega arith in
         ap (kinds w m d) h
         ∙ ap (λ (ks : List TrbKind). kind_at w m d ∷ ks)
-            (kinds-same w m (suc d) (after w d 1) n z (ap (λ (x : ℕ). x % (w + w)) one ∙ sym (same-after w d 1)) ∙ ap (kinds w m (after w d 1)) (sym rest))
+        (kinds-same w m (suc d) (after w d 1) n z (ap (λ (x : ℕ). x % (w + w)) one ∙ sym (same-after w d 1)) ∙ ap (kinds w m (after w d 1)) (sym rest))
 
 pub taken-sound : (w : ℕ) (m : Memory) (e d : ℕ) → IsSound w m e d → 0 < between w d e → IsSound w m e (after w d 1)
 taken-sound w m e d s some = by_count (between w d e) refl

@@ -4,7 +4,40 @@ use std::marker::Model;
 use usb_segment::{Segment, cycle, index, place_after};
 use usb_trb::TrbKind;
 
-/// A ring of `N` places.
+/// A ring of `N` places. Contracts see how many TRBs were posted, the list of those that wait, and the bytes.
+///
+/// # Places
+///
+/// TRBs are put at one place after another. A place is counted over two turns, 0 to `2 * N - 1`: its index in memory is its
+/// rest by `N`, its cycle is true in the first turn and false in the second (xHCI 1.2, 4.9.2).
+///
+/// # Links
+///
+/// The command ring's last TRB is a Link to its first, with Toggle Cycle (xHCI 1.2, 4.9.3). It gets the cycle of each TRB at
+/// the index before it, and that one's CH; a command has no CH, so neither has the Link. The event ring has none: a consumer
+/// goes from its last index to its first by itself, and turns its cycle state there (xHCI 1.2, 4.9.4).
+///
+/// # Cycle
+///
+/// The cell at enqueue has the cycle of the turn before. So has each cell behind it, as far as dequeue.
+///
+/// # Dequeue
+///
+/// `take` reads the cell at dequeue. Its TRB is new where its cycle bit is the consumer's cycle state, which is the cycle of
+/// that place; nothing else tells whether something waits, and nothing is kept of a TRB but its bytes.
+///
+/// # Room
+///
+/// One place stays free, so `N - 1` TRBs fit at once: 254 commands, 4,095 events. Were all filled, dequeue and enqueue would
+/// be at one index.
+///
+/// ```text
+///   index     0   1   2   3   4   5   6        a ring of 7 places amid a wrap:
+///   cycle     0   0   1   1   1   1   1        9 TRBs were posted, and 5 taken
+///   TRB       7   8   .   .   .   5   6
+///                     |           ^ dequeue: place 5, where the cycle state is 1
+///                     ^ enqueue: place 9, where the next TRB gets cycle 0
+/// ```
 #[derive(Drop)]
 pub struct Ring<const N: usize> {
     segment: Segment<N>,
@@ -66,12 +99,12 @@ impl<const N: usize> Ring<N> {
         N - 1 - waiting
     }
 
-    /// Puts a TRB behind all that wait, and gives the index of its place.
+    /// Puts a TRB behind all that wait, and gives the index of its place. Commands are posted to the command ring, events
+    /// to the event ring.
     pub fn post(&mut self, kind: TrbKind) -> usize
         requires { length self.old.waits < N - 1 }
         ensures index { result ≡ index_of N self.old.posted }
-        ensures posted { self.new.posted ≡ after N self.old.posted 1 }
-        ensures list { self.new.waits ≡ self.old.waits ++ kind ∷ [] }
+        ensures list { (self.new.posted ≡ after N self.old.posted 1) × (self.new.waits ≡ self.old.waits ++ kind ∷ []) }
         ensures memory { self.new.memory ≡ put N self.old.memory self.old.posted kind }
     {
         let at = self.enqueue;
@@ -80,12 +113,11 @@ impl<const N: usize> Ring<N> {
         index::<N>(at)
     }
 
-    /// Takes the first TRB that waits, with the index of its place.
+    /// Takes the first TRB that waits, with the index of its place; None where none waits.
     pub fn take(&mut self) -> Option<(usize, TrbKind)>
         ensures empty { IsNone result ↔ (self.old.waits ≡ []) }
         ensures first { IfSome result (λ r. (self.old.waits ≡ r.1 ∷ self.new.waits) × (r.0 ≡ index_of N (dequeue_of N self.old))) }
-        ensures same { (self.new.posted ≡ self.old.posted) × (self.new.memory ≡ self.old.memory) }
-        ensures none { IfNone result (self.new ≡ self.old) }
+        ensures same { ((self.new.posted ≡ self.old.posted) × (self.new.memory ≡ self.old.memory)) × IfNone result (self.new ≡ self.old) }
     {
         let at = self.dequeue;
         if self.segment.cycle_at(at) != cycle::<N>(at) {

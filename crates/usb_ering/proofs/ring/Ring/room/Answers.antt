@@ -1,4 +1,4 @@
-use Rattle.std.proofs.Common.{◌≡◌, ap, arith, length}
+use Rattle.std.proofs.Common.{ap, arith, length}
 use Rattle.usb_ering.specs.Ring.{Ring}
 use Rattle.usb_ering.proofs.Rings.{length-waits}
 use Rattle.usb_ering.proofs.ring.Ring.room.Goals as goal

@@ -1,10 +1,9 @@
-use Rattle.std.proofs.Common.{◌≡◌, ◌<◌, ◌+◌, ◌∷◌, [], ℕ, Bool, List, ap, sym, ◌∙◌, refl, arith, true, false, length}
+use Rattle.std.proofs.Common.{◌≡◌, ◌<◌, ◌∷◌, ℕ, ap, sym, ◌∙◌, refl, arith, length}
 use Rattle.std.proofs.lemmas.Bool.{true≢false}
 use Rattle.usb_trb.specs.declared.kind.TrbKind.{TrbKind}
 use Rattle.usb_trb.specs.declared.trb.Trb.{Trb}
-use Rattle.usb_trb.specs.Read.{cycle_in}
-use Rattle.usb_segment.specs.Places.{after, index_of, cycle_of}
-use Rattle.usb_segment.specs.Memory.{cell, kind_at, trb_at}
+use Rattle.usb_segment.specs.Places.{after, index_of}
+use Rattle.usb_segment.specs.Memory.{kind_at, trb_at}
 use Rattle.usb_segment.specs.Written.{kinds}
 use Rattle.usb_ering.specs.Ring.{Ring, between, dequeue_of}
 use Rattle.usb_ering.proofs.Rings.{bits-differ, bits-same, stale-none, new-some, first-cell, taken-waits, taken-sound, dequeue-is, length-waits}
@@ -47,7 +46,7 @@ returns-in-Ok-clause-first g c =
     let trb : c.in-Ok.trb ≡ trb_at g.row.N (kind_at g.row.N r.segment r.dequeue) r.dequeue = cc in
     let kind : kind_at g.row.N r.segment r.dequeue ≡ c.in-Ok.trb.kind = sym (ap (λ (t : Trb). t.kind) trb) in (
       sym (ap (λ (x : Ring). x.waits) c.self.view_is) ∙ taken-waits g.row.N r.segment r.enqueue r.dequeue c.self.invariant some
-      ∙ ap (λ (k : TrbKind). k ∷ kinds g.row.N r.segment (after g.row.N r.dequeue 1) (between g.row.N (after g.row.N r.dequeue 1) r.enqueue)) kind
-      ∙ ap (λ (p : ℕ). c.in-Ok.trb.kind ∷ kinds g.row.N r.segment p (between g.row.N p r.enqueue)) (sym c.place_after-self-inside.ensures.value),
+          ∙ ap (λ (k : TrbKind). k ∷ kinds g.row.N r.segment (after g.row.N r.dequeue 1) (between g.row.N (after g.row.N r.dequeue 1) r.enqueue)) kind
+          ∙ ap (λ (p : ℕ). c.in-Ok.trb.kind ∷ kinds g.row.N r.segment p (between g.row.N p r.enqueue)) (sym c.place_after-self-inside.ensures.value),
       c.index.ensures.value ∙ ap (index_of g.row.N) (sym (dequeue-is g.row.N r.segment r.enqueue r.dequeue c.self.invariant) ∙ ap (dequeue_of g.row.N) c.self.view_is),
     )
