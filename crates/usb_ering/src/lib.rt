@@ -4,6 +4,7 @@
 //! bytes that host and controller share.
 #![tactic(auto)]
 
+pub mod laws;
 mod made;
 mod ring;
 #[cfg(test)]

@@ -108,8 +108,9 @@ impl<const N: usize> Ring<N> {
         ensures memory { self.new.memory ≡ put N self.old.memory self.old.posted kind }
     {
         let at = self.enqueue;
+        let next = place_after::<N>(at, 1);
         self.segment.put(at, kind);
-        self.enqueue = place_after::<N>(at, 1);
+        self.enqueue = next;
         index::<N>(at)
     }
 
@@ -125,7 +126,8 @@ impl<const N: usize> Ring<N> {
         }
         match self.segment.read(at) {
             Ok(trb) => {
-                self.dequeue = place_after::<N>(at, 1);
+                let next = place_after::<N>(at, 1);
+                self.dequeue = next;
                 Some((index::<N>(at), trb.kind))
             }
             Err(_) => None,

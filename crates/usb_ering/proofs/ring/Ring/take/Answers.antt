@@ -23,7 +23,7 @@ invariant_of-self g c =
     let some : 0 < between g.row.N r.dequeue r.enqueue =
     new-some g.row.N r.segment r.enqueue r.dequeue c.self.invariant
     (sym c.cycle_at.ensures ∙ bits-same c.cycle_at.result c.cycle.result c.if-cycle_at-cycle.false ∙ c.cycle.ensures) in
-    rw c.place_after-self-inside.ensures.value (taken-sound g.row.N r.segment r.enqueue r.dequeue c.self.invariant some)
+    rw c.place_after-next.ensures.value (taken-sound g.row.N r.segment r.enqueue r.dequeue c.self.invariant some)
 
 pub returns-in-Ok-clause-empty : goal.returns-in-Ok-clause-empty
 returns-in-Ok-clause-empty g c =
@@ -47,6 +47,6 @@ returns-in-Ok-clause-first g c =
     let kind : kind_at g.row.N r.segment r.dequeue ≡ c.in-Ok.trb.kind = sym (ap (λ (t : Trb). t.kind) trb) in (
       sym (ap (λ (x : Ring). x.waits) c.self.view_is) ∙ taken-waits g.row.N r.segment r.enqueue r.dequeue c.self.invariant some
           ∙ ap (λ (k : TrbKind). k ∷ kinds g.row.N r.segment (after g.row.N r.dequeue 1) (between g.row.N (after g.row.N r.dequeue 1) r.enqueue)) kind
-          ∙ ap (λ (p : ℕ). c.in-Ok.trb.kind ∷ kinds g.row.N r.segment p (between g.row.N p r.enqueue)) (sym c.place_after-self-inside.ensures.value),
+          ∙ ap (λ (p : ℕ). c.in-Ok.trb.kind ∷ kinds g.row.N r.segment p (between g.row.N p r.enqueue)) (sym c.place_after-next.ensures.value),
       c.index.ensures.value ∙ ap (index_of g.row.N) (sym (dequeue-is g.row.N r.segment r.enqueue r.dequeue c.self.invariant) ∙ ap (dequeue_of g.row.N) c.self.view_is),
     )
