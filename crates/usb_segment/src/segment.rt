@@ -1,8 +1,8 @@
 //! The memory of a segment.
 
-ghost use Rattle.std.specs.Prelude.{◌≡◌, ◌+◌, ◌*◌, ◌≤◌, ◌<◌, ◌^◌, suc, IfOk, Ok, slice_get, length};
+ghost use Rattle.std.specs.Prelude.{◌≡◌, ◌==◌, ◌+◌, ◌*◌, ◌≤◌, ◌<◌, ◌^◌, suc, IfOk, Ok, slice_get, length};
 ghost use Rattle.usb_trb.specs.Words.{trb_bytes, IsTrb, IsKind};
-ghost use Rattle.usb_trb.specs.Read.{cycle_in, is_no_op};
+ghost use Rattle.usb_trb.specs.Read.{cycle_in, type_in, is_no_op};
 ghost use Rattle.usb_trb.specs.declared.trb.Trb.{Trb};
 ghost use Rattle.usb_segment.specs.Places.{IsWidth};
 
@@ -144,7 +144,8 @@ impl<const N: usize> Segment<N> {
     #[inline(always)]
     pub fn read(&self, place: usize) -> Result<Trb, Unknown>
         requires { place < N + N }
-        ensures { (t : Trb) → IsTrb t → trb_bytes t ≡ cell N self.now place → result ≡ Ok t }
+        ensures known { IfOk result (λ t. IsTrb t × (trb_bytes t ≡ cell N self.now place)) }
+        ensures found { (t : Trb) → IsTrb t → trb_bytes t ≡ cell N self.now place → result ≡ Ok t }
     {
         decode(&self.cells[index::<N>(place)])
     }
@@ -160,7 +161,8 @@ impl<const N: usize> Segment<N> {
     /// Whether a No Op stands at a place. Its type alone is read.
     pub fn is_no_op(&self, place: usize) -> bool
         requires { place < N + N }
-        ensures { (t : Trb) → IsTrb t → trb_bytes t ≡ cell N self.now place → result ≡ is_no_op t.kind }
+        ensures read { result ≡ (type_in (cell N self.now place) == 8) }
+        ensures told { (t : Trb) → IsTrb t → trb_bytes t ≡ cell N self.now place → result ≡ is_no_op t.kind }
     {
         usb_trb::is_no_op(&self.cells[index::<N>(place)])
     }

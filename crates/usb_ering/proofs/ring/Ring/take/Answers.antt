@@ -42,7 +42,7 @@ returns-in-Ok-clause-first g c =
     new-some g.row.N r.segment r.enqueue r.dequeue c.self.invariant
     (sym c.cycle_at.ensures ∙ bits-same c.cycle_at.result c.cycle.result c.if-cycle_at-cycle.false ∙ c.cycle.ensures) in
     let at = first-cell g.row.N r.segment r.enqueue r.dequeue c.self.invariant some in
-    let told = c.in-Ok.ensures (trb_at g.row.N (kind_at g.row.N r.segment r.dequeue) r.dequeue) at.0 at.1 in
+    let told = c.in-Ok.ensures.found (trb_at g.row.N (kind_at g.row.N r.segment r.dequeue) r.dequeue) at.0 at.1 in
     let trb : c.in-Ok.trb ≡ trb_at g.row.N (kind_at g.row.N r.segment r.dequeue) r.dequeue = cc in
     let kind : kind_at g.row.N r.segment r.dequeue ≡ c.in-Ok.trb.kind = sym (ap (λ (t : Trb). t.kind) trb) in (
       sym (ap (λ (x : Ring). x.waits) c.self.view_is) ∙ taken-waits g.row.N r.segment r.enqueue r.dequeue c.self.invariant some
