@@ -1,0 +1,31 @@
+//! Work that is measured.
+
+use anyhow::Result;
+use std::time::Instant;
+
+/// So many turns are one run.
+pub const TURNS: u64 = 10_000_000;
+
+/// So many runs are made, of which the least time counts.
+const RUNS: u32 = 5;
+
+/// Work that is done again and again.
+pub trait Work {
+    /// So many turns. What comes out depends on each, so that none can be left out.
+    fn turn(&mut self, turns: u64) -> u64;
+}
+
+/// The least time of a run, in nanoseconds, and what came out of all, which nobody asks for.
+pub fn least<W: Work>(rt: &HostRuntime, work: &mut W) -> Result<(u128, u64)> {
+    let mut least = u128::MAX;
+    let mut sum: u64 = 0;
+    for _ in 0..RUNS {
+        let start = Instant::now(rt)?;
+        sum ^= work.turn(TURNS);
+        let took = start.elapsed(rt)?.as_nanos();
+        if took < least {
+            least = took;
+        }
+    }
+    Ok((least, sum))
+}

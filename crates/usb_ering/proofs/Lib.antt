@@ -1,0 +1,3 @@
+pub mod Between
+pub mod Rings
+pub mod Chain
