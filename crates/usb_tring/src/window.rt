@@ -5,17 +5,17 @@ ghost use Rattle.usb_trb.specs.declared.kind.TrbKind.TheVariants.{NoOp};
 ghost use Rattle.usb_segment.specs.Places.{after};
 ghost use Rattle.usb_segment.specs.Memory.{puts};
 ghost use Rattle.usb_segment.specs.Written.{kinds, AllKinds, IsWritten};
-ghost use Rattle.usb_tring.specs.Line.{places, normals, no_ops};
+ghost use Rattle.usb_tring.specs.Line.{places, capacity, normals, no_ops};
 ghost use Rattle.usb_tring.specs.View.{back};
 
-use crate::ring::PLACES;
+use crate::size::PLACES;
 use usb_segment::{Segment, place_after, place_before};
 use usb_trb::{Normal, TrbKind};
 
 /// Writes TRBs at a place and those behind it.
 pub fn write(segment: &mut Segment<PLACES>, place: usize, trbs: &[Normal]) -> usize
     requires place { place < 254 }
-    requires few { length trbs.now ≤ 126 }
+    requires few { length trbs.now ≤ capacity }
     ensures memory { segment.new ≡ puts places segment.old place (normals trbs.now) }
     ensures place { result ≡ after places place (length trbs.now) }
     ensures ranges { AllKinds (normals trbs.now) }
@@ -31,7 +31,7 @@ pub fn write(segment: &mut Segment<PLACES>, place: usize, trbs: &[Normal]) -> us
 /// Writes No Ops at a place and those behind it.
 pub fn write_no_ops(segment: &mut Segment<PLACES>, place: usize, count: usize)
     requires place { place < 254 }
-    requires few { count ≤ 126 }
+    requires few { count ≤ capacity }
     ensures { segment.new ≡ puts places segment.old place (replicate count NoOp) }
 {
     let mut at = place;
@@ -46,7 +46,7 @@ pub fn write_no_ops(segment: &mut Segment<PLACES>, place: usize, count: usize)
 /// How many places are left before enqueue, once No Ops are passed over.
 pub fn past_no_ops(segment: &Segment<PLACES>, enqueue: usize, left: usize) -> usize
     requires place { enqueue < 254 }
-    requires few { left ≤ 126 }
+    requires few { left ≤ capacity }
     requires written { IsWritten places segment.now (back enqueue left) left }
     ensures { result + no_ops (kinds places segment.now (back enqueue left) left) ≡ left }
 {

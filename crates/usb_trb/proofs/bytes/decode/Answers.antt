@@ -1,6 +1,6 @@
 use Rattle.std.proofs.Common.{◌≡◌, sym, ◌∙◌}
 use Rattle.std.proofs.lemmas.Result.{IfOk-weaker}
-use Rattle.usb_trb.specs.Words.{parameter, status, control, trb_bytes, IsTrb, IsInWords}
+use Rattle.usb_trb.specs.Words.{trb_bytes, IsTrb, IsInWords}
 use Rattle.usb_trb.proofs.Digits.{words-back}
 use Rattle.usb_trb.proofs.Numbers.{numbers-back, none-where-unknown}
 use Rattle.usb_trb.proofs.bytes.decode.Goals as goal
