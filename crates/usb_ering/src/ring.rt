@@ -28,15 +28,15 @@ use usb_trb::TrbKind;
 ///
 /// # Room
 ///
-/// One place stays free, so `N - 1` TRBs fit at once: 254 commands, 4,095 events. Were all filled, dequeue and enqueue would
-/// be at one index.
+/// One place stays free, so `N - 1` TRBs fit at once: 254 commands, 4,095 events. So a producer that sees only the consumer's
+/// index can tell a full ring from an empty one (xHCI 1.2, 4.9.2 and 4.9.4).
 ///
 /// ```text
-///   index     0   1   2   3   4   5   6        a ring of 7 places amid a wrap:
-///   cycle     0   0   1   1   1   1   1        9 TRBs were posted, and 5 taken
-///   TRB       7   8   .   .   .   5   6
-///                     |           ^ dequeue: place 5, where the cycle state is 1
-///                     ^ enqueue: place 9, where the next TRB gets cycle 0
+///   index    0   1   2   3   4   5   6   Link    9 TRBs were posted, and 5 taken:
+///   TRB      7   8   2   3   4   5   6           7 and 8 stand over 0 and 1
+///   cycle    0   0   1   1   1   1   1   1
+///                    ^           ^
+///           enqueue: place 9    dequeue: place 5, where the cycle state is 1
 /// ```
 #[derive(Drop)]
 pub struct Ring<const N: usize> {
@@ -91,7 +91,7 @@ impl<const N: usize> Ring<N> {
         }
     }
 
-    /// How many TRBs more fit. One place always stays free, so that enqueue and dequeue are equal only where nothing waits.
+    /// How many TRBs more fit, 0 to `N - 1`.
     pub fn room(&self) -> usize
         ensures { result ≡ N - 1 - length self.now.waits }
     {
@@ -139,7 +139,6 @@ impl<const N: usize> Ring<N> {
         ensures bytes { result ≡ slice_get self.now.memory.cells index }
         ensures ring { IsRing N self.now }
     {
-        let _enqueue = self.enqueue;
         self.segment.bytes_at(index)
     }
 

@@ -30,9 +30,10 @@ use usb_trb::{Pointer, Trb, TrbKind, Unknown, decode, encode};
 /// A cell that is to be written next has the cycle of the turn before, so a consumer doesn't take it for new.
 ///
 /// ```text
-///   index      0   1   2   3   4   Link        after 7 TRBs at a width of 5
-///   cycle      0   0   1   1   1   1
-///                      ^ enqueue: place 7, index 2, cycle 0
+///   index    0   1   2   3   4   Link    5 places and a Link, once 7 TRBs were put:
+///   TRB      5   6   2   3   4           5 and 6 stand over 0 and 1
+///   cycle    0   0   1   1   1   1
+///                    ^ enqueue: place 7, where the next TRB gets cycle 0
 /// ```
 #[derive(Drop)]
 pub struct Segment<const N: usize> {
