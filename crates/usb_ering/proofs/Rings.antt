@@ -19,6 +19,7 @@ use Rattle.usb_segment.proofs.Lists.{length-kinds, kinds-append, kinds-keep, kin
 use Rattle.usb_ering.specs.Ring.{between, ring_in, dequeue_of, IsSound, IsRing}
 use Rattle.usb_ering.proofs.Between.{between-end, between-start, between-post, between-take, between-is}
 
+-- a ring in which nothing was posted is sound
 pub unused-sound : (w : ℕ) (m : Memory) → IsWidth w → IsMemory w m 0 → IsSound w m 0 0
 unused-sound w m h s =
     let none : between w 0 0 ≡ 0 = between-is w 0 0 0 (omega (arith, h.0)) (omega (arith, h.0)) (mod-eq_of_lt (two w h.0)) in record {
@@ -33,17 +34,21 @@ unused-sound w m h s =
     two : (w : ℕ) → 0 < w → 0 < w + w
     two w h = omega arith
 
+-- the bytes of a segment that was just made show that nothing is new
 pub made-memory : (w size base : ℕ) (m : Memory) → 0 < w → w ≤ size → m ≡ cleared w size base → IsMemory w m 0
 made-memory w size base m z h e = subst (λ (x : Memory). IsMemory w x 0) (sym e) (memory-cleared w size base z h)
 
+-- nothing waits in it
 pub unused-waits : (w : ℕ) (m : Memory) → 0 < w → kinds w m 0 (between w 0 0) ≡ []
 unused-waits w m h =
     let two : 0 < w + w = omega arith in
     ap (kinds w m 0) (between-is w 0 0 0 two two (mod-eq_of_lt two))
 
+-- as many wait as places stand between dequeue and enqueue
 pub length-waits : (w : ℕ) (m : Memory) (e d : ℕ) → length (ring_in w m e d).waits ≡ between w d e
 length-waits w m e d = length-kinds w m d (between w d e)
 
+-- the place that the list tells is where dequeue stands
 pub dequeue-is : (w : ℕ) (m : Memory) (e d : ℕ) → IsSound w m e d → dequeue_of w (ring_in w m e d) ≡ d
 dequeue-is w m e d s =
     let few : between w d e < w + w = omega (arith, s.room) in
@@ -82,6 +87,7 @@ posted-sound w m e d k s h few =
     below : (x : ℕ) → 0 < w + w → x % (w + w) < w + w
     below x p = mod-lt x p
 
+-- it waits behind all others
 pub posted-waits : (w : ℕ) (m : Memory) (e d : ℕ) (k : TrbKind) → IsSound w m e d → IsKind k → between w d e < w - 1
     → kinds w (put w m e k) d (between w d (after w e 1)) ≡ kinds w m d (between w d e) ++ k ∷ []
 posted-waits w m e d k s h few =
@@ -114,12 +120,14 @@ bits-differ true false h e = true≢false e
 bits-differ false true h e = false≢true e
 bits-differ false false h e = false≢true h
 
+-- and where they are equal
 pub bits-same : (a b : Bool) → not (beq a b) ≡ false → a ≡ b
 bits-same true true h = refl
 bits-same true false h = absurd (true≢false h)
 bits-same false true h = absurd (true≢false h)
 bits-same false false h = refl
 
+-- where the cycle bit isn't the cycle state, nothing waits
 pub stale-none : (w : ℕ) (m : Memory) (e d : ℕ) → IsSound w m e d → (cycle_in (cell w m d) ≡ cycle_of w d → ⊥) → between w d e ≡ 0
 stale-none w m e d s stale = by_count (cases_lt 0 (between w d e))
   where
@@ -128,6 +136,7 @@ stale-none w m e d s stale = by_count (cases_lt 0 (between w d e))
         absurd (stale (ap cycle_in (sym (s.written d (omega arith) (omega arith)).1) ∙ cycle_in-bytes (trb_at w (kind_at w m d) d)))
     by_count (inr none) = omega arith
 
+-- where it is, something does
 pub new-some : (w : ℕ) (m : Memory) (e d : ℕ) → IsSound w m e d → cycle_in (cell w m d) ≡ cycle_of w d → 0 < between w d e
 new-some w m e d s new = by_count (cases_lt 0 (between w d e))
   where
@@ -160,6 +169,7 @@ taken-waits w m e d s some = by_count (between w d e) refl
         ∙ ap (λ (ks : List TrbKind). kind_at w m d ∷ ks)
         (kinds-same w m (suc d) (after w d 1) n z (ap (λ (x : ℕ). x % (w + w)) one ∙ sym (same-after w d 1)) ∙ ap (kinds w m (after w d 1)) (sym rest))
 
+-- dequeue goes on
 pub taken-sound : (w : ℕ) (m : Memory) (e d : ℕ) → IsSound w m e d → 0 < between w d e → IsSound w m e (after w d 1)
 taken-sound w m e d s some = by_count (between w d e) refl
   where

@@ -10,6 +10,7 @@ use Rattle.usb_ering.specs.Ring.{Ring, IsRing}
 abbrev pub IsUnchained : ℕ → Memory → Type 0
 IsUnchained width m = chain_of (kind_at width m (width - 1)) ≡ false
 
+-- the Link of a ring to which nothing with CH was posted has none
 pub record LinkStaysUnchained : Type 0 where
   -- so it is in a ring as it is made,
   pub made : (width size base : ℕ) → 0 < width → width ≤ size → IsUnchained width (cleared width size base)

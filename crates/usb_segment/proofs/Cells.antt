@@ -12,6 +12,7 @@ use Rattle.usb_segment.specs.Memory.{Memory, cell, kind_at, chain_of, trb_at, li
 use Rattle.usb_segment.specs.Written.{IsCell, IsWritten}
 use Rattle.usb_segment.proofs.Places.{index-same, cycle-same, same-suc, same-add}
 
+-- an index is below the width
 pub index-below : (w p : ℕ) → 0 < w → index_of w p < w
 index-below w p h = mod-lt p h
 
@@ -19,14 +20,17 @@ index-below w p h = mod-lt p h
 pub cell-same : (w : ℕ) (m : Memory) (p q : ℕ) → 0 < w → p % (w + w) ≡ q % (w + w) → cell w m p ≡ cell w m q
 cell-same w m p q z h = ap (λ (i : ℕ). get_or m.cells i []) (index-same w p q z h)
 
+-- a write at one of them is a write at the other
 pub put-same : (w : ℕ) (m : Memory) (p q : ℕ) (k : TrbKind) → 0 < w → p % (w + w) ≡ q % (w + w) → put w m p k ≡ put w m q k
 put-same w m p q k z h = rw (index-same w p q z h, h) refl
 
+-- so are writes there and behind it
 pub puts-same : (w : ℕ) (m : Memory) (p q : ℕ) (ks : List TrbKind) → 0 < w → p % (w + w) ≡ q % (w + w) → puts w m p ks ≡ puts w m q ks
 unfolding puts
 puts-same w m p q [] z h = refl
 puts-same w m p q (k ∷ ks) z h = rw (put-same w m p q k z h) (puts-same w (put w m q k) (suc p) (suc q) ks z (same-suc (w + w) p q h))
 
+-- no cell comes or goes
 pub length-put : (w : ℕ) (m : Memory) (p : ℕ) (k : TrbKind) → length (put w m p k).cells ≡ length m.cells
 length-put w m p k = by_test (eqb (suc (index_of w p)) w) refl
   where
@@ -34,6 +38,7 @@ length-put w m p k = by_test (eqb (suc (index_of w p)) w) refl
     by_test true e = rw e (simp length-set)
     by_test false e = rw e (simp length-set)
 
+-- a cell of another index keeps its bytes
 pub cell-put-other : (w : ℕ) (m : Memory) (p q : ℕ) (k : TrbKind) → 0 < w → index_of w q ≢ index_of w p → cell w (put w m p k) q ≡ cell w m q
 cell-put-other w m p q k z h = by_test (eqb (suc (index_of w p)) w) refl
   where
@@ -44,6 +49,7 @@ cell-put-other w m p q k z h = by_test (eqb (suc (index_of w p)) w) refl
         rw e (get_or-set_other _ w (index_of w q) _ [] low ∙ get_or-set_other m.cells (index_of w p) (index_of w q) _ [] h)
     by_test false e = rw e (get_or-set_other m.cells (index_of w p) (index_of w q) _ [] h)
 
+-- the cell of this index has the TRB's
 pub cell-put-same : (w : ℕ) (m : Memory) (p q : ℕ) (k : TrbKind) → 0 < w → w ≤ length m.cells → index_of w q ≡ index_of w p
     → cell w (put w m p k) q ≡ trb_bytes (trb_at w k p)
 cell-put-same w m p q k z size h = by_test (eqb (suc (index_of w p)) w) refl
@@ -60,6 +66,7 @@ cell-put-same w m p q k z size h = by_test (eqb (suc (index_of w p)) w) refl
         let below = index-below w p z in
         rw (e, h) (get_or-set_same m.cells (index_of w p) _ [] (omega (arith, below, size)))
 
+-- at the last index the Link gets the place's cycle and the TRB's CH
 pub link-put-at : (w : ℕ) (m : Memory) (p : ℕ) (k : TrbKind) → length m.cells ≡ suc w → suc (index_of w p) ≡ w
     → get_or (put w m p k).cells w [] ≡ trb_bytes (link_at m.base (chain_of k) (cycle_of w p))
 link-put-at w m p k size h =
@@ -67,6 +74,7 @@ link-put-at w m p k size h =
     (get_or-set_same (set m.cells (index_of w p) (trb_bytes (trb_at w k p))) w (trb_bytes (link_at m.base (chain_of k) (cycle_of w p))) []
     (simp length-set (omega (arith, size))))
 
+-- at any other index it stays
 pub link-put-other : (w : ℕ) (m : Memory) (p : ℕ) (k : TrbKind) → 0 < w → (suc (index_of w p) ≡ w → ⊥) → get_or (put w m p k).cells w [] ≡ get_or m.cells w []
 link-put-other w m p k z h = by_test (eqb (suc (index_of w p)) w) refl
   where
@@ -81,6 +89,7 @@ link-put-other w m p k z h = by_test (eqb (suc (index_of w p)) w) refl
 pub kind-put : (w : ℕ) (m : Memory) (p q : ℕ) (k : TrbKind) → 0 < w → w ≤ length m.cells → IsKind k → index_of w q ≡ index_of w p → kind_at w (put w m p k) q ≡ k
 kind-put w m p q k z size h e = ap kind_of (cell-put-same w m p q k z size e) ∙ kind_of-bytes (trb_at w k p) h
 
+-- what is written is written
 pub is_cell-put : (w : ℕ) (m : Memory) (p : ℕ) (k : TrbKind) → 0 < w → w ≤ length m.cells → IsKind k → IsCell w (put w m p k) p
 is_cell-put w m p k z size h =
     let e = kind-put w m p p k z size h refl in
@@ -92,6 +101,7 @@ is_cell-keep w m m' q e h =
     let f : kind_at w m' q ≡ kind_at w m q = ap kind_of e in
     (subst IsKind (sym f) h.0, ap (λ (k : TrbKind). trb_bytes (trb_at w k q)) f ∙ h.1 ∙ sym e)
 
+-- what is written at a place is written at each that is equal to it over two turns
 pub is_cell-same : (w : ℕ) (m : Memory) (p q : ℕ) → 0 < w → p % (w + w) ≡ q % (w + w) → IsCell w m p → IsCell w m q
 is_cell-same w m p q z e h =
     let f : cell w m p ≡ cell w m q = cell-same w m p q z e in
@@ -99,6 +109,7 @@ is_cell-same w m p q z e h =
     let t : trb_at w (kind_at w m q) q ≡ trb_at w (kind_at w m p) p = rw (g, cycle-same w p q e) refl in
     (subst IsKind (sym g) h.0, ap trb_bytes t ∙ h.1 ∙ f)
 
+-- so for a window of places
 pub written-same : (w : ℕ) (m : Memory) (p p' n : ℕ) → 0 < w → p % (w + w) ≡ p' % (w + w) → IsWritten w m p n → IsWritten w m p' n
 written-same w m p p' n z e h = λ q a b.
     let there : p' + (q - p') ≡ q = omega arith in

@@ -17,6 +17,7 @@ pub zeros-chain : chain_of (kind_of zeros) ≡ false
 unfolding kind_of
 zeros-chain = refl
 
+-- each place has zeros
 pub cell-cleared : (w size base q : ℕ) → 0 < w → w ≤ size → cell w (cleared w size base) q ≡ zeros
 unfolding cleared_cells
 cell-cleared w size base q z h =
@@ -25,16 +26,19 @@ cell-cleared w size base q z h =
     let low : index_of w q < size = omega (arith, below) in
     get_or-set_other (replicate size zeros) w (index_of w q) (trb_bytes (link_at base false false)) [] other ∙ get_or-replicate size (index_of w q) zeros [] low
 
+-- the first turn has the cycle true
 pub cycle-first : (w q : ℕ) → q < w → cycle_of w q ≡ true
 cycle-first w q h =
     let two : q < w + w = omega arith in
     let e : q % (w + w) ≡ q = mod-eq_of_lt two in
     lt-ltb (q % (w + w)) w (omega (arith, e))
 
+-- there are so many cells
 pub length-cleared : (w size base : ℕ) → length (cleared_cells w size base) ≡ size
 unfolding cleared_cells
 length-cleared w size base = length-set (replicate size zeros) w (trb_bytes (link_at base false false)) ∙ length-replicate size zeros
 
+-- the last of them is a Link with the cycle false, where it has no place
 link-cleared : (w size base : ℕ) → w < size → get_or (cleared_cells w size base) w [] ≡ trb_bytes (link_at base false false)
 unfolding cleared_cells
 link-cleared w size base h = get_or-set_same (replicate size zeros) w (trb_bytes (link_at base false false)) [] (omega (arith, length-replicate size zeros))
@@ -94,6 +98,7 @@ made-none w base cells e =
     ap (λ (xs : List (List ℕ)). record { base = base; cells = xs })
     (e ∙ sym (set_past (replicate w zeros) w (trb_bytes (link_at base false false)) (omega (arith, length-replicate w zeros))))
 
+-- zeros of which the last becomes the Link
 pub made-link : (w base : ℕ) (cells : List (List ℕ)) (x : List ℕ) → cells ≡ replicate (suc w) zeros → x ≡ trb_bytes (link_at base false false)
     → record { base = base; cells = set cells w x } ≡ cleared w (suc w) base
 unfolding cleared_cells

@@ -9,10 +9,12 @@ use Rattle.usb_segment.specs.Written.{kinds, IsWritten}
 use Rattle.usb_segment.proofs.Places.{cycle-same, same-add, same-suc}
 use Rattle.usb_segment.proofs.Cells.{cell-same}
 
+-- there are as many as places
 pub length-kinds : (w : ℕ) (m : Memory) (p n : ℕ) → length (kinds w m p n) ≡ n
 length-kinds w m p zero = refl
 length-kinds w m p (suc n) = ap suc (length-kinds w m (suc p) n)
 
+-- two windows behind one another are one
 pub kinds-append : (w : ℕ) (m : Memory) (p a b c : ℕ) → a + b ≡ c → kinds w m p a ++ kinds w m (p + a) b ≡ kinds w m p c
 kinds-append w m p zero b c h = rw (omega-eq p, ← h, omega-zero b) refl
   where
@@ -40,6 +42,7 @@ kinds-same w m p q (suc n) z h =
     let here : kind_at w m p ≡ kind_at w m q = ap kind_of (cell-same w m p q z h) in
     rw (here, kinds-same w m (suc p) (suc q) n z (same-suc (w + w) p q h)) refl
 
+-- a window without its first places
 pub drop-kinds : (w : ℕ) (m : Memory) (p a n : ℕ) → drop a (kinds w m p n) ≡ kinds w m (p + a) (n - a)
 drop-kinds w m p zero n =
     let at : p + 0 ≡ p = omega arith in
@@ -53,6 +56,7 @@ drop-kinds w m p (suc a) (suc n) =
     let all : suc n - suc a ≡ n - a = omega arith in
     rw (at, all) (drop-kinds w m (suc p) a n)
 
+-- the one of this number
 pub get_or-kinds : (w : ℕ) (m : Memory) (p n j : ℕ) → j < n → get_or (kinds w m p n) j NoOp ≡ kind_at w m (p + j)
 get_or-kinds w m p zero j h = absurd (omega arith)
 get_or-kinds w m p (suc n) zero h = ap (kind_at w m) (omega-eq p)

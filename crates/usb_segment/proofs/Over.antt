@@ -13,6 +13,7 @@ use Rattle.usb_segment.proofs.Places.{index-turn, cycle-turn, cycle-within, inde
 use Rattle.usb_segment.proofs.Cells.{length-put, cell-put-other, cell-put-same, link-put-at, link-put-other, kind-put, is_cell-put, is_cell-keep}
 use Rattle.usb_segment.proofs.Puts.{back-twice, index-last}
 
+-- a TRB of a window that is less than a turn
 pub written-over : (w : ℕ) (m : Memory) (p n at : ℕ) (k : TrbKind) → w ≤ length m.cells → IsKind k → n < w → p ≤ at → at < p + n → IsWritten w m p n → IsWritten w (put w m at k) p n
 written-over w m p n at k size h few a b wr = λ q c d. by_place q c d (cases_eq q at)
   where
@@ -24,6 +25,7 @@ written-over w m p n at k size h few a b wr = λ q c d. by_place q c d (cases_eq
     by_place q c d (inl same) = subst (λ (x : ℕ). IsCell w (put w m at k) x) (sym same) (is_cell-put w m at k (omega arith) size h)
     by_place q c d (inr other) = is_cell-keep w m (put w m at k) q (cell-put-other w m at q k (omega arith) (by_side q c d other (cases_lt at q))) (wr q c d)
 
+-- its cell keeps its cycle, since it is of the same turn
 pub turned-over : (w : ℕ) (m : Memory) (e p : ℕ) (k : TrbKind) → 0 < w → w ≤ length m.cells → p < e → e ≤ p + w → IsTurned w m e → IsTurned w (put w m p k) e
 turned-over w m e p k z size a b t = λ q c d. by_place q c d (cases_eq q (p + w))
   where
@@ -34,6 +36,7 @@ turned-over w m e p k z size a b t = λ q c d. by_place q c d (cases_eq q (p + w
     by_place q c d (inr other) =
         ap cycle_in (cell-put-other w m p q k z (λ f. index-apart2 w p q (omega arith) (omega arith) other f)) ∙ t q c d
 
+-- so does the Link behind it
 pub linked-over : (w : ℕ) (m : Memory) (e p : ℕ) (k : TrbKind) → 0 < w → w ≤ length m.cells → IsKind k → p < e → e ≤ p + w → IsLinked w m e → IsLinked w (put w m p k) e
 linked-over w m e p k z size h a b l = λ long. by_index (sym (length-put w m p k) ∙ long) (cases_eq (suc (index_of w p)) w)
   where
@@ -50,6 +53,7 @@ linked-over w m e p k z size h a b l = λ long. by_index (sym (length-put w m p 
         link-put-other w m p k z at ∙ l long
         ∙ ap (λ (k' : TrbKind). trb_bytes (link_at m.base (chain_of k') (not (cycle_of w e)))) (sym kind)
 
+-- what is shown of the bytes is kept by TRBs before enqueue, at most a turn
 pub memory-over : (w : ℕ) (m : Memory) (e p : ℕ) (ks : List TrbKind) → 0 < w → AllKinds ks → p + length ks ≤ e → e ≤ p + w → IsMemory w m e → IsMemory w (puts w m p ks) e
 unfolding puts
 memory-over w m e p [] z h a b s = s

@@ -5,12 +5,15 @@ use Rattle.std.proofs.Math.Nat.{mod-add-mod, add-mod_right, mod-lt, mod-eq_of_lt
 use Rattle.std.proofs.lemmas.Bool.{cases_lt, lt-ltb, le-ltb}
 use Rattle.usb_segment.specs.Places.{index_of, cycle_of, after}
 
--- a number so many on, at most a turn: it goes on, or begins again
-pub mod-next : (t p k : ℕ) → 0 < t → k ≤ t
-    → (((p + k) % t ≡ p % t + k) × (p % t + k < t)) ⊎ (((p + k) % t + t ≡ p % t + k) × (t ≤ p % t + k))
+-- a number so many on, at most t: its rest by t goes on, or begins again
+abbrev pub Next : ℕ → ℕ → ℕ → Type 0
+Next t p k = (((p + k) % t ≡ p % t + k) × (p % t + k < t)) ⊎ (((p + k) % t + t ≡ p % t + k) × (t ≤ p % t + k))
+
+-- it does one of the two
+pub mod-next : (t p k : ℕ) → 0 < t → k ≤ t → Next t p k
 mod-next t p k h few = by_size (cases_lt (p % t + k) t)
   where
-    by_size : (p % t + k < t) ⊎ (t ≤ p % t + k) → (((p + k) % t ≡ p % t + k) × (p % t + k < t)) ⊎ (((p + k) % t + t ≡ p % t + k) × (t ≤ p % t + k))
+    by_size : (p % t + k < t) ⊎ (t ≤ p % t + k) → Next t p k
     by_size (inl near) = inl (sym (mod-add-mod p t k) ∙ mod-eq_of_lt near, near)
     by_size (inr far) =
         let low : p % t < t = mod-lt p h in
@@ -19,8 +22,11 @@ mod-next t p k h few = by_size (cases_lt (p % t + k) t)
         inr (omega (arith, e), far)
 
 -- a place is in the first turn or in the second
-pub halves : (w p : ℕ) → 0 < w
-    → ((p % (w + w) < w) × (p % w ≡ p % (w + w)) × (cycle_of w p ≡ true)) ⊎ ((w ≤ p % (w + w)) × (p % w + w ≡ p % (w + w)) × (cycle_of w p ≡ false))
+abbrev pub Half : ℕ → ℕ → Type 0
+Half w p = ((p % (w + w) < w) × (p % w ≡ p % (w + w)) × (cycle_of w p ≡ true)) ⊎ ((w ≤ p % (w + w)) × (p % w + w ≡ p % (w + w)) × (cycle_of w p ≡ false))
+
+-- it is in one of the two
+pub halves : (w p : ℕ) → 0 < w → Half w p
 halves w p h = by_half (cases_lt (p % (w + w)) w)
   where
     index-two : p % w ≡ p % (w + w) % w
@@ -29,8 +35,7 @@ halves w p h = by_half (cases_lt (p % (w + w)) w)
         ap (λ (x : ℕ). x % w) (sym (mod-add-div' p (w + w)) ∙ ap (λ (x : ℕ). p % (w + w) + x) twice)
         ∙ add-mul-mod_self_right (p % (w + w)) (p / (w + w) + p / (w + w)) w
 
-    by_half : (p % (w + w) < w) ⊎ (w ≤ p % (w + w))
-        → ((p % (w + w) < w) × (p % w ≡ p % (w + w)) × (cycle_of w p ≡ true)) ⊎ ((w ≤ p % (w + w)) × (p % w + w ≡ p % (w + w)) × (cycle_of w p ≡ false))
+    by_half : (p % (w + w) < w) ⊎ (w ≤ p % (w + w)) → Half w p
     by_half (inl near) = inl (near, index-two ∙ mod-eq_of_lt near, lt-ltb (p % (w + w)) w near)
     by_half (inr far) =
         let two : 0 < w + w = omega arith in
@@ -43,9 +48,7 @@ halves w p h = by_half (cases_lt (p % (w + w)) w)
 pub index-same : (w p q : ℕ) → 0 < w → p % (w + w) ≡ q % (w + w) → p % w ≡ q % w
 index-same w p q h e = by_halves (halves w p h) (halves w q h)
   where
-    by_halves : ((p % (w + w) < w) × (p % w ≡ p % (w + w)) × (cycle_of w p ≡ true)) ⊎ ((w ≤ p % (w + w)) × (p % w + w ≡ p % (w + w)) × (cycle_of w p ≡ false))
-        → ((q % (w + w) < w) × (q % w ≡ q % (w + w)) × (cycle_of w q ≡ true)) ⊎ ((w ≤ q % (w + w)) × (q % w + w ≡ q % (w + w)) × (cycle_of w q ≡ false))
-        → p % w ≡ q % w
+    by_halves : Half w p → Half w q → p % w ≡ q % w
     by_halves (inl a) (inl b) = a.1 ∙ e ∙ sym b.1
     by_halves (inl a) (inr b) = absurd (omega (arith, a.0, b.0))
     by_halves (inr a) (inl b) = absurd (omega (arith, a.0, b.0))
@@ -59,6 +62,7 @@ cycle-same w p q h = ap (λ (r : ℕ). nat_lt r w) h
 pub same-add : (t p q k : ℕ) → p % t ≡ q % t → (p + k) % t ≡ (q + k) % t
 same-add t p q k h = sym (mod-add-mod p t k) ∙ ap (λ (r : ℕ). (r + k) % t) h ∙ mod-add-mod q t k
 
+-- so one behind them
 pub same-suc : (t p q : ℕ) → p % t ≡ q % t → suc p % t ≡ suc q % t
 same-suc t p q h =
     let a : p + 1 ≡ suc p = omega arith in
@@ -73,9 +77,7 @@ index-turn w p = add-mod_right p w
 pub cycle-turn : (w p : ℕ) → 0 < w → cycle_of w (p + w) ≡ not (cycle_of w p)
 cycle-turn w p h = by_halves (halves w p h) (mod-next (w + w) p w (omega arith) (omega arith))
   where
-    by_halves : ((p % (w + w) < w) × (p % w ≡ p % (w + w)) × (cycle_of w p ≡ true)) ⊎ ((w ≤ p % (w + w)) × (p % w + w ≡ p % (w + w)) × (cycle_of w p ≡ false))
-        → (((p + w) % (w + w) ≡ p % (w + w) + w) × (p % (w + w) + w < w + w)) ⊎ (((p + w) % (w + w) + (w + w) ≡ p % (w + w) + w) × (w + w ≤ p % (w + w) + w))
-        → cycle_of w (p + w) ≡ not (cycle_of w p)
+    by_halves : Half w p → Next (w + w) p w → cycle_of w (p + w) ≡ not (cycle_of w p)
     by_halves (inl a) (inl b) = le-ltb ((p + w) % (w + w)) w (omega (arith, a.0, b.0)) ∙ ap not (sym a.2)
     by_halves (inl a) (inr b) = absurd (omega (arith, a.0, b.1))
     by_halves (inr a) (inl b) = absurd (omega (arith, a.0, b.1))
@@ -88,7 +90,7 @@ cycle-turn w p h = by_halves (halves w p h) (mod-next (w + w) p w (omega arith) 
 pub index-apart : (w p q : ℕ) → p < q → q < p + w → q % w ≡ p % w → ⊥
 index-apart w p q h k e = by_next (mod-next w p (q - p) (omega arith) (omega arith))
   where
-    by_next : (((p + (q - p)) % w ≡ p % w + (q - p)) × (p % w + (q - p) < w)) ⊎ (((p + (q - p)) % w + w ≡ p % w + (q - p)) × (w ≤ p % w + (q - p))) → ⊥
+    by_next : Next w p (q - p) → ⊥
     by_next (inl a) =
         let at : (p + (q - p)) % w ≡ q % w = ap (λ (x : ℕ). x % w) (omega arith) in
         omega (arith, a.0, at, e)
@@ -115,14 +117,13 @@ cycle-within w p e at a b = by_halves (halves w p (omega arith)) (mod-next (w + 
     there : (p + (e - p)) % (w + w) ≡ e % (w + w)
     there = ap (λ (x : ℕ). x % (w + w)) (omega arith)
 
-    by_halves : ((p % (w + w) < w) × (p % w ≡ p % (w + w)) × (cycle_of w p ≡ true)) ⊎ ((w ≤ p % (w + w)) × (p % w + w ≡ p % (w + w)) × (cycle_of w p ≡ false))
-        → (((p + (e - p)) % (w + w) ≡ p % (w + w) + (e - p)) × (p % (w + w) + (e - p) < w + w)) ⊎ (((p + (e - p)) % (w + w) + (w + w) ≡ p % (w + w) + (e - p)) × (w + w ≤ p % (w + w) + (e - p)))
-        → cycle_of w p ≡ not (cycle_of w e)
+    by_halves : Half w p → Next (w + w) p (e - p) → cycle_of w p ≡ not (cycle_of w e)
     by_halves (inl x) (inl y) = x.2 ∙ ap not (sym (le-ltb (e % (w + w)) w (omega (arith, there, x.1, y.0))))
     by_halves (inl x) (inr y) = absurd (omega (arith, x.1, y.1))
     by_halves (inr x) (inl y) = absurd (omega (arith, x.1, y.1))
     by_halves (inr x) (inr y) = x.2 ∙ ap not (sym (lt-ltb (e % (w + w)) w (omega (arith, there, x.1, y.0))))
 
+-- so it does one place on
 pub cycle-link : (w e : ℕ) → suc (index_of w e) ≡ w → cycle_of w e ≡ not (cycle_of w (suc e))
 cycle-link w e at = cycle-within w e (suc e) at (omega arith) (omega arith)
 
@@ -133,9 +134,7 @@ cycle-next w e h at = by_halves (halves w e h) (mod-next (w + w) e 1 (omega arit
     there : (e + 1) % (w + w) ≡ suc e % (w + w)
     there = ap (λ (x : ℕ). x % (w + w)) (omega arith)
 
-    by_halves : ((e % (w + w) < w) × (e % w ≡ e % (w + w)) × (cycle_of w e ≡ true)) ⊎ ((w ≤ e % (w + w)) × (e % w + w ≡ e % (w + w)) × (cycle_of w e ≡ false))
-        → (((e + 1) % (w + w) ≡ e % (w + w) + 1) × (e % (w + w) + 1 < w + w)) ⊎ (((e + 1) % (w + w) + (w + w) ≡ e % (w + w) + 1) × (w + w ≤ e % (w + w) + 1))
-        → cycle_of w e ≡ cycle_of w (suc e)
+    by_halves : Half w e → Next (w + w) e 1 → cycle_of w e ≡ cycle_of w (suc e)
     by_halves (inl x) (inl y) = x.2 ∙ sym (lt-ltb (suc e % (w + w)) w (below (cases_lt (suc e % (w + w)) w)))
       where
         below : (suc e % (w + w) < w) ⊎ (w ≤ suc e % (w + w)) → suc e % (w + w) < w
@@ -155,5 +154,6 @@ same-after w p n = mod-mod (p + n) (w + w)
 pub cycle-is : (w p : ℕ) → p < w + w → nat_lt p w ≡ cycle_of w p
 cycle-is w p h = ap (λ (r : ℕ). nat_lt r w) (sym (mod-eq_of_lt h))
 
+-- a place is its rest over two turns
 pub same-mod : (t p : ℕ) → p % t % t ≡ p % t
 same-mod t p = mod-mod p t

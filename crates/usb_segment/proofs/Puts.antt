@@ -29,11 +29,13 @@ cell-puts-after w m p q (k ∷ ks) a b =
     cell-puts-after w (put w m p k) (suc p) q ks (omega arith) (omega arith)
     ∙ cell-put-other w m p q k (omega arith) (λ e. index-apart w p q (omega arith) b e)
 
+-- no cell comes or goes
 pub length-puts : (w : ℕ) (m : Memory) (p : ℕ) (ks : List TrbKind) → length (puts w m p ks).cells ≡ length m.cells
 unfolding puts
 length-puts w m p [] = refl
 length-puts w m p (k ∷ ks) = length-puts w (put w m p k) (suc p) ks ∙ length-put w m p k
 
+-- the address stays
 pub base-puts : (w : ℕ) (m : Memory) (p : ℕ) (ks : List TrbKind) → (puts w m p ks).base ≡ m.base
 unfolding puts
 base-puts w m p [] = refl
@@ -50,6 +52,7 @@ kinds-puts w m p (k ∷ ks) z size h few =
     kinds-puts w (put w m p k) (suc p) ks z (omega (arith, length-put w m p k, size)) h.1 (omega arith) in
     rw (kind, rest) refl
 
+-- a TRB put at the end of a window is in it
 pub written-put : (w : ℕ) (m : Memory) (p n e : ℕ) (k : TrbKind) → w ≤ length m.cells → IsKind k → p + n ≡ e → n < w → IsWritten w m p n → IsWritten w (put w m e k) p (suc n)
 written-put w m p n e k size h at few wr = λ q a b. by_place q a b (cases_eq q e)
   where
@@ -68,10 +71,12 @@ written-puts w m p n e (k ∷ ks) size h at few wr =
     let all = written-puts w (put w m e k) p (suc n) (suc e) ks (omega (arith, length-put w m e k, size)) h.1 (omega arith) (omega arith) one in
     λ q a b. all q a (omega arith)
 
+-- a bit turned twice is itself
 pub back-twice : (b : Bool) → b ≡ not (not b)
 back-twice true = refl
 back-twice false = refl
 
+-- enqueue goes on by one: the cell that was written isn't new until the turn behind it
 pub turned-put : (w : ℕ) (m : Memory) (e : ℕ) (k : TrbKind) → 0 < w → w ≤ length m.cells → IsTurned w m e → IsTurned w (put w m e k) (suc e)
 turned-put w m e k z size t = λ q a b. by_place q a b (cases_eq q (e + w))
   where
@@ -88,6 +93,7 @@ index-last w z =
     let small : w - 1 < w = omega arith in
     omega (arith, mod-eq_of_lt small)
 
+-- so the Link
 pub linked-put : (w : ℕ) (m : Memory) (e : ℕ) (k : TrbKind) → 0 < w → w ≤ length m.cells → IsKind k → IsLinked w m e → IsLinked w (put w m e k) (suc e)
 linked-put w m e k z size h l = λ long. by_index (sym (length-put w m e k) ∙ long) (cases_eq (suc (index_of w e)) w)
   where
@@ -115,6 +121,7 @@ memory-same w m e e' z h s = record {
   linked = λ long. s.linked long ∙ ap (λ (b : Bool). trb_bytes (link_at m.base (chain_of (kind_at w m (w - 1))) (not b))) (cycle-same w e e' h);
 }
 
+-- what is shown of the bytes is kept by a TRB at enqueue
 pub memory-put : (w : ℕ) (m : Memory) (e : ℕ) (k : TrbKind) → 0 < w → IsKind k → IsMemory w m e → IsMemory w (put w m e k) (suc e)
 memory-put w m e k z h s = record {
   cells = omega (arith, length-put w m e k, s.cells);
@@ -122,6 +129,7 @@ memory-put w m e k z h s = record {
   linked = linked-put w m e k z s.cells h s.linked;
 }
 
+-- so by more of them
 pub memory-puts : (w : ℕ) (m : Memory) (e : ℕ) (ks : List TrbKind) → 0 < w → AllKinds ks → IsMemory w m e → IsMemory w (puts w m e ks) (e + length ks)
 unfolding puts
 memory-puts w m e [] z h s = subst (IsMemory w m) (omega arith) s
@@ -133,6 +141,7 @@ pub puts-none : (w : ℕ) (m : Memory) (at : ℕ) → puts w m at [] ≡ m
 unfolding puts
 puts-none w m at = refl
 
+-- the first, and then the others
 pub puts-one : (w : ℕ) (m : Memory) (at at' : ℕ) (k : TrbKind) (ks : List TrbKind) → 0 < w → at' % (w + w) ≡ suc at % (w + w) → puts w (put w m at k) at' ks ≡ puts w m at (k ∷ ks)
 unfolding puts
 puts-one w m at at' k ks z h = puts-same w (put w m at k) at' (suc at) ks z h

@@ -41,6 +41,7 @@ zeros = replicate 16 0
 unfoldable pub cleared_cells : ℕ → ℕ → ℕ → List (List ℕ)
 cleared_cells width size base = slice_set (replicate size zeros) width (trb_bytes (link_at base false false))
 
+-- the memory of these cells
 abbrev pub cleared : ℕ → ℕ → ℕ → Memory
 cleared width size base = record { base = base; cells = cleared_cells width size base }
 
@@ -51,6 +52,7 @@ put_cells width base cells p k =
     then slice_set (slice_set cells (index_of width p) (trb_bytes (trb_at width k p))) width (trb_bytes (link_at base (chain_of k) (cycle_of width p)))
     else slice_set cells (index_of width p) (trb_bytes (trb_at width k p))
 
+-- the memory behind such a write
 abbrev pub put : ℕ → Memory → ℕ → TrbKind → Memory
 put width m p k = record { base = m.base; cells = put_cells width m.base m.cells p k }
 
