@@ -10,7 +10,7 @@ use crate::field::{EndpointId, Length, Pointer, Residual, Slot};
 use crate::kind::{Normal, TrbKind};
 use crate::trb::Trb;
 use crate::types;
-use crate::words::{Words, bit_of, normal_flags, whole};
+use crate::words::{Words, bit_of, endpoint_bits, normal_flags, whole};
 
 impl Words {
     /// The TRB that has these numbers; Unknown where there is none. Inlined for speed, as `decode` is.
@@ -19,10 +19,10 @@ impl Words {
         ensures known { IfOk result (λ t. IsInWords t self.parameter self.status self.control) }
         ensures found { (t : Trb) → IsInWords t self.parameter self.status self.control → result ≡ Ok t }
     {
-        if self.type_number() == types::NORMAL {
-            self.normal()
-        } else {
-            self.any()
+        match self.type_number() {
+            types::NORMAL => self.normal(),
+            types::TRANSFER_EVENT => self.event(),
+            _ => self.any(),
         }
     }
 
@@ -50,6 +50,34 @@ impl Words {
                 chain,
                 done,
             }),
+            cycle,
+        })
+    }
+
+    /// The Transfer Event that has these numbers, the most frequent TRB of the event ring. Inlined for speed, as `normal` is.
+    #[inline(always)]
+    fn event(self) -> Result<Trb, Unknown>
+        ensures known { IfOk result (λ t. IsInWords t self.parameter self.status self.control) }
+        ensures found { (t : Trb) → IsInWords t self.parameter self.status self.control
+            → endpoint_kind 32 self.parameter self.status self.control ≡ Ok t.kind → result ≡ Ok t }
+    {
+        let (Some(slot), Some(id)) = (self.slot(), self.id()) else {
+            return Err(Unknown);
+        };
+        let (pointer, residual, code) = (self.pointer(), Residual::low(self.status), self.code());
+        let cycle = self.cycle();
+        let control = bit_of(cycle) + 32768 + endpoint_bits(slot, id);
+        if control != self.control || pointer.address() != self.parameter {
+            return Err(Unknown);
+        }
+        Ok(Trb {
+            kind: TrbKind::TransferEvent {
+                pointer,
+                residual,
+                code,
+                slot,
+                id,
+            },
             cycle,
         })
     }
