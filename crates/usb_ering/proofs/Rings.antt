@@ -58,7 +58,7 @@ dequeue-is w m e d s =
 -- what is read from the bytes
 pub ring-is : (w : ℕ) (m : Memory) (e d : ℕ) → IsSound w m e d → IsRing w (ring_in w m e d)
 ring-is w m e d s = record {
-  room = omega (arith, length-waits w m e d, s.room);
+  room = omega (arith, length-waits w m e d, s.room, s.width_fits.0);
   place = s.enqueue_fits;
   taken = window-read w m d (between w d e) (dequeue_of w (ring_in w m e d)) (kinds w m d (between w d e)) s.width_fits.0 s.written refl
       (ap (λ (x : ℕ). x % (w + w)) (dequeue-is w m e d s));

@@ -1,5 +1,5 @@
 -- A ring that one side posts to and the other takes from (xHCI 1.2, 4.9): the list of what waits, and the bytes that it stands in.
-use Rattle.std.specs.Prelude.{ℕ, suc, ◌+◌, ◌-◌, ◌%◌, ◌<◌, ◌≡◌, not, List, [], length, get_or}
+use Rattle.std.specs.Prelude.{ℕ, suc, ◌+◌, ◌-◌, ◌%◌, ◌<◌, ◌≤◌, ◌≡◌, not, List, [], length, get_or}
 use Rattle.usb_trb.specs.declared.kind.TrbKind.{TrbKind}
 use Rattle.usb_trb.specs.declared.kind.TrbKind.TheVariants.{NoOp}
 use Rattle.usb_trb.specs.Words.{trb_bytes}
@@ -22,6 +22,10 @@ unused m = record { posted = 0; waits = []; memory = m }
 -- a ring of so many cells as it is made
 abbrev pub empty : ℕ → ℕ → ℕ → Ring
 empty width size base = unused (cleared width size base)
+
+-- how many TRBs may wait: one place stays free, so that a full ring isn't taken for an empty one
+abbrev pub capacity : ℕ → ℕ
+capacity width = width - 1
 
 -- the place of the oldest TRB that waits, or of the next one that is posted
 abbrev pub dequeue_of : ℕ → Ring → ℕ
@@ -46,7 +50,7 @@ pub record IsSound (width : ℕ) (m : Memory) (enqueue dequeue : ℕ) : Type 0 w
 
 -- what a consumer reads from memory, and what it doesn't take for new
 pub record IsRing (width : ℕ) (r : Ring) : Type 0 where
-  pub room : length r.waits < width
+  pub room : length r.waits ≤ capacity width
   pub place : r.posted < width + width
   -- from dequeue on, the TRBs that wait, each with the cycle of its place
   pub taken : (j : ℕ) → j < length r.waits

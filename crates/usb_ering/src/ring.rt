@@ -61,7 +61,7 @@ ghost use Rattle.std.specs.Prelude.{◌≡◌, ◌+◌, ◌-◌, ◌*◌, ◌<�
 ghost use Rattle.usb_segment.specs.Places.{after, index_of, IsWidth};
 ghost use Rattle.usb_segment.specs.Memory.{put, cleared};
 ghost use Rattle.usb_segment.specs.Written.{IsMemory};
-ghost use Rattle.usb_ering.specs.Ring.{unused, between, dequeue_of, IsRing};
+ghost use Rattle.usb_ering.specs.Ring.{unused, capacity, between, dequeue_of, IsRing};
 
 /// How many places from dequeue to enqueue.
 fn waiting<const N: usize>(dequeue: usize, enqueue: usize) -> usize
@@ -93,7 +93,7 @@ impl<const N: usize> Ring<N> {
 
     /// How many TRBs more fit, 0 to `N - 1`.
     pub fn room(&self) -> usize
-        ensures { result ≡ N - 1 - length self.now.waits }
+        ensures { result ≡ capacity N - length self.now.waits }
     {
         let waiting = waiting::<N>(self.dequeue, self.enqueue);
         N - 1 - waiting
@@ -102,7 +102,7 @@ impl<const N: usize> Ring<N> {
     /// Puts a TRB behind all that wait, and gives the index of its place. Commands are posted to the command ring, events
     /// to the event ring.
     pub fn post(&mut self, kind: TrbKind) -> usize
-        requires { length self.old.waits < N - 1 }
+        requires { length self.old.waits < capacity N }
         ensures index { result ≡ index_of N self.old.posted }
         ensures list { (self.new.posted ≡ after N self.old.posted 1) × (self.new.waits ≡ self.old.waits ++ kind ∷ []) }
         ensures memory { self.new.memory ≡ put N self.old.memory self.old.posted kind }
