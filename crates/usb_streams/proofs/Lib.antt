@@ -1,1 +1,3 @@
 pub mod Findings
+mod Beginnings
+mod Lines

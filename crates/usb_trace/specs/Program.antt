@@ -18,7 +18,8 @@ use Rattle.usb_text.specs.declared.scenario.Scenario.{Scenario}
 use Rattle.usb_command.specs.declared.words.Task.{Task}
 use Rattle.usb_command.specs.declared.words.Task.TheVariants as task
 use Rattle.usb_streams.specs.Input.{longest_input}
-use Rattle.usb_streams.specs.Printing.{counts_line, AppendsReport}
+use Rattle.usb_streams.specs.Faults.{message_of}
+use Rattle.usb_streams.specs.Printing.{counts_line, AppendsReport, AppendsSome, AppendsSomeReport}
 use Rattle.usb_text.specs.Counts.{counts_of}
 use Rattle.usb_text.specs.Findings.{bad_lines, good_lines}
 use Rattle.usb_text.specs.Scenario.{scenario_of}
@@ -61,6 +62,16 @@ Performs t text old new (Err InputOutput) = ⊤
 abbrev pub PrintsTo : Reach → Scenario → Option (List ℕ) → Option (List ℕ) → Type 0
 PrintsTo End s old new = Appends old new (run_text s)
 PrintsTo NoMemory s old new = (front : List Entry) × IsBeginning front (world_run s.setup (steps_of s)) × Appends old new (lines_text front)
+
+-- what a task may have written over a text, however it ends: a beginning of what it prints of the text's scenario, or of the report of a check; nothing where a line of the text is bad
+abbrev pub Begins : Task → List ℕ → Option (List ℕ) → Option (List ℕ) → Type 0
+Begins task.Check text old new = AppendsSomeReport (bad_lines text) (counts_of (good_lines text)) old new
+Begins t text old new = BeginsRun t old new (scenario_of text)
+
+-- the same of a task that prints entries
+abbrev pub BeginsRun : Task → Option (List ℕ) → Option (List ℕ) → Result Scenario ℕ → Type 0
+BeginsRun t old new (Ok s) = AppendsSome (task_text t s) old new
+BeginsRun t old new (Err line) = Keeps old new
 
 -- nothing is written where a line of the text is bad
 abbrev pub IsSilentAtBad : List ℕ → Option (List ℕ) → Option (List ℕ) → Type 0
