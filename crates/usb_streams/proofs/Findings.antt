@@ -7,7 +7,7 @@ use Rattle.std.proofs.lemmas.List.{flat_map_more, map-append, take_more}
 use Rattle.usb_text.specs.declared.findings.Counts.{Counts}
 use Rattle.usb_text.specs.declared.findings.Finding.{Finding}
 use Rattle.usb_streams.specs.Printing.{finding_text, counts_line, AppendsFindings, AppendsReport, AppendsSome, AppendsSomeFindings, AppendsSomeReport}
-use Rattle.usb_streams.proofs.Beginnings.{all_of, joined, kept, some_behind, some_of_front}
+use Rattle.usb_streams.proofs.Beginnings.{all_of, joined, kept, none_yet, some_behind, some_of_front}
 
 -- no line yet
 pub no_findings : (old : Option (List ℕ)) → AppendsFindings [] old old
@@ -85,3 +85,14 @@ counts_begun numbers counts old mid new before some =
 -- the whole report
 pub report_begun : (numbers : List ℕ) (counts : Counts) (old new : Option (List ℕ)) → AppendsReport numbers counts old new → AppendsSomeReport numbers counts old new
 report_begun numbers counts old new written = (written.0, written.1, all_of (flat_map finding_text written.0 ++ counts_line counts) old new written.2)
+
+-- nothing is reported yet
+pub no_report : (numbers : List ℕ) (counts : Counts) (old : Option (List ℕ)) → AppendsSomeReport numbers counts old old
+no_report numbers counts old = (unworded numbers, numbers_unworded numbers, none_yet (flat_map finding_text (unworded numbers) ++ counts_line counts) old)
+  where
+    unworded : List ℕ → List (ℕ × List ℕ)
+    unworded ns = map (λ n. (n, [])) ns
+
+    numbers_unworded : (ns : List ℕ) → map (λ (f : ℕ × List ℕ). f.0) (map (λ n. (n, [])) ns) ≡ ns
+    numbers_unworded [] = refl
+    numbers_unworded (n ∷ ns) = ap (λ xs. n ∷ xs) (numbers_unworded ns)

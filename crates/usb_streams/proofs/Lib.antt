@@ -1,3 +1,3 @@
 pub mod Findings
-mod Beginnings
-mod Lines
+pub mod Beginnings
+pub mod Lines

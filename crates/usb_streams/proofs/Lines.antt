@@ -6,6 +6,7 @@ use Rattle.std.proofs.lemmas.Grind.{flat_map-append}
 use Rattle.std.proofs.lemmas.List.{flat_map_more, take_all, take_more}
 use Rattle.usb_model.specs.declared.entry.Entry.{Entry}
 use Rattle.usb_model.specs.Text.{lines_text}
+use Rattle.usb_model.specs.World.Journal.{IsBeginning}
 use Rattle.usb_streams.specs.Printing.{line_text, AppendsAllBut, AppendsSome}
 use Rattle.usb_streams.proofs.Beginnings.{gathered_further, some_behind, some_further, some_of_front, stays, whole}
 
@@ -53,3 +54,9 @@ last_written entries i rest old mid last new end so_far more same =
 pub on_error : {T E P : Type 0} (r : Result T E) → P → OnErr r P
 on_error (Ok x) p = tt
 on_error (Err e) p = p
+
+-- of the lines of some entries a beginning: it is one of the lines of all that begin with them
+pub lines_begun : (front entries : List Entry) (old new : Option (List ℕ)) → IsBeginning front entries → AppendsSome (lines_text front) old new → AppendsSome (lines_text entries) old new
+lines_begun front entries old new begins some =
+    some_of_front (lines_text entries) (lines_text front) (lines_text begins.0) old new
+    (ap lines_text begins.1 ∙ flat_map-append line_text front begins.0) some
