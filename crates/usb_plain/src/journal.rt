@@ -1,6 +1,6 @@
 //! Runs of the plain program.
 
-ghost use Rattle.std.specs.Prelude.{◌≡◌, ◌++◌, ◌∷◌, [], length, take, IfErr, IfOk, OnErr};
+ghost use Rattle.std.specs.Prelude.{◌≡◌, ◌<◌, ◌⊎◌, ◌++◌, ◌∷◌, [], length, take, IfErr, IfOk, OnErr};
 ghost use Rattle.usb_model.specs.World.Journal.{world_run, IsBeginning};
 ghost use Rattle.usb_model.specs.World.{turn};
 ghost use Rattle.usb_system.specs.System.{Turns, world_of};
@@ -10,7 +10,8 @@ use usb_model::{Entry, Sequence, Setup, Step};
 use usb_system::System;
 
 /// A run that found no memory: the entries before the step that found none. They are those of the first so many steps,
-/// as many as there are entries. The system isn't handed out: a step that finds no memory leaves it midway.
+/// as many as there are entries, and a step is left; or none was begun, since there was no memory for the system. It
+/// isn't handed out: a step that finds no memory leaves it midway.
 #[derive(Debug, Drop)]
 pub struct Stopped {
     /// The entries so far.
@@ -38,6 +39,7 @@ pub fn run(alloc: Global, setup: &Setup, steps: &[Step]) -> Result<Sequence<Entr
     ensures entries { IfOk result (λ entries. entries ≡ world_run setup.now steps.now) }
     ensures stopped { IfErr result (λ stopped. IsBeginning stopped.entries (world_run setup.now steps.now)) }
     ensures reached { IfErr result (λ stopped. stopped.entries ≡ world_run setup.now (take (length stopped.entries) steps.now)) }
+    ensures left { IfErr result (λ stopped. (stopped.entries ≡ []) ⊎ (length stopped.entries < length steps.now)) }
 {
     let mut entries = Sequence::new(alloc);
     let Ok(mut system) = System::new(alloc, setup) else {
