@@ -1,3 +1,4 @@
 pub mod Walks
 mod LineWalks
 mod StandIns
+mod Fronts

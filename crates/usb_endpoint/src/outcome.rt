@@ -1,6 +1,6 @@
 //! The outcome of a transfer, read off the whole share of answers that it took (USB 2.0, 8.5.2 and 8.5.4).
 
-ghost use Rattle.std.specs.Prelude.{◌≡◌, ◌-◌, ◌/◌, [], ◌∷◌, length, take, nat_lt, if◌then◌else◌, None, Some, IfOk};
+ghost use Rattle.std.specs.Prelude.{◌≡◌, ◌-◌, ◌*◌, ◌/◌, ◌≤◌, [], ◌∷◌, length, take, nat_lt, if◌then◌else◌, None, Some, IfOk};
 ghost use Rattle.usb_model.specs.Endpoint.Packets.{without_naks, moved_by, outcome, ended_with, packets, read_with, sent_with};
 ghost use Rattle.usb_model.specs.Endpoint.{outcome_of};
 
@@ -31,6 +31,7 @@ pub(crate) fn outcome(
 }
 
 /// What the answers do, but for naks.
+#[tactic(auto, using(crate::proofs::Fronts::front_fits))]
 fn moved_by(
     alloc: Global,
     request: &Request,
@@ -78,6 +79,7 @@ pub(crate) fn read_with(
     front: Vec<Bytes>,
     rest: &[Response],
 ) -> Result<Option<Outcome>, AllocError>
+    requires { length front.items * size ≤ n }
     ensures { IfOk result (λ o. o ≡ read_with n size front.items (without_naks rest.now)) }
 {
     let Some((answer, behind)) = first_answer(rest) else {
@@ -94,22 +96,21 @@ pub(crate) fn read_with(
     }
 }
 
-/// The packet behind full packets: too much, all that was asked for, short, or none of these. A number of bytes past a
-/// `usize` counts as want of memory; no transfer is that long.
+/// The packet behind full packets: too much, all that was asked for, short, or none of these.
 fn read_last(
     n: usize,
     size: usize,
     mut front: Vec<Bytes>,
     bytes: Bytes,
 ) -> Result<Option<Outcome>, AllocError>
+    requires { length front.items * size ≤ n }
     ensures { IfOk result (λ o. o ≡ read_with n size front.items (Response.Data bytes ∷ [])) }
 {
-    let full = front.len().checked_mul(size).ok_or(AllocError)?;
-    let moved = full.checked_add(bytes.len()).ok_or(AllocError)?;
-    if bytes.len() > size.min(n.saturating_sub(full)) {
+    let full = front.len() * size;
+    if bytes.len() > size.min(n - full) {
         return Ok(Some(Outcome::ended_with(front, BABBLE_DETECTED)));
     }
-    if moved == n {
+    if full + bytes.len() == n {
         front.push(bytes)?;
         return Ok(Some(Outcome::ended_with(front, SUCCESS)));
     }

@@ -1,6 +1,6 @@
 //! Runs of the plain program.
 
-ghost use Rattle.std.specs.Prelude.{◌≡◌, ◌++◌, ◌∷◌, [], IfErr, IfOk, OnErr};
+ghost use Rattle.std.specs.Prelude.{◌≡◌, ◌<◌, ◌⊎◌, ◌++◌, ◌∷◌, [], length, take, IfErr, IfOk, OnErr};
 ghost use Rattle.usb_model.specs.World.Journal.{world_run, IsBeginning};
 ghost use Rattle.usb_model.specs.World.{turn};
 ghost use Rattle.usb_system.specs.System.{Turns, world_of};
@@ -9,7 +9,9 @@ use std::alloc::{AllocError, Global};
 use usb_model::{Entry, Sequence, Setup, Step};
 use usb_system::System;
 
-/// A run that found no memory: the entries before the step that found none.
+/// A run that found no memory: the entries before the step that found none. They are those of the first so many steps,
+/// as many as there are entries, and a step is left; or none was begun, since there was no memory for the system. It
+/// isn't handed out: a step that finds no memory leaves it midway.
 #[derive(Debug, Drop)]
 pub struct Stopped {
     /// The entries so far.
@@ -31,10 +33,13 @@ pub(crate) fn advance(
     entries.push(entry)
 }
 
-/// The entries of these steps, from a system in which no name is open.
+/// The entries of these steps, from a system in which no name is open. Where no memory is found, those of the first so
+/// many steps.
 pub fn run(alloc: Global, setup: &Setup, steps: &[Step]) -> Result<Sequence<Entry>, Stopped>
     ensures entries { IfOk result (λ entries. entries ≡ world_run setup.now steps.now) }
     ensures stopped { IfErr result (λ stopped. IsBeginning stopped.entries (world_run setup.now steps.now)) }
+    ensures reached { IfErr result (λ stopped. stopped.entries ≡ world_run setup.now (take (length stopped.entries) steps.now)) }
+    ensures left { IfErr result (λ stopped. (stopped.entries ≡ []) ⊎ (length stopped.entries < length steps.now)) }
 {
     let mut entries = Sequence::new(alloc);
     let Ok(mut system) = System::new(alloc, setup) else {

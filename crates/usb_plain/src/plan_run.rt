@@ -1,6 +1,6 @@
 //! A system in the midst of a plan, and the rules of the numbers that were given.
 
-ghost use Rattle.std.specs.Prelude.{◌≡◌, ℕ, ◌++◌, ◌∷◌, [], IfOk, OnErr, List, false, IfErr, if◌then◌else◌};
+ghost use Rattle.std.specs.Prelude.{◌≡◌, ℕ, ◌+◌, ◌<◌, ◌⊎◌, ◌++◌, ◌∷◌, [], length, take, IfOk, OnErr, List, false, IfErr, if◌then◌else◌};
 ghost use Rattle.usb_model.specs.World.Plans.{is_other_refusal, noted, expand, first_rule, first_stage, is_submit, needs_stop, rules_after, stage_after, steps_of, verdict_by, verdict_of};
 ghost use Rattle.usb_model.specs.World.{turn};
 ghost use Rattle.usb_plain.specs.RuleBooks.{book_at};
@@ -162,6 +162,7 @@ impl PlanRun {
         ensures made { IfOk result (λ _. let s = stage_of setup.now self.old rules.now in Made setup.now s (Return h n) (steps_of setup.now s (Return h n)) out.old out.new (stage_of setup.now self.new rules.now)) }
         ensures noted { IfOk result (λ _. self.new.made ≡ kept_with self.old.made (steps_of setup.now (stage_of setup.now self.old rules.now) (Return h n))) }
         ensures stopped { let s = stage_of setup.now self.old rules.now in OnErr result (IsBeginning out.new (out.old ++ run_from setup.now s.world (steps_of setup.now s (Return h n)))) }
+        ensures left { let s = stage_of setup.now self.old rules.now in OnErr result (length out.new < length out.old + length (steps_of setup.now s (Return h n))) }
     {
         if !self.answer(alloc, setup, h, n, out)? {
             return Ok(());
@@ -211,6 +212,7 @@ impl PlanRun {
         ensures made { IfOk result (λ _. let s = stage_of setup.now self.old rules.now in Made setup.now s piece.now (steps_of setup.now s piece.now) out.old out.new (stage_of setup.now self.new (rules_after piece.now rules.now))) }
         ensures noted { IfOk result (λ _. self.new.made ≡ kept_with self.old.made (steps_of setup.now (stage_of setup.now self.old rules.now) piece.now)) }
         ensures stopped { let s = stage_of setup.now self.old rules.now in OnErr result (IsBeginning out.new (out.old ++ run_from setup.now s.world (steps_of setup.now s piece.now))) }
+        ensures left { let s = stage_of setup.now self.old rules.now in OnErr result (length out.new < length out.old + length (steps_of setup.now s piece.now)) }
     {
         match piece {
             Plan::Do(step) => self.do_step(alloc, setup, step, rules, out),
@@ -220,6 +222,7 @@ impl PlanRun {
 }
 
 /// The entries of a plan under rules, of which the first Submit takes the first, from a system in which no name is open.
+/// Where no memory is found, those of the first so many of the steps that the plan stands for.
 pub fn drive(
     alloc: Global,
     setup: &Setup,
@@ -228,6 +231,8 @@ pub fn drive(
 ) -> Result<Sequence<Entry>, Stopped>
     ensures entries { IfOk result (λ entries. entries ≡ world_run setup.now (expand setup.now plan.now rules.now)) }
     ensures stopped { IfErr result (λ stopped. IsBeginning stopped.entries (world_run setup.now (expand setup.now plan.now rules.now))) }
+    ensures reached { IfErr result (λ stopped. stopped.entries ≡ world_run setup.now (take (length stopped.entries) (expand setup.now plan.now rules.now))) }
+    ensures left { IfErr result (λ stopped. (stopped.entries ≡ []) ⊎ (length stopped.entries < length (expand setup.now plan.now rules.now))) }
 {
     let PlanSteps { entries, .. } = drive_on(alloc, setup, plan, rules, None)?;
     Ok(entries)
@@ -274,6 +279,8 @@ fn drive_on(
     ensures steps { IfOk result (λ driven. driven.steps ≡ kept_with made (expand setup.now plan.now rules.now)) }
     ensures entries { IfOk result (λ driven. driven.entries ≡ world_run setup.now (expand setup.now plan.now rules.now)) }
     ensures stopped { IfErr result (λ stopped. IsBeginning stopped.entries (world_run setup.now (expand setup.now plan.now rules.now))) }
+    ensures reached { IfErr result (λ stopped. stopped.entries ≡ world_run setup.now (take (length stopped.entries) (expand setup.now plan.now rules.now))) }
+    ensures left { IfErr result (λ stopped. (stopped.entries ≡ []) ⊎ (length stopped.entries < length (expand setup.now plan.now rules.now))) }
 {
     let mut entries = Sequence::new(alloc);
     let Ok(mut run) = PlanRun::new(alloc, setup, made) else {

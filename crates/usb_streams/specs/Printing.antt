@@ -3,8 +3,23 @@ use Rattle.std.specs.Prelude.{◌≡◌, ◌++◌, ℕ, List, map, codes, Option
 use Rattle.std.specs.Fmt.{decimal}
 use Rattle.std.specs.List.{flat_map}
 use Rattle.std.specs.Io.KnownBytes.{Appends}
+use Rattle.usb_model.specs.declared.entry.Entry.{Entry}
+use Rattle.usb_model.specs.Text.{entry_text}
 use Rattle.usb_text.specs.declared.findings.Counts.{Counts}
 use Rattle.usb_text.specs.Counts.{counts_text}
+use Rattle.usb_model.specs.World.Journal.{IsBeginning}
+
+-- a beginning of the text is appended: all of it, or none, or some
+abbrev pub AppendsSome : List ℕ → Option (List ℕ) → Option (List ℕ) → Type 0
+AppendsSome text old new = (front : List ℕ) × IsBeginning front text × Appends old new front
+
+-- the text is appended, all but this rest at its end
+abbrev pub AppendsAllBut : List ℕ → List ℕ → Option (List ℕ) → Option (List ℕ) → Type 0
+AppendsAllBut text rest old new = (front : List ℕ) × (text ≡ front ++ rest) × Appends old new front
+
+-- the line of an entry
+abbrev pub line_text : Entry → List ℕ
+line_text entry = entry_text entry ++ codes "\n"
 
 -- the line of a bad line's number and a sentence
 abbrev pub finding_text : ℕ × List ℕ → List ℕ
@@ -23,3 +38,13 @@ AppendsFindings numbers old new =
 abbrev pub AppendsReport : List ℕ → Counts → Option (List ℕ) → Option (List ℕ) → Type 0
 AppendsReport numbers counts old new =
     (found : List (ℕ × List ℕ)) × (map (λ f. f.0) found ≡ numbers) × Appends old new (flat_map finding_text found ++ counts_line counts)
+
+-- a beginning of such lines is written
+abbrev pub AppendsSomeFindings : List ℕ → Option (List ℕ) → Option (List ℕ) → Type 0
+AppendsSomeFindings numbers old new =
+    (found : List (ℕ × List ℕ)) × (map (λ f. f.0) found ≡ numbers) × AppendsSome (flat_map finding_text found) old new
+
+-- a beginning of such a report is written
+abbrev pub AppendsSomeReport : List ℕ → Counts → Option (List ℕ) → Option (List ℕ) → Type 0
+AppendsSomeReport numbers counts old new =
+    (found : List (ℕ × List ℕ)) × (map (λ f. f.0) found ≡ numbers) × AppendsSome (flat_map finding_text found ++ counts_line counts) old new

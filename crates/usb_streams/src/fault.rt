@@ -1,14 +1,22 @@
 //! Why a run of the program ends early.
 
-ghost use Rattle.std.specs.Prelude.{◌≡◌, Some};
+ghost use Rattle.std.specs.Prelude.{◌≡◌, OnOk, Some};
+ghost use Rattle.std.specs.Io.KnownBytes.{Appends};
 ghost use Rattle.std.specs.IoError.{error_kind};
-ghost use Rattle.usb_streams.specs.Faults.{fault_of_kind, fault_of_text, fault_text};
+ghost use Rattle.usb_streams.specs.Faults.{fault_of_kind, fault_of_text, fault_text, message_of};
+ghost use Rattle.usb_streams.specs.Printing.{AppendsSome};
 ghost use Rattle.usb_streams.specs.declared.fault.Fault.TheVariants as Fault;
 
+use crate::write::write_bytes;
+use arrayvec::ArrayString;
 use std::alloc::AllocError;
+use std::fmt::Write;
 use std::{fmt, io};
 use thiserror::Error;
 use usb_text::TextFault;
+
+/// How many bytes a message may have. The longest, of a line whose number has 20 digits, has 44.
+const ROOM: usize = 64;
 
 /// What ends a run, in the words of its message.
 #[derive(Clone, Copy, PartialEq, Eq, Debug, Error)]
@@ -30,6 +38,21 @@ impl fmt::Display for Fault {
             Fault::Line(line) => write!(f, "line {line} refused"),
             Fault::Memory => f.write_str("out of memory"),
             Fault::InputOutput => f.write_str("input or output failed"),
+        }
+    }
+}
+
+impl Fault {
+    /// Says what ended the run, on standard error. Where writing fails, a beginning of the message is written. No memory
+    /// is taken.
+    pub fn tell<E: io::Write>(self, err: &mut E) -> Result<(), Fault>
+        ensures whole { OnOk result (Appends (E.contents err.old) (E.contents err.new) (message_of self)) }
+        ensures begun { AppendsSome (message_of self) (E.contents err.old) (E.contents err.new) }
+    {
+        let mut message: ArrayString<ROOM> = ArrayString::new();
+        match write!(message, "usbtrace: {self}\n") {
+            Ok(()) => write_bytes(err, message.as_bytes()),
+            Err(_) => Err(Fault::InputOutput),
         }
     }
 }

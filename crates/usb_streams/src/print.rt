@@ -1,40 +1,68 @@
 //! Printed lines.
 
-ghost use Rattle.std.specs.Prelude.{◌++◌, ℕ, List, codes, map, IfErr, OnOk};
+ghost use Rattle.std.specs.Prelude.{◌≡◌, ◌++◌, ℕ, List, map, IfErr, OnErr, OnOk};
 ghost use Rattle.std.specs.Io.KnownBytes.{Appends};
-ghost use Rattle.usb_model.specs.Text.{entry_text, lines_text};
+ghost use Rattle.usb_model.specs.Text.{lines_text};
 ghost use Rattle.usb_streams.specs.Faults.{IsOfRun};
-ghost use Rattle.usb_streams.specs.Printing.{finding_text, counts_line, AppendsFindings, AppendsReport};
+ghost use Rattle.usb_streams.specs.Printing.{finding_text, counts_line, line_text, AppendsAllBut, AppendsFindings, AppendsReport, AppendsSome, AppendsSomeFindings, AppendsSomeReport};
 
 use crate::fault::Fault;
-use std::alloc::Global;
+use crate::write::write_bytes;
+use std::alloc::{AllocError, Global};
 use std::io::Write;
 use usb_model::Entry;
 use usb_text::{Counts, Finding, Findings};
 
-/// Prints the entries, one line each.
+/// How many bytes of lines are gathered before they are written.
+const CHUNK: usize = 16_384;
+
+/// Prints the entries, one line each and many lines a write. Where that fails, a beginning of their text is printed.
 pub fn print<W: Write>(alloc: Global, out: &mut W, entries: &[Entry]) -> Result<(), Fault>
     ensures lines { OnOk result (Appends (W.contents out.old) (W.contents out.new) (lines_text entries.now)) }
+    ensures begun { AppendsSome (lines_text entries.now) (W.contents out.old) (W.contents out.new) }
     ensures fault { IfErr result (λ fault. IsOfRun fault) }
 {
+    let mut lines = Vec::new(alloc);
     for entry in entries {
-        print_line(alloc, out, entry)?;
+        print_line(alloc, out, &mut lines, entry)?;
     }
+    write_bytes(out, lines.as_slice())?;
     out.flush()?;
     Ok(())
 }
 
-/// Prints the line of an entry.
-fn print_line<W: Write>(alloc: Global, out: &mut W, entry: &Entry) -> Result<(), Fault>
-    ensures line { OnOk result (Appends (W.contents out.old) (W.contents out.new) (entry_text entry.now ++ codes "\n")) }
+/// Gathers the line of an entry behind these. Where they are many, or no memory is had for one more, they are written
+/// first.
+fn print_line<W: Write>(
+    alloc: Global,
+    out: &mut W,
+    lines: &mut Vec<u8>,
+    entry: &Entry,
+) -> Result<(), Fault>
+    ensures line { OnOk result (AppendsAllBut (lines.old.items ++ line_text entry.now) lines.new.items (W.contents out.old) (W.contents out.new)) }
+    ensures begun { OnErr result (AppendsSome (lines.old.items ++ line_text entry.now) (W.contents out.old) (W.contents out.new)) }
     ensures fault { IfErr result (λ fault. IsOfRun fault) }
 {
-    let line = format!(in alloc; "{entry}\n")?;
-    out.write_all(line.as_bytes())?;
+    if lines.len() < CHUNK && gather(alloc, lines, entry).is_ok() {
+        return Ok(());
+    }
+    write_bytes(out, lines.as_slice())?;
+    lines.clear();
+    gather(alloc, lines, entry)?;
     Ok(())
 }
 
-/// Prints what a check found: a line for each bad line, and then the counts.
+/// Puts the line of an entry behind these.
+fn gather(alloc: Global, lines: &mut Vec<u8>, entry: &Entry) -> Result<(), AllocError>
+    ensures line { OnOk result (lines.new.items ≡ lines.old.items ++ line_text entry.now) }
+    ensures kept { OnErr result (lines.new.items ≡ lines.old.items) }
+{
+    let line = format!(in alloc; "{entry}\n")?;
+    lines.extend_from_slice(line.as_bytes())
+}
+
+/// Prints what a check found: a line for each bad line, and then the counts. Where that fails, a beginning of it is
+/// printed.
 pub fn print_findings<W: Write>(
     alloc: Global,
     out: &mut W,
@@ -42,6 +70,7 @@ pub fn print_findings<W: Write>(
 ) -> Result<(), Fault>
     ensures report { OnOk result (AppendsReport (map (λ finding. finding.line) findings.now.bad.items) findings.now.counts
         (W.contents out.old) (W.contents out.new)) }
+    ensures begun { AppendsSomeReport (map (λ finding. finding.line) findings.now.bad.items) findings.now.counts (W.contents out.old) (W.contents out.new) }
     ensures fault { IfErr result (λ fault. IsOfRun fault) }
 {
     print_bad(alloc, out, findings.bad.as_slice())?;
@@ -53,6 +82,7 @@ pub fn print_findings<W: Write>(
 /// Prints the bad lines, one line each.
 fn print_bad<W: Write>(alloc: Global, out: &mut W, bad: &[Finding]) -> Result<(), Fault>
     ensures lines { OnOk result (AppendsFindings (map (λ finding. finding.line) bad.now) (W.contents out.old) (W.contents out.new)) }
+    ensures begun { OnErr result (AppendsSomeFindings (map (λ finding. finding.line) bad.now) (W.contents out.old) (W.contents out.new)) }
     ensures fault { IfErr result (λ fault. IsOfRun fault) }
 {
     for finding in bad {
@@ -64,21 +94,21 @@ fn print_bad<W: Write>(alloc: Global, out: &mut W, bad: &[Finding]) -> Result<()
 /// Prints a bad line's number and what is wrong with it.
 fn print_finding<W: Write>(alloc: Global, out: &mut W, finding: &Finding) -> Result<(), Fault>
     ensures line { OnOk result ((sentence : List ℕ) × Appends (W.contents out.old) (W.contents out.new) (finding_text (finding.now.line, sentence))) }
+    ensures begun { OnErr result ((sentence : List ℕ) × AppendsSome (finding_text (finding.now.line, sentence)) (W.contents out.old) (W.contents out.new)) }
     ensures fault { IfErr result (λ fault. IsOfRun fault) }
 {
     let problem = finding.problem.to_string(alloc)?;
     let (number, sentence) = (finding.line, problem.as_str());
     let line = format!(in alloc; "line {number}: {sentence}\n")?;
-    out.write_all(line.as_bytes())?;
-    Ok(())
+    write_bytes(out, line.as_bytes())
 }
 
 /// Prints the counts.
 fn print_counts<W: Write>(alloc: Global, out: &mut W, counts: &Counts) -> Result<(), Fault>
     ensures line { OnOk result (Appends (W.contents out.old) (W.contents out.new) (counts_line counts.now)) }
+    ensures begun { OnErr result (AppendsSome (counts_line counts.now) (W.contents out.old) (W.contents out.new)) }
     ensures fault { IfErr result (λ fault. IsOfRun fault) }
 {
     let line = format!(in alloc; "{counts}\n")?;
-    out.write_all(line.as_bytes())?;
-    Ok(())
+    write_bytes(out, line.as_bytes())
 }

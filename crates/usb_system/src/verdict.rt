@@ -13,8 +13,8 @@ use usb_model::{
     Body, Bytes, Change, Effect, Handle, InCallback, Name, Refused, Request, Setup, Verdict,
 };
 
-/// The request of a transfer in its callback once more. The 2^64th round, which no run reaches, is answered as want of
-/// memory.
+/// The request of a transfer in its callback once more. The 2^64th round is answered as want of memory. No run comes
+/// there, since a round is at most its transfer's number; but no premise here says so of `x`.
 fn again(x: &InCallback, body: Body) -> Result<Submission, AllocError>
     ensures { IfOk result (λ s. s ≡ record { request = record x.now.request { body = body }; round = x.now.round + 1; ended = Some x.now.n }) }
 {

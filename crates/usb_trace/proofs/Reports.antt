@@ -1,25 +1,33 @@
 -- What a check that finds nothing bad says.
-use Rattle.std.proofs.Common.{◌≡◌, ◌≢◌, ◌⊎◌, ◌==◌, inl, inr, IfSome, ℕ, ◌+◌, ◌<◌, ◌≤◌, List, [], ◌∷◌, ◌++◌, length, take, get_or, map, Option, Some, None, refl, sym, ◌∙◌, ap, subst, append_assoc}
+use Rattle.std.proofs.Common.{◌≡◌, ◌≢◌, ◌⊎◌, ◌==◌, inl, inr, IfSome, IfErr, OnOk, ℕ, ◌≤◌, List, [], ◌∷◌, ◌++◌, length, map, Option, Some, None, Result, Ok, Err, sym, ◌∙◌, ap, subst, arith}
 use Rattle.std.specs.List.{flat_map}
-use Rattle.std.specs.Io.KnownBytes.{Appends}
+use Rattle.std.specs.Io.KnownBytes.{Appends, Keeps}
 use Rattle.std.specs.List.{slice_split}
 use Rattle.std.proofs.lemmas.List.{nil_from_length}
-use Rattle.clap.specs.Kinds.{Kinds, IsAmong}
+use Rattle.clap.specs.Faults.{fault_of}
+use Rattle.clap.specs.Kinds.{HasKind, Kinds, IsAmong}
+use Rattle.clap.specs.Values.{kind_of}
 use Rattle.clap.specs.Walk.{Text}
-use Rattle.clap.specs.declared.error.kind.ErrorKind.TheVariants.{DisplayHelp}
+use Rattle.clap.specs.declared.error.Error.{Error}
+use Rattle.clap.specs.declared.error.kind.ErrorKind.TheVariants as kind
 use Rattle.usb_text.proofs.Sifting.{none_bad, scenario_good}
 use Rattle.usb_text.specs.Counts.{counts_of}
 use Rattle.usb_text.specs.Findings.{bad_lines, good_lines}
-use Rattle.usb_text.specs.Scenario.{nothing_said}
-use Rattle.usb_command.specs.CommandLine.{AskFor, AskForHelp}
+use Rattle.usb_text.specs.Scenario.{nothing_said, scenario_of}
+use Rattle.usb_command.specs.CommandLine.{AreBad, AskFor, grammar}
+use Rattle.usb_streams.specs.Faults.{message_of}
 use Rattle.usb_streams.specs.Input.{longest_input}
-use Rattle.usb_trace.specs.Program.{IsDone}
+use Rattle.usb_streams.specs.declared.fault.Fault.{Fault}
+use Rattle.usb_streams.specs.declared.fault.Fault.TheVariants.{Line, Memory, InputOutput}
+use Rattle.usb_trace.specs.Program.{status_of, Begins, IsDone, IsReported, Performs, TellsWhy}
+use Rattle.usb_trace.specs.declared.program.Ending.{Ending}
+use Rattle.usb_trace.specs.declared.program.Ending.TheVariants.{Good, BadLines}
+use Rattle.usb_trace.proofs.Begun.{keeps_same, nothing_begun}
 use Rattle.usb_command.specs.declared.words.Task.{Task}
 use Rattle.usb_command.specs.declared.words.Task.TheVariants.{Check}
-use Rattle.std.proofs.lemmas.List.{append-nil, flat_map_more, map-append, take_more}
 use Rattle.usb_text.specs.declared.findings.Counts.{Counts}
 use Rattle.usb_text.specs.declared.findings.Finding.{Finding}
-use Rattle.usb_streams.specs.Printing.{finding_text, counts_line, AppendsFindings, AppendsReport}
+use Rattle.usb_streams.specs.Printing.{finding_text, counts_line, AppendsReport, AppendsSome}
 
 -- where no line is bad, the counts alone
 pub counts_alone : (numbers : List ℕ) (counts : Counts) (old new : Option (List ℕ)) → AppendsReport numbers counts old new → numbers ≡ []
@@ -45,15 +53,71 @@ all_good text bad counts old new numbers said empty short written =
       subst (λ (c : Counts). Appends old new (counts_line c)) said line,
     )
 
--- words with a fault don't ask for a task
-no_help : (words : List Text) (task : Task) → AskForHelp words → AskFor words task → ⊥
-no_help words task help asks = subst (λ (kinds : Kinds). IsAmong DisplayHelp kinds) asks.0 help
+-- a check of a text with a bad line isn't done
+done_is_good : (t : Task) (text : List ℕ) (old new : Option (List ℕ)) → IsDone t text old new → bad_lines text ≡ []
+done_is_good t text old new done = scenario_good 1 nothing_said done.0 (slice_split (λ b. b == 10) text) done.1
 
--- a text of which a task was done, or help in place of one, has no bad line where a check is asked for
-pub never_bad : {A : Type 0} (remaining : Option (List ℕ)) (words : List Text) (old new : Option (List ℕ))
-    → ((task : Task) × AskFor words task × IfSome remaining (λ text. IsDone task text old new)) ⊎ (AskForHelp words × A)
-    → AskFor words Check → IfSome remaining (λ text. bad_lines text ≢ [] → ◌≢◌ {A = ℕ} 0 0)
-never_bad None words old new done asks = tt
-never_bad (Some text) words old new (inl done) asks =
-    λ bad. absurd (bad (scenario_good 1 nothing_said done.2.0 (slice_split (λ b. b == 10) text) done.2.1))
-never_bad (Some text) words old new (inr help) asks = absurd (no_help words Check help.0 asks)
+-- a status of 1 isn't 0
+not_zero : (status : ℕ) → status ≡ 1 → status ≢ 0
+not_zero status one zero = absurd (omega arith)
+
+-- where a line is bad, the status isn't 0
+bad_status : (t : Task) (text : List ℕ) (ended : Result Ending Fault) (status : ℕ) (old new : Option (List ℕ)) → Performs t text old new ended
+    → status ≡ status_of ended → bad_lines text ≢ [] → status ≢ 0
+bad_status t text (Ok Good) status old new done same bad = absurd (bad (done_is_good t text old new done))
+bad_status t text (Ok BadLines) status old new done same bad = not_zero status same
+bad_status t text (Err fault) status old new done same bad = not_zero status same
+
+-- the same, whatever the input has
+pub bad_input : (input : Option (List ℕ)) (t : Task) (ended : Result Ending Fault) (status : ℕ) (old new : Option (List ℕ))
+    → IfSome input (λ text. Performs t text old new ended) → status ≡ status_of ended → IfSome input (λ text. bad_lines text ≢ [] → status ≢ 0)
+bad_input None t ended status old new ends same = tt
+bad_input (Some text) t ended status old new ends same = bad_status t text ended status old new ends same
+
+-- a check that found bad lines was asked for, and reported
+reported : (words : List Text) (input : Option (List ℕ)) (t : Task) (old new : Option (List ℕ)) → AskFor words t
+    → IfSome input (λ text. Performs t text old new (Ok BadLines)) → IfSome input (λ text. AskFor words Check × IsReported text old new)
+reported words None t old new asks ends = tt
+reported words (Some text) t old new asks ends = (subst (λ (x : Task). AskFor words x) ends.0 asks, ends.1)
+
+-- a line that ended a run is the text's first bad line
+line_of : (input : Option (List ℕ)) (t : Task) (line : ℕ) (old new : Option (List ℕ)) → IfSome input (λ text. Performs t text old new (Err (Line line)))
+    → IfSome input (λ text. (scenario_of text ≡ Err line) × (t ≢ Check))
+line_of None t line old new ends = tt
+line_of (Some text) t line old new ends = (ends.0, ends.2)
+
+-- what is told of a task that ended so
+pub told_of : (words : List Text) (input : Option (List ℕ)) (t : Task) (ended : Result Ending Fault) (status : ℕ) (old new err_old err_new : Option (List ℕ))
+    → AskFor words t → IfSome input (λ text. Performs t text old new ended) → status ≡ status_of ended
+    → OnOk ended (Keeps err_old err_new) → IfErr ended (λ fault. AppendsSome (message_of fault) err_old err_new)
+    → status ≡ 1 → TellsWhy words input old new err_old err_new
+told_of words input t (Ok Good) status old new err_old err_new asks ends same quiet told one = absurd (omega arith)
+told_of words input t (Ok BadLines) status old new err_old err_new asks ends same quiet told one = inl (reported words input t old new asks ends, quiet)
+told_of words input t (Err (Line line)) status old new err_old err_new asks ends same quiet told one =
+    inr (Line line, (t, asks, line_of input t line old new ends), told)
+told_of words input t (Err Memory) status old new err_old err_new asks ends same quiet told one = inr (Memory, tt, told)
+told_of words input t (Err InputOutput) status old new err_old err_new asks ends same quiet told one = inr (InputOutput, tt, told)
+
+-- words that are refused are bad
+pub words_are_bad : (words : List Text) (error : Error) → HasKind (fault_of grammar words) error
+    → (kind_of error ≢ kind.DisplayHelp) × (kind_of error ≢ kind.OutOfMemory) → AreBad words
+words_are_bad words error (inl memory) other = absurd (other.1 memory)
+words_are_bad words error (inr among) other = (kind_of error, among, other.0)
+
+-- words that ask for a task don't ask for help
+no_help : (words : List Text) (t : Task) (error : Error) → HasKind (fault_of grammar words) error → AskFor words t → kind_of error ≡ kind.DisplayHelp → ⊥
+no_help words t error (inl memory) asks help = cc
+no_help words t error (inr among) asks help = subst (λ (kinds : Kinds). IsAmong (kind_of error) kinds) asks.0 among
+
+-- of words without fault nothing is written
+pub unwritten : {W : Type 0} (contents : W → Option (List ℕ)) (old new : W) (error : Error) → (kind_of error ≡ kind.DisplayHelp) ⊎ (new ≡ old)
+    → kind_of error ≢ kind.DisplayHelp → Keeps (contents old) (contents new)
+unwritten {W = W} contents old new error (inl help) other = absurd (other help)
+unwritten {W = W} contents old new error (inr same) other = subst (λ (w : W). Keeps (contents old) (contents w)) (sym same) (keeps_same (contents old))
+
+pub never_begun : {W : Type 0} (contents : W → Option (List ℕ)) (old new : W) (words : List Text) (error : Error) (input : Option (List ℕ))
+    → HasKind (fault_of grammar words) error → (kind_of error ≡ kind.DisplayHelp) ⊎ (new ≡ old)
+    → (t : Task) → AskFor words t → IfSome input (λ text. Begins t text (contents old) (contents new))
+never_begun {W = W} contents old new words error input kinds (inl help) t asks = absurd (no_help words t error kinds asks help)
+never_begun {W = W} contents old new words error input kinds (inr same) t asks =
+    subst (λ (w : W). IfSome input (λ text. Begins t text (contents old) (contents w))) (sym same) (nothing_begun input t (contents old))

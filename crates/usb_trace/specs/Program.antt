@@ -1,5 +1,5 @@
 -- What the program does.
-use Rattle.std.specs.Prelude.{◌≡◌, ◌≢◌, ◌≤◌, ℕ, length, ⊤, List, [], Option, Result, Ok, Err}
+use Rattle.std.specs.Prelude.{◌≡◌, ◌≢◌, ◌≤◌, ◌⊎◌, ℕ, length, ⊤, IfSome, List, [], Option, Result, Ok, Err}
 use Rattle.std.specs.Io.KnownBytes.{Appends, Keeps}
 use Rattle.usb_model.specs.declared.entry.Entry.{Entry}
 use Rattle.usb_model.specs.declared.step.Step.{Step}
@@ -15,10 +15,13 @@ use Rattle.usb_trace.specs.declared.program.Ending.TheVariants.{Good, BadLines}
 use Rattle.usb_trace.specs.declared.program.Reach.{Reach}
 use Rattle.usb_trace.specs.declared.program.Reach.TheVariants.{End, NoMemory}
 use Rattle.usb_text.specs.declared.scenario.Scenario.{Scenario}
+use Rattle.clap.specs.Walk.{Text}
+use Rattle.usb_command.specs.CommandLine.{AskFor}
 use Rattle.usb_command.specs.declared.words.Task.{Task}
 use Rattle.usb_command.specs.declared.words.Task.TheVariants as task
+use Rattle.usb_streams.specs.Faults.{message_of}
 use Rattle.usb_streams.specs.Input.{longest_input}
-use Rattle.usb_streams.specs.Printing.{counts_line, AppendsReport}
+use Rattle.usb_streams.specs.Printing.{counts_line, AppendsReport, AppendsSome, AppendsSomeReport}
 use Rattle.usb_text.specs.Counts.{counts_of}
 use Rattle.usb_text.specs.Findings.{bad_lines, good_lines}
 use Rattle.usb_text.specs.Scenario.{scenario_of}
@@ -53,7 +56,7 @@ IsReported text old new = (bad_lines text ≢ []) × (length text ≤ longest_in
 abbrev pub Performs : Task → List ℕ → Option (List ℕ) → Option (List ℕ) → Result Ending Fault → Type 0
 Performs t text old new (Ok Good) = IsDone t text old new
 Performs t text old new (Ok BadLines) = (t ≡ task.Check) × IsReported text old new
-Performs t text old new (Err (Line line)) = (scenario_of text ≡ Err line) × Keeps old new
+Performs t text old new (Err (Line line)) = (scenario_of text ≡ Err line) × Keeps old new × (t ≢ task.Check)
 Performs t text old new (Err Memory) = ⊤
 Performs t text old new (Err InputOutput) = ⊤
 
@@ -61,6 +64,35 @@ Performs t text old new (Err InputOutput) = ⊤
 abbrev pub PrintsTo : Reach → Scenario → Option (List ℕ) → Option (List ℕ) → Type 0
 PrintsTo End s old new = Appends old new (run_text s)
 PrintsTo NoMemory s old new = (front : List Entry) × IsBeginning front (world_run s.setup (steps_of s)) × Appends old new (lines_text front)
+
+-- what a task that prints entries may have written, however it ends: a beginning of their text, and nothing where a line is bad
+abbrev pub BeginsEntries : Task → Result Scenario ℕ → Option (List ℕ) → Option (List ℕ) → Type 0
+BeginsEntries t (Ok s) old new = AppendsSome (task_text t s) old new
+BeginsEntries t (Err line) old new = Keeps old new
+
+-- what a task over a text may have written, however it ends: a beginning of what it prints
+abbrev pub Begins : Task → List ℕ → Option (List ℕ) → Option (List ℕ) → Type 0
+Begins task.Run text old new = BeginsEntries task.Run (scenario_of text) old new
+Begins (task.Alone h) text old new = BeginsEntries (task.Alone h) (scenario_of text) old new
+Begins task.Check text old new = AppendsSomeReport (bad_lines text) (counts_of (good_lines text)) old new
+
+-- whether this fault may be what ended a run with these words over this input: a line is one where the words ask for entries and it is the text's first bad line; memory and streams may fail always
+abbrev pub MayEnd : List Text → Option (List ℕ) → Fault → Type 0
+MayEnd words input (Line line) = (t : Task) × AskFor words t × IfSome input (λ text. (scenario_of text ≡ Err line) × (t ≢ task.Check))
+MayEnd words input Memory = ⊤
+MayEnd words input InputOutput = ⊤
+
+-- what stands behind status 1: a check reports bad lines, and nothing is told; or of the message of a fault that may be what ended the run a beginning is told
+abbrev pub TellsWhy : List Text → Option (List ℕ) → Option (List ℕ) → Option (List ℕ) → Option (List ℕ) → Option (List ℕ) → Type 0
+TellsWhy words input old new err_old err_new =
+    (IfSome input (λ text. AskFor words task.Check × IsReported text old new) × Keeps err_old err_new)
+    ⊎ ((fault : Fault) × MayEnd words input fault × AppendsSome (message_of fault) err_old err_new)
+
+-- the status of a task that ended so
+abbrev pub status_of : Result Ending Fault → ℕ
+status_of (Ok Good) = 0
+status_of (Ok BadLines) = 1
+status_of (Err fault) = 1
 
 -- nothing is written where a line of the text is bad
 abbrev pub IsSilentAtBad : List ℕ → Option (List ℕ) → Option (List ℕ) → Type 0

@@ -5,16 +5,20 @@ ghost use Rattle.std.specs.Io.KnownBytes.{Appends, Keeps};
 ghost use Rattle.usb_text.specs.Findings.{bad_lines};
 ghost use Rattle.usb_words.specs.Words.{words_of};
 ghost use Rattle.usb_command.specs.CommandLine.{AreBad, AskFor, AskForHelp};
+ghost use Rattle.clap.specs.Values.{kind_of};
+ghost use Rattle.clap.specs.declared.error.kind.ErrorKind.TheVariants as ErrorKind;
 ghost use Rattle.usb_streams.specs.Faults.{message_of, IsOfRun};
+ghost use Rattle.usb_streams.specs.declared.fault.Fault.{Fault};
 ghost use Rattle.usb_streams.specs.Input.{longest_input};
-ghost use Rattle.usb_trace.specs.Program.{alone_text, run_text, IsDone, IsSilentAtBad, Performs, PrintsTo};
+ghost use Rattle.usb_streams.specs.Printing.{AppendsSome};
+ghost use Rattle.usb_trace.specs.Program.{alone_text, run_text, status_of, Begins, IsDone, IsSilentAtBad, Performs, PrintsTo, TellsWhy};
 ghost use Rattle.usb_command.specs.declared.words.Task.{Task};
 ghost use Rattle.usb_command.specs.declared.words.Task.TheVariants.{Check};
 
 use clap::Error;
 use clap::error::ErrorKind;
 use std::alloc::Global;
-use std::io::{self, Read, Write};
+use std::io::{Read, Write};
 use usb_command::{Task, read_words};
 use usb_model::Name;
 use usb_plain::{drive, drive_alone};
@@ -47,7 +51,8 @@ enum Reach {
 }
 
 /// Runs the program on its words, of which the first is its name, and its input, and answers its status: 0, or 1 where
-/// it ended early or a check found bad lines, or 2 for bad words.
+/// it ended early or a check found bad lines, or 2 for bad words. However a task ends, what it wrote is a beginning of its
+/// text. Of a fault that ended it, the message stands on standard error, as far as that takes it.
 pub fn trace<R: Read, W: Write, E: Write>(
     alloc: Global,
     words: &[&str],
@@ -66,27 +71,54 @@ pub fn trace<R: Read, W: Write, E: Write>(
         IsSilentAtBad text (W.contents out.old) (W.contents out.new) ⊎ AskForHelp (words_of words.now)
         ⊎ AskFor (words_of words.now) Check) }
     ensures bad { AskFor (words_of words.now) Check → IfSome (R.remaining input.old) (λ text. bad_lines text ≢ [] → result ≢ 0) }
+    ensures unfinished { (task : Task) → AskFor (words_of words.now) task
+        → IfSome (R.remaining input.old) (λ text. Begins task text (W.contents out.old) (W.contents out.new)) }
+    ensures told { result ≡ 1 → TellsWhy (words_of words.now) (R.remaining input.old)
+        (W.contents out.old) (W.contents out.new) (E.contents err.old) (E.contents err.new) }
     ensures judged { ((task : Task) × AskFor (words_of words.now) task) ⊎ (input.new ≡ input.old) }
 {
-    let ended = match read_words(alloc, words) {
-        Ok(task) => perform(alloc, task, input, out),
-        Err(error) => match error.kind() {
-            ErrorKind::OutOfMemory => Err(Fault::Memory),
-            ErrorKind::DisplayHelp => help(out, &error),
-            _ => return refuse(err, &error),
-        },
-    };
+    match read_words(alloc, words) {
+        Ok(task) => {
+            let ended = perform(alloc, task, input, out);
+            status_of(ended, err)
+        }
+        Err(error) => answer(&error, out, err),
+    }
+}
+
+/// The status of words that ask for no task: help is given where they ask for it; else it is said why not.
+fn answer<W: Write, E: Write>(error: &Error, out: &mut W, err: &mut E) -> u8
+    ensures status { result ≤ 2 }
+    ensures helped { result ≡ 0 → (kind_of error.now ≡ ErrorKind.DisplayHelp) × Keeps (E.contents err.old) (E.contents err.new) }
+    ensures refused { result ≡ 2 → (kind_of error.now ≢ ErrorKind.DisplayHelp) × (kind_of error.now ≢ ErrorKind.OutOfMemory) }
+    ensures silent { (kind_of error.now ≡ ErrorKind.DisplayHelp) ⊎ (out.new ≡ out.old) }
+    ensures told { result ≡ 1 → (fault : Fault) × IsOfRun fault × AppendsSome (message_of fault) (E.contents err.old) (E.contents err.new) }
+{
+    match error.kind() {
+        ErrorKind::OutOfMemory => status_of(Err(Fault::Memory), err),
+        ErrorKind::DisplayHelp => status_of(help(out, error), err),
+        _ => refuse(err, error),
+    }
+}
+
+/// The status of a task that ended so. A fault is told.
+fn status_of<E: Write>(ended: Result<Ending, Fault>, err: &mut E) -> u8
+    ensures status { result ≡ status_of ended }
+    ensures quiet { OnOk ended (Keeps (E.contents err.old) (E.contents err.new)) }
+    ensures told { IfErr ended (λ fault. AppendsSome (message_of fault) (E.contents err.old) (E.contents err.new)) }
+{
     match ended {
         Ok(Ending::Good) => 0,
         Ok(Ending::BadLines) => FAILED,
         Err(fault) => {
-            let _ = complain(err, fault);
+            let _ = fault.tell(err);
             FAILED
         }
     }
 }
 
 /// Reads the input and does the task.
+#[tactic(auto, using(crate::proofs::Begun::nothing_begun))]
 fn perform<R: Read, W: Write>(
     alloc: Global,
     task: Task,
@@ -95,6 +127,7 @@ fn perform<R: Read, W: Write>(
 ) -> Result<Ending, Fault>
     ensures ends { IfSome (R.remaining input.old) (λ text. Performs task text (W.contents out.old) (W.contents out.new) result) }
     ensures silent { IfSome (R.remaining input.old) (λ text. task ≢ Check → IsSilentAtBad text (W.contents out.old) (W.contents out.new)) }
+    ensures begun { IfSome (R.remaining input.old) (λ text. Begins task text (W.contents out.old) (W.contents out.new)) }
 {
     let text = read_whole(alloc, input)?;
     match task {
@@ -107,7 +140,8 @@ fn perform<R: Read, W: Write>(
 /// Checks a text: prints its bad lines, and how much the good ones say.
 fn report<W: Write>(alloc: Global, text: &[u8], out: &mut W) -> Result<Ending, Fault>
     requires { length text.now ≤ longest_input }
-    ensures { Performs Check text.now (W.contents out.old) (W.contents out.new) result }
+    ensures ends { Performs Check text.now (W.contents out.old) (W.contents out.new) result }
+    ensures begun { Begins Check text.now (W.contents out.old) (W.contents out.new) }
 {
     let findings = check(alloc, text)?;
     print_findings(alloc, out, &findings)?;
@@ -120,6 +154,7 @@ fn report<W: Write>(alloc: Global, text: &[u8], out: &mut W) -> Result<Ending, F
 /// Prints the entries of a scenario; where memory ran out, those before.
 fn run<W: Write>(alloc: Global, scenario: &Scenario, out: &mut W) -> Result<Ending, Fault>
     ensures lines { OnOk result (Appends (W.contents out.old) (W.contents out.new) (run_text scenario.now)) }
+    ensures begun { AppendsSome (run_text scenario.now) (W.contents out.old) (W.contents out.new) }
     ensures good { IfOk result (λ ending. ending ≡ Ending.Good) }
     ensures fault { IfErr result (λ fault. IsOfRun fault) }
 {
@@ -132,6 +167,7 @@ fn run<W: Write>(alloc: Global, scenario: &Scenario, out: &mut W) -> Result<Endi
 /// Prints the entries of a scenario as far as the run comes.
 fn print_run<W: Write>(alloc: Global, scenario: &Scenario, out: &mut W) -> Result<Reach, Fault>
     ensures lines { IfOk result (λ reach. PrintsTo reach scenario.now (W.contents out.old) (W.contents out.new)) }
+    ensures begun { AppendsSome (run_text scenario.now) (W.contents out.old) (W.contents out.new) }
     ensures fault { IfErr result (λ fault. IsOfRun fault) }
 {
     let (plan, rules) = (scenario.plan.as_slice(), scenario.rules.as_slice());
@@ -155,6 +191,7 @@ fn run_alone<W: Write>(
     out: &mut W,
 ) -> Result<Ending, Fault>
     ensures lines { OnOk result (Appends (W.contents out.old) (W.contents out.new) (alone_text h scenario.now)) }
+    ensures begun { AppendsSome (alone_text h scenario.now) (W.contents out.old) (W.contents out.new) }
     ensures good { IfOk result (λ ending. ending ≡ Ending.Good) }
     ensures fault { IfErr result (λ fault. IsOfRun fault) }
 {
@@ -166,7 +203,8 @@ fn run_alone<W: Write>(
 
 /// Prints the help that the words ask for.
 fn help<W: Write>(out: &mut W, error: &Error) -> Result<Ending, Fault>
-    ensures { IfOk result (λ ending. ending ≡ Ending.Good) }
+    ensures good { IfOk result (λ ending. ending ≡ Ending.Good) }
+    ensures fault { IfErr result (λ fault. IsOfRun fault) }
 {
     write!(out, "{error}")?;
     out.flush()?;
@@ -179,11 +217,4 @@ fn refuse<E: Write>(err: &mut E, error: &Error) -> u8
 {
     let _ = write!(err, "{error}");
     BAD_WORDS
-}
-
-/// Says what ended the run.
-fn complain<E: Write>(err: &mut E, fault: Fault) -> io::Result<()>
-    ensures { OnOk result (Appends (E.contents err.old) (E.contents err.new) (message_of fault)) }
-{
-    write!(err, "usbtrace: {fault}\n")
 }

@@ -1,9 +1,10 @@
 -- A step further each turn.
-use Rattle.std.proofs.Common.{drop, sym}
+use Rattle.std.proofs.Common.{drop, inr, sym}
 use Rattle.usb_model.specs.World.Journal.{world_run, journal}
 use Rattle.usb_model.specs.World.Journal.{run_from}
 use Rattle.usb_system.specs.System.{world_of}
 use Rattle.usb_lemmas.proofs.Handles.Runs.{step_further, run_ends}
+use Rattle.usb_plain.proofs.Beginnings.{first_steps, step_left}
 use Rattle.usb_plain.proofs.journal.run.Goals as goal
 
 pub returns-in_default-clause-stopped : goal.returns-in_default-clause-stopped
@@ -12,6 +13,17 @@ returns-in_default-clause-stopped c = (world_run c.args.setup.now c.args.steps.n
 pub returns-in_default-advance-clause-stopped : goal.returns-in_default-advance-clause-stopped
 returns-in_default-advance-clause-stopped c =
     (run_from c.args.setup.now (world_of c.args.setup.now c.loop-step.system) (drop c.loop-step.step-index c.args.steps.now), rw c.in_default-advance.ensures.kept (sym c.loop-step.invariant))
+
+pub returns-in_default-clause-reached : goal.returns-in_default-clause-reached
+returns-in_default-clause-reached c = first_steps c.args.setup.now _ c.args.steps.now (returns-in_default-clause-stopped c)
+
+pub returns-in_default-advance-clause-reached : goal.returns-in_default-advance-clause-reached
+returns-in_default-advance-clause-reached c = first_steps c.args.setup.now _ c.args.steps.now (returns-in_default-advance-clause-stopped c)
+
+pub returns-in_default-advance-clause-left : goal.returns-in_default-advance-clause-left
+returns-in_default-advance-clause-left c =
+    inr (step_left c.args.setup.now (world_of c.args.setup.now c.loop-step.system) c.args.steps.now c.loop-step.step-index c.advance.new.entries c.loop-step-test.true
+    (rw c.in_default-advance.ensures.kept c.loop-step.invariant))
 
 pub loop-step-init : goal.loop-step-init
 unfolding journal

@@ -1,10 +1,11 @@
 -- A piece further each turn.
-use Rattle.std.proofs.Common.{ap}
+use Rattle.std.proofs.Common.{ap, inr}
 use Rattle.usb_model.specs.World.Journal.{world_run, journal}
 use Rattle.usb_model.specs.World.Plans.{Stage, expand, expand_from}
 use Rattle.usb_model.specs.World.Journal.{run_from}
 use Rattle.usb_plain.specs.PlanRuns.{kept_with, stage_of}
 use Rattle.usb_plain.proofs.Drives.{piece_further, plan_ends, begun_all, steps_further, steps_end}
+use Rattle.usb_plain.proofs.Beginnings.{first_steps, piece_left}
 use Rattle.usb_plain.proofs.plan_run.drive_on.Goals as goal
 
 pub returns-in_default-clause-stopped : goal.returns-in_default-clause-stopped
@@ -21,6 +22,19 @@ pub returns-in_default-perform-clause-stopped : goal.returns-in_default-perform-
 returns-in_default-perform-clause-stopped c =
     begun_all c.args.setup.now (stage_of c.args.setup.now c.loop-piece.run c.loop-piece.left.now) c.piece-item.result c.args.plan.now c.loop-piece.piece-index c.loop-piece.entries c.perform.new.out
     (world_run c.args.setup.now (expand c.args.setup.now c.args.plan.now c.args.rules.now)) c.loop-piece-test.true c.piece-item.is c.loop-piece.invariant.entries c.in_default-perform.ensures.stopped
+
+pub returns-in_default-clause-reached : goal.returns-in_default-clause-reached
+returns-in_default-clause-reached c =
+    first_steps c.args.setup.now _ (expand c.args.setup.now c.args.plan.now c.args.rules.now) (returns-in_default-clause-stopped c)
+
+pub returns-in_default-perform-clause-reached : goal.returns-in_default-perform-clause-reached
+returns-in_default-perform-clause-reached c =
+    first_steps c.args.setup.now _ (expand c.args.setup.now c.args.plan.now c.args.rules.now) (returns-in_default-perform-clause-stopped c)
+
+pub returns-in_default-perform-clause-left : goal.returns-in_default-perform-clause-left
+returns-in_default-perform-clause-left c =
+    inr (piece_left c.args.setup.now (stage_of c.args.setup.now c.loop-piece.run c.loop-piece.left.now) c.piece-item.result c.args.plan.now c.loop-piece.piece-index c.loop-piece.entries c.perform.new.out
+    (expand c.args.setup.now c.args.plan.now c.args.rules.now) c.loop-piece-test.true c.piece-item.is c.loop-piece.invariant.entries c.in_default-perform.ensures.left)
 
 pub loop-piece-preserved : goal.loop-piece-preserved
 loop-piece-preserved c = record {

@@ -1,0 +1,40 @@
+-- What a task has written, however it ends.
+use Rattle.std.proofs.Common.{◌≡◌, ℕ, List, Option, Some, None, Result, Ok, Err, IfSome, refl, sym, subst}
+use Rattle.std.specs.Io.KnownBytes.{Keeps}
+use Rattle.usb_text.specs.Counts.{counts_of}
+use Rattle.usb_text.specs.Findings.{bad_lines, good_lines}
+use Rattle.usb_text.specs.Scenario.{scenario_of}
+use Rattle.usb_text.specs.declared.scenario.Scenario.{Scenario}
+use Rattle.usb_command.specs.declared.words.Task.{Task}
+use Rattle.usb_command.specs.declared.words.Task.TheVariants.{Run, Alone, Check}
+use Rattle.usb_streams.proofs.Beginnings.{none_yet}
+use Rattle.usb_streams.proofs.Findings.{no_report}
+use Rattle.usb_trace.specs.Program.{task_text, Begins, BeginsEntries}
+
+-- known bytes stay
+pub keeps_same : (old : Option (List ℕ)) → Keeps old old
+keeps_same None = tt
+keeps_same (Some xs) = refl
+
+-- no entry is printed
+no_entries : (t : Task) (said : Result Scenario ℕ) (old : Option (List ℕ)) → BeginsEntries t said old old
+no_entries t (Ok s) old = none_yet (task_text t s) old
+no_entries t (Err line) old = keeps_same old
+
+-- nothing is written
+nothing_of : (t : Task) (text : List ℕ) (old : Option (List ℕ)) → Begins t text old old
+nothing_of Run text old = no_entries Run (scenario_of text) old
+nothing_of (Alone h) text old = no_entries (Alone h) (scenario_of text) old
+nothing_of Check text old = no_report (bad_lines text) (counts_of (good_lines text)) old
+
+-- nothing is written, whatever the input has
+pub nothing_begun : (input : Option (List ℕ)) (t : Task) (old : Option (List ℕ)) → IfSome input (λ text. Begins t text old old)
+nothing_begun None t old = tt
+nothing_begun (Some text) t old = nothing_of t text old
+
+-- a check of all that the input has
+pub check_begun : (input : Option (List ℕ)) (t : Task) (bytes : List ℕ) (old new : Option (List ℕ)) → t ≡ Check → IfSome input (λ given. bytes ≡ given)
+    → Begins Check bytes old new → IfSome input (λ text. Begins t text old new)
+check_begun None t bytes old new asked same some = tt
+check_begun (Some text) t bytes old new asked same some =
+    subst (λ (x : Task). Begins x text old new) (sym asked) (subst (λ bs. Begins Check bs old new) same some)
