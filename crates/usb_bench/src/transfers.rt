@@ -22,7 +22,7 @@ fn length(turn: u64) -> u32 {
     (turn % 65_536) as u32
 }
 
-/// A ring, if there is memory; its base is a multiple of 16.
+/// A transfer ring.
 #[derive(Drop)]
 pub struct Transfers {
     ring: TransferRing,
