@@ -1,0 +1,2 @@
+pub mod Callbacks
+pub mod Props
