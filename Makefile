@@ -1,5 +1,5 @@
 # `make run` proves the program and shows the README's example; `make try` shows it unproved; `make test` is the gate;
-# `make plant` makes definitions wrong, and says what refuses that (it takes long). `make bench` prints nanoseconds.
+# `make plant` makes definitions wrong, and says what refuses that (half an hour). `make bench` prints nanoseconds.
 
 SCENARIO = ../../examples/cancel_amid_transfer.txt
 
