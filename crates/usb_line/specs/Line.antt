@@ -10,6 +10,7 @@ use Rattle.usb_model.specs.declared.request.Kind.{Kind}
 use Rattle.usb_model.specs.declared.request.Kind.TheVariants.{Bulk, Interrupt}
 use Rattle.usb_model.specs.declared.request.Body.{Body}
 use Rattle.usb_model.specs.declared.request.Body.TheVariants.{In, Out}
+use Rattle.usb_model.specs.Limits.{largest_packet, longest_script}
 use Rattle.usb_model.specs.Setup.{is_in}
 use Rattle.usb_descriptors.specs.Grammar.{reading}
 use Rattle.usb_line.specs.declared.line.Line.{Line}
@@ -29,14 +30,6 @@ use Rattle.usb_words.specs.Option.{options_of}
 unfoldable pub each_of : {A : Type 0} → (List ℕ → Option A) → List (List ℕ) → Option (List A)
 each_of f [] = Some []
 each_of f (word ∷ words) = option_and_then (λ x. option_map (λ xs. x ∷ xs) (each_of f words)) (f word)
-
--- how many bytes a packet of a script may have
-abbrev pub largest_packet : ℕ
-largest_packet = 2048
-
--- how many answers a script may have
-abbrev pub longest_script : ℕ
-longest_script = 4096
 
 -- a packet of at most so many bytes
 unfoldable pub packet_of : List ℕ → Option Response

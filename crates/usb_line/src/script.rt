@@ -12,15 +12,10 @@ use crate::line::Line;
 use crate::problem::Problem;
 use crate::verb::Verb;
 use std::alloc::Global;
+use usb_model::limits::{LARGEST_PACKET, LONGEST_SCRIPT};
 use usb_model::{EpAddr, Response, Script};
 use usb_words::number::{address, bytes, device};
 use usb_words::{Expected, behind};
-
-/// How many answers a script may have.
-const LONGEST_SCRIPT: usize = 4096;
-
-/// How many bytes a packet of a script may have.
-const LARGEST_PACKET: usize = 2048;
 
 /// The answers of an endpoint of a device.
 #[tactic(auto, unfolding(crate::specs::Line::script_of))]

@@ -19,14 +19,16 @@ use Rattle.usb_model.specs.Machine.Calls.{asks, with_ask}
 use Rattle.usb_model.specs.Endpoint.{first_waiting, is_blank, is_waiting, is_waiting_state}
 use Rattle.usb_lemmas.proofs.Work.Errands.{events-with_ask}
 use Rattle.usb_model.specs.Coherence.{IsCoherent, served_events}
-use Rattle.usb_shows.specs.Benches.{AllKept, Bench, FirstPaused, FrontKnown, InRow, IsKept, Kept, Sent, ShowsEnd, Telling, count, first_place, front, is_stale, known_by, orders_sent, pause_told, tail_told, told_of}
-use Rattle.usb_shows.specs.Handling.{Handled, Handles, posts}
-use Rattle.usb_shows.specs.Joining.{asked, kept_ask}
+use Rattle.usb_shows.specs.Showing.{AllKept, FirstPaused, FrontKnown, InRow, IsKept, ShowsEnd, count, front, is_stale, known_by, orders_sent, pause_told, tail_told, told_of}
+use Rattle.usb_kept.specs.Kept.{KeptEndpoint, KeptTransfer, SentErrand, Telling, first_place}
+use Rattle.usb_kept.specs.Handling.{Handled, posts}
+use Rattle.usb_shows.specs.Keeping.{Handles}
+use Rattle.usb_kept.specs.Joining.{asked, kept_ask}
 use Rattle.usb_shows.proofs.Finished.{same_tail, tail_same}
 use Rattle.usb_lemmas.proofs.Work.Phases.{free}
 
 -- an item that was asked, beside the one that it was
-record AskedItem (size : ℕ) (x : Item) (y : Kept) (x' : Item) (y' : Kept) : Type 0 where
+record AskedItem (size : ℕ) (x : Item) (y : KeptTransfer) (x' : Item) (y' : KeptTransfer) : Type 0 where
   kept : IsKept size x' y'
   place : y'.place ≡ y.place
   lengths : y'.lengths ≡ y.lengths
@@ -36,7 +38,7 @@ record AskedItem (size : ℕ) (x : Item) (y : Kept) (x' : Item) (y' : Kept) : Ty
   request : x'.request ≡ x.request
   share : x'.share ≡ x.share
 
-asked_item : (size n : ℕ) (ask : Ask) (x : Item) (y : Kept) → IsKept size x y → AskedItem size x y (with_ask n ask x) (kept_ask n ask y)
+asked_item : (size n : ℕ) (ask : Ask) (x : Item) (y : KeptTransfer) → IsKept size x y → AskedItem size x y (with_ask n ask x) (kept_ask n ask y)
 asked_item size n ask x y k = by_blank (is_blank x) refl
   where
     same : AskedItem size x y x y
@@ -71,7 +73,7 @@ asked_item size n ask x y k = by_blank (is_blank x) refl
         subst (λ t. AskedItem size x y (with_ask n ask x) (if t then record y { ask = Some ask } else y)) (sym test) (both (x.n == n) blank)
 
 -- the line with the ask
-record AskedLine (size : ℕ) (xs : List Item) (ys : List Kept) (end : ℕ) (xs' : List Item) (ys' : List Kept) : Type 0 where
+record AskedLine (size : ℕ) (xs : List Item) (ys : List KeptTransfer) (end : ℕ) (xs' : List Item) (ys' : List KeptTransfer) : Type 0 where
   kept : AllKept size xs' ys'
   row : InRow ys' end
   begins : first_place ys' end ≡ first_place ys end
@@ -81,14 +83,14 @@ record AskedLine (size : ℕ) (xs : List Item) (ys : List Kept) (end : ℕ) (xs'
   known : FrontKnown size xs ys → FrontKnown size xs' ys'
   first : (z : Item) → first_waiting xs ≡ Some z → (z' : Item) × (first_waiting xs' ≡ Some z') × (z'.n ≡ z.n)
 
-asked_line : (size n : ℕ) (ask : Ask) (xs : List Item) (ys : List Kept) (end : ℕ) → AllKept size xs ys → InRow ys end → AskedLine size xs ys end (map (with_ask n ask) xs) (map (kept_ask n ask) ys)
+asked_line : (size n : ℕ) (ask : Ask) (xs : List Item) (ys : List KeptTransfer) (end : ℕ) → AllKept size xs ys → InRow ys end → AskedLine size xs ys end (map (with_ask n ask) xs) (map (kept_ask n ask) ys)
 unfolding told_of front pause_told first_waiting
 asked_line size n ask [] [] end k row = record { kept = tt; row = tt; begins = refl; told = refl; stands = refl; pause = refl; known = λ q. tt; first = λ z e. absurd cc }
 asked_line size n ask [] (y ∷ ys) end k row = absurd k
 asked_line size n ask (x ∷ xs) [] end k row = absurd k
 asked_line size n ask (x ∷ xs) (y ∷ ys) end k row = one (with_ask n ask x) (kept_ask n ask y) (asked_item size n ask x y k.0) (asked_line size n ask xs ys end k.1 row.1)
   where
-    one : (x' : Item) (y' : Kept) → AskedItem size x y x' y' → AskedLine size xs ys end (map (with_ask n ask) xs) (map (kept_ask n ask) ys) → AskedLine size (x ∷ xs) (y ∷ ys) end (x' ∷ map (with_ask n ask) xs) (y' ∷ map (kept_ask n ask) ys)
+    one : (x' : Item) (y' : KeptTransfer) → AskedItem size x y x' y' → AskedLine size xs ys end (map (with_ask n ask) xs) (map (kept_ask n ask) ys) → AskedLine size (x ∷ xs) (y ∷ ys) end (x' ∷ map (with_ask n ask) xs) (y' ∷ map (kept_ask n ask) ys)
     one x' y' a r = record {
       kept = (a.kept, r.kept);
       row = (rw (a.place, a.lengths) (r.begins ∙ row.0), r.row);
@@ -113,14 +115,14 @@ asked_line size n ask (x ∷ xs) (y ∷ ys) end k row = one (with_ask n ask x) (
         by_first z false true v e rest q = absurd cc
 
 -- what is told behind, and whose a pause is
-asked_tail : (size : ℕ) (xs xs' : List Item) (ys ys' : List Kept) (sent : Option Sent) (tail : List Event) → pause_told size xs ys ≡ pause_told size xs' ys' → ((z : Item) → first_waiting xs ≡ Some z → (z' : Item) × (first_waiting xs' ≡ Some z') × (z'.n ≡ z.n)) → FirstPaused xs tail → FirstPaused xs' tail
+asked_tail : (size : ℕ) (xs xs' : List Item) (ys ys' : List KeptTransfer) (sent : Option SentErrand) (tail : List Event) → pause_told size xs ys ≡ pause_told size xs' ys' → ((z : Item) → first_waiting xs ≡ Some z → (z' : Item) × (first_waiting xs' ≡ Some z') × (z'.n ≡ z.n)) → FirstPaused xs tail → FirstPaused xs' tail
 asked_tail size xs xs' ys ys' sent [] e f p = tt
 asked_tail size xs xs' ys ys' sent (Finished n code ∷ es) e f p = asked_tail size xs xs' ys ys' sent es e f p
 asked_tail size xs xs' ys ys' sent (Paused n ∷ es) e f p = let q = f p.0.0 p.0.1 in ((q.0, q.1, q.2 ∙ p.0.2), asked_tail size xs xs' ys ys' sent es e f p.1)
 asked_tail size xs xs' ys ys' sent (Settled errand ok ∷ es) e f p = asked_tail size xs xs' ys ys' sent es e f p
 
 -- an ask that is accepted
-pub asks_show : (size next : ℕ) (e : Endpoint) (os : List Errand) (ns : List Event) (b : Bench) (sent : List Sent) (told : List Telling) (n : ℕ) (ask : Ask) → IsCoherent e os ns → ShowsEnd size e os ns b sent told
+pub asks_show : (size next : ℕ) (e : Endpoint) (os : List Errand) (ns : List Event) (b : KeptEndpoint) (sent : List SentErrand) (told : List Telling) (n : ℕ) (ask : Ask) → IsCoherent e os ns → ShowsEnd size e os ns b sent told
     → Handles size (asks e n ask) (asked next b n ask) os ns sent told
 unfolding asks
 asks_show size next e os ns b sent told n ask c s = subst (λ u. Handles size (doing (is_some e.errand)) (done u) os ns sent told) (sym same) (by_test (is_some e.errand) refl)
@@ -128,13 +130,13 @@ asks_show size next e os ns b sent told n ask c s = subst (λ u. Handles size (d
     line : List Item
     line = map (with_ask n ask) e.line
 
-    kept : List Kept
+    kept : List KeptTransfer
     kept = map (kept_ask n ask) b.line
 
     l : AskedLine size e.line b.line b.end line kept
     l = asked_line size n ask e.line b.line b.end s.kept s.row
 
-    ends : (w : Option Sent) → tail_told size e.line b.line w s.tail ≡ tail_told size line kept w s.tail
+    ends : (w : Option SentErrand) → tail_told size e.line b.line w s.tail ≡ tail_told size line kept w s.tail
     ends w = tail_same size e.line line b.line kept w s.tail l.pause
 
     stop_fresh : (t : EndpointState) (os : List Errand) → is_stale t (Some errand.Stop) os ≡ false → is_stale t None [] ≡ false
@@ -146,9 +148,9 @@ asks_show size next e os ns b sent told n ask c s = subst (λ u. Handles size (d
     doing t = record { reply = reply.Done; endpoint = record e { line = line; errand = if t then e.errand else Some errand.Stop }; orders = if t then [] else errand.Stop ∷ []; news = []; results = [] }
 
     done : Bool → Handled
-    done t = if t then record { reply = reply.Done; bench = record b { line = kept }; orders = []; results = [] } else posts (record b { line = kept }) errand.Stop next reply.Done []
+    done t = if t then record { reply = reply.Done; endpoint = record b { line = kept }; orders = []; results = [] } else posts (record b { line = kept }) errand.Stop next reply.Done []
 
-    there : (w : Option Sent) → is_some w ≡ is_some (option_map (λ z. z.errand) w)
+    there : (w : Option SentErrand) → is_some w ≡ is_some (option_map (λ z. z.errand) w)
     there None = refl
     there (Some z) = refl
 

@@ -12,7 +12,8 @@ use Rattle.usb_model.specs.declared.setup.EndpointInfo.{EndpointInfo}
 use Rattle.usb_model.specs.Setup.{Setup, info_of, interface_of, packet_size_of}
 use Rattle.usb_model.specs.World.{Claims, World, holder}
 use Rattle.usb_lemmas.proofs.Lists.Pieces.{either_way}
-use Rattle.usb_shows.specs.Benches.{Sent, AllKept, Kept, first_place, is_stale}
+use Rattle.usb_kept.specs.Kept.{SentErrand, KeptTransfer, first_place}
+use Rattle.usb_shows.specs.Showing.{AllKept, is_stale}
 use Rattle.usb_shows.specs.Lively.{IsFine, ends_from, ends_of}
 use Rattle.usb_shows.specs.Shows.{AllHeld, At, Core, Report, Shows, at, here, ring_event, ring_order, errands, events, tellings}
 use Rattle.usb_shows.proofs.Budget.{few_at_endpoint, fewer, split_length, ring_fits}
@@ -94,26 +95,26 @@ few_at setup w c s fine d e = by_holder (holder setup w.claims d e) refl
 pub few_everywhere : (setup : Setup) (w : World) (c : Core) → Shows setup w c → IsFine setup → (length c.events ≤ length (ends_of setup) * 18) × (length c.orders ≤ length (ends_of setup) * 1)
 few_everywhere setup w c s fine = (
   omega (arith, ap length s.news_kept, length-map s.news ring_event, few_of (λ (k : ℕ × ℕ) (x : At Report). here k.0 k.1 x) 18 (ends_of setup) s.news (held_keyed setup w.claims s.news s.news_held) (λ k. (few_at setup w c s fine k.0 k.1).0)),
-  omega (arith, ap length s.orders_kept, length-map s.orders ring_order, few_of (λ (k : ℕ × ℕ) (x : At Sent). here k.0 k.1 x) 1 (ends_of setup) s.orders (held_keyed setup w.claims s.orders s.orders_held) (λ k. (few_at setup w c s fine k.0 k.1).1)),
+  omega (arith, ap length s.orders_kept, length-map s.orders ring_order, few_of (λ (k : ℕ × ℕ) (x : At SentErrand). here k.0 k.1 x) 1 (ends_of setup) s.orders (held_keyed setup w.claims s.orders s.orders_held) (λ k. (few_at setup w c s fine k.0 k.1).1)),
 )
 
 -- the two lines are as long
-pub as_long : (size : ℕ) (xs : List Item) (ys : List Kept) → AllKept size xs ys → length ys ≡ length xs
+pub as_long : (size : ℕ) (xs : List Item) (ys : List KeptTransfer) → AllKept size xs ys → length ys ≡ length xs
 as_long size [] [] k = refl
 as_long size [] (y ∷ ys) k = absurd k
 as_long size (x ∷ xs) [] k = absurd k
 as_long size (x ∷ xs) (y ∷ ys) k = ap suc (as_long size xs ys k.1)
 
 -- at most 80 by the line; and at most 85 with what stands between the dequeue place and the line, where that is near
-pub room_near : (setup : Setup) (w : World) (c : Core) → Shows setup w c → IsFine setup → (h d e : ℕ) → holder setup w.claims d e ≡ Some h → first_place (c.benches d e).line (c.benches d e).end ≤ (c.benches d e).dequeue + 5
-    → ((c.benches d e).end ≤ first_place (c.benches d e).line (c.benches d e).end + 80) × ((c.benches d e).end ≤ (c.benches d e).dequeue + 85)
+pub room_near : (setup : Setup) (w : World) (c : Core) → Shows setup w c → IsFine setup → (h d e : ℕ) → holder setup w.claims d e ≡ Some h → first_place (c.endpoints d e).line (c.endpoints d e).end ≤ (c.endpoints d e).dequeue + 5
+    → ((c.endpoints d e).end ≤ first_place (c.endpoints d e).line (c.endpoints d e).end + 80) × ((c.endpoints d e).end ≤ (c.endpoints d e).dequeue + 85)
 room_near setup w c s fine h d e holds near =
     let world_of = s.endpoints h d e holds in
     let short = (known setup w c s fine h d e holds).fit.short in
-    ring_fits (c.benches d e).line (c.benches d e).end (c.benches d e).dequeue world_of.row (s.few d e) (omega (arith, short, as_long (packet_size_of setup d e) (w.endpoints d e).line (c.benches d e).line world_of.kept)) near
+    ring_fits (c.endpoints d e).line (c.endpoints d e).end (c.endpoints d e).dequeue world_of.row (s.few d e) (omega (arith, short, as_long (packet_size_of setup d e) (w.endpoints d e).line (c.endpoints d e).line world_of.kept)) near
 
 -- it is near wherever the endpoint isn't stale
-pub room_fresh : (setup : Setup) (w : World) (c : Core) (s : Shows setup w c) → IsFine setup → (h d e : ℕ) → holder setup w.claims d e ≡ Some h → is_stale (w.endpoints d e).state (w.endpoints d e).errand (errands (at d e s.orders)) ≡ false → (c.benches d e).end ≤ (c.benches d e).dequeue + 85
+pub room_fresh : (setup : Setup) (w : World) (c : Core) (s : Shows setup w c) → IsFine setup → (h d e : ℕ) → holder setup w.claims d e ≡ Some h → is_stale (w.endpoints d e).state (w.endpoints d e).errand (errands (at d e s.orders)) ≡ false → (c.endpoints d e).end ≤ (c.endpoints d e).dequeue + 85
 room_fresh setup w c s fine h d e holds fresh =
-    let le = near_fresh (packet_size_of setup d e) (w.endpoints d e) (errands (at d e s.orders)) (events (at d e s.news)) (c.benches d e) (at d e s.orders) (tellings (at d e s.news)) (s.endpoints h d e holds) fresh in
+    let le = near_fresh (packet_size_of setup d e) (w.endpoints d e) (errands (at d e s.orders)) (events (at d e s.news)) (c.endpoints d e) (at d e s.orders) (tellings (at d e s.news)) (s.endpoints h d e holds) fresh in
     (room_near setup w c s fine h d e holds (omega (arith, le))).1

@@ -2,7 +2,7 @@
 use Rattle.std.proofs.Common.{Bool, List, Option, [], ap, arith, false, length, length-append, refl, suc, true, ℕ, ◌%◌, ◌*◌, ◌+◌, ◌/◌, ◌<◌, ◌≤◌, ◌==◌, ◌∷◌, ◌≡◌, replicate, ◌-◌}
 use Rattle.std.specs.Prelude.{if◌then◌else◌, nat_lt, not, ◌||◌}
 use Rattle.std.specs.List.{AllByRecursion, filter, list_any}
-use Rattle.usb_shows.specs.Stands.{full_trbs, lengths_of}
+use Rattle.usb_kept.specs.Stands.{full_trbs, lengths_of}
 use Rattle.std.proofs.lemmas.List.{length-replicate}
 use Rattle.std.proofs.Math.Nat.{div-mul-le_self, mul-le-mul_right, suc-mul}
 use Rattle.std.proofs.lemmas.Nat.{div-add-mod'}
@@ -15,7 +15,8 @@ use Rattle.usb_model.specs.declared.item.ItemState.TheVariants.{Blank, Served, W
 use Rattle.usb_model.specs.declared.item.ItemState.{ItemState}
 use Rattle.usb_model.specs.declared.news.Event.{Event}
 use Rattle.usb_model.specs.Coherence.{IsCoherent, IsPhase, ended, event_by, move_ran, move_waits, reset_ran, reset_waits, runs, served_events, stop_failed, stop_ran, stop_ran_paused, stop_waits, stop_waits_halted}
-use Rattle.usb_shows.specs.Benches.{InRow, Kept, first_place}
+use Rattle.usb_shows.specs.Showing.{InRow}
+use Rattle.usb_kept.specs.Kept.{KeptTransfer, first_place}
 
 -- one order at most, and two events behind the ends
 few_waiting : (s : EndpointState) (er : Option Errand) (os : List Errand) (es tail : List Event) → IsPhase s er os es tail → (length os ≤ 1) × (length tail ≤ 2)
@@ -97,7 +98,7 @@ few_in_all key most (k ∷ ks) xs a few =
     omega (arith, split_length (λ x. key x == k) xs, few k, rest, suc-mul (length ks) most)
 
 -- the TRBs of a line stand within so many places
-pub row_span : (most : ℕ) (ys : List Kept) (end : ℕ) → InRow ys end → AllByRecursion (λ (y : Kept). length y.lengths ≤ most) ys → (first_place ys end ≤ end) × (end ≤ first_place ys end + length ys * most)
+pub row_span : (most : ℕ) (ys : List KeptTransfer) (end : ℕ) → InRow ys end → AllByRecursion (λ (y : KeptTransfer). length y.lengths ≤ most) ys → (first_place ys end ≤ end) × (end ≤ first_place ys end + length ys * most)
 row_span most [] end row few = (omega arith, omega arith)
 row_span most (y ∷ ys) end row few =
     let r = row_span most ys end row.1 few.1 in
@@ -116,7 +117,7 @@ index_names n i j some le near same = by_test (nat_lt (i / n) (j / n)) refl
         omega (arith, down, div-add-mod' i n, div-add-mod' j n, same, le)
 
 -- a line of 16 places, and a dequeue place at most 5 before it, are within 85 places, of the 126 that a ring of 128 has
-pub ring_fits : (ys : List Kept) (end dequeue : ℕ) → InRow ys end → AllByRecursion (λ (y : Kept). length y.lengths ≤ 5) ys → length ys ≤ 16 → first_place ys end ≤ dequeue + 5 → (end ≤ first_place ys end + 80) × (end ≤ dequeue + 85)
+pub ring_fits : (ys : List KeptTransfer) (end dequeue : ℕ) → InRow ys end → AllByRecursion (λ (y : KeptTransfer). length y.lengths ≤ 5) ys → length ys ≤ 16 → first_place ys end ≤ dequeue + 5 → (end ≤ first_place ys end + 80) × (end ≤ dequeue + 85)
 ring_fits ys end dequeue row few short near =
     let span = row_span 5 ys end row few in
     (omega (arith, span.1, short), omega (arith, span.1, short, near))

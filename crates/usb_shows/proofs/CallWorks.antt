@@ -23,9 +23,11 @@ use Rattle.usb_model.specs.Coherence.{IsCoherent}
 use Rattle.std.proofs.lemmas.Option.{same_Some}
 use Rattle.usb_account.proofs.Coherence.Commands.{coherent_ask, coherent_submit}
 use Rattle.usb_account.proofs.Machines.Deeds.{cleared}
-use Rattle.usb_shows.specs.Benches.{AllFew, Bench, ShowsEnd}
-use Rattle.usb_shows.specs.Handling.{Handled, Handles, posts}
-use Rattle.usb_shows.specs.Joining.{asked, joined, kept_ask}
+use Rattle.usb_shows.specs.Showing.{AllFew, ShowsEnd}
+use Rattle.usb_kept.specs.Kept.{KeptEndpoint}
+use Rattle.usb_kept.specs.Handling.{Handled, posts}
+use Rattle.usb_shows.specs.Keeping.{Handles}
+use Rattle.usb_kept.specs.Joining.{asked, joined, kept_ask}
 use Rattle.usb_shows.specs.Lively.{IsFine}
 use Rattle.usb_shows.specs.Shows.{Core, InRun, Shows, at, errands, events, order_at, tellings, under_way}
 use Rattle.usb_shows.specs.Stepping.{Stepped, handle_work, posted_by, worked, StepsTo}
@@ -54,7 +56,7 @@ past_none b xs q = ap (λ t. past_first t xs) q
 -- such work
 pub call_shows : (setup : Setup) (w : World) (c : Core) (s : Shows setup w c) (h dev ep : ℕ) (step : Step) (handle : Handle) (d : EndpointEffect) (a : Handled) → IsCall step → owner_of setup w step ≡ Some h → effect setup h (machine_of setup h w) step ≡ at_endpoint handle dev ep d
     → holder setup w.claims dev ep ≡ Some h → d.news ≡ [] → IsCoherent d.endpoint (errands (at dev ep s.orders) ++ d.orders) (events (at dev ep s.news))
-    → Handles (packet_size_of setup dev ep) d a (errands (at dev ep s.orders)) (events (at dev ep s.news)) (at dev ep s.orders) (tellings (at dev ep s.news)) → IsPosting c.posted a.orders → AllFew a.bench.line
+    → Handles (packet_size_of setup dev ep) d a (errands (at dev ep s.orders)) (events (at dev ep s.news)) (at dev ep s.orders) (tellings (at dev ep s.news)) → IsPosting c.posted a.orders → AllFew a.endpoint.line
     → StepsTo setup w step (called h handle dev ep step a c)
 call_shows setup w c s h dev ep step handle d a call own is holds none coherent handles posting few =
     let os : past_first (takes_order step) s.orders ≡ s.orders = past_none (takes_order step) s.orders call.no_order in
@@ -71,8 +73,8 @@ call_shows setup w c s h dev ep step handle d a call own is holds none coherent 
       reply = handles.reply;
       results = handles.results;
       coherent = subst₂ (λ x y. IsCoherent d.endpoint (errands (at dev ep x) ++ d.orders) (events (at dev ep y) ++ d.news)) (sym os) (sym ns) (subst (λ l. IsCoherent d.endpoint (errands (at dev ep s.orders) ++ d.orders) l) (sym news_same) coherent);
-      shows = subst₂ (λ x y. ShowsEnd (packet_size_of setup dev ep) d.endpoint (errands (at dev ep x) ++ d.orders) (events (at dev ep y) ++ d.news) a.bench (at dev ep x ++ a.orders) (tellings (at dev ep y) ++ [])) (sym os) (sym ns)
-          (subst₂ (λ l t. ShowsEnd (packet_size_of setup dev ep) d.endpoint (errands (at dev ep s.orders) ++ d.orders) l a.bench (at dev ep s.orders ++ a.orders) t) (sym news_same) (sym (append-nil (tellings (at dev ep s.news)))) handles.shows);
+      shows = subst₂ (λ x y. ShowsEnd (packet_size_of setup dev ep) d.endpoint (errands (at dev ep x) ++ d.orders) (events (at dev ep y) ++ d.news) a.endpoint (at dev ep x ++ a.orders) (tellings (at dev ep y) ++ [])) (sym os) (sym ns)
+          (subst₂ (λ l t. ShowsEnd (packet_size_of setup dev ep) d.endpoint (errands (at dev ep s.orders) ++ d.orders) l a.endpoint (at dev ep s.orders ++ a.orders) t) (sym news_same) (sym (append-nil (tellings (at dev ep s.news)))) handles.shows);
       few = few;
       first = s.first;
       in_run = subst₂ (λ x y. InRun s.first (under_way (x ++ []) (y ++ map (order_at dev ep) a.orders)) (posted_by a.orders c.posted)) (sym (past_none (takes_news step) c.events call.no_news)) (sym (past_none (takes_order step) c.orders call.no_order))
@@ -80,64 +82,64 @@ call_shows setup w c s h dev ep step handle d a call own is holds none coherent 
     })
 
 -- at most Stop is ordered
-asked_posts : (next : ℕ) (b : Bench) (n : ℕ) (ask : Ask) → IsPosting next (asked next b n ask).orders
+asked_posts : (next : ℕ) (b : KeptEndpoint) (n : ℕ) (ask : Ask) → IsPosting next (asked next b n ask).orders
 asked_posts next b n ask = by_test (is_some b.errand)
   where
-    after : Bench
+    after : KeptEndpoint
     after = record b { line = map (kept_ask n ask) b.line }
 
-    by_test : (t : Bool) → IsPosting next (if◌then◌else◌ {A = Handled} t (record { reply = reply.Done; bench = after; orders = []; results = [] }) (posts after errand.Stop next reply.Done [])).orders
+    by_test : (t : Bool) → IsPosting next (if◌then◌else◌ {A = Handled} t (record { reply = reply.Done; endpoint = after; orders = []; results = [] }) (posts after errand.Stop next reply.Done [])).orders
     by_test true = tt
     by_test false = refl
 
 -- a transfer is asked to end: Cancel, Expire
 pub ask_steps : (setup : Setup) (w : World) (c : Core) → IsFine setup → Shows setup w c → (h dev ep : ℕ) (step : Step) (n : ℕ) (ask : Ask) → IsCall step → owner_of setup w step ≡ Some h → holder setup w.claims dev ep ≡ Some h
-    → effect setup h (machine_of setup h w) step ≡ at_endpoint (c.names h) dev ep (asks (w.endpoints dev ep) n ask) → StepsTo setup w step (called h (c.names h) dev ep step (asked c.posted (c.benches dev ep) n ask) c)
+    → effect setup h (machine_of setup h w) step ≡ at_endpoint (c.names h) dev ep (asks (w.endpoints dev ep) n ask) → StepsTo setup w step (called h (c.names h) dev ep step (asked c.posted (c.endpoints dev ep) n ask) c)
 unfolding asks
 ask_steps setup w c fine s h dev ep step n ask call own holds is =
     let k = (known setup w c s fine h dev ep holds).fit.coherent in
-    call_shows setup w c s h dev ep step (c.names h) (asks (w.endpoints dev ep) n ask) (asked c.posted (c.benches dev ep) n ask) call own is holds refl
+    call_shows setup w c s h dev ep step (c.names h) (asks (w.endpoints dev ep) n ask) (asked c.posted (c.endpoints dev ep) n ask) call own is holds refl
     (subst (λ l. IsCoherent (asks (w.endpoints dev ep) n ask).endpoint (errands (at dev ep s.orders) ++ (asks (w.endpoints dev ep) n ask).orders) l) (append-nil (events (at dev ep s.news))) (coherent_ask (w.endpoints dev ep) n ask _ _ k))
-    (asks_show (packet_size_of setup dev ep) c.posted (w.endpoints dev ep) _ _ (c.benches dev ep) _ _ n ask k (s.endpoints h dev ep holds))
-    (asked_posts c.posted (c.benches dev ep) n ask) (asked_few c.posted (c.benches dev ep) n ask (s.few dev ep))
+    (asks_show (packet_size_of setup dev ep) c.posted (w.endpoints dev ep) _ _ (c.endpoints dev ep) _ _ n ask k (s.endpoints h dev ep holds))
+    (asked_posts c.posted (c.endpoints dev ep) n ask) (asked_few c.posted (c.endpoints dev ep) n ask (s.few dev ep))
 
 -- a transfer joins its line: Submit, and Answer with Again or AgainWith
-abbrev pub join_handled : ℕ → Bench → ℕ → Request → ℕ → Handled
-join_handled size b n request round = record { reply = reply.Number n; bench = joined size b n request round; orders = []; results = [] }
+abbrev pub join_handled : ℕ → KeptEndpoint → ℕ → Request → ℕ → Handled
+join_handled size b n request round = record { reply = reply.Number n; endpoint = joined size b n request round; orders = []; results = [] }
 
 pub submit_steps : (setup : Setup) (w : World) (c : Core) → IsFine setup → Shows setup w c → (h dev ep : ℕ) (step : Step) (handle : Handle) (n : ℕ) (request : Request) (round : ℕ) → length_of request.body ≤ 262144 → IsCall step → owner_of setup w step ≡ Some h → holder setup w.claims dev ep ≡ Some h
-    → effect setup h (machine_of setup h w) step ≡ at_endpoint handle dev ep (submitted n request round (w.endpoints dev ep)) → StepsTo setup w step (called h handle dev ep step (join_handled (packet_size_of setup dev ep) (c.benches dev ep) n request round) c)
+    → effect setup h (machine_of setup h w) step ≡ at_endpoint handle dev ep (submitted n request round (w.endpoints dev ep)) → StepsTo setup w step (called h handle dev ep step (join_handled (packet_size_of setup dev ep) (c.endpoints dev ep) n request round) c)
 submit_steps setup w c fine s h dev ep step handle n request round short call own holds is =
     let e : Endpoint = w.endpoints dev ep in
     let os : List Errand = errands (at dev ep s.orders) in
     let k = (known setup w c s fine h dev ep holds).fit.coherent in
-    call_shows setup w c s h dev ep step handle (submitted n request round e) (join_handled (packet_size_of setup dev ep) (c.benches dev ep) n request round) call own is holds refl
+    call_shows setup w c s h dev ep step handle (submitted n request round e) (join_handled (packet_size_of setup dev ep) (c.endpoints dev ep) n request round) call own is holds refl
     (subst (λ l. IsCoherent (submitted n request round e).endpoint l (events (at dev ep s.news))) (sym (append-nil os)) (coherent_submit e n request round os (events (at dev ep s.news)) k))
     (record {
       reply = refl;
       results = refl;
-      shows = subst₂ (λ x y. ShowsEnd (packet_size_of setup dev ep) (submitted n request round e).endpoint x (events (at dev ep s.news)) (joined (packet_size_of setup dev ep) (c.benches dev ep) n request round) y (tellings (at dev ep s.news))) (sym (append-nil os)) (sym (append-nil (at dev ep s.orders)))
-          (submit_shows (packet_size_of setup dev ep) e os (events (at dev ep s.news)) (c.benches dev ep) (at dev ep s.orders) (tellings (at dev ep s.news)) n request round (s.endpoints h dev ep holds));
+      shows = subst₂ (λ x y. ShowsEnd (packet_size_of setup dev ep) (submitted n request round e).endpoint x (events (at dev ep s.news)) (joined (packet_size_of setup dev ep) (c.endpoints dev ep) n request round) y (tellings (at dev ep s.news))) (sym (append-nil os)) (sym (append-nil (at dev ep s.orders)))
+          (submit_shows (packet_size_of setup dev ep) e os (events (at dev ep s.news)) (c.endpoints dev ep) (at dev ep s.orders) (tellings (at dev ep s.news)) n request round (s.endpoints h dev ep holds));
     })
-    tt (joined_few (packet_size_of setup dev ep) (c.benches dev ep) n request round short (s.few dev ep))
+    tt (joined_few (packet_size_of setup dev ep) (c.endpoints dev ep) n request round short (s.few dev ep))
 
 -- the device's halt ends: ClearHalt
-abbrev pub clear_handled : Bench → Handled
-clear_handled b = record { reply = reply.Done; bench = record b { device_halted = false }; orders = []; results = [] }
+abbrev pub clear_handled : KeptEndpoint → Handled
+clear_handled b = record { reply = reply.Done; endpoint = record b { device_halted = false }; orders = []; results = [] }
 
 pub clear_steps : (setup : Setup) (w : World) (c : Core) → IsFine setup → Shows setup w c → (h dev ep : ℕ) (step : Step) → IsCall step → owner_of setup w step ≡ Some h → holder setup w.claims dev ep ≡ Some h
-    → effect setup h (machine_of setup h w) step ≡ at_endpoint (c.names h) dev ep (cleared (w.endpoints dev ep)) → StepsTo setup w step (called h (c.names h) dev ep step (clear_handled (c.benches dev ep)) c)
+    → effect setup h (machine_of setup h w) step ≡ at_endpoint (c.names h) dev ep (cleared (w.endpoints dev ep)) → StepsTo setup w step (called h (c.names h) dev ep step (clear_handled (c.endpoints dev ep)) c)
 clear_steps setup w c fine s h dev ep step call own holds is =
     let e : Endpoint = w.endpoints dev ep in
     let os : List Errand = errands (at dev ep s.orders) in
     let k = (known setup w c s fine h dev ep holds).fit.coherent in
-    call_shows setup w c s h dev ep step (c.names h) (cleared e) (clear_handled (c.benches dev ep)) call own is holds refl
+    call_shows setup w c s h dev ep step (c.names h) (cleared e) (clear_handled (c.endpoints dev ep)) call own is holds refl
     (subst (λ l. IsCoherent (cleared e).endpoint l (events (at dev ep s.news))) (sym (append-nil os)) k)
     (record {
       reply = refl;
       results = refl;
-      shows = subst₂ (λ x y. ShowsEnd (packet_size_of setup dev ep) (cleared e).endpoint x (events (at dev ep s.news)) (clear_handled (c.benches dev ep)).bench y (tellings (at dev ep s.news))) (sym (append-nil os)) (sym (append-nil (at dev ep s.orders)))
-          (cleared_shows (packet_size_of setup dev ep) e os (events (at dev ep s.news)) (c.benches dev ep) (at dev ep s.orders) (tellings (at dev ep s.news)) (s.endpoints h dev ep holds));
+      shows = subst₂ (λ x y. ShowsEnd (packet_size_of setup dev ep) (cleared e).endpoint x (events (at dev ep s.news)) (clear_handled (c.endpoints dev ep)).endpoint y (tellings (at dev ep s.news))) (sym (append-nil os)) (sym (append-nil (at dev ep s.orders)))
+          (cleared_shows (packet_size_of setup dev ep) e os (events (at dev ep s.news)) (c.endpoints dev ep) (at dev ep s.orders) (tellings (at dev ep s.news)) (s.endpoints h dev ep holds));
     })
     tt (s.few dev ep)
 

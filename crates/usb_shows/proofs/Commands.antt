@@ -14,10 +14,12 @@ use Rattle.usb_model.specs.declared.news.Event.{Event}
 use Rattle.usb_model.specs.Endpoint.Command.{command, pause_of}
 use Rattle.usb_model.specs.Endpoint.{first_waiting, outcome_of}
 use Rattle.usb_model.specs.Coherence.{IsCoherent, IsPhase, move_waits, reset_waits, served_events, stop_waits, stop_waits_halted}
-use Rattle.usb_shows.specs.Benches.{AllNew, Bench, Completion, FirstPaused, FrontKnown, IsOrderly, Kept, Sent, ShowsEnd, Telling, code_of, count, first_place, front, has_pause, index_of, is_past, is_stale, orders_sent, pause_told, tail_told, telling_of, told_of}
-use Rattle.usb_shows.specs.Handling.{find_at, past_kept_blanks}
-use Rattle.usb_shows.specs.Serving.{event_at, walk}
-use Rattle.usb_shows.specs.Commanding.{Carries, PauseTold, carry, pause_at}
+use Rattle.usb_shows.specs.Showing.{AllNew, FirstPaused, FrontKnown, IsOrderly, ShowsEnd, count, front, has_pause, is_past, is_stale, orders_sent, pause_told, tail_told, telling_of, told_of}
+use Rattle.usb_kept.specs.Kept.{KeptEndpoint, Completion, KeptTransfer, SentErrand, Telling, code_of, first_place, index_of}
+use Rattle.usb_kept.specs.Handling.{find_at, past_kept_blanks}
+use Rattle.usb_kept.specs.Serving.{event_at, walk}
+use Rattle.usb_shows.specs.Keeping.{Carries, PauseTold}
+use Rattle.usb_kept.specs.Commanding.{carry, pause_at}
 use Rattle.usb_shows.proofs.Fronts.{Fronted, front_new, fronts, known_new, known_none}
 use Rattle.usb_shows.proofs.Serves.{at_front, event_is, find_end, front_none, fresh_running}
 
@@ -40,14 +42,14 @@ ways s er o os es tail reset_waits = inr (inr (inl ((refl, refl, refl, refl, ref
 ways s er o os es tail move_waits = inr (inr (inr ((refl, refl, refl, refl, refl), refl)))
 
 -- what is told of two lists
-tail_behind : (size : ℕ) (xs : List Item) (ys : List Kept) (sent : Option Sent) (es fs : List Event) → tail_told size xs ys sent (es ++ fs) ≡ tail_told size xs ys sent es ++ tail_told size xs ys sent fs
+tail_behind : (size : ℕ) (xs : List Item) (ys : List KeptTransfer) (sent : Option SentErrand) (es fs : List Event) → tail_told size xs ys sent (es ++ fs) ≡ tail_told size xs ys sent es ++ tail_told size xs ys sent fs
 tail_behind size xs ys sent [] fs = refl
 tail_behind size xs ys sent (Finished n code ∷ es) fs = tail_behind size xs ys sent es fs
 tail_behind size xs ys sent (Paused n ∷ es) fs = ap (λ l. pause_told size xs ys ++ l) (tail_behind size xs ys sent es fs) ∙ sym (append_assoc (pause_told size xs ys) (tail_told size xs ys sent es) (tail_told size xs ys sent fs))
 tail_behind size xs ys sent (Settled errand ok ∷ es) fs = ap (λ l. Completion (index_of sent) (code_of ok) ∷ l) (tail_behind size xs ys sent es fs)
 
 -- what an order leaves, from what it tells and where the controller then stands
-carried_shows : (size : ℕ) (e : Endpoint) (o : Errand) (os : List Errand) (ns : List Event) (b : Bench) (w : Sent) (sent : List Sent) (told : List Telling) (state : EndpointState) (dequeue within : ℕ) (ok : Bool) (pe : List Event) (ps : List Telling)
+carried_shows : (size : ℕ) (e : Endpoint) (o : Errand) (os : List Errand) (ns : List Event) (b : KeptEndpoint) (w : SentErrand) (sent : List SentErrand) (told : List Telling) (state : EndpointState) (dequeue within : ℕ) (ok : Bool) (pe : List Event) (ps : List Telling)
     → (s : ShowsEnd size e (o ∷ os) ns b (w ∷ sent) told) → s.tail ≡ []
     → ps ≡ tail_told size e.line b.line b.errand pe → (is_stale state e.errand [] ≡ false → record { place = dequeue; within = within } ≡ front size e.line b.line b.end)
     → (state ≡ Stopped → has_pause (pe ++ Settled o ok ∷ []) ≡ false → FrontKnown size e.line b.line) → os ≡ [] → FirstPaused e.line (pe ++ Settled o ok ∷ [])
@@ -74,7 +76,7 @@ carried_shows size e o os ns b w sent told state dequeue within ok pe ps s none 
     }
 
 -- Stop of a running endpoint
-stop_shows : (size ep : ℕ) (e : Endpoint) (ns : List Event) (b : Bench) (w : Sent) (sent : List Sent) (told : List Telling) (c : IsCoherent e (errand.Stop ∷ []) ns) → PauseTold size e
+stop_shows : (size ep : ℕ) (e : Endpoint) (ns : List Event) (b : KeptEndpoint) (w : SentErrand) (sent : List SentErrand) (told : List Telling) (c : IsCoherent e (errand.Stop ∷ []) ns) → PauseTold size e
     → (s : ShowsEnd size e (errand.Stop ∷ []) ns b (w ∷ sent) told) → e.state ≡ Running → e.errand ≡ Some errand.Stop → s.tail ≡ []
     → Carries size ep errand.Stop (command size ep e errand.Stop Running) (carry w.index b errand.Stop Running) [] ns sent told
 unfolding command carry
@@ -110,7 +112,7 @@ stop_shows size ep e ns b w sent told c pauses s run er none = record { reply = 
         rw (there, a.before) (by_test x first f (event_at b f.y (walk b f.y 0) 26) event (count size x == 0) refl (length (outcome_of size x).packets == 0) (pauses x first))
 
 -- Stop of a halted endpoint fails
-fail_shows : (size ep : ℕ) (e : Endpoint) (ns : List Event) (b : Bench) (w : Sent) (sent : List Sent) (told : List Telling)
+fail_shows : (size ep : ℕ) (e : Endpoint) (ns : List Event) (b : KeptEndpoint) (w : SentErrand) (sent : List SentErrand) (told : List Telling)
     → (s : ShowsEnd size e (errand.Stop ∷ []) ns b (w ∷ sent) told) → e.state ≡ Halted → s.tail ≡ []
     → Carries size ep errand.Stop (command size ep e errand.Stop Halted) (carry w.index b errand.Stop Halted) [] ns sent told
 unfolding command carry
@@ -125,7 +127,7 @@ fail_shows size ep e ns b w sent told s halt none = record {
     not_stale Stopped er h q = cc
 
 -- Reset of a halted endpoint
-reset_shows : (size ep : ℕ) (e : Endpoint) (ns : List Event) (b : Bench) (w : Sent) (sent : List Sent) (told : List Telling) → AllNew e.line
+reset_shows : (size ep : ℕ) (e : Endpoint) (ns : List Event) (b : KeptEndpoint) (w : SentErrand) (sent : List SentErrand) (told : List Telling) → AllNew e.line
     → (s : ShowsEnd size e (errand.Reset ∷ []) ns b (w ∷ sent) told) → e.errand ≡ Some errand.Reset → s.tail ≡ []
     → Carries size ep errand.Reset (command size ep e errand.Reset Halted) (carry w.index b errand.Reset Halted) [] ns sent told
 unfolding command carry
@@ -141,7 +143,7 @@ reset_shows size ep e ns b w sent told new s er none = record {
     by_errand (Some errand.Move) e q = cc
 
 -- Move of a stopped endpoint: the controller goes to the first transfer that isn't blank
-move_shows : (size ep : ℕ) (e : Endpoint) (ns : List Event) (b : Bench) (w : Sent) (sent : List Sent) (told : List Telling) → AllNew e.line
+move_shows : (size ep : ℕ) (e : Endpoint) (ns : List Event) (b : KeptEndpoint) (w : SentErrand) (sent : List SentErrand) (told : List Telling) → AllNew e.line
     → (s : ShowsEnd size e (errand.Move ∷ []) ns b (w ∷ sent) told) → e.state ≡ Stopped → served_events e.line ≡ [] → s.tail ≡ []
     → Carries size ep errand.Move (command size ep e errand.Move Stopped) (carry w.index b errand.Move Stopped) [] ns sent told
 unfolding command carry
@@ -152,7 +154,7 @@ move_shows size ep e ns b w sent told new s stopped unserved none = record {
 }
 
 -- the first order is carried out: it is that of the endpoint's errand
-pub command_shows : (size ep : ℕ) (e : Endpoint) (o : Errand) (os : List Errand) (ns : List Event) (b : Bench) (w : Sent) (sent : List Sent) (told : List Telling)
+pub command_shows : (size ep : ℕ) (e : Endpoint) (o : Errand) (os : List Errand) (ns : List Event) (b : KeptEndpoint) (w : SentErrand) (sent : List SentErrand) (told : List Telling)
     → IsCoherent e (o ∷ os) ns → IsOrderly size e → PauseTold size e → ShowsEnd size e (o ∷ os) ns b (w ∷ sent) told
     → (w.errand ≡ o) × Carries size ep o (command size ep e o e.state) (carry w.index b o b.state) os ns sent told
 command_shows size ep e o os ns b w sent told c orderly pauses s =

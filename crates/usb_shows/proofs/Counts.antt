@@ -11,11 +11,12 @@ use Rattle.usb_model.specs.declared.news.Event.TheVariants.{Finished, Paused, Se
 use Rattle.usb_model.specs.declared.news.Event.{Event}
 use Rattle.usb_model.specs.Endpoint.{first_waiting, is_waiting}
 use Rattle.usb_model.specs.Coherence.{event_by, served_events}
-use Rattle.usb_shows.specs.Benches.{AllKept, Bench, FirstPaused, Kept, Sent, ShowsEnd, Telling, orders_sent, pause_told, tail_told, telling_of, told_by, told_of}
+use Rattle.usb_shows.specs.Showing.{AllKept, FirstPaused, ShowsEnd, orders_sent, pause_told, tail_told, telling_of, told_by, told_of}
+use Rattle.usb_kept.specs.Kept.{KeptEndpoint, KeptTransfer, SentErrand, Telling}
 use Rattle.usb_shows.specs.Shows.{Report, errands, events, tellings}
 
 -- an end for each served transfer
-count_told : (size : ℕ) (xs : List Item) (ys : List Kept) → AllKept size xs ys → length (told_of size xs ys) ≡ length (served_events xs)
+count_told : (size : ℕ) (xs : List Item) (ys : List KeptTransfer) → AllKept size xs ys → length (told_of size xs ys) ≡ length (served_events xs)
 unfolding told_of served_events
 count_told size [] [] k = refl
 count_told size [] (y ∷ ys) k = absurd k
@@ -28,7 +29,7 @@ count_told size (x ∷ xs) (y ∷ ys) k = by_state x.state (count_told size xs y
     by_state Blank e = e
 
 -- one pause of the transfer that waits
-count_pause : (size : ℕ) (xs : List Item) (ys : List Kept) (x : Item) → AllKept size xs ys → first_waiting xs ≡ Some x → length (pause_told size xs ys) ≡ suc zero
+count_pause : (size : ℕ) (xs : List Item) (ys : List KeptTransfer) (x : Item) → AllKept size xs ys → first_waiting xs ≡ Some x → length (pause_told size xs ys) ≡ suc zero
 unfolding pause_told first_waiting
 count_pause size [] ys x k first = absurd cc
 count_pause size (z ∷ xs) [] x k first = absurd k
@@ -45,7 +46,7 @@ NoEnds (Finished n code ∷ es) = ⊥
 NoEnds (Paused n ∷ es) = NoEnds es
 NoEnds (Settled o ok ∷ es) = NoEnds es
 
-count_tail : (size : ℕ) (xs : List Item) (ys : List Kept) (sent : Option Sent) (tail : List Event) → AllKept size xs ys → NoEnds tail → FirstPaused xs tail → length (tail_told size xs ys sent tail) ≡ length tail
+count_tail : (size : ℕ) (xs : List Item) (ys : List KeptTransfer) (sent : Option SentErrand) (tail : List Event) → AllKept size xs ys → NoEnds tail → FirstPaused xs tail → length (tail_told size xs ys sent tail) ≡ length tail
 count_tail size xs ys sent [] k none p = refl
 count_tail size xs ys sent (Finished n code ∷ es) k none p = absurd none
 count_tail size xs ys sent (Paused n ∷ es) k none p =
@@ -53,17 +54,17 @@ count_tail size xs ys sent (Paused n ∷ es) k none p =
 count_tail size xs ys sent (Settled o ok ∷ es) k none p = ap suc (count_tail size xs ys sent es k none p)
 
 -- as many as the news
-pub as_many : (size : ℕ) (e : Endpoint) (os : List Errand) (ns : List Event) (b : Bench) (sent : List Sent) (told : List Telling) → (s : ShowsEnd size e os ns b sent told) → NoEnds s.tail → length told ≡ length ns
+pub as_many : (size : ℕ) (e : Endpoint) (os : List Errand) (ns : List Event) (b : KeptEndpoint) (sent : List SentErrand) (told : List Telling) → (s : ShowsEnd size e os ns b sent told) → NoEnds s.tail → length told ≡ length ns
 as_many size e os ns b sent told s none =
     omega (arith, ap length s.told_is, ap length s.news, length-append (told_of size e.line b.line) (tail_told size e.line b.line b.errand s.tail), length-append (served_events e.line) s.tail, count_told size e.line b.line s.kept, count_tail size e.line b.line b.errand s.tail s.kept none s.paused)
 
 -- the orders that are sent are the endpoint's
-pub errands_sent : (sent : Option Sent) (os : List Errand) → errands (orders_sent sent os) ≡ os
+pub errands_sent : (sent : Option SentErrand) (os : List Errand) → errands (orders_sent sent os) ≡ os
 errands_sent sent [] = refl
 errands_sent sent (o ∷ os) = ap (λ l. o ∷ l) (errands_sent sent os)
 
 -- so those that were added are
-pub errands_added : (sent : Option Sent) (xs more : List Sent) (os : List Errand) → xs ++ more ≡ orders_sent sent (errands xs ++ os) → errands more ≡ os
+pub errands_added : (sent : Option SentErrand) (xs more : List SentErrand) (os : List Errand) → xs ++ more ≡ orders_sent sent (errands xs ++ os) → errands more ≡ os
 errands_added sent xs more os e = append_cancel_left (errands xs) (errands more) os (sym (map-append (λ x. x.errand) xs more) ∙ (ap errands e ∙ errands_sent sent (errands xs ++ os)))
 
 -- events with what is told of them

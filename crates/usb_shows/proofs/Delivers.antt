@@ -26,10 +26,12 @@ use Rattle.usb_model.specs.Coherence.{IsCoherent, event_by, served_events}
 use Rattle.usb_lemmas.proofs.Lists.Pieces.{same_name}
 use Rattle.std.proofs.lemmas.Option.{same_Some}
 use Rattle.usb_account.proofs.Coherence.Delivers.{coherent_deliver}
-use Rattle.usb_shows.specs.Benches.{AllFew, AllUncut, Bench, Kept, Sent, ShowsEnd, Telling, Transfer, code_of, index_of, uncut_by}
-use Rattle.usb_shows.specs.Handling.{Handled, Handles, Reading, errand_of, finish, kept_after, kept_result, past_kept_blanks, posts, reading}
+use Rattle.usb_shows.specs.Showing.{AllFew, AllUncut, ShowsEnd, uncut_by}
+use Rattle.usb_kept.specs.Kept.{KeptEndpoint, KeptTransfer, SentErrand, Telling, Transfer, code_of, index_of}
+use Rattle.usb_kept.specs.Handling.{Handled, Reading, errand_of, finish, kept_after, kept_result, past_kept_blanks, posts, reading}
+use Rattle.usb_shows.specs.Keeping.{Handles}
 use Rattle.usb_shows.specs.Lively.{IsFine}
-use Rattle.usb_shows.specs.Settling.{kept_blanked, leads_kept, pauses, resume_bench, settle, withdrawn_results}
+use Rattle.usb_kept.specs.Settling.{kept_blanked, leads_kept, pauses, resume_kept, settle, withdrawn_results}
 use Rattle.usb_shows.specs.Shows.{AllHeld, At, Core, InRun, Report, RingEvent, RingOrder, Shows, at, errands, event_at, events, here, news_of, order_at, ring_event, tellings, under_way}
 use Rattle.usb_shows.specs.Stepping.{StepsTo, complete_at, completion_work, deliver_core, deliver_first, delivers, handle_work, posted_by, sender, transfer_work, works}
 use Rattle.usb_shows.proofs.Finished.{FinishedShows, finished_shows, first_end}
@@ -44,38 +46,38 @@ use Rattle.usb_shows.proofs.Settled.{SettledShows, settled_shows}
 use Rattle.usb_shows.proofs.Worked.{work_shows}
 
 -- at most one order, at the next place
-abbrev pub IsPosting : ℕ → List Sent → Type 0
+abbrev pub IsPosting : ℕ → List SentErrand → Type 0
 IsPosting next [] = Unit {0}
 IsPosting next (x ∷ []) = x.index ≡ next
 IsPosting next (x ∷ y ∷ xs) = ⊥
 
-pub run_posting : (first next dev ep : ℕ) (events : List RingEvent) (orders : List RingOrder) (xs : List Sent) → IsPosting next xs → InRun first (under_way events orders) next
+pub run_posting : (first next dev ep : ℕ) (events : List RingEvent) (orders : List RingOrder) (xs : List SentErrand) → IsPosting next xs → InRun first (under_way events orders) next
     → InRun first (under_way (events ++ []) (orders ++ map (order_at dev ep) xs)) (posted_by xs next)
 run_posting first next dev ep events orders [] p r = subst₂ (λ x y. InRun first (under_way x y) next) (sym (append-nil events)) (sym (append-nil orders)) r
 run_posting first next dev ep events orders (x ∷ []) p r = subst (λ l. InRun first (under_way l (orders ++ order_at dev ep x ∷ [])) (suc next)) (sym (append-nil events)) (run_posted first next events orders (order_at dev ep x) p r)
 run_posting first next dev ep events orders (x ∷ y ∷ xs) p r = absurd p
 
-finish_posts : (gone : Bool) (next : ℕ) (b : Bench) (p code : ℕ) (found : Reading) → IsPosting next (finish gone next b p code found).orders
+finish_posts : (gone : Bool) (next : ℕ) (b : KeptEndpoint) (p code : ℕ) (found : Reading) → IsPosting next (finish gone next b p code found).orders
 unfolding finish
 finish_posts gone next b p code found = by_test (needs_reset code (errand_of b.errand))
   where
-    after : Bench
+    after : KeptEndpoint
     after = record b { line = kept_after p code b.line }
 
     by_test : (t : Bool) → IsPosting next (if◌then◌else◌ {A = Handled} t (posts after errand.Reset next (reply.Finished found.kept.n) (kept_result gone code found.kept found.actual ∷ []))
-        (record { reply = reply.Finished found.kept.n; bench = after; orders = []; results = kept_result gone code found.kept found.actual ∷ [] })).orders
+        (record { reply = reply.Finished found.kept.n; endpoint = after; orders = []; results = kept_result gone code found.kept found.actual ∷ [] })).orders
     by_test true = refl
     by_test false = tt
 
-settle_posts : (ep next : ℕ) (b : Bench) (o : Errand) (ok : Bool) → IsPosting next (settle ep next b o ok).orders
-unfolding settle resume_bench
+settle_posts : (ep next : ℕ) (b : KeptEndpoint) (o : Errand) (ok : Bool) → IsPosting next (settle ep next b o ok).orders
+unfolding settle resume_kept
 settle_posts ep next b o ok = by_errand o ok
   where
-    resumed : (r : Reply) (line : List Kept) → IsPosting next (resume_bench next b r line).orders
+    resumed : (r : Reply) (line : List KeptTransfer) → IsPosting next (resume_kept next b r line).orders
     resumed r line = by_test (leads_kept (map kept_blanked line))
       where
         by_test : (t : Bool) → IsPosting next (if◌then◌else◌ {A = Handled} t (posts (record b { line = map kept_blanked line }) errand.Move next r (withdrawn_results line))
-            (record { reply = r; bench = record b { line = map kept_blanked line; errand = None; state = Running }; orders = []; results = withdrawn_results line })).orders
+            (record { reply = r; endpoint = record b { line = map kept_blanked line; errand = None; state = Running }; orders = []; results = withdrawn_results line })).orders
         by_test true = refl
         by_test false = tt
 
@@ -134,7 +136,7 @@ uncut_end (x ∷ xs) n code es a q = by_state x.state a.0 q (uncut_end xs n code
 -- the first event is at this endpoint, and this is what handling it does
 deliver_works : (setup : Setup) (w : World) (c : Core) (x : At Report) (xs : List (At Report)) (a : Handled) → IsFine setup → (s : Shows setup w c) → s.news ≡ x ∷ xs
     → Handles (packet_size_of setup x.dev x.ep) (deliver (packet_size_of setup x.dev x.ep) x.ep (c.gone x.dev) (w.endpoints x.dev x.ep) x.what.event) a (errands (at x.dev x.ep s.orders)) (events (at x.dev x.ep xs)) (at x.dev x.ep s.orders) (tellings (at x.dev x.ep xs))
-    → IsPosting c.posted a.orders → AllFew a.bench.line → (first : ℕ) → InRun first (under_way (map ring_event xs) c.orders) c.posted
+    → IsPosting c.posted a.orders → AllFew a.endpoint.line → (first : ℕ) → InRun first (under_way (map ring_event xs) c.orders) c.posted
     → StepsTo setup w Deliver (works x.name x.dev x.ep Deliver (handle_work a) c)
 deliver_works setup w c x xs a fine s is handles posting few first run =
     let dev : ℕ = x.dev in
@@ -165,8 +167,8 @@ deliver_works setup w c x xs a fine s is handles posting few first run =
       reply = handles.reply;
       results = handles.results;
       coherent = subst (λ l. IsCoherent d.endpoint (errands (at dev ep s.orders) ++ d.orders) (events (at dev ep l) ++ d.news)) (sym left) (coherent_deliver size ep (c.gone dev) e (errands (at dev ep s.orders)) v (events (at dev ep xs)) k.fit.coherent);
-      shows = subst (λ l. ShowsEnd size d.endpoint (errands (at dev ep s.orders) ++ d.orders) (events (at dev ep l) ++ d.news) a.bench (at dev ep s.orders ++ a.orders) (tellings (at dev ep l) ++ [])) (sym left)
-          (subst₂ (λ l t. ShowsEnd size d.endpoint (errands (at dev ep s.orders) ++ d.orders) l a.bench (at dev ep s.orders ++ a.orders) t)
+      shows = subst (λ l. ShowsEnd size d.endpoint (errands (at dev ep s.orders) ++ d.orders) (events (at dev ep l) ++ d.news) a.endpoint (at dev ep s.orders ++ a.orders) (tellings (at dev ep l) ++ [])) (sym left)
+          (subst₂ (λ l t. ShowsEnd size d.endpoint (errands (at dev ep s.orders) ++ d.orders) l a.endpoint (at dev ep s.orders ++ a.orders) t)
           (sym (ap (λ l. events (at dev ep xs) ++ l) none ∙ append-nil (events (at dev ep xs)))) (sym (append-nil (tellings (at dev ep xs)))) handles.shows);
       few = few;
       first = first;
@@ -175,7 +177,7 @@ deliver_works setup w c x xs a fine s is handles posting few first run =
     })
 
 -- the errand that has an order
-sent_there : (o : Option Sent) (x : Errand) → errand_of o ≡ Some x → (y : Sent) × (o ≡ Some y) × (y.errand ≡ x)
+sent_there : (o : Option SentErrand) (x : Errand) → errand_of o ≡ Some x → (y : SentErrand) × (o ≡ Some y) × (y.errand ≡ x)
 sent_there None x e = absurd cc
 sent_there (Some y) x e = (y, refl, same_Some y.errand x e)
 
@@ -194,8 +196,8 @@ deliver_event setup w c x xs fine s is = by_event x.what.event refl
     ep : ℕ
     ep = x.ep
 
-    b : Bench
-    b = c.benches dev ep
+    b : KeptEndpoint
+    b = c.endpoints dev ep
 
     e : Endpoint
     e = w.endpoints dev ep

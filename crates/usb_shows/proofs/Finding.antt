@@ -10,17 +10,18 @@ use Rattle.usb_model.specs.declared.news.Event.{Event}
 use Rattle.usb_model.specs.Endpoint.{first_waiting, in_progress, is_blank, is_blank_state, is_transfer, is_waiting, is_waiting_state, past_blanks, past_number}
 use Rattle.usb_model.specs.Coherence.{ServedFirst, event_by, first_by, served_events}
 use Rattle.usb_lemmas.proofs.Lists.Pieces.{same_name}
-use Rattle.usb_shows.specs.Stands.{stand, total}
-use Rattle.usb_shows.specs.Benches.{AllKept, FrontKnown, InRow, IsLive, Kept, count, first_place, front, known_by, pause_told, telling_of, told_by, told_of}
-use Rattle.usb_shows.specs.Handling.{covers, find_at, past_at, past_kept_blanks}
+use Rattle.usb_kept.specs.Stands.{stand, total}
+use Rattle.usb_shows.specs.Showing.{AllKept, FrontKnown, InRow, IsLive, count, front, known_by, pause_told, telling_of, told_by, told_of}
+use Rattle.usb_kept.specs.Kept.{KeptTransfer, first_place}
+use Rattle.usb_kept.specs.Handling.{covers, find_at, past_at, past_kept_blanks}
 use Rattle.usb_shows.proofs.Standing.{Stands, stands}
 
 -- the pointer of an event
-abbrev pub pointer : ℕ → Item → Kept → ℕ
+abbrev pub pointer : ℕ → Item → KeptTransfer → ℕ
 pointer size x y = y.place + (stand y.lengths (count size x)).index
 
 -- part of a line, with the same transfers waiting
-pub record Less (size : ℕ) (xs : List Item) (ys : List Kept) (end : ℕ) (xs' : List Item) (ys' : List Kept) : Type 0 where
+pub record Less (size : ℕ) (xs : List Item) (ys : List KeptTransfer) (end : ℕ) (xs' : List Item) (ys' : List KeptTransfer) : Type 0 where
   pub kept : AllKept size xs' ys'
   pub row : InRow ys' end
   pub front : front size xs ys end ≡ front size xs' ys' end
@@ -29,9 +30,9 @@ pub record Less (size : ℕ) (xs : List Item) (ys : List Kept) (end : ℕ) (xs' 
   pub first : first_waiting xs ≡ first_waiting xs'
 
 -- the first served item of a line, with what the core keeps of it; p: where its event points
-pub record Found (size : ℕ) (xs : List Item) (ys : List Kept) (end n code : ℕ) : Type 0 where
+pub record Found (size : ℕ) (xs : List Item) (ys : List KeptTransfer) (end n code : ℕ) : Type 0 where
   pub x : Item
-  pub y : Kept
+  pub y : KeptTransfer
   pub p : ℕ
   pub at : p ≡ pointer size x y
   pub state : x.state ≡ Served code
@@ -45,11 +46,11 @@ pub record Found (size : ℕ) (xs : List Item) (ys : List Kept) (end n code : �
   pub low : first_place ys end ≤ p
 
 -- nothing leaves
-less_same : (size : ℕ) (xs : List Item) (ys : List Kept) (end : ℕ) → AllKept size xs ys → InRow ys end → Less size xs ys end xs ys
+less_same : (size : ℕ) (xs : List Item) (ys : List KeptTransfer) (end : ℕ) → AllKept size xs ys → InRow ys end → Less size xs ys end xs ys
 less_same size xs ys end k row = record { kept = k; row = row; front = refl; pause = refl; known = λ f. f; first = refl }
 
 -- one that doesn't wait leaves first
-less_one : (size : ℕ) (x : Item) (y : Kept) (xs : List Item) (ys : List Kept) (end : ℕ) {xs' : List Item} {ys' : List Kept} → is_waiting x ≡ false → ((P Q : Type 0) → known_by x.state P Q ≡ Q)
+less_one : (size : ℕ) (x : Item) (y : KeptTransfer) (xs : List Item) (ys : List KeptTransfer) (end : ℕ) {xs' : List Item} {ys' : List KeptTransfer} → is_waiting x ≡ false → ((P Q : Type 0) → known_by x.state P Q ≡ Q)
     → Less size xs ys end xs' ys' → Less size (x ∷ xs) (y ∷ ys) end xs' ys'
 unfolding front pause_told first_waiting
 less_one size x y xs ys end still same l = record {
@@ -62,7 +63,7 @@ less_one size x y xs ys end still same l = record {
 }
 
 -- the blanks in front leave
-pub blanks_leave : (size : ℕ) (xs : List Item) (ys : List Kept) (end : ℕ) → AllKept size xs ys → InRow ys end
+pub blanks_leave : (size : ℕ) (xs : List Item) (ys : List KeptTransfer) (end : ℕ) → AllKept size xs ys → InRow ys end
     → Less size xs ys end (past_blanks xs) (past_kept_blanks ys) × (told_of size (past_blanks xs) (past_kept_blanks ys) ≡ told_of size xs ys)
 unfolding past_blanks past_kept_blanks told_of
 blanks_leave size [] [] end k row = (less_same size [] [] end tt tt, refl)
@@ -99,10 +100,10 @@ and_false true = refl
 and_false false = refl
 
 -- a place among its TRBs, and one behind them
-pub covers_here : (p : ℕ) (y : Kept) → y.place ≤ p → p < y.place + length y.lengths → covers p y ≡ true
+pub covers_here : (p : ℕ) (y : KeptTransfer) → y.place ≤ p → p < y.place + length y.lengths → covers p y ≡ true
 covers_here p y low high = rw (lt-ltb p (y.place + length y.lengths) high, le-leb y.place p low) refl
 
-pub covers_past : (p : ℕ) (y : Kept) → y.place + length y.lengths ≤ p → covers p y ≡ false
+pub covers_past : (p : ℕ) (y : KeptTransfer) → y.place + length y.lengths ≤ p → covers p y ≡ false
 covers_past p y past = rw (le-ltb p (y.place + length y.lengths) past) (and_false (nat_le y.place p))
 
 -- an item stands somewhere in its TRBs
@@ -111,7 +112,7 @@ stands_some [] c some le = absurd (omega (arith, some))
 stands_some (l ∷ ls) c some le = stands l ls c le
 
 -- its events point at it
-pub points : (size : ℕ) (x : Item) (y : Kept) → 0 < length y.lengths → IsLive size x y → covers (pointer size x y) y ≡ true
+pub points : (size : ℕ) (x : Item) (y : KeptTransfer) → 0 < length y.lengths → IsLive size x y → covers (pointer size x y) y ≡ true
 points size x y some live =
     let s = stands_some y.lengths (count size x) some live.fits in
     covers_here (pointer size x y) y (omega arith) (omega (arith, s.inside))
@@ -123,7 +124,7 @@ not_it : (n : ℕ) (x : Item) → x.state ≡ Blank → is_transfer n x ≡ fals
 not_it n x st = rw st (and_false (x.n == n))
 
 -- the first event is that of an item which its pointer finds
-pub finds : (size : ℕ) (xs : List Item) (ys : List Kept) (end n code : ℕ) (es : List Event) → AllKept size xs ys → InRow ys end → ServedFirst xs → served_events xs ≡ Finished n code ∷ es → Found size xs ys end n code
+pub finds : (size : ℕ) (xs : List Item) (ys : List KeptTransfer) (end n code : ℕ) (es : List Event) → AllKept size xs ys → InRow ys end → ServedFirst xs → served_events xs ≡ Finished n code ∷ es → Found size xs ys end n code
 unfolding served_events in_progress past_number find_at past_at told_of
 finds size [] ys end n code es k row f e = absurd cc
 finds size (x ∷ xs) [] end n code es k row f e = absurd k

@@ -18,9 +18,11 @@ use Rattle.usb_model.specs.Endpoint.Deliver.{deliver, finished_result, line_afte
 use Rattle.usb_model.specs.Endpoint.{first_waiting, in_progress, past_blanks, past_number, result_of}
 use Rattle.usb_model.specs.Endpoint.Status.{halts}
 use Rattle.usb_model.specs.Coherence.{IsCoherent, served_events}
-use Rattle.usb_shows.specs.Stands.{length_at, read_off, residual, stand}
-use Rattle.usb_shows.specs.Benches.{Bench, IsLive, Kept, Sent, ShowsEnd, Telling, Transfer, Completion, code_of, index_of, count, FirstPaused, is_stale, orders_sent, pause_told, tail_told, telling_of, told_of}
-use Rattle.usb_shows.specs.Handling.{Handled, Handles, Reading, finish, find_at, kept_after, kept_result, past_at, past_kept_blanks, posts, read_at, reading}
+use Rattle.usb_kept.specs.Stands.{length_at, read_off, residual, stand}
+use Rattle.usb_kept.specs.Kept.{KeptEndpoint, KeptTransfer, SentErrand, Telling, Transfer, Completion, code_of, index_of}
+use Rattle.usb_shows.specs.Showing.{IsLive, ShowsEnd, count, FirstPaused, is_stale, orders_sent, pause_told, tail_told, telling_of, told_of}
+use Rattle.usb_kept.specs.Handling.{Handled, Reading, finish, find_at, kept_after, kept_result, past_at, past_kept_blanks, posts, read_at, reading}
+use Rattle.usb_shows.specs.Keeping.{Handles}
 use Rattle.usb_shows.proofs.Finding.{Found, Less, blanks_leave, finds, pointer, stands_some}
 use Rattle.usb_account.proofs.Coherence.Delivers.{past_told}
 use Rattle.usb_lemmas.proofs.Work.Phases.{no_end, free, halted_if}
@@ -53,7 +55,7 @@ stale_halted Running er os e f = cc
 stale_halted Stopped er os e f = cc
 
 -- what is told behind reads only where the first waiting transfer stands
-pub tail_same : (size : ℕ) (xs xs' : List Item) (ys ys' : List Kept) (sent : Option Sent) (tail : List Event) → pause_told size xs ys ≡ pause_told size xs' ys' → tail_told size xs ys sent tail ≡ tail_told size xs' ys' sent tail
+pub tail_same : (size : ℕ) (xs xs' : List Item) (ys ys' : List KeptTransfer) (sent : Option SentErrand) (tail : List Event) → pause_told size xs ys ≡ pause_told size xs' ys' → tail_told size xs ys sent tail ≡ tail_told size xs' ys' sent tail
 tail_same size xs xs' ys ys' sent [] e = refl
 tail_same size xs xs' ys ys' sent (Finished n code ∷ es) e = tail_same size xs xs' ys ys' sent es e
 tail_same size xs xs' ys ys' sent (Paused n ∷ es) e = ap₂ (λ a l. a ++ l) e (tail_same size xs xs' ys ys' sent es e)
@@ -66,7 +68,7 @@ paused_same xs xs' (Paused n ∷ es) e p = ((p.0.0, sym e ∙ p.0.1, p.0.2), pau
 paused_same xs xs' (Settled errand ok ∷ es) e p = paused_same xs xs' es e p
 
 -- the reading of an event that points at where a transfer stands
-pub reads_at : (size : ℕ) (ys : List Kept) (x : Item) (y : Kept) (p : ℕ) → IsLive size x y → 0 < length y.lengths → p ≡ pointer size x y → find_at p ys ≡ Some y
+pub reads_at : (size : ℕ) (ys : List KeptTransfer) (x : Item) (y : KeptTransfer) (p : ℕ) → IsLive size x y → 0 < length y.lengths → p ≡ pointer size x y → find_at p ys ≡ Some y
     → reading ys p (residual y.lengths (count size x)) ≡ Some (record { kept = y; actual = count size x })
 reads_at size ys x y p live some is found =
     let s = stands_some y.lengths (count size x) some live.fits in
@@ -77,22 +79,22 @@ reads_at size ys x y p live some is found =
     ap (read_at p (residual y.lengths (count size x))) found ∙ rw (at, fine, back) refl
 
 -- its result, as the core makes it, is the definitions'
-pub same_result : (size : ℕ) (gone : Bool) (code : ℕ) (x : Item) (y : Kept) → IsLive size x y → kept_result gone code y (count size x) ≡ result_of size gone code x
+pub same_result : (size : ℕ) (gone : Bool) (code : ℕ) (x : Item) (y : KeptTransfer) → IsLive size x y → kept_result gone code y (count size x) ≡ result_of size gone code x
 same_result size gone code x y live = rw (live.n, live.request, live.round, live.ask, live.bytes) refl
 
 -- what is left of the line, and is told of it, once the end is handled
-abbrev Left : ℕ → Endpoint → Bench → ℕ → ℕ → ℕ → Type 0
+abbrev Left : ℕ → Endpoint → KeptEndpoint → ℕ → ℕ → ℕ → Type 0
 Left size e b n code p =
     Less size e.line b.line b.end (line_after n code e.line) (kept_after p code b.line)
     × (told_of size (line_after n code e.line) (kept_after p code b.line) ≡ told_of size (past_number n e.line) (past_at p b.line))
 
-left_of : (size : ℕ) (e : Endpoint) (b : Bench) (n code p : ℕ) → Less size e.line b.line b.end (past_number n e.line) (past_at p b.line) → Left size e b n code p
+left_of : (size : ℕ) (e : Endpoint) (b : KeptEndpoint) (n code p : ℕ) → Less size e.line b.line b.end (past_number n e.line) (past_at p b.line) → Left size e b n code p
 left_of size e b n code p l = by_test (halts code)
   where
     xs : List Item
     xs = past_number n e.line
 
-    ys : List Kept
+    ys : List KeptTransfer
     ys = past_at p b.line
 
     by_test : (t : Bool) → (Less size e.line b.line b.end (if t then xs else past_blanks xs) (if t then ys else past_kept_blanks ys) × (told_of size (if t then xs else past_blanks xs) (if t then ys else past_kept_blanks ys) ≡ told_of size xs ys))
@@ -107,7 +109,7 @@ no_errand None e = refl
 no_errand (Some x) e = absurd cc
 
 -- the end is handled, with or without an errand that begins
-finish_handles : (size ep : ℕ) (gone : Bool) (next : ℕ) (e : Endpoint) (os : List Errand) (ns : List Event) (b : Bench) (sent : List Sent) (t : Telling) (told : List Telling) (n code : ℕ)
+finish_handles : (size ep : ℕ) (gone : Bool) (next : ℕ) (e : Endpoint) (os : List Errand) (ns : List Event) (b : KeptEndpoint) (sent : List SentErrand) (t : Telling) (told : List Telling) (n code : ℕ)
     → IsCoherent e os (Finished n code ∷ ns) → (s : ShowsEnd size e os (Finished n code ∷ ns) b sent (t ∷ told)) → FirstEnd e.line s.tail ns n code → (f : Found size e.line b.line b.end n code)
     → told ≡ told_of size (past_number n e.line) (past_at f.p b.line) ++ tail_told size e.line b.line b.errand s.tail
     → Handles size (deliver size ep gone e (Finished n code)) (finish gone next b f.p code (record { kept = f.y; actual = count size f.x })) os ns sent told
@@ -134,7 +136,7 @@ finish_handles size ep gone next e os ns b sent t told n code c s fe f more =
     kept_halted = posts (record b { line = kept_after f.p code b.line }) errand.Reset next (reply.Finished f.y.n) made
 
     kept_on : Handled
-    kept_on = record { reply = reply.Finished f.y.n; bench = record b { line = kept_after f.p code b.line }; orders = []; results = made }
+    kept_on = record { reply = reply.Finished f.y.n; endpoint = record b { line = kept_after f.p code b.line }; orders = []; results = made }
 
     left : Left size e b n code f.p
     left = left_of size e b n code f.p f.less
@@ -205,7 +207,7 @@ finish_handles size ep gone next e os ns b sent t told n code c s fe f more =
         }
 
 -- the conclusion: the event's reading, and what handling it leaves
-pub record FinishedShows (size ep : ℕ) (gone : Bool) (next : ℕ) (e : Endpoint) (os : List Errand) (ns : List Event) (b : Bench) (sent : List Sent) (t : Telling) (told : List Telling) (n code : ℕ) : Type 0 where
+pub record FinishedShows (size ep : ℕ) (gone : Bool) (next : ℕ) (e : Endpoint) (os : List Errand) (ns : List Event) (b : KeptEndpoint) (sent : List SentErrand) (t : Telling) (told : List Telling) (n code : ℕ) : Type 0 where
   pub p : ℕ
   pub r : ℕ
   pub found : Reading
@@ -213,7 +215,7 @@ pub record FinishedShows (size ep : ℕ) (gone : Bool) (next : ℕ) (e : Endpoin
   pub read : reading b.line p r ≡ Some found
   pub handles : Handles size (deliver size ep gone e (Finished n code)) (finish gone next b p code found) os ns sent told
 
-pub finished_shows : (size ep : ℕ) (gone : Bool) (next : ℕ) (e : Endpoint) (os : List Errand) (ns : List Event) (b : Bench) (sent : List Sent) (t : Telling) (told : List Telling) (n code : ℕ)
+pub finished_shows : (size ep : ℕ) (gone : Bool) (next : ℕ) (e : Endpoint) (os : List Errand) (ns : List Event) (b : KeptEndpoint) (sent : List SentErrand) (t : Telling) (told : List Telling) (n code : ℕ)
     → IsCoherent e os (Finished n code ∷ ns) → ShowsEnd size e os (Finished n code ∷ ns) b sent (t ∷ told) → FinishedShows size ep gone next e os ns b sent t told n code
 finished_shows size ep gone next e os ns b sent t told n code c s =
     let fe = first_end e os n code ns s.tail c s.news in

@@ -13,14 +13,15 @@ use Rattle.usb_model.specs.declared.request.Request.{Request}
 use Rattle.usb_model.specs.Endpoint.Packets.{count_of, open_with}
 use Rattle.usb_model.specs.Requests.{adds_zero_packet, length_of}
 use Rattle.usb_lemmas.proofs.Shares.OpenShares.{outcome_nothing}
-use Rattle.usb_shows.specs.Stands.{full_trbs, lengths_of, stand}
-use Rattle.usb_shows.specs.Benches.{AllKept, AllNew, FrontKnown, pause_told, InRow, IsKept, IsLive, Kept, NewBehind, count, first_place, front, front_of, is_extra, trbs_of, known_by, new_by, Telling, telling_of, told_by, told_of}
-use Rattle.usb_shows.specs.Handling.{find_at, past_at, past_kept_blanks}
-use Rattle.usb_shows.specs.Serving.{put_at}
+use Rattle.usb_kept.specs.Stands.{full_trbs, lengths_of, stand}
+use Rattle.usb_shows.specs.Showing.{AllKept, AllNew, FrontKnown, pause_told, InRow, IsKept, IsLive, NewBehind, count, front, front_of, known_by, new_by, telling_of, told_by, told_of}
+use Rattle.usb_kept.specs.Kept.{KeptTransfer, first_place, is_extra, trbs_of, Telling}
+use Rattle.usb_kept.specs.Handling.{find_at, past_at, past_kept_blanks}
+use Rattle.usb_kept.specs.Serving.{put_at}
 use Rattle.usb_shows.proofs.Finding.{covers_past, pointer, points}
 
 -- nothing is told of a line where nothing was served
-pub told_none : (size : ℕ) (xs : List Item) (ys : List Kept) → served_events xs ≡ [] → told_of size xs ys ≡ []
+pub told_none : (size : ℕ) (xs : List Item) (ys : List KeptTransfer) → served_events xs ≡ [] → told_of size xs ys ≡ []
 unfolding served_events told_of
 told_none size [] ys e = refl
 told_none size (x ∷ xs) [] e = refl
@@ -53,7 +54,7 @@ starts size request = by_body request.body
         by_length (suc n) e = omega arith
 
 -- past blanks, the controller stands at the first of the waiting transfers, where these took nothing
-pub front_new : (size : ℕ) (xs : List Item) (ys : List Kept) (end : ℕ) → AllKept size xs ys → served_events xs ≡ [] → AllNew xs → front size xs ys end ≡ record { place = first_place (past_kept_blanks ys) end; within = 0 }
+pub front_new : (size : ℕ) (xs : List Item) (ys : List KeptTransfer) (end : ℕ) → AllKept size xs ys → served_events xs ≡ [] → AllNew xs → front size xs ys end ≡ record { place = first_place (past_kept_blanks ys) end; within = 0 }
 unfolding served_events front past_kept_blanks
 front_new size [] [] end k none new = refl
 front_new size [] (y ∷ ys) end k none new = absurd k
@@ -76,7 +77,7 @@ front_new size (x ∷ xs) (y ∷ ys) end k none new = by_state x.state refl none
         rw (waits, gone) (rest none new)
 
 -- another transfer in the place of the one that stood there
-pub record Puts (size : ℕ) (xs : List Item) (ys : List Kept) (end p : ℕ) (x : Item) (y : Kept) (x' : Item) (y' : Kept) : Type 0 where
+pub record Puts (size : ℕ) (xs : List Item) (ys : List KeptTransfer) (end p : ℕ) (x : Item) (y : KeptTransfer) (x' : Item) (y' : KeptTransfer) : Type 0 where
   pub kept : AllKept size (with_first x' xs) (put_at p y' ys)
   pub row : InRow (put_at p y' ys) end
   pub first : first_place (put_at p y' ys) end ≡ first_place ys end
@@ -86,8 +87,8 @@ pub record Puts (size : ℕ) (xs : List Item) (ys : List Kept) (end p : ℕ) (x 
   pub served : (code : ℕ) → x'.state ≡ Served code → told_of size (with_first x' xs) (put_at p y' ys) ≡ told_of size xs ys ++ telling_of size x' y' code ∷ []
 
 -- the first waiting transfer, as it is kept
-pub record Fronted (size : ℕ) (xs : List Item) (ys : List Kept) (end : ℕ) (x : Item) : Type 0 where
-  pub y : Kept
+pub record Fronted (size : ℕ) (xs : List Item) (ys : List KeptTransfer) (end : ℕ) (x : Item) : Type 0 where
+  pub y : KeptTransfer
   pub p : ℕ
   pub at : p ≡ pointer size x y
   pub waiting : x.state ≡ Waiting
@@ -99,9 +100,9 @@ pub record Fronted (size : ℕ) (xs : List Item) (ys : List Kept) (end : ℕ) (x
   pub paused : pause_told size xs ys ≡ telling_of size x y 26 ∷ []
   pub known : y.moved ≡ count size x → FrontKnown size xs ys
   pub low : first_place ys end ≤ p
-  pub puts : (x' : Item) (y' : Kept) → IsKept size x' y' → y'.place ≡ y.place → y'.lengths ≡ y.lengths → Puts size xs ys end p x y x' y'
+  pub puts : (x' : Item) (y' : KeptTransfer) → IsKept size x' y' → y'.place ≡ y.place → y'.lengths ≡ y.lengths → Puts size xs ys end p x y x' y'
 
-pub fronts : (size : ℕ) (xs : List Item) (ys : List Kept) (end : ℕ) (x : Item) → AllKept size xs ys → InRow ys end → ServedFirst xs → first_waiting xs ≡ Some x → Fronted size xs ys end x
+pub fronts : (size : ℕ) (xs : List Item) (ys : List KeptTransfer) (end : ℕ) (x : Item) → AllKept size xs ys → InRow ys end → ServedFirst xs → first_waiting xs ≡ Some x → Fronted size xs ys end x
 unfolding first_waiting served_events front told_of find_at past_at put_at with_first pause_told
 fronts size [] ys end x k row f e = absurd cc
 fronts size (z ∷ xs) [] end x k row f e = absurd k
@@ -189,7 +190,7 @@ fronts size (z ∷ xs) (y ∷ ys) end x k row f e = by_state z.state refl f e (f
     by_state Blank st f e rest = later (ap is_waiting_state st) (rest f) e (λ ts. ([], λ us. ap (λ s. told_by size z y s us) st)) (λ P Q. ap (λ s. known_by s P Q) st)
 
 -- where nothing waits nothing need be known
-pub known_none : (size : ℕ) (xs : List Item) (ys : List Kept) → first_waiting xs ≡ None → FrontKnown size xs ys
+pub known_none : (size : ℕ) (xs : List Item) (ys : List KeptTransfer) → first_waiting xs ≡ None → FrontKnown size xs ys
 unfolding first_waiting
 known_none size [] ys e = tt
 known_none size (x ∷ xs) [] e = tt
@@ -201,7 +202,7 @@ known_none size (x ∷ xs) (y ∷ ys) e = by_state x.state e (known_none size xs
     by_state Blank e rest = rest e
 
 -- and of transfers that took nothing it is known
-pub known_new : (size : ℕ) (xs : List Item) (ys : List Kept) → AllKept size xs ys → AllNew xs → FrontKnown size xs ys
+pub known_new : (size : ℕ) (xs : List Item) (ys : List KeptTransfer) → AllKept size xs ys → AllNew xs → FrontKnown size xs ys
 known_new size [] ys k new = tt
 known_new size (x ∷ xs) [] k new = tt
 known_new size (x ∷ xs) (y ∷ ys) k new = by_state x.state refl new (known_new size xs ys k.1)

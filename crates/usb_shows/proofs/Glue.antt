@@ -25,12 +25,14 @@ use Rattle.usb_lemmas.proofs.Work.StepMoves.{plain_serve}
 use Rattle.usb_lemmas.proofs.Lists.Pieces.{same_name}
 use Rattle.usb_account.proofs.Coherence.Commands.{coherent_command}
 use Rattle.usb_account.proofs.Coherence.Serves.{coherent_serve}
-use Rattle.usb_shows.specs.Benches.{Bench, Completion, Kept, Sent, ShowsEnd, code_of}
-use Rattle.usb_shows.specs.Commanding.{Carried, Carries, carry, pause_at}
-use Rattle.usb_shows.specs.Handling.{find_at}
+use Rattle.usb_kept.specs.Kept.{KeptEndpoint, Completion, KeptTransfer, SentErrand, code_of}
+use Rattle.usb_shows.specs.Showing.{ShowsEnd}
+use Rattle.usb_kept.specs.Commanding.{Carried, carry, pause_at}
+use Rattle.usb_shows.specs.Keeping.{Carries, Serves}
+use Rattle.usb_kept.specs.Handling.{find_at}
 use Rattle.usb_shows.specs.Lively.{IsFine, goes}
-use Rattle.usb_shows.specs.Serving as serving
-use Rattle.usb_shows.specs.Serving.{walk, Answered, Packet, Serves, answered_by, answered_gone, packet_now, sent_before, serve_at, serve_bench}
+use Rattle.usb_kept.specs.Serving as serving
+use Rattle.usb_kept.specs.Serving.{walk, Answered, Packet, answered_by, answered_gone, packet_now, sent_before, serve_at, serve_kept}
 use Rattle.usb_shows.specs.Shows.{AllHeld, At, Completes, Core, InRun, RingEvent, RingOrder, Shows, at, completed, errands, event_at, events, here, order_of, ring_order, tellings, under_way}
 use Rattle.usb_shows.specs.Stepping.{StepsTo, answer_work, carry_work, command_core, command_first, command_held, idle, serve_core, serve_held}
 use Rattle.usb_shows.proofs.Commands.{command_shows}
@@ -70,15 +72,15 @@ run_more first next events more orders none r =
     (sym (ap₂ (λ x y. x ++ map (λ (o : RingOrder). o.place) y) (flat_map-append completed events more ∙ (ap (λ l. flat_map completed events ++ l) none ∙ append-nil (flat_map completed events))) (append-nil orders))) r
 
 -- an answer ends no order
-answer_ends_none : (size dev ep : ℕ) (gone : Bool) (b : Bench) → flat_map completed (map (event_at dev ep) (serve_bench size gone b).told) ≡ []
-unfolding serve_bench serve_at answered_by answered_gone
+answer_ends_none : (size dev ep : ℕ) (gone : Bool) (b : KeptEndpoint) → flat_map completed (map (event_at dev ep) (serve_kept size gone b).told) ≡ []
+unfolding serve_kept serve_at answered_by answered_gone
 answer_ends_none size dev ep gone b = by_state gone b.state (find_at b.dequeue b.line)
   where
-    by_code : (y : Kept) (k : Packet) (o : Option ℕ) → flat_map completed (map (event_at dev ep) (answered_by b y k o).told) ≡ []
+    by_code : (y : KeptTransfer) (k : Packet) (o : Option ℕ) → flat_map completed (map (event_at dev ep) (answered_by b y k o).told) ≡ []
     by_code y k None = refl
     by_code y k (Some code) = refl
 
-    by_state : (g : Bool) (s : EndpointState) (o : Option Kept) → flat_map completed (map (event_at dev ep) (serve_at size g b s o).told) ≡ []
+    by_state : (g : Bool) (s : EndpointState) (o : Option KeptTransfer) → flat_map completed (map (event_at dev ep) (serve_at size g b s o).told) ≡ []
     by_state true Running (Some y) = refl
     by_state false Running (Some y) = by_code y (packet_now size b y) (packet_now size b y).code
     by_state true Running None = refl
@@ -97,10 +99,10 @@ serve_held_steps setup w c fine s dev ep h holds =
     let size : ℕ = packet_size_of setup dev ep in
     let k : IsKnown setup w h dev ep (errands (at dev ep s.orders)) (events (at dev ep s.news)) = known setup w c s fine h dev ep holds in
     let world_of = s.endpoints h dev ep holds in
-    let served : Serves size (serve size (c.gone dev) e) (serve_bench size (c.gone dev) (c.benches dev ep)) (errands (at dev ep s.orders)) (events (at dev ep s.news)) (at dev ep s.orders) (tellings (at dev ep s.news)) =
-    serve_shows size (c.gone dev) e _ _ (c.benches dev ep) _ _ k.fit.coherent world_of k.lively.orderly.behind
-    (packet_told size (is_in ep) e (c.benches dev ep) k.size k.lively.orderly.opens k.lively.orderly.stalls world_of.device_halted (λ x first. first_each (goes (is_in ep)) e.line x k.lively.bodies first) k.lively.kinds) in
-    work_shows setup w c s h dev ep (Serve dev ep) (c.names h) (serve size (c.gone dev) e) (answer_work (serve_bench size (c.gone dev) (c.benches dev ep)))
+    let served : Serves size (serve size (c.gone dev) e) (serve_kept size (c.gone dev) (c.endpoints dev ep)) (errands (at dev ep s.orders)) (events (at dev ep s.news)) (at dev ep s.orders) (tellings (at dev ep s.news)) =
+    serve_shows size (c.gone dev) e _ _ (c.endpoints dev ep) _ _ k.fit.coherent world_of k.lively.orderly.behind
+    (packet_told size (is_in ep) e (c.endpoints dev ep) k.size k.lively.orderly.opens k.lively.orderly.stalls world_of.device_halted (λ x first. first_each (goes (is_in ep)) e.line x k.lively.bodies first) k.lively.kinds) in
+    work_shows setup w c s h dev ep (Serve dev ep) (c.names h) (serve size (c.gone dev) e) (answer_work (serve_kept size (c.gone dev) (c.endpoints dev ep)))
     (record {
       turns = turn_works setup w h dev ep (Serve dev ep) (c.names h) (serve size (c.gone dev) e) holds
           (ap (serve_effect setup m dev ep) k.end ∙ ap₂ (λ x g. at_endpoint x dev ep (serve size g e)) (same_handle setup w c s h) (same_gone setup w c s h dev));
@@ -112,10 +114,10 @@ serve_held_steps setup w c fine s dev ep h holds =
       reply = served.reply;
       results = sym (plain_serve size (c.gone dev) e).1;
       coherent = coherent_serve size (c.gone dev) e _ _ k.fit.coherent;
-      shows = subst (λ l. ShowsEnd size (serve size (c.gone dev) e).endpoint (errands (at dev ep s.orders) ++ (serve size (c.gone dev) e).orders) (events (at dev ep s.news) ++ (serve size (c.gone dev) e).news) (serve_bench size (c.gone dev) (c.benches dev ep)).bench l (tellings (at dev ep s.news) ++ (serve_bench size (c.gone dev) (c.benches dev ep)).told)) (sym (append-nil (at dev ep s.orders))) served.shows;
-      few = serve_few size (c.gone dev) (c.benches dev ep) (s.few dev ep);
+      shows = subst (λ l. ShowsEnd size (serve size (c.gone dev) e).endpoint (errands (at dev ep s.orders) ++ (serve size (c.gone dev) e).orders) (events (at dev ep s.news) ++ (serve size (c.gone dev) e).news) (serve_kept size (c.gone dev) (c.endpoints dev ep)).endpoint l (tellings (at dev ep s.news) ++ (serve_kept size (c.gone dev) (c.endpoints dev ep)).told)) (sym (append-nil (at dev ep s.orders))) served.shows;
+      few = serve_few size (c.gone dev) (c.endpoints dev ep) (s.few dev ep);
       first = s.first;
-      in_run = run_more s.first c.posted c.events _ c.orders (answer_ends_none size dev ep (c.gone dev) (c.benches dev ep)) s.in_run;
+      in_run = run_more s.first c.posted c.events _ c.orders (answer_ends_none size dev ep (c.gone dev) (c.endpoints dev ep)) s.in_run;
     })
 
 -- Serve
@@ -134,11 +136,11 @@ record Completed (dev ep index : ℕ) (a : Carried) : Type 0 where
   none : flat_map completed pause ≡ []
   told : map (event_at dev ep) a.told ≡ pause ++ Completes dev index code ∷ []
 
-carry_tells : (dev ep index : ℕ) (b : Bench) (o : Errand) (s : EndpointState) → Completed dev ep index (carry index b o s)
+carry_tells : (dev ep index : ℕ) (b : KeptEndpoint) (o : Errand) (s : EndpointState) → Completed dev ep index (carry index b o s)
 unfolding carry
 carry_tells dev ep index b o s = by_order o s
   where
-    paused : (y : Option Kept) → flat_map completed (map (event_at dev ep) (pause_at b y)) ≡ []
+    paused : (y : Option KeptTransfer) → flat_map completed (map (event_at dev ep) (pause_at b y)) ≡ []
     paused None = refl
     paused (Some y) = by_test (sent_before b y == 0)
       where
@@ -181,7 +183,7 @@ command_effect_is setup h m dev ep o os e is here same =
     ap (command_effect setup m) is ∙ (ap (command_order setup m (record { ep = ep; errand = o })) here ∙ ap (λ d. at_endpoint m.handle d ep (command (packet_size_of setup d ep) ep e o e.state)) same)
 
 -- the first order
-command_held_steps : (setup : Setup) (w : World) (c : Core) (x : At Sent) (xs : List (At Sent)) → IsFine setup → (s : Shows setup w c) → s.orders ≡ x ∷ xs → StepsTo setup w Command (command_held c (ring_order x) (Some x.name))
+command_held_steps : (setup : Setup) (w : World) (c : Core) (x : At SentErrand) (xs : List (At SentErrand)) → IsFine setup → (s : Shows setup w c) → s.orders ≡ x ∷ xs → StepsTo setup w Command (command_held c (ring_order x) (Some x.name))
 unfolding command_held
 command_held_steps setup w c x xs fine s is =
     let dev : ℕ = x.dev in
@@ -191,7 +193,7 @@ command_held_steps setup w c x xs fine s is =
     let e : Endpoint = w.endpoints dev ep in
     let m : Machine = machine_of setup h w in
     let size : ℕ = packet_size_of setup dev ep in
-    let b : Bench = c.benches dev ep in
+    let b : KeptEndpoint = c.endpoints dev ep in
     let held = subst (AllHeld setup w.claims) is s.orders_held in
     let holds : holder setup w.claims dev ep ≡ Some h = held.0 in
     let here_it_is : here dev ep x ≡ true = ap₂ (λ p q. p && q) (same_name dev) (same_name ep) in
@@ -217,8 +219,8 @@ command_held_steps setup w c x xs fine s is =
       results = sym (command_results size ep e o e.state);
       coherent = subst (λ l. IsCoherent (command size ep e o e.state).endpoint (errands (at dev ep l) ++ (command size ep e o e.state).orders) (events (at dev ep s.news) ++ (command size ep e o e.state).news)) (sym left)
           (coherent_command size ep e o (errands (at dev ep xs)) (events (at dev ep s.news)) k.fit.coherent);
-      shows = subst (λ l. ShowsEnd size (command size ep e o e.state).endpoint (errands (at dev ep l) ++ (command size ep e o e.state).orders) (events (at dev ep s.news) ++ (command size ep e o e.state).news) (carry x.what.index b o b.state).bench (at dev ep l ++ []) (tellings (at dev ep s.news) ++ (carry x.what.index b o b.state).told)) (sym left)
-          (subst (λ l. ShowsEnd size (command size ep e o e.state).endpoint (errands (at dev ep xs) ++ (command size ep e o e.state).orders) (events (at dev ep s.news) ++ (command size ep e o e.state).news) (carry x.what.index b o b.state).bench l (tellings (at dev ep s.news) ++ (carry x.what.index b o b.state).told)) (sym (append-nil (at dev ep xs))) carried.shows);
+      shows = subst (λ l. ShowsEnd size (command size ep e o e.state).endpoint (errands (at dev ep l) ++ (command size ep e o e.state).orders) (events (at dev ep s.news) ++ (command size ep e o e.state).news) (carry x.what.index b o b.state).endpoint (at dev ep l ++ []) (tellings (at dev ep s.news) ++ (carry x.what.index b o b.state).told)) (sym left)
+          (subst (λ l. ShowsEnd size (command size ep e o e.state).endpoint (errands (at dev ep xs) ++ (command size ep e o e.state).orders) (events (at dev ep s.news) ++ (command size ep e o e.state).news) (carry x.what.index b o b.state).endpoint l (tellings (at dev ep s.news) ++ (carry x.what.index b o b.state).told)) (sym (append-nil (at dev ep xs))) carried.shows);
       few = carry_few x.what.index b o b.state (s.few dev ep);
       first = s.first;
       in_run = subst₂ (λ l m. InRun s.first (under_way (c.events ++ l) m) c.posted) (sym tells.told)
@@ -231,7 +233,7 @@ pub command_steps : (setup : Setup) (w : World) (c : Core) → IsFine setup → 
 unfolding command_core command_first command_held
 command_steps setup w c fine s = subst (λ l. StepsTo setup w Command (command_first setup c l)) (sym s.orders_kept) (by_orders s.orders refl)
   where
-    by_orders : (l : List (At Sent)) → s.orders ≡ l → StepsTo setup w Command (command_first setup c (map ring_order l))
+    by_orders : (l : List (At SentErrand)) → s.orders ≡ l → StepsTo setup w Command (command_first setup c (map ring_order l))
     by_orders [] none = idle_steps setup w c Command refl (ap first_name (s.orders_shown ∙ ap (map order_of) none)) s
     by_orders (x ∷ xs) is =
         let held = subst (AllHeld setup w.claims) is s.orders_held in

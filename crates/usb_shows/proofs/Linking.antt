@@ -21,7 +21,7 @@ use Rattle.usb_lemmas.proofs.Lists.Pieces.{same_name}
 use Rattle.std.proofs.lemmas.Option.{same_Some}
 use Rattle.usb_model.specs.Fitness.{IsFit, IsWell, errands_of, events_of, posts_of}
 use Rattle.usb_account.proofs.Machines.Well.{fit_at}
-use Rattle.usb_shows.specs.Benches.{Sent}
+use Rattle.usb_kept.specs.Kept.{SentErrand}
 use Rattle.usb_shows.specs.Lively.{IsFine, IsLively}
 use Rattle.usb_shows.specs.Shows.{AllHeld, At, Core, Report, Shows, at, errands, events, here}
 use Rattle.usb_shows.proofs.Lives.{IsSound, sound_at}
@@ -95,7 +95,7 @@ its_lists setup w c s fine h d e holds =
     let at_d : (a i : ℕ) → holder setup w.claims a i ≡ Some h → a ≡ d = λ a i q. same_Some a d (sym (has_device setup w h a i sound.well q) ∙ device) in
     let parts = machine_parts setup h w in (
       ap (errands_of e) (parts.1 ∙ ap (pieces_of h) s.orders_shown)
-          ∙ linked setup w.claims h d e (λ ep (a : Sent). record { ep = ep; errand = a.errand }) (λ (o : Order). o.ep) (λ (o : Order). o.errand) (λ (a : Sent). a.errand) (λ ep a. refl) (λ ep a. refl) holds at_d s.orders s.orders_held,
+          ∙ linked setup w.claims h d e (λ ep (a : SentErrand). record { ep = ep; errand = a.errand }) (λ (o : Order). o.ep) (λ (o : Order). o.errand) (λ (a : SentErrand). a.errand) (λ ep a. refl) (λ ep a. refl) holds at_d s.orders s.orders_held,
       ap (events_of e) (parts.2 ∙ ap (pieces_of h) s.news_shown)
           ∙ linked setup w.claims h d e (λ ep (a : Report). record { ep = ep; event = a.event }) (λ (o : News). o.ep) (λ (o : News). o.event) (λ (a : Report). a.event) (λ ep a. refl) (λ ep a. refl) holds at_d s.news s.news_held,
     )

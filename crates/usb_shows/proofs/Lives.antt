@@ -27,7 +27,7 @@ use Rattle.usb_model.specs.declared.result.TransferResult.{TransferResult}
 use Rattle.usb_model.specs.declared.step.Step.{Step}
 use Rattle.usb_model.specs.Machine.Calls.{asks, with_ask}
 use Rattle.usb_model.specs.Endpoint.Command.{command}
-use Rattle.usb_model.specs.Laws.Cut.{is_of_direction}
+use Rattle.usb_model.specs.Direction.{is_of_direction, IsBody}
 use Rattle.usb_model.specs.Endpoint.Deliver.{blanked, deliver, finished_result, is_withdrawn, leads_blank, line_after, needs_reset, orders_errand, resume, withdrawn}
 use Rattle.usb_model.specs.Endpoint.{first_waiting, fresh, is_waiting, in_progress, past_blanks, past_number, new_item, outcome_of}
 use Rattle.usb_model.specs.Machine.{Machine, device_of, at_endpoint, endpoint_at, is_gone, new_machine}
@@ -39,7 +39,6 @@ use Rattle.usb_model.specs.World.{World, machine_of, new_world, turn, world_from
 use Rattle.usb_model.specs.Coherence.{IsCoherent}
 use Rattle.usb_lemmas.proofs.Handles.Isolation.{IsEither, new_machine_of, turn_to}
 use Rattle.usb_lemmas.proofs.Work.Moves.{SetsNone}
-use Rattle.usb_model.specs.Direction.{IsBody}
 use Rattle.std.proofs.lemmas.Option.{same_Some}
 use Rattle.usb_account.proofs.Cut.Steps.{rest_sets}
 use Rattle.usb_account.proofs.Machines.Deeds.{IsDone, IsWork, asks_it, clears, commands, delivers, only_rests, serves, submits, works}
@@ -47,7 +46,7 @@ use Rattle.usb_model.specs.Fitness.{IsWell, errands_of, events_of}
 use Rattle.usb_account.proofs.Machines.Done.{is_done}
 use Rattle.usb_account.proofs.Machines.Idle.{at_device_of}
 use Rattle.usb_account.proofs.Machines.Well.{fit_at, first_news, first_order, well_kept, well_new}
-use Rattle.usb_shows.specs.Serving.{outcome_now}
+use Rattle.usb_shows.specs.Keeping.{outcome_now}
 use Rattle.usb_shows.specs.Lively.{IsFine, IsLively, goes}
 use Rattle.usb_shows.proofs.Orderly.Serves.{answer_goes, orderly_serve}
 use Rattle.usb_shows.proofs.Orderly.Lines.{each_blanks, each_first, each_map, each_number, each_push}

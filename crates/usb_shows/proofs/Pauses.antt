@@ -13,11 +13,13 @@ use Rattle.usb_model.specs.declared.reply.Reply.TheVariants as reply
 use Rattle.usb_model.specs.Endpoint.Deliver.{deliver}
 use Rattle.usb_model.specs.Endpoint.{first_waiting, is_blank_state, is_waiting, with_first}
 use Rattle.usb_model.specs.Coherence.{IsCoherent, IsPhase, ended, move_ran, move_waits, reset_ran, reset_waits, runs, served_events, stop_failed, stop_ran, stop_ran_paused, stop_waits, stop_waits_halted}
-use Rattle.usb_shows.specs.Stands.{residual}
-use Rattle.usb_shows.specs.Benches.{AllKept, Bench, FirstPaused, FrontKnown, Kept, Sent, ShowsEnd, Telling, Transfer, count, front, tail_told, telling_of, told_of}
-use Rattle.usb_shows.specs.Handling.{Handles, Reading, reading}
-use Rattle.usb_shows.specs.Serving.{put_at}
-use Rattle.usb_shows.specs.Settling.{pauses}
+use Rattle.usb_kept.specs.Stands.{residual}
+use Rattle.usb_shows.specs.Showing.{AllKept, FirstPaused, FrontKnown, ShowsEnd, count, front, tail_told, telling_of, told_of}
+use Rattle.usb_kept.specs.Kept.{KeptEndpoint, KeptTransfer, SentErrand, Telling, Transfer}
+use Rattle.usb_shows.specs.Keeping.{Handles}
+use Rattle.usb_kept.specs.Handling.{Reading, reading}
+use Rattle.usb_kept.specs.Serving.{put_at}
+use Rattle.usb_kept.specs.Settling.{pauses}
 use Rattle.usb_shows.proofs.Finished.{reads_at}
 use Rattle.usb_lemmas.proofs.Lists.Parts.{heads_same}
 use Rattle.usb_shows.proofs.Fronts.{fronts, told_none}
@@ -54,7 +56,7 @@ first_same x (y ∷ ys) e = by_test (is_waiting y) e (first_same x ys)
     by_test false e rest = ap (λ l. y ∷ l) (rest e)
 
 -- the conclusion: the event's reading, and what handling it leaves
-pub record PausedShows (size ep : ℕ) (gone : Bool) (e : Endpoint) (os : List Errand) (ns : List Event) (b : Bench) (sent : List Sent) (t : Telling) (told : List Telling) (n : ℕ) : Type 0 where
+pub record PausedShows (size ep : ℕ) (gone : Bool) (e : Endpoint) (os : List Errand) (ns : List Event) (b : KeptEndpoint) (sent : List SentErrand) (t : Telling) (told : List Telling) (n : ℕ) : Type 0 where
   pub p : ℕ
   pub r : ℕ
   pub found : Reading
@@ -62,7 +64,7 @@ pub record PausedShows (size ep : ℕ) (gone : Bool) (e : Endpoint) (os : List E
   pub read : reading b.line p r ≡ Some found
   pub handles : Handles size (deliver size ep gone e (Paused n)) (pauses b p found) os ns sent told
 
-pub paused_shows : (size ep : ℕ) (gone : Bool) (e : Endpoint) (os : List Errand) (ns : List Event) (b : Bench) (sent : List Sent) (t : Telling) (told : List Telling) (n : ℕ)
+pub paused_shows : (size ep : ℕ) (gone : Bool) (e : Endpoint) (os : List Errand) (ns : List Event) (b : KeptEndpoint) (sent : List SentErrand) (t : Telling) (told : List Telling) (n : ℕ)
     → IsCoherent e os (Paused n ∷ ns) → ShowsEnd size e os (Paused n ∷ ns) b sent (t ∷ told) → PausedShows size ep gone e os ns b sent t told n
 unfolding deliver
 paused_shows size ep gone e os ns b sent t told n c s =
@@ -74,7 +76,7 @@ paused_shows size ep gone e os ns b sent t told n c s =
     let behind : List Telling = tail_told size e.line b.line b.errand ns in
     let tells : t ∷ told ≡ telling_of size x f.y 26 ∷ behind = s.told_is ∙ (ap₂ (λ l m. l ++ tail_told size e.line b.line b.errand m) (told_none size e.line b.line none.0) none.1 ∙ ap (λ l. l ++ behind) f.paused) in
     let split = heads_same t (telling_of size x f.y 26) told behind tells in
-    let y' : Kept = record f.y { moved = count size x } in
+    let y' : KeptTransfer = record f.y { moved = count size x } in
     let l = f.live in
     let blank : f.y.blank ≡ is_blank_state x.state = f.blank ∙ ap is_blank_state (sym f.waiting) in
     let q = f.puts x y' (record { blank = blank; some = f.some; live = λ z. record { n = l.n; request = l.request; round = l.round; ask = l.ask; bytes = l.bytes; lengths = l.lengths; fits = l.fits; unmoved = λ m. m } }) refl refl in

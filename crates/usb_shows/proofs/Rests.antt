@@ -21,10 +21,10 @@ use Rattle.usb_model.specs.World.{Claims, World, all_ends_after, claims_after, h
 use Rattle.usb_lemmas.proofs.Handles.Isolation.{gone_stays, turn_blocked, turn_free}
 use Rattle.usb_lemmas.proofs.Lists.Pieces.{either_way, same_name}
 use Rattle.usb_account.proofs.Machines.Deeds.{IsIdle, IsRest, claims, claims_again, closes, opens, releases, resets, stays, stops, takes}
-use Rattle.usb_shows.specs.Benches.{AllFew, ShowsEnd}
+use Rattle.usb_shows.specs.Showing.{AllFew, ShowsEnd}
 use Rattle.usb_shows.specs.Lively.{IsFine}
 use Rattle.usb_shows.specs.Shows.{AllHeld, At, Core, Shows, at, errands, events, here, tellings}
-use Rattle.usb_shows.specs.Stepping.{bench_after, new_bench, rested, StepsTo}
+use Rattle.usb_shows.specs.Stepping.{kept_endpoint_after, new_kept_endpoint, rested, StepsTo}
 use Rattle.usb_shows.proofs.Linking.{all_sound, has_device, its_lists, machine_parts}
 use Rattle.usb_shows.proofs.Placing.{is_here}
 use Rattle.usb_shows.proofs.Renewed.{fresh_shows}
@@ -60,22 +60,22 @@ empty_if_none setup w c s d e none = (none_there setup w.claims d e s.orders s.o
 -- what a change leaves of an endpoint: all as it was; or, where nothing waits, no holder, or an endpoint made new
 abbrev Touch : (setup : Setup) (w : World) (c : Core) → Shows setup w c → ℕ → Change → ℕ → ℕ → Type 0
 Touch setup w c s h change d e =
-    ((holder setup (λ a i. claims_after h w.claims change a i) d e ≡ holder setup w.claims d e) × (all_ends_after setup h w.claims w.endpoints change d e ≡ w.endpoints d e) × (bench_after setup h c change d e ≡ c.benches d e))
-    ⊎ (Empty s d e × ((holder setup (λ a i. claims_after h w.claims change a i) d e ≡ None) ⊎ ((all_ends_after setup h w.claims w.endpoints change d e ≡ fresh setup d e) × (bench_after setup h c change d e ≡ new_bench (script_of setup d e)))))
+    ((holder setup (λ a i. claims_after h w.claims change a i) d e ≡ holder setup w.claims d e) × (all_ends_after setup h w.claims w.endpoints change d e ≡ w.endpoints d e) × (kept_endpoint_after setup h c change d e ≡ c.endpoints d e))
+    ⊎ (Empty s d e × ((holder setup (λ a i. claims_after h w.claims change a i) d e ≡ None) ⊎ ((all_ends_after setup h w.claims w.endpoints change d e ≡ fresh setup d e) × (kept_endpoint_after setup h c change d e ≡ new_kept_endpoint (script_of setup d e)))))
 
 -- interfaces are freed
 touch_frees : (setup : Setup) (w : World) (c : Core) (s : Shows setup w c) (h d e : ℕ) → (holder setup w.claims d e ≡ Some h → Empty s d e) → Touch setup w c s h Frees d e
 touch_frees setup w c s h d e idle = by_interface (interface_of setup d e) idle
   where
     by_interface : (o : Option ℕ) → (option_and_then (λ i. w.claims d i) o ≡ Some h → Empty s d e)
-        → ((option_and_then (λ i. claims_after h w.claims Frees d i) o ≡ option_and_then (λ i. w.claims d i) o) × (w.endpoints d e ≡ w.endpoints d e) × (c.benches d e ≡ c.benches d e))
-        ⊎ (Empty s d e × ((option_and_then (λ i. claims_after h w.claims Frees d i) o ≡ None) ⊎ ((w.endpoints d e ≡ fresh setup d e) × (c.benches d e ≡ new_bench (script_of setup d e)))))
+        → ((option_and_then (λ i. claims_after h w.claims Frees d i) o ≡ option_and_then (λ i. w.claims d i) o) × (w.endpoints d e ≡ w.endpoints d e) × (c.endpoints d e ≡ c.endpoints d e))
+        ⊎ (Empty s d e × ((option_and_then (λ i. claims_after h w.claims Frees d i) o ≡ None) ⊎ ((w.endpoints d e ≡ fresh setup d e) × (c.endpoints d e ≡ new_kept_endpoint (script_of setup d e)))))
     by_interface None q = inl (refl, refl, refl)
     by_interface (Some i) q = by_test (is_its h (w.claims d i)) refl
       where
         by_test : (b : Bool) → is_its h (w.claims d i) ≡ b
-            → (((if b then None else w.claims d i) ≡ w.claims d i) × (w.endpoints d e ≡ w.endpoints d e) × (c.benches d e ≡ c.benches d e))
-            ⊎ (Empty s d e × (((if b then None else w.claims d i) ≡ None) ⊎ ((w.endpoints d e ≡ fresh setup d e) × (c.benches d e ≡ new_bench (script_of setup d e)))))
+            → (((if b then None else w.claims d i) ≡ w.claims d i) × (w.endpoints d e ≡ w.endpoints d e) × (c.endpoints d e ≡ c.endpoints d e))
+            ⊎ (Empty s d e × (((if b then None else w.claims d i) ≡ None) ⊎ ((w.endpoints d e ≡ fresh setup d e) × (c.endpoints d e ≡ new_kept_endpoint (script_of setup d e)))))
         by_test true its = inr (q (is_its-some h (w.claims d i) its), inl refl)
         by_test false its = inl (refl, refl, refl)
 
@@ -84,14 +84,14 @@ touch_drops : (setup : Setup) (w : World) (c : Core) (s : Shows setup w c) (h de
 touch_drops setup w c s h dev k d e idle = by_interface (interface_of setup d e) idle
   where
     by_interface : (o : Option ℕ) → (option_and_then (λ i. w.claims d i) o ≡ Some h → ((dev == d) && option_map_or (λ i. i == k) o false) ≡ true → Empty s d e)
-        → ((option_and_then (λ i. claims_after h w.claims (Drops dev k) d i) o ≡ option_and_then (λ i. w.claims d i) o) × (w.endpoints d e ≡ w.endpoints d e) × (c.benches d e ≡ c.benches d e))
-        ⊎ (Empty s d e × ((option_and_then (λ i. claims_after h w.claims (Drops dev k) d i) o ≡ None) ⊎ ((w.endpoints d e ≡ fresh setup d e) × (c.benches d e ≡ new_bench (script_of setup d e)))))
+        → ((option_and_then (λ i. claims_after h w.claims (Drops dev k) d i) o ≡ option_and_then (λ i. w.claims d i) o) × (w.endpoints d e ≡ w.endpoints d e) × (c.endpoints d e ≡ c.endpoints d e))
+        ⊎ (Empty s d e × ((option_and_then (λ i. claims_after h w.claims (Drops dev k) d i) o ≡ None) ⊎ ((w.endpoints d e ≡ fresh setup d e) × (c.endpoints d e ≡ new_kept_endpoint (script_of setup d e)))))
     by_interface None q = inl (refl, refl, refl)
     by_interface (Some i) q = by_test (((dev == d) && (k == i)) && is_its h (w.claims d i)) refl
       where
         by_test : (b : Bool) → (((dev == d) && (k == i)) && is_its h (w.claims d i)) ≡ b
-            → (((if b then None else w.claims d i) ≡ w.claims d i) × (w.endpoints d e ≡ w.endpoints d e) × (c.benches d e ≡ c.benches d e))
-            ⊎ (Empty s d e × (((if b then None else w.claims d i) ≡ None) ⊎ ((w.endpoints d e ≡ fresh setup d e) × (c.benches d e ≡ new_bench (script_of setup d e)))))
+            → (((if b then None else w.claims d i) ≡ w.claims d i) × (w.endpoints d e ≡ w.endpoints d e) × (c.endpoints d e ≡ c.endpoints d e))
+            ⊎ (Empty s d e × (((if b then None else w.claims d i) ≡ None) ⊎ ((w.endpoints d e ≡ fresh setup d e) × (c.endpoints d e ≡ new_kept_endpoint (script_of setup d e)))))
         by_test true both =
             let p = and_parts ((dev == d) && (k == i)) (is_its h (w.claims d i)) both in
             inr (q (is_its-some h (w.claims d i) p.1) (ap (λ t. (dev == d) && t) (either_way i k) ∙ p.0), inl refl)
@@ -104,10 +104,10 @@ touch_gains setup w c s h dev k d e free = by_interface (interface_of setup d e)
     by_interface : (o : Option ℕ) → (option_and_then (λ i. w.claims d i) o ≡ None → Empty s d e)
         → ((option_and_then (λ i. claims_after h w.claims (Gains dev k) d i) o ≡ option_and_then (λ i. w.claims d i) o)
         × ((if (dev == d) && option_map_or (λ i. i == k) o false then fresh setup d e else w.endpoints d e) ≡ w.endpoints d e)
-        × ((if (dev == d) && option_map_or (λ i. i == k) o false then new_bench (script_of setup d e) else c.benches d e) ≡ c.benches d e))
+        × ((if (dev == d) && option_map_or (λ i. i == k) o false then new_kept_endpoint (script_of setup d e) else c.endpoints d e) ≡ c.endpoints d e))
         ⊎ (Empty s d e × ((option_and_then (λ i. claims_after h w.claims (Gains dev k) d i) o ≡ None)
         ⊎ (((if (dev == d) && option_map_or (λ i. i == k) o false then fresh setup d e else w.endpoints d e) ≡ fresh setup d e)
-        × ((if (dev == d) && option_map_or (λ i. i == k) o false then new_bench (script_of setup d e) else c.benches d e) ≡ new_bench (script_of setup d e)))))
+        × ((if (dev == d) && option_map_or (λ i. i == k) o false then new_kept_endpoint (script_of setup d e) else c.endpoints d e) ≡ new_kept_endpoint (script_of setup d e)))))
     by_interface None q = let none : ((dev == d) && false) ≡ false = and_right (dev == d) false refl in inl (refl, rw none refl, rw none refl)
     by_interface (Some i) q = by_test ((dev == d) && (i == k)) refl
       where
@@ -115,8 +115,8 @@ touch_gains setup w c s h dev k d e free = by_interface (interface_of setup d e)
         turned = ap (λ t. (dev == d) && t) (either_way k i)
 
         by_test : (b : Bool) → ((dev == d) && (i == k)) ≡ b
-            → (((if (dev == d) && (k == i) then Some h else w.claims d i) ≡ w.claims d i) × ((if (dev == d) && (i == k) then fresh setup d e else w.endpoints d e) ≡ w.endpoints d e) × ((if (dev == d) && (i == k) then new_bench (script_of setup d e) else c.benches d e) ≡ c.benches d e))
-            ⊎ (Empty s d e × (((if (dev == d) && (k == i) then Some h else w.claims d i) ≡ None) ⊎ (((if (dev == d) && (i == k) then fresh setup d e else w.endpoints d e) ≡ fresh setup d e) × ((if (dev == d) && (i == k) then new_bench (script_of setup d e) else c.benches d e) ≡ new_bench (script_of setup d e)))))
+            → (((if (dev == d) && (k == i) then Some h else w.claims d i) ≡ w.claims d i) × ((if (dev == d) && (i == k) then fresh setup d e else w.endpoints d e) ≡ w.endpoints d e) × ((if (dev == d) && (i == k) then new_kept_endpoint (script_of setup d e) else c.endpoints d e) ≡ c.endpoints d e))
+            ⊎ (Empty s d e × (((if (dev == d) && (k == i) then Some h else w.claims d i) ≡ None) ⊎ (((if (dev == d) && (i == k) then fresh setup d e else w.endpoints d e) ≡ fresh setup d e) × ((if (dev == d) && (i == k) then new_kept_endpoint (script_of setup d e) else c.endpoints d e) ≡ new_kept_endpoint (script_of setup d e)))))
         by_test true is =
             let p = and_parts (dev == d) (i == k) is in
             inr (q (ap₂ (λ a b. w.claims a b) (sym (eqb-true dev d p.0)) (eqb-true i k p.1) ∙ free), inr (rw is refl, rw is refl))
@@ -127,8 +127,8 @@ touch_renews : (setup : Setup) (w : World) (c : Core) (s : Shows setup w c) (h d
 touch_renews setup w c s h dev d e idle = subst (λ claims. P (is_its h (holder setup claims d e))) (sym s.claims) (by_test (is_its h (holder setup w.claims d e)) refl)
   where
     P : Bool → Type 0
-    P t = ((holder setup w.claims d e ≡ holder setup w.claims d e) × ((if is_its h (holder setup w.claims d e) then fresh setup d e else w.endpoints d e) ≡ w.endpoints d e) × ((if t then new_bench (script_of setup d e) else c.benches d e) ≡ c.benches d e))
-        ⊎ (Empty s d e × ((holder setup w.claims d e ≡ None) ⊎ (((if is_its h (holder setup w.claims d e) then fresh setup d e else w.endpoints d e) ≡ fresh setup d e) × ((if t then new_bench (script_of setup d e) else c.benches d e) ≡ new_bench (script_of setup d e)))))
+    P t = ((holder setup w.claims d e ≡ holder setup w.claims d e) × ((if is_its h (holder setup w.claims d e) then fresh setup d e else w.endpoints d e) ≡ w.endpoints d e) × ((if t then new_kept_endpoint (script_of setup d e) else c.endpoints d e) ≡ c.endpoints d e))
+        ⊎ (Empty s d e × ((holder setup w.claims d e ≡ None) ⊎ (((if is_its h (holder setup w.claims d e) then fresh setup d e else w.endpoints d e) ≡ fresh setup d e) × ((if t then new_kept_endpoint (script_of setup d e) else c.endpoints d e) ≡ new_kept_endpoint (script_of setup d e)))))
 
     by_test : (b : Bool) → is_its h (holder setup w.claims d e) ≡ b → P (is_its h (holder setup w.claims d e))
     by_test true is = inr (idle (is_its-some h (holder setup w.claims d e) is), inr (rw is refl, rw is refl))
@@ -201,19 +201,19 @@ rest_none setup h m step done (releases g i idle) = (refl, refl, refl)
 rest_none setup h m step done (resets g idle) = (refl, refl, refl)
 rest_none setup h m step done (takes x xs is) = (refl, refl, refl)
 
--- a bench that is new has no transfer
-few_after : (setup : Setup) (h : ℕ) (c : Core) (change : Change) → ((d e : ℕ) → AllFew (c.benches d e).line) → (d e : ℕ) → AllFew (bench_after setup h c change d e).line
+-- a endpoint that is new has no transfer
+few_after : (setup : Setup) (h : ℕ) (c : Core) (change : Change) → ((d e : ℕ) → AllFew (c.endpoints d e).line) → (d e : ℕ) → AllFew (kept_endpoint_after setup h c change d e).line
 few_after setup h c Keeps few d e = few d e
 few_after setup h c Frees few d e = few d e
 few_after setup h c (Gains dev k) few d e = by_test (is_within setup dev k d e)
   where
-    by_test : (t : Bool) → AllFew (if t then new_bench (script_of setup d e) else c.benches d e).line
+    by_test : (t : Bool) → AllFew (if t then new_kept_endpoint (script_of setup d e) else c.endpoints d e).line
     by_test true = tt
     by_test false = few d e
 few_after setup h c (Drops dev k) few d e = few d e
 few_after setup h c (Renews dev) few d e = by_test (is_its h (holder setup c.claims d e))
   where
-    by_test : (t : Bool) → AllFew (if t then new_bench (script_of setup d e) else c.benches d e).line
+    by_test : (t : Bool) → AllFew (if t then new_kept_endpoint (script_of setup d e) else c.endpoints d e).line
     by_test true = tt
     by_test false = few d e
 few_after setup h c (Sets dev ep x) few d e = few d e
@@ -258,16 +258,16 @@ rest_steps setup w c fine s h step done owned no_order no_news own is rest clear
         by_touch (inr t) = absurd (some t.0.1)
 
     ends : (g d e : ℕ) → holder setup claims' d e ≡ Some g
-        → ShowsEnd (packet_size_of setup d e) (all_ends_after setup h w.claims w.endpoints done.change d e) (errands (at d e s.orders)) (events (at d e s.news)) (bench_after setup h c done.change d e) (at d e s.orders) (tellings (at d e s.news))
+        → ShowsEnd (packet_size_of setup d e) (all_ends_after setup h w.claims w.endpoints done.change d e) (errands (at d e s.orders)) (events (at d e s.news)) (kept_endpoint_after setup h c done.change d e) (at d e s.orders) (tellings (at d e s.news))
     ends g d e holds = by_touch (touch d e)
       where
         by_touch : Touch setup w c s h done.change d e
-            → ShowsEnd (packet_size_of setup d e) (all_ends_after setup h w.claims w.endpoints done.change d e) (errands (at d e s.orders)) (events (at d e s.news)) (bench_after setup h c done.change d e) (at d e s.orders) (tellings (at d e s.news))
+            → ShowsEnd (packet_size_of setup d e) (all_ends_after setup h w.claims w.endpoints done.change d e) (errands (at d e s.orders)) (events (at d e s.news)) (kept_endpoint_after setup h c done.change d e) (at d e s.orders) (tellings (at d e s.news))
         by_touch (inl t) = subst₂ (λ x b. ShowsEnd (packet_size_of setup d e) x (errands (at d e s.orders)) (events (at d e s.news)) b (at d e s.orders) (tellings (at d e s.news))) (sym t.1) (sym t.2) (s.endpoints g d e (sym t.0 ∙ holds))
         by_touch (inr (empty, inl none)) = absurd (cc (holds, none))
         by_touch (inr (empty, inr t)) =
             subst₂ (λ x b. ShowsEnd (packet_size_of setup d e) x (errands (at d e s.orders)) (events (at d e s.news)) b (at d e s.orders) (tellings (at d e s.news))) (sym t.0) (sym t.1)
-            (subst₂ (λ os ns. ShowsEnd (packet_size_of setup d e) (fresh setup d e) (errands os) (events ns) (new_bench (script_of setup d e)) os (tellings ns)) (sym empty.0) (sym empty.1) (fresh_shows (packet_size_of setup d e) setup d e))
+            (subst₂ (λ os ns. ShowsEnd (packet_size_of setup d e) (fresh setup d e) (errands os) (events ns) (new_kept_endpoint (script_of setup d e)) os (tellings ns)) (sym empty.0) (sym empty.1) (fresh_shows (packet_size_of setup d e) setup d e))
 
     none : (done.orders ≡ []) × (done.news ≡ []) × (done.results ≡ [])
     none = rest_none setup h (machine_of setup h w) step done rest

@@ -1,4 +1,4 @@
--- What the tests of a call read of an endpoint, the core reads of its bench.
+-- What the tests of a call read of an endpoint, the core reads of its endpoint.
 use Rattle.std.proofs.Common.{Bool, List, None, Option, Some, [], ap, ap₂, false, option_map, refl, subst, sym, true, ℕ, ◌&&◌, ◌==◌, ◌∙◌, ◌∷◌, ◌≡◌}
 use Rattle.std.specs.Prelude.{if◌then◌else◌, is_none, not}
 use Rattle.std.proofs.lemmas.Bool.{and_right}
@@ -7,13 +7,14 @@ use Rattle.usb_model.specs.declared.item.Ask.{Ask}
 use Rattle.usb_model.specs.declared.item.Item.{Item}
 use Rattle.usb_model.specs.declared.request.Request.{Request}
 use Rattle.usb_model.specs.Endpoint.{in_progress, is_blank, is_transfer}
-use Rattle.usb_shows.specs.Benches.{AllKept, Kept, Sent}
+use Rattle.usb_shows.specs.Showing.{AllKept}
+use Rattle.usb_kept.specs.Kept.{KeptTransfer, SentErrand}
 
 -- the transfer of this number, in progress
-abbrev pub is_kept_it : ℕ → Kept → Bool
+abbrev pub is_kept_it : ℕ → KeptTransfer → Bool
 is_kept_it n y = (y.n == n) && not y.blank
 
-unfoldable pub kept_in_progress : ℕ → List Kept → Option Kept
+unfoldable pub kept_in_progress : ℕ → List KeptTransfer → Option KeptTransfer
 kept_in_progress n [] = None
 kept_in_progress n (y ∷ ys) = if is_kept_it n y then Some y else kept_in_progress n ys
 
@@ -25,10 +26,10 @@ pub record Looked : Type 0 where
 abbrev pub look_item : Item → Looked
 look_item x = record { ask = x.ask; request = x.request }
 
-abbrev pub look_kept : Kept → Looked
+abbrev pub look_kept : KeptTransfer → Looked
 look_kept y = record { ask = y.ask; request = y.request }
 
-pub seen_item : (size n : ℕ) (xs : List Item) (ys : List Kept) → AllKept size xs ys → option_map look_kept (kept_in_progress n ys) ≡ option_map look_item (in_progress n xs)
+pub seen_item : (size n : ℕ) (xs : List Item) (ys : List KeptTransfer) → AllKept size xs ys → option_map look_kept (kept_in_progress n ys) ≡ option_map look_item (in_progress n xs)
 unfolding in_progress kept_in_progress
 seen_item size n [] [] k = refl
 seen_item size n [] (y ∷ ys) k = absurd k
@@ -58,6 +59,6 @@ seen_item size n (x ∷ xs) (y ∷ ys) k = by_blank (is_blank x) refl (seen_item
         decided false = refl
 
 -- whether there is an errand
-pub seen_errand : (o : Option Sent) (e : Option Errand) → option_map (λ s. s.errand) o ≡ e → is_none o ≡ is_none e
+pub seen_errand : (o : Option SentErrand) (e : Option Errand) → option_map (λ s. s.errand) o ≡ e → is_none o ≡ is_none e
 seen_errand None e q = ap is_none q
 seen_errand (Some s) e q = ap is_none q

@@ -15,7 +15,8 @@ use Rattle.usb_model.specs.declared.setup.EndpointInfo.{EndpointInfo}
 use Rattle.usb_model.specs.Setup.{Setup, endpoints_of, info_of, interface_of}
 use Rattle.usb_model.specs.World.{World, holder}
 use Rattle.usb_model.specs.Coherence.{IsCoherent, IsPhase, ended, move_ran, move_waits, reset_ran, reset_waits, runs, served_events, stop_failed, stop_ran, stop_ran_paused, stop_waits, stop_waits_halted}
-use Rattle.usb_shows.specs.Benches.{Bench, Completion, Sent, ShowsEnd, Telling, Transfer, code_of, index_of, orders_sent, pause_told, tail_told, told_of}
+use Rattle.usb_kept.specs.Kept.{KeptEndpoint, Completion, SentErrand, Telling, Transfer, code_of, index_of}
+use Rattle.usb_shows.specs.Showing.{ShowsEnd, orders_sent, pause_told, tail_told, told_of}
 use Rattle.usb_shows.specs.Lively.{IsFine}
 use Rattle.usb_shows.specs.Shows.{At, Core, InRun, Report, RingOrder, Shows, at, completed, event_at, here, ring_event, ring_order, tellings, under_way}
 use Rattle.usb_shows.specs.Stepping.{has_sent, is_sent, sender}
@@ -28,14 +29,14 @@ abbrev pub completes : ℕ → Telling → Bool
 completes i (Transfer place residual code) = false
 completes i (Completion index code) = index == i
 
-abbrev pub stands_at : ℕ → Sent → Bool
+abbrev pub stands_at : ℕ → SentErrand → Bool
 stands_at i s = s.index == i
 
-abbrev UnderWay : ℕ → List Sent → List Telling → Type 0
+abbrev UnderWay : ℕ → List SentErrand → List Telling → Type 0
 UnderWay i sent told = (list_any (stands_at i) sent ≡ true) ⊎ (list_any (completes i) told ≡ true)
 
 -- an order that waits, or a completion that is told, of the errand
-order_waits : (i : ℕ) (b : Option Sent) (o : Errand) (sent : List Sent) → index_of b ≡ i → sent ≡ orders_sent b (o ∷ []) → list_any (stands_at i) sent ≡ true
+order_waits : (i : ℕ) (b : Option SentErrand) (o : Errand) (sent : List SentErrand) → index_of b ≡ i → sent ≡ orders_sent b (o ∷ []) → list_any (stands_at i) sent ≡ true
 order_waits i b o sent is e = ap (list_any (stands_at i)) e ∙ or_left (index_of b == i) false (eq-eqb (index_of b) i is)
 
 end_told : (i : ℕ) (index code : ℕ) (told front : List Telling) → index ≡ i → told ≡ front ++ Completion index code ∷ [] → list_any (completes i) told ≡ true
@@ -43,7 +44,7 @@ end_told i index code told front is e =
     ap (list_any (completes i)) e ∙ (list_any-append (completes i) front (Completion index code ∷ []) ∙ or_right (list_any (completes i) front) _ (or_left (index == i) false (eq-eqb index i is)))
 
 -- an errand that is under way has its order in the command ring, or its completion in the event ring
-by_phase : (s : EndpointState) (er : Option Errand) (os : List Errand) (es tail : List Event) (o : Errand) (b : Option Sent) (i : ℕ) (sent : List Sent) (told front pause : List Telling) → er ≡ Some o → index_of b ≡ i → IsPhase s er os es tail
+by_phase : (s : EndpointState) (er : Option Errand) (os : List Errand) (es tail : List Event) (o : Errand) (b : Option SentErrand) (i : ℕ) (sent : List SentErrand) (told front pause : List Telling) → er ≡ Some o → index_of b ≡ i → IsPhase s er os es tail
     → sent ≡ orders_sent b os → ((x : Errand) (ok : Bool) → tail ≡ Settled x ok ∷ [] → told ≡ front ++ Completion (index_of b) (code_of ok) ∷ [])
     → ((x : Errand) (ok : Bool) (n : ℕ) → tail ≡ Paused n ∷ Settled x ok ∷ [] → told ≡ (front ++ pause) ++ Completion (index_of b) (code_of ok) ∷ []) → UnderWay i sent told
 by_phase s er os es tail o b i sent told front pause is at (runs g) q one two = absurd cc
@@ -58,7 +59,7 @@ by_phase s er os es tail o b i sent told front pause is at reset_ran q one two =
 by_phase s er os es tail o b i sent told front pause is at move_waits q one two = inl (order_waits i b errand.Move sent at q)
 by_phase s er os es tail o b i sent told front pause is at move_ran q one two = inr (end_told i (index_of b) _ told front at (one errand.Move true refl))
 
-is_under_way : (size : ℕ) (e : Endpoint) (os : List Errand) (ns : List Event) (b : Bench) (sent : List Sent) (told : List Telling) (x : Sent) → IsCoherent e os ns → ShowsEnd size e os ns b sent told → b.errand ≡ Some x → UnderWay x.index sent told
+is_under_way : (size : ℕ) (e : Endpoint) (os : List Errand) (ns : List Event) (b : KeptEndpoint) (sent : List SentErrand) (told : List Telling) (x : SentErrand) → IsCoherent e os ns → ShowsEnd size e os ns b sent told → b.errand ≡ Some x → UnderWay x.index sent told
 is_under_way size e os ns b sent told x c s is =
     by_phase e.state e.errand os (served_events e.line) c.tail x.errand b.errand x.index sent told (told_of size e.line b.line) (pause_told size e.line b.line) (sym s.errand ∙ ap (option_map (λ s. s.errand)) is) (ap index_of is) c.phase s.sent_is
     (λ o ok t. s.told_is ∙ ap (λ l. told_of size e.line b.line ++ tail_told size e.line b.line b.errand l) (same_tail e.line ns s.tail c.tail s.news c.news ∙ t))
@@ -66,7 +67,7 @@ is_under_way size e os ns b sent told x c s is =
     ∙ sym (append_assoc (told_of size e.line b.line) (pause_told size e.line b.line) (Completion (index_of b.errand) (code_of ok) ∷ []))))
 
 -- what is under way at an endpoint is under way
-order_in : (i d e : ℕ) (xs : List (At Sent)) → list_any (stands_at i) (at d e xs) ≡ true → list_any (λ j. j == i) (map (λ (o : RingOrder). o.place) (map ring_order xs)) ≡ true
+order_in : (i d e : ℕ) (xs : List (At SentErrand)) → list_any (stands_at i) (at d e xs) ≡ true → list_any (λ j. j == i) (map (λ (o : RingOrder). o.place) (map ring_order xs)) ≡ true
 order_in i d e [] q = absurd cc
 order_in i d e (x ∷ xs) q = by_test (here d e x) q (order_in i d e xs)
   where
@@ -115,8 +116,8 @@ run_later first next i (j ∷ is) r q = by_head (j == i) refl q (run_later (suc 
 
 -- the first event is a completion: any endpoint of its device that waits for it is the event's
 only_one : (setup : Setup) (w : World) (c : Core) (s : Shows setup w c) → IsFine setup → (x : At Report) (xs : List (At Report)) (index code : ℕ) → s.news ≡ x ∷ xs → x.what.telling ≡ Completion index code
-    → (g d e : ℕ) (y : Sent) → holder setup w.claims d e ≡ Some g → (c.benches d e).errand ≡ Some y → y.index ≡ index → here d e x ≡ true
-only_one setup w c s fine x xs index code is tells g d e y holds errand same = by_test (here d e x) refl (is_under_way _ (w.endpoints d e) _ _ (c.benches d e) _ _ y (known setup w c s fine g d e holds).fit.coherent (s.endpoints g d e holds) errand)
+    → (g d e : ℕ) (y : SentErrand) → holder setup w.claims d e ≡ Some g → (c.endpoints d e).errand ≡ Some y → y.index ≡ index → here d e x ≡ true
+only_one setup w c s fine x xs index code is tells g d e y holds errand same = by_test (here d e x) refl (is_under_way _ (w.endpoints d e) _ _ (c.endpoints d e) _ _ y (known setup w c s fine g d e holds).fit.coherent (s.endpoints g d e holds) errand)
   where
     run : InRun s.first (index ∷ (flat_map completed (map ring_event xs) ++ map (λ (o : RingOrder). o.place) (map ring_order s.orders))) c.posted
     run = subst (λ l. InRun s.first (completed (event_at x.dev x.ep l) ++ (flat_map completed (map ring_event xs) ++ map (λ (o : RingOrder). o.place) (map ring_order s.orders))) c.posted) tells
@@ -160,7 +161,7 @@ interface_there None claims h e = absurd cc
 interface_there (Some i) claims h e = (i, refl)
 
 -- whose errand has this order
-sent_by : (index : ℕ) (o : Option Sent) → is_sent index o ≡ true → (y : Sent) × (o ≡ Some y) × (y.index ≡ index)
+sent_by : (index : ℕ) (o : Option SentErrand) → is_sent index o ≡ true → (y : SentErrand) × (o ≡ Some y) × (y.index ≡ index)
 sent_by index None q = absurd cc
 sent_by index (Some y) q = (y, refl, eqb-true y.index index q)
 
@@ -169,8 +170,8 @@ held_by None q = absurd cc
 held_by (Some g) q = (g, refl)
 
 -- a completion that comes first is found to be its endpoint's
-pub sender_is : (setup : Setup) (w : World) (c : Core) (s : Shows setup w c) → IsFine setup → (x : At Report) (xs : List (At Report)) (index code : ℕ) (y : Sent) → s.news ≡ x ∷ xs → x.what.telling ≡ Completion index code
-    → holder setup w.claims x.dev x.ep ≡ Some x.name → (c.benches x.dev x.ep).errand ≡ Some y → y.index ≡ index → sender setup c x.dev index ≡ Some x.ep
+pub sender_is : (setup : Setup) (w : World) (c : Core) (s : Shows setup w c) → IsFine setup → (x : At Report) (xs : List (At Report)) (index code : ℕ) (y : SentErrand) → s.news ≡ x ∷ xs → x.what.telling ≡ Completion index code
+    → holder setup w.claims x.dev x.ep ≡ Some x.name → (c.endpoints x.dev x.ep).errand ≡ Some y → y.index ≡ index → sender setup c x.dev index ≡ Some x.ep
 unfolding info_of
 sender_is setup w c s fine x xs index code y is tells holds errand same =
     let i = interface_there (interface_of setup x.dev x.ep) (λ i. w.claims x.dev i) x.name holds in
@@ -182,12 +183,12 @@ sender_is setup w c s fine x xs index code y is tells holds errand same =
 
     only : (z : EndpointInfo) → has_sent setup c x.dev index z ≡ true → z.address ≡ x.ep
     only z q =
-        let p = and_parts (is_some (holder setup c.claims x.dev z.address)) (is_sent index (c.benches x.dev z.address).errand) q in
+        let p = and_parts (is_some (holder setup c.claims x.dev z.address)) (is_sent index (c.endpoints x.dev z.address).errand) q in
         let g = held_by (holder setup c.claims x.dev z.address) p.0 in
-        let m = sent_by index (c.benches x.dev z.address).errand p.1 in
+        let m = sent_by index (c.endpoints x.dev z.address).errand p.1 in
         sym (is_here x.dev z.address x (only_one setup w c s fine x xs index code is tells g.0 x.dev z.address m.0 (sym (holder_same x.dev z.address) ∙ g.1) m.1 m.2)).1
 
     passes : (z : EndpointInfo) → z.address ≡ x.ep → has_sent setup c x.dev index z ≡ true
     passes z at_ep =
-        subst (λ k. (is_some (holder setup c.claims x.dev k) && is_sent index (c.benches x.dev k).errand) ≡ true) (sym at_ep)
+        subst (λ k. (is_some (holder setup c.claims x.dev k) && is_sent index (c.endpoints x.dev k).errand) ≡ true) (sym at_ep)
         (ap₂ (λ a b. a && b) (ap is_some (holder_same x.dev x.ep ∙ holds)) (ap (is_sent index) errand ∙ eq-eqb y.index index same))

@@ -18,10 +18,12 @@ use Rattle.usb_model.specs.Endpoint.Serve.{acknowledged, is_no_packet, next_answ
 use Rattle.usb_model.specs.Endpoint.Status.{halts}
 use Rattle.usb_lemmas.proofs.Work.Errands.{events-with_first}
 use Rattle.usb_model.specs.Coherence.{IsCoherent, event_by, served_events}
-use Rattle.usb_shows.specs.Stands.{Stand, stand, total}
-use Rattle.usb_shows.specs.Benches.{AllKept, Bench, InRow, IsLive, Kept, NewBehind, Sent, ShowsEnd, Telling, count, first_place, front, front_of, is_stale, orders_sent, telling_of, tail_told, told_of}
-use Rattle.usb_shows.specs.Handling.{covers, find_at, past_at, past_kept_blanks}
-use Rattle.usb_shows.specs.Serving.{Packet, PacketIs, Serves, answer_now, answered_by, answered_gone, bench_with, event_at, gave, got, grown, outcome_now, packet_now, put_at, sent_before, serve_at, serve_bench, walk}
+use Rattle.usb_kept.specs.Stands.{Stand, stand, total}
+use Rattle.usb_shows.specs.Showing.{AllKept, InRow, IsLive, NewBehind, ShowsEnd, count, front, front_of, is_stale, orders_sent, telling_of, tail_told, told_of}
+use Rattle.usb_kept.specs.Kept.{KeptEndpoint, KeptTransfer, SentErrand, Telling, first_place}
+use Rattle.usb_kept.specs.Handling.{covers, find_at, past_at, past_kept_blanks}
+use Rattle.usb_kept.specs.Serving.{Packet, answer_now, answered_by, answered_gone, endpoint_with, event_at, gave, got, packet_now, put_at, sent_before, serve_at, serve_kept, walk}
+use Rattle.usb_shows.specs.Keeping.{PacketIs, Serves, grown, outcome_now}
 use Rattle.usb_shows.proofs.Finding.{covers_past, stands_some}
 use Rattle.usb_shows.proofs.Fronts.{Fronted, Puts, fronts}
 use Rattle.usb_shows.proofs.Standing.{walks}
@@ -34,7 +36,7 @@ fresh_running Halted er os e = absurd cc
 fresh_running Stopped er os e = absurd cc
 
 -- at the line's end stands nothing
-pub find_end : (p end : ℕ) (ys : List Kept) → InRow ys end → end ≤ p → (first_place ys end ≤ p) × (find_at p ys ≡ None)
+pub find_end : (p end : ℕ) (ys : List KeptTransfer) → InRow ys end → end ≤ p → (first_place ys end ≤ p) × (find_at p ys ≡ None)
 unfolding find_at
 find_end p end [] row le = (le, refl)
 find_end p end (y ∷ ys) row le =
@@ -43,7 +45,7 @@ find_end p end (y ∷ ys) row le =
     (omega (arith, behind), rw (covers_past p y behind) r.1)
 
 -- the same put in its own place
-put_same : (p : ℕ) (y : Kept) (ys : List Kept) → find_at p ys ≡ Some y → put_at p y ys ≡ ys
+put_same : (p : ℕ) (y : KeptTransfer) (ys : List KeptTransfer) → find_at p ys ≡ Some y → put_at p y ys ≡ ys
 unfolding find_at put_at
 put_same p y [] e = refl
 put_same p y (z ∷ ys) e = by_test (covers p z) e (put_same p y ys)
@@ -53,7 +55,7 @@ put_same p y (z ∷ ys) e = by_test (covers p z) e (put_same p y ys)
     by_test false e rest = ap (λ l. z ∷ l) (rest e)
 
 -- the front of a line where none waits
-pub front_none : (size : ℕ) (xs : List Item) (ys : List Kept) (end : ℕ) → first_waiting xs ≡ None → (front size xs ys end).place ≡ end
+pub front_none : (size : ℕ) (xs : List Item) (ys : List KeptTransfer) (end : ℕ) → first_waiting xs ≡ None → (front size xs ys end).place ≡ end
 unfolding first_waiting front
 front_none size [] ys end e = refl
 front_none size (x ∷ xs) [] end e = refl
@@ -64,7 +66,7 @@ front_none size (x ∷ xs) (y ∷ ys) end e = by_test (is_waiting x) e (front_no
     by_test false e rest = rest e
 
 -- where the controller stands in the transfer x, kept as y
-pub record At (size : ℕ) (b : Bench) (x : Item) (y : Kept) : Type 0 where
+pub record At (size : ℕ) (b : KeptEndpoint) (x : Item) (y : KeptTransfer) : Type 0 where
   pub i : ℕ
   pub is : (stand y.lengths (count size x)).index ≡ i
   pub index : b.dequeue - y.place ≡ i
@@ -72,7 +74,7 @@ pub record At (size : ℕ) (b : Bench) (x : Item) (y : Kept) : Type 0 where
   pub within : b.within ≡ (stand y.lengths (count size x)).within
   pub before : sent_before b y ≡ count size x
 
-pub at_front : (size : ℕ) (b : Bench) (x : Item) (y : Kept) → 0 < length y.lengths → IsLive size x y → record { place = b.dequeue; within = b.within } ≡ front_of size x y → At size b x y
+pub at_front : (size : ℕ) (b : KeptEndpoint) (x : Item) (y : KeptTransfer) → 0 < length y.lengths → IsLive size x y → record { place = b.dequeue; within = b.within } ≡ front_of size x y → At size b x y
 at_front size b x y some live e =
     let s = stands_some y.lengths (count size x) some live.fits in
     let place : b.dequeue ≡ y.place + (stand y.lengths (count size x)).index = ap (λ f. f.place) e in
@@ -81,7 +83,7 @@ at_front size b x y some live e =
     record { i = (stand y.lengths (count size x)).index; is = refl; index = index; place = place; within = within; before = ap₂ (λ a c. total (take a y.lengths) + c) index within ∙ s.before }
 
 -- k bytes on
-walked : (size : ℕ) (b : Bench) (x : Item) (y : Kept) (k : ℕ) → 0 < length y.lengths → (a : At size b x y)
+walked : (size : ℕ) (b : KeptEndpoint) (x : Item) (y : KeptTransfer) (k : ℕ) → 0 < length y.lengths → (a : At size b x y)
     → (a.i + (walk b y k).index ≡ (stand y.lengths (count size x + k)).index) × ((walk b y k).within ≡ (stand y.lengths (count size x + k)).within)
 walked size b x y k some a = by_lengths y.lengths some a.index a.within a.is
   where
@@ -93,7 +95,7 @@ walked size b x y k some a = by_lengths y.lengths some a.index a.within a.is
         rw (index, within, sym is) (ap (λ s. s.index) w, ap (λ s. s.within) w)
 
 -- so an event there is that of the transfer with these bytes
-pub event_is : (size : ℕ) (b : Bench) (x z : Item) (y y' : Kept) (k code : ℕ) → 0 < length y.lengths → At size b x y → y'.place ≡ y.place → y'.lengths ≡ y.lengths → count size z ≡ count size x + k → event_at b y (walk b y k) code ≡ telling_of size z y' code
+pub event_is : (size : ℕ) (b : KeptEndpoint) (x z : Item) (y y' : KeptTransfer) (k code : ℕ) → 0 < length y.lengths → At size b x y → y'.place ≡ y.place → y'.lengths ≡ y.lengths → count size z ≡ count size x + k → event_at b y (walk b y k) code ≡ telling_of size z y' code
 event_is size b x z y y' k code some a same_place same_lengths more =
     let w = walked size b x y k some a in
     let s : Stand = stand y.lengths (count size x + k) in
@@ -102,15 +104,15 @@ event_is size b x z y y' k code some a same_place same_lengths more =
     rw (at, index, w.1, same_place, same_lengths, more) refl
 
 -- nothing happens
-idles : (size : ℕ) (e : Endpoint) (os : List Errand) (ns : List Event) (b : Bench) (sent : List Sent) (told : List Telling) → ShowsEnd size e os ns b sent told
-    → Serves size (only_says e Idle) (record { reply = Idle; bench = b; told = [] }) os ns sent told
+idles : (size : ℕ) (e : Endpoint) (os : List Errand) (ns : List Event) (b : KeptEndpoint) (sent : List SentErrand) (told : List Telling) → ShowsEnd size e os ns b sent told
+    → Serves size (only_says e Idle) (record { reply = Idle; endpoint = b; told = [] }) os ns sent told
 idles size e os ns b sent told s = record { reply = refl; shows = rw (append-nil os, append-nil ns, append-nil told) s }
 
 -- the transfer as it is kept, with the bytes that came
-abbrev kept_with : Bench → Kept → ℕ → Kept
+abbrev kept_with : KeptEndpoint → KeptTransfer → ℕ → KeptTransfer
 kept_with b y k = record y { bytes = y.bytes ++ got y.request.body (answer_now b) k }
 
-live_with : (size : ℕ) (e : Endpoint) (b : Bench) (x : Item) (y : Kept) (k : Packet) → answer_now b ≡ next_answer e → IsLive size x y → PacketIs size e x k → IsLive size (grown e x) (kept_with b y k.bytes)
+live_with : (size : ℕ) (e : Endpoint) (b : KeptEndpoint) (x : Item) (y : KeptTransfer) (k : Packet) → answer_now b ≡ next_answer e → IsLive size x y → PacketIs size e x k → IsLive size (grown e x) (kept_with b y k.bytes)
 live_with size e b x y k same live is = record {
   n = live.n;
   request = live.request;
@@ -127,12 +129,12 @@ abbrev item_with : Endpoint → Item → ItemState → Item
 item_with e x s = record (grown e x) { state = s }
 
 -- a packet that leaves the transfer open
-open_shows : (size : ℕ) (e : Endpoint) (os : List Errand) (ns : List Event) (b : Bench) (sent : List Sent) (told : List Telling) (x : Item) (k : Packet)
+open_shows : (size : ℕ) (e : Endpoint) (os : List Errand) (ns : List Event) (b : KeptEndpoint) (sent : List SentErrand) (told : List Telling) (x : Item) (k : Packet)
     → IsCoherent e os ns → (s : ShowsEnd size e os ns b sent told) → e.state ≡ Running → first_waiting e.line ≡ Some x → (f : Fronted size e.line b.line b.end x) → b.dequeue ≡ f.p → At size b x f.y
     → answer_now b ≡ next_answer e → PacketIs size e x k → Serves size (serve_by e x (outcome_of size x) (outcome_now size e x) None) (answered_by b f.y k None) os ns sent told
 unfolding serve_by answered_by
 open_shows size e os ns b sent told x k c s run first f deq a same is =
-    let y' : Kept = kept_with b f.y k.bytes in
+    let y' : KeptTransfer = kept_with b f.y k.bytes in
     let x' : Item = grown e x in
     let w = walked size b x f.y k.bytes f.some a in
     let tail : s.tail ≡ [] = ap (λ l. l) (append_cancel_left (served_events e.line) s.tail c.tail (sym s.news ∙ c.news)) ∙ running_tail e.state e.errand os (served_events e.line) c.tail run c.phase in
@@ -164,14 +166,14 @@ open_shows size e os ns b sent told x k c s run first f deq a same is =
     }
 
 -- a packet that ends it
-ended_shows : (size : ℕ) (e : Endpoint) (os : List Errand) (ns : List Event) (b : Bench) (sent : List Sent) (told : List Telling) (x : Item) (k : Packet) (code : ℕ)
+ended_shows : (size : ℕ) (e : Endpoint) (os : List Errand) (ns : List Event) (b : KeptEndpoint) (sent : List SentErrand) (told : List Telling) (x : Item) (k : Packet) (code : ℕ)
     → IsCoherent e os ns → (s : ShowsEnd size e os ns b sent told) → NewBehind e.line → e.state ≡ Running → first_waiting e.line ≡ Some x → (f : Fronted size e.line b.line b.end x) → b.dequeue ≡ f.p → At size b x f.y
     → answer_now b ≡ next_answer e → PacketIs size e x k → Serves size (serve_by e x (outcome_of size x) (outcome_now size e x) (Some code)) (answered_by b f.y k (Some code)) os ns sent told
 unfolding serve_by answered_by
 ended_shows size e os ns b sent told x k code c s behind run first f deq a same is =
     record { reply = ap (λ n. Ended n code) f.live.n; shows = by_halt (halts code) }
   where
-    y' : Kept
+    y' : KeptTransfer
     y' = kept_with b f.y k.bytes
 
     x' : Item
@@ -189,8 +191,8 @@ ended_shows size e os ns b sent told x k code c s behind run first f deq a same 
     event : event_at b f.y (walk b f.y k.bytes) code ≡ telling_of size x' y' code
     event = event_is size b x x' f.y y' k.bytes code f.some a refl refl is.later
 
-    after : Bench
-    after = bench_with b f.y k (gave f.y.request.body (answer_now b) (sent_before b f.y) k.bytes)
+    after : KeptEndpoint
+    after = endpoint_with b f.y k (gave f.y.request.body (answer_now b) (sent_before b f.y) k.bytes)
 
     world_of : (state : EndpointState) (dequeue within : ℕ) → (is_stale state e.errand (os ++ []) ≡ false → record { place = dequeue; within = within } ≡ front size (with_first x' e.line) (put_at b.dequeue y' b.line) b.end) → (state ≡ Stopped → ⊥)
         → ShowsEnd size (record e { line = with_first x' e.line; script_left = drop (length (next_answer e)) e.script_left; packets_received = e.packets_received ++ acknowledged x.request.body (outcome_of size x) (outcome_now size e x); device_halted = e.device_halted || is_stall (next_answer e); state = state }) (os ++ []) (ns ++ Finished x.n code ∷ [])
@@ -219,7 +221,7 @@ ended_shows size e os ns b sent told x k code c s behind run first f deq a same 
         rw (s.state) (world_of e.state (first_place (past_kept_blanks (past_at b.dequeue b.line)) b.end) 0 (λ z. sym (q.after code refl behind)) (λ z. cc (z, run)))
 
 -- the transfer of a gone device ends with what it has
-gone_shows : (size : ℕ) (e : Endpoint) (os : List Errand) (ns : List Event) (b : Bench) (sent : List Sent) (told : List Telling) (x : Item)
+gone_shows : (size : ℕ) (e : Endpoint) (os : List Errand) (ns : List Event) (b : KeptEndpoint) (sent : List SentErrand) (told : List Telling) (x : Item)
     → IsCoherent e os ns → (s : ShowsEnd size e os ns b sent told) → e.state ≡ Running → first_waiting e.line ≡ Some x → (f : Fronted size e.line b.line b.end x) → b.dequeue ≡ f.p → At size b x f.y
     → Serves size (serve_gone e x) (answered_gone b f.y) os ns sent told
 unfolding serve_gone answered_gone
@@ -252,11 +254,11 @@ gone_shows size e os ns b sent told x c s run first f deq a =
     }
 
 -- what a packet tells of the first waiting transfer, where the controller stands in it
-abbrev pub PacketTold : ℕ → Endpoint → Bench → Type 0
-PacketTold size e b = (x : Item) (y : Kept) → first_waiting e.line ≡ Some x → IsLive size x y → At size b x y → answer_now b ≡ next_answer e → PacketIs size e x (packet_now size b y)
+abbrev pub PacketTold : ℕ → Endpoint → KeptEndpoint → Type 0
+PacketTold size e b = (x : Item) (y : KeptTransfer) → first_waiting e.line ≡ Some x → IsLive size x y → At size b x y → answer_now b ≡ next_answer e → PacketIs size e x (packet_now size b y)
 
 -- with the transfer found
-first_shows : (size : ℕ) (gone : Bool) (e : Endpoint) (os : List Errand) (ns : List Event) (b : Bench) (sent : List Sent) (told : List Telling) (x : Item)
+first_shows : (size : ℕ) (gone : Bool) (e : Endpoint) (os : List Errand) (ns : List Event) (b : KeptEndpoint) (sent : List SentErrand) (told : List Telling) (x : Item)
     → IsCoherent e os ns → ShowsEnd size e os ns b sent told → NewBehind e.line → e.state ≡ Running → first_waiting e.line ≡ Some x → (f : Fronted size e.line b.line b.end x) → b.dequeue ≡ f.p → At size b x f.y → PacketTold size e b
     → Serves size (serve_first size gone e Running (Some x)) (serve_at size gone b Running (Some f.y)) os ns sent told
 unfolding serve_first serve_at
@@ -275,13 +277,13 @@ first_shows size false e os ns b sent told x c s behind run first f deq a packet
     by_code (Some k) code = subst (λ o. Serves size (serve_by e x (outcome_of size x) (outcome_now size e x) o) (answered_by b f.y (packet_now size b f.y) (Some k)) os ns sent told) (sym code)
         (ended_shows size e os ns b sent told x (packet_now size b f.y) k c s behind run first f deq a same is)
 
-pub serve_shows : (size : ℕ) (gone : Bool) (e : Endpoint) (os : List Errand) (ns : List Event) (b : Bench) (sent : List Sent) (told : List Telling)
-    → IsCoherent e os ns → ShowsEnd size e os ns b sent told → NewBehind e.line → PacketTold size e b → Serves size (serve size gone e) (serve_bench size gone b) os ns sent told
-unfolding serve serve_bench serve_first serve_at
+pub serve_shows : (size : ℕ) (gone : Bool) (e : Endpoint) (os : List Errand) (ns : List Event) (b : KeptEndpoint) (sent : List SentErrand) (told : List Telling)
+    → IsCoherent e os ns → ShowsEnd size e os ns b sent told → NewBehind e.line → PacketTold size e b → Serves size (serve size gone e) (serve_kept size gone b) os ns sent told
+unfolding serve serve_kept serve_first serve_at
 serve_shows size gone e os ns b sent told c s behind packets =
     subst (λ t. Serves size (serve_first size gone e e.state (first_waiting e.line)) (serve_at size gone b t (find_at b.dequeue b.line)) os ns sent told) (sym s.state) (by_state e.state refl)
   where
-    idle : Serves size (only_says e Idle) (record { reply = Idle; bench = b; told = [] }) os ns sent told
+    idle : Serves size (only_says e Idle) (record { reply = Idle; endpoint = b; told = [] }) os ns sent told
     idle = idles size e os ns b sent told s
 
     by_first : e.state ≡ Running → (o : Option Item) → first_waiting e.line ≡ o → Serves size (serve_first size gone e Running o) (serve_at size gone b Running (find_at b.dequeue b.line)) os ns sent told

@@ -19,21 +19,23 @@ use Rattle.usb_model.specs.Endpoint.Deliver.{blanked, deliver, is_withdrawn, lea
 use Rattle.usb_model.specs.Endpoint.{is_blank, is_blank_state, is_waiting, is_waiting_state, past_blanks}
 use Rattle.usb_lemmas.proofs.Work.Errands.{events-blanked, events-past_blanks}
 use Rattle.usb_model.specs.Coherence.{IsCoherent, IsPhase, event_by, ended, move_ran, move_waits, reset_ran, reset_waits, runs, served_events, stop_failed, stop_ran, stop_ran_paused, stop_waits, stop_waits_halted}
-use Rattle.usb_shows.specs.Benches.{AllKept, AllNew, Bench, Completion, FrontKnown, InRow, IsOrderly, Kept, NewBehind, Sent, ShowsEnd, Telling, code_of, count, first_place, front, has_pause, index_of, is_stale, known_by, new_by, orders_sent, tail_told}
-use Rattle.usb_shows.specs.Handling.{Handles, kept_result, past_kept_blanks, posts}
-use Rattle.usb_shows.specs.Settling.{kept_blanked, kept_withdrawn, leads_kept, resume_bench, settle, withdrawn_results}
+use Rattle.usb_shows.specs.Showing.{AllKept, AllNew, FrontKnown, InRow, IsOrderly, NewBehind, ShowsEnd, count, front, has_pause, is_stale, known_by, new_by, orders_sent, tail_told}
+use Rattle.usb_kept.specs.Kept.{KeptEndpoint, Completion, KeptTransfer, SentErrand, Telling, code_of, first_place, index_of}
+use Rattle.usb_shows.specs.Keeping.{Handles}
+use Rattle.usb_kept.specs.Handling.{kept_result, past_kept_blanks, posts}
+use Rattle.usb_kept.specs.Settling.{kept_blanked, kept_withdrawn, leads_kept, resume_kept, settle, withdrawn_results}
 use Rattle.usb_shows.proofs.Finding.{blanks_leave}
 use Rattle.usb_shows.proofs.Finished.{same_result}
 use Rattle.usb_lemmas.proofs.Lists.Parts.{heads_same}
 use Rattle.usb_shows.proofs.Fronts.{none_moved, told_none}
 
 -- of each waiting transfer the core knows what moved
-abbrev AllKnown : ℕ → List Item → List Kept → Type 0
+abbrev AllKnown : ℕ → List Item → List KeptTransfer → Type 0
 AllKnown size (x ∷ xs) (y ∷ ys) = (x.state ≡ Waiting → y.moved ≡ count size x) × AllKnown size xs ys
 AllKnown size _ _ = Unit {0}
 
 -- of transfers that took nothing
-all_new : (size : ℕ) (xs : List Item) (ys : List Kept) → AllKept size xs ys → AllNew xs → AllKnown size xs ys
+all_new : (size : ℕ) (xs : List Item) (ys : List KeptTransfer) → AllKept size xs ys → AllNew xs → AllKnown size xs ys
 all_new size [] ys k new = tt
 all_new size (x ∷ xs) [] k new = tt
 all_new size (x ∷ xs) (y ∷ ys) k new = by_state x.state refl new (all_new size xs ys k.1)
@@ -44,7 +46,7 @@ all_new size (x ∷ xs) (y ∷ ys) k new = by_state x.state refl new (all_new si
     by_state Blank st new rest = (λ w. absurd (cc (st, w)), rest new)
 
 -- and of all, where it is known of the first
-all_known : (size : ℕ) (xs : List Item) (ys : List Kept) → AllKept size xs ys → NewBehind xs → FrontKnown size xs ys → AllKnown size xs ys
+all_known : (size : ℕ) (xs : List Item) (ys : List KeptTransfer) → AllKept size xs ys → NewBehind xs → FrontKnown size xs ys → AllKnown size xs ys
 all_known size [] ys k behind known = tt
 all_known size (x ∷ xs) [] k behind known = tt
 all_known size (x ∷ xs) (y ∷ ys) k behind known = by_state x.state refl behind known (all_known size xs ys k.1)
@@ -67,7 +69,7 @@ behind_blanks (x ∷ xs) n = by_state x.state refl n (behind_blanks xs)
     by_state Blank st n rest = rest n
 
 -- the line after a withdrawal
-record Withdraws (size : ℕ) (xs : List Item) (ys : List Kept) (end : ℕ) : Type 0 where
+record Withdraws (size : ℕ) (xs : List Item) (ys : List KeptTransfer) (end : ℕ) : Type 0 where
   kept : AllKept size (map blanked xs) (map kept_blanked ys)
   row : InRow (map kept_blanked ys) end
   first : first_place (map kept_blanked ys) end ≡ first_place ys end
@@ -76,7 +78,7 @@ record Withdraws (size : ℕ) (xs : List Item) (ys : List Kept) (end : ℕ) : Ty
   leads : leads_kept (map kept_blanked ys) ≡ leads_blank (map blanked xs)
   stands : leads_blank (map blanked xs) ≡ false → front size (map blanked xs) (map kept_blanked ys) end ≡ front size xs ys end
 
-withdraws : (size : ℕ) (xs : List Item) (ys : List Kept) (end : ℕ) → AllKept size xs ys → InRow ys end → served_events xs ≡ [] → AllKnown size xs ys → Withdraws size xs ys end
+withdraws : (size : ℕ) (xs : List Item) (ys : List KeptTransfer) (end : ℕ) → AllKept size xs ys → InRow ys end → served_events xs ≡ [] → AllKnown size xs ys → Withdraws size xs ys end
 unfolding served_events withdrawn_results withdrawn front
 withdraws size [] [] end k row none known = record { kept = tt; row = tt; first = refl; results = refl; known = tt; leads = refl; stands = λ q. refl }
 withdraws size [] (y ∷ ys) end k row none known = absurd k
@@ -128,7 +130,7 @@ withdraws size (x ∷ xs) (y ∷ ys) end k row none known = by_state x.state ref
         stays a b r (subst (λ s. known_by s (y.moved ≡ count size x) (FrontKnown size (map blanked xs) (map kept_blanked ys))) (sym st) r.known) (λ q. absurd (cc (q, ap is_blank_state st)))
 
 -- an endpoint of this line, at which an errand begins or the controller runs on; nothing waits for it in the event ring
-leaves : (size : ℕ) (e : Endpoint) (os : List Errand) (ns : List Event) (b : Bench) (sent : List Sent) (told : List Telling) (s : ShowsEnd size e os ns b sent told) (xs : List Item) (ys : List Kept) (state : EndpointState) (er : Option Errand) (w : Option Sent) (os' : List Errand) (sent' : List Sent)
+leaves : (size : ℕ) (e : Endpoint) (os : List Errand) (ns : List Event) (b : KeptEndpoint) (sent : List SentErrand) (told : List Telling) (s : ShowsEnd size e os ns b sent told) (xs : List Item) (ys : List KeptTransfer) (state : EndpointState) (er : Option Errand) (w : Option SentErrand) (os' : List Errand) (sent' : List SentErrand)
     → AllKept size xs ys → InRow ys b.end → served_events xs ≡ [] → option_map (λ z. z.errand) w ≡ er → sent' ≡ orders_sent w os'
     → (is_stale state er os' ≡ false → record { place = b.dequeue; within = b.within } ≡ front size xs ys b.end) → (state ≡ Stopped → FrontKnown size xs ys)
     → ShowsEnd size (record e { line = xs; state = state; errand = er }) os' [] (record b { line = ys; state = state; errand = w }) sent' []
@@ -150,7 +152,7 @@ leaves size e os ns b sent told s xs ys state er w os' sent' kept row none same 
 }
 
 -- an errand is ordered at a line
-ordered : (size : ℕ) (e : Endpoint) (b : Bench) (told : List Telling) (s : ShowsEnd size e [] [] b [] told) (xs : List Item) (ys : List Kept) (x : Errand) (next : ℕ) (r : Reply) (results : List TransferResult) (made : List TransferResult)
+ordered : (size : ℕ) (e : Endpoint) (b : KeptEndpoint) (told : List Telling) (s : ShowsEnd size e [] [] b [] told) (xs : List Item) (ys : List KeptTransfer) (x : Errand) (next : ℕ) (r : Reply) (results : List TransferResult) (made : List TransferResult)
     → AllKept size xs ys → InRow ys b.end → served_events xs ≡ [] → made ≡ results → (is_stale e.state (Some x) (x ∷ []) ≡ false → ⊥) → (e.state ≡ Stopped → FrontKnown size xs ys)
     → Handles size (orders_errand (record e { line = xs }) x r results) (posts (record b { line = ys }) x next r made) [] [] [] []
 ordered size e b told s xs ys x next r results made kept row none same stale known =
@@ -161,10 +163,10 @@ ordered size e b told s xs ys x next r results made kept row none same stale kno
     }
 
 -- where the endpoint stands, it goes on, or is moved
-resumes : (size : ℕ) (e : Endpoint) (b : Bench) (told : List Telling) (s : ShowsEnd size e [] [] b [] told) (xs : List Item) (ys : List Kept) (next : ℕ) (r : Reply)
+resumes : (size : ℕ) (e : Endpoint) (b : KeptEndpoint) (told : List Telling) (s : ShowsEnd size e [] [] b [] told) (xs : List Item) (ys : List KeptTransfer) (next : ℕ) (r : Reply)
     → e.state ≡ Stopped → AllKept size xs ys → InRow ys b.end → served_events xs ≡ [] → AllKnown size xs ys → record { place = b.dequeue; within = b.within } ≡ front size xs ys b.end
-    → Handles size (resume size e r xs) (resume_bench next b r ys) [] [] [] []
-unfolding resume resume_bench
+    → Handles size (resume size e r xs) (resume_kept next b r ys) [] [] [] []
+unfolding resume resume_kept
 resumes size e b told s xs ys next r stopped kept row none known stands =
     let d = withdraws size xs ys b.end kept row none known in
     rw (d.leads) (by_test (leads_blank (map blanked xs)) refl d)
@@ -174,7 +176,7 @@ resumes size e b told s xs ys next r stopped kept row none known stands =
 
     by_test : (t : Bool) → leads_blank (map blanked xs) ≡ t → Withdraws size xs ys b.end
         → Handles size (if t then orders_errand (record e { line = map blanked xs }) errand.Move r (withdrawn size xs) else record { reply = r; endpoint = record e { line = map blanked xs; errand = None; state = Running }; orders = []; news = []; results = withdrawn size xs })
-        (if t then posts (record b { line = map kept_blanked ys }) errand.Move next r (withdrawn_results ys) else record { reply = r; bench = record b { line = map kept_blanked ys; errand = None; state = Running }; orders = []; results = withdrawn_results ys }) [] [] [] []
+        (if t then posts (record b { line = map kept_blanked ys }) errand.Move next r (withdrawn_results ys) else record { reply = r; endpoint = record b { line = map kept_blanked ys; errand = None; state = Running }; orders = []; results = withdrawn_results ys }) [] [] [] []
     by_test true leads d = ordered size e b told s (map blanked xs) (map kept_blanked ys) errand.Move next r (withdrawn size xs) (withdrawn_results ys) d.kept d.row nothing d.results (λ q. absurd (stale e.state stopped q)) (λ q. d.known)
       where
         stale : (t : EndpointState) → t ≡ Stopped → is_stale t (Some errand.Move) (errand.Move ∷ []) ≡ false → ⊥
@@ -231,12 +233,12 @@ none_served line x ns tail other told = by_events (served_events line) refl told
     by_events (z ∷ zs) is told = let head : z ≡ x = cc in absurd (no_end line x zs other (is ∙ ap (λ k. k ∷ zs) head))
 
 -- the conclusion: the completion is that of the endpoint's errand, and what handling it leaves
-pub record SettledShows (size ep : ℕ) (gone : Bool) (next : ℕ) (e : Endpoint) (os : List Errand) (ns : List Event) (b : Bench) (sent : List Sent) (t : Telling) (told : List Telling) (o : Errand) (ok : Bool) : Type 0 where
+pub record SettledShows (size ep : ℕ) (gone : Bool) (next : ℕ) (e : Endpoint) (os : List Errand) (ns : List Event) (b : KeptEndpoint) (sent : List SentErrand) (t : Telling) (told : List Telling) (o : Errand) (ok : Bool) : Type 0 where
   pub event : t ≡ Completion (index_of b.errand) (code_of ok)
   pub errand : e.errand ≡ Some o
   pub handles : Handles size (deliver size ep gone e (Settled o ok)) (settle ep next b o ok) os ns sent told
 
-pub settled_shows : (size ep : ℕ) (gone : Bool) (next : ℕ) (e : Endpoint) (os : List Errand) (ns : List Event) (b : Bench) (sent : List Sent) (t : Telling) (told : List Telling) (o : Errand) (ok : Bool)
+pub settled_shows : (size ep : ℕ) (gone : Bool) (next : ℕ) (e : Endpoint) (os : List Errand) (ns : List Event) (b : KeptEndpoint) (sent : List SentErrand) (t : Telling) (told : List Telling) (o : Errand) (ok : Bool)
     → IsCoherent e os (Settled o ok ∷ ns) → IsOrderly size e → ShowsEnd size e os (Settled o ok ∷ ns) b sent (t ∷ told) → SettledShows size ep gone next e os ns b sent t told o ok
 unfolding deliver settle
 settled_shows size ep gone next e os ns b sent t told o ok c orderly s = by_way (end_ways e.state e.errand os (served_events e.line) c.tail o ok ns (none_served e.line (Settled o ok) ns c.tail (λ n code q. cc) c.news).1 c.phase)
@@ -253,7 +255,7 @@ settled_shows size ep gone next e os ns b sent t told o ok c orderly s = by_way 
     quiet : has_pause s.tail ≡ has_pause ns
     quiet = ap has_pause first.1
 
-    Done : Errand → Bool → List Errand → List Event → List Sent → List Telling → Type 0
+    Done : Errand → Bool → List Errand → List Event → List SentErrand → List Telling → Type 0
     Done x f l m w u = Handles size (deliver size ep gone e (Settled x f)) (settle ep next b x f) l m w u
 
     -- with nothing waiting

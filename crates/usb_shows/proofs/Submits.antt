@@ -16,9 +16,10 @@ use Rattle.usb_model.specs.Endpoint.Packets.{open_with}
 use Rattle.usb_lemmas.proofs.Work.Errands.{events-push}
 use Rattle.usb_lemmas.proofs.Shares.OpenShares.{outcome_nothing}
 use Rattle.usb_model.specs.Requests.{length_of}
-use Rattle.usb_shows.specs.Stands.{full_trbs, stand}
-use Rattle.usb_shows.specs.Benches.{AllKept, Bench, FirstPaused, FrontKnown, InRow, IsKept, Kept, Sent, ShowsEnd, Telling, Completion, code_of, count, first_place, front, front_of, index_of, known_by, pause_told, tail_told, telling_of, told_by, told_of, trbs_of, is_extra}
-use Rattle.usb_shows.specs.Joining.{joined, new_kept}
+use Rattle.usb_kept.specs.Stands.{full_trbs, stand}
+use Rattle.usb_shows.specs.Showing.{AllKept, FirstPaused, FrontKnown, InRow, IsKept, ShowsEnd, count, front, front_of, known_by, pause_told, tail_told, telling_of, told_by, told_of}
+use Rattle.usb_kept.specs.Kept.{KeptEndpoint, KeptTransfer, SentErrand, Telling, Completion, code_of, first_place, index_of, trbs_of, is_extra}
+use Rattle.usb_kept.specs.Joining.{joined, new_kept}
 use Rattle.usb_shows.proofs.Fronts.{none_moved, starts}
 
 some_trbs : (size : ℕ) (request : Request) → 0 < length (trbs_of size request)
@@ -49,7 +50,7 @@ kept_new size place n request round = record {
 }
 
 -- a line with one more
-record Joins (size : ℕ) (xs : List Item) (ys : List Kept) (end : ℕ) (x : Item) (y : Kept) (end' : ℕ) : Type 0 where
+record Joins (size : ℕ) (xs : List Item) (ys : List KeptTransfer) (end : ℕ) (x : Item) (y : KeptTransfer) (end' : ℕ) : Type 0 where
   kept : AllKept size (xs ++ x ∷ []) (ys ++ y ∷ [])
   row : InRow (ys ++ y ∷ []) end'
   begins : first_place (ys ++ y ∷ []) end' ≡ first_place ys end
@@ -58,7 +59,7 @@ record Joins (size : ℕ) (xs : List Item) (ys : List Kept) (end : ℕ) (x : Ite
   known : FrontKnown size xs ys → FrontKnown size (xs ++ x ∷ []) (ys ++ y ∷ [])
   first : (z : Item) → first_waiting xs ≡ Some z → (first_waiting (xs ++ x ∷ []) ≡ Some z) × (pause_told size (xs ++ x ∷ []) (ys ++ y ∷ []) ≡ pause_told size xs ys)
 
-joins : (size : ℕ) (xs : List Item) (ys : List Kept) (end n : ℕ) (request : Request) (round : ℕ) → AllKept size xs ys → InRow ys end
+joins : (size : ℕ) (xs : List Item) (ys : List KeptTransfer) (end n : ℕ) (request : Request) (round : ℕ) → AllKept size xs ys → InRow ys end
     → Joins size xs ys end (new_item n request round) (new_kept size end n request round) (end + length (trbs_of size request))
 unfolding told_of front first_waiting pause_told
 joins size [] [] end n request round k row =
@@ -90,7 +91,7 @@ joins size (x ∷ xs) (y ∷ ys) end n request round k row =
     more : Item
     more = new_item n request round
 
-    kept : Kept
+    kept : KeptTransfer
     kept = new_kept size end n request round
 
     by_known : (s : ItemState) → (FrontKnown size xs ys → FrontKnown size (xs ++ more ∷ []) (ys ++ kept ∷ [])) → known_by s (y.moved ≡ count size x) (FrontKnown size xs ys) → known_by s (y.moved ≡ count size x) (FrontKnown size (xs ++ more ∷ []) (ys ++ kept ∷ []))
@@ -105,7 +106,7 @@ joins size (x ∷ xs) (y ∷ ys) end n request round k row =
     by_first z false e rest = rest e
 
 -- a pause is that of a transfer that stood there before
-tail_joined : (size : ℕ) (xs xs' : List Item) (ys ys' : List Kept) (sent : Option Sent) (tail : List Event) → ((z : Item) → first_waiting xs ≡ Some z → (first_waiting xs' ≡ Some z) × (pause_told size xs' ys' ≡ pause_told size xs ys)) → FirstPaused xs tail
+tail_joined : (size : ℕ) (xs xs' : List Item) (ys ys' : List KeptTransfer) (sent : Option SentErrand) (tail : List Event) → ((z : Item) → first_waiting xs ≡ Some z → (first_waiting xs' ≡ Some z) × (pause_told size xs' ys' ≡ pause_told size xs ys)) → FirstPaused xs tail
     → (tail_told size xs' ys' sent tail ≡ tail_told size xs ys sent tail) × FirstPaused xs' tail
 tail_joined size xs xs' ys ys' sent [] f p = (refl, tt)
 tail_joined size xs xs' ys ys' sent (Finished n code ∷ es) f p = tail_joined size xs xs' ys ys' sent es f p
@@ -118,7 +119,7 @@ tail_joined size xs xs' ys ys' sent (Settled errand ok ∷ es) f p =
     (ap (λ l. Completion (index_of sent) (code_of ok) ∷ l) r.0, r.1)
 
 -- a submission that is accepted
-pub submit_shows : (size : ℕ) (e : Endpoint) (os : List Errand) (ns : List Event) (b : Bench) (sent : List Sent) (told : List Telling) (n : ℕ) (request : Request) (round : ℕ) → ShowsEnd size e os ns b sent told
+pub submit_shows : (size : ℕ) (e : Endpoint) (os : List Errand) (ns : List Event) (b : KeptEndpoint) (sent : List SentErrand) (told : List Telling) (n : ℕ) (request : Request) (round : ℕ) → ShowsEnd size e os ns b sent told
     → ShowsEnd size (record e { line = e.line ++ new_item n request round ∷ [] }) os ns (joined size b n request round) sent told
 submit_shows size e os ns b sent told n request round s =
     let j = joins size e.line b.line b.end n request round s.kept s.row in

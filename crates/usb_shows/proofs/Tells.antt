@@ -13,19 +13,19 @@ use Rattle.usb_model.specs.declared.item.Item.{Item}
 use Rattle.usb_model.specs.declared.item.ItemState.TheVariants.{Blank, Served, Waiting}
 use Rattle.usb_model.specs.declared.item.ItemState.{ItemState}
 use Rattle.usb_model.specs.declared.outcome.Outcome.{Outcome}
-use Rattle.usb_model.specs.Laws.Cut.{is_of_direction}
+use Rattle.usb_model.specs.Direction.{is_of_direction, IsBody}
 use Rattle.usb_model.specs.Endpoint.{bytes_read, first_waiting, is_waiting_state, outcome_of}
 use Rattle.usb_model.specs.Endpoint.Packets.{IsOpenAt, count_of, ended_with, open_with, outcome, without_naks}
 use Rattle.usb_model.specs.Requests.{length_of}
 use Rattle.usb_model.specs.Endpoint.Serve.{acknowledged, next_answer}
 use Rattle.usb_lemmas.proofs.Shares.More.{one_more}
 use Rattle.usb_lemmas.proofs.Shares.Next.{next_there}
-use Rattle.usb_model.specs.Direction.{IsBody}
 use Rattle.usb_lemmas.proofs.Shares.OpenShares.{IsWhole, open_at, open_whole, halted_outcome}
-use Rattle.usb_shows.specs.Stands.{full_trbs, lengths_of, total}
-use Rattle.usb_shows.specs.Benches.{AllNew, AllOpen, Bench, IsLive, Kept, count, is_extra, known_by, new_by, trbs_of}
-use Rattle.usb_shows.specs.Serving.{Packet, PacketIs, answer_now, gave, got, grown, outcome_now, packet_by, packet_now, packet_of, room_at}
-use Rattle.usb_shows.specs.Commanding.{PauseTold}
+use Rattle.usb_kept.specs.Stands.{full_trbs, lengths_of, total}
+use Rattle.usb_shows.specs.Showing.{AllNew, AllOpen, IsLive, count, known_by, new_by}
+use Rattle.usb_kept.specs.Kept.{KeptEndpoint, KeptTransfer, is_extra, trbs_of}
+use Rattle.usb_kept.specs.Serving.{Packet, answer_now, gave, got, packet_by, packet_now, packet_of, room_at}
+use Rattle.usb_shows.specs.Keeping.{PacketIs, grown, outcome_now, PauseTold}
 use Rattle.usb_shows.proofs.Packets.{IsCounted, counted, next_is}
 use Rattle.usb_shows.proofs.Fronts.{none_moved}
 use Rattle.usb_shows.proofs.Serves.{At, PacketTold}
@@ -54,7 +54,7 @@ total-split (suc i) [] = omega arith
 total-split (suc i) (l ∷ ls) = omega (arith, total-split i ls)
 
 -- the room that the controller sees is what is left of the request
-room_is : (size : ℕ) (b : Bench) (x : Item) (y : Kept) → IsLive size x y → At size b x y → room_at b y ≡ length_of x.request.body - count size x
+room_is : (size : ℕ) (b : KeptEndpoint) (x : Item) (y : KeptTransfer) → IsLive size x y → At size b x y → room_at b y ≡ length_of x.request.body - count size x
 room_is size b x y live a =
     let whole : total y.lengths ≡ length_of x.request.body = ap total live.lengths ∙ total_of (is_extra size x.request x.request.body) (length_of x.request.body) in
     omega (arith, whole, a.before, total-split (b.dequeue - y.place) y.lengths)
@@ -97,7 +97,7 @@ drop_whole : (l : List (List ℕ)) → drop (length l) l ≡ []
 drop_whole [] = refl
 drop_whole (x ∷ xs) = drop_whole xs
 
-pub packet_told : (size : ℕ) (inward : Bool) (e : Endpoint) (b : Bench) → 0 < size → AllOpen size e.line → (e.device_halted ≡ true → AllNew e.line) → b.device_halted ≡ e.device_halted → ((x : Item) → first_waiting e.line ≡ Some x → IsBody inward x.request.body)
+pub packet_told : (size : ℕ) (inward : Bool) (e : Endpoint) (b : KeptEndpoint) → 0 < size → AllOpen size e.line → (e.device_halted ≡ true → AllNew e.line) → b.device_halted ≡ e.device_halted → ((x : Item) → first_waiting e.line ≡ Some x → IsBody inward x.request.body)
     → list_all (is_of_direction inward) e.script_left ≡ true → PacketTold size e b
 packet_told size inward e b some opens stalls halted bodies kinds x y first live a same = by_halted e.device_halted refl e.script_left refl
   where

@@ -1,4 +1,4 @@
--- Work at one endpoint: where its bench shows the endpoint that the work leaves, the core after it shows the world after it.
+-- Work at one endpoint: where its endpoint shows the endpoint that the work leaves, the core after it shows the world after it.
 use Rattle.std.proofs.Common.{Bool, List, Option, Some, [], ap, ap₂, arith, false, length, map, refl, subst, subst₂, sym, true, ℕ, ◌&&◌, ◌++◌, ◌==◌, ◌∙◌, ◌∷◌, ◌≡◌}
 use Rattle.std.specs.Prelude.{if◌then◌else◌}
 use Rattle.std.proofs.lemmas.Bool.{and_parts, eqb-true}
@@ -19,7 +19,8 @@ use Rattle.usb_model.specs.World.{World, holder, is_its, new_world, turn, world_
 use Rattle.usb_model.specs.Coherence.{IsCoherent, IsPhase, ended, move_ran, move_waits, reset_ran, reset_waits, runs, served_events, stop_failed, stop_ran, stop_ran_paused, stop_waits, stop_waits_halted}
 use Rattle.usb_lemmas.proofs.Handles.Isolation.{gone_stays}
 use Rattle.usb_lemmas.proofs.Lists.Pieces.{same_name}
-use Rattle.usb_shows.specs.Benches.{AllFew, Bench, Sent, ShowsEnd, Telling}
+use Rattle.usb_shows.specs.Showing.{AllFew, ShowsEnd}
+use Rattle.usb_kept.specs.Kept.{KeptEndpoint, SentErrand, Telling}
 use Rattle.usb_shows.specs.Shows.{At, Core, InRun, Report, Shows, at, errands, event_at, events, news_of, order_at, order_of, ring_event, ring_order, tellings, under_way}
 use Rattle.usb_shows.specs.Stepping.{Work, posted_by, worked}
 use Rattle.usb_shows.proofs.Counts.{NoEnds, as_many, errands_added, events_reported, reports, tellings_reported}
@@ -46,12 +47,12 @@ no_ends s er os es tail move_waits = tt
 no_ends s er os es tail move_ran = tt
 
 -- what is told of an endpoint is as much as its news
-pub told_all : (size : ℕ) (e : Endpoint) (os : List Errand) (ns : List Event) (b : Bench) (sent : List Sent) (told : List Telling) → IsCoherent e os ns → ShowsEnd size e os ns b sent told → length told ≡ length ns
+pub told_all : (size : ℕ) (e : Endpoint) (os : List Errand) (ns : List Event) (b : KeptEndpoint) (sent : List SentErrand) (told : List Telling) → IsCoherent e os ns → ShowsEnd size e os ns b sent told → length told ≡ length ns
 told_all size e os ns b sent told c s =
     as_many size e os ns b sent told s (subst NoEnds (append_cancel_left (served_events e.line) c.tail s.tail (sym c.news ∙ s.news)) (no_ends e.state e.errand os (served_events e.line) c.tail c.phase))
 
 -- the orders that wait after work at an endpoint, and the news
-abbrev pub orders_left : {setup : Setup} {w : World} {c : Core} → Shows setup w c → Step → List (At Sent)
+abbrev pub orders_left : {setup : Setup} {w : World} {c : Core} → Shows setup w c → Step → List (At SentErrand)
 orders_left s step = past_first (takes_order step) s.orders
 
 abbrev pub news_left : {setup : Setup} {w : World} {c : Core} → Shows setup w c → Step → List (At Report)
@@ -68,13 +69,13 @@ pub record Works (setup : Setup) (w : World) (c : Core) (s : Shows setup w c) (h
   pub reply : k.reply ≡ d.reply
   pub results : k.results ≡ d.results
   pub coherent : IsCoherent d.endpoint (errands (at dev ep (orders_left s step)) ++ d.orders) (events (at dev ep (news_left s step)) ++ d.news)
-  pub shows : ShowsEnd (packet_size_of setup dev ep) d.endpoint (errands (at dev ep (orders_left s step)) ++ d.orders) (events (at dev ep (news_left s step)) ++ d.news) k.bench (at dev ep (orders_left s step) ++ k.sent) (tellings (at dev ep (news_left s step)) ++ k.told)
-  pub few : AllFew k.bench.line
+  pub shows : ShowsEnd (packet_size_of setup dev ep) d.endpoint (errands (at dev ep (orders_left s step)) ++ d.orders) (events (at dev ep (news_left s step)) ++ d.news) k.endpoint (at dev ep (orders_left s step) ++ k.sent) (tellings (at dev ep (news_left s step)) ++ k.told)
+  pub few : AllFew k.endpoint.line
   pub first : ℕ
   pub in_run : InRun first (under_way (past_first (takes_news step) c.events ++ map (event_at dev ep) k.told) (past_first (takes_order step) c.orders ++ map (order_at dev ep) k.sent)) (posted_by k.sent c.posted)
 
 -- what is added, as the world has it and as the rings have it
-added_orders : (h dev ep : ℕ) (xs : List Sent) → map order_of (map (put h dev ep) xs) ≡ tagged h (orders_at ep (errands xs))
+added_orders : (h dev ep : ℕ) (xs : List SentErrand) → map order_of (map (put h dev ep) xs) ≡ tagged h (orders_at ep (errands xs))
 added_orders h dev ep [] = refl
 added_orders h dev ep (x ∷ xs) = ap (λ l. record { name = h; piece = record { ep = ep; errand = x.errand } } ∷ l) (added_orders h dev ep xs)
 
@@ -82,7 +83,7 @@ added_news : (h dev ep : ℕ) (xs : List Report) → map news_of (map (put h dev
 added_news h dev ep [] = refl
 added_news h dev ep (x ∷ xs) = ap (λ l. record { name = h; piece = record { ep = ep; event = x.event } } ∷ l) (added_news h dev ep xs)
 
-kept_orders : (h dev ep : ℕ) (xs : List Sent) → map ring_order (map (put h dev ep) xs) ≡ map (order_at dev ep) xs
+kept_orders : (h dev ep : ℕ) (xs : List SentErrand) → map ring_order (map (put h dev ep) xs) ≡ map (order_at dev ep) xs
 kept_orders h dev ep [] = refl
 kept_orders h dev ep (x ∷ xs) = ap (λ l. order_at dev ep x ∷ l) (kept_orders h dev ep xs)
 
@@ -103,7 +104,7 @@ work_shows setup w c s h dev ep step handle d k works = (
   subst (λ t. Shows setup t (worked h handle dev ep step k c)) (sym (ap (λ t. t.world) works.turns)) world_of,
 )
   where
-    old_orders : List (At Sent)
+    old_orders : List (At SentErrand)
     old_orders = orders_left s step
 
     old_news : List (At Report)
@@ -113,7 +114,7 @@ work_shows setup w c s h dev ep step handle d k works = (
     many =
         omega (
           arith,
-          told_all _ d.endpoint _ _ k.bench _ _ works.coherent works.shows,
+          told_all _ d.endpoint _ _ k.endpoint _ _ works.coherent works.shows,
           length-append (tellings (at dev ep old_news)) k.told,
           length-append (events (at dev ep old_news)) d.news,
           length-map (at dev ep old_news) (λ x. x.telling),
@@ -123,14 +124,14 @@ work_shows setup w c s h dev ep step handle d k works = (
     told : List Report
     told = reports d.news k.told
 
-    new_orders : List (At Sent)
+    new_orders : List (At SentErrand)
     new_orders = old_orders ++ map (put h dev ep) k.sent
 
     new_news : List (At Report)
     new_news = old_news ++ map (put h dev ep) told
 
     same_orders : errands k.sent ≡ d.orders
-    same_orders = errands_added k.bench.errand (at dev ep old_orders) k.sent d.orders works.shows.sent_is
+    same_orders = errands_added k.endpoint.errand (at dev ep old_orders) k.sent d.orders works.shows.sent_is
 
     same_events : events told ≡ d.news
     same_events = events_reported d.news k.told many
@@ -141,34 +142,34 @@ work_shows setup w c s h dev ep step handle d k works = (
     later : World
     later = world_after setup h w step (at_endpoint handle dev ep d)
 
-    here_shows : ShowsEnd (packet_size_of setup dev ep) d.endpoint (errands (at dev ep new_orders)) (events (at dev ep new_news)) k.bench (at dev ep new_orders) (tellings (at dev ep new_news))
+    here_shows : ShowsEnd (packet_size_of setup dev ep) d.endpoint (errands (at dev ep new_orders)) (events (at dev ep new_news)) k.endpoint (at dev ep new_orders) (tellings (at dev ep new_news))
     here_shows =
         let os : at dev ep new_orders ≡ at dev ep old_orders ++ k.sent = at_here h dev ep old_orders k.sent in
         let ns : at dev ep new_news ≡ at dev ep old_news ++ told = at_here h dev ep old_news told in
         let os' : errands (at dev ep new_orders) ≡ errands (at dev ep old_orders) ++ d.orders = ap errands os ∙ (map-append (λ x. x.errand) (at dev ep old_orders) k.sent ∙ ap (λ l. errands (at dev ep old_orders) ++ l) same_orders) in
         let ns' : events (at dev ep new_news) ≡ events (at dev ep old_news) ++ d.news = ap events ns ∙ (map-append (λ x. x.event) (at dev ep old_news) told ∙ ap (λ l. events (at dev ep old_news) ++ l) same_events) in
         let ts : tellings (at dev ep new_news) ≡ tellings (at dev ep old_news) ++ k.told = ap tellings ns ∙ (map-append (λ x. x.telling) (at dev ep old_news) told ∙ ap (λ l. tellings (at dev ep old_news) ++ l) same_told) in
-        subst₂ (λ a b. ShowsEnd (packet_size_of setup dev ep) d.endpoint a b k.bench (at dev ep new_orders) (tellings (at dev ep new_news))) (sym os') (sym ns')
-        (subst₂ (λ a b. ShowsEnd (packet_size_of setup dev ep) d.endpoint (errands (at dev ep old_orders) ++ d.orders) (events (at dev ep old_news) ++ d.news) k.bench a b) (sym os) (sym ts) works.shows)
+        subst₂ (λ a b. ShowsEnd (packet_size_of setup dev ep) d.endpoint a b k.endpoint (at dev ep new_orders) (tellings (at dev ep new_news))) (sym os') (sym ns')
+        (subst₂ (λ a b. ShowsEnd (packet_size_of setup dev ep) d.endpoint (errands (at dev ep old_orders) ++ d.orders) (events (at dev ep old_news) ++ d.news) k.endpoint a b) (sym os) (sym ts) works.shows)
 
     other_shows : (g a e : ℕ) → ((dev == a) && (ep == e)) ≡ false → holder setup w.claims a e ≡ Some g
-        → ShowsEnd (packet_size_of setup a e) (w.endpoints a e) (errands (at a e new_orders)) (events (at a e new_news)) (c.benches a e) (at a e new_orders) (tellings (at a e new_news))
+        → ShowsEnd (packet_size_of setup a e) (w.endpoints a e) (errands (at a e new_orders)) (events (at a e new_news)) (c.endpoints a e) (at a e new_orders) (tellings (at a e new_news))
     other_shows g a e other holds =
         let os : at a e new_orders ≡ at a e s.orders = at_other h dev ep a e old_orders k.sent other ∙ past_other (takes_order step) dev ep a e s.orders works.first_order other in
         let ns : at a e new_news ≡ at a e s.news = at_other h dev ep a e old_news told other ∙ past_other (takes_news step) dev ep a e s.news works.first_news other in
-        subst₂ (λ x y. ShowsEnd (packet_size_of setup a e) (w.endpoints a e) (errands x) (events y) (c.benches a e) x (tellings y)) (sym os) (sym ns) (s.endpoints g a e holds)
+        subst₂ (λ x y. ShowsEnd (packet_size_of setup a e) (w.endpoints a e) (errands x) (events y) (c.endpoints a e) x (tellings y)) (sym os) (sym ns) (s.endpoints g a e holds)
 
     each : (g a e : ℕ) (b : Bool) → ((dev == a) && (ep == e)) ≡ b → holder setup w.claims a e ≡ Some g
-        → ShowsEnd (packet_size_of setup a e) (if b && is_its h (holder setup w.claims a e) then d.endpoint else w.endpoints a e) (errands (at a e new_orders)) (events (at a e new_news)) (if b then k.bench else c.benches a e) (at a e new_orders) (tellings (at a e new_news))
+        → ShowsEnd (packet_size_of setup a e) (if b && is_its h (holder setup w.claims a e) then d.endpoint else w.endpoints a e) (errands (at a e new_orders)) (events (at a e new_news)) (if b then k.endpoint else c.endpoints a e) (at a e new_orders) (tellings (at a e new_news))
     each g a e false other holds = other_shows g a e other holds
     each g a e true same holds =
         let p = and_parts (dev == a) (ep == e) same in
         let same_dev : dev ≡ a = eqb-true dev a p.0 in
         let same_ep : ep ≡ e = eqb-true ep e p.1 in
         let its : is_its h (holder setup w.claims a e) ≡ true = ap (is_its h) (subst₂ (λ x y. holder setup w.claims x y ≡ Some h) same_dev same_ep works.holds) ∙ same_name h in
-        rw its (subst₂ (λ x y. ShowsEnd (packet_size_of setup x y) d.endpoint (errands (at x y new_orders)) (events (at x y new_news)) k.bench (at x y new_orders) (tellings (at x y new_news))) same_dev same_ep here_shows)
+        rw its (subst₂ (λ x y. ShowsEnd (packet_size_of setup x y) d.endpoint (errands (at x y new_orders)) (events (at x y new_news)) k.endpoint (at x y new_orders) (tellings (at x y new_news))) same_dev same_ep here_shows)
 
-    fews : (b : Bool) (a e : ℕ) → AllFew (if b then k.bench else c.benches a e).line
+    fews : (b : Bool) (a e : ℕ) → AllFew (if b then k.endpoint else c.endpoints a e).line
     fews true a e = works.few
     fews false a e = s.few a e
 

@@ -10,7 +10,7 @@ use Rattle.usb_model.specs.declared.news.Event.TheVariants.{Finished, Paused, Se
 use Rattle.usb_model.specs.declared.request.Request.{Request}
 use Rattle.usb_model.specs.Machine.Calls.{asks}
 use Rattle.usb_model.specs.Endpoint.Command.{command}
-use Rattle.usb_model.specs.Laws.Cut.{is_of_direction}
+use Rattle.usb_model.specs.Direction.{is_of_direction, IsBody}
 use Rattle.usb_model.specs.Endpoint.Deliver.{deliver}
 use Rattle.usb_model.specs.Endpoint.{first_waiting, fresh, new_item}
 use Rattle.usb_model.specs.Endpoint.Serve.{serve}
@@ -23,51 +23,52 @@ use Rattle.usb_shows.specs.Lively.{IsLively, ends_of}
 use Rattle.usb_shows.specs.Shows.{Core, Shows}
 use Rattle.usb_shows.specs.Stepping.{StepsTo, command_core, deliver_core, new_core, serve_core, take_core}
 use Rattle.usb_model.specs.Coherence.{IsCoherent}
-use Rattle.usb_model.specs.Direction.{IsBody}
-use Rattle.usb_shows.specs.Stands.{read_off, residual, stand, total}
-use Rattle.usb_shows.specs.Benches.{Bench, Completion, IsOrderly, Sent, ShowsEnd, Telling, Transfer, code_of, index_of}
-use Rattle.usb_shows.specs.Handling.{Handles, Reading, finish, reading}
-use Rattle.usb_shows.specs.Serving.{Serves, serve_bench}
-use Rattle.usb_shows.specs.Commanding.{Carries, carry}
-use Rattle.usb_shows.specs.Settling.{pauses, settle}
-use Rattle.usb_shows.specs.Joining.{asked, joined}
+use Rattle.usb_kept.specs.Stands.{read_off, residual, stand, total}
+use Rattle.usb_kept.specs.Kept.{KeptEndpoint, Completion, SentErrand, Telling, Transfer, code_of, index_of}
+use Rattle.usb_shows.specs.Showing.{IsOrderly, ShowsEnd}
+use Rattle.usb_shows.specs.Keeping.{Handles, Serves, Carries}
+use Rattle.usb_kept.specs.Handling.{Reading, finish, reading}
+use Rattle.usb_kept.specs.Serving.{serve_kept}
+use Rattle.usb_kept.specs.Commanding.{carry}
+use Rattle.usb_kept.specs.Settling.{pauses, settle}
+use Rattle.usb_kept.specs.Joining.{asked, joined}
 
 -- the bytes moved are read off the residual of an event where the transfer stands
 abbrev pub ReadsBack : Type 0
 ReadsBack = (l : ℕ) (ls : List ℕ) (c : ℕ) → c ≤ total (l ∷ ls) → read_off (l ∷ ls) (stand (l ∷ ls) c).index (residual (l ∷ ls) c) ≡ c
 
 abbrev pub DeliversFinished : Type 0
-DeliversFinished = (size ep : ℕ) (gone : Bool) (next : ℕ) (e : Endpoint) (os : List Errand) (ns : List Event) (b : Bench) (sent : List Sent) (t : Telling) (told : List Telling) (n code : ℕ)
+DeliversFinished = (size ep : ℕ) (gone : Bool) (next : ℕ) (e : Endpoint) (os : List Errand) (ns : List Event) (b : KeptEndpoint) (sent : List SentErrand) (t : Telling) (told : List Telling) (n code : ℕ)
     → IsCoherent e os (Finished n code ∷ ns) → ShowsEnd size e os (Finished n code ∷ ns) b sent (t ∷ told)
     → (p : ℕ) × (r : ℕ) × (found : Reading) × (t ≡ Transfer p r code) × (reading b.line p r ≡ Some found) × Handles size (deliver size ep gone e (Finished n code)) (finish gone next b p code found) os ns sent told
 
 abbrev pub DeliversPaused : Type 0
-DeliversPaused = (size ep : ℕ) (gone : Bool) (e : Endpoint) (os : List Errand) (ns : List Event) (b : Bench) (sent : List Sent) (t : Telling) (told : List Telling) (n : ℕ)
+DeliversPaused = (size ep : ℕ) (gone : Bool) (e : Endpoint) (os : List Errand) (ns : List Event) (b : KeptEndpoint) (sent : List SentErrand) (t : Telling) (told : List Telling) (n : ℕ)
     → IsCoherent e os (Paused n ∷ ns) → ShowsEnd size e os (Paused n ∷ ns) b sent (t ∷ told)
     → (p : ℕ) × (r : ℕ) × (found : Reading) × (t ≡ Transfer p r 26) × (reading b.line p r ≡ Some found) × Handles size (deliver size ep gone e (Paused n)) (pauses b p found) os ns sent told
 
 abbrev pub DeliversSettled : Type 0
-DeliversSettled = (size ep : ℕ) (gone : Bool) (next : ℕ) (e : Endpoint) (os : List Errand) (ns : List Event) (b : Bench) (sent : List Sent) (t : Telling) (told : List Telling) (o : Errand) (ok : Bool)
+DeliversSettled = (size ep : ℕ) (gone : Bool) (next : ℕ) (e : Endpoint) (os : List Errand) (ns : List Event) (b : KeptEndpoint) (sent : List SentErrand) (t : Telling) (told : List Telling) (o : Errand) (ok : Bool)
     → IsCoherent e os (Settled o ok ∷ ns) → IsOrderly size e → ShowsEnd size e os (Settled o ok ∷ ns) b sent (t ∷ told)
     → (t ≡ Completion (index_of b.errand) (code_of ok)) × (e.errand ≡ Some o) × Handles size (deliver size ep gone e (Settled o ok)) (settle ep next b o ok) os ns sent told
 
 -- inward: whether the endpoint is one of IN
 abbrev pub ServesPackets : Type 0
-ServesPackets = (size : ℕ) (inward gone : Bool) (e : Endpoint) (os : List Errand) (ns : List Event) (b : Bench) (sent : List Sent) (told : List Telling) → 0 < size
+ServesPackets = (size : ℕ) (inward gone : Bool) (e : Endpoint) (os : List Errand) (ns : List Event) (b : KeptEndpoint) (sent : List SentErrand) (told : List Telling) → 0 < size
     → IsCoherent e os ns → IsOrderly size e → ((x : Item) → first_waiting e.line ≡ Some x → IsBody inward x.request.body) → list_all (is_of_direction inward) e.script_left ≡ true
-    → ShowsEnd size e os ns b sent told → Serves size (serve size gone e) (serve_bench size gone b) os ns sent told
+    → ShowsEnd size e os ns b sent told → Serves size (serve size gone e) (serve_kept size gone b) os ns sent told
 
 abbrev pub CarriesOrders : Type 0
-CarriesOrders = (size ep : ℕ) (e : Endpoint) (o : Errand) (os : List Errand) (ns : List Event) (b : Bench) (w : Sent) (sent : List Sent) (told : List Telling) → 0 < size
+CarriesOrders = (size ep : ℕ) (e : Endpoint) (o : Errand) (os : List Errand) (ns : List Event) (b : KeptEndpoint) (w : SentErrand) (sent : List SentErrand) (told : List Telling) → 0 < size
     → IsCoherent e (o ∷ os) ns → IsOrderly size e → ShowsEnd size e (o ∷ os) ns b (w ∷ sent) told
     → (w.errand ≡ o) × Carries size ep o (command size ep e o e.state) (carry w.index b o b.state) os ns sent told
 
 abbrev pub AcceptsSubmissions : Type 0
-AcceptsSubmissions = (size : ℕ) (e : Endpoint) (os : List Errand) (ns : List Event) (b : Bench) (sent : List Sent) (told : List Telling) (n : ℕ) (request : Request) (round : ℕ) → ShowsEnd size e os ns b sent told
+AcceptsSubmissions = (size : ℕ) (e : Endpoint) (os : List Errand) (ns : List Event) (b : KeptEndpoint) (sent : List SentErrand) (told : List Telling) (n : ℕ) (request : Request) (round : ℕ) → ShowsEnd size e os ns b sent told
     → ShowsEnd size (record e { line = e.line ++ new_item n request round ∷ [] }) os ns (joined size b n request round) sent told
 
 abbrev pub AcceptsAsks : Type 0
-AcceptsAsks = (size next : ℕ) (e : Endpoint) (os : List Errand) (ns : List Event) (b : Bench) (sent : List Sent) (told : List Telling) (n : ℕ) (ask : Ask) → IsCoherent e os ns → ShowsEnd size e os ns b sent told
+AcceptsAsks = (size next : ℕ) (e : Endpoint) (os : List Errand) (ns : List Event) (b : KeptEndpoint) (sent : List SentErrand) (told : List Telling) (n : ℕ) (ask : Ask) → IsCoherent e os ns → ShowsEnd size e os ns b sent told
     → Handles size (asks e n ask) (asked next b n ask) os ns sent told
 
 abbrev pub FewAtEndpoint : Type 0

@@ -3,10 +3,9 @@ use Rattle.std.specs.Prelude.{◌≡◌, ℕ, suc, ◌<◌, Bool, true, Some, Li
 use Rattle.std.specs.List.{list_all, AllByRecursion}
 use Rattle.usb_model.specs.declared.endpoint.Endpoint.{Endpoint}
 use Rattle.usb_model.specs.declared.item.Item.{Item}
-use Rattle.usb_model.specs.Laws.Cut.{is_of_direction}
+use Rattle.usb_model.specs.Direction.{is_of_direction, IsBody}
 use Rattle.usb_model.specs.Setup.{Setup, interface_of, is_in, script_of, packet_size_of}
-use Rattle.usb_model.specs.Direction.{IsBody}
-use Rattle.usb_shows.specs.Benches.{IsOrderly}
+use Rattle.usb_shows.specs.Showing.{IsOrderly}
 
 -- what a configuration has: a packet size at each endpoint, and answers of its direction
 pub record IsFine (setup : Setup) : Type 0 where

@@ -12,7 +12,8 @@ use Rattle.usb_model.specs.declared.result.TransferResult.{TransferResult}
 use Rattle.usb_model.specs.declared.shared.Tagged.{Tagged}
 use Rattle.usb_model.specs.Setup.{Setup, packet_size_of}
 use Rattle.usb_model.specs.World.{World, Claims, holder, turn, new_world, world_from}
-use Rattle.usb_shows.specs.Benches.{AllFew, Telling, Transfer, Completion, Sent, Bench, ShowsEnd}
+use Rattle.usb_shows.specs.Showing.{AllFew, ShowsEnd}
+use Rattle.usb_kept.specs.Kept.{Telling, Transfer, Completion, SentErrand, KeptEndpoint}
 
 -- an order as the command ring has it: its endpoint, and the place where it stands, counted without end
 pub record RingOrder : Type 0 where
@@ -30,7 +31,7 @@ pub record Core : Type 0 where
   pub names : ℕ → Handle
   pub claims : Claims
   pub gone : ℕ → Bool
-  pub benches : ℕ → ℕ → Bench
+  pub endpoints : ℕ → ℕ → KeptEndpoint
   pub orders : List RingOrder
   pub events : List RingEvent
   pub posted : ℕ  -- the orders posted since the core was made
@@ -55,7 +56,7 @@ here d e x = (x.dev == d) && (x.ep == e)
 abbrev pub at : {A : Type 0} → ℕ → ℕ → List (At A) → List A
 at d e xs = map (λ x. x.what) (filter (here d e) xs)
 
-abbrev pub errands : List Sent → List Errand
+abbrev pub errands : List SentErrand → List Errand
 errands xs = map (λ x. x.errand) xs
 
 abbrev pub events : List Report → List Event
@@ -65,21 +66,21 @@ abbrev pub tellings : List Report → List Telling
 tellings xs = map (λ x. x.telling) xs
 
 -- as the world has it
-abbrev pub order_of : At Sent → Tagged Order
+abbrev pub order_of : At SentErrand → Tagged Order
 order_of x = record { name = x.name; piece = record { ep = x.ep; errand = x.what.errand } }
 
 abbrev pub news_of : At Report → Tagged News
 news_of x = record { name = x.name; piece = record { ep = x.ep; event = x.what.event } }
 
 -- as the rings have it
-abbrev pub order_at : ℕ → ℕ → Sent → RingOrder
+abbrev pub order_at : ℕ → ℕ → SentErrand → RingOrder
 order_at dev ep s = record { dev = dev; ep = ep; errand = s.errand; place = s.index }
 
 abbrev pub event_at : ℕ → ℕ → Telling → RingEvent
 event_at dev ep (Transfer place residual code) = Transfers dev ep place residual code
 event_at dev ep (Completion index code) = Completes dev index code
 
-abbrev pub ring_order : At Sent → RingOrder
+abbrev pub ring_order : At SentErrand → RingOrder
 ring_order x = order_at x.dev x.ep x.what
 
 abbrev pub ring_event : At Report → RingEvent
@@ -112,7 +113,7 @@ pub record Shows (setup : Setup) (w : World) (c : Core) : Type 0 where
   pub claims : c.claims ≡ w.claims
   pub gone : c.gone ≡ w.gone
   pub results : c.results ≡ w.results
-  pub orders : List (At Sent)
+  pub orders : List (At SentErrand)
   pub news : List (At Report)
   pub orders_shown : w.orders ≡ map order_of orders
   pub orders_kept : c.orders ≡ map ring_order orders
@@ -122,9 +123,9 @@ pub record Shows (setup : Setup) (w : World) (c : Core) : Type 0 where
   pub news_held : AllHeld setup w.claims news
   pub first : ℕ
   pub in_run : InRun first (under_way c.events c.orders) c.posted
-  pub few : (d e : ℕ) → AllFew (c.benches d e).line
+  pub few : (d e : ℕ) → AllFew (c.endpoints d e).line
   pub endpoints : (h d e : ℕ) → holder setup w.claims d e ≡ Some h
-      → ShowsEnd (packet_size_of setup d e) (w.endpoints d e) (errands (at d e orders)) (events (at d e news)) (c.benches d e) (at d e orders) (tellings (at d e news))
+      → ShowsEnd (packet_size_of setup d e) (w.endpoints d e) (errands (at d e orders)) (events (at d e news)) (c.endpoints d e) (at d e orders) (tellings (at d e news))
 
 -- a step of a core: for each world that the core shows, its entry is that of the world's turn, and the core then shows the next world
 abbrev pub Steps : Setup → Core → Step → Entry → Core → Type 0

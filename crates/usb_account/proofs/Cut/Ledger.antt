@@ -9,9 +9,9 @@ use Rattle.usb_model.specs.declared.item.Item.{Item}
 use Rattle.usb_model.specs.declared.item.ItemState.TheVariants.{Blank, Served, Waiting}
 use Rattle.usb_model.specs.declared.item.ItemState.{ItemState}
 use Rattle.usb_model.specs.Laws.Account.{Accepted, Account, Asked, Clearing, Transfer, new_account}
-use Rattle.usb_model.specs.Laws.Cut.{AllFit, Cell, Cleared, Ended, Fate, Of, Part, Waits, Withdrawn, accepted_as, asks_of, endpoint_of, has_stall, is_of_direction, made_of, numbers_of, packets_taken, parts_of, times, told}
+use Rattle.usb_model.specs.Laws.Cut.{AllFit, Cell, Cleared, Ended, Fate, Of, Part, Waits, Withdrawn, accepted_as, asks_of, endpoint_of, has_stall, made_of, numbers_of, packets_taken, parts_of, times, told}
+use Rattle.usb_model.specs.Direction.{is_of_direction, IsBody}
 use Rattle.usb_lemmas.proofs.Lists.Times.{StandOnce}
-use Rattle.usb_model.specs.Direction.{IsBody}
 
 -- an item of the line, and what came of it
 pub record Row : Type 0 where

@@ -6,14 +6,14 @@ use Rattle.std.specs.List.{list_all}
 use Rattle.usb_model.specs.declared.response.Response.TheVariants.{Ack, Broken, Data, Nak, Stall}
 use Rattle.usb_model.specs.declared.response.Response.{Response}
 use Rattle.usb_model.specs.declared.request.Request.{Request}
-use Rattle.usb_model.specs.Laws.Cut.{HasSize, has_stall, is_empty_packet, is_of_direction}
+use Rattle.usb_model.specs.Laws.Cut.{HasSize, has_stall, is_empty_packet}
+use Rattle.usb_model.specs.Direction.{is_of_direction, IsBody}
 use Rattle.usb_model.specs.declared.outcome.Outcome.{Outcome}
 use Rattle.usb_model.specs.Endpoint.Packets.{Ends, IsOpenAt, ended_with, open_with, outcome}
 use Rattle.usb_model.specs.Endpoint.Serve.{acknowledged, is_no_packet, next_answer, serve, serve_by, serve_first, serve_gone}
 use Rattle.usb_lemmas.proofs.Shares.Cuts.{ends_now}
 use Rattle.usb_lemmas.proofs.Shares.Next.{IsNext, next_same, next_there_sized}
 use Rattle.usb_lemmas.proofs.Shares.More.{IsSized, sized_all}
-use Rattle.usb_model.specs.Direction.{IsBody}
 use Rattle.usb_lemmas.proofs.Shares.OpenShares.{open_at, open_if, halted_outcome}
 use Rattle.std.proofs.lemmas.Option.{same_Some}
 use Rattle.usb_model.specs.Endpoint.Serve as service

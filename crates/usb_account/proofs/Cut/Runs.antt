@@ -10,7 +10,8 @@ use Rattle.usb_model.specs.declared.step.Step.TheVariants.{Unplug}
 use Rattle.usb_model.specs.declared.step.Step.{Step}
 use Rattle.usb_model.specs.Laws.Account.{Account, account, account_by, account_from, account_of, added, new_account}
 use Rattle.usb_model.specs.Machine.Calls.{without}
-use Rattle.usb_model.specs.Laws.Cut.{CutsAt, HasSize, is_of_direction}
+use Rattle.usb_model.specs.Laws.Cut.{CutsAt, HasSize}
+use Rattle.usb_model.specs.Direction.{is_of_direction}
 use Rattle.usb_model.specs.declared.endpoint_effect.EndpointEffect.{EndpointEffect}
 use Rattle.usb_model.specs.Endpoint.{fresh}
 use Rattle.usb_model.specs.World.Journal.{own}

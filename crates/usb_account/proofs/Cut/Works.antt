@@ -11,7 +11,8 @@ use Rattle.usb_model.specs.declared.item.ItemState.{ItemState}
 use Rattle.usb_model.specs.declared.request.Body.TheVariants.{In, Out}
 use Rattle.usb_model.specs.declared.request.Body.{Body}
 use Rattle.usb_model.specs.Laws.Account.{Account, Asked, End, Made}
-use Rattle.usb_model.specs.Laws.Cut.{AllFit, Cell, Ended, Fate, FitsFate, Part, Waits, Withdrawn, accepted_as, asks_of, endpoint_of, has_stall, is_of_direction, made_of, packets_taken, packets_taken_by, parts_of}
+use Rattle.usb_model.specs.Laws.Cut.{AllFit, Cell, Ended, Fate, FitsFate, Part, Waits, Withdrawn, accepted_as, asks_of, endpoint_of, has_stall, made_of, packets_taken, packets_taken_by, parts_of}
+use Rattle.usb_model.specs.Direction.{is_of_direction}
 use Rattle.usb_model.specs.Endpoint.{is_blank_state, is_waiting, is_waiting_state}
 use Rattle.usb_model.specs.Endpoint.Packets.{open_with, outcome}
 use Rattle.usb_account.proofs.Cut.Ledger.{Holds, IsFate, IsQuiet, IsRow, IsUntouched, Row, RowToldBy, all_cells, all_parts, cell_of, item_of, numbers, part_of, quiet_by, stalled}

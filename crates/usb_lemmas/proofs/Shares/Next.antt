@@ -8,13 +8,12 @@ use Rattle.usb_model.specs.declared.response.Response.{Response}
 use Rattle.usb_model.specs.declared.request.Body.TheVariants.{In, Out}
 use Rattle.usb_model.specs.declared.request.Body.{Body}
 use Rattle.usb_model.specs.declared.request.Request.{Request}
-use Rattle.usb_model.specs.Laws.Cut.{is_of_direction}
+use Rattle.usb_model.specs.Direction.{is_of_direction, IsBody}
 use Rattle.usb_model.specs.declared.outcome.Outcome.{Outcome}
 use Rattle.usb_model.specs.Endpoint.Packets.{ended_with, open_with, outcome, packets_by, without_naks}
 use Rattle.usb_lemmas.proofs.Shares.More.{IsSized, next_of, one_more_sized, read_next, sent_next, sized_all}
 use Rattle.usb_lemmas.proofs.Shares.OpenShares.{IsWhole, open_whole}
 use Rattle.std.proofs.lemmas.Option.{same_Some}
-use Rattle.usb_model.specs.Direction.{IsBody}
 use Rattle.std.proofs.lemmas.Bool.{or_parts}
 use Rattle.usb_model.specs.Machine.Calls.{is_bad_body}
 use Rattle.usb_model.specs.Setup.{is_in}

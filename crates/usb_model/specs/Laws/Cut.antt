@@ -17,6 +17,7 @@ use Rattle.usb_model.specs.Requests.{is_short_not_ok, length_of}
 use Rattle.usb_model.specs.Endpoint.Packets.{Outcome, outcome, open_with, count_of, IsOpenAt, Ends}
 use Rattle.usb_model.specs.Endpoint.Status.{told_status}
 use Rattle.usb_model.specs.Endpoint.{bytes_read, live_numbers}
+use Rattle.usb_model.specs.Direction.{is_of_direction}
 use Rattle.usb_model.specs.World.{new_world, world_from}
 use Rattle.usb_model.specs.Laws.Account.{Accepted, Transfer, Clearing, Asked, End, Made, Account, account}
 
@@ -140,12 +141,6 @@ pub record IsCut (size : ℕ) (script : List Response) (a : Account) (e : Endpoi
   pub results : AllByRecursion (λ x. 0 < times x.result.n (numbers_of cells)) a.made
   pub asks : AllByRecursion (λ x. 0 < times x.n (numbers_of cells)) a.asked
   pub packets : flat_map (packets_taken size) (flat_map parts_of cells) ≡ e.packets_received
-
--- an answer that a device may give: an IN endpoint has no acknowledgement, an OUT endpoint no data
-abbrev pub is_of_direction : Bool → Response → Bool
-is_of_direction true response.Ack = false
-is_of_direction false (response.Data b) = false
-is_of_direction _ _ = true
 
 abbrev pub is_empty_packet : Response → Bool
 is_empty_packet (response.Data []) = true

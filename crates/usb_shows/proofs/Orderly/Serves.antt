@@ -16,17 +16,16 @@ use Rattle.usb_model.specs.Endpoint.Packets.{IsOpenAt, outcome, ended_with, open
 use Rattle.std.specs.List.{list_all}
 use Rattle.usb_model.specs.declared.response.Response.{Response}
 use Rattle.usb_model.specs.declared.outcome.Outcome.{Outcome}
-use Rattle.usb_model.specs.Laws.Cut.{is_of_direction}
+use Rattle.usb_model.specs.Direction.{is_of_direction, IsBody}
 use Rattle.usb_model.specs.Endpoint.Serve.{acknowledged, is_stall, next_answer, serve, serve_by, serve_first, serve_gone}
 use Rattle.usb_lemmas.proofs.Shares.Next.{next_there}
-use Rattle.usb_model.specs.Direction.{IsBody}
 use Rattle.usb_lemmas.proofs.Work.Sound.{first_waits}
-use Rattle.usb_shows.specs.Serving.{grown, outcome_now}
+use Rattle.usb_shows.specs.Keeping.{grown, outcome_now}
 use Rattle.usb_shows.proofs.Tells.{first_new, first_open}
 use Rattle.usb_lemmas.proofs.Shares.OpenShares.{halted_outcome, open_at, open_if}
 use Rattle.usb_model.specs.Coherence.{IsCoherent, IsPhase, ended, move_ran, move_waits, reset_ran, reset_waits, runs, served_events, stop_failed, stop_ran, stop_ran_paused, stop_waits, stop_waits_halted}
 use Rattle.std.proofs.lemmas.Option.{same_Some}
-use Rattle.usb_shows.specs.Benches.{IsOrderly, is_past, known_by, uncut_by}
+use Rattle.usb_shows.specs.Showing.{IsOrderly, is_past, known_by, uncut_by}
 use Rattle.usb_shows.proofs.Orderly.Lines.{behind_new, new_served, behind_answered, each_first, OpenItem, UncutItem, opens_from, uncut_from, Fine, fine_of}
 
 -- a running endpoint's errand is no way out

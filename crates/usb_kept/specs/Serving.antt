@@ -1,31 +1,22 @@
 -- A packet of the transfer where the controller stands.
-use Rattle.std.specs.Prelude.{◌≡◌, ℕ, ◌+◌, ◌-◌, ◌≤◌, ◌==◌, min, nat_lt, Bool, true, false, ◌&&◌, ◌||◌, List, [], ◌∷◌, ◌++◌, length, take, drop, Option, Some, None, if◌then◌else◌}
-use Rattle.std.specs.Option.{unwrap_or}
+use Rattle.std.specs.Prelude.{ℕ, ◌+◌, ◌-◌, ◌==◌, min, nat_lt, Bool, true, false, ◌&&◌, ◌||◌, List, [], ◌∷◌, ◌++◌, length, take, drop, Option, Some, None, if◌then◌else◌}
 use Rattle.usb_model.specs.declared.response.Response.{Response}
 use Rattle.usb_model.specs.declared.response.Response.TheVariants as response
-use Rattle.usb_model.specs.declared.errand.Errand.{Errand}
 use Rattle.usb_model.specs.declared.request.Body.{Body}
 use Rattle.usb_model.specs.declared.request.Body.TheVariants.{In, Out}
 use Rattle.usb_model.specs.declared.reply.Reply.{Reply}
 use Rattle.usb_model.specs.declared.reply.Reply.TheVariants.{Idle, Nak, Moved, Ended}
-use Rattle.usb_model.specs.declared.endpoint_effect.EndpointEffect.{EndpointEffect}
-use Rattle.usb_model.specs.declared.endpoint.Endpoint.{Endpoint}
 use Rattle.usb_model.specs.declared.endpoint.EndpointState.{EndpointState}
 use Rattle.usb_model.specs.declared.endpoint.EndpointState.TheVariants.{Running, Halted}
-use Rattle.usb_model.specs.declared.item.Item.{Item}
-use Rattle.usb_model.specs.declared.news.Event.{Event}
-use Rattle.usb_model.specs.Endpoint.{outcome_of, bytes_read}
-use Rattle.usb_model.specs.declared.outcome.Outcome.{Outcome}
-use Rattle.usb_model.specs.Endpoint.Packets.{outcome, open_with, count_of}
-use Rattle.usb_model.specs.Endpoint.Serve.{next_answer, is_no_packet, acknowledged}
+use Rattle.usb_model.specs.Endpoint.Serve.{is_no_packet}
 use Rattle.usb_model.specs.Endpoint.Serve as service
 use Rattle.usb_model.specs.Endpoint.Status.{halts}
-use Rattle.usb_shows.specs.Stands.{Stand, stand, length_at, total}
-use Rattle.usb_shows.specs.Benches.{Kept, Telling, Transfer, Sent, Bench, ShowsEnd, count, first_place, is_extra, trbs_of}
-use Rattle.usb_shows.specs.Handling.{covers, find_at, past_at, past_kept_blanks}
+use Rattle.usb_kept.specs.Stands.{Stand, stand, length_at, total}
+use Rattle.usb_kept.specs.Kept.{KeptTransfer, Telling, Transfer, KeptEndpoint, first_place, is_extra}
+use Rattle.usb_kept.specs.Handling.{covers, find_at, past_at, past_kept_blanks}
 
 -- the line with another item in the place of the one that has a TRB there
-unfoldable pub put_at : ℕ → Kept → List Kept → List Kept
+unfoldable pub put_at : ℕ → KeptTransfer → List KeptTransfer → List KeptTransfer
 put_at p z [] = []
 put_at p z (y ∷ ys) = if covers p y then z ∷ ys else y ∷ put_at p z ys
 
@@ -52,14 +43,14 @@ packet_of size room extra [] = record { bytes = 0; code = None }
 packet_of size room extra (a ∷ rest) = packet_by size room extra a
 
 -- the answer that is taken now
-abbrev pub answer_now : Bench → List Response
+abbrev pub answer_now : KeptEndpoint → List Response
 answer_now b = if b.device_halted then [] else take 1 b.script_left
 
 -- the bytes left in the transfer's TRBs from where the controller stands
-abbrev pub room_at : Bench → Kept → ℕ
+abbrev pub room_at : KeptEndpoint → KeptTransfer → ℕ
 room_at b y = total (drop (b.dequeue - y.place) y.lengths) - b.within
 
-abbrev pub packet_now : ℕ → Bench → Kept → Packet
+abbrev pub packet_now : ℕ → KeptEndpoint → KeptTransfer → Packet
 packet_now size b y = if b.device_halted then record { bytes = 0; code = Some 6 } else packet_of size (room_at b y) (is_extra size y.request y.request.body) (answer_now b)
 
 -- the bytes that came
@@ -73,22 +64,22 @@ gave (Out bytes) (response.Ack ∷ rest) c k = take k (drop c bytes) ∷ []
 gave body _ c k = []
 
 -- where the controller stands k bytes on, from where it is
-abbrev pub walk : Bench → Kept → ℕ → Stand
+abbrev pub walk : KeptEndpoint → KeptTransfer → ℕ → Stand
 walk b y k = stand (drop (b.dequeue - y.place) y.lengths) (b.within + k)
 
 -- the event there
-abbrev pub event_at : Bench → Kept → Stand → ℕ → Telling
+abbrev pub event_at : KeptEndpoint → KeptTransfer → Stand → ℕ → Telling
 event_at b y s code = Transfer (b.dequeue + s.index) (length_at y.lengths (b.dequeue - y.place + s.index) - s.within) code
 
 -- what a packet leaves
 pub record Answered : Type 0 where
   pub reply : Reply
-  pub bench : Bench
+  pub endpoint : KeptEndpoint
   pub told : List Telling
 
 -- the transfer with the bytes that came; sent: those that it had sent before
-abbrev pub bench_with : Bench → Kept → Packet → List (List ℕ) → Bench
-bench_with b y k packets = record b {
+abbrev pub endpoint_with : KeptEndpoint → KeptTransfer → Packet → List (List ℕ) → KeptEndpoint
+endpoint_with b y k packets = record b {
   line = put_at b.dequeue (record y { bytes = y.bytes ++ got y.request.body (answer_now b) k.bytes }) b.line;
   dequeue = b.dequeue + (walk b y k.bytes).index;
   within = (walk b y k.bytes).within;
@@ -97,57 +88,36 @@ bench_with b y k packets = record b {
 }
 
 -- the endpoint halts where it stands, or the controller goes on to the next transfer, past the No Ops before it
-abbrev pub ended_at : Bench → Bench → ℕ → Bench
+abbrev pub ended_at : KeptEndpoint → KeptEndpoint → ℕ → KeptEndpoint
 ended_at old b code =
     if halts code then record b { state = Halted }
     else record b { dequeue = first_place (past_kept_blanks (past_at old.dequeue old.line)) old.end; within = 0 }
 
 -- sent: the bytes that moved before
-abbrev pub sent_before : Bench → Kept → ℕ
+abbrev pub sent_before : KeptEndpoint → KeptTransfer → ℕ
 sent_before b y = total (take (b.dequeue - y.place) y.lengths) + b.within
 
-unfoldable pub answered_by : Bench → Kept → Packet → Option ℕ → Answered
+unfoldable pub answered_by : KeptEndpoint → KeptTransfer → Packet → Option ℕ → Answered
 answered_by b y k None = record {
   reply = if is_no_packet (answer_now b) then Nak y.n else Moved y.n k.bytes;
-  bench = bench_with b y k (gave y.request.body (answer_now b) (sent_before b y) k.bytes);
+  endpoint = endpoint_with b y k (gave y.request.body (answer_now b) (sent_before b y) k.bytes);
   told = [];
 }
 answered_by b y k (Some code) = record {
   reply = Ended y.n code;
-  bench = record (ended_at b (bench_with b y k (gave y.request.body (answer_now b) (sent_before b y) k.bytes)) code) { device_halted = b.device_halted || service.is_stall (answer_now b) };
+  endpoint = record (ended_at b (endpoint_with b y k (gave y.request.body (answer_now b) (sent_before b y) k.bytes)) code) { device_halted = b.device_halted || service.is_stall (answer_now b) };
   told = event_at b y (walk b y k.bytes) code ∷ [];
 }
 
 -- a gone device isn't asked
-unfoldable pub answered_gone : Bench → Kept → Answered
-answered_gone b y = record { reply = Ended y.n 4; bench = record b { state = Halted }; told = event_at b y (walk b y 0) 4 ∷ [] }
+unfoldable pub answered_gone : KeptEndpoint → KeptTransfer → Answered
+answered_gone b y = record { reply = Ended y.n 4; endpoint = record b { state = Halted }; told = event_at b y (walk b y 0) 4 ∷ [] }
 
-unfoldable pub serve_at : ℕ → Bool → Bench → EndpointState → Option Kept → Answered
+unfoldable pub serve_at : ℕ → Bool → KeptEndpoint → EndpointState → Option KeptTransfer → Answered
 serve_at size true b Running (Some y) = answered_gone b y
 serve_at size false b Running (Some y) = answered_by b y (packet_now size b y) (packet_now size b y).code
-serve_at size gone b _ _ = record { reply = Idle; bench = b; told = [] }
+serve_at size gone b _ _ = record { reply = Idle; endpoint = b; told = [] }
 
 -- the transfer where the controller stands takes one answer, while the endpoint is running
-unfoldable pub serve_bench : ℕ → Bool → Bench → Answered
-serve_bench size gone b = serve_at size gone b b.state (find_at b.dequeue b.line)
-
--- the item with the answer that is taken now
-abbrev pub grown : Endpoint → Item → Item
-grown e x = record x { share = x.share ++ next_answer e }
-
-abbrev pub outcome_now : ℕ → Endpoint → Item → Outcome
-outcome_now size e x = unwrap_or (outcome x.request size (x.share ++ next_answer e) e.device_halted) (open_with [])
-
--- what the packet tells of the transfer is what the definitions read off the whole share
-pub record PacketIs (size : ℕ) (e : Endpoint) (x : Item) (k : Packet) : Type 0 where
-  pub code : (outcome_now size e x).code ≡ k.code
-  pub now : count_of (outcome_now size e x) ≡ count size x + k.bytes
-  pub later : count size (grown e x) ≡ count size x + k.bytes
-  pub fits : count size x + k.bytes ≤ total (trbs_of size x.request)
-  pub bytes : bytes_read x.request.body (outcome_of size (grown e x)) ≡ bytes_read x.request.body (outcome_of size x) ++ got x.request.body (next_answer e) k.bytes
-  pub packets_received : acknowledged x.request.body (outcome_of size x) (outcome_now size e x) ≡ gave x.request.body (next_answer e) (count size x) k.bytes
-
--- an answer leaves what the definitions' step leaves
-pub record Serves (size : ℕ) (d : EndpointEffect) (a : Answered) (os : List Errand) (ns : List Event) (sent : List Sent) (told : List Telling) : Type 0 where
-  pub reply : a.reply ≡ d.reply
-  pub shows : ShowsEnd size d.endpoint (os ++ d.orders) (ns ++ d.news) a.bench sent (told ++ a.told)
+unfoldable pub serve_kept : ℕ → Bool → KeptEndpoint → Answered
+serve_kept size gone b = serve_at size gone b b.state (find_at b.dequeue b.line)

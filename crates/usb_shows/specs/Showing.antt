@@ -1,14 +1,9 @@
--- What the core and the controller keep of one endpoint, and when this shows the endpoint of a world.
-use Rattle.std.specs.Prelude.{◌≡◌, ℕ, ◌+◌, ◌%◌, ◌<◌, ◌≤◌, ◌==◌, Bool, true, false, not, ◌&&◌, List, [], ◌∷◌, ◌++◌, length, Option, Some, None, if◌then◌else◌}
+-- When what core and controller keep of an endpoint shows the endpoint of a world.
+use Rattle.std.specs.Prelude.{◌≡◌, ℕ, ◌+◌, ◌<◌, ◌≤◌, ◌==◌, Bool, true, false, List, [], ◌∷◌, ◌++◌, length, Option, Some, if◌then◌else◌}
 use Rattle.std.specs.Option.{option_map}
 use Rattle.std.specs.List.{AllByRecursion, list_any}
-use Rattle.usb_model.specs.declared.response.Response.{Response}
 use Rattle.usb_model.specs.declared.errand.Errand.{Errand}
 use Rattle.usb_model.specs.declared.errand.Errand.TheVariants.{Reset, Move}
-use Rattle.usb_model.specs.declared.request.Body.{Body}
-use Rattle.usb_model.specs.declared.request.Body.TheVariants.{In, Out}
-use Rattle.usb_model.specs.declared.request.Request.{Request}
-use Rattle.usb_model.specs.declared.item.Ask.{Ask}
 use Rattle.usb_model.specs.declared.item.Item.{Item}
 use Rattle.usb_model.specs.declared.item.ItemState.{ItemState}
 use Rattle.usb_model.specs.declared.item.ItemState.TheVariants.{Waiting, Served, Blank}
@@ -20,59 +15,16 @@ use Rattle.usb_model.specs.declared.news.Event.TheVariants.{Finished, Paused, Se
 use Rattle.usb_model.specs.Endpoint.{first_waiting, is_waiting, is_blank, outcome_of, bytes_read}
 use Rattle.usb_model.specs.Endpoint.Packets.{count_of, outcome, IsOpenAt}
 use Rattle.usb_model.specs.Endpoint.Deliver.{leads_blank}
-use Rattle.usb_model.specs.Requests.{length_of, adds_zero_packet}
 use Rattle.usb_model.specs.Coherence.{served_events}
-use Rattle.usb_shows.specs.Stands.{stand, residual, total, lengths_of}
-
--- a transfer of a line as the core keeps it: its item of the ring, and its transfer of the store
-pub record Kept : Type 0 where
-  pub place : ℕ  -- of its first TRB, counted from the ring's making without end
-  pub lengths : List ℕ  -- of its TRBs
-  pub blank : Bool  -- withdrawn: nothing below is kept any more
-  pub n : ℕ
-  pub request : Request
-  pub round : ℕ
-  pub ask : Option Ask
-  pub moved : ℕ  -- the bytes moved, as last told
-  pub bytes : List ℕ  -- those read
-
--- what a TRB of the event ring tells of an endpoint: the place that a pointer names, the residual and the code; or the index of an order, and the code
-pub data Telling : Type 0 where
-  Transfer : (place residual code : ℕ) → Telling
-  Completion : (index code : ℕ) → Telling
-
--- an errand with the index of its order in the command ring
-pub record Sent : Type 0 where
-  pub errand : Errand
-  pub index : ℕ
-
--- an endpoint as core and controller keep it
-pub record Bench : Type 0 where
-  pub line : List Kept
-  pub end : ℕ  -- the enqueue place
-  pub dequeue : ℕ  -- the place where the controller stands
-  pub within : ℕ  -- the bytes of the TRB there that moved
-  pub state : EndpointState
-  pub errand : Option Sent
-  pub script_left : List Response  -- the device
-  pub device_halted : Bool
-  pub packets_received : List (List ℕ)
-
--- whether the transfer has an empty packet behind whole ones
-abbrev pub is_extra : ℕ → Request → Body → Bool
-is_extra size request (In n) = false
-is_extra size request (Out bytes) = adds_zero_packet request && (not (length bytes == 0) && (length bytes % size == 0))
-
--- its TRBs
-abbrev pub trbs_of : ℕ → Request → List ℕ
-trbs_of size request = lengths_of (is_extra size request request.body) (length_of request.body)
+use Rattle.usb_kept.specs.Stands.{stand, residual, total}
+use Rattle.usb_kept.specs.Kept.{KeptTransfer, Telling, Transfer, Completion, SentErrand, KeptEndpoint, trbs_of, first_place, code_of, index_of}
 
 -- the bytes that a transfer moved
 abbrev pub count : ℕ → Item → ℕ
 count size x = count_of (outcome_of size x)
 
 -- a transfer in progress, as it is kept
-pub record IsLive (size : ℕ) (x : Item) (y : Kept) : Type 0 where
+pub record IsLive (size : ℕ) (x : Item) (y : KeptTransfer) : Type 0 where
   pub n : y.n ≡ x.n
   pub request : y.request ≡ x.request
   pub round : y.round ≡ x.round
@@ -82,39 +34,34 @@ pub record IsLive (size : ℕ) (x : Item) (y : Kept) : Type 0 where
   pub fits : count size x ≤ total y.lengths
   pub unmoved : count size x ≡ 0 → y.moved ≡ 0
 
-pub record IsKept (size : ℕ) (x : Item) (y : Kept) : Type 0 where
+pub record IsKept (size : ℕ) (x : Item) (y : KeptTransfer) : Type 0 where
   pub blank : y.blank ≡ is_blank x
   pub some : 0 < length y.lengths
   pub live : is_blank x ≡ false → IsLive size x y
 
 -- a line, item by item
-abbrev pub AllKept : ℕ → List Item → List Kept → Type 0
+abbrev pub AllKept : ℕ → List Item → List KeptTransfer → Type 0
 AllKept size [] [] = Unit {0}
 AllKept size [] (y ∷ ys) = ⊥
 AllKept size (x ∷ xs) [] = ⊥
 AllKept size (x ∷ xs) (y ∷ ys) = IsKept size x y × AllKept size xs ys
 
--- where a line begins in its ring
-abbrev pub first_place : List Kept → ℕ → ℕ
-first_place [] end = end
-first_place (y ∷ ys) end = y.place
-
 -- its transfers stand one behind another, up to the enqueue place
-abbrev pub InRow : List Kept → ℕ → Type 0
+abbrev pub InRow : List KeptTransfer → ℕ → Type 0
 InRow [] end = Unit {0}
 InRow (y ∷ ys) end = (first_place ys end ≡ y.place + length y.lengths) × InRow ys end
 
 -- the event of a transfer that ended with this code: it points at the TRB of the next byte or empty packet
-abbrev pub telling_of : ℕ → Item → Kept → ℕ → Telling
+abbrev pub telling_of : ℕ → Item → KeptTransfer → ℕ → Telling
 telling_of size x y code = Transfer (y.place + (stand y.lengths (count size x)).index) (residual y.lengths (count size x)) code
 
 -- what is told of the served items: as the definitions' served_events
-abbrev pub told_by : ℕ → Item → Kept → ItemState → List Telling → List Telling
+abbrev pub told_by : ℕ → Item → KeptTransfer → ItemState → List Telling → List Telling
 told_by size x y Waiting ts = ts
 told_by size x y (Served code) ts = telling_of size x y code ∷ ts
 told_by size x y Blank ts = ts
 
-unfoldable pub told_of : ℕ → List Item → List Kept → List Telling
+unfoldable pub told_of : ℕ → List Item → List KeptTransfer → List Telling
 told_of size (x ∷ xs) (y ∷ ys) = told_by size x y x.state (told_of size xs ys)
 told_of size _ _ = []
 
@@ -123,37 +70,27 @@ pub record Front : Type 0 where
   pub place : ℕ
   pub within : ℕ
 
-abbrev pub front_of : ℕ → Item → Kept → Front
+abbrev pub front_of : ℕ → Item → KeptTransfer → Front
 front_of size x y = record { place = y.place + (stand y.lengths (count size x)).index; within = (stand y.lengths (count size x)).within }
 
-unfoldable pub front : ℕ → List Item → List Kept → ℕ → Front
+unfoldable pub front : ℕ → List Item → List KeptTransfer → ℕ → Front
 front size (x ∷ xs) (y ∷ ys) end = if is_waiting x then front_of size x y else front size xs ys end
 front size _ _ end = record { place = end; within = 0 }
 
 -- the pause of the first waiting transfer
-unfoldable pub pause_told : ℕ → List Item → List Kept → List Telling
+unfoldable pub pause_told : ℕ → List Item → List KeptTransfer → List Telling
 pause_told size (x ∷ xs) (y ∷ ys) = if is_waiting x then telling_of size x y 26 ∷ [] else pause_told size xs ys
 pause_told size _ _ = []
 
--- the code of an order that was carried out, or failed
-abbrev pub code_of : Bool → ℕ
-code_of true = 1
-code_of false = 19
-
--- the order's index, where there is an errand
-abbrev pub index_of : Option Sent → ℕ
-index_of None = 0
-index_of (Some s) = s.index
-
 -- what is told behind the served items' ends
-abbrev pub tail_told : ℕ → List Item → List Kept → Option Sent → List Event → List Telling
+abbrev pub tail_told : ℕ → List Item → List KeptTransfer → Option SentErrand → List Event → List Telling
 tail_told size xs ys sent [] = []
 tail_told size xs ys sent (Finished n code ∷ es) = tail_told size xs ys sent es
 tail_told size xs ys sent (Paused n ∷ es) = pause_told size xs ys ++ tail_told size xs ys sent es
 tail_told size xs ys sent (Settled errand ok ∷ es) = Completion (index_of sent) (code_of ok) ∷ tail_told size xs ys sent es
 
 -- the endpoint's orders in the command ring
-abbrev pub orders_sent : Option Sent → List Errand → List Sent
+abbrev pub orders_sent : Option SentErrand → List Errand → List SentErrand
 orders_sent sent [] = []
 orders_sent sent (o ∷ os) = record { errand = o; index = index_of sent } ∷ orders_sent sent os
 
@@ -163,7 +100,7 @@ known_by Waiting here later = here
 known_by (Served code) here later = later
 known_by Blank here later = later
 
-abbrev pub FrontKnown : ℕ → List Item → List Kept → Type 0
+abbrev pub FrontKnown : ℕ → List Item → List KeptTransfer → Type 0
 FrontKnown size (x ∷ xs) (y ∷ ys) = known_by x.state (y.moved ≡ count size x) (FrontKnown size xs ys)
 FrontKnown size _ _ = Unit {0}
 
@@ -190,7 +127,7 @@ FirstPaused line (Paused n ∷ es) = ((x : Item) × (first_waiting line ≡ Some
 FirstPaused line (Settled errand ok ∷ es) = FirstPaused line es
 
 -- the endpoint of a world that is shown: os and ns are its pieces of the orders and news, sent and told what stands for them in the two rings
-pub record ShowsEnd (size : ℕ) (e : Endpoint) (os : List Errand) (ns : List Event) (b : Bench) (sent : List Sent) (told : List Telling) : Type 0 where
+pub record ShowsEnd (size : ℕ) (e : Endpoint) (os : List Errand) (ns : List Event) (b : KeptEndpoint) (sent : List SentErrand) (told : List Telling) : Type 0 where
   pub tail : List Event
   pub news : ns ≡ served_events e.line ++ tail
   pub kept : AllKept size e.line b.line
@@ -252,8 +189,8 @@ pub record IsOrderly (size : ℕ) (e : Endpoint) : Type 0 where
   pub uncut : AllUncut e.line
 
 -- each transfer of a line has at most 5 TRBs
-abbrev pub IsFew : Kept → Type 0
+abbrev pub IsFew : KeptTransfer → Type 0
 IsFew y = length y.lengths ≤ 5
 
-abbrev pub AllFew : List Kept → Type 0
+abbrev pub AllFew : List KeptTransfer → Type 0
 AllFew ys = AllByRecursion IsFew ys
