@@ -3,7 +3,6 @@
 ghost use Rattle.std.specs.Prelude.{◌≡◌, ℕ, Bool, IfSome, [], ◌∷◌};
 ghost use Rattle.usb_model.specs.declared.item.Ask.{Ask};
 ghost use Rattle.usb_model.specs.Endpoint.Deliver.{needs_reset};
-ghost use Rattle.usb_model.specs.Endpoint.Status.{halts};
 ghost use Rattle.usb_model.specs.declared.reply.Reply.TheVariants.{Done, Finished};
 ghost use Rattle.usb_kept.specs.Kept.{KeptEndpoint};
 ghost use Rattle.usb_kept.specs.Handling.{Reading, errand_of, finish, kept_result};
@@ -11,7 +10,7 @@ ghost use Rattle.usb_kept.specs.Joining.{asked};
 ghost use Rattle.usb_cancel.specs.Orders.{ordered, with_ask, without_ended};
 
 use usb_model::Errand;
-use usb_model::completion::{BABBLE_DETECTED, STALL_ERROR, TRANSACTION_ERROR};
+use usb_model::completion::halts;
 
 /// What is ordered when a transfer is asked to end, by the errand that is outstanding at its endpoint: Stop where there is
 /// none. Where there is one the transfer is withdrawn when that one has ended.
@@ -44,11 +43,4 @@ fn needs_reset(outstanding: Option<Errand>, code: u8) -> bool
     ensures { result ≡ needs_reset code outstanding }
 {
     halts(code) && outstanding.is_none()
-}
-
-/// Whether the endpoint is halted after a transfer ended with this code (xHCI 1.2, 4.8.3).
-fn halts(code: u8) -> bool
-    ensures { result ≡ halts code }
-{
-    matches!(code, BABBLE_DETECTED | TRANSACTION_ERROR | STALL_ERROR)
 }

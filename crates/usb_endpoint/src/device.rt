@@ -9,9 +9,8 @@ ghost use Rattle.usb_model.specs.Endpoint.Serve.{next_answer, is_stall, is_no_pa
 use crate::line::{take_first, with_first};
 use crate::outcome::{outcome, outcome_of};
 use crate::packet::past;
-use crate::status::halts;
 use std::alloc::{AllocError, Global};
-use usb_model::completion::TRANSACTION_ERROR;
+use usb_model::completion::{TRANSACTION_ERROR, halts};
 use usb_model::{
     Body, Bytes, Endpoint, EndpointEffect, EndpointState, Event, Item, ItemState, Outcome, Reply,
     Response, Script, Sequence,

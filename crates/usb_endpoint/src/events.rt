@@ -6,8 +6,8 @@ ghost use Rattle.usb_model.specs.Endpoint.Deliver.{orders_errand, resume, finish
 
 use crate::line::{Line, blanked, in_progress, leads_blank, past_blanks, past_number};
 use crate::result::{result_of, withdrawn};
-use crate::status::halts;
 use std::alloc::{AllocError, Global};
+use usb_model::completion::halts;
 use usb_model::{
     Endpoint, EndpointEffect, EndpointState, EpAddr, Errand, Event, Item, Reply, Sequence,
     TransferResult,

@@ -13,4 +13,3 @@ mod outcome;
 mod packet;
 mod result;
 mod share;
-mod status;

@@ -5,9 +5,8 @@ ghost use Rattle.usb_model.specs.Endpoint.{bytes_read, result_of};
 ghost use Rattle.usb_model.specs.Endpoint.Deliver.{withdrawn};
 
 use crate::outcome::outcome_of;
-use crate::status::told_status;
 use std::alloc::{AllocError, Global};
-use usb_model::completion::STOPPED;
+use usb_model::completion::{STOPPED, told_status};
 use usb_model::{Body, Bytes, Item, Outcome, Sequence, TransferResult};
 
 /// The result of a transfer that ended with this code; `gone`: whether its device is.
