@@ -4,6 +4,7 @@
 mod coding;
 mod events;
 mod plain;
+mod readings;
 mod table;
 mod transfers;
 mod work;

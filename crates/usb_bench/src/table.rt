@@ -2,6 +2,7 @@
 
 use crate::coding::{Coding, PlainCoding};
 use crate::events::{Events, PlainEvents};
+use crate::readings::{PlainReadings, Readings};
 use crate::transfers::{PlainTransfers, Transfers};
 use crate::work::{TURNS, Work, least};
 use anyhow::Result;
@@ -59,5 +60,11 @@ pub fn print(rt: &HostRuntime) -> Result<()> {
         "an event posted and taken",
         &mut Events::new(alloc)?,
         &mut PlainEvents::new(alloc)?,
+    )?;
+    row(
+        rt,
+        "an event read, of a line of one IN 8",
+        &mut Readings::new(),
+        &mut PlainReadings::new(),
     )
 }

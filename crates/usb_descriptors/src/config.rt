@@ -30,6 +30,13 @@ impl Model for Config {
     ghost invariant = { λ c. IsTable c.endpoints.items };
 }
 
+/// A configuration of no interfaces: what an unused place of a table of configurations holds.
+impl Default for Config {
+    fn default() -> Config {
+        Config::new()
+    }
+}
+
 impl Config {
     /// A configuration of no interfaces.
     pub(crate) fn new() -> Config

@@ -1,0 +1,4 @@
+mod Endpoints
+mod Holders
+mod Owners
+mod Setups
