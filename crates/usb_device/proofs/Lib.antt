@@ -1,0 +1,4 @@
+pub mod Cuts
+pub mod Appends
+pub mod Fitting
+pub mod Filling

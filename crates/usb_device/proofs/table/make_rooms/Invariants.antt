@@ -1,0 +1,9 @@
+-- Room for the ids so far.
+use Rattle.std.proofs.Common.{◌≡◌, [], map, count_by}
+use Rattle.std.specs.List.{range_with_len}
+use Rattle.usb_device.specs.Pipe.{is_ack}
+use Rattle.usb_device.specs.Scripts.{room_of}
+use Rattle.usb_device.proofs.table.make_rooms.Given as goal
+
+abbrev pub invariant-loop-id : goal.invariant-loop-id
+invariant-loop-id l = l.rooms.items ≡ map (room_of l.config l.scripts) (range_with_len 0 l.id)

@@ -1,0 +1,3 @@
+pub mod Pipe
+pub mod Taken
+pub mod Scripts

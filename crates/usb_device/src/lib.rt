@@ -1,0 +1,20 @@
+//! Devices as the controller meets them: each endpoint answers one transaction at a time (USB 2.0, 8.4.5).
+//!
+//! The one promise: a call at an endpoint answers by the next of its script, and changes that endpoint alone.
+#![tactic(auto)]
+
+mod append;
+mod boxed;
+mod device;
+mod pipe;
+#[cfg(test)]
+mod relay;
+mod scripts;
+mod table;
+mod taken;
+#[cfg(test)]
+mod tests;
+
+pub use boxed::BoxedDevice;
+pub use device::{Act, Device};
+pub use table::{TableDevice, Unmade};

@@ -1,0 +1,190 @@
+//! One endpoint that answers by a script.
+
+ghost use Rattle.std.specs.Prelude.{◌≡◌, ◌≤◌, ◌+◌, ◌++◌, ◌<◌, [], true, None, IfSome, count_by, length, slice_get, vec_capacity, vec_len, nat_lt, if◌then◌else◌, drop};
+ghost use Rattle.std.specs.List.{list_all};
+ghost use Rattle.std.specs.Option.{option_copied};
+ghost use Rattle.usb_device.specs.Pipe.{act_of, answer_of, buffer_after, bytes_after, cleared, is_ack, is_ready, pipe_after, rewound};
+ghost use Rattle.usb_device.specs.Scripts.{pipe_of, is_short};
+
+use crate::device::Act;
+use crate::taken::{TakenPackets, extend_reserved};
+use std::marker::Model;
+use usb_model::Response;
+
+/// An endpoint: its script, the place of the next answer in it, and the packets that it took.
+#[derive(Drop)]
+pub(crate) struct TablePipe {
+    script: Vec<Response>,
+    place: usize,
+    halted: bool,
+    taken: TakenPackets,
+}
+
+impl Model for TablePipe {
+    ghost use Rattle.std.specs.Prelude.{◌≡◌, ◌≤◌, ◌+◌, true, count_by, drop, length, vec_len};
+    ghost use Rattle.std.specs.List.{list_all};
+    ghost use Rattle.usb_device.specs.Pipe.{Pipe, is_ack};
+    ghost use Rattle.usb_device.specs.Scripts.{is_short};
+
+    ghost Value = { Pipe };
+
+    ghost view = { λ p. record {
+      size = p.taken.size;
+      script = p.script.items;
+      left = drop p.place p.script.items;
+      halted = p.halted;
+      taken = p.taken.packets;
+    } };
+
+    ghost invariant = { λ p. (p.place ≤ vec_len p.script)
+        × (list_all is_short p.script.items ≡ true)
+        × (count_by is_ack p.script.items ≤ p.taken.places)
+        × (length p.taken.packets + count_by is_ack (drop p.place p.script.items) ≤ count_by is_ack p.script.items) };
+}
+
+/// Puts a packet at the front of a buffer, if it fits.
+fn put_packet(packet: &[u8], buf: &mut [u8])
+    ensures { buf.new ≡ (if nat_lt (length buf.old) (length packet.now) then buf.old else packet.now ++ drop (length packet.now) buf.old) }
+{
+    let count = packet.len();
+    if count <= buf.len() {
+        buf[..count].copy_from_slice(packet);
+    }
+}
+
+/// Appends a packet to the bytes, if there is room for it.
+fn append_packet(packet: &[u8], room: usize, bytes: &mut Vec<u8>)
+    requires room { vec_len bytes.old + room ≤ vec_capacity bytes.old }
+    ensures bytes { bytes.new.items ≡ (if nat_lt room (length packet.now) then bytes.old.items else bytes.old.items ++ packet.now) }
+    ensures capacity { vec_capacity bytes.old ≤ vec_capacity bytes.new }
+    ensures more { vec_len bytes.old ≤ vec_len bytes.new }
+    ensures most { vec_len bytes.new ≤ vec_len bytes.old + room }
+{
+    if packet.len() <= room {
+        extend_reserved(bytes, packet);
+    }
+}
+
+impl TablePipe {
+    /// An endpoint at the beginning of its script, with room for the packets that its Acks take.
+    pub(crate) fn new(script: Vec<Response>, taken: TakenPackets) -> TablePipe
+        requires short { list_all is_short script.items ≡ true }
+        requires room { count_by is_ack script.items ≤ taken.places }
+        requires fresh { taken.packets ≡ [] }
+        ensures { result ≡ pipe_of taken.size script.items }
+    {
+        TablePipe {
+            script,
+            place: 0,
+            halted: false,
+            taken,
+        }
+    }
+
+    /// `Device::answer` at this endpoint.
+    pub(crate) fn answer(&mut self, out: Option<&[u8]>, buf: &mut [u8]) -> Act
+        requires size { IfSome out (λ packet. length packet.now ≤ self.old.size) }
+        ensures act { result ≡ act_of (answer_of self.old) }
+        ensures pipe { self.new ≡ pipe_after (option_copied out.entry) self.old }
+        ensures buffer { buf.new ≡ buffer_after (answer_of self.old) buf.old }
+    {
+        if self.halted {
+            return Act::Stall;
+        }
+        if self.place >= self.script.len() {
+            return Act::Nak;
+        }
+        let at = self.place;
+        self.place += 1;
+        match &self.script[at] {
+            Response::Data(packet) => {
+                let packet = packet.as_slice();
+                put_packet(packet, buf);
+                Act::Data(packet.len() as u32)
+            }
+            Response::Ack => {
+                if let Some(packet) = out {
+                    self.taken.push(packet);
+                }
+                Act::Ack
+            }
+            Response::Nak => Act::Nak,
+            Response::Stall => {
+                self.halted = true;
+                Act::Stall
+            }
+            Response::Broken => Act::Broken,
+        }
+    }
+
+    /// `Device::answer_in` at this endpoint.
+    pub(crate) fn answer_in(&mut self, room: usize, bytes: &mut Vec<u8>) -> Act
+        requires room { vec_len bytes.old + room ≤ vec_capacity bytes.old }
+        ensures act { result ≡ act_of (answer_of self.old) }
+        ensures pipe { self.new ≡ pipe_after None self.old }
+        ensures bytes { bytes.new.items ≡ bytes_after (answer_of self.old) room bytes.old.items }
+        ensures capacity { vec_capacity bytes.old ≤ vec_capacity bytes.new }
+        ensures more { vec_len bytes.old ≤ vec_len bytes.new }
+        ensures most { vec_len bytes.new ≤ vec_len bytes.old + room }
+    {
+        if self.halted {
+            return Act::Stall;
+        }
+        if self.place >= self.script.len() {
+            return Act::Nak;
+        }
+        let at = self.place;
+        self.place += 1;
+        match &self.script[at] {
+            Response::Data(packet) => {
+                let packet = packet.as_slice();
+                append_packet(packet, room, bytes);
+                Act::Data(packet.len() as u32)
+            }
+            Response::Ack => Act::Ack,
+            Response::Nak => Act::Nak,
+            Response::Stall => {
+                self.halted = true;
+                Act::Stall
+            }
+            Response::Broken => Act::Broken,
+        }
+    }
+
+    /// The most bytes of a packet that it takes.
+    pub(crate) fn size(&self) -> u16
+        ensures { result ≡ self.now.size }
+    {
+        self.taken.size()
+    }
+
+    /// Whether an answer is left, or it is halted.
+    pub(crate) fn ready(&self) -> bool
+        ensures { result ≡ is_ready self.now }
+    {
+        self.halted || self.place < self.script.len()
+    }
+
+    /// The packet of this index among those taken; None past the last.
+    pub(crate) fn taken(&self, i: usize) -> Option<&[u8]>
+        ensures { option_copied result ≡ slice_get self.now.taken i }
+    {
+        self.taken.get(i)
+    }
+
+    /// Goes back to the beginning of the script, not halted and with nothing taken.
+    pub(crate) fn rewind(&mut self)
+        ensures { self.new ≡ rewound self.old }
+    {
+        self.place = 0;
+        self.taken.clear();
+        self.clear_halt();
+    }
+
+    /// Clears the halt.
+    pub(crate) fn clear_halt(&mut self)
+        ensures { self.new ≡ cleared self.old }
+    {
+        self.halted = false;
+    }
+}
