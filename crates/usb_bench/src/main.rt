@@ -3,8 +3,11 @@
 
 mod coding;
 mod events;
+mod holders;
 mod plain;
 mod readings;
+mod requests;
+mod stores;
 mod table;
 mod transfers;
 mod work;

@@ -2,7 +2,10 @@
 
 use crate::coding::{Coding, PlainCoding};
 use crate::events::{Events, PlainEvents};
+use crate::holders::{Holders, PlainHolders};
 use crate::readings::{PlainReadings, Readings};
+use crate::requests::{PlainRequests, Requests};
+use crate::stores::{PlainStores, Stores};
 use crate::transfers::{PlainTransfers, Transfers};
 use crate::work::{TURNS, Work, least};
 use anyhow::Result;
@@ -41,8 +44,14 @@ fn row<W: Work, P: Work>(rt: &HostRuntime, done: &str, work: &mut W, plain: &mut
 
 /// Prints the table.
 pub fn print(rt: &HostRuntime) -> Result<()> {
-    let alloc = rt.alloc();
     println!(rt; "nanoseconds a turn, the least of 5 runs              ours  plain  ratio")?;
+    print_rings(rt)?;
+    print_parts(rt)
+}
+
+/// Prints the rows of rings.
+fn print_rings(rt: &HostRuntime) -> Result<()> {
+    let alloc = rt.alloc();
     row(
         rt,
         "a TRB encoded and decoded",
@@ -60,11 +69,34 @@ pub fn print(rt: &HostRuntime) -> Result<()> {
         "an event posted and taken",
         &mut Events::new(alloc)?,
         &mut PlainEvents::new(alloc)?,
+    )
+}
+
+/// Prints the rows of what the core is made of.
+fn print_parts(rt: &HostRuntime) -> Result<()> {
+    let alloc = rt.alloc();
+    row(
+        rt,
+        "a request of 1 to 8 bytes checked, its TRBs",
+        &mut Requests::new(),
+        &mut PlainRequests::new(),
     )?;
     row(
         rt,
-        "an event read, of a line of one IN 8",
+        "a transfer taken out of 16, and stored",
+        &mut Stores::new(alloc)?,
+        &mut PlainStores::new(alloc)?,
+    )?;
+    row(
+        rt,
+        "an event read, of a line of one transfer",
         &mut Readings::new(),
         &mut PlainReadings::new(),
+    )?;
+    row(
+        rt,
+        "the holder of an endpoint",
+        &mut Holders::new(alloc)?,
+        &mut PlainHolders::new(alloc)?,
     )
 }
