@@ -1,16 +1,14 @@
 -- What follows when an errand ended, read off the marks of a line.
-use Rattle.std.proofs.Common.{Bool, List, None, Option, Some, [], ap, ap₂, drop, false, map, refl, subst, suc, sym, true, zero, ℕ, ◌+◌, ◌∙◌, ◌∷◌, ◌≡◌}
+use Rattle.std.proofs.Common.{Bool, List, None, Option, Some, [], ap, drop, false, map, refl, subst, suc, sym, true, zero, ℕ, ◌+◌, ◌∙◌, ◌∷◌, ◌≡◌}
 use Rattle.std.proofs.Math.Numerals.{one-add}
 use Rattle.std.specs.Prelude.{if◌then◌else◌, is_some, not, ◌&&◌, ◌||◌}
 use Rattle.usb_model.specs.declared.errand.Errand.{Errand}
 use Rattle.usb_model.specs.declared.errand.Errand.TheVariants.{Move, Reset, Stop}
-use Rattle.usb_model.specs.declared.reply.Reply.{Reply}
 use Rattle.usb_model.specs.declared.reply.Reply.TheVariants.{Settled}
 use Rattle.usb_kept.specs.Kept.{KeptEndpoint, KeptTransfer}
-use Rattle.usb_kept.specs.Handling.{Handled, past_kept_blanks, posts}
+use Rattle.usb_kept.specs.Handling.{Handled, past_kept_blanks}
 use Rattle.usb_kept.specs.Settling.{kept_blanked, leads_kept, resume_kept, settle, withdrawn_results}
 use Rattle.usb_cancel.specs.declared.ended.Mark.{Mark}
-use Rattle.usb_cancel.specs.declared.ended.Settlement.{Settlement}
 use Rattle.usb_cancel.specs.Settlements.{goes_on, leading, leads_withdrawn, mark_of, resumed_at, settled_by}
 
 -- a blank leads once those that were asked are withdrawn

@@ -1,8 +1,8 @@
 -- What follows when an errand ended at an endpoint.
-use Rattle.std.specs.Prelude.{ℕ, suc, Bool, true, false, ◌||◌, List, [], ◌∷◌, drop, map, is_some, Option, Some, None, if◌then◌else◌}
+use Rattle.std.specs.Prelude.{ℕ, Bool, true, false, ◌||◌, List, [], ◌∷◌, drop, map, is_some, Option, Some, None, if◌then◌else◌}
 use Rattle.std.specs.List.{prefix_len}
 use Rattle.usb_model.specs.declared.errand.Errand.{Errand}
-use Rattle.usb_model.specs.declared.errand.Errand.TheVariants.{Stop, Reset, Move}
+use Rattle.usb_model.specs.declared.errand.Errand.TheVariants.{Stop, Move}
 use Rattle.usb_model.specs.declared.endpoint.EndpointState.TheVariants.{Running}
 use Rattle.usb_model.specs.declared.reply.Reply.{Reply}
 use Rattle.usb_model.specs.declared.reply.Reply.TheVariants.{Settled}

@@ -2,7 +2,7 @@
 //! libusb_release_interface).
 //!
 //! The one promise: each call changes devices and owners by one equation, or is refused and changes nothing; and an
-//! endpoint's holder is found by two reads of tables.
+//! endpoint's holder, and what a slot and an endpoint id name, are as the setup of these configurations has them.
 #![tactic(auto)]
 
 mod claims;

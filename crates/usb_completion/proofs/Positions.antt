@@ -1,5 +1,5 @@
 -- Where the first element that passes a test stands.
-use Rattle.std.proofs.Common.{Bool, List, None, Option, Some, ap, arith, cond, false, refl, suc, true, ℕ, ◌+◌, ◌<◌, ◌∙◌, ◌∷◌, ◌≡◌}
+use Rattle.std.proofs.Common.{Bool, List, None, Some, ap, arith, cond, false, refl, suc, true, ℕ, ◌+◌, ◌∙◌, ◌∷◌, ◌≡◌}
 use Rattle.std.specs.Prelude.{if◌then◌else◌, length, nat_lt, not, position}
 use Rattle.std.specs.List.{prefix_len}
 use Rattle.std.specs.Option.{option_map}

@@ -1,5 +1,5 @@
 -- An event at a place of a line is read as the core reads it.
-use Rattle.std.proofs.Common.{Bool, List, None, Option, Some, [], ap, ap₂, arith, false, inl, inr, map, refl, subst, suc, sym, true, ℕ, ◌+◌, ◌-◌, ◌<◌, ◌≤◌, ◌==◌, ◌∙◌, ◌∷◌, ◌≡◌, ◌⊎◌}
+use Rattle.std.proofs.Common.{Bool, List, None, Option, Some, [], ap, ap₂, arith, false, map, refl, subst, suc, sym, true, ℕ, ◌+◌, ◌-◌, ◌<◌, ◌≤◌, ◌==◌, ◌∙◌, ◌∷◌, ◌≡◌}
 use Rattle.std.specs.Prelude.{if◌then◌else◌, is_some, length, nat_le, nat_lt, position, slice_get, ◌&&◌}
 use Rattle.std.specs.Option.{option_and_then, option_map}
 use Rattle.std.specs.List.{AllByRecursion}
@@ -15,7 +15,7 @@ use Rattle.usb_completion.specs.declared.placed.Placed.{Placed}
 use Rattle.usb_completion.specs.declared.placed.PlacedTrb.{PlacedTrb}
 use Rattle.usb_completion.specs.declared.event.Reading.{Reading}
 use Rattle.usb_completion.specs.declared.event.Reading.TheVariants.{Ended, Paused, Stray}
-use Rattle.usb_completion.specs.Events.{item_at, lengths, moved_at, moved_by, reading, reading_at, reading_by, told, told_by, trb_at}
+use Rattle.usb_completion.specs.Events.{item_at, moved_at, moved_by, reading, reading_at, reading_by, told, told_by, trb_at}
 use Rattle.usb_completion.specs.Lines.{AllPlaced, IsApart, IsPlaced, ReadsAsKept, told_of, trbs_from}
 use Rattle.usb_completion.specs.Statuses.{is_short_an_error}
 use Rattle.usb_completion.proofs.Positions.{position_step}

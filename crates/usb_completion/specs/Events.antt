@@ -1,5 +1,5 @@
 -- An event is read: its transfer is found by the TRB that its pointer names, and the bytes that moved are read off the residual.
-use Rattle.std.specs.Prelude.{ℕ, ◌==◌, nat_lt, Bool, List, map, is_some, position, slice_get, Option, Some, None, if◌then◌else◌}
+use Rattle.std.specs.Prelude.{ℕ, ◌==◌, nat_lt, List, map, is_some, position, slice_get, Option, Some, None, if◌then◌else◌}
 use Rattle.std.specs.Option.{option_and_then}
 use Rattle.usb_model.specs.Completion.{stopped}
 use Rattle.usb_model.specs.Endpoint.Status.{status_of}

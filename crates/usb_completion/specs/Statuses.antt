@@ -1,5 +1,5 @@
 -- Which transfers have which status (libusb_transfer_status), read from the status.
-use Rattle.std.specs.Prelude.{◌≡◌, ℕ, ◌<◌, ◌≤◌, ◌==◌, Bool, true, false, ◌⊎◌, Option, Some, None}
+use Rattle.std.specs.Prelude.{◌≡◌, ℕ, ◌<◌, ◌==◌, Bool, true, ◌⊎◌, Option, Some, None}
 use Rattle.std.specs.Int.RustNames.{bit_and}
 use Rattle.usb_model.specs.declared.status.Status.{Status}
 use Rattle.usb_model.specs.declared.status.Status.TheVariants as status

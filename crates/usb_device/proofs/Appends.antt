@@ -1,5 +1,5 @@
 -- What is appended by an answer into zeros.
-use Rattle.std.proofs.Common.{◌≡◌, ℕ, ◌+◌, ◌-◌, ◌<◌, ◌≤◌, suc, List, [], ◌∷◌, ◌++◌, length, take, drop, Bool, true, false, nat_lt, nat_le, if◌then◌else◌, sym, ap, ◌∙◌, refl, arith, append-nil, append_assoc, length-append, length-drop, take-take}
+use Rattle.std.proofs.Common.{◌≡◌, ℕ, ◌+◌, ◌-◌, ◌≤◌, List, ◌++◌, length, take, drop, Bool, true, false, nat_lt, nat_le, if◌then◌else◌, sym, ap, ◌∙◌, refl, arith, append-nil, append_assoc, length-append, length-drop, take-take}
 use Rattle.std.proofs.lemmas.List.{take-append-le}
 use Rattle.std.proofs.Math.Seq.{drop-append_seam, take-append_seam, take-length, take-append-add}
 use Rattle.usb_model.specs.declared.response.Response.{Response}

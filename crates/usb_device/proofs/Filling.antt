@@ -1,16 +1,14 @@
 -- A device's endpoints, as they are made one after another.
-use Rattle.std.proofs.Common.{◌≡◌, ℕ, zero, suc, ◌+◌, ◌<◌, ◌≤◌, List, [], ◌∷◌, ◌++◌, length, drop, get_or, map, slice_get, true, count_by, sym, ap, ◌∙◌, refl, arith, append_assoc, length-append}
-use Rattle.std.specs.Option.{unwrap_or}
-use Rattle.std.specs.List.{list_all, range_with_len}
+use Rattle.std.proofs.Common.{◌≡◌, ℕ, zero, suc, ◌+◌, ◌<◌, List, [], ◌∷◌, ◌++◌, length, drop, get_or, map, true, sym, ap, ◌∙◌, refl, arith, append_assoc, length-append}
+use Rattle.std.specs.List.{range_with_len}
 use Rattle.std.proofs.lemmas.List.{get_or-drop}
 use Rattle.std.proofs.lemmas.Option.{unwrap_or-slice_get}
 use Rattle.std.proofs.lemmas.List.FromFn.{get_or-map-range_with_len, length-map-range_with_len, map-range_with_len_more}
 use Rattle.usb_model.specs.declared.response.Response.{Response}
 use Rattle.usb_model.specs.declared.setup.Configuration.{Configuration}
-use Rattle.usb_device.specs.Pipe.{Pipe, is_ack}
-use Rattle.usb_device.specs.Scripts.{are_scripts, is_short, pipe_by, pipe_of, pipes_of, room_of, rooms_of, script_by, size_by}
+use Rattle.usb_device.specs.Pipe.{Pipe}
+use Rattle.usb_device.specs.Scripts.{are_scripts, pipe_by, pipe_of, pipes_of, room_of, rooms_of, script_by, size_by}
 use Rattle.usb_device.specs.Taken.{Taken}
-use Rattle.usb_device.proofs.Fitting.{acks-few, all-short}
 
 -- endpoints made of the rooms `done`; the rooms `left` and the scripts `rest` come next
 pub record IsFilling (config : Configuration) (scripts : List (List Response)) (pipes : List Pipe) (done left : List Taken) (rest : List (List Response)) : Type 0 where

@@ -1,6 +1,6 @@
 -- What fitting scripts give each endpoint.
-use Rattle.std.proofs.Common.{◌≡◌, ℕ, zero, suc, ◌+◌, ◌*◌, ◌%◌, ◌-◌, ◌<◌, ◌≤◌, List, [], ◌∷◌, ◌++◌, length, drop, get_or, map, slice_get, Option, Some, None, Bool, true, false, nat_le, ◌&&◌, ◌==◌, if◌then◌else◌, count_by, sym, ap, ◌∙◌, refl, arith, add-zero}
-use Rattle.std.specs.Option.{unwrap_or, option_map_or}
+use Rattle.std.proofs.Common.{◌≡◌, ℕ, zero, suc, ◌+◌, ◌*◌, ◌%◌, ◌<◌, ◌≤◌, List, [], ◌∷◌, length, drop, get_or, map, Option, Some, None, Bool, true, false, nat_le, ◌&&◌, ◌==◌, if◌then◌else◌, count_by, sym, ap, ◌∙◌, refl, arith, add-zero}
+use Rattle.std.specs.Option.{unwrap_or}
 use Rattle.std.specs.List.{list_all, find, range_with_len}
 use Rattle.std.proofs.lemmas.Bool.{and_from, and_parts, eqb-true, leb-true}
 use Rattle.std.proofs.lemmas.List.{drop_all, drop_more, nil_from_length}
@@ -13,7 +13,7 @@ use Rattle.usb_model.specs.declared.setup.EndpointInfo.{EndpointInfo}
 use Rattle.usb_model.specs.Direction.{is_of_direction}
 use Rattle.usb_model.specs.Setup.{endpoint_id, is_in}
 use Rattle.usb_device.specs.Pipe.{IsLawful, Pipe, is_ack, no_pipe, pipe_at}
-use Rattle.usb_device.specs.Scripts.{are_scripts, are_scripts_from, info_by, is_answer, is_script, is_short, pipe_by, pipe_of, pipes_of, script_by, size_by}
+use Rattle.usb_device.specs.Scripts.{are_scripts, are_scripts_from, info_by, is_answer, is_script, is_short, pipe_by, pipes_of, script_by}
 
 -- the next script, and those behind it
 pub scripts-next : (config : Configuration) (scripts : List (List Response)) (id : ℕ) (d : List Response) → id < length scripts

@@ -4,6 +4,7 @@ use Rattle.usb_model.specs.declared.errand.Errand.{Errand}
 use Rattle.usb_model.specs.declared.errand.Errand.TheVariants.{Stop, Reset, Move}
 use Rattle.usb_model.specs.declared.endpoint.EndpointState.{EndpointState}
 use Rattle.usb_model.specs.declared.endpoint.EndpointState.TheVariants.{Running, Stopped, Halted}
+use Rattle.usb_model.specs.Completion.{stopped}
 use Rattle.usb_kept.specs.Kept.{KeptTransfer, Telling, Completion, KeptEndpoint, code_of, first_place}
 use Rattle.usb_kept.specs.Handling.{find_at, past_kept_blanks}
 use Rattle.usb_kept.specs.Serving.{event_at, sent_before, walk}
@@ -17,7 +18,7 @@ pub record Carried : Type 0 where
 -- the pause of the transfer where the controller stands, if that moved anything
 abbrev pub pause_at : KeptEndpoint → Option KeptTransfer → List Telling
 pause_at b None = []
-pause_at b (Some y) = if sent_before b y == 0 then [] else event_at b y (walk b y 0) 26 ∷ []
+pause_at b (Some y) = if sent_before b y == 0 then [] else event_at b y (walk b y 0) stopped ∷ []
 
 abbrev pub carried : Bool → ℕ → KeptEndpoint → List Telling → Carried
 carried ok index b told = record { ok = ok; endpoint = b; told = told ++ Completion index (code_of ok) ∷ [] }

@@ -8,7 +8,8 @@ use Rattle.usb_model.specs.declared.request.Request.{Request}
 use Rattle.usb_model.specs.declared.item.Ask.{Ask}
 use Rattle.usb_model.specs.declared.endpoint.EndpointState.{EndpointState}
 use Rattle.usb_model.specs.Requests.{length_of, adds_zero_packet}
-use Rattle.usb_kept.specs.Stands.{residual, lengths_of}
+use Rattle.usb_model.specs.Completion.{context_state_error, success}
+use Rattle.usb_kept.specs.Stands.{lengths_of}
 
 -- a transfer of a line as the core keeps it: its item of the ring, and its transfer of the store
 pub record KeptTransfer : Type 0 where
@@ -60,8 +61,8 @@ first_place (y ∷ ys) end = y.place
 
 -- the code of an order that was carried out, or failed
 abbrev pub code_of : Bool → ℕ
-code_of true = 1
-code_of false = 19
+code_of true = success
+code_of false = context_state_error
 
 -- the order's index, where there is an errand
 abbrev pub index_of : Option SentErrand → ℕ

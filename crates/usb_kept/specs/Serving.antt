@@ -11,6 +11,7 @@ use Rattle.usb_model.specs.declared.endpoint.EndpointState.TheVariants.{Running,
 use Rattle.usb_model.specs.Endpoint.Serve.{is_no_packet}
 use Rattle.usb_model.specs.Endpoint.Serve as service
 use Rattle.usb_model.specs.Endpoint.Status.{halts}
+use Rattle.usb_model.specs.Completion.{babble_detected, short_packet, stall_error, success, transaction_error}
 use Rattle.usb_kept.specs.Stands.{Stand, stand, length_at, total}
 use Rattle.usb_kept.specs.Kept.{KeptTransfer, Telling, Transfer, KeptEndpoint, first_place, is_extra}
 use Rattle.usb_kept.specs.Handling.{covers, find_at, past_at, past_kept_blanks}
@@ -28,15 +29,15 @@ pub record Packet : Type 0 where
 -- room: the bytes left in the transfer's TRBs; extra: whether an empty packet comes behind them
 abbrev pub packet_by : ℕ → ℕ → Bool → Response → Packet
 packet_by size room extra (response.Data b) =
-    if nat_lt (min size room) (length b) then record { bytes = 0; code = Some 3 }
-    else if length b == room then record { bytes = length b; code = Some 1 }
-    else if nat_lt (length b) size then record { bytes = length b; code = Some 13 }
+    if nat_lt (min size room) (length b) then record { bytes = 0; code = Some babble_detected }
+    else if length b == room then record { bytes = length b; code = Some success }
+    else if nat_lt (length b) size then record { bytes = length b; code = Some short_packet }
     else record { bytes = length b; code = None }
 packet_by size room extra response.Ack =
-    if nat_lt size room || (extra && nat_lt 0 room) then record { bytes = min size room; code = None } else record { bytes = min size room; code = Some 1 }
+    if nat_lt size room || (extra && nat_lt 0 room) then record { bytes = min size room; code = None } else record { bytes = min size room; code = Some success }
 packet_by size room extra response.Nak = record { bytes = 0; code = None }
-packet_by size room extra response.Stall = record { bytes = 0; code = Some 6 }
-packet_by size room extra response.Broken = record { bytes = 0; code = Some 4 }
+packet_by size room extra response.Stall = record { bytes = 0; code = Some stall_error }
+packet_by size room extra response.Broken = record { bytes = 0; code = Some transaction_error }
 
 abbrev pub packet_of : ℕ → ℕ → Bool → List Response → Packet
 packet_of size room extra [] = record { bytes = 0; code = None }
@@ -51,7 +52,7 @@ abbrev pub room_at : KeptEndpoint → KeptTransfer → ℕ
 room_at b y = total (drop (b.dequeue - y.place) y.lengths) - b.within
 
 abbrev pub packet_now : ℕ → KeptEndpoint → KeptTransfer → Packet
-packet_now size b y = if b.device_halted then record { bytes = 0; code = Some 6 } else packet_of size (room_at b y) (is_extra size y.request y.request.body) (answer_now b)
+packet_now size b y = if b.device_halted then record { bytes = 0; code = Some stall_error } else packet_of size (room_at b y) (is_extra size y.request y.request.body) (answer_now b)
 
 -- the bytes that came
 abbrev pub got : Body → List Response → ℕ → List ℕ
@@ -111,7 +112,7 @@ answered_by b y k (Some code) = record {
 
 -- a gone device isn't asked
 unfoldable pub answered_gone : KeptEndpoint → KeptTransfer → Answered
-answered_gone b y = record { reply = Ended y.n 4; endpoint = record b { state = Halted }; told = event_at b y (walk b y 0) 4 ∷ [] }
+answered_gone b y = record { reply = Ended y.n transaction_error; endpoint = record b { state = Halted }; told = event_at b y (walk b y 0) transaction_error ∷ [] }
 
 unfoldable pub serve_at : ℕ → Bool → KeptEndpoint → EndpointState → Option KeptTransfer → Answered
 serve_at size true b Running (Some y) = answered_gone b y

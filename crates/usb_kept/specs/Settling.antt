@@ -6,6 +6,7 @@ use Rattle.usb_model.specs.declared.reply.Reply.{Reply}
 use Rattle.usb_model.specs.declared.reply.Reply.TheVariants as reply
 use Rattle.usb_model.specs.declared.endpoint.EndpointState.TheVariants.{Running}
 use Rattle.usb_model.specs.declared.result.TransferResult.{TransferResult}
+use Rattle.usb_model.specs.Completion.{stopped}
 use Rattle.usb_kept.specs.Kept.{KeptTransfer, KeptEndpoint}
 use Rattle.usb_kept.specs.Handling.{Reading, Handled, posts, kept_result, past_kept_blanks}
 use Rattle.usb_kept.specs.Serving.{put_at}
@@ -20,7 +21,7 @@ kept_blanked y = if kept_withdrawn y then record y { blank = true } else y
 -- their results, in line order, with the bytes that were told last
 unfoldable pub withdrawn_results : List KeptTransfer → List TransferResult
 withdrawn_results [] = []
-withdrawn_results (y ∷ ys) = if kept_withdrawn y then kept_result false 26 y y.moved ∷ withdrawn_results ys else withdrawn_results ys
+withdrawn_results (y ∷ ys) = if kept_withdrawn y then kept_result false stopped y y.moved ∷ withdrawn_results ys else withdrawn_results ys
 
 abbrev pub leads_kept : List KeptTransfer → Bool
 leads_kept [] = false

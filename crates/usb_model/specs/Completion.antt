@@ -20,6 +20,10 @@ stall_error = 6
 abbrev pub short_packet : ℕ
 short_packet = 13
 
+-- a command came while the endpoint was in another state than it needs
+abbrev pub context_state_error : ℕ
+context_state_error = 19
+
 -- the endpoint was stopped amid the transfer
 abbrev pub stopped : ℕ
 stopped = 26

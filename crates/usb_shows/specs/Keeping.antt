@@ -2,13 +2,11 @@
 use Rattle.std.specs.Prelude.{◌≡◌, ℕ, ◌+◌, List, [], ◌++◌, length, Some, ◌≤◌, ◌==◌}
 use Rattle.std.specs.Option.{unwrap_or}
 use Rattle.usb_model.specs.declared.errand.Errand.{Errand}
-use Rattle.usb_model.specs.declared.reply.Reply.TheVariants as reply
 use Rattle.usb_kept.specs.Stands.{total}
 use Rattle.usb_kept.specs.Kept.{Telling, SentErrand, trbs_of}
 use Rattle.usb_shows.specs.Showing.{ShowsEnd, count}
 use Rattle.usb_model.specs.declared.endpoint_effect.EndpointEffect.{EndpointEffect}
 use Rattle.usb_model.specs.declared.news.Event.{Event}
-use Rattle.usb_model.specs.declared.response.Response.TheVariants as response
 use Rattle.usb_model.specs.declared.reply.Reply.TheVariants.{Ran}
 use Rattle.usb_model.specs.declared.endpoint.Endpoint.{Endpoint}
 use Rattle.usb_model.specs.declared.item.Item.{Item}
@@ -16,7 +14,6 @@ use Rattle.usb_model.specs.Endpoint.{outcome_of, bytes_read, first_waiting}
 use Rattle.usb_model.specs.declared.outcome.Outcome.{Outcome}
 use Rattle.usb_model.specs.Endpoint.Packets.{outcome, open_with, count_of}
 use Rattle.usb_model.specs.Endpoint.Serve.{next_answer, acknowledged}
-use Rattle.usb_model.specs.Endpoint.Serve as service
 use Rattle.usb_kept.specs.Handling.{Handled}
 use Rattle.usb_kept.specs.Serving.{Packet, got, gave, Answered}
 use Rattle.usb_kept.specs.Commanding.{Carried}

@@ -1,5 +1,5 @@
 -- Room for one more id.
-use Rattle.std.proofs.Common.{◌≡◌, ℕ, ap, sym, ◌∙◌, ◌+◌, ◌∷◌, [], ◌++◌, arith, List, map, refl}
+use Rattle.std.proofs.Common.{◌≡◌, ℕ, ap, sym, ◌∙◌, ◌∷◌, [], ◌++◌, arith, List, map, refl}
 use Rattle.std.specs.List.{range_with_len}
 use Rattle.std.proofs.lemmas.List.FromFn.{map-range_with_len_more}
 use Rattle.usb_device.specs.Scripts.{room_of, rooms_of}

@@ -1,7 +1,6 @@
 -- Room for the ids so far.
-use Rattle.std.proofs.Common.{◌≡◌, [], map, count_by}
+use Rattle.std.proofs.Common.{◌≡◌, map}
 use Rattle.std.specs.List.{range_with_len}
-use Rattle.usb_device.specs.Pipe.{is_ack}
 use Rattle.usb_device.specs.Scripts.{room_of}
 use Rattle.usb_device.proofs.table.make_rooms.Given as goal
 

@@ -1,8 +1,8 @@
 -- The packet stands at the front of the zeros, and what is behind it goes.
-use Rattle.std.proofs.Common.{◌≡◌, ◌≤◌, ◌-◌, ℕ, ap, sym, ◌∙◌, ◌+◌, ◌∷◌, [], ◌++◌, arith, List, length, drop, take, replicate}
+use Rattle.std.proofs.Common.{◌≡◌, ◌-◌, ℕ, ap, ◌∙◌, ◌+◌, ◌++◌, arith, List, length, drop, take, replicate}
 use Rattle.std.proofs.lemmas.List.{length-replicate}
 use Rattle.std.proofs.Math.Seq.{take-append_seam}
-use Rattle.usb_device.specs.Pipe.{answer_of, buffer_after, bytes_after, pipe_at}
+use Rattle.usb_device.specs.Pipe.{answer_of, buffer_after, pipe_at}
 use Rattle.usb_device.proofs.Appends.{appended, buffer-is, first-kept, length-buffer_after}
 use Rattle.usb_device.proofs.device.Device.answer_in.Goals as goal
 

@@ -1,15 +1,13 @@
 -- From one endpoint to the next.
-use Rattle.std.proofs.Common.{◌≡◌, ◌≤◌, ◌∷◌, [], ◌++◌, ℕ, List, arith, ap, sym, ◌∙◌, refl, subst, length, map, true, vec_capacity}
-use Rattle.std.specs.List.{range_with_len}
+use Rattle.std.proofs.Common.{◌≡◌, ◌∷◌, [], List, arith, ap, sym, ◌∙◌, subst, length}
 use Rattle.std.specs.Vec.Iter.{into_iter_items}
 use Rattle.std.proofs.lemmas.List.{nil_from_length}
 use Rattle.std.proofs.lemmas.List.FromFn.{length-map-range_with_len}
-use Rattle.usb_model.specs.declared.response.Response.{Response}
-use Rattle.usb_device.specs.Pipe.{IsLawful, Pipe, is_ack}
+use Rattle.usb_device.specs.Pipe.{IsLawful, Pipe}
 use Rattle.usb_device.specs.Scripts.{are_scripts, pipe_by, room_of, rooms_of, script_by}
 use Rattle.usb_device.specs.Taken.{Taken}
 use Rattle.usb_device.proofs.Filling.{IsFilling, all-filled, few-done, filled, left-is, next-room, next-script}
-use Rattle.usb_device.proofs.Fitting.{acks-few, all-short, lawful}
+use Rattle.usb_device.proofs.Fitting.{all-short, lawful}
 use Rattle.usb_device.proofs.table.TableDevice.new.Goals as goal
 use Rattle.usb_device.proofs.table.TableDevice.new.Goals.{After-next_script, In-None}
 

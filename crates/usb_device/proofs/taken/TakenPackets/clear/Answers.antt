@@ -1,4 +1,4 @@
-use Rattle.std.proofs.Common.{refl, sym}
+use Rattle.std.proofs.Common.{refl}
 use Rattle.usb_device.specs.Taken.{cut_at}
 use Rattle.usb_device.proofs.taken.TakenPackets.clear.Goals as goal
 

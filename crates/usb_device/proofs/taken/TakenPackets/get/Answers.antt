@@ -1,5 +1,5 @@
 -- The packet of this index stands between two ends.
-use Rattle.std.proofs.Common.{◌≡◌, ◌<◌, ◌≤◌, None, Some, ℕ, get_or, slice_get, length, arith, ap, sym, ◌∙◌, refl}
+use Rattle.std.proofs.Common.{◌≡◌, ◌<◌, Some, get_or, slice_get, length, arith, ap, sym, ◌∙◌, refl}
 use Rattle.std.specs.List.{slice_range}
 use Rattle.std.proofs.lemmas.Option.{slice_get_past}
 use Rattle.usb_device.specs.Taken.{Taken, start_of}

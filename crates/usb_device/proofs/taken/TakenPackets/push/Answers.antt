@@ -1,6 +1,6 @@
 -- There is room for one more packet, and it stands behind the others.
-use Rattle.std.proofs.Common.{◌≡◌, ◌<◌, ◌≤◌, ◌+◌, ◌∷◌, [], ◌++◌, ℕ, List, length, arith, ap, sym, ◌∙◌, vec_capacity, vec_len}
-use Rattle.usb_device.specs.Taken.{Taken, cut_at}
+use Rattle.std.proofs.Common.{◌<◌, ◌≤◌, ◌∷◌, [], ◌++◌, length, arith, ap, vec_capacity}
+use Rattle.usb_device.specs.Taken.{Taken}
 use Rattle.usb_device.proofs.Cuts.{cut_at-more, length-cut_at, room-more, taken-more}
 use Rattle.usb_device.proofs.taken.TakenPackets.push.Goals as goal
 
