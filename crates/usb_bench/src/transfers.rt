@@ -53,7 +53,7 @@ impl Work for Transfers {
                 }
             }
             if let Some((address, trb)) = self.ring.front() {
-                sum ^= weight(&trb) ^ address;
+                sum ^= weight(&trb) ^ address.address();
                 self.ring.advance();
             }
             if self.ring.len() > 0 {

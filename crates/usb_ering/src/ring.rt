@@ -2,7 +2,7 @@
 
 use std::marker::Model;
 use usb_segment::{Segment, cycle, index, place_after};
-use usb_trb::TrbKind;
+use usb_trb::{Pointer, TrbKind};
 
 /// A ring of `N` places. Contracts see how many TRBs were posted, the list of those that wait, and the bytes.
 ///
@@ -143,7 +143,7 @@ impl<const N: usize> Ring<N> {
     }
 
     /// The address of the TRB at an index, by which an order is named.
-    pub fn address(&self, index: usize) -> u64
+    pub fn address(&self, index: usize) -> Pointer
         requires { index < N }
         ensures { result ≡ self.now.memory.base + 16 * index }
     {

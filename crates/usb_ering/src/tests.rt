@@ -53,11 +53,11 @@ fn empty(rt: HostRuntime) -> Result<(), Fail> {
     let mut commands = commands(rt.alloc())?;
     assert_eq!(rt; commands.take(), None);
     assert_eq!(rt; commands.room(), 254);
-    assert_eq!(rt; commands.address(2), 0x2000_0020);
+    assert_eq!(rt; commands.address(2).address(), 0x2000_0020);
     let mut events = events(rt.alloc())?;
     assert_eq!(rt; events.take(), None);
     assert_eq!(rt; events.room(), 4095);
-    assert_eq!(rt; events.address(4095), 0x3000_fff0);
+    assert_eq!(rt; events.address(4095).address(), 0x3000_fff0);
     assert_eq!(rt; events.bytes_at(4096), None);
     Ok(())
 }

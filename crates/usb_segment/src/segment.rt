@@ -108,11 +108,11 @@ impl<const N: usize> Segment<N> {
     }
 
     /// The address of the cell of an index.
-    pub fn address(&self, index: usize) -> u64
+    pub fn address(&self, index: usize) -> Pointer
         requires { index < N }
         ensures { result ≡ self.now.base + 16 * index }
     {
-        self.base.address() + 16 * index as u64
+        Pointer::before(self.base.address() + 16 * index as u64)
     }
 
     /// All is as when it was made.

@@ -51,7 +51,7 @@ fn empty(rt: HostRuntime) -> Result<(), Fail> {
     let bare = Segment::<4>::without_link(rt.alloc(), base()?)?;
     assert_eq!(rt; bare.bytes_at(3), Some([0; 16]));
     assert_eq!(rt; bare.bytes_at(4), None);
-    assert_eq!(rt; bare.address(3), 0x1002_3030);
+    assert_eq!(rt; bare.address(3).address(), 0x1002_3030);
     Ok(())
 }
 
