@@ -1,0 +1,5 @@
+pub mod Scans
+pub mod Reaching
+pub mod Passing
+pub mod Nexts
+pub mod Serves
