@@ -3,3 +3,4 @@ pub mod Reaching
 pub mod Passing
 pub mod Nexts
 pub mod Serves
+pub mod Moves

@@ -4,4 +4,5 @@ pub mod Context
 pub mod Posting
 pub mod Serving
 pub mod Commanding
+pub mod Hosting
 pub mod Slots

@@ -232,4 +232,95 @@ impl EndpointContext {
     {
         self.state = EndpointState::Halted;
     }
+
+    /// Its state (xHCI 1.2, 4.8.3).
+    pub fn state(&self) -> EndpointState
+        ensures { result ≡ self.now.state }
+    {
+        self.state
+    }
+
+    /// Whether any byte of the transfer at dequeue moved.
+    pub(crate) fn is_begun(&self) -> bool
+        ensures { result ≡ self.now.begun }
+    {
+        self.begun
+    }
+
+    /// It is stopped.
+    pub(crate) fn be_stopped(&mut self)
+        ensures { self.new ≡ record self.old { state = Stopped } }
+    {
+        self.state = EndpointState::Stopped;
+    }
+
+    /// Its doorbell is rung: it runs where it was stopped. A halted endpoint ignores it (xHCI 1.2, 4.7, 4.8.3).
+    pub(crate) fn ring_doorbell(&mut self)
+        ensures { self.new ≡ rung self.old }
+    {
+        if self.state == EndpointState::Stopped {
+            self.state = EndpointState::Running;
+        }
+    }
+
+    /// Dequeue goes to the TRB of an item at this address, or to enqueue, and a transfer begins there; false, and nothing
+    /// changes, where the address is neither.
+    pub(crate) fn set_dequeue(&mut self, pointer: Pointer) -> bool
+        ensures found { result ≡ is_some (before self.old.ring.line pointer) }
+        ensures context { self.new ≡ (moved_at self.old (before self.old.ring.line pointer)).context }
+    {
+        let found = self.ring.set_dequeue(pointer);
+        if found {
+            self.within = 0;
+            self.begun = false;
+        }
+        found
+    }
+
+    /// It is as it was configured.
+    pub(crate) fn renew(&mut self)
+        ensures { self.new ≡ configured self.old.slot self.old.id self.old.size self.old.ring.line.base }
+    {
+        self.ring.renew();
+        self.within = 0;
+        self.begun = false;
+        self.state = EndpointState::Running;
+    }
+
+    /// Its transfer ring.
+    pub fn ring(&self) -> &TransferRing
+        ensures { result.now ≡ self.now.ring }
+    {
+        &self.ring
+    }
+
+    /// A transfer's TRBs are put behind all others of its ring, as one item.
+    pub(crate) fn push(&mut self, trbs: &[Normal])
+        requires some { 0 < length trbs.now }
+        requires room { used self.old.ring.line + length trbs.now ≤ capacity }
+        ensures { self.new ≡ with_ring self.old (with_pushed self.old.ring (normals trbs.now)) }
+    {
+        self.ring.push(trbs);
+    }
+
+    /// Each TRB of an item becomes a No Op.
+    pub(crate) fn blank(&mut self, item: usize)
+        requires { item < length self.old.ring.line.items }
+        ensures { self.new ≡ with_ring self.old (with_blank self.old.ring item) }
+    {
+        self.ring.blank(item);
+    }
+
+    /// The first items leave the line.
+    pub(crate) fn drop_front(&mut self, count: usize)
+        requires { count ≤ length self.old.ring.line.items }
+        ensures { self.new ≡ with_ring self.old (without_first self.old.ring count) }
+    {
+        self.ring.drop_front(count);
+    }
 }
+
+ghost use Rattle.std.specs.Prelude.{is_some};
+ghost use Rattle.usb_tring.specs.Line.{capacity, normals, used};
+ghost use Rattle.usb_xhc.specs.Commanding.{before, moved_at};
+ghost use Rattle.usb_xhc.specs.Hosting.{rung, with_ring, with_pushed, with_blank, without_first};

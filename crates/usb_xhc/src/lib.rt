@@ -5,6 +5,7 @@
 //! endpoint, by the TRBs from dequeue on, while all others stay as they are.
 #![tactic(auto)]
 
+mod commanding;
 mod context;
 mod outcome;
 mod packet;
@@ -12,6 +13,7 @@ mod serving;
 mod slot;
 mod trb_at;
 
+pub use commanding::{CONTEXT_STATE_ERROR, ENDPOINT_NOT_ENABLED_ERROR, TRB_ERROR};
 pub use context::EndpointContext;
 pub use packet::Packet;
 pub use slot::DeviceSlot;
