@@ -75,6 +75,7 @@ leads l p found l' each known absent = by_place (before l p) refl
         let k = known e in
         absurd (found-none l p (length (all_of l.items)) k.0 none k.1 k.2)
     by_found false e none = (e, absent e)
+
     by_place : (o : Option ℕ) → before l p ≡ o → (found ≡ is_some o) × (l' ≡ led l o)
     by_place None e = by_found found refl e
     by_place (Some m) e =

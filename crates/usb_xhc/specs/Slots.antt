@@ -1,14 +1,16 @@
 -- A device's slot: what it serves at an endpoint, and what an order does there (Device Context; xHCI 1.2, 4.5, 6.2.1).
-use Rattle.std.specs.Prelude.{ℕ, ◌+◌, ◌%◌, min, Bool, true, false, not, ◌&&◌, List, take, drop, is_some, Option, Some, None, option_map, slice_index_or, slice_set, if◌then◌else◌}
+use Rattle.std.specs.Prelude.{ℕ, ◌+◌, ◌%◌, min, Bool, true, false, not, ◌&&◌, List, [], take, drop, is_some, Option, Some, None, option_map, slice_index_or, slice_set, if◌then◌else◌}
 use Rattle.std.specs.Option.{option_and_then, option_map_or}
 use Rattle.usb_model.specs.declared.response.Response.{Response}
 use Rattle.usb_model.specs.Setup.{endpoint_id}
 use Rattle.usb_trb.specs.declared.kind.Normal.{Normal as NormalTrb}
+use Rattle.usb_trb.specs.declared.kind.TrbKind.{TrbKind}
 use Rattle.usb_ering.specs.Ring.{Ring}
-use Rattle.usb_device.specs.Pipe.{Pipe, answer_of, bytes_after, pipe_after, pipe_at}
+use Rattle.usb_device.specs.Pipe.{Pipe, answer_of, bytes_after, pipe_after, pipe_at, rewound}
 use Rattle.usb_xhc.specs.declared.trb_at.TrbAt.{TrbAt}
 use Rattle.usb_xhc.specs.Ahead.{room}
-use Rattle.usb_xhc.specs.Context.{Context, trbs}
+use Rattle.usb_xhc.specs.Context.{Context, configured, trbs}
+use Rattle.usb_xhc.specs.Commanding.{carried, endpoint_not_enabled_error}
 use Rattle.usb_xhc.specs.Posting.{posted_all}
 use Rattle.usb_xhc.specs.Serving.{Served, served, served_gone, working}
 
@@ -66,3 +68,26 @@ events_after s ep r = option_map_or (λ x. posted_all 4096 r x.events) (serving 
 -- the bytes for the host behind it
 abbrev pub read_after : DeviceSlot → ℕ → List ℕ → List ℕ
 read_after s ep bytes = if asks s ep then bytes_after (answer_of (pipe_at s.pipes ep)) (option_map_or (λ c. packet_room c) (context_of s ep) 0) bytes else bytes
+
+-- the endpoint of this id
+abbrev pub context_by : DeviceSlot → ℕ → Option Context
+context_by s id = slice_index_or s.contexts id None
+
+-- the slot with something else at this endpoint
+abbrev pub changed : DeviceSlot → ℕ → (Context → Context) → DeviceSlot
+changed s id f = option_map_or (λ c. record s { contexts = slice_set s.contexts id (Some (f c)) }) (context_by s id) s
+
+-- what an order does at the endpoint of this id
+abbrev pub order_code : DeviceSlot → ℕ → TrbKind → ℕ
+order_code s id order = option_map_or (λ c. (carried order c).code) (context_by s id) endpoint_not_enabled_error
+
+abbrev pub order_events : DeviceSlot → ℕ → TrbKind → List TrbKind
+order_events s id order = option_map_or (λ c. (carried order c).events) (context_by s id) []
+
+-- the endpoint of this address is made new (Configure Endpoint; xHCI 1.2, 4.6.6)
+abbrev pub renewed : DeviceSlot → ℕ → DeviceSlot
+renewed s ep =
+    option_map_or (λ c. record s {
+      pipes = slice_set s.pipes (endpoint_id ep) (rewound (pipe_at s.pipes ep));
+      contexts = slice_set s.contexts (endpoint_id ep) (Some (configured c.slot c.id c.size c.ring.line.base));
+    }) (context_of s ep) s

@@ -6,12 +6,14 @@ ghost use Rattle.usb_device.specs.Pipe.{pipe_at};
 ghost use Rattle.usb_xhc.specs.Serving.{working};
 ghost use Rattle.usb_xhc.specs.Slots.{context_of, serving, sends, slot_after, events_after, read_after, packet_room, offset_by};
 
+use crate::commanding::ENDPOINT_NOT_ENABLED_ERROR;
 use crate::context::EndpointContext;
 use crate::packet::Packet;
 use std::marker::Model;
 use usb_device::Device;
 use usb_ering::EventRing;
 use usb_model::EpAddr;
+use usb_trb::{EndpointId, Normal, TrbKind};
 
 /// A device, and its endpoints by their ids, 0 to 31 (Device Context; xHCI 1.2, 6.2.1); a bulk or interrupt endpoint of the
 /// configuration has a ring, and no other. Contracts see the device's endpoints, whether it is gone, and the controller's.
@@ -84,4 +86,127 @@ impl<D: Device> DeviceSlot<D> {
         let act = self.device.answer(ep, Some(packet), &mut []);
         Some(context.take(&first, reach, act, events))
     }
+
+    /// Carries an order out at the endpoint of this id, and gives the code of its completion.
+    pub fn carry_out(&mut self, id: EndpointId, order: TrbKind, events: &mut EventRing) -> u8
+        requires { length events.old.waits < 4095 }
+        ensures code { result ≡ order_code self.old id order }
+        ensures slot { self.new ≡ changed self.old id (λ c. (carried order c).context) }
+        ensures events { events.new ≡ posted_all 4096 events.old (order_events self.old id order) }
+    {
+        match &mut self.contexts[usize::from(id.number())] {
+            Some(context) => context.carry_out(order, events),
+            None => ENDPOINT_NOT_ENABLED_ERROR,
+        }
+    }
+
+    /// Rings the doorbell of the endpoint of this id: it runs where it was stopped (xHCI 1.2, 4.7).
+    pub fn ring_doorbell(&mut self, id: EndpointId)
+        ensures { self.new ≡ changed self.old id rung }
+    {
+        if let Some(context) = &mut self.contexts[usize::from(id.number())] {
+            context.ring_doorbell();
+        }
+    }
+
+    /// An endpoint is made new: it runs, its ring is empty, and the device is at the beginning of its script, not halted,
+    /// with nothing taken (Configure Endpoint; xHCI 1.2, 4.6.6). Nothing changes where there is no such endpoint.
+    pub fn renew(&mut self, ep: EpAddr)
+        ensures { self.new ≡ renewed self.old ep }
+    {
+        if let Some(context) = &mut self.contexts[usize::from(ep.id())] {
+            context.renew();
+            self.device.rewind(ep);
+        }
+    }
+
+    /// An endpoint; None where it has no ring.
+    pub fn context(&self, ep: EpAddr) -> Option<&EndpointContext>
+        ensures { option_copied result ≡ context_of self.now ep }
+    {
+        self.contexts[usize::from(ep.id())].as_ref()
+    }
+
+    /// A transfer's TRBs are put behind all others of an endpoint's ring, as one item.
+    pub fn push(&mut self, ep: EpAddr, trbs: &[Normal])
+        requires some { 0 < length trbs.now }
+        requires room { IfSome (context_of self.old ep) (λ c. used c.ring.line + length trbs.now ≤ capacity) }
+        ensures { self.new ≡ changed self.old (endpoint_id ep) (λ c. with_ring c (with_pushed c.ring (normals trbs.now))) }
+    {
+        if let Some(context) = &mut self.contexts[usize::from(ep.id())] {
+            context.push(trbs);
+        }
+    }
+
+    /// Each TRB of an item of an endpoint's ring becomes a No Op.
+    pub fn blank(&mut self, ep: EpAddr, item: usize)
+        requires { IfSome (context_of self.old ep) (λ c. item < length c.ring.line.items) }
+        ensures { self.new ≡ changed self.old (endpoint_id ep) (λ c. with_ring c (with_blank c.ring item)) }
+    {
+        if let Some(context) = &mut self.contexts[usize::from(ep.id())] {
+            context.blank(item);
+        }
+    }
+
+    /// The first items of an endpoint's ring leave its line.
+    pub fn drop_front(&mut self, ep: EpAddr, count: usize)
+        requires { IfSome (context_of self.old ep) (λ c. count ≤ length c.ring.line.items) }
+        ensures { self.new ≡ changed self.old (endpoint_id ep) (λ c. with_ring c (without_first c.ring count)) }
+    {
+        if let Some(context) = &mut self.contexts[usize::from(ep.id())] {
+            context.drop_front(count);
+        }
+    }
+
+    /// Clears the halt of a device's endpoint (USB 2.0, 9.4.5, ENDPOINT_HALT).
+    pub fn clear_halt(&mut self, ep: EpAddr)
+        ensures { self.new ≡ record self.old { pipes = slice_set self.old.pipes (endpoint_id ep) (cleared (pipe_at self.old.pipes ep)) } }
+    {
+        self.device.clear_halt(ep);
+    }
+
+    /// Whether the device has an answer left at an endpoint, or is halted there.
+    pub fn ready(&self, ep: EpAddr) -> bool
+        ensures { result ≡ is_ready (pipe_at self.now.pipes ep) }
+    {
+        self.device.ready(ep)
+    }
+
+    /// The packet of index `i`, from 0 on, among those that an endpoint took since it was made new; None past the last.
+    pub fn taken(&self, ep: EpAddr, i: usize) -> Option<&[u8]>
+        ensures { option_copied result ≡ slice_get (pipe_at self.now.pipes ep).taken i }
+    {
+        self.device.taken(ep, i)
+    }
+
+    /// The device is gone: it isn't asked any more.
+    pub fn unplug(&mut self)
+        ensures { self.new ≡ record self.old { gone = true } }
+    {
+        self.gone = true;
+    }
+
+    /// Whether the device is gone.
+    pub fn is_gone(&self) -> bool
+        ensures { result ≡ self.now.gone }
+    {
+        self.gone
+    }
+
+    /// The device as it is.
+    pub fn into_device(self) -> D
+        ensures { D.pipes result ≡ self.pipes }
+    {
+        let DeviceSlot { device, .. } = self;
+        device
+    }
 }
+
+ghost use Rattle.std.specs.Prelude.{true, slice_get};
+ghost use Rattle.std.specs.Option.{option_copied};
+ghost use Rattle.usb_tring.specs.Line.{capacity, normals, used};
+ghost use Rattle.usb_device.specs.Pipe.{cleared, is_ready};
+ghost use Rattle.usb_xhc.specs.Commanding.{carried};
+ghost use Rattle.usb_xhc.specs.Hosting.{rung, with_ring, with_pushed, with_blank, without_first};
+ghost use Rattle.usb_xhc.specs.Posting.{posted_all};
+ghost use Rattle.usb_xhc.specs.Slots.{changed, order_code, order_events, renewed};
