@@ -17,4 +17,5 @@ mod tests;
 
 pub use boxed::BoxedDevice;
 pub use device::{Act, Device};
+pub use scripts::info_by;
 pub use table::{TableDevice, Unmade};

@@ -11,8 +11,8 @@ use usb_descriptors::Config;
 use usb_model::limits::{LARGEST_PACKET, LONGEST_SCRIPT};
 use usb_model::{EndpointInfo, Response, Script};
 
-/// What the configuration says of the endpoint of this id.
-fn info_by(config: &Config, id: usize) -> Option<&EndpointInfo>
+/// What the configuration says of the endpoint of this id; None where it has none.
+pub fn info_by(config: &Config, id: usize) -> Option<&EndpointInfo>
     ensures { option_copied result ≡ info_by config.now id }
 {
     config

@@ -6,3 +6,5 @@ pub mod Serving
 pub mod Commanding
 pub mod Hosting
 pub mod Slots
+pub mod Making
+pub mod Controller

@@ -7,6 +7,8 @@
 
 mod commanding;
 mod context;
+mod controller;
+mod making;
 mod outcome;
 mod packet;
 mod serving;
@@ -15,5 +17,6 @@ mod trb_at;
 
 pub use commanding::{CONTEXT_STATE_ERROR, ENDPOINT_NOT_ENABLED_ERROR, TRB_ERROR};
 pub use context::EndpointContext;
+pub use controller::Controller;
 pub use packet::Packet;
 pub use slot::DeviceSlot;

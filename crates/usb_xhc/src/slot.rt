@@ -8,12 +8,15 @@ ghost use Rattle.usb_xhc.specs.Slots.{context_of, serving, sends, slot_after, ev
 
 use crate::commanding::ENDPOINT_NOT_ENABLED_ERROR;
 use crate::context::EndpointContext;
+use crate::making::make_contexts;
 use crate::packet::Packet;
+use std::alloc::Global;
 use std::marker::Model;
+use usb_descriptors::Config;
 use usb_device::Device;
 use usb_ering::EventRing;
 use usb_model::EpAddr;
-use usb_trb::{EndpointId, Normal, TrbKind};
+use usb_trb::{EndpointId, Normal, Slot, TrbKind};
 
 /// A device, and its endpoints by their ids, 0 to 31 (Device Context; xHCI 1.2, 6.2.1); a bulk or interrupt endpoint of the
 /// configuration has a ring, and no other. Contracts see the device's endpoints, whether it is gone, and the controller's.
@@ -36,6 +39,22 @@ impl<D: Device> Model for DeviceSlot<D> {
 }
 
 impl<D: Device> DeviceSlot<D> {
+    /// The slot of a device of this configuration: each bulk or interrupt endpoint runs, with an empty ring. Hands the
+    /// device back where memory is refused.
+    pub fn new(alloc: Global, slot: Slot, config: &Config, device: D) -> Result<DeviceSlot<D>, D>
+        ensures made { IfOk result (λ s. s ≡ slot_for slot config.now (D.pipes device)) }
+        ensures back { IfErr result (λ d. d ≡ device) }
+    {
+        match make_contexts(alloc, slot, config) {
+            Ok(contexts) => Ok(DeviceSlot {
+                device,
+                gone: false,
+                contexts,
+            }),
+            Err(_) => Err(device),
+        }
+    }
+
     /// One packet of the transfer at an endpoint's dequeue, from the device, whose bytes join these; None where there is
     /// nothing to serve: no such endpoint, or it isn't running, or no transfer is left.
     pub fn serve_in(
@@ -202,7 +221,8 @@ impl<D: Device> DeviceSlot<D> {
     }
 }
 
-ghost use Rattle.std.specs.Prelude.{true, slice_get};
+ghost use Rattle.std.specs.Prelude.{true, slice_get, IfOk, IfErr};
+ghost use Rattle.usb_xhc.specs.Making.{slot_for};
 ghost use Rattle.std.specs.Option.{option_copied};
 ghost use Rattle.usb_tring.specs.Line.{capacity, normals, used};
 ghost use Rattle.usb_device.specs.Pipe.{cleared, is_ready};
