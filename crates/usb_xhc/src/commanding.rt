@@ -1,6 +1,6 @@
 //! An order at an endpoint (xHCI 1.2, 4.6.8 to 4.6.10).
 
-ghost use Rattle.std.specs.Prelude.{◌≡◌, ◌<◌, length};
+ghost use Rattle.std.specs.Prelude.{◌≡◌, ◌+◌, ◌≤◌, ◌<◌, length};
 ghost use Rattle.usb_xhc.specs.Commanding.{carried, move_in, reset_in, stop_in};
 ghost use Rattle.usb_xhc.specs.Posting.{posted_all};
 
@@ -29,6 +29,7 @@ impl EndpointContext {
         ensures code { result ≡ (carried order self.old).code }
         ensures context { self.new ≡ (carried order self.old).context }
         ensures events { events.new ≡ posted_all 4096 events.old (carried order self.old).events }
+        ensures more { length events.new.waits ≤ length events.old.waits + 1 }
     {
         match order {
             TrbKind::StopEndpoint { .. } => self.stop(events),
@@ -44,6 +45,7 @@ impl EndpointContext {
         ensures code { result ≡ (stop_in self.old self.old.state).code }
         ensures context { self.new ≡ (stop_in self.old self.old.state).context }
         ensures events { events.new ≡ posted_all 4096 events.old (stop_in self.old self.old.state).events }
+        ensures more { length events.new.waits ≤ length events.old.waits + 1 }
     {
         if self.state() != EndpointState::Running {
             return CONTEXT_STATE_ERROR;
@@ -56,7 +58,8 @@ impl EndpointContext {
     /// The event of the transfer at dequeue, where it has moved anything.
     fn pause(&self, events: &mut EventRing)
         requires { length events.old.waits < 4095 }
-        ensures { events.new ≡ posted_all 4096 events.old (pause_by self.now (trb_at self.now 0)) }
+        ensures pause { events.new ≡ posted_all 4096 events.old (pause_by self.now (trb_at self.now 0)) }
+        ensures more { length events.new.waits ≤ length events.old.waits + 1 }
     {
         let Some(first) = self.first() else {
             return;

@@ -158,6 +158,7 @@ impl<D: Device> Controller<D> {
         requires { length self.old.events.waits < 4095 }
         ensures code { result ≡ code_for self.old order.now }
         ensures controller { self.new ≡ carried_at self.old order.now }
+        ensures more { length self.new.events.waits ≤ length self.old.events.waits + 1 }
     {
         let Some((slot, id)) = endpoint_in(order) else {
             return TRB_ERROR;

@@ -112,6 +112,7 @@ impl<D: Device> DeviceSlot<D> {
         ensures code { result ≡ order_code self.old id order }
         ensures slot { self.new ≡ changed self.old id (λ c. (carried order c).context) }
         ensures events { events.new ≡ posted_all 4096 events.old (order_events self.old id order) }
+        ensures more { length events.new.waits ≤ length events.old.waits + 1 }
     {
         match &mut self.contexts[usize::from(id.number())] {
             Some(context) => context.carry_out(order, events),
