@@ -1,18 +1,16 @@
 -- A device's slot: what it serves at an endpoint, and what an order does there (Device Context; xHCI 1.2, 4.5, 6.2.1).
-use Rattle.std.specs.Prelude.{ℕ, ◌+◌, ◌%◌, min, Bool, true, false, not, ◌&&◌, List, [], take, drop, is_some, Option, Some, None, option_map, slice_index_or, slice_set, if◌then◌else◌}
+use Rattle.std.specs.Prelude.{ℕ, Bool, true, false, not, ◌&&◌, List, [], is_some, Option, Some, None, option_map, slice_index_or, slice_set, if◌then◌else◌}
 use Rattle.std.specs.Option.{option_and_then, option_map_or}
 use Rattle.usb_model.specs.declared.response.Response.{Response}
 use Rattle.usb_model.specs.Setup.{endpoint_id}
-use Rattle.usb_trb.specs.declared.kind.Normal.{Normal as NormalTrb}
 use Rattle.usb_trb.specs.declared.kind.TrbKind.{TrbKind}
 use Rattle.usb_ering.specs.Ring.{Ring}
 use Rattle.usb_device.specs.Pipe.{Pipe, answer_of, bytes_after, pipe_after, pipe_at, rewound}
-use Rattle.usb_xhc.specs.declared.trb_at.TrbAt.{TrbAt}
-use Rattle.usb_xhc.specs.Ahead.{room}
-use Rattle.usb_xhc.specs.Context.{Context, configured, trbs}
-use Rattle.usb_xhc.specs.Commanding.{carried, endpoint_not_enabled_error}
-use Rattle.usb_xhc.specs.Posting.{posted_all}
-use Rattle.usb_xhc.specs.Serving.{Served, served, served_gone, working}
+use Rattle.usb_context.specs.declared.trb_at.TrbAt.{TrbAt}
+use Rattle.usb_context.specs.Context.{Context, configured}
+use Rattle.usb_context.specs.Commanding.{carried, endpoint_not_enabled_error}
+use Rattle.usb_context.specs.Posting.{posted_all}
+use Rattle.usb_context.specs.Serving.{Served, packet_out, packet_room, served, served_gone, working}
 
 -- the device's endpoints, each by its id; whether the device is gone; and what the controller keeps of each, where it has a ring
 pub record DeviceSlot : Type 0 where
@@ -37,18 +35,6 @@ serving s ep = option_and_then (λ c. serving_at s.gone c (answer_of (pipe_at s.
 -- whether the device is asked
 abbrev pub asks : DeviceSlot → ℕ → Bool
 asks s ep = not s.gone && is_some (option_and_then working (context_of s ep))
-
--- the bytes that a packet may have
-abbrev pub packet_room : Context → ℕ
-packet_room c = min c.size (room (trbs c) c.within)
-
--- where the packet's bytes stand in the transfer's buffer, which has 262,144 bytes: at its TRB's address, so many bytes on
-abbrev pub offset_by : NormalTrb → ℕ → ℕ
-offset_by t within = t.buffer % 0x40000 + within
-
--- the packet for the device
-abbrev pub packet_out : Context → NormalTrb → List ℕ → List ℕ
-packet_out c t bytes = take (packet_room c) (drop (offset_by t c.within) bytes)
 
 -- the packet that is sent, where one is
 abbrev pub sends : DeviceSlot → ℕ → List ℕ → Option (List ℕ)

@@ -3,17 +3,17 @@ use Rattle.std.proofs.Common.{◌≡◌, ℕ, ap, sym, ◌∙◌, ◌∷◌, [],
 use Rattle.std.specs.Prelude.{Option}
 use Rattle.std.specs.List.{range_with_len}
 use Rattle.std.proofs.lemmas.List.FromFn.{map-range_with_len_more}
-use Rattle.usb_xhc.specs.Context.{Context}
+use Rattle.usb_context.specs.Context.{Context}
 use Rattle.usb_xhc.specs.Making.{context_for, contexts_for}
 use Rattle.usb_xhc.proofs.making.make_contexts.Goals as goal
 
 pub loop-id-preserved : goal.loop-id-preserved
 loop-id-preserved c =
     let f : ℕ → Option Context = context_for c.args.slot c.args.config.now in
-    c.in_ok-push.ensures.items
-    ∙ ap (λ (xs : List (Option Context)). xs ++ c.in_ok-context_for.field-0 ∷ []) c.loop-id.invariant
+    ◌∙◌ {A = List (Option Context)} c.in_ok-push.ensures.items
+    (ap (λ (xs : List (Option Context)). xs ++ c.in_ok-context_for.field-0 ∷ []) c.loop-id.invariant
     ∙ ap (λ (t : Option Context). map f (range_with_len 0 c.loop-id.id) ++ t ∷ []) c.in_ok-context_for.ensures
-    ∙ sym (map-range_with_len_more f 0 c.loop-id.id c.loop-id.id (omega arith))
+    ∙ sym (map-range_with_len_more f 0 c.loop-id.id c.loop-id.id (omega arith)))
 
 pub returns-clause-made : goal.returns-clause-made
 unfolding contexts_for

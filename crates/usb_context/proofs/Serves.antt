@@ -1,0 +1,30 @@
+-- What a packet leaves, by what it did.
+use Rattle.std.proofs.Common.{◌≡◌, ℕ, refl, ap, sym, ◌∙◌, List, [], ◌∷◌, Some, None, Bool}
+use Rattle.std.specs.Prelude.{Option, if◌then◌else◌}
+use Rattle.usb_model.specs.declared.response.Response.{Response}
+use Rattle.usb_model.specs.Endpoint.Serve.{is_no_packet}
+use Rattle.usb_segment.specs.Memory.{Memory}
+use Rattle.usb_trb.specs.declared.kind.TrbKind.{TrbKind}
+use Rattle.usb_kept.specs.Serving.{Packet, packet_by}
+use Rattle.usb_context.specs.declared.packet.Packet.TheVariants as told
+use Rattle.usb_context.specs.Ahead.{Reaches}
+use Rattle.usb_context.specs.Context.{Context, trbs, stand_by, event_by, gone_on}
+use Rattle.usb_context.specs.Serving.{Served, packet_in, served_by, served, ended_by}
+
+-- what an answer did, told by a reach
+pub packet-told : (c : Context) (a : Response) (r : ℕ) (e : Bool) (k : ℕ) (o : Option ℕ) → Reaches c.size (trbs c) c.within r e
+    → k ≡ (packet_by c.size r e a).bytes → o ≡ (packet_by c.size r e a).code → packet_in c a ≡ record { bytes = k; code = o }
+packet-told c a r e k o h f g =
+    sym (h.packet a) ∙ sym (ap (λ (n : ℕ). record { bytes = n; code = o }) f ∙ ap (λ (x : Option ℕ). record { bytes = (packet_by c.size r e a).bytes; code = x }) g)
+
+-- the transfer goes on
+pub served-moved : (c : Context) (a : Response) (k : ℕ) → packet_in c a ≡ record { bytes = k; code = None }
+    → served c a ≡ record { packet = if is_no_packet (a ∷ []) then told.Nak else told.Moved k; context = gone_on c k; events = [] }
+unfolding served
+served-moved c a k h = ap (λ (p : Packet). served_by c a p p.code) h
+
+-- the transfer ended
+pub served-ended : (c : Context) (a : Response) (k code : ℕ) → packet_in c a ≡ record { bytes = k; code = Some code }
+    → served c a ≡ record { packet = told.Ended code; context = ended_by c k code; events = event_by c (stand_by c k) code ∷ [] }
+unfolding served
+served-ended c a k code h = ap (λ (p : Packet). served_by c a p p.code) h

@@ -1,0 +1,95 @@
+//! How a packet ends, or doesn't end, a transfer (USB 2.0, 8.5; xHCI 1.2, 4.10).
+
+ghost use Rattle.std.specs.Prelude.{◌≡◌, ◌≤◌, min};
+ghost use Rattle.usb_model.specs.declared.response.Response.{Response};
+ghost use Rattle.usb_kept.specs.Serving.{packet_by};
+ghost use Rattle.usb_device.specs.Pipe.{act_of};
+
+use usb_device::Act;
+use usb_model::completion::{
+    BABBLE_DETECTED, SHORT_PACKET, STALL_ERROR, SUCCESS, TRANSACTION_ERROR,
+};
+
+/// How far the bytes of a transfer reach, as far as one packet needs it.
+#[derive(Clone, Copy, PartialEq, Eq, Debug)]
+pub struct Reach {
+    /// The bytes that are left, or more than a packet has.
+    pub room: u32,
+    /// Whether an empty packet comes behind them.
+    pub extra: bool,
+}
+
+/// What a packet did: how many bytes it moved, and the code with which it ended the transfer.
+#[derive(Clone, Copy, PartialEq, Eq, Debug)]
+pub(crate) struct Outcome {
+    pub(crate) bytes: u32,
+    pub(crate) code: Option<u8>,
+}
+
+impl Outcome {
+    /// So many bytes moved, and the transfer goes on.
+    fn moved(bytes: u32) -> Outcome
+        ensures { result ≡ record { bytes = bytes; code = None } }
+    {
+        Outcome { bytes, code: None }
+    }
+
+    /// So many bytes moved, and the transfer ended.
+    fn ended(bytes: u32, code: u8) -> Outcome
+        ensures { result ≡ record { bytes = bytes; code = Some code } }
+    {
+        Outcome {
+            bytes,
+            code: Some(code),
+        }
+    }
+}
+
+/// What a device's act did, where a packet has so many bytes.
+pub(crate) fn decide(size: u32, reach: Reach, act: Act) -> Outcome
+    ensures bytes { (a : Response) → act ≡ act_of a → result.bytes ≡ (packet_by size reach.room reach.extra a).bytes }
+    ensures most { result.bytes ≤ min size reach.room }
+    ensures code { (a : Response) → act ≡ act_of a → result.code ≡ (packet_by size reach.room reach.extra a).code }
+{
+    match act {
+        Act::Data(count) => received(size, reach.room, count),
+        Act::Ack => sent(size, reach),
+        Act::Nak => Outcome::moved(0),
+        Act::Stall => Outcome::ended(0, STALL_ERROR),
+        Act::Broken => Outcome::ended(0, TRANSACTION_ERROR),
+    }
+}
+
+/// What a packet of so many bytes for the host did.
+fn received(size: u32, room: u32, count: u32) -> Outcome
+    ensures bytes { (b : List ℕ) → count ≡ length b → result.bytes ≡ (packet_by size room false (Data b)).bytes }
+    ensures most { result.bytes ≤ min size room }
+    ensures code { (b : List ℕ) → count ≡ length b → result.code ≡ (packet_by size room false (Data b)).code }
+{
+    if count > size.min(room) {
+        Outcome::ended(0, BABBLE_DETECTED)
+    } else if count == room {
+        Outcome::ended(count, SUCCESS)
+    } else if count < size {
+        Outcome::ended(count, SHORT_PACKET)
+    } else {
+        Outcome::moved(count)
+    }
+}
+
+/// What the packet that the device took did.
+fn sent(size: u32, reach: Reach) -> Outcome
+    ensures bytes { result.bytes ≡ (packet_by size reach.room reach.extra Ack).bytes }
+    ensures most { result.bytes ≤ min size reach.room }
+    ensures code { result.code ≡ (packet_by size reach.room reach.extra Ack).code }
+{
+    let bytes = size.min(reach.room);
+    if size < reach.room || (reach.extra && reach.room > 0) {
+        Outcome::moved(bytes)
+    } else {
+        Outcome::ended(bytes, SUCCESS)
+    }
+}
+
+ghost use Rattle.std.specs.Prelude.{ℕ, List, length, false, None, Some};
+ghost use Rattle.usb_model.specs.declared.response.Response.TheVariants.{Data, Ack};
