@@ -1,8 +1,9 @@
 //! An order at an endpoint (xHCI 1.2, 4.6.8 to 4.6.10).
 
-ghost use Rattle.std.specs.Prelude.{◌≡◌, ◌+◌, ◌≤◌, ◌<◌, length};
-ghost use Rattle.usb_context.specs.Commanding.{carried, move_in, reset_in, stop_in};
+ghost use Rattle.std.specs.Prelude.{◌≡◌, ◌+◌, ◌≤◌, ◌<◌, length, []};
+ghost use Rattle.usb_context.specs.Commanding.{carried, move_in, reset_in, stop_in, pause_by};
 ghost use Rattle.usb_context.specs.Posting.{posted_all};
+ghost use Rattle.usb_context.specs.Serving.{trb_at};
 
 use crate::context::EndpointContext;
 use crate::serving::post;
@@ -99,7 +100,3 @@ impl EndpointContext {
         }
     }
 }
-
-ghost use Rattle.std.specs.Prelude.{[]};
-ghost use Rattle.usb_context.specs.Commanding.{pause_by};
-ghost use Rattle.usb_context.specs.Serving.{trb_at};

@@ -1,15 +1,17 @@
 //! An endpoint as the controller keeps it.
 
-ghost use Rattle.std.specs.Prelude.{◌≡◌, ◌+◌, ◌<◌, ◌≤◌, ◌^◌, None, Some, length, suc, IfOk, IfSome};
+ghost use Rattle.std.specs.Prelude.{◌≡◌, ◌+◌, ◌<◌, ◌≤◌, ◌^◌, None, Some, length, suc, IfOk, IfSome, is_some};
 ghost use Rattle.usb_model.specs.declared.response.Response.{Response};
 ghost use Rattle.usb_model.specs.declared.endpoint.EndpointState.TheVariants.{Running, Stopped, Halted};
 ghost use Rattle.usb_segment.specs.Places.{address_of};
 ghost use Rattle.usb_kept.specs.Stands.{Stand, length_at};
-ghost use Rattle.usb_tring.specs.Line.{places, contents};
+ghost use Rattle.usb_tring.specs.Line.{places, contents, capacity, normals, used};
 ghost use Rattle.usb_device.specs.Pipe.{act_of};
 ghost use Rattle.usb_context.specs.Ahead.{Reaches, lengths, room};
 ghost use Rattle.usb_context.specs.Context.{Context, configured, trbs, stand_by, event_by, gone_on, gone_past};
 ghost use Rattle.usb_context.specs.Serving.{trb_at, working, is_running, served, served_gone};
+ghost use Rattle.usb_context.specs.Commanding.{before, moved_at};
+ghost use Rattle.usb_context.specs.Hosting.{rung, with_ring, with_pushed, with_blank, without_first};
 
 use crate::outcome::{Outcome, Reach, decide};
 use crate::packet::Packet;
@@ -212,7 +214,7 @@ impl EndpointContext {
     }
 
     /// The bytes of a whole packet.
-    pub(crate) fn size(&self) -> u16
+    pub fn size(&self) -> u16
         ensures { result ≡ self.now.size }
     {
         self.size
@@ -319,8 +321,3 @@ impl EndpointContext {
         self.ring.drop_front(count);
     }
 }
-
-ghost use Rattle.std.specs.Prelude.{is_some};
-ghost use Rattle.usb_tring.specs.Line.{capacity, normals, used};
-ghost use Rattle.usb_context.specs.Commanding.{before, moved_at};
-ghost use Rattle.usb_context.specs.Hosting.{rung, with_ring, with_pushed, with_blank, without_first};

@@ -1,9 +1,10 @@
 //! How a packet ends, or doesn't end, a transfer (USB 2.0, 8.5; xHCI 1.2, 4.10).
 
-ghost use Rattle.std.specs.Prelude.{◌≡◌, ◌≤◌, min};
+ghost use Rattle.std.specs.Prelude.{◌≡◌, ◌≤◌, min, ℕ, List, length, false, None, Some};
 ghost use Rattle.usb_model.specs.declared.response.Response.{Response};
 ghost use Rattle.usb_kept.specs.Serving.{packet_by};
 ghost use Rattle.usb_device.specs.Pipe.{act_of};
+ghost use Rattle.usb_model.specs.declared.response.Response.TheVariants.{Data, Ack};
 
 use usb_device::Act;
 use usb_model::completion::{
@@ -90,6 +91,3 @@ fn sent(size: u32, reach: Reach) -> Outcome
         Outcome::ended(bytes, SUCCESS)
     }
 }
-
-ghost use Rattle.std.specs.Prelude.{ℕ, List, length, false, None, Some};
-ghost use Rattle.usb_model.specs.declared.response.Response.TheVariants.{Data, Ack};

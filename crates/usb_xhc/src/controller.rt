@@ -1,10 +1,10 @@
 //! The controller.
 
-ghost use Rattle.std.specs.Prelude.{◌≡◌, ◌+◌, ◌-◌, ◌≤◌, ◌<◌, ◌∷◌, ◌++◌, [], None, Some, length, suc, IfErr, IfOk, IfSome, OnErr, OnOk, option_map, slice_get, vec_capacity, vec_len};
+ghost use Rattle.std.specs.Prelude.{◌≡◌, ◌+◌, ◌-◌, ◌≤◌, ◌<◌, ◌∷◌, ◌++◌, [], None, Some, length, suc, IfErr, IfOk, IfSome, OnErr, OnOk, option_map, slice_get, vec_capacity, vec_len, true, drop, slice_set};
 ghost use Rattle.std.specs.Option.{option_copied, option_map_or};
 ghost use Rattle.usb_model.specs.Setup.{endpoint_id};
 ghost use Rattle.usb_trb.specs.declared.kind.TrbKind.{TrbKind as Kind};
-ghost use Rattle.usb_segment.specs.Places.{after};
+ghost use Rattle.usb_segment.specs.Places.{after, index_of};
 ghost use Rattle.usb_ering.specs.Ring.{empty};
 ghost use Rattle.usb_tring.specs.Line.{capacity, normals, used};
 ghost use Rattle.usb_device.specs.Pipe.{cleared, pipe_at};
@@ -99,7 +99,7 @@ impl<D: Device> Controller<D> {
     /// One packet of the transfer at an endpoint's dequeue, from the device, whose bytes join these; None where there is
     /// nothing to serve: no such device or endpoint, or it isn't running, or no transfer is left.
     pub fn serve_in(&mut self, dev: DeviceNo, ep: EpAddr, bytes: &mut Vec<u8>) -> Option<Packet>
-        requires bytes { IfSome (slice_get self.old.slots dev) (λ s. IfSome (context_of s ep) (λ c. vec_len bytes.old + packet_room c ≤ vec_capacity bytes.old)) }
+        requires bytes { IfSome (slice_get self.old.slots dev) (λ s. IfSome (context_of s ep) (λ c. IfSome (working c) (λ _. vec_len bytes.old + packet_room c ≤ vec_capacity bytes.old))) }
         requires room { length self.old.events.waits < 4095 }
         ensures packet { result ≡ told_at self.old dev ep }
         ensures controller { self.new ≡ served_at self.old dev ep (λ _. None) }
@@ -115,7 +115,7 @@ impl<D: Device> Controller<D> {
     /// One packet of the transfer at an endpoint's dequeue, to the device, of these bytes of the transfer; None as for
     /// `serve_in`.
     pub fn serve_out(&mut self, dev: DeviceNo, ep: EpAddr, bytes: &[u8]) -> Option<Packet>
-        requires size { IfSome (slice_get self.old.slots dev) (λ s. IfSome (context_of s ep) (λ c. c.size ≤ (pipe_at s.pipes ep).size)) }
+        requires size { IfSome (slice_get self.old.slots dev) (λ s. IfSome (context_of s ep) (λ c. IfSome (working c) (λ _. c.size ≤ (pipe_at s.pipes ep).size))) }
         requires bytes { IfSome (slice_get self.old.slots dev) (λ s. IfSome (context_of s ep) (λ c. IfSome (working c) (λ f. offset_by f.trb c.within + packet_room c ≤ length bytes.now))) }
         requires room { length self.old.events.waits < 4095 }
         ensures packet { result ≡ told_at self.old dev ep }
@@ -294,6 +294,3 @@ fn slot_in(order: &TrbKind) -> Slot
         },
     }
 }
-
-ghost use Rattle.std.specs.Prelude.{true, drop, slice_set};
-ghost use Rattle.usb_segment.specs.Places.{index_of};

@@ -8,6 +8,8 @@
 mod controller;
 mod making;
 mod slot;
+#[cfg(test)]
+mod tests;
 
 pub use controller::Controller;
 pub use slot::DeviceSlot;

@@ -1,10 +1,16 @@
 //! A device's slot.
 
-ghost use Rattle.std.specs.Prelude.{◌≡◌, ◌+◌, ◌≤◌, ◌<◌, None, length, IfSome, option_map, slice_set, vec_capacity, vec_len};
+ghost use Rattle.std.specs.Prelude.{◌≡◌, ◌+◌, ◌≤◌, ◌<◌, None, length, IfSome, option_map, slice_set, vec_capacity, vec_len, true, slice_get, IfOk, IfErr};
 ghost use Rattle.usb_model.specs.Setup.{endpoint_id};
-ghost use Rattle.usb_device.specs.Pipe.{pipe_at};
+ghost use Rattle.usb_device.specs.Pipe.{pipe_at, cleared, is_ready};
 ghost use Rattle.usb_context.specs.Serving.{offset_by, packet_room, working};
-ghost use Rattle.usb_xhc.specs.Slots.{context_of, serving, sends, slot_after, events_after, read_after};
+ghost use Rattle.usb_xhc.specs.Slots.{context_of, serving, sends, slot_after, events_after, read_after, changed, order_code, order_events, renewed};
+ghost use Rattle.usb_xhc.specs.Making.{slot_for};
+ghost use Rattle.std.specs.Option.{option_copied};
+ghost use Rattle.usb_tring.specs.Line.{capacity, normals, used};
+ghost use Rattle.usb_context.specs.Commanding.{carried};
+ghost use Rattle.usb_context.specs.Hosting.{rung, with_ring, with_pushed, with_blank, without_first};
+ghost use Rattle.usb_context.specs.Posting.{posted_all};
 
 use crate::making::make_contexts;
 use std::alloc::Global;
@@ -61,7 +67,7 @@ impl<D: Device> DeviceSlot<D> {
         bytes: &mut Vec<u8>,
         events: &mut EventRing,
     ) -> Option<Packet>
-        requires bytes { IfSome (context_of self.old ep) (λ c. vec_len bytes.old + packet_room c ≤ vec_capacity bytes.old) }
+        requires bytes { IfSome (context_of self.old ep) (λ c. IfSome (working c) (λ _. vec_len bytes.old + packet_room c ≤ vec_capacity bytes.old)) }
         requires room { length events.old.waits < 4095 }
         ensures packet { result ≡ option_map (λ s. s.packet) (serving self.old ep) }
         ensures slot { self.new ≡ slot_after self.old ep None }
@@ -84,7 +90,7 @@ impl<D: Device> DeviceSlot<D> {
     /// One packet of the transfer at an endpoint's dequeue, to the device, of these bytes of the transfer; None as for
     /// `serve_in`.
     pub fn serve_out(&mut self, ep: EpAddr, bytes: &[u8], events: &mut EventRing) -> Option<Packet>
-        requires size { IfSome (context_of self.old ep) (λ c. c.size ≤ (pipe_at self.old.pipes ep).size) }
+        requires size { IfSome (context_of self.old ep) (λ c. IfSome (working c) (λ _. c.size ≤ (pipe_at self.old.pipes ep).size)) }
         requires bytes { IfSome (context_of self.old ep) (λ c. IfSome (working c) (λ f. offset_by f.trb c.within + packet_room c ≤ length bytes.now)) }
         requires room { length events.old.waits < 4095 }
         ensures packet { result ≡ option_map (λ s. s.packet) (serving self.old ep) }
@@ -219,13 +225,3 @@ impl<D: Device> DeviceSlot<D> {
         device
     }
 }
-
-ghost use Rattle.std.specs.Prelude.{true, slice_get, IfOk, IfErr};
-ghost use Rattle.usb_xhc.specs.Making.{slot_for};
-ghost use Rattle.std.specs.Option.{option_copied};
-ghost use Rattle.usb_tring.specs.Line.{capacity, normals, used};
-ghost use Rattle.usb_device.specs.Pipe.{cleared, is_ready};
-ghost use Rattle.usb_context.specs.Commanding.{carried};
-ghost use Rattle.usb_context.specs.Hosting.{rung, with_ring, with_pushed, with_blank, without_first};
-ghost use Rattle.usb_context.specs.Posting.{posted_all};
-ghost use Rattle.usb_xhc.specs.Slots.{changed, order_code, order_events, renewed};
