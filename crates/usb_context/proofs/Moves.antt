@@ -1,5 +1,5 @@
 -- Where a Set TR Dequeue Pointer leads: the place of an address is found, or there is none.
-use Rattle.std.proofs.Common.{◌≡◌, ℕ, zero, suc, ◌<◌, ◌≤◌, refl, ap, sym, ◌∙◌, arith, length, Some, None, true, false, Bool, inl, inr, ◌⊎◌}
+use Rattle.std.proofs.Common.{◌≡◌, ℕ, zero, suc, ◌<◌, ◌≤◌, refl, ap, ◌∙◌, arith, length, Some, None, true, false, Bool, inl, inr, ◌⊎◌}
 use Rattle.std.specs.Prelude.{Option, is_some, ◌==◌, if◌then◌else◌, ◌≢◌}
 use Rattle.std.proofs.lemmas.Bool.{eqb-true, eq-eqb, cases_lt}
 use Rattle.usb_segment.specs.Places.{address_of}

@@ -1,15 +1,14 @@
 -- The TRBs of the transfer at dequeue, as they are read from the ring.
-use Rattle.std.proofs.Common.{◌≡◌, ℕ, suc, ◌+◌, ◌*◌, ◌%◌, ◌<◌, ◌≤◌, refl, ap, sym, ◌∙◌, arith, List, [], ◌∷◌, length, drop, Some, None, true, false}
+use Rattle.std.proofs.Common.{◌≡◌, ℕ, suc, ◌+◌, ◌<◌, refl, ap, sym, ◌∙◌, arith, List, [], ◌∷◌, length, drop, Some, None, true, false}
 use Rattle.std.specs.Prelude.{Option, slice_get, option_map}
 use Rattle.std.proofs.lemmas.Option.{slice_get_within}
 use Rattle.usb_trb.specs.declared.kind.Normal.{Normal as NormalTrb}
 use Rattle.usb_trb.specs.declared.kind.TrbKind.{TrbKind}
 use Rattle.usb_trb.specs.declared.kind.TrbKind.TheVariants.{Normal, Link, NoOp, ResetEndpoint, StopEndpoint, SetDequeue, TransferEvent, CommandCompletion}
-use Rattle.usb_trb.specs.declared.trb.Trb.{Trb}
-use Rattle.usb_segment.specs.Places.{after, address_of, cycle_of}
+use Rattle.usb_segment.specs.Places.{after, address_of}
 use Rattle.usb_tring.specs.Line.{Line, places, contents, first_of, ahead_of}
 use Rattle.usb_context.specs.declared.trb_at.TrbAt.{TrbAt}
-use Rattle.usb_context.specs.Ahead.{ahead, trbs_ahead}
+use Rattle.usb_context.specs.Ahead.{trbs_ahead}
 use Rattle.usb_context.specs.Reading.{seen}
 use Rattle.usb_context.specs.Serving.{trb_in}
 use Rattle.usb_context.proofs.Scans.{normal_first, behind, ahead-first, ahead-next, few-ahead}

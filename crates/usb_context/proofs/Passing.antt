@@ -1,9 +1,9 @@
 -- Dequeue goes on in parts.
-use Rattle.std.proofs.Common.{◌≡◌, ℕ, zero, suc, ◌+◌, ◌-◌, ◌%◌, ◌<◌, ◌≤◌, refl, ap, sym, ◌∙◌, arith, List, [], ◌∷◌, ◌++◌, length, drop}
+use Rattle.std.proofs.Common.{◌≡◌, ℕ, zero, suc, ◌+◌, ◌-◌, ◌%◌, refl, ap, sym, ◌∙◌, arith, List, [], ◌∷◌, ◌++◌, length, drop}
 use Rattle.std.proofs.lemmas.List.{drop-drop, length-drop}
 use Rattle.usb_trb.specs.declared.kind.TrbKind.{TrbKind}
 use Rattle.usb_tring.specs.Line.{Line, all_of, contents, moved, no_ops, advanced}
-use Rattle.usb_context.specs.Ahead.{ahead, trbs_ahead, past}
+use Rattle.usb_context.specs.Ahead.{trbs_ahead, past}
 
 module _ {A : Type 0} where
   -- two lists without their first elements

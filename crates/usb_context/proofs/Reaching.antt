@@ -1,6 +1,6 @@
 -- How far the bytes of a transfer reach, as far as one packet needs it.
-use Rattle.std.proofs.Common.{◌≡◌, ℕ, suc, ◌+◌, ◌-◌, ◌<◌, ◌≤◌, refl, ap, sym, ◌∙◌, arith, List, length, Some, None, true, false, Bool, ◌||◌, ◌&&◌, min, if◌then◌else◌}
-use Rattle.std.specs.Prelude.{nat_lt, nat_eq, ◌==◌}
+use Rattle.std.proofs.Common.{◌≡◌, ℕ, ◌+◌, ◌-◌, ◌<◌, ◌≤◌, refl, ap, sym, ◌∙◌, arith, List, length, Some, None, true, false, Bool, min, if◌then◌else◌}
+use Rattle.std.specs.Prelude.{nat_lt, ◌==◌}
 use Rattle.std.proofs.Math.Nat.{min-eq_left}
 use Rattle.std.proofs.lemmas.Bool.{lt-ltb, ltb-false}
 use Rattle.usb_trb.specs.declared.kind.Normal.{Normal as NormalTrb}

@@ -1,6 +1,6 @@
 -- The TRBs of the transfer at dequeue, one after another.
-use Rattle.std.proofs.Common.{◌≡◌, ℕ, zero, suc, ◌+◌, ◌-◌, ◌<◌, ◌≤◌, refl, ap, sym, ◌∙◌, arith, List, [], ◌∷◌, length, take, drop, map, Some, None, true, false, Bool, ◌||◌, not, if◌then◌else◌}
-use Rattle.std.specs.Prelude.{Option, slice_get, slice_index_or}
+use Rattle.std.proofs.Common.{◌≡◌, ℕ, zero, suc, ◌+◌, ◌-◌, ◌<◌, ◌≤◌, refl, ap, sym, ◌∙◌, arith, List, [], ◌∷◌, length, drop, Some, None, true, false, Bool, ◌||◌, not, if◌then◌else◌}
+use Rattle.std.specs.Prelude.{Option, slice_get}
 use Rattle.std.proofs.Common.{inl, inr, ◌⊎◌}
 use Rattle.std.proofs.lemmas.List.{length-drop}
 use Rattle.std.proofs.lemmas.Bool.{lt-ltb, le-ltb}
@@ -8,7 +8,7 @@ use Rattle.std.proofs.lemmas.Option.{slice_get_within}
 use Rattle.usb_trb.specs.declared.kind.Normal.{Normal as NormalTrb}
 use Rattle.usb_trb.specs.declared.kind.TrbKind.{TrbKind}
 use Rattle.usb_trb.specs.declared.kind.TrbKind.TheVariants.{Normal, Link, NoOp, ResetEndpoint, StopEndpoint, SetDequeue, TransferEvent, CommandCompletion}
-use Rattle.usb_kept.specs.Stands.{Stand, stand, one_on, total, length_at}
+use Rattle.usb_kept.specs.Stands.{Stand, stand, one_on, total}
 use Rattle.usb_context.specs.Ahead.{ahead, lengths, goes_on}
 
 -- the first TRB, where it is a Normal one

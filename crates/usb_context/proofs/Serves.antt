@@ -1,15 +1,13 @@
 -- What a packet leaves, by what it did.
-use Rattle.std.proofs.Common.{◌≡◌, ℕ, refl, ap, sym, ◌∙◌, List, [], ◌∷◌, Some, None, Bool}
+use Rattle.std.proofs.Common.{◌≡◌, ℕ, ap, sym, ◌∙◌, [], ◌∷◌, Some, None, Bool}
 use Rattle.std.specs.Prelude.{Option, if◌then◌else◌}
 use Rattle.usb_model.specs.declared.response.Response.{Response}
 use Rattle.usb_model.specs.Endpoint.Serve.{is_no_packet}
-use Rattle.usb_segment.specs.Memory.{Memory}
-use Rattle.usb_trb.specs.declared.kind.TrbKind.{TrbKind}
 use Rattle.usb_kept.specs.Serving.{Packet, packet_by}
 use Rattle.usb_context.specs.declared.packet.Packet.TheVariants as told
 use Rattle.usb_context.specs.Ahead.{Reaches}
 use Rattle.usb_context.specs.Context.{Context, trbs, stand_by, event_by, gone_on}
-use Rattle.usb_context.specs.Serving.{Served, packet_in, served_by, served, ended_by}
+use Rattle.usb_context.specs.Serving.{packet_in, served_by, served, ended_by}
 
 -- what an answer did, told by a reach
 pub packet-told : (c : Context) (a : Response) (r : ℕ) (e : Bool) (k : ℕ) (o : Option ℕ) → Reaches c.size (trbs c) c.within r e

@@ -1,5 +1,5 @@
 -- An endpoint as the controller keeps it (Endpoint Context; xHCI 1.2, 4.8, 6.2.3).
-use Rattle.std.specs.Prelude.{ℕ, ◌+◌, ◌-◌, ◌%◌, nat_lt, Bool, false, true, ◌||◌, List, length}
+use Rattle.std.specs.Prelude.{ℕ, ◌+◌, ◌-◌, nat_lt, Bool, false, ◌||◌, List}
 use Rattle.usb_model.specs.declared.endpoint.EndpointState.{EndpointState}
 use Rattle.usb_model.specs.declared.endpoint.EndpointState.TheVariants.{Running}
 use Rattle.usb_trb.specs.declared.kind.Normal.{Normal as NormalTrb}

@@ -1,27 +1,20 @@
 //! An endpoint as the controller keeps it.
 
 ghost use Rattle.std.specs.Prelude.{◌≡◌, ◌+◌, ◌<◌, ◌≤◌, ◌^◌, None, Some, length, suc, IfOk, IfSome, is_some};
-ghost use Rattle.usb_model.specs.declared.response.Response.{Response};
 ghost use Rattle.usb_model.specs.declared.endpoint.EndpointState.TheVariants.{Running, Stopped, Halted};
-ghost use Rattle.usb_segment.specs.Places.{address_of};
-ghost use Rattle.usb_kept.specs.Stands.{Stand, length_at};
-ghost use Rattle.usb_tring.specs.Line.{places, contents, capacity, normals, used};
-ghost use Rattle.usb_device.specs.Pipe.{act_of};
-ghost use Rattle.usb_context.specs.Ahead.{Reaches, lengths, room};
+ghost use Rattle.usb_tring.specs.Line.{capacity, normals, used};
+ghost use Rattle.usb_context.specs.Ahead.{Reaches, room};
 ghost use Rattle.usb_context.specs.Context.{Context, configured, trbs, stand_by, event_by, gone_on, gone_past};
-ghost use Rattle.usb_context.specs.Serving.{trb_at, working, is_running, served, served_gone};
+ghost use Rattle.usb_context.specs.Serving.{trb_at, working};
 ghost use Rattle.usb_context.specs.Commanding.{before, moved_at};
 ghost use Rattle.usb_context.specs.Hosting.{rung, with_ring, with_pushed, with_blank, without_first};
 
-use crate::outcome::{Outcome, Reach, decide};
-use crate::packet::Packet;
+use crate::outcome::Reach;
 use crate::trb_at::TrbAt;
 use std::alloc::{AllocError, Global};
 use std::marker::Model;
-use usb_device::Act;
 use usb_model::EndpointState;
-use usb_model::completion::{TRANSACTION_ERROR, halts};
-use usb_trb::{EndpointId, Normal, Pointer, Residual, Slot, Trb, TrbKind};
+use usb_trb::{EndpointId, Normal, Pointer, Residual, Slot, TrbKind};
 use usb_tring::TransferRing;
 
 /// An endpoint: the state of its context (Endpoint Context; xHCI 1.2, 6.2.3), its transfer ring, and how far the transfer

@@ -6,12 +6,12 @@ ghost use Rattle.usb_context.specs.declared.packet.Packet.TheVariants.{Nak, Move
 ghost use Rattle.usb_model.specs.declared.response.Response.{Response};
 ghost use Rattle.usb_device.specs.Pipe.{act_of};
 ghost use Rattle.usb_context.specs.Ahead.{Reaches};
-ghost use Rattle.usb_context.specs.Context.{trbs, stand_by, event_by, gone_on};
+ghost use Rattle.usb_context.specs.Context.{trbs, stand_by};
 ghost use Rattle.usb_context.specs.Posting.{posted_all, posted_one};
 ghost use Rattle.usb_context.specs.Serving.{trb_at, served, served_gone, ended_by, packet_room, packet_out, offset_by};
 
 use crate::context::{EndpointContext, Standing};
-use crate::outcome::{Outcome, Reach, decide};
+use crate::outcome::{Reach, decide};
 use crate::packet::Packet;
 use crate::trb_at::TrbAt;
 use usb_device::Act;

@@ -1,5 +1,5 @@
 -- The whole controller: its devices' slots, the command ring and the event ring (xHCI 1.2, 4.9.3, 4.9.4).
-use Rattle.std.specs.Prelude.{◌≡◌, ℕ, suc, ◌+◌, ◌-◌, ◌*◌, List, [], ◌∷◌, ◌++◌, Option, Some, None, length, option_map, slice_get, slice_set}
+use Rattle.std.specs.Prelude.{ℕ, ◌+◌, ◌-◌, ◌*◌, List, [], ◌∷◌, Option, Some, None, option_map, slice_get, slice_set}
 use Rattle.std.specs.Option.{option_and_then, option_map_or}
 use Rattle.usb_trb.specs.declared.kind.TrbKind.{TrbKind}
 use Rattle.usb_trb.specs.declared.kind.TrbKind.TheVariants.{Normal, Link, NoOp, ResetEndpoint, StopEndpoint, SetDequeue, TransferEvent, CommandCompletion}

@@ -3,12 +3,10 @@
 ghost use Rattle.std.specs.Prelude.{◌≡◌, ◌+◌, ◌-◌, ◌≤◌, ◌<◌, ◌∷◌, ◌++◌, [], None, Some, length, suc, IfErr, IfOk, IfSome, OnErr, OnOk, option_map, slice_get, vec_capacity, vec_len, true, drop, slice_set};
 ghost use Rattle.std.specs.Option.{option_copied, option_map_or};
 ghost use Rattle.usb_model.specs.Setup.{endpoint_id};
-ghost use Rattle.usb_trb.specs.declared.kind.TrbKind.{TrbKind as Kind};
-ghost use Rattle.usb_segment.specs.Places.{after, index_of};
+ghost use Rattle.usb_segment.specs.Places.{index_of};
 ghost use Rattle.usb_ering.specs.Ring.{empty};
 ghost use Rattle.usb_tring.specs.Line.{capacity, normals, used};
 ghost use Rattle.usb_device.specs.Pipe.{cleared, pipe_at};
-ghost use Rattle.usb_context.specs.Context.{Context};
 ghost use Rattle.usb_context.specs.Hosting.{rung, with_ring, with_pushed, with_blank, without_first};
 ghost use Rattle.usb_xhc.specs.Making.{slot_for};
 ghost use Rattle.usb_context.specs.Posting.{posted_one};

@@ -1,7 +1,6 @@
 //! How a device's slot is made.
 
 ghost use Rattle.std.specs.Prelude.{◌≡◌, ◌<◌, IfOk, length, ◌+◌, ◌^◌};
-ghost use Rattle.std.specs.Option.{option_and_then, option_copied};
 ghost use Rattle.usb_xhc.specs.Making.{context_made, context_for, contexts_for, ring_base};
 
 use std::alloc::{AllocError, Global};

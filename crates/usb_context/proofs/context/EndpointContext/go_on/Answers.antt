@@ -1,4 +1,4 @@
-use Rattle.std.proofs.Common.{◌≡◌, ◌+◌, ◌<◌, ◌≤◌, arith, ap, sym, ◌∙◌, subst, suc, ℕ, Some, None, true, false, length}
+use Rattle.std.proofs.Common.{arith, ap, length}
 use Rattle.usb_tring.specs.Line.{contents}
 use Rattle.usb_context.specs.Context.{Context}
 use Rattle.usb_context.proofs.Nexts.{within}

@@ -1,8 +1,7 @@
-use Rattle.std.proofs.Common.{◌≡◌, ◌+◌, ◌<◌, arith, ap, sym, ◌∙◌, suc, ℕ, Some, None}
-use Rattle.usb_tring.specs.Line.{Line, ahead_of}
+use Rattle.std.proofs.Common.{◌≡◌, ◌+◌, arith, ap, ◌∙◌, suc, ℕ}
+use Rattle.usb_tring.specs.Line.{ahead_of}
 use Rattle.usb_context.specs.Context.{Context}
 use Rattle.usb_context.specs.Reading.{seen}
-use Rattle.usb_context.specs.Serving.{trb_in}
 use Rattle.usb_context.proofs.Nexts.{next-done, next-read}
 use Rattle.usb_context.proofs.context.EndpointContext.next.Goals as goal
 

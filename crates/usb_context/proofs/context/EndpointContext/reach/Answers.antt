@@ -1,4 +1,4 @@
-use Rattle.std.proofs.Common.{◌≡◌, ◌+◌, ◌-◌, ◌<◌, ◌≤◌, arith, refl, ap, sym, ◌∙◌, subst, suc, ℕ, List, [], ◌∷◌, Some, None, true, false, length, drop, Bool, ◌||◌, not}
+use Rattle.std.proofs.Common.{◌≡◌, ◌+◌, ◌-◌, arith, refl, ap, sym, ◌∙◌, subst, suc, ℕ, List, Some, None, true, false, drop, Bool, ◌||◌, not}
 use Rattle.std.specs.Prelude.{slice_get}
 use Rattle.usb_trb.specs.declared.kind.Normal.{Normal as NormalTrb}
 use Rattle.usb_kept.specs.Stands.{total}

@@ -1,6 +1,5 @@
-use Rattle.std.proofs.Common.{◌≡◌, ◌∙◌, ap, sym, refl, ℕ, Some, None}
+use Rattle.std.proofs.Common.{◌≡◌, ◌∙◌, ap, sym, ℕ, Some, None}
 use Rattle.usb_model.specs.declared.response.Response.{Response}
-use Rattle.usb_ering.specs.Ring.{Ring}
 use Rattle.usb_device.specs.Pipe.{act_of}
 use Rattle.usb_kept.specs.Stands.{Stand}
 use Rattle.usb_kept.specs.Serving.{packet_by}
