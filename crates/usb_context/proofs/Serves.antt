@@ -10,10 +10,11 @@ use Rattle.usb_context.specs.Context.{Context, trbs, stand_by, event_by, gone_on
 use Rattle.usb_context.specs.Serving.{packet_in, served_by, served, ended_by}
 
 -- what an answer did, told by a reach
-pub packet-told : (c : Context) (a : Response) (r : ℕ) (e : Bool) (k : ℕ) (o : Option ℕ) → Reaches c.size (trbs c) c.within r e
-    → k ≡ (packet_by c.size r e a).bytes → o ≡ (packet_by c.size r e a).code → packet_in c a ≡ record { bytes = k; code = o }
-packet-told c a r e k o h f g =
-    sym (h.packet a) ∙ sym (ap (λ (n : ℕ). record { bytes = n; code = o }) f ∙ ap (λ (x : Option ℕ). record { bytes = (packet_by c.size r e a).bytes; code = x }) g)
+pub packet-told : (c : Context) (a : Response) (size r : ℕ) (e : Bool) (k : ℕ) (o : Option ℕ) → size ≡ c.size → Reaches c.size (trbs c) c.within r e
+    → k ≡ (packet_by size r e a).bytes → o ≡ (packet_by size r e a).code → packet_in c a ≡ record { bytes = k; code = o }
+packet-told c a size r e k o s h f g =
+    sym (h.packet a) ∙ ap (λ (n : ℕ). packet_by n r e a) (sym s)
+    ∙ sym (ap (λ (n : ℕ). record { bytes = n; code = o }) f ∙ ap (λ (x : Option ℕ). record { bytes = (packet_by size r e a).bytes; code = x }) g)
 
 -- the transfer goes on
 pub served-moved : (c : Context) (a : Response) (k : ℕ) → packet_in c a ≡ record { bytes = k; code = None }
