@@ -1,5 +1,5 @@
 -- What the core and the controller keep of one endpoint.
-use Rattle.std.specs.Prelude.{ℕ, ◌%◌, ◌==◌, Bool, true, false, not, ◌&&◌, List, [], ◌∷◌, length, Option, Some, None}
+use Rattle.std.specs.Prelude.{◌≡◌, ℕ, ◌+◌, ◌%◌, ◌==◌, Bool, true, false, not, ◌&&◌, List, [], ◌∷◌, length, Option, Some, None}
 use Rattle.usb_model.specs.declared.response.Response.{Response}
 use Rattle.usb_model.specs.declared.errand.Errand.{Errand}
 use Rattle.usb_model.specs.declared.request.Body.{Body}
@@ -7,6 +7,7 @@ use Rattle.usb_model.specs.declared.request.Body.TheVariants.{In, Out}
 use Rattle.usb_model.specs.declared.request.Request.{Request}
 use Rattle.usb_model.specs.declared.item.Ask.{Ask}
 use Rattle.usb_model.specs.declared.endpoint.EndpointState.{EndpointState}
+use Rattle.usb_model.specs.declared.endpoint.EndpointState.TheVariants.{Running}
 use Rattle.usb_model.specs.Requests.{length_of, adds_zero_packet}
 use Rattle.usb_model.specs.Completion.{context_state_error, success}
 use Rattle.usb_kept.specs.Stands.{lengths_of}
@@ -58,6 +59,15 @@ trbs_of size request = lengths_of (is_extra size request request.body) (length_o
 abbrev pub first_place : List KeptTransfer → ℕ → ℕ
 first_place [] end = end
 first_place (y ∷ ys) end = y.place
+
+-- its transfers stand one behind another, up to the enqueue place
+abbrev pub InRow : List KeptTransfer → ℕ → Type 0
+InRow [] end = Unit {0}
+InRow (y ∷ ys) end = (first_place ys end ≡ y.place + length y.lengths) × InRow ys end
+
+-- the ring as after its making, the script from its beginning
+abbrev pub new_kept_endpoint : List Response → KeptEndpoint
+new_kept_endpoint script = record { line = []; end = 0; dequeue = 0; within = 0; state = Running; errand = None; script_left = script; device_halted = false; packets_received = [] }
 
 -- the code of an order that was carried out, or failed
 abbrev pub code_of : Bool → ℕ

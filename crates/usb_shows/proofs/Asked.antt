@@ -19,8 +19,8 @@ use Rattle.usb_model.specs.Machine.Calls.{asks, with_ask}
 use Rattle.usb_model.specs.Endpoint.{first_waiting, is_blank, is_waiting, is_waiting_state}
 use Rattle.usb_lemmas.proofs.Work.Errands.{events-with_ask}
 use Rattle.usb_model.specs.Coherence.{IsCoherent, served_events}
-use Rattle.usb_shows.specs.Showing.{AllKept, FirstPaused, FrontKnown, InRow, IsKept, ShowsEnd, count, front, is_stale, known_by, orders_sent, pause_told, tail_told, told_of}
-use Rattle.usb_kept.specs.Kept.{KeptEndpoint, KeptTransfer, SentErrand, Telling, first_place}
+use Rattle.usb_shows.specs.Showing.{AllKept, FirstPaused, FrontKnown, IsKept, ShowsEnd, count, front, is_stale, known_by, orders_sent, pause_told, tail_told, told_of}
+use Rattle.usb_kept.specs.Kept.{InRow, KeptEndpoint, KeptTransfer, SentErrand, Telling, first_place}
 use Rattle.usb_kept.specs.Handling.{Handled, posts}
 use Rattle.usb_shows.specs.Keeping.{Handles}
 use Rattle.usb_kept.specs.Joining.{asked, kept_ask}

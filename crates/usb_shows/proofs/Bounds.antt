@@ -16,6 +16,7 @@ use Rattle.usb_kept.specs.Kept.{SentErrand, KeptTransfer, first_place}
 use Rattle.usb_shows.specs.Showing.{AllKept, is_stale}
 use Rattle.usb_shows.specs.Lively.{IsFine, ends_from, ends_of}
 use Rattle.usb_shows.specs.Shows.{AllHeld, At, Core, Report, Shows, at, here, ring_event, ring_order, errands, events, tellings}
+use Rattle.usb_shows.proofs.Ahead.{ServedLow, near_served}
 use Rattle.usb_shows.proofs.Budget.{few_at_endpoint, fewer, split_length, ring_fits}
 use Rattle.usb_shows.proofs.Linking.{known}
 use Rattle.usb_shows.proofs.Rests.{none_there}
@@ -27,7 +28,7 @@ use Rattle.usb_shows.proofs.Near.{near_fresh}
 abbrev pub Keyed : {A K : Type 0} → (K → A → Bool) → List K → List A → Type 0
 Keyed test ks xs = AllByRecursion (λ x. list_any (λ k. test k x) ks ≡ true) xs
 
-keyed_left : {A K : Type 0} (test : K → A → Bool) (k : K) (ks : List K) (xs : List A) → Keyed test (k ∷ ks) xs → Keyed test ks (filter (λ x. not (test k x)) xs)
+pub keyed_left : {A K : Type 0} (test : K → A → Bool) (k : K) (ks : List K) (xs : List A) → Keyed test (k ∷ ks) xs → Keyed test ks (filter (λ x. not (test k x)) xs)
 keyed_left test k ks [] a = tt
 keyed_left test k ks (x ∷ xs) a = by_test (test k x) a.0 (keyed_left test k ks xs a.1)
   where
@@ -68,7 +69,7 @@ in_all n (suc d) ep (device ∷ devices) i q =
     ∙ or_right (list_any (λ (k : ℕ × ℕ). (n + suc d == k.0) && (ep == k.1)) (map (λ x. (n, x.address)) device.config.endpoints)) _ rest
 
 -- what is held is at an endpoint that there is
-held_keyed : {A : Type 0} (setup : Setup) (claims : Claims) (xs : List (At A)) → AllHeld setup claims xs → Keyed (λ (k : ℕ × ℕ) (x : At A). here k.0 k.1 x) (ends_of setup) xs
+pub held_keyed : {A : Type 0} (setup : Setup) (claims : Claims) (xs : List (At A)) → AllHeld setup claims xs → Keyed (λ (k : ℕ × ℕ) (x : At A). here k.0 k.1 x) (ends_of setup) xs
 unfolding info_of
 held_keyed setup claims [] held = tt
 held_keyed setup claims (x ∷ xs) held =
@@ -118,3 +119,18 @@ pub room_fresh : (setup : Setup) (w : World) (c : Core) (s : Shows setup w c) �
 room_fresh setup w c s fine h d e holds fresh =
     let le = near_fresh (packet_size_of setup d e) (w.endpoints d e) (errands (at d e s.orders)) (events (at d e s.news)) (c.endpoints d e) (at d e s.orders) (tellings (at d e s.news)) (s.endpoints h d e holds) fresh in
     (room_near setup w c s fine h d e holds (omega (arith, le))).1
+
+-- in every core that shows a world: the line's places, where it begins, and where the controller stands
+pub near_everywhere : (setup : Setup) (w : World) (c : Core) → Shows setup w c → IsFine setup → (h d e : ℕ) → holder setup w.claims d e ≡ Some h
+    → ((c.endpoints d e).end ≤ first_place (c.endpoints d e).line (c.endpoints d e).end + 80) × (first_place (c.endpoints d e).line (c.endpoints d e).end ≤ (c.endpoints d e).dequeue + 5) × ((c.endpoints d e).dequeue ≤ (c.endpoints d e).end)
+near_everywhere setup w c s fine h d e holds =
+    let n = s.near h d e holds in
+    ((room_near setup w c s fine h d e holds n.near).0, n.near, n.inside)
+
+-- so at most 85 places of its ring are in use, stale or not
+pub room_everywhere : (setup : Setup) (w : World) (c : Core) → Shows setup w c → IsFine setup → (h d e : ℕ) → holder setup w.claims d e ≡ Some h → (c.endpoints d e).end ≤ (c.endpoints d e).dequeue + 85
+room_everywhere setup w c s fine h d e holds = (room_near setup w c s fine h d e holds (s.near h d e holds).near).1
+
+-- and each served item begins where the controller stands or before
+pub served_everywhere : (setup : Setup) (w : World) (c : Core) → Shows setup w c → (h d e : ℕ) → holder setup w.claims d e ≡ Some h → ServedLow (c.endpoints d e).dequeue (w.endpoints d e).line (c.endpoints d e).line
+served_everywhere setup w c s h d e holds = near_served (packet_size_of setup d e) (w.endpoints d e) _ _ (c.endpoints d e) _ _ (s.endpoints h d e holds) (s.near h d e holds).before

@@ -15,8 +15,7 @@ use Rattle.usb_model.specs.declared.item.ItemState.TheVariants.{Blank, Served, W
 use Rattle.usb_model.specs.declared.item.ItemState.{ItemState}
 use Rattle.usb_model.specs.declared.news.Event.{Event}
 use Rattle.usb_model.specs.Coherence.{IsCoherent, IsPhase, ended, event_by, move_ran, move_waits, reset_ran, reset_waits, runs, served_events, stop_failed, stop_ran, stop_ran_paused, stop_waits, stop_waits_halted}
-use Rattle.usb_shows.specs.Showing.{InRow}
-use Rattle.usb_kept.specs.Kept.{KeptTransfer, first_place}
+use Rattle.usb_kept.specs.Kept.{InRow, KeptTransfer, first_place}
 
 -- one order at most, and two events behind the ends
 few_waiting : (s : EndpointState) (er : Option Errand) (os : List Errand) (es tail : List Event) → IsPhase s er os es tail → (length os ≤ 1) × (length tail ≤ 2)

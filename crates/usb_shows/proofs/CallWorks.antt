@@ -23,7 +23,7 @@ use Rattle.usb_model.specs.Coherence.{IsCoherent}
 use Rattle.std.proofs.lemmas.Option.{same_Some}
 use Rattle.usb_account.proofs.Coherence.Commands.{coherent_ask, coherent_submit}
 use Rattle.usb_account.proofs.Machines.Deeds.{cleared}
-use Rattle.usb_shows.specs.Showing.{AllFew, ShowsEnd}
+use Rattle.usb_shows.specs.Showing.{AllFew, ShowsEnd, StandsNear}
 use Rattle.usb_kept.specs.Kept.{KeptEndpoint}
 use Rattle.usb_kept.specs.Handling.{Handled, posts}
 use Rattle.usb_shows.specs.Keeping.{Handles}
@@ -33,9 +33,11 @@ use Rattle.usb_shows.specs.Shows.{Core, InRun, Shows, at, errands, events, order
 use Rattle.usb_shows.specs.Stepping.{Stepped, handle_work, posted_by, worked, StepsTo}
 use Rattle.usb_shows.proofs.Asked.{asks_show}
 use Rattle.usb_shows.proofs.Delivers.{IsPosting, run_posting}
+use Rattle.usb_shows.proofs.Halting.{near_still}
 use Rattle.usb_shows.proofs.Linking.{known, turn_works}
 use Rattle.usb_shows.proofs.Near.{asked_few, joined_few}
 use Rattle.usb_shows.proofs.Renewed.{cleared_shows}
+use Rattle.usb_shows.proofs.Stale.{asked_near, joined_near}
 use Rattle.usb_shows.proofs.Submits.{submit_shows}
 use Rattle.usb_shows.proofs.Worked.{work_shows}
 
@@ -56,9 +58,9 @@ past_none b xs q = ap (λ t. past_first t xs) q
 -- such work
 pub call_shows : (setup : Setup) (w : World) (c : Core) (s : Shows setup w c) (h dev ep : ℕ) (step : Step) (handle : Handle) (d : EndpointEffect) (a : Handled) → IsCall step → owner_of setup w step ≡ Some h → effect setup h (machine_of setup h w) step ≡ at_endpoint handle dev ep d
     → holder setup w.claims dev ep ≡ Some h → d.news ≡ [] → IsCoherent d.endpoint (errands (at dev ep s.orders) ++ d.orders) (events (at dev ep s.news))
-    → Handles (packet_size_of setup dev ep) d a (errands (at dev ep s.orders)) (events (at dev ep s.news)) (at dev ep s.orders) (tellings (at dev ep s.news)) → IsPosting c.posted a.orders → AllFew a.endpoint.line
+    → Handles (packet_size_of setup dev ep) d a (errands (at dev ep s.orders)) (events (at dev ep s.news)) (at dev ep s.orders) (tellings (at dev ep s.news)) → IsPosting c.posted a.orders → AllFew a.endpoint.line → StandsNear a.endpoint (tellings (at dev ep s.news))
     → StepsTo setup w step (called h handle dev ep step a c)
-call_shows setup w c s h dev ep step handle d a call own is holds none coherent handles posting few =
+call_shows setup w c s h dev ep step handle d a call own is holds none coherent handles posting few near =
     let os : past_first (takes_order step) s.orders ≡ s.orders = past_none (takes_order step) s.orders call.no_order in
     let ns : past_first (takes_news step) s.news ≡ s.news = past_none (takes_news step) s.news call.no_news in
     let news_same : events (at dev ep s.news) ++ d.news ≡ events (at dev ep s.news) = ap (λ l. events (at dev ep s.news) ++ l) none ∙ append-nil (events (at dev ep s.news)) in
@@ -76,6 +78,7 @@ call_shows setup w c s h dev ep step handle d a call own is holds none coherent 
       shows = subst₂ (λ x y. ShowsEnd (packet_size_of setup dev ep) d.endpoint (errands (at dev ep x) ++ d.orders) (events (at dev ep y) ++ d.news) a.endpoint (at dev ep x ++ a.orders) (tellings (at dev ep y) ++ [])) (sym os) (sym ns)
           (subst₂ (λ l t. ShowsEnd (packet_size_of setup dev ep) d.endpoint (errands (at dev ep s.orders) ++ d.orders) l a.endpoint (at dev ep s.orders ++ a.orders) t) (sym news_same) (sym (append-nil (tellings (at dev ep s.news)))) handles.shows);
       few = few;
+      near = λ stale. subst (λ y. StandsNear a.endpoint (tellings (at dev ep y) ++ [])) (sym ns) (near_still a.endpoint (tellings (at dev ep s.news)) near);
       first = s.first;
       in_run = subst₂ (λ x y. InRun s.first (under_way (x ++ []) (y ++ map (order_at dev ep) a.orders)) (posted_by a.orders c.posted)) (sym (past_none (takes_news step) c.events call.no_news)) (sym (past_none (takes_order step) c.orders call.no_order))
           (run_posting s.first c.posted dev ep c.events c.orders a.orders posting s.in_run);
@@ -101,7 +104,7 @@ ask_steps setup w c fine s h dev ep step n ask call own holds is =
     call_shows setup w c s h dev ep step (c.names h) (asks (w.endpoints dev ep) n ask) (asked c.posted (c.endpoints dev ep) n ask) call own is holds refl
     (subst (λ l. IsCoherent (asks (w.endpoints dev ep) n ask).endpoint (errands (at dev ep s.orders) ++ (asks (w.endpoints dev ep) n ask).orders) l) (append-nil (events (at dev ep s.news))) (coherent_ask (w.endpoints dev ep) n ask _ _ k))
     (asks_show (packet_size_of setup dev ep) c.posted (w.endpoints dev ep) _ _ (c.endpoints dev ep) _ _ n ask k (s.endpoints h dev ep holds))
-    (asked_posts c.posted (c.endpoints dev ep) n ask) (asked_few c.posted (c.endpoints dev ep) n ask (s.few dev ep))
+    (asked_posts c.posted (c.endpoints dev ep) n ask) (asked_few c.posted (c.endpoints dev ep) n ask (s.few dev ep)) (asked_near c.posted (c.endpoints dev ep) n ask (tellings (at dev ep s.news)) (s.near h dev ep holds))
 
 -- a transfer joins its line: Submit, and Answer with Again or AgainWith
 abbrev pub join_handled : ℕ → KeptEndpoint → ℕ → Request → ℕ → Handled
@@ -121,7 +124,7 @@ submit_steps setup w c fine s h dev ep step handle n request round short call ow
       shows = subst₂ (λ x y. ShowsEnd (packet_size_of setup dev ep) (submitted n request round e).endpoint x (events (at dev ep s.news)) (joined (packet_size_of setup dev ep) (c.endpoints dev ep) n request round) y (tellings (at dev ep s.news))) (sym (append-nil os)) (sym (append-nil (at dev ep s.orders)))
           (submit_shows (packet_size_of setup dev ep) e os (events (at dev ep s.news)) (c.endpoints dev ep) (at dev ep s.orders) (tellings (at dev ep s.news)) n request round (s.endpoints h dev ep holds));
     })
-    tt (joined_few (packet_size_of setup dev ep) (c.endpoints dev ep) n request round short (s.few dev ep))
+    tt (joined_few (packet_size_of setup dev ep) (c.endpoints dev ep) n request round short (s.few dev ep)) (joined_near (packet_size_of setup dev ep) (c.endpoints dev ep) n request round (tellings (at dev ep s.news)) (s.near h dev ep holds))
 
 -- the device's halt ends: ClearHalt
 abbrev pub clear_handled : KeptEndpoint → Handled
@@ -141,7 +144,7 @@ clear_steps setup w c fine s h dev ep step call own holds is =
       shows = subst₂ (λ x y. ShowsEnd (packet_size_of setup dev ep) (cleared e).endpoint x (events (at dev ep s.news)) (clear_handled (c.endpoints dev ep)).endpoint y (tellings (at dev ep s.news))) (sym (append-nil os)) (sym (append-nil (at dev ep s.orders)))
           (cleared_shows (packet_size_of setup dev ep) e os (events (at dev ep s.news)) (c.endpoints dev ep) (at dev ep s.orders) (tellings (at dev ep s.news)) (s.endpoints h dev ep holds));
     })
-    tt (s.few dev ep)
+    tt (s.few dev ep) (s.near h dev ep holds)
 
 -- an endpoint that a name's machine has is one that the name holds
 pub holds_it : (setup : Setup) (w : World) (h d ep : ℕ) (e : Endpoint) → (machine_of setup h w).endpoints d ep ≡ Some e → (holder setup w.claims d ep ≡ Some h) × (e ≡ w.endpoints d ep)

@@ -26,7 +26,7 @@ use Rattle.usb_model.specs.Coherence.{IsCoherent, event_by, served_events}
 use Rattle.usb_lemmas.proofs.Lists.Pieces.{same_name}
 use Rattle.std.proofs.lemmas.Option.{same_Some}
 use Rattle.usb_account.proofs.Coherence.Delivers.{coherent_deliver}
-use Rattle.usb_shows.specs.Showing.{AllFew, AllUncut, ShowsEnd, uncut_by}
+use Rattle.usb_shows.specs.Showing.{AllFew, AllUncut, ShowsEnd, StandsNear, is_stale, uncut_by}
 use Rattle.usb_kept.specs.Kept.{KeptEndpoint, KeptTransfer, SentErrand, Telling, Transfer, code_of, index_of}
 use Rattle.usb_kept.specs.Handling.{Handled, Reading, errand_of, finish, kept_after, kept_result, past_kept_blanks, posts, reading}
 use Rattle.usb_shows.specs.Keeping.{Handles}
@@ -36,6 +36,7 @@ use Rattle.usb_shows.specs.Shows.{AllHeld, At, Core, InRun, Report, RingEvent, R
 use Rattle.usb_shows.specs.Stepping.{StepsTo, complete_at, completion_work, deliver_core, deliver_first, delivers, handle_work, posted_by, sender, transfer_work, works}
 use Rattle.usb_shows.proofs.Finished.{FinishedShows, finished_shows, first_end}
 use Rattle.usb_shows.proofs.Glue.{idle_steps, same_gone, same_handle, same_holder}
+use Rattle.usb_shows.proofs.Halting.{near_still}
 use Rattle.usb_shows.proofs.InRun.{run_posted}
 use Rattle.usb_shows.proofs.Linking.{IsKnown, end_there, known, machine_parts, turn_works}
 use Rattle.usb_shows.proofs.Near.{finish_few, pauses_few, read_found, settle_few}
@@ -43,6 +44,7 @@ use Rattle.usb_shows.proofs.Pauses.{PausedShows, paused_shows}
 use Rattle.usb_shows.proofs.Placing.{first_here, is_first_at}
 use Rattle.usb_shows.proofs.Senders.{sender_is}
 use Rattle.usb_shows.proofs.Settled.{SettledShows, settled_shows}
+use Rattle.usb_shows.proofs.Stale.{finish_near, moved_near, pauses_near, settle_near}
 use Rattle.usb_shows.proofs.Worked.{work_shows}
 
 -- at most one order, at the next place
@@ -136,9 +138,12 @@ uncut_end (x ∷ xs) n code es a q = by_state x.state a.0 q (uncut_end xs n code
 -- the first event is at this endpoint, and this is what handling it does
 deliver_works : (setup : Setup) (w : World) (c : Core) (x : At Report) (xs : List (At Report)) (a : Handled) → IsFine setup → (s : Shows setup w c) → s.news ≡ x ∷ xs
     → Handles (packet_size_of setup x.dev x.ep) (deliver (packet_size_of setup x.dev x.ep) x.ep (c.gone x.dev) (w.endpoints x.dev x.ep) x.what.event) a (errands (at x.dev x.ep s.orders)) (events (at x.dev x.ep xs)) (at x.dev x.ep s.orders) (tellings (at x.dev x.ep xs))
-    → IsPosting c.posted a.orders → AllFew a.endpoint.line → (first : ℕ) → InRun first (under_way (map ring_event xs) c.orders) c.posted
+    → IsPosting c.posted a.orders → AllFew a.endpoint.line
+    → (is_stale (deliver (packet_size_of setup x.dev x.ep) x.ep (c.gone x.dev) (w.endpoints x.dev x.ep) x.what.event).endpoint.state (deliver (packet_size_of setup x.dev x.ep) x.ep (c.gone x.dev) (w.endpoints x.dev x.ep) x.what.event).endpoint.errand
+    (errands (at x.dev x.ep s.orders) ++ (deliver (packet_size_of setup x.dev x.ep) x.ep (c.gone x.dev) (w.endpoints x.dev x.ep) x.what.event).orders) ≡ true → StandsNear a.endpoint (tellings (at x.dev x.ep xs)))
+    → (first : ℕ) → InRun first (under_way (map ring_event xs) c.orders) c.posted
     → StepsTo setup w Deliver (works x.name x.dev x.ep Deliver (handle_work a) c)
-deliver_works setup w c x xs a fine s is handles posting few first run =
+deliver_works setup w c x xs a fine s is handles posting few near first run =
     let dev : ℕ = x.dev in
     let ep : ℕ = x.ep in
     let h : ℕ = x.name in
@@ -171,6 +176,7 @@ deliver_works setup w c x xs a fine s is handles posting few first run =
           (subst₂ (λ l t. ShowsEnd size d.endpoint (errands (at dev ep s.orders) ++ d.orders) l a.endpoint (at dev ep s.orders ++ a.orders) t)
           (sym (ap (λ l. events (at dev ep xs) ++ l) none ∙ append-nil (events (at dev ep xs)))) (sym (append-nil (tellings (at dev ep xs)))) handles.shows);
       few = few;
+      near = λ stale. subst (λ l. StandsNear a.endpoint (tellings (at dev ep l) ++ [])) (sym left) (near_still a.endpoint (tellings (at dev ep xs)) (near stale));
       first = first;
       in_run = subst (λ l. InRun first (under_way (l ++ []) (c.orders ++ map (order_at dev ep) a.orders)) (posted_by a.orders c.posted)) (sym (ap (past_first true) (s.news_kept ∙ ap (map ring_event) is)))
           (run_posting first c.posted dev ep (map ring_event xs) c.orders a.orders posting run);
@@ -223,6 +229,13 @@ deliver_event setup w c x xs fine s is = by_event x.what.event refl
     run : InRun s.first (under_way (event_at dev ep x.what.telling ∷ rest) c.orders) c.posted
     run = subst (λ l. InRun s.first (under_way l c.orders) c.posted) (s.news_kept ∙ ap (map ring_event) is) s.in_run
 
+    near : StandsNear b (x.what.telling ∷ tellings (at dev ep xs))
+    near = subst (λ l. StandsNear b (tellings l)) first_is (s.near x.name dev ep holds)
+
+    -- what is near after the first event wherever the endpoint is stale
+    Nears : Event → Handled → Type 0
+    Nears z a = is_stale (deliver size ep (c.gone dev) e z).endpoint.state (deliver size ep (c.gone dev) e z).endpoint.errand (errands (at dev ep s.orders) ++ (deliver size ep (c.gone dev) e z).orders) ≡ true → StandsNear a.endpoint (tellings (at dev ep xs))
+
     held : holder setup c.claims dev ep ≡ Some x.name
     held = same_holder setup w c s dev ep ∙ holds
 
@@ -247,7 +260,9 @@ deliver_event setup w c x xs fine s is = by_event x.what.event refl
         subst Goes (sym f.event)
         (transfer f.p f.r code f.found a f.event f.read (ap (λ t. if t then pauses b f.p f.found else a) code_is)
         (deliver_works setup w c x xs a fine s is (subst (λ z. Handles size (deliver size ep (c.gone dev) e z) a (errands (at dev ep s.orders)) (events (at dev ep xs)) (at dev ep s.orders) (tellings (at dev ep xs))) (sym v) f.handles)
-        (finish_posts (c.gone dev) c.posted b f.p code f.found) (finish_few (c.gone dev) c.posted b f.p code f.found (s.few dev ep)) s.first (subst (λ t. InRun s.first (under_way (event_at dev ep t ∷ rest) c.orders) c.posted) f.event run)))
+        (finish_posts (c.gone dev) c.posted b f.p code f.found) (finish_few (c.gone dev) c.posted b f.p code f.found (s.few dev ep))
+        (subst (λ z. Nears z a) (sym v) (λ stale. finish_near size ep (c.gone dev) c.posted e _ _ b _ x.what.telling (tellings (at dev ep xs)) n code f.p f.r f.found (subst (λ z. IsCoherent e (errands (at dev ep s.orders)) (z ∷ events (at dev ep xs))) v k.fit.coherent)
+        world_of.row (s.few dev ep) near f.event (read_found f.p f.r b.line f.found f.read) f.handles.shows stale)) s.first (subst (λ t. InRun s.first (under_way (event_at dev ep t ∷ rest) c.orders) c.posted) f.event run)))
     by_event (Paused n) v =
         let f : PausedShows size ep (c.gone dev) e (errands (at dev ep s.orders)) (events (at dev ep xs)) b (at dev ep s.orders) x.what.telling (tellings (at dev ep xs)) n =
         paused_shows size ep (c.gone dev) e _ _ b _ _ _ n (subst (λ z. IsCoherent e (errands (at dev ep s.orders)) (z ∷ events (at dev ep xs))) v k.fit.coherent)
@@ -256,7 +271,8 @@ deliver_event setup w c x xs fine s is = by_event x.what.event refl
         subst Goes (sym f.event)
         (transfer f.p f.r 26 f.found a f.event f.read refl
         (deliver_works setup w c x xs a fine s is (subst (λ z. Handles size (deliver size ep (c.gone dev) e z) a (errands (at dev ep s.orders)) (events (at dev ep xs)) (at dev ep s.orders) (tellings (at dev ep xs))) (sym v) f.handles)
-        tt (pauses_few b f.p f.found (s.few dev ep) (read_found f.p f.r b.line f.found f.read)) s.first (subst (λ t. InRun s.first (under_way (event_at dev ep t ∷ rest) c.orders) c.posted) f.event run)))
+        tt (pauses_few b f.p f.found (s.few dev ep) (read_found f.p f.r b.line f.found f.read))
+        (λ stale. pauses_near b x.what.telling (tellings (at dev ep xs)) f.p f.found near (read_found f.p f.r b.line f.found f.read)) s.first (subst (λ t. InRun s.first (under_way (event_at dev ep t ∷ rest) c.orders) c.posted) f.event run)))
     by_event (Settled o ok) v =
         let f : SettledShows size ep (c.gone dev) c.posted e (errands (at dev ep s.orders)) (events (at dev ep xs)) b (at dev ep s.orders) x.what.telling (tellings (at dev ep xs)) o ok =
         settled_shows size ep (c.gone dev) c.posted e _ _ b _ _ _ o ok (subst (λ z. IsCoherent e (errands (at dev ep s.orders)) (z ∷ events (at dev ep xs))) v k.fit.coherent) k.lively.orderly
@@ -272,7 +288,10 @@ deliver_event setup w c x xs fine s is = by_event x.what.event refl
         (subst₂ (λ z q. StepsTo setup w Deliver (delivers c dev ep (completion_work ep c.posted b (code_of ok) z) q)) (sym y.1) (sym held)
         (subst (λ z. StepsTo setup w Deliver (works x.name dev ep Deliver (handle_work z) c)) (sym same)
         (deliver_works setup w c x xs a fine s is (subst (λ z. Handles size (deliver size ep (c.gone dev) e z) a (errands (at dev ep s.orders)) (events (at dev ep xs)) (at dev ep s.orders) (tellings (at dev ep xs))) (sym v) f.handles)
-        (settle_posts ep c.posted b o ok) (settle_few ep c.posted b o ok (s.few dev ep)) (suc s.first) run'.1))))
+        (settle_posts ep c.posted b o ok) (settle_few ep c.posted b o ok (s.few dev ep))
+        (λ stale. settle_near ep c.posted b x.what.telling (tellings (at dev ep xs)) o ok near
+        (moved_near size e _ _ b _ _ o ok (subst (λ z. IsCoherent e (errands (at dev ep s.orders)) (z ∷ events (at dev ep xs))) v k.fit.coherent)
+        (subst (λ z. ShowsEnd size e (errands (at dev ep s.orders)) (z ∷ events (at dev ep xs)) b (at dev ep s.orders) (tellings (x.what ∷ at dev ep xs))) v world_of))) (suc s.first) run'.1))))
 
 -- Deliver
 pub deliver_steps : (setup : Setup) (w : World) (c : Core) → IsFine setup → Shows setup w c → StepsTo setup w Deliver (deliver_core setup c)

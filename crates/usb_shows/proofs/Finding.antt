@@ -10,11 +10,11 @@ use Rattle.usb_model.specs.declared.news.Event.{Event}
 use Rattle.usb_model.specs.Endpoint.{first_waiting, in_progress, is_blank, is_blank_state, is_transfer, is_waiting, is_waiting_state, past_blanks, past_number}
 use Rattle.usb_model.specs.Coherence.{ServedFirst, event_by, first_by, served_events}
 use Rattle.usb_lemmas.proofs.Lists.Pieces.{same_name}
-use Rattle.usb_kept.specs.Stands.{stand, total}
-use Rattle.usb_shows.specs.Showing.{AllKept, FrontKnown, InRow, IsLive, count, front, known_by, pause_told, telling_of, told_by, told_of}
-use Rattle.usb_kept.specs.Kept.{KeptTransfer, first_place}
+use Rattle.usb_kept.specs.Stands.{stand}
+use Rattle.usb_shows.specs.Showing.{AllKept, FrontKnown, IsLive, count, front, known_by, pause_told, telling_of, told_by, told_of}
+use Rattle.usb_kept.specs.Kept.{InRow, KeptTransfer, first_place}
 use Rattle.usb_kept.specs.Handling.{covers, find_at, past_at, past_kept_blanks}
-use Rattle.usb_shows.proofs.Standing.{Stands, stands}
+use Rattle.usb_kept.proofs.Standing.{stands_some}
 
 -- the pointer of an event
 abbrev pub pointer : ℕ → Item → KeptTransfer → ℕ
@@ -105,11 +105,6 @@ covers_here p y low high = rw (lt-ltb p (y.place + length y.lengths) high, le-le
 
 pub covers_past : (p : ℕ) (y : KeptTransfer) → y.place + length y.lengths ≤ p → covers p y ≡ false
 covers_past p y past = rw (le-ltb p (y.place + length y.lengths) past) (and_false (nat_le y.place p))
-
--- an item stands somewhere in its TRBs
-pub stands_some : (ls : List ℕ) (c : ℕ) → 0 < length ls → c ≤ total ls → Stands ls c (stand ls c)
-stands_some [] c some le = absurd (omega (arith, some))
-stands_some (l ∷ ls) c some le = stands l ls c le
 
 -- its events point at it
 pub points : (size : ℕ) (x : Item) (y : KeptTransfer) → 0 < length y.lengths → IsLive size x y → covers (pointer size x y) y ≡ true

@@ -1,4 +1,5 @@
 -- A transfer's end is handled: its event finds the item, the residual gives the bytes, and the next endpoint is shown.
+use Rattle.usb_kept.proofs.Standing.{stands_some}
 use Rattle.std.proofs.Common.{Bool, List, None, Option, Some, [], append-nil, ap, arith, ap₂, false, length, refl, subst, sym, true, ℕ, ◌++◌, ◌-◌, ◌<◌, ◌∙◌, ◌∷◌, ◌≡◌}
 use Rattle.std.specs.Prelude.{if◌then◌else◌, nat_lt, not, is_some}
 use Rattle.std.proofs.lemmas.Bool.{le-ltb, and_parts}
@@ -23,7 +24,7 @@ use Rattle.usb_kept.specs.Kept.{KeptEndpoint, KeptTransfer, SentErrand, Telling,
 use Rattle.usb_shows.specs.Showing.{IsLive, ShowsEnd, count, FirstPaused, is_stale, orders_sent, pause_told, tail_told, telling_of, told_of}
 use Rattle.usb_kept.specs.Handling.{Handled, Reading, finish, find_at, kept_after, kept_result, past_at, past_kept_blanks, posts, read_at, reading}
 use Rattle.usb_shows.specs.Keeping.{Handles}
-use Rattle.usb_shows.proofs.Finding.{Found, Less, blanks_leave, finds, pointer, stands_some}
+use Rattle.usb_shows.proofs.Finding.{Found, Less, blanks_leave, finds, pointer}
 use Rattle.usb_account.proofs.Coherence.Delivers.{past_told}
 use Rattle.usb_lemmas.proofs.Work.Phases.{no_end, free, halted_if}
 use Rattle.usb_lemmas.proofs.Lists.Parts.{heads_same}

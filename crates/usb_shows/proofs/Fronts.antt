@@ -14,8 +14,8 @@ use Rattle.usb_model.specs.Endpoint.Packets.{count_of, open_with}
 use Rattle.usb_model.specs.Requests.{adds_zero_packet, length_of}
 use Rattle.usb_lemmas.proofs.Shares.OpenShares.{outcome_nothing}
 use Rattle.usb_kept.specs.Stands.{full_trbs, lengths_of, stand}
-use Rattle.usb_shows.specs.Showing.{AllKept, AllNew, FrontKnown, pause_told, InRow, IsKept, IsLive, NewBehind, count, front, front_of, known_by, new_by, telling_of, told_by, told_of}
-use Rattle.usb_kept.specs.Kept.{KeptTransfer, first_place, is_extra, trbs_of, Telling}
+use Rattle.usb_shows.specs.Showing.{AllKept, AllNew, FrontKnown, pause_told, IsKept, IsLive, NewBehind, count, front, front_of, known_by, new_by, telling_of, told_by, told_of}
+use Rattle.usb_kept.specs.Kept.{InRow, KeptTransfer, Telling, first_place, is_extra, trbs_of}
 use Rattle.usb_kept.specs.Handling.{find_at, past_at, past_kept_blanks}
 use Rattle.usb_kept.specs.Serving.{put_at}
 use Rattle.usb_shows.proofs.Finding.{covers_past, pointer, points}

@@ -26,7 +26,7 @@ use Rattle.usb_lemmas.proofs.Lists.Pieces.{same_name}
 use Rattle.usb_account.proofs.Coherence.Commands.{coherent_command}
 use Rattle.usb_account.proofs.Coherence.Serves.{coherent_serve}
 use Rattle.usb_kept.specs.Kept.{KeptEndpoint, Completion, KeptTransfer, SentErrand, code_of}
-use Rattle.usb_shows.specs.Showing.{ShowsEnd}
+use Rattle.usb_shows.specs.Showing.{ShowsEnd, is_stale}
 use Rattle.usb_kept.specs.Commanding.{Carried, carry, pause_at}
 use Rattle.usb_shows.specs.Keeping.{Carries, Serves}
 use Rattle.usb_kept.specs.Handling.{find_at}
@@ -35,7 +35,8 @@ use Rattle.usb_kept.specs.Serving as serving
 use Rattle.usb_kept.specs.Serving.{walk, Answered, Packet, answered_by, answered_gone, packet_now, sent_before, serve_at, serve_kept}
 use Rattle.usb_shows.specs.Shows.{AllHeld, At, Completes, Core, InRun, RingEvent, RingOrder, Shows, at, completed, errands, event_at, events, here, order_of, ring_order, tellings, under_way}
 use Rattle.usb_shows.specs.Stepping.{StepsTo, answer_work, carry_work, command_core, command_first, command_held, idle, serve_core, serve_held}
-use Rattle.usb_shows.proofs.Commands.{command_shows}
+use Rattle.usb_shows.proofs.Commands.{command_shows, ways}
+use Rattle.usb_shows.proofs.Halting.{carry_near, serve_near, stale_still}
 use Rattle.usb_shows.proofs.InRun.{run_carried}
 use Rattle.usb_shows.proofs.Linking.{IsKnown, end_there, known, machine_parts, turn_works}
 use Rattle.usb_shows.proofs.Near.{carry_few, serve_few}
@@ -116,6 +117,7 @@ serve_held_steps setup w c fine s dev ep h holds =
       coherent = coherent_serve size (c.gone dev) e _ _ k.fit.coherent;
       shows = subst (λ l. ShowsEnd size (serve size (c.gone dev) e).endpoint (errands (at dev ep s.orders) ++ (serve size (c.gone dev) e).orders) (events (at dev ep s.news) ++ (serve size (c.gone dev) e).news) (serve_kept size (c.gone dev) (c.endpoints dev ep)).endpoint l (tellings (at dev ep s.news) ++ (serve_kept size (c.gone dev) (c.endpoints dev ep)).told)) (sym (append-nil (at dev ep s.orders))) served.shows;
       few = serve_few size (c.gone dev) (c.endpoints dev ep) (s.few dev ep);
+      near = λ stale. serve_near size (c.gone dev) e _ _ (c.endpoints dev ep) _ _ k.fit.coherent world_of (s.near h dev ep holds) (λ runs. stale_still _ _ _ stale (sym served.shows.state ∙ runs));
       first = s.first;
       in_run = run_more s.first c.posted c.events _ c.orders (answer_ends_none size dev ep (c.gone dev) (c.endpoints dev ep)) s.in_run;
     })
@@ -222,6 +224,8 @@ command_held_steps setup w c x xs fine s is =
       shows = subst (λ l. ShowsEnd size (command size ep e o e.state).endpoint (errands (at dev ep l) ++ (command size ep e o e.state).orders) (events (at dev ep s.news) ++ (command size ep e o e.state).news) (carry x.what.index b o b.state).endpoint (at dev ep l ++ []) (tellings (at dev ep s.news) ++ (carry x.what.index b o b.state).told)) (sym left)
           (subst (λ l. ShowsEnd size (command size ep e o e.state).endpoint (errands (at dev ep xs) ++ (command size ep e o e.state).orders) (events (at dev ep s.news) ++ (command size ep e o e.state).news) (carry x.what.index b o b.state).endpoint l (tellings (at dev ep s.news) ++ (carry x.what.index b o b.state).told)) (sym (append-nil (at dev ep xs))) carried.shows);
       few = carry_few x.what.index b o b.state (s.few dev ep);
+      near = λ stale. carry_near size ep x.what.index e b o (errands (at dev ep xs)) _ _ (tellings (at dev ep s.news)) (ways e.state e.errand o (errands (at dev ep xs)) _ _ k.fit.coherent.phase) world_of.state (s.near h dev ep holds)
+          (subst (λ l. is_stale (command size ep e o e.state).endpoint.state (command size ep e o e.state).endpoint.errand (errands (at dev ep l) ++ (command size ep e o e.state).orders) ≡ true) left stale);
       first = s.first;
       in_run = subst₂ (λ l m. InRun s.first (under_way (c.events ++ l) m) c.posted) (sym tells.told)
           (sym (append-nil (past_first true c.orders) ∙ ap (past_first true) (s.orders_kept ∙ ap (map ring_order) is)))

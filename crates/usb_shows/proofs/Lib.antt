@@ -1,4 +1,3 @@
-pub mod Standing
 pub mod Finding
 pub mod Finished
 pub mod Fronts
@@ -30,3 +29,10 @@ pub mod Bounds
 pub mod Near
 pub mod Seen
 pub mod Takes
+pub mod Calls
+pub mod Running
+pub mod UnderWay
+pub mod Ahead
+pub mod Places
+pub mod Halting
+pub mod Stale

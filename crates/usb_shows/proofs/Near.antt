@@ -17,8 +17,8 @@ use Rattle.usb_model.specs.Endpoint.{is_waiting}
 use Rattle.usb_model.specs.Requests.{length_of}
 use Rattle.usb_model.specs.Endpoint.Status.{halts}
 use Rattle.std.proofs.lemmas.Option.{same_Some}
-use Rattle.usb_shows.specs.Showing.{AllFew, IsFew, AllKept, InRow, ShowsEnd, front, front_of, is_stale}
-use Rattle.usb_kept.specs.Kept.{KeptEndpoint, KeptTransfer, SentErrand, Telling, first_place, is_extra}
+use Rattle.usb_shows.specs.Showing.{AllFew, IsFew, AllKept, ShowsEnd, front, front_of, is_stale}
+use Rattle.usb_kept.specs.Kept.{InRow, KeptEndpoint, KeptTransfer, SentErrand, Telling, first_place, is_extra}
 use Rattle.usb_kept.specs.Commanding.{carry}
 use Rattle.usb_kept.specs.Handling.{read_at, reading, Handled, Reading, covers, errand_of, find_at, finish, kept_after, kept_result, past_at, past_kept_blanks, posts}
 use Rattle.usb_kept.specs.Joining.{asked, joined, kept_ask, new_kept}
@@ -36,7 +36,7 @@ few_put p z (y ∷ ys) f a = by_test (covers p y) (few_put p z ys f a.1)
     by_test true rest = (f, a.1)
     by_test false rest = (a.0, rest)
 
-few_find : (p : ℕ) (y : KeptTransfer) (ys : List KeptTransfer) → AllFew ys → find_at p ys ≡ Some y → IsFew y
+pub few_find : (p : ℕ) (y : KeptTransfer) (ys : List KeptTransfer) → AllFew ys → find_at p ys ≡ Some y → IsFew y
 unfolding find_at
 few_find p y [] a q = absurd cc
 few_find p y (z ∷ ys) a q = by_test (covers p z) q (few_find p y ys a.1)
@@ -170,7 +170,7 @@ pub joined_few : (size : ℕ) (b : KeptEndpoint) (n : ℕ) (request : Request) (
 joined_few size b n request round short a = few_push b.line (new_kept size b.end n request round) (few_trbs (is_extra size request request.body) (length_of request.body) short) a
 
 -- the first that waits stands at the line's first place or behind it
-front_behind : (size : ℕ) (xs : List Item) (ys : List KeptTransfer) (end : ℕ) → AllKept size xs ys → InRow ys end → first_place ys end ≤ (front size xs ys end).place
+pub front_behind : (size : ℕ) (xs : List Item) (ys : List KeptTransfer) (end : ℕ) → AllKept size xs ys → InRow ys end → first_place ys end ≤ (front size xs ys end).place
 unfolding front
 front_behind size [] [] end k row = omega arith
 front_behind size [] (y ∷ ys) end k row = absurd k

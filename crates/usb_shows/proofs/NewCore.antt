@@ -3,12 +3,12 @@ use Rattle.std.proofs.Common.{List, [], ap₂, refl, sym, ◌∙◌, ◌∷◌, 
 use Rattle.usb_model.specs.declared.entry.Entry.{Entry}
 use Rattle.usb_model.specs.declared.step.Step.{Step}
 use Rattle.usb_model.specs.World.Journal.{journal_from, run_from}
-use Rattle.usb_model.specs.Setup.{Setup, packet_size_of}
+use Rattle.usb_model.specs.Setup.{Setup, script_of, packet_size_of}
 use Rattle.usb_model.specs.World.{World, new_world, turn, world_from}
 use Rattle.usb_lemmas.proofs.Handles.Runs.{one_step}
 use Rattle.usb_shows.specs.Shows.{Core, Shows, Steps}
 use Rattle.usb_shows.specs.Stepping.{new_core}
-use Rattle.usb_shows.proofs.Renewed.{fresh_shows}
+use Rattle.usb_shows.proofs.Renewed.{fresh_shows, new_near}
 
 pub new_shows : (setup : Setup) → Shows setup (new_world setup) (new_core setup)
 unfolding new_world world_from
@@ -30,6 +30,7 @@ new_shows setup = record {
   first = 0;
   in_run = refl;
   few = λ d e. tt;
+  near = λ h d e holds. new_near (script_of setup d e);
   endpoints = λ h d e holds. fresh_shows (packet_size_of setup d e) setup d e;
 }
 

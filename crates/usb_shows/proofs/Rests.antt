@@ -1,4 +1,5 @@
 -- Steps that do no work at an endpoint: Open, Close, Claim, Release, Reset, Take, Unplug, an Answer that submits nothing, and refusals.
+use Rattle.usb_kept.specs.Kept.{new_kept_endpoint}
 use Rattle.std.proofs.Common.{Bool, List, None, Option, Some, [], ap, ap₂, append-nil, false, inl, inr, map, refl, subst, subst₂, sym, true, ℕ, ◌&&◌, ◌++◌, ◌==◌, ◌∙◌, ◌∷◌, ◌≡◌, ◌⊎◌}
 use Rattle.std.specs.Prelude.{if◌then◌else◌, not, option_and_then}
 use Rattle.std.specs.List.{filter}
@@ -21,13 +22,13 @@ use Rattle.usb_model.specs.World.{Claims, World, all_ends_after, claims_after, h
 use Rattle.usb_lemmas.proofs.Handles.Isolation.{gone_stays, turn_blocked, turn_free}
 use Rattle.usb_lemmas.proofs.Lists.Pieces.{either_way, same_name}
 use Rattle.usb_account.proofs.Machines.Deeds.{IsIdle, IsRest, claims, claims_again, closes, opens, releases, resets, stays, stops, takes}
-use Rattle.usb_shows.specs.Showing.{AllFew, ShowsEnd}
+use Rattle.usb_shows.specs.Showing.{AllFew, ShowsEnd, StandsNear}
 use Rattle.usb_shows.specs.Lively.{IsFine}
 use Rattle.usb_shows.specs.Shows.{AllHeld, At, Core, Shows, at, errands, events, here, tellings}
-use Rattle.usb_shows.specs.Stepping.{kept_endpoint_after, new_kept_endpoint, rested, StepsTo}
+use Rattle.usb_shows.specs.Stepping.{kept_endpoint_after, rested, StepsTo}
 use Rattle.usb_shows.proofs.Linking.{all_sound, has_device, its_lists, machine_parts}
 use Rattle.usb_shows.proofs.Placing.{is_here}
-use Rattle.usb_shows.proofs.Renewed.{fresh_shows}
+use Rattle.usb_shows.proofs.Renewed.{fresh_shows, new_near}
 use Rattle.usb_shows.proofs.Worked.{world_and}
 use Rattle.usb_lemmas.proofs.Handles.Alone.{is_its-some}
 
@@ -269,6 +270,14 @@ rest_steps setup w c fine s h step done owned no_order no_news own is rest clear
             subst₂ (λ x b. ShowsEnd (packet_size_of setup d e) x (errands (at d e s.orders)) (events (at d e s.news)) b (at d e s.orders) (tellings (at d e s.news))) (sym t.0) (sym t.1)
             (subst₂ (λ os ns. ShowsEnd (packet_size_of setup d e) (fresh setup d e) (errands os) (events ns) (new_kept_endpoint (script_of setup d e)) os (tellings ns)) (sym empty.0) (sym empty.1) (fresh_shows (packet_size_of setup d e) setup d e))
 
+    nears : (g d e : ℕ) → holder setup claims' d e ≡ Some g → StandsNear (kept_endpoint_after setup h c done.change d e) (tellings (at d e s.news))
+    nears g d e holds = by_touch (touch d e)
+      where
+        by_touch : Touch setup w c s h done.change d e → StandsNear (kept_endpoint_after setup h c done.change d e) (tellings (at d e s.news))
+        by_touch (inl t) = subst (λ b. StandsNear b (tellings (at d e s.news))) (sym t.2) (s.near g d e (sym t.0 ∙ holds))
+        by_touch (inr (empty, inl none)) = absurd (cc (holds, none))
+        by_touch (inr (empty, inr t)) = subst₂ (λ b ns. StandsNear b (tellings ns)) (sym t.1) (sym empty.1) (new_near (script_of setup d e))
+
     none : (done.orders ≡ []) × (done.news ≡ []) × (done.results ≡ [])
     none = rest_none setup h (machine_of setup h w) step done rest
 
@@ -297,6 +306,7 @@ rest_steps setup w c fine s h step done owned no_order no_news own is rest clear
       first = s.first;
       in_run = s.in_run;
       few = few_after setup h c done.change s.few;
+      near = nears;
       endpoints = ends;
     }
 
@@ -332,6 +342,7 @@ unplug_steps setup w c s dev = (
     first = s.first;
     in_run = s.in_run;
     few = s.few;
+    near = s.near;
     endpoints = s.endpoints;
   },
 )

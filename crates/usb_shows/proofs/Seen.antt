@@ -7,16 +7,9 @@ use Rattle.usb_model.specs.declared.item.Ask.{Ask}
 use Rattle.usb_model.specs.declared.item.Item.{Item}
 use Rattle.usb_model.specs.declared.request.Request.{Request}
 use Rattle.usb_model.specs.Endpoint.{in_progress, is_blank, is_transfer}
+use Rattle.usb_shows.specs.Calling.{is_kept_it, kept_in_progress}
 use Rattle.usb_shows.specs.Showing.{AllKept}
 use Rattle.usb_kept.specs.Kept.{KeptTransfer, SentErrand}
-
--- the transfer of this number, in progress
-abbrev pub is_kept_it : ℕ → KeptTransfer → Bool
-is_kept_it n y = (y.n == n) && not y.blank
-
-unfoldable pub kept_in_progress : ℕ → List KeptTransfer → Option KeptTransfer
-kept_in_progress n [] = None
-kept_in_progress n (y ∷ ys) = if is_kept_it n y then Some y else kept_in_progress n ys
 
 -- what is read of it
 pub record Looked : Type 0 where

@@ -19,14 +19,14 @@ use Rattle.usb_model.specs.Endpoint.Status.{halts}
 use Rattle.usb_lemmas.proofs.Work.Errands.{events-with_first}
 use Rattle.usb_model.specs.Coherence.{IsCoherent, event_by, served_events}
 use Rattle.usb_kept.specs.Stands.{Stand, stand, total}
-use Rattle.usb_shows.specs.Showing.{AllKept, InRow, IsLive, NewBehind, ShowsEnd, count, front, front_of, is_stale, orders_sent, telling_of, tail_told, told_of}
-use Rattle.usb_kept.specs.Kept.{KeptEndpoint, KeptTransfer, SentErrand, Telling, first_place}
+use Rattle.usb_shows.specs.Showing.{AllKept, IsLive, NewBehind, ShowsEnd, count, front, front_of, is_stale, orders_sent, telling_of, tail_told, told_of}
+use Rattle.usb_kept.specs.Kept.{InRow, KeptEndpoint, KeptTransfer, SentErrand, Telling, first_place}
 use Rattle.usb_kept.specs.Handling.{covers, find_at, past_at, past_kept_blanks}
 use Rattle.usb_kept.specs.Serving.{Packet, answer_now, answered_by, answered_gone, endpoint_with, event_at, gave, got, packet_now, put_at, sent_before, serve_at, serve_kept, walk}
 use Rattle.usb_shows.specs.Keeping.{PacketIs, Serves, grown, outcome_now}
-use Rattle.usb_shows.proofs.Finding.{covers_past, stands_some}
+use Rattle.usb_shows.proofs.Finding.{covers_past}
 use Rattle.usb_shows.proofs.Fronts.{Fronted, Puts, fronts}
-use Rattle.usb_shows.proofs.Standing.{walks}
+use Rattle.usb_kept.proofs.Standing.{stands_some, walks}
 use Rattle.usb_lemmas.proofs.Work.Phases.{running_tail}
 
 -- a running endpoint's controller stands at the first waiting transfer
@@ -83,7 +83,7 @@ at_front size b x y some live e =
     record { i = (stand y.lengths (count size x)).index; is = refl; index = index; place = place; within = within; before = ap₂ (λ a c. total (take a y.lengths) + c) index within ∙ s.before }
 
 -- k bytes on
-walked : (size : ℕ) (b : KeptEndpoint) (x : Item) (y : KeptTransfer) (k : ℕ) → 0 < length y.lengths → (a : At size b x y)
+pub walked : (size : ℕ) (b : KeptEndpoint) (x : Item) (y : KeptTransfer) (k : ℕ) → 0 < length y.lengths → (a : At size b x y)
     → (a.i + (walk b y k).index ≡ (stand y.lengths (count size x + k)).index) × ((walk b y k).within ≡ (stand y.lengths (count size x + k)).within)
 walked size b x y k some a = by_lengths y.lengths some a.index a.within a.is
   where

@@ -19,8 +19,8 @@ use Rattle.usb_model.specs.Endpoint.Deliver.{blanked, deliver, is_withdrawn, lea
 use Rattle.usb_model.specs.Endpoint.{is_blank, is_blank_state, is_waiting, is_waiting_state, past_blanks}
 use Rattle.usb_lemmas.proofs.Work.Errands.{events-blanked, events-past_blanks}
 use Rattle.usb_model.specs.Coherence.{IsCoherent, IsPhase, event_by, ended, move_ran, move_waits, reset_ran, reset_waits, runs, served_events, stop_failed, stop_ran, stop_ran_paused, stop_waits, stop_waits_halted}
-use Rattle.usb_shows.specs.Showing.{AllKept, AllNew, FrontKnown, InRow, IsOrderly, NewBehind, ShowsEnd, count, front, has_pause, is_stale, known_by, new_by, orders_sent, tail_told}
-use Rattle.usb_kept.specs.Kept.{KeptEndpoint, Completion, KeptTransfer, SentErrand, Telling, code_of, first_place, index_of}
+use Rattle.usb_shows.specs.Showing.{AllKept, AllNew, FrontKnown, IsOrderly, NewBehind, ShowsEnd, count, front, has_pause, is_stale, known_by, new_by, orders_sent, tail_told}
+use Rattle.usb_kept.specs.Kept.{Completion, InRow, KeptEndpoint, KeptTransfer, SentErrand, Telling, code_of, first_place, index_of}
 use Rattle.usb_shows.specs.Keeping.{Handles}
 use Rattle.usb_kept.specs.Handling.{kept_result, past_kept_blanks, posts}
 use Rattle.usb_kept.specs.Settling.{kept_blanked, kept_withdrawn, leads_kept, resume_kept, settle, withdrawn_results}

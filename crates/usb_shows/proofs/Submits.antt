@@ -17,8 +17,8 @@ use Rattle.usb_lemmas.proofs.Work.Errands.{events-push}
 use Rattle.usb_lemmas.proofs.Shares.OpenShares.{outcome_nothing}
 use Rattle.usb_model.specs.Requests.{length_of}
 use Rattle.usb_kept.specs.Stands.{full_trbs, stand}
-use Rattle.usb_shows.specs.Showing.{AllKept, FirstPaused, FrontKnown, InRow, IsKept, ShowsEnd, count, front, front_of, known_by, pause_told, tail_told, telling_of, told_by, told_of}
-use Rattle.usb_kept.specs.Kept.{KeptEndpoint, KeptTransfer, SentErrand, Telling, Completion, code_of, first_place, index_of, trbs_of, is_extra}
+use Rattle.usb_shows.specs.Showing.{AllKept, FirstPaused, FrontKnown, IsKept, ShowsEnd, count, front, front_of, known_by, pause_told, tail_told, telling_of, told_by, told_of}
+use Rattle.usb_kept.specs.Kept.{Completion, InRow, KeptEndpoint, KeptTransfer, SentErrand, Telling, code_of, first_place, index_of, is_extra, trbs_of}
 use Rattle.usb_kept.specs.Joining.{joined, new_kept}
 use Rattle.usb_shows.proofs.Fronts.{none_moved, starts}
 

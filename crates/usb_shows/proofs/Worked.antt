@@ -19,10 +19,11 @@ use Rattle.usb_model.specs.World.{World, holder, is_its, new_world, turn, world_
 use Rattle.usb_model.specs.Coherence.{IsCoherent, IsPhase, ended, move_ran, move_waits, reset_ran, reset_waits, runs, served_events, stop_failed, stop_ran, stop_ran_paused, stop_waits, stop_waits_halted}
 use Rattle.usb_lemmas.proofs.Handles.Isolation.{gone_stays}
 use Rattle.usb_lemmas.proofs.Lists.Pieces.{same_name}
-use Rattle.usb_shows.specs.Showing.{AllFew, ShowsEnd}
+use Rattle.usb_shows.specs.Showing.{AllFew, ShowsEnd, StandsNear, is_stale}
 use Rattle.usb_kept.specs.Kept.{KeptEndpoint, SentErrand, Telling}
 use Rattle.usb_shows.specs.Shows.{At, Core, InRun, Report, Shows, at, errands, event_at, events, news_of, order_at, order_of, ring_event, ring_order, tellings, under_way}
 use Rattle.usb_shows.specs.Stepping.{Work, posted_by, worked}
+use Rattle.usb_shows.proofs.Ahead.{fresh_near}
 use Rattle.usb_shows.proofs.Counts.{NoEnds, as_many, errands_added, events_reported, reports, tellings_reported}
 use Rattle.usb_shows.proofs.Placing.{at_here, at_other, held_past, held_put, is_first_at, past-map, past_other, put}
 
@@ -71,6 +72,7 @@ pub record Works (setup : Setup) (w : World) (c : Core) (s : Shows setup w c) (h
   pub coherent : IsCoherent d.endpoint (errands (at dev ep (orders_left s step)) ++ d.orders) (events (at dev ep (news_left s step)) ++ d.news)
   pub shows : ShowsEnd (packet_size_of setup dev ep) d.endpoint (errands (at dev ep (orders_left s step)) ++ d.orders) (events (at dev ep (news_left s step)) ++ d.news) k.endpoint (at dev ep (orders_left s step) ++ k.sent) (tellings (at dev ep (news_left s step)) ++ k.told)
   pub few : AllFew k.endpoint.line
+  pub near : is_stale d.endpoint.state d.endpoint.errand (errands (at dev ep (orders_left s step)) ++ d.orders) ≡ true → StandsNear k.endpoint (tellings (at dev ep (news_left s step)) ++ k.told)
   pub first : ℕ
   pub in_run : InRun first (under_way (past_first (takes_news step) c.events ++ map (event_at dev ep) k.told) (past_first (takes_order step) c.orders ++ map (order_at dev ep) k.sent)) (posted_by k.sent c.posted)
 
@@ -142,15 +144,24 @@ work_shows setup w c s h dev ep step handle d k works = (
     later : World
     later = world_after setup h w step (at_endpoint handle dev ep d)
 
+    new_told : tellings (at dev ep new_news) ≡ tellings (at dev ep old_news) ++ k.told
+    new_told = ap tellings (at_here h dev ep old_news told) ∙ (map-append (λ x. x.telling) (at dev ep old_news) told ∙ ap (λ l. tellings (at dev ep old_news) ++ l) same_told)
+
+    here_near : StandsNear k.endpoint (tellings (at dev ep new_news))
+    here_near = subst (StandsNear k.endpoint) (sym new_told) (by_stale (is_stale d.endpoint.state d.endpoint.errand (errands (at dev ep old_orders) ++ d.orders)) refl)
+      where
+        by_stale : (t : Bool) → is_stale d.endpoint.state d.endpoint.errand (errands (at dev ep old_orders) ++ d.orders) ≡ t → StandsNear k.endpoint (tellings (at dev ep old_news) ++ k.told)
+        by_stale true stale = works.near stale
+        by_stale false fresh = fresh_near _ d.endpoint _ _ k.endpoint _ _ works.coherent works.shows fresh
+
     here_shows : ShowsEnd (packet_size_of setup dev ep) d.endpoint (errands (at dev ep new_orders)) (events (at dev ep new_news)) k.endpoint (at dev ep new_orders) (tellings (at dev ep new_news))
     here_shows =
         let os : at dev ep new_orders ≡ at dev ep old_orders ++ k.sent = at_here h dev ep old_orders k.sent in
         let ns : at dev ep new_news ≡ at dev ep old_news ++ told = at_here h dev ep old_news told in
         let os' : errands (at dev ep new_orders) ≡ errands (at dev ep old_orders) ++ d.orders = ap errands os ∙ (map-append (λ x. x.errand) (at dev ep old_orders) k.sent ∙ ap (λ l. errands (at dev ep old_orders) ++ l) same_orders) in
         let ns' : events (at dev ep new_news) ≡ events (at dev ep old_news) ++ d.news = ap events ns ∙ (map-append (λ x. x.event) (at dev ep old_news) told ∙ ap (λ l. events (at dev ep old_news) ++ l) same_events) in
-        let ts : tellings (at dev ep new_news) ≡ tellings (at dev ep old_news) ++ k.told = ap tellings ns ∙ (map-append (λ x. x.telling) (at dev ep old_news) told ∙ ap (λ l. tellings (at dev ep old_news) ++ l) same_told) in
         subst₂ (λ a b. ShowsEnd (packet_size_of setup dev ep) d.endpoint a b k.endpoint (at dev ep new_orders) (tellings (at dev ep new_news))) (sym os') (sym ns')
-        (subst₂ (λ a b. ShowsEnd (packet_size_of setup dev ep) d.endpoint (errands (at dev ep old_orders) ++ d.orders) (events (at dev ep old_news) ++ d.news) k.endpoint a b) (sym os) (sym ts) works.shows)
+        (subst₂ (λ a b. ShowsEnd (packet_size_of setup dev ep) d.endpoint (errands (at dev ep old_orders) ++ d.orders) (events (at dev ep old_news) ++ d.news) k.endpoint a b) (sym os) (sym new_told) works.shows)
 
     other_shows : (g a e : ℕ) → ((dev == a) && (ep == e)) ≡ false → holder setup w.claims a e ≡ Some g
         → ShowsEnd (packet_size_of setup a e) (w.endpoints a e) (errands (at a e new_orders)) (events (at a e new_news)) (c.endpoints a e) (at a e new_orders) (tellings (at a e new_news))
@@ -168,6 +179,14 @@ work_shows setup w c s h dev ep step handle d k works = (
         let same_ep : ep ≡ e = eqb-true ep e p.1 in
         let its : is_its h (holder setup w.claims a e) ≡ true = ap (is_its h) (subst₂ (λ x y. holder setup w.claims x y ≡ Some h) same_dev same_ep works.holds) ∙ same_name h in
         rw its (subst₂ (λ x y. ShowsEnd (packet_size_of setup x y) d.endpoint (errands (at x y new_orders)) (events (at x y new_news)) k.endpoint (at x y new_orders) (tellings (at x y new_news))) same_dev same_ep here_shows)
+
+    nears : (g a e : ℕ) (b : Bool) → ((dev == a) && (ep == e)) ≡ b → holder setup w.claims a e ≡ Some g → StandsNear (if b then k.endpoint else c.endpoints a e) (tellings (at a e new_news))
+    nears g a e false other holds =
+        let ns : at a e new_news ≡ at a e s.news = at_other h dev ep a e old_news told other ∙ past_other (takes_news step) dev ep a e s.news works.first_news other in
+        subst (λ l. StandsNear (c.endpoints a e) (tellings l)) (sym ns) (s.near g a e holds)
+    nears g a e true same holds =
+        let p = and_parts (dev == a) (ep == e) same in
+        subst₂ (λ x y. StandsNear k.endpoint (tellings (at x y new_news))) (eqb-true dev a p.0) (eqb-true ep e p.1) here_near
 
     fews : (b : Bool) (a e : ℕ) → AllFew (if b then k.endpoint else c.endpoints a e).line
     fews true a e = works.few
@@ -195,5 +214,6 @@ work_shows setup w c s h dev ep step handle d k works = (
       first = works.first;
       in_run = works.in_run;
       few = λ a e. fews ((dev == a) && (ep == e)) a e;
+      near = λ g a e holds. nears g a e ((dev == a) && (ep == e)) refl holds;
       endpoints = λ g a e holds. each g a e ((dev == a) && (ep == e)) refl holds;
     }

@@ -1,8 +1,9 @@
 -- The theorems, as the contracts of src/laws.rt name them.
-use Rattle.std.specs.Prelude.{◌≡◌, ℕ, ◌*◌, ◌<◌, ◌≤◌, None, Bool, true, false, List, [], ◌∷◌, ◌++◌, length, Some}
+use Rattle.std.specs.Prelude.{◌≡◌, ℕ, ◌+◌, ◌*◌, ◌<◌, ◌≤◌, None, Bool, true, false, List, [], ◌∷◌, ◌++◌, length, Some, ◌⊎◌}
 use Rattle.std.specs.List.{list_all}
 use Rattle.usb_model.specs.declared.errand.Errand.{Errand}
 use Rattle.usb_model.specs.declared.endpoint.Endpoint.{Endpoint}
+use Rattle.usb_model.specs.declared.endpoint.EndpointState.TheVariants.{Running}
 use Rattle.usb_model.specs.declared.item.Ask.{Ask}
 use Rattle.usb_model.specs.declared.item.Item.{Item}
 use Rattle.usb_model.specs.declared.news.Event.{Event}
@@ -18,17 +19,17 @@ use Rattle.usb_model.specs.Setup.{Setup}
 use Rattle.usb_model.specs.declared.step.Step.{Step}
 use Rattle.usb_model.specs.declared.step.Step.TheVariants.{Command, Deliver, Serve, Take, Unplug}
 use Rattle.usb_model.specs.Machine.Turns.{gone_after, unplug_reply}
-use Rattle.usb_model.specs.World.{World, machine_of, new_world, world_from}
+use Rattle.usb_model.specs.World.{World, holder, machine_of, new_world, world_from}
 use Rattle.usb_shows.specs.Lively.{IsLively, ends_of}
-use Rattle.usb_shows.specs.Shows.{Core, Shows}
+use Rattle.usb_shows.specs.Shows.{Core, Shows, under_way}
 use Rattle.usb_shows.specs.Stepping.{StepsTo, command_core, deliver_core, new_core, serve_core, take_core}
 use Rattle.usb_model.specs.Coherence.{IsCoherent}
 use Rattle.usb_kept.specs.Stands.{read_off, residual, stand, total}
-use Rattle.usb_kept.specs.Kept.{KeptEndpoint, Completion, SentErrand, Telling, Transfer, code_of, index_of}
+use Rattle.usb_kept.specs.Kept.{KeptEndpoint, KeptTransfer, Completion, SentErrand, Telling, Transfer, code_of, first_place, index_of}
 use Rattle.usb_shows.specs.Showing.{IsOrderly, ShowsEnd}
 use Rattle.usb_shows.specs.Keeping.{Handles, Serves, Carries}
-use Rattle.usb_kept.specs.Handling.{Reading, finish, reading}
-use Rattle.usb_kept.specs.Serving.{serve_kept}
+use Rattle.usb_kept.specs.Handling.{Reading, find_at, finish, reading}
+use Rattle.usb_kept.specs.Serving.{sent_before, serve_kept}
 use Rattle.usb_kept.specs.Commanding.{carry}
 use Rattle.usb_kept.specs.Settling.{pauses, settle}
 use Rattle.usb_kept.specs.Joining.{asked, joined}
@@ -101,3 +102,22 @@ FewEverywhere setup = (w : World) (c : Core) → Shows setup w c → (length c.e
 -- each endpoint that a handle has in a world that can be reached is orderly, and its transfers and answers go in its direction
 abbrev pub LivelyAll : Setup → Type 0
 LivelyAll setup = (steps : List Step) (h d ep : ℕ) (e : Endpoint) → (machine_of setup h (world_from setup (new_world setup) steps)).endpoints d ep ≡ Some e → IsLively setup d ep e
+
+-- a running endpoint's controller stands at the line's end, or in a transfer in progress
+abbrev pub FreshWhileRunning : Setup → Type 0
+FreshWhileRunning setup = (w : World) (c : Core) → Shows setup w c → (h d e : ℕ) → holder setup w.claims d e ≡ Some h → (c.endpoints d e).state ≡ Running
+    → ((c.endpoints d e).dequeue ≡ (c.endpoints d e).end) ⊎ ((y : KeptTransfer) × (find_at (c.endpoints d e).dequeue (c.endpoints d e).line ≡ Some y) × (y.blank ≡ false))
+
+-- of the transfer there no more was read than moved
+abbrev pub ReadsSoFar : Setup → Type 0
+ReadsSoFar setup = (w : World) (c : Core) → Shows setup w c → (h d e : ℕ) → holder setup w.claims d e ≡ Some h → (c.endpoints d e).state ≡ Running → (y : KeptTransfer) → find_at (c.endpoints d e).dequeue (c.endpoints d e).line ≡ Some y
+    → length y.bytes ≤ sent_before (c.endpoints d e) y
+
+-- each endpoint that there is has at most one order or completion under way
+abbrev pub FewUnderWay : Setup → Type 0
+FewUnderWay setup = (w : World) (c : Core) → Shows setup w c → length (under_way c.events c.orders) ≤ length (ends_of setup)
+
+-- in a core that shows a world a held endpoint's line takes at most 80 places, begins at most 5 places behind where the controller stands, and the controller stands at its end or before
+abbrev pub NearEverywhere : Setup → Type 0
+NearEverywhere setup = (w : World) (c : Core) → Shows setup w c → (h d e : ℕ) → holder setup w.claims d e ≡ Some h
+    → ((c.endpoints d e).end ≤ first_place (c.endpoints d e).line (c.endpoints d e).end + 80) × (first_place (c.endpoints d e).line (c.endpoints d e).end ≤ (c.endpoints d e).dequeue + 5) × ((c.endpoints d e).dequeue ≤ (c.endpoints d e).end)

@@ -17,7 +17,7 @@ use Rattle.usb_model.specs.Endpoint.Packets.{count_of, outcome, IsOpenAt}
 use Rattle.usb_model.specs.Endpoint.Deliver.{leads_blank}
 use Rattle.usb_model.specs.Coherence.{served_events}
 use Rattle.usb_kept.specs.Stands.{stand, residual, total}
-use Rattle.usb_kept.specs.Kept.{KeptTransfer, Telling, Transfer, Completion, SentErrand, KeptEndpoint, trbs_of, first_place, code_of, index_of}
+use Rattle.usb_kept.specs.Kept.{InRow, KeptTransfer, Telling, Transfer, Completion, SentErrand, KeptEndpoint, trbs_of, first_place, code_of, index_of}
 
 -- the bytes that a transfer moved
 abbrev pub count : ℕ → Item → ℕ
@@ -45,11 +45,6 @@ AllKept size [] [] = Unit {0}
 AllKept size [] (y ∷ ys) = ⊥
 AllKept size (x ∷ xs) [] = ⊥
 AllKept size (x ∷ xs) (y ∷ ys) = IsKept size x y × AllKept size xs ys
-
--- its transfers stand one behind another, up to the enqueue place
-abbrev pub InRow : List KeptTransfer → ℕ → Type 0
-InRow [] end = Unit {0}
-InRow (y ∷ ys) end = (first_place ys end ≡ y.place + length y.lengths) × InRow ys end
 
 -- the event of a transfer that ended with this code: it points at the TRB of the next byte or empty packet
 abbrev pub telling_of : ℕ → Item → KeptTransfer → ℕ → Telling
@@ -194,3 +189,22 @@ IsFew y = length y.lengths ≤ 5
 
 abbrev pub AllFew : List KeptTransfer → Type 0
 AllFew ys = AllByRecursion IsFew ys
+
+-- an event of a transfer points at this place or before it
+abbrev pub IsBefore : ℕ → Telling → Type 0
+IsBefore p (Transfer place residual code) = place ≤ p
+IsBefore p (Completion index code) = Unit {0}
+
+-- and so does all that is told
+abbrev pub AllBefore : ℕ → List Telling → Type 0
+AllBefore p ts = AllByRecursion (IsBefore p) ts
+
+-- the line begins at most 5 places behind where the controller stands; this stands among the places that were written, and no further back than what is told of it
+pub record IsNear (line : List KeptTransfer) (end dequeue : ℕ) (told : List Telling) : Type 0 where
+  pub near : first_place line end ≤ dequeue + 5
+  pub inside : dequeue ≤ end
+  pub before : AllBefore dequeue told
+
+-- so where the controller of this endpoint stands
+abbrev pub StandsNear : KeptEndpoint → List Telling → Type 0
+StandsNear b told = IsNear b.line b.end b.dequeue told

@@ -12,7 +12,7 @@ use Rattle.usb_model.specs.declared.result.TransferResult.{TransferResult}
 use Rattle.usb_model.specs.declared.shared.Tagged.{Tagged}
 use Rattle.usb_model.specs.Setup.{Setup, packet_size_of}
 use Rattle.usb_model.specs.World.{World, Claims, holder, turn, new_world, world_from}
-use Rattle.usb_shows.specs.Showing.{AllFew, ShowsEnd}
+use Rattle.usb_shows.specs.Showing.{AllFew, ShowsEnd, StandsNear}
 use Rattle.usb_kept.specs.Kept.{Telling, Transfer, Completion, SentErrand, KeptEndpoint}
 
 -- an order as the command ring has it: its endpoint, and the place where it stands, counted without end
@@ -124,6 +124,7 @@ pub record Shows (setup : Setup) (w : World) (c : Core) : Type 0 where
   pub first : ℕ
   pub in_run : InRun first (under_way c.events c.orders) c.posted
   pub few : (d e : ℕ) → AllFew (c.endpoints d e).line
+  pub near : (h d e : ℕ) → holder setup w.claims d e ≡ Some h → StandsNear (c.endpoints d e) (tellings (at d e news))
   pub endpoints : (h d e : ℕ) → holder setup w.claims d e ≡ Some h
       → ShowsEnd (packet_size_of setup d e) (w.endpoints d e) (errands (at d e orders)) (events (at d e news)) (c.endpoints d e) (at d e orders) (tellings (at d e news))
 

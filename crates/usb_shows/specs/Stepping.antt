@@ -2,9 +2,7 @@
 use Rattle.std.specs.Prelude.{◌≡◌, ℕ, suc, ◌==◌, Bool, false, ◌&&◌, List, [], ◌∷◌, ◌++◌, map, is_some, Option, Some, None, if◌then◌else◌}
 use Rattle.std.specs.List.{find}
 use Rattle.std.specs.Option.{option_map}
-use Rattle.usb_model.specs.declared.response.Response.{Response}
 use Rattle.usb_model.specs.declared.entry.Entry.{Entry}
-use Rattle.usb_model.specs.declared.endpoint.EndpointState.TheVariants.{Running}
 use Rattle.usb_model.specs.declared.effect.Change.TheVariants.{Drops, Frees, Gains, Keeps, Renews, Sets}
 use Rattle.usb_model.specs.declared.effect.Change.{Change}
 use Rattle.usb_model.specs.Machine.{unused}
@@ -21,7 +19,7 @@ use Rattle.usb_model.specs.Setup.{Setup, endpoints_of, is_within, script_of, pac
 use Rattle.usb_model.specs.World.Shared.{past_first, tagged}
 use Rattle.usb_model.specs.Machine.Turns.{takes_news, takes_order, takes_result}
 use Rattle.usb_model.specs.World.{World, claims_after, holder, is_its, turn}
-use Rattle.usb_kept.specs.Kept.{KeptEndpoint, SentErrand, Telling}
+use Rattle.usb_kept.specs.Kept.{KeptEndpoint, SentErrand, Telling, new_kept_endpoint}
 use Rattle.usb_kept.specs.Commanding.{Carried, carry}
 use Rattle.usb_kept.specs.Handling.{Handled, Reading, finish, reading}
 use Rattle.usb_kept.specs.Serving.{Answered, serve_kept}
@@ -135,10 +133,6 @@ deliver_first setup c (Completes dev index code ∷ rest) = complete_at setup c 
 
 unfoldable pub deliver_core : Setup → Core → Stepped
 deliver_core setup c = deliver_first setup c c.events
-
--- the ring as after its making, the script from its beginning
-abbrev pub new_kept_endpoint : List Response → KeptEndpoint
-new_kept_endpoint script = record { line = []; end = 0; dequeue = 0; within = 0; state = Running; errand = None; script_left = script; device_halted = false; packets_received = [] }
 
 -- the core as it is made
 abbrev pub new_core : Setup → Core

@@ -1,0 +1,12 @@
+pub mod Trbs
+pub mod Reaches
+pub mod Lines
+pub mod Contents
+pub mod Changes
+pub mod Hosts
+pub mod Where
+pub mod Fronts
+pub mod Goes
+pub mod Pipes
+pub mod Serves
+pub mod Carries

@@ -1,0 +1,4 @@
+pub mod Line
+pub mod Endpoint
+pub mod Told
+pub mod Laws
