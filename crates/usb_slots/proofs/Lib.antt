@@ -1,0 +1,13 @@
+pub mod Ids
+pub mod Lookups
+pub mod Ends
+pub mod Slots
+pub mod Orders
+pub mod Changes
+pub mod Events
+pub mod Hosts
+pub mod Renews
+pub mod Packets
+pub mod Serves
+pub mod Runs
+pub mod Unplugs
