@@ -27,13 +27,13 @@ use Rattle.usb_match.specs.Endpoint.{IsContext, IsFresh}
 use Rattle.usb_match.specs.Laws.{CarriesAs, IsOrder}
 use Rattle.usb_match.specs.Line.{IsLine}
 use Rattle.usb_match.specs.Told.{event_of}
-use Rattle.usb_match.proofs.Changes.{moves_behind}
+use Rattle.usb_match.proofs.Changes.{moves_behind, place_behind_is}
 use Rattle.usb_match.proofs.Contents.{blanks_span, contents_end}
 use Rattle.usb_match.proofs.Fronts.{IsFront, at_front, first_is}
 use Rattle.usb_match.proofs.Goes.{blanks_below, starts_blanks}
 use Rattle.usb_match.proofs.Lines.{none_behind, spans}
 use Rattle.usb_match.proofs.Serves.{same_event, trb_there}
-use Rattle.usb_match.proofs.Where.{place_behind_is, same_address}
+use Rattle.usb_match.proofs.Where.{same_address}
 
 -- an order that fails
 fails : (c : Context) (b : KeptEndpoint) (index : ℕ) (r : Carried) (a : kept.Carried) → IsContext c b → r ≡ record { code = 19; context = c; events = [] } → a ≡ kept.carried false index b [] → CarriesAs c b index r a
@@ -74,6 +74,16 @@ told_with : (c : Context) (commands index code : ℕ) (es : List TrbKind) (ts : 
     → es ++ CommandCompletion (address_of 255 commands index) code c.slot ∷ [] ≡ map (event_of commands c) (ts ++ Completion index code ∷ [])
 told_with c commands index code es ts e = ap (λ (l : List TrbKind). l ++ CommandCompletion (address_of 255 commands index) code c.slot ∷ []) e ∙ sym (map-append (event_of commands c) ts (Completion index code ∷ []))
 
+-- another state is nothing to its ring
+in_state : (c : Context) (b : KeptEndpoint) (s : EndpointState) → IsContext c b → IsContext (record c { state = s }) (record b { state = s })
+in_state c b s is = record {
+  ring = is.ring;
+  runs = refl;
+  partly = is.partly;
+  front = λ z h. let f = is.front z h in record { begun = f.begun; fits = f.fits };
+  rests = is.rests;
+}
+
 stops : (c : Context) (b : KeptEndpoint) (index : ℕ) → IsContext c b → (b.state ≡ Running → IsFresh b) → CarriesAs c b index (stop_in c c.state) (kept.carry index b errand.Stop b.state)
 unfolding kept.carry
 stops c b index is fresh = by_state b.state refl
@@ -85,13 +95,7 @@ stops c b index is fresh = by_state b.state refl
     by_state Running e = to Running e (record {
       code = refl;
       told = λ commands. told_with c commands index 1 (pause_by c (trb_at c 0)) (kept.pause_at b (find_at b.dequeue b.line)) (same_pause c b commands is (fresh e));
-      context = record {
-        ring = is.ring;
-        runs = refl;
-        partly = is.partly;
-        front = λ z h. let f = is.front z h in record { begun = f.begun; fits = f.fits };
-        rests = is.rests;
-      };
+      context = in_state c b Stopped is;
       pipe = λ p q. record { left = q.left; halted = q.halted; taken = q.taken };
     })
     by_state Stopped e = to Stopped e (fails c b index (stop_in c Stopped) (kept.carry index b errand.Stop Stopped) is refl refl)
@@ -108,13 +112,7 @@ resets c b index is = by_state b.state refl
     by_state Halted e = to Halted e (record {
       code = refl;
       told = λ commands. refl;
-      context = record {
-        ring = is.ring;
-        runs = refl;
-        partly = is.partly;
-        front = λ z h. let f = is.front z h in record { begun = f.begun; fits = f.fits };
-        rests = is.rests;
-      };
+      context = in_state c b Stopped is;
       pipe = λ p q. record { left = q.left; halted = q.halted; taken = q.taken };
     })
     by_state Running e = to Running e (fails c b index (reset_in c Running) (kept.carry index b errand.Reset Running) is refl refl)

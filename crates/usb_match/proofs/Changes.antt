@@ -6,7 +6,7 @@ use Rattle.std.proofs.lemmas.Bool.{cases_lt}
 use Rattle.usb_trb.specs.declared.kind.TrbKind.{TrbKind}
 use Rattle.usb_trb.specs.declared.kind.TrbKind.TheVariants.{NoOp}
 use Rattle.usb_kept.specs.Kept.{InRow, KeptTransfer, first_place}
-use Rattle.usb_tring.specs.Line.{Line, all_of, blanked, dropped, moved, moved_behind, pushed}
+use Rattle.usb_tring.specs.Line.{Line, all_of, blanked, dropped, moved, moved_behind, place_behind, pushed}
 use Rattle.usb_match.specs.Line.{AllItems, IsItem, IsLine, in_ring}
 
 -- the controller goes on by n
@@ -25,6 +25,16 @@ moves size l line end dequeue n is le = record {
     by_count some (inl few) = drop_all n l.gone (omega (arith, ap length (is.whole few)))
     by_count some (inr none) = drop_all n l.gone (omega (arith, some, none))
 
+-- the ring's place so many behind its first item's first is that of the line
+pub place_behind_is : (size : ℕ) (l : Line) (line : List KeptTransfer) (end dequeue n : ℕ) → IsLine size l line end dequeue → place_behind l n ≡ in_ring (first_place line end + n)
+place_behind_is size l line end dequeue n is = there (cases_lt 0 l.passed)
+  where
+    there : (0 < l.passed) ⊎ (l.passed ≤ 0) → (l.dequeue + (length l.gone + 254 + n - l.passed)) % 254 ≡ in_ring (first_place line end + n)
+    there (inl some) =
+        let few : l.passed ≤ 126 = omega (arith, is.few, is.between, is.below, ap length (is.whole some)) in
+        omega (arith, is.stands, is.between, few)
+    there (inr none) = omega (arith, is.stands, is.between, none)
+
 -- it goes to the place so many behind the line's first
 pub moves_behind : (size : ℕ) (l : Line) (line : List KeptTransfer) (end dequeue n : ℕ) → IsLine size l line end dequeue → first_place line end + n ≤ end
     → IsLine size (moved_behind l n) line end (first_place line end + n)
@@ -33,16 +43,10 @@ moves_behind size l line end dequeue n is le = record {
   row = is.row;
   below = le;
   few = is.few;
-  stands = there (cases_lt 0 l.passed);
+  stands = place_behind_is size l line end dequeue n is;
   between = omega arith;
   whole = λ some. refl;
 }
-  where
-    there : (0 < l.passed) ⊎ (l.passed ≤ 0) → (l.dequeue + (length l.gone + 254 + n - l.passed)) % 254 ≡ in_ring (first_place line end + n)
-    there (inl some) =
-        let few : l.passed ≤ 126 = omega (arith, is.few, is.between, is.below, ap length (is.whole some)) in
-        omega (arith, is.stands, is.between, few)
-    there (inr none) = omega (arith, is.stands, is.between, none)
 
 -- the first k items leave
 items_drop : (size : ℕ) (ys : List KeptTransfer) (kss : List (List TrbKind)) (k : ℕ) → AllItems size ys kss → AllItems size (drop k ys) (drop k kss)

@@ -1,30 +1,19 @@
 -- Where a line's transfers stand in the ring.
-use Rattle.std.proofs.Common.{◌≡◌, ℕ, zero, suc, ◌+◌, ◌-◌, ◌*◌, ◌%◌, ◌<◌, ◌≤◌, refl, ap, sym, ◌∙◌, arith, List, [], ◌∷◌, length, take, drop, Some, inl, inr, ◌⊎◌}
+use Rattle.std.proofs.Common.{◌≡◌, ℕ, zero, suc, ◌+◌, ◌-◌, ◌*◌, ◌%◌, ◌≤◌, refl, ap, sym, ◌∙◌, arith, List, [], ◌∷◌, length, take, drop, Some}
 use Rattle.std.specs.Prelude.{get_or, slice_get}
-use Rattle.std.proofs.lemmas.Bool.{cases_lt}
 use Rattle.std.proofs.lemmas.Option.{slice_get_within}
 use Rattle.usb_trb.specs.declared.kind.TrbKind.{TrbKind}
 use Rattle.usb_segment.specs.Places.{address_of}
 use Rattle.usb_kept.specs.Kept.{KeptEndpoint, KeptTransfer, first_place}
 use Rattle.usb_kept.specs.Handling.{find_at}
-use Rattle.usb_tring.specs.Line.{IsAt, Line, all_of, place_behind, place_of, places}
+use Rattle.usb_tring.specs.Line.{IsAt, Line, all_of, place_of, places}
 use Rattle.usb_context.specs.Context.{Context}
-use Rattle.usb_match.specs.Line.{AllItems, IsLine, in_ring}
+use Rattle.usb_match.specs.Line.{AllItems, in_ring}
 use Rattle.usb_match.specs.Endpoint.{IsContext}
 use Rattle.usb_match.specs.Laws.{FindsKept}
-use Rattle.usb_match.proofs.Changes.{first_drop}
+use Rattle.usb_match.proofs.Changes.{first_drop, place_behind_is}
 use Rattle.usb_match.proofs.Contents.{in_use}
 use Rattle.usb_match.proofs.Lines.{Found, finds}
-
--- the ring's place so many behind its first item's first is that of the line
-pub place_behind_is : (size : ℕ) (l : Line) (line : List KeptTransfer) (end dequeue n : ℕ) → IsLine size l line end dequeue → place_behind l n ≡ in_ring (first_place line end + n)
-place_behind_is size l line end dequeue n is = there (cases_lt 0 l.passed)
-  where
-    there : (0 < l.passed) ⊎ (l.passed ≤ 0) → (l.dequeue + (length l.gone + 254 + n - l.passed)) % 254 ≡ in_ring (first_place line end + n)
-    there (inl some) =
-        let few : l.passed ≤ 126 = omega (arith, is.few, is.between, is.below, ap length (is.whole some)) in
-        omega (arith, is.stands, is.between, few)
-    there (inr none) = omega (arith, is.stands, is.between, none)
 
 -- a place of the ring has the same address as without end
 pub same_address : (base p : ℕ) → address_of places base (in_ring p) ≡ address_of places base p
