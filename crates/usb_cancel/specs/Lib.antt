@@ -1,2 +1,3 @@
 pub mod Orders
+pub mod Outstanding
 pub mod Settlements

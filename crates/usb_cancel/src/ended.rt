@@ -7,8 +7,8 @@ ghost use Rattle.usb_cancel.specs.Settlements.{fails_stop, leading, mark_of, res
 
 use usb_model::Errand;
 
-/// What errands read of a transfer in its endpoint's line.
-#[derive(Clone, Copy, PartialEq, Eq, Debug)]
+/// What errands read of a transfer in its endpoint's line; by default it is neither blank nor asked to end.
+#[derive(Clone, Copy, PartialEq, Eq, Debug, Default)]
 pub struct Mark {
     /// It was withdrawn before: its TRBs are No Ops.
     pub blank: bool,

@@ -7,8 +7,10 @@
 
 mod ended;
 mod order;
+mod outstanding;
 #[cfg(test)]
 mod tests;
 
 pub use ended::{Mark, Settlement, settle};
 pub use order::{ask, next_order};
+pub use outstanding::{Outstanding, Sent};

@@ -1,8 +1,8 @@
 //! Errands in their turn.
 
-use crate::{Mark, Settlement, ask, next_order, settle};
+use crate::{Mark, Outstanding, Sent, Settlement, ask, next_order, settle};
 use std::test::*;
-use usb_model::Errand;
+use usb_model::{DeviceNo, EpAddr, Errand};
 
 const WAITS: Mark = Mark {
     blank: false,
@@ -18,6 +18,10 @@ const BLANK: Mark = Mark {
     blank: true,
     asked: true,
 };
+
+fn device(number: u8) -> Result<DeviceNo, Fail> {
+    Ok(DeviceNo::new(number).ok_or("a device")?)
+}
 
 #[test]
 fn one_errand_at_a_time(rt: HostRuntime) -> Result<(), Fail> {
@@ -38,5 +42,24 @@ fn an_ask_while_move_is_outstanding_is_heard_at_its_end(rt: HostRuntime) -> Resu
         next: Some(Errand::Move),
     };
     assert!(rt; settlement == wanted);
+    Ok(())
+}
+
+#[test]
+fn an_errand_is_found_at_its_endpoint_alone(rt: HostRuntime) -> Result<(), Fail> {
+    let (one, other) = (device(1)?, device(2)?);
+    let sent = Sent {
+        errand: Errand::Stop,
+        index: 254,
+    };
+    let mut outstanding = Outstanding::new(rt.alloc())?;
+    outstanding.set(one, EpAddr::new(0x81), Some(sent));
+    assert!(rt; outstanding.get(one, EpAddr::new(0x81)) == Some(sent));
+    assert!(rt; outstanding.get(one, EpAddr::new(0x01)).is_none());
+    assert!(rt; outstanding.get(other, EpAddr::new(0x81)).is_none());
+    assert!(rt; outstanding.with_index(one, 254) == Some(3));
+    assert!(rt; outstanding.with_index(one, 0).is_none());
+    assert!(rt; outstanding.with_index(other, 254).is_none());
+    assert!(rt; Mark::default().asked == WAITS.asked);
     Ok(())
 }

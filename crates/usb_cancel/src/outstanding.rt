@@ -1,0 +1,102 @@
+//! The errands that are outstanding at each endpoint of each device.
+
+ghost use Rattle.std.specs.Prelude.{◌≡◌, ℕ, ◌<◌, IfOk, IfSome, None, length, position, slice_set};
+ghost use Rattle.usb_cancel.specs.Outstanding.{cells_of, has_index, lane, sent_at};
+
+use std::alloc::{AllocError, Global};
+use std::marker::Model;
+use usb_model::{DeviceNo, EpAddr, Errand};
+
+/// An errand that is outstanding.
+#[derive(Clone, Copy, PartialEq, Eq, Debug)]
+pub struct Sent {
+    /// What the controller was asked to do.
+    pub errand: Errand,
+    /// The index of its order in the command ring, 0 to 254.
+    pub index: usize,
+}
+
+/// The errand that is outstanding, or none, for each device, 0 to 3, and each endpoint id, 0 to 31 (xHCI 1.2, 4.5.1);
+/// contracts see the list of them, and read it by `sent_at`.
+#[derive(Drop)]
+pub struct Outstanding {
+    cells: Vec<Option<Sent>>,
+}
+
+impl Model for Outstanding {
+    ghost use Rattle.std.specs.Prelude.{◌≡◌, List, Option, length};
+    ghost use Rattle.usb_cancel.specs.declared.outstanding.Sent.{Sent};
+
+    ghost Value = { List (Option Sent) };
+
+    ghost view = { λ t. t.cells.items };
+
+    ghost invariant = { λ t. length t.cells.items ≡ 128 };
+}
+
+/// Whether this is an errand whose order has this index.
+fn has_index(cell: Option<Sent>, index: usize) -> bool
+    ensures { result ≡ has_index index cell }
+{
+    match cell {
+        Some(sent) => sent.index == index,
+        None => false,
+    }
+}
+
+/// Where the errand of a device's endpoint stands.
+fn lane(dev: DeviceNo, ep: EpAddr) -> usize
+    ensures value { result ≡ lane dev ep }
+    ensures within { result < 128 }
+{
+    32 * usize::from(dev.number()) + usize::from(ep.id())
+}
+
+/// The place of the first errand whose order has this index.
+fn first_with(cells: &[Option<Sent>], index: usize) -> Option<usize>
+    ensures value { result ≡ position (has_index index) cells.now }
+    ensures within { IfSome result (λ id. id < length cells.now) }
+{
+    cells.iter().position(|cell| has_index(*cell, index))
+}
+
+impl Outstanding {
+    /// No errand is outstanding.
+    pub fn new(alloc: Global) -> Result<Outstanding, AllocError>
+        ensures none { IfOk result (λ t. (d e : ℕ) → sent_at t d e ≡ None) }
+        ensures whole { IfOk result (λ t. length t ≡ 128) }
+    {
+        let mut cells = Vec::with_capacity(alloc, 128)?;
+        for _ in 0..128_usize {
+            cells.push(None)?;
+        }
+        Ok(Outstanding { cells })
+    }
+
+    /// The errand that is outstanding at a device's endpoint.
+    pub fn get(&self, dev: DeviceNo, ep: EpAddr) -> Option<Sent>
+        ensures { result ≡ sent_at self.now dev ep }
+    {
+        self.cells[lane(dev, ep)]
+    }
+
+    /// This errand is outstanding at a device's endpoint, or none.
+    pub fn set(&mut self, dev: DeviceNo, ep: EpAddr, sent: Option<Sent>)
+        ensures written { self.new ≡ slice_set self.old (lane dev ep) sent }
+        ensures found { sent_at self.new dev ep ≡ sent }
+        ensures whole { length self.new ≡ 128 }
+    {
+        self.cells[lane(dev, ep)] = sent;
+    }
+
+    /// The id, 0 to 31, of the endpoint of a device whose errand has the order of this index: the least, where there are more.
+    pub fn with_index(&self, dev: DeviceNo, index: usize) -> Option<u8>
+        ensures value { result ≡ position (has_index index) (cells_of self.now dev) }
+        ensures below { IfSome result (λ id. id < 32) }
+        ensures whole { length self.now ≡ 128 }
+    {
+        let first = 32 * usize::from(dev.number());
+        let cells = &self.cells[first..first + 32];
+        Some(first_with(cells, index)? as u8)
+    }
+}
