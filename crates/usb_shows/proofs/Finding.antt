@@ -37,6 +37,7 @@ pub record Found (size : ℕ) (xs : List Item) (ys : List KeptTransfer) (end n c
   pub at : p ≡ pointer size x y
   pub state : x.state ≡ Served code
   pub number : x.n ≡ n
+  pub blank : y.blank ≡ false
   pub live : IsLive size x y
   pub some : 0 < length y.lengths
   pub item : in_progress n xs ≡ Some x
@@ -143,6 +144,7 @@ finds size (x ∷ xs) (y ∷ ys) end n code es k row f e = by_state x.state refl
           at = refl;
           state = st ∙ ap Served same;
           number = is;
+          blank = k.0.blank ∙ ap is_blank_state st;
           live = live;
           some = k.0.some;
           item = rw it refl;
@@ -165,6 +167,7 @@ finds size (x ∷ xs) (y ∷ ys) end n code es k row f e = by_state x.state refl
           at = r.at;
           state = r.state;
           number = r.number;
+          blank = r.blank;
           live = r.live;
           some = r.some;
           item = rw it r.item;

@@ -214,6 +214,7 @@ pub record FinishedShows (size ep : ℕ) (gone : Bool) (next : ℕ) (e : Endpoin
   pub found : Reading
   pub event : t ≡ Transfer p r code
   pub read : reading b.line p r ≡ Some found
+  pub live : found.kept.blank ≡ false
   pub handles : Handles size (deliver size ep gone e (Finished n code)) (finish gone next b p code found) os ns sent told
 
 pub finished_shows : (size ep : ℕ) (gone : Bool) (next : ℕ) (e : Endpoint) (os : List Errand) (ns : List Event) (b : KeptEndpoint) (sent : List SentErrand) (t : Telling) (told : List Telling) (n code : ℕ)
@@ -229,5 +230,6 @@ finished_shows size ep gone next e os ns b sent t told n code c s =
       found = record { kept = f.y; actual = count size f.x };
       event = split.0 ∙ ap (λ q. Transfer q (residual f.y.lengths (count size f.x)) code) (sym f.at);
       read = reads_at size b.line f.x f.y f.p f.live f.some f.at f.found;
+      live = f.blank;
       handles = finish_handles size ep gone next e os ns b sent t told n code c s fe f split.1;
     }

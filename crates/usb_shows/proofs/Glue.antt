@@ -43,6 +43,7 @@ use Rattle.usb_shows.proofs.Near.{carry_few, serve_few}
 use Rattle.usb_shows.proofs.Lives.{first_each}
 use Rattle.usb_shows.proofs.Placing.{first_here, is_first_at}
 use Rattle.usb_shows.proofs.Serves.{serve_shows}
+use Rattle.usb_shows.proofs.Sizes.{waits_sized}
 use Rattle.usb_shows.proofs.Tells.{packet_told, pause_told_if_open}
 use Rattle.usb_shows.proofs.Worked.{work_shows}
 
@@ -102,7 +103,7 @@ serve_held_steps setup w c fine s dev ep h holds =
     let world_of = s.endpoints h dev ep holds in
     let served : Serves size (serve size (c.gone dev) e) (serve_kept size (c.gone dev) (c.endpoints dev ep)) (errands (at dev ep s.orders)) (events (at dev ep s.news)) (at dev ep s.orders) (tellings (at dev ep s.news)) =
     serve_shows size (c.gone dev) e _ _ (c.endpoints dev ep) _ _ k.fit.coherent world_of k.lively.orderly.behind
-    (packet_told size (is_in ep) e (c.endpoints dev ep) k.size k.lively.orderly.opens k.lively.orderly.stalls world_of.device_halted (λ x first. first_each (goes (is_in ep)) e.line x k.lively.bodies first) k.lively.kinds) in
+    (λ x y first. packet_told size (is_in ep) e (c.endpoints dev ep) (waits_sized size e x k.lively.sized first) k.lively.orderly.opens k.lively.orderly.stalls world_of.device_halted (λ i is. first_each (goes (is_in ep)) e.line i k.lively.bodies is) k.lively.kinds x y first) in
     work_shows setup w c s h dev ep (Serve dev ep) (c.names h) (serve size (c.gone dev) e) (answer_work (serve_kept size (c.gone dev) (c.endpoints dev ep)))
     (record {
       turns = turn_works setup w h dev ep (Serve dev ep) (c.names h) (serve size (c.gone dev) e) holds
@@ -204,7 +205,7 @@ command_held_steps setup w c x xs fine s is =
     let k : IsKnown setup w h dev ep (errands (x.what ∷ at dev ep xs)) (events (at dev ep s.news)) = subst (λ l. IsKnown setup w h dev ep (errands l) (events (at dev ep s.news))) first (known setup w c s fine h dev ep holds) in
     let world_of : ShowsEnd size e (errands (x.what ∷ at dev ep xs)) (events (at dev ep s.news)) b (x.what ∷ at dev ep xs) (tellings (at dev ep s.news)) = subst (λ l. ShowsEnd size e (errands l) (events (at dev ep s.news)) b l (tellings (at dev ep s.news))) first (s.endpoints h dev ep holds) in
     let carried : Carries size ep o (command size ep e o e.state) (carry x.what.index b o b.state) (errands (at dev ep xs)) (events (at dev ep s.news)) (at dev ep xs) (tellings (at dev ep s.news)) =
-    (command_shows size ep e o (errands (at dev ep xs)) (events (at dev ep s.news)) b x.what (at dev ep xs) (tellings (at dev ep s.news)) k.fit.coherent k.lively.orderly (pause_told_if_open size e k.size k.lively.orderly.opens) world_of).1 in
+    (command_shows size ep e o (errands (at dev ep xs)) (events (at dev ep s.news)) b x.what (at dev ep xs) (tellings (at dev ep s.news)) k.fit.coherent k.lively.orderly (λ y first. pause_told_if_open size e (waits_sized size e y k.lively.sized first) k.lively.orderly.opens y first) world_of).1 in
     let tells : Completed dev ep x.what.index (carry x.what.index b o b.state) = carry_tells dev ep x.what.index b o b.state in
     let pieces : m.orders ≡ record { ep = ep; errand = o } ∷ pieces_of h (map order_of xs) = (machine_parts setup h w).1 ∙ (ap (pieces_of h) (s.orders_shown ∙ ap (map order_of) is) ∙ rw (same_name h) refl) in
     let same : device_of m ≡ dev = ap (λ o. unwrap_or o 0) (ap (λ x. x.device) (machine_parts setup h w).0 ∙ k.device) in

@@ -14,6 +14,7 @@ pub mod Budget
 pub mod Renewed
 pub mod InRun
 pub mod Orderly
+pub mod Sizes
 pub mod Lives
 pub mod Placing
 pub mod Counts

@@ -1,5 +1,5 @@
 -- What is known of the endpoints of a world that a core shows: each held one fits what waits for it, and is lively.
-use Rattle.std.proofs.Common.{Bool, List, Some, [], ap, ap₂, false, map, refl, subst, subst₂, sym, true, ℕ, ◌&&◌, ◌<◌, ◌==◌, ◌∙◌, ◌∷◌, ◌≡◌}
+use Rattle.std.proofs.Common.{Bool, List, Some, [], ap, ap₂, false, map, refl, subst, subst₂, sym, true, ℕ, ◌&&◌, ◌==◌, ◌∙◌, ◌∷◌, ◌≡◌}
 use Rattle.std.specs.Prelude.{if◌then◌else◌, option_and_then}
 use Rattle.std.specs.List.{filter}
 use Rattle.std.proofs.lemmas.Bool.{and_parts, eq-eqb, eqb-true}
@@ -12,7 +12,7 @@ use Rattle.usb_model.specs.declared.news.News.{News}
 use Rattle.usb_model.specs.declared.order.Order.{Order}
 use Rattle.usb_model.specs.declared.step.Step.{Step}
 use Rattle.usb_model.specs.Machine.{at_endpoint, endpoint_at}
-use Rattle.usb_model.specs.Setup.{Setup, packet_size_of}
+use Rattle.usb_model.specs.Setup.{Setup}
 use Rattle.usb_model.specs.World.Shared.{pieces_of}
 use Rattle.usb_model.specs.Machine.Turns.{effect}
 use Rattle.usb_model.specs.World.{Claims, World, holder, is_blocked, is_its, machine_of, owner_of, turn, turn_by, world_after}
@@ -71,7 +71,6 @@ pub record IsKnown (setup : Setup) (w : World) (h d e : ℕ) (os : List Errand) 
   pub device : (w.names h).device ≡ Some d
   pub fit : IsFit (w.endpoints d e) os ns
   pub lively : IsLively setup d e (w.endpoints d e)
-  pub size : 0 < packet_size_of setup d e
 
 -- the handle and the lists of a machine
 pub machine_parts : (setup : Setup) (h : ℕ) (w : World)
@@ -106,13 +105,11 @@ known setup w c s fine h d e holds =
     let device : (w.names h).device ≡ Some d = has_device setup w h d e sound.well holds in
     let end : (machine_of setup h w).endpoints d e ≡ Some (w.endpoints d e) = has_end setup w h d e holds in
     let lists = its_lists setup w c s fine h d e holds in
-    let held = sound.well.of_held d e (w.endpoints d e) end in
     record {
       end = end;
       device = device;
       fit = subst₂ (λ x y. IsFit (w.endpoints d e) x y) lists.0 lists.1 (fit_at setup (machine_of setup h w) e (w.endpoints d e) sound.well (end_there setup w h d e device holds));
       lively = sound.lively d e (w.endpoints d e) end;
-      size = fine.sizes d e held.0 held.1;
     }
 
 -- a turn of work at an endpoint

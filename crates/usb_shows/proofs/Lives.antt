@@ -1,5 +1,5 @@
 -- What more holds of an endpoint, over every run: each endpoint of a machine is orderly, its transfers and its device's answers go in its direction.
-use Rattle.std.proofs.Common.{Bool, List, None, Option, Some, [], false, inl, inr, map, refl, subst, suc, sym, true, zero, ℕ, ◌&&◌, ◌<◌, ◌==◌, ◌∷◌, ◌≡◌}
+use Rattle.std.proofs.Common.{Bool, List, None, Option, Some, [], ap, false, inl, inr, map, refl, subst, suc, sym, true, zero, ℕ, ◌&&◌, ◌==◌, ◌∷◌, ◌≡◌}
 use Rattle.std.specs.Prelude.{if◌then◌else◌, length, drop}
 use Rattle.std.specs.List.{list_all, AllByRecursion}
 use Rattle.std.specs.Option.{option_map}
@@ -32,7 +32,8 @@ use Rattle.usb_model.specs.Endpoint.Deliver.{blanked, deliver, finished_result, 
 use Rattle.usb_model.specs.Endpoint.{first_waiting, fresh, is_waiting, in_progress, past_blanks, past_number, new_item, outcome_of}
 use Rattle.usb_model.specs.Machine.{Machine, device_of, at_endpoint, endpoint_at, is_gone, new_machine}
 use Rattle.usb_model.specs.Endpoint.Serve.{next_answer, serve, serve_by, serve_first, serve_gone}
-use Rattle.usb_model.specs.Setup.{Setup, is_in, is_within, packet_size_of}
+use Rattle.usb_model.specs.Requests.{is_unsupported}
+use Rattle.usb_model.specs.Setup.{Setup, is_in, is_within, kind_of, packet_size_of}
 use Rattle.usb_model.specs.Endpoint.Status.{halts}
 use Rattle.usb_model.specs.Machine.Turns.{effect, ends_after, machine_after}
 use Rattle.usb_model.specs.World.{World, machine_of, new_world, turn, world_from}
@@ -47,10 +48,11 @@ use Rattle.usb_account.proofs.Machines.Done.{is_done}
 use Rattle.usb_account.proofs.Machines.Idle.{at_device_of}
 use Rattle.usb_account.proofs.Machines.Well.{fit_at, first_news, first_order, well_kept, well_new}
 use Rattle.usb_shows.specs.Keeping.{outcome_now}
-use Rattle.usb_shows.specs.Lively.{IsFine, IsLively, goes}
+use Rattle.usb_shows.specs.Lively.{IsFine, IsLively, IsSized, goes}
 use Rattle.usb_shows.proofs.Orderly.Serves.{answer_goes, orderly_serve}
 use Rattle.usb_shows.proofs.Orderly.Lines.{each_blanks, each_first, each_map, each_number, each_push}
 use Rattle.usb_shows.proofs.Orderly.Works.{orderly_ask, orderly_cleared, orderly_command, orderly_deliver, orderly_fresh, orderly_submit}
+use Rattle.usb_shows.proofs.Sizes.{asked_sized, ordered_sized, served_sized, submits_supported, told_sized, waits_sized}
 use Rattle.usb_lemmas.proofs.Shares.Next.{good_body}
 
 -- the first that waits is one of the line
@@ -164,46 +166,58 @@ deliver_goes inward size ep gone e event a k = by_event event
 
 fresh_lively : (setup : Setup) (d e : ℕ) → IsFine setup → IsLively setup d e (fresh setup d e)
 unfolding fresh
-fresh_lively setup d e fine = record { orderly = orderly_fresh (packet_size_of setup d e) setup d e; bodies = tt; kinds = fine.kinds d e }
+fresh_lively setup d e fine = record { orderly = orderly_fresh (packet_size_of setup d e) setup d e; bodies = tt; kinds = fine.kinds d e; sized = inr (refl, refl) }
 
-ask_lively : (setup : Setup) (d ep : ℕ) (e : Endpoint) (n : ℕ) (ask : Ask) → IsLively setup d ep e → IsLively setup d ep (asks e n ask).endpoint
+ask_lively : (setup : Setup) (d ep : ℕ) (e : Endpoint) (n : ℕ) (ask : Ask) (i : Item) → in_progress n e.line ≡ Some i → IsLively setup d ep e → IsLively setup d ep (asks e n ask).endpoint
 unfolding asks
-ask_lively setup d ep e n ask l = record { orderly = orderly_ask (packet_size_of setup d ep) e n ask l.orderly; bodies = each_map (goes (is_in ep)) (with_ask n ask) (asked_goes (is_in ep) n ask) e.line l.bodies; kinds = l.kinds }
+ask_lively setup d ep e n ask i is l = record {
+  orderly = orderly_ask (packet_size_of setup d ep) e n ask l.orderly;
+  bodies = each_map (goes (is_in ep)) (with_ask n ask) (asked_goes (is_in ep) n ask) e.line l.bodies;
+  kinds = l.kinds;
+  sized = inl (asked_sized (packet_size_of setup d ep) e n i l.sized is);
+}
 
 -- each kind of work keeps an endpoint lively
-work_lively : (setup : Setup) (m : Machine) (ep : ℕ) (e : Endpoint) (step : Step) (handle : Handle) (doing : EndpointEffect) → IsFine setup → IsWell setup m → endpoint_at m ep ≡ Some e → IsWork setup m ep e step handle doing
+work_lively : (setup : Setup) (h : ℕ) (m : Machine) (ep : ℕ) (e : Endpoint) (step : Step) (handle : Handle) (doing : EndpointEffect) → IsFine setup → IsWell setup m → endpoint_at m ep ≡ Some e → IsWork setup m ep e step handle doing → (effect setup h m step).reply ≡ doing.reply
     → IsLively setup (device_of m) ep e → IsLively setup (device_of m) ep doing.endpoint
-work_lively setup m ep e step handle doing fine well here (serves dev) l =
-    let held = well.of_held (device_of m) ep e (at_device_of m ep e here).0 in
-    let some : 0 < packet_size_of setup (device_of m) ep = fine.sizes (device_of m) ep held.0 held.1 in
+work_lively setup h m ep e step handle doing fine well here (serves dev) says l =
     let g = serve_goes (packet_size_of setup (device_of m) ep) (is_in ep) (is_gone m) e l.bodies l.kinds in
     record {
       orderly = orderly_serve (packet_size_of setup (device_of m) ep) (is_gone m) e _ _ (fit_at setup m ep e well here).coherent l.orderly
-          (λ x first. answer_goes (packet_size_of setup (device_of m) ep) (is_in ep) e x some l.orderly first (first_each (goes (is_in ep)) e.line x l.bodies first) l.kinds);
+          (λ x first. answer_goes (packet_size_of setup (device_of m) ep) (is_in ep) e x (waits_sized (packet_size_of setup (device_of m) ep) e x l.sized first) l.orderly first (first_each (goes (is_in ep)) e.line x l.bodies first) l.kinds);
       bodies = g.0;
       kinds = g.1;
+      sized = served_sized (packet_size_of setup (device_of m) ep) (is_gone m) e l.sized;
     }
-work_lively setup m ep e step handle doing fine well here (commands o os is) l =
+work_lively setup h m ep e step handle doing fine well here (commands o os is) says l =
     let g = command_goes (is_in ep) (packet_size_of setup (device_of m) ep) ep e o e.state l.bodies l.kinds in
     record {
       orderly = orderly_command (packet_size_of setup (device_of m) ep) ep e o _ _ (subst (λ l. IsCoherent e l (events_of ep m.news)) (first_order ep o m.orders os is).0 (fit_at setup m ep e well here).coherent) l.orderly;
       bodies = g.0;
       kinds = g.1;
+      sized = inl (ordered_sized (packet_size_of setup (device_of m) ep) e o _ _ l.sized (subst (λ l. IsCoherent e l (events_of ep m.news)) (first_order ep o m.orders os is).0 (fit_at setup m ep e well here).coherent));
     }
-work_lively setup m ep e step handle doing fine well here (delivers event ns is) l =
+work_lively setup h m ep e step handle doing fine well here (delivers event ns is) says l =
     let g = deliver_goes (is_in ep) (packet_size_of setup (device_of m) ep) ep (is_gone m) e event l.bodies l.kinds in
     record {
       orderly = orderly_deliver (packet_size_of setup (device_of m) ep) ep (is_gone m) e _ event _ (subst (λ l. IsCoherent e (errands_of ep m.orders) l) (first_news ep event m.news ns is).0 (fit_at setup m ep e well here).coherent) l.orderly;
       bodies = g.0;
       kinds = g.1;
+      sized = inl (told_sized (packet_size_of setup (device_of m) ep) e _ event _ l.sized (subst (λ l. IsCoherent e (errands_of ep m.orders) l) (first_news ep event m.news ns is).0 (fit_at setup m ep e well here).coherent));
     }
-work_lively setup m ep e step handle doing fine well here (asks_it {ask = ask} n i is at free) l = ask_lively setup (device_of m) ep e n ask l
-work_lively setup m ep e step handle doing fine well here (submits {request = request} {round = round} is at good short) l = record {
+work_lively setup h m ep e step handle doing fine well here (asks_it {ask = ask} n i is at free) says l = ask_lively setup (device_of m) ep e n ask i at l
+work_lively setup h m ep e step handle doing fine well here (submits {handle = left} {request = request} {round = round} is at good short) says l = record {
   orderly = orderly_submit (packet_size_of setup (device_of m) ep) e m.handle.next_number request round l.orderly;
   bodies = each_push (goes (is_in ep)) e.line (new_item m.handle.next_number request round) (subst (λ k. IsBody (is_in k) request.body) at (good_body request.ep request.body good)) l.bodies;
   kinds = l.kinds;
+  sized = inl (let held = well.of_held (device_of m) ep e (at_device_of m ep e here).0 in fine.sizes (device_of m) ep held.0 held.1
+      (subst (λ k. is_unsupported (kind_of setup (device_of m) k) ≡ false) at (submits_supported setup h m step left request round m.handle.next_number is says)));
 }
-work_lively setup m ep e step handle doing fine well here (clears g empty) l = record { orderly = orderly_cleared (packet_size_of setup (device_of m) ep) e l.orderly; bodies = l.bodies; kinds = l.kinds }
+work_lively setup h m ep e step handle doing fine well here (clears g empty) says l = record { orderly = orderly_cleared (packet_size_of setup (device_of m) ep) e l.orderly; bodies = l.bodies; kinds = l.kinds; sized = cleared_sized l.sized }
+  where
+    cleared_sized : IsSized (packet_size_of setup (device_of m) ep) e → IsSized (packet_size_of setup (device_of m) ep) (record e { device_halted = false })
+    cleared_sized (inl some) = inl some
+    cleared_sized (inr idle) = inr idle
 
 -- each endpoint of a machine
 abbrev pub AllLively : Setup → Machine → Type 0
@@ -230,13 +244,13 @@ rest_lively setup m (Renews dev) fine s all d ep e is = by_end (m.endpoints d ep
     by_end (Some old) q = subst (IsLively setup d ep) (same_Some (fresh setup d ep) e q) (fresh_lively setup d ep fine)
 rest_lively setup m (Sets dev at x) fine s all d ep e is = absurd s
 
-done_lively : (setup : Setup) (h : ℕ) (m : Machine) (step : Step) (done : Effect) → IsFine setup → IsWell setup m → IsDone setup h m step done → AllLively setup m → AllLively setup (machine_after setup m step done)
+done_lively : (setup : Setup) (h : ℕ) (m : Machine) (step : Step) (done : Effect) → IsFine setup → IsWell setup m → IsDone setup h m step done → done ≡ effect setup h m step → AllLively setup m → AllLively setup (machine_after setup m step done)
 unfolding machine_after at_endpoint
-done_lively setup h m step done fine well (only_rests rest) all d ep e is = rest_lively setup m done.change fine (rest_sets setup h m step done rest).0 all d ep e is
-done_lively setup h m step done fine well (works {handle = handle} {d = doing} at e0 here work) all d ep e is = by_test ((device_of m == d) && (at == ep)) refl is
+done_lively setup h m step done fine well (only_rests rest) same all d ep e is = rest_lively setup m done.change fine (rest_sets setup h m step done rest).0 all d ep e is
+done_lively setup h m step done fine well (works {handle = handle} {d = doing} at e0 here work) same all d ep e is = by_test ((device_of m == d) && (at == ep)) refl is
   where
     new : IsLively setup (device_of m) at doing.endpoint
-    new = work_lively setup m at e0 step handle doing fine well here work (all (device_of m) at e0 (at_device_of m at e0 here).0)
+    new = work_lively setup h m at e0 step handle doing fine well here work (ap (λ (x : Effect). x.reply) (sym same)) (all (device_of m) at e0 (at_device_of m at e0 here).0)
 
     put : (o : Option Endpoint) → device_of m ≡ d → at ≡ ep → option_map (λ old. doing.endpoint) o ≡ Some e → IsLively setup d ep e
     put None p q i = absurd cc
@@ -252,7 +266,7 @@ pub record IsSound (setup : Setup) (m : Machine) : Type 0 where
   pub lively : AllLively setup m
 
 sound_step : (setup : Setup) (h : ℕ) (m : Machine) (step : Step) → IsFine setup → IsSound setup m → IsSound setup (machine_after setup m step (effect setup h m step))
-sound_step setup h m step fine s = record { well = well_kept setup h m step s.well; lively = done_lively setup h m step (effect setup h m step) fine s.well (is_done setup h m step s.well) s.lively }
+sound_step setup h m step fine s = record { well = well_kept setup h m step s.well; lively = done_lively setup h m step (effect setup h m step) fine s.well (is_done setup h m step s.well) refl s.lively }
 
 pub sound_turn : (setup : Setup) (w : World) (step : Step) → IsFine setup → ((h : ℕ) → IsSound setup (machine_of setup h w)) → (h : ℕ) → IsSound setup (machine_of setup h (turn setup w step).world)
 sound_turn setup w step fine s h = by_turn (turn_to setup h w step)

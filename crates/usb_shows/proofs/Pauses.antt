@@ -62,6 +62,7 @@ pub record PausedShows (size ep : ℕ) (gone : Bool) (e : Endpoint) (os : List E
   pub found : Reading
   pub event : t ≡ Transfer p r 26
   pub read : reading b.line p r ≡ Some found
+  pub live : found.kept.blank ≡ false
   pub handles : Handles size (deliver size ep gone e (Paused n)) (pauses b p found) os ns sent told
 
 pub paused_shows : (size ep : ℕ) (gone : Bool) (e : Endpoint) (os : List Errand) (ns : List Event) (b : KeptEndpoint) (sent : List SentErrand) (t : Telling) (told : List Telling) (n : ℕ)
@@ -91,6 +92,7 @@ paused_shows size ep gone e os ns b sent t told n c s =
       found = record { kept = f.y; actual = count size x };
       event = split.0 ∙ ap (λ p. Transfer p (residual f.y.lengths (count size x)) 26) (sym f.at);
       read = reads_at size b.line x f.y f.p l f.some f.at f.found;
+      live = blank ∙ ap is_blank_state f.waiting;
       handles = record {
         reply = ap (λ k. reply.Paused k) (l.n ∙ pause.0.2);
         results = refl;
