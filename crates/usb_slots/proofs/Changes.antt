@@ -64,7 +64,7 @@ changed_is s e f o there = ap (λ (x : Option Context). option_map_or (λ (c : C
 pub changed_end : (setup : Setup) (d e : ℕ) (s : DeviceSlot) (gone : ℕ → Bool) (endpoints : ℕ → ℕ → KeptEndpoint) (b : KeptEndpoint) (f : Context → Context)
     → IsSlot setup d s gone endpoints → IsEnd setup s d e (endpoints d e)
     → ((c : Context) → context_of s e ≡ Some c → HasRing setup d e (pipe_at s.pipes e) (endpoints d e) c → IsContext (f c) b × IsSame c (f c))
-    → (context_of s e ≡ None → HasNone (pipe_at s.pipes e) (endpoints d e) → HasNone (pipe_at s.pipes e) b)
+    → (context_of s e ≡ None → HasNone setup d e (pipe_at s.pipes e) (endpoints d e) → HasNone setup d e (pipe_at s.pipes e) b)
     → (IsPipe (pipe_at s.pipes e) (endpoints d e) → IsPipe (pipe_at s.pipes e) b)
     → IsBut (endpoint_id e) s (changed s (endpoint_id e) f) × IsEnd setup (changed s (endpoint_id e) f) d e b
 changed_end setup d e s gone endpoints b f is end ring none pipe = by_context (context_of s e) refl
@@ -94,7 +94,7 @@ changed_end setup d e s gone endpoints b f is end ring none pipe = by_context (c
 pub holds_changed : (setup : Setup) (k : Controller) (gone : ℕ → Bool) (endpoints : ℕ → ℕ → KeptEndpoint) (orders : List RingOrder) (events : List RingEvent) (posted d e i : ℕ) (b : KeptEndpoint) (f : Context → Context)
     → HasPlain setup → Holds setup k gone endpoints orders events posted → interface_of setup d e ≡ Some i
     → ((s : DeviceSlot) (c : Context) → slice_get k.slots d ≡ Some s → context_of s e ≡ Some c → HasRing setup d e (pipe_at s.pipes e) (endpoints d e) c → IsContext (f c) b × IsSame c (f c))
-    → ((s : DeviceSlot) → slice_get k.slots d ≡ Some s → context_of s e ≡ None → HasNone (pipe_at s.pipes e) (endpoints d e) → HasNone (pipe_at s.pipes e) b)
+    → ((s : DeviceSlot) → slice_get k.slots d ≡ Some s → context_of s e ≡ None → HasNone setup d e (pipe_at s.pipes e) (endpoints d e) → HasNone setup d e (pipe_at s.pipes e) b)
     → ((p : Pipe) → IsPipe p (endpoints d e) → IsPipe p b)
     → AllPosted (with_end endpoints d e b) orders k.commands.waits → Holds setup (slot_changed k d (λ t. changed t (endpoint_id e) f)) gone (with_end endpoints d e b) orders events posted
 holds_changed setup k gone endpoints orders events posted d e i b f plain is at ring none pipe ordered =

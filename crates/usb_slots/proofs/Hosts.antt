@@ -107,7 +107,7 @@ pub drops : (setup : Setup) (k : Controller) (gone : ℕ → Bool) (endpoints : 
 drops setup k gone endpoints orders events posted d e i is n le still =
     holds_changed setup k gone endpoints orders events posted d e i after (λ x. with_ring x (without_first x.ring n)) is.plain is.holds is.at
     (λ s c in_slots context r. (match.drops c (endpoints d e) n r.context le, record { slot = refl; id = refl; size = refl; base = refl }))
-    (λ s in_slots context none. record { line = ap (drop n) none.line ∙ drop_none n; errand = none.errand; begins = record { left = none.begins.left; halted = none.begins.halted; taken = none.begins.taken } })
+    (λ s in_slots context none. record { unsupported = none.unsupported; line = ap (drop n) none.line ∙ drop_none n; errand = none.errand; begins = record { left = none.begins.left; halted = none.begins.halted; taken = none.begins.taken } })
     (λ p q. record { left = q.left; halted = q.halted; taken = q.taken })
     (orders_still endpoints d e after orders k.commands.waits still is.holds.ordered)
   where
@@ -139,7 +139,7 @@ rings setup k gone endpoints orders events posted d e i is up =
     subst (λ (n : ℕ). Holds setup (slot_changed k n (λ t. changed t (endpoint_id e) rung)) gone (with_end endpoints d e after) orders events posted) (sym same)
     (holds_changed setup k gone endpoints orders events posted d e i after rung is.plain is.holds is.at
     (λ s c in_slots context r. (rings_here c (endpoints d e) r.context up, record { slot = refl; id = refl; size = refl; base = refl }))
-    (λ s in_slots context none. record { line = none.line; errand = none.errand; begins = record { left = none.begins.left; halted = none.begins.halted; taken = none.begins.taken } })
+    (λ s in_slots context none. record { unsupported = none.unsupported; line = none.line; errand = none.errand; begins = record { left = none.begins.left; halted = none.begins.halted; taken = none.begins.taken } })
     (λ p q. record { left = q.left; halted = q.halted; taken = q.taken })
     (orders_kept endpoints d e after orders k.commands.waits refl is.holds.ordered))
   where

@@ -11,3 +11,6 @@ pub mod Packets
 pub mod Serves
 pub mod Runs
 pub mod Unplugs
+pub mod Found
+pub mod Made
+pub mod Fine

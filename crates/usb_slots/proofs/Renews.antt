@@ -1,5 +1,5 @@
 -- What the core alone keeps of an endpoint changes, or it is made new, or its device's halt is cleared.
-use Rattle.std.proofs.Common.{◌≡◌, ℕ, refl, ap, sym, subst, subst₂, ◌∙◌, arith, List, [], ◌∷◌, Some, None, Option, false, Bool, length-set, get_or-set_other}
+use Rattle.std.proofs.Common.{slice_get, ◌≡◌, ℕ, refl, ap, sym, subst, subst₂, ◌∙◌, arith, List, [], ◌∷◌, Some, None, Option, false, Bool, length-set, get_or-set_other}
 use Rattle.std.specs.Prelude.{slice_set}
 use Rattle.std.specs.Option.{option_map_or, unwrap_or}
 use Rattle.usb_model.specs.declared.endpoint.EndpointState.{EndpointState}
@@ -34,7 +34,6 @@ pub record IsLike (old b : KeptEndpoint) : Type 0 where
   pub left : b.script_left ≡ old.script_left
   pub halted : b.device_halted ≡ old.device_halted
   pub taken : b.packets_received ≡ old.packets_received
-  pub errand : old.line ≡ [] → old.errand ≡ None → b.errand ≡ None
 
 -- its context stays
 like_context : (c : Context) (old b : KeptEndpoint) → IsLike old b → IsContext c old → IsContext c b
@@ -55,9 +54,9 @@ no_line [] (z ∷ zs) same e = absurd same
 no_line (y ∷ ys) zs same e = absurd cc
 
 -- so its ring, or that it has none
-like_ring : (setup : Setup) (d e : ℕ) (p : Pipe) (old b : KeptEndpoint) (o : Option Context) → IsLike old b → RingIs setup d e p old o → RingIs setup d e p b o
-like_ring setup d e p old b None like is = record { line = no_line old.line b.line like.line is.line; errand = like.errand is.line is.errand; begins = like_pipe (rewound p) old b like is.begins }
-like_ring setup d e p old b (Some c) like is = record { context = like_context c old b like is.context; slot = is.slot; id = is.id; size = is.size; fits = is.fits; base = is.base }
+like_ring : (setup : Setup) (d e : ℕ) (p : Pipe) (old b : KeptEndpoint) (o : Option Context) → IsLike old b → (o ≡ None → b.errand ≡ None) → RingIs setup d e p old o → RingIs setup d e p b o
+like_ring setup d e p old b None like errand is = record { unsupported = is.unsupported; line = no_line old.line b.line like.line is.line; errand = errand refl; begins = like_pipe (rewound p) old b like is.begins }
+like_ring setup d e p old b (Some c) like errand is = record { context = like_context c old b like is.context; slot = is.slot; id = is.id; size = is.size; fits = is.fits; base = is.base }
 
 -- it goes on at the same place
 like_start : (old b : KeptEndpoint) → IsLike old b → first_place (past_kept_blanks b.line) b.end ≡ first_place (past_kept_blanks old.line) old.end
@@ -65,12 +64,12 @@ like_start old b like = start_same old.line b.line b.end like.line ∙ ap (first
 
 -- what the core alone keeps changes
 keeps : (setup : Setup) (k : Controller) (gone : ℕ → Bool) (endpoints : ℕ → ℕ → KeptEndpoint) (orders : List RingOrder) (events : List RingEvent) (posted d e i : ℕ) → IsAt setup k gone endpoints orders events posted d e i
-    → (b : KeptEndpoint) → IsLike (endpoints d e) b → Holds setup k gone (with_end endpoints d e b) orders events posted
-keeps setup k gone endpoints orders events posted d e i is b like =
+    → (b : KeptEndpoint) → IsLike (endpoints d e) b → ((s : DeviceSlot) → slice_get k.slots d ≡ Some s → context_of s e ≡ None → b.errand ≡ None) → Holds setup k gone (with_end endpoints d e b) orders events posted
+keeps setup k gone endpoints orders events posted d e i is b like errand =
     let there = slot_there setup k gone endpoints orders events posted d e i is.holds is.at in
     let s : DeviceSlot = there.0 in
     let end = (is.holds.each d s there.1).ends e i is.at in
-    let new : IsEnd setup s d e b = record { pipe = like_pipe (pipe_at s.pipes e) (endpoints d e) b like end.pipe; script = end.script; ring = like_ring setup d e (pipe_at s.pipes e) (endpoints d e) b (context_of s e) like end.ring } in
+    let new : IsEnd setup s d e b = record { pipe = like_pipe (pipe_at s.pipes e) (endpoints d e) b like end.pipe; script = end.script; ring = like_ring setup d e (pipe_at s.pipes e) (endpoints d e) b (context_of s e) like (errand s there.1) end.ring } in
     subst (λ (slots : List DeviceSlot). Holds setup (record k { slots = slots }) gone (with_end endpoints d e b) orders events posted) (set_same k.slots d s there.1)
     (holds_with setup k gone endpoints orders events posted d e i s s b is.plain is.holds is.at there.1 (but_none (endpoint_id e) s) new
     (orders_kept endpoints d e b orders k.commands.waits (like_start (endpoints d e) b like) is.holds.ordered))
@@ -105,7 +104,7 @@ unfolding find_at
 nothing y h = absurd cc
 
 -- an endpoint that is made new is a new one
-new_context : (slot id size base : ℕ) (script : List Response) → IsContext (configured slot id size base) (new_kept_endpoint script)
+pub new_context : (slot id size base : ℕ) (script : List Response) → IsContext (configured slot id size base) (new_kept_endpoint script)
 new_context slot id size base script = record {
   ring = record { items = tt; row = tt; below = omega arith; few = omega arith; stands = refl; between = refl; whole = λ some. refl };
   runs = refl;
@@ -148,7 +147,7 @@ renewed_end setup d e s gone endpoints is end = subst (λ (t : DeviceSlot). IsBu
           halted = end.pipe.halted ∙ sym none.begins.halted;
           taken = end.pipe.taken ∙ sym none.begins.taken;
         } in
-        (but_none id s, end_from setup s d e new p None there refl old end.script (record { line = refl; errand = refl; begins = new_pipe }))
+        (but_none id s, end_from setup s d e new p None there refl old end.script (record { unsupported = none.unsupported; line = refl; errand = refl; begins = new_pipe }))
     by_context (Some c) there =
         let r = has (Some c) there in (
           but_both id s (rewound p) (configured c.slot c.id c.size c.ring.line.base),
@@ -190,7 +189,7 @@ clears setup k gone endpoints orders events posted d e i is =
     after = record (endpoints d e) { device_halted = false }
 
     ring : (p : Pipe) (o : Option Context) → RingIs setup d e p (endpoints d e) o → RingIs setup d e (cleared p) after o
-    ring p None none = record { line = none.line; errand = none.errand; begins = record { left = none.begins.left; halted = refl; taken = none.begins.taken } }
+    ring p None none = record { unsupported = none.unsupported; line = none.line; errand = none.errand; begins = record { left = none.begins.left; halted = refl; taken = none.begins.taken } }
     ring p (Some c) r = record {
       context = record { ring = r.context.ring; runs = r.context.runs; partly = r.context.partly; front = λ y h. let f = r.context.front y h in record { begun = f.begun; fits = f.fits }; rests = r.context.rests };
       slot = r.slot;
@@ -210,7 +209,7 @@ hosts setup k gone endpoints orders events posted d e i plain holds at =
       drops = drops setup k gone endpoints orders events posted d e i is;
       rings = rings setup k gone endpoints orders events posted d e i is;
       keeps = λ b line end dequeue within state left halted taken errand. keeps setup k gone endpoints orders events posted d e i is b
-          (record { line = line; end = end; dequeue = dequeue; within = within; state = state; left = left; halted = halted; taken = taken; errand = errand });
+          (record { line = line; end = end; dequeue = dequeue; within = within; state = state; left = left; halted = halted; taken = taken }) errand;
       renews = renews setup k gone endpoints orders events posted d e i is;
       clears = clears setup k gone endpoints orders events posted d e i is;
     }

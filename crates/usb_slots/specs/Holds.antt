@@ -1,8 +1,9 @@
 -- When the controller's slots and rings hold the core's endpoints, orders and events.
-use Rattle.std.specs.Prelude.{◌≡◌, ℕ, suc, ◌%◌, ◌==◌, ◌≤◌, Bool, ◌&&◌, List, [], ◌∷◌, length, map, slice_get, Option, Some, None, if◌then◌else◌}
+use Rattle.std.specs.Prelude.{◌≡◌, ℕ, suc, ◌%◌, ◌==◌, ◌≤◌, Bool, true, ◌&&◌, List, [], ◌∷◌, length, map, slice_get, Option, Some, None, if◌then◌else◌}
 use Rattle.usb_model.specs.declared.errand.Errand.{Errand}
 use Rattle.usb_model.specs.declared.errand.Errand.TheVariants as errand
-use Rattle.usb_model.specs.Setup.{Setup, endpoint_id, interface_of, packet_size_of, script_of}
+use Rattle.usb_model.specs.Requests.{is_unsupported}
+use Rattle.usb_model.specs.Setup.{Setup, endpoint_id, interface_of, kind_of, packet_size_of, script_of}
 use Rattle.usb_trb.specs.declared.kind.TrbKind.{TrbKind}
 use Rattle.usb_trb.specs.declared.kind.TrbKind.TheVariants.{CommandCompletion, ResetEndpoint, SetDequeue, StopEndpoint}
 use Rattle.usb_segment.specs.Places.{address_of}
@@ -31,14 +32,15 @@ pub record HasRing (setup : Setup) (d e : ℕ) (p : Pipe) (b : KeptEndpoint) (c 
   pub fits : c.size ≤ p.size
   pub base : c.ring.line.base ≡ ring_at d e
 
--- one without, which no transfer ever joins: its device is still at the beginning of its script
-pub record HasNone (p : Pipe) (b : KeptEndpoint) : Type 0 where
+-- one without, a control or isochronous one, which no transfer ever joins: its device is still at the beginning of its script
+pub record HasNone (setup : Setup) (d e : ℕ) (p : Pipe) (b : KeptEndpoint) : Type 0 where
+  pub unsupported : is_unsupported (kind_of setup d e) ≡ true
   pub line : b.line ≡ []
   pub errand : b.errand ≡ None
   pub begins : IsPipe (rewound p) b
 
 abbrev pub RingIs : Setup → ℕ → ℕ → Pipe → KeptEndpoint → Option Context → Type 0
-RingIs setup d e p b None = HasNone p b
+RingIs setup d e p b None = HasNone setup d e p b
 RingIs setup d e p b (Some c) = HasRing setup d e p b c
 
 -- an endpoint of a slot

@@ -7,6 +7,7 @@ use Rattle.usb_model.specs.declared.reply.Reply.TheVariants.{Idle}
 use Rattle.usb_model.specs.declared.request.Body.{Body}
 use Rattle.usb_model.specs.declared.request.Body.TheVariants.{In, Out}
 use Rattle.usb_model.specs.declared.request.Request.{Request}
+use Rattle.usb_model.specs.declared.setup.DeviceSetup.{DeviceSetup}
 use Rattle.usb_model.specs.Limits.{most_bytes}
 use Rattle.usb_model.specs.Requests.{length_of}
 use Rattle.usb_model.specs.Setup.{Setup, endpoint_id, interface_of, packet_size_of, script_of}
@@ -18,7 +19,7 @@ use Rattle.usb_kept.specs.Handling.{errand_of, find_at}
 use Rattle.usb_kept.specs.Serving.{Answered, answer_now, got, packet_now, serve_kept}
 use Rattle.usb_kept.specs.Commanding as kept
 use Rattle.usb_kept.specs.Joining.{joined}
-use Rattle.usb_device.specs.Pipe.{cleared, pipe_at}
+use Rattle.usb_device.specs.Pipe.{IsLawful, Pipe, cleared, pipe_at}
 use Rattle.usb_transfer.specs.Tds.{tds_of}
 use Rattle.usb_transfer.specs.Trbs.{normals_of}
 use Rattle.usb_tring.specs.Line.{capacity, normals, used}
@@ -31,12 +32,30 @@ use Rattle.usb_xhc.specs.Slots.{DeviceSlot, changed, context_of, read_after, ren
 use Rattle.usb_match.specs.Endpoint.{IsFresh}
 use Rattle.usb_match.specs.Laws.{HaveTrbsOf}
 use Rattle.usb_match.specs.Told.{reply_of}
+use Rattle.usb_shows.specs.Lively.{IsFine}
 use Rattle.usb_shows.specs.Shows.{RingEvent, RingOrder, event_at, order_at}
 use Rattle.usb_slots.specs.Holds.{Holds, IsPosted, with_end}
+use Rattle.usb_slots.specs.Made.{AreLawful, IsMade, IsRead}
 
 -- addresses as endpoint descriptors have them (USB 2.0, 9.6.6): no two endpoints of a device have one id
 abbrev pub HasPlain : Setup → Type 0
 HasPlain setup = (d e i : ℕ) → interface_of setup d e ≡ Some i → is_plain e ≡ true
+
+-- their numbers are other than 0, which is the device's own (USB 2.0, 5.3.1.1)
+abbrev pub HasNumbers : Setup → Type 0
+HasNumbers setup = (d e i : ℕ) → interface_of setup d e ≡ Some i → 0 < e % 16
+
+-- a controller as it is made holds a new core
+abbrev pub MakesCore : Type 0
+MakesCore = (setup : Setup) (k : Controller) → HasPlain setup → HasNumbers setup → IsMade setup k → Holds setup k (λ d. false) (λ d e. new_kept_endpoint (script_of setup d e)) [] [] 0
+
+-- what is asked of a setup follows from what was read, and from what devices promise
+abbrev pub IsFineRead : Type 0
+IsFineRead = (setup : Setup) → ((d : ℕ) (x : DeviceSetup) → slice_get setup d ≡ Some x → IsRead x) → HasPlain setup × HasNumbers setup × IsFine setup
+
+-- a device keeps the law by its endpoints' scripts
+abbrev pub IsLawfulByScripts : Type 0
+IsLawfulByScripts = (pipes : List Pipe) → IsLawful pipes → AreLawful (map (λ p. p.script) pipes)
 
 -- what is sent of a transfer
 abbrev pub out_of : ℕ → Body → DeviceSlot → Option (List ℕ)
@@ -107,10 +126,10 @@ pub record HostsCore (setup : Setup) (k : Controller) (gone : ℕ → Bool) (end
       (with_end endpoints d e (record (endpoints d e) { line = drop n (endpoints d e).line })) orders events posted
   pub rings : ((endpoints d e).state ≡ Halted → ⊥)
       → Holds setup (slot_changed k (suc d - 1) (λ t. changed t (endpoint_id e) rung)) gone (with_end endpoints d e (record (endpoints d e) { state = Running })) orders events posted
-  -- asks, bytes, what is told, and the errand are the core's alone; an endpoint without a line gets no errand
+  -- asks, bytes, what is told, and the errand are the core's alone; an endpoint without a ring gets no errand
   pub keeps : (b : KeptEndpoint) → HaveTrbsOf (endpoints d e).line b.line → b.end ≡ (endpoints d e).end → b.dequeue ≡ (endpoints d e).dequeue → b.within ≡ (endpoints d e).within → b.state ≡ (endpoints d e).state
       → b.script_left ≡ (endpoints d e).script_left → b.device_halted ≡ (endpoints d e).device_halted → b.packets_received ≡ (endpoints d e).packets_received
-      → ((endpoints d e).line ≡ [] → (endpoints d e).errand ≡ None → b.errand ≡ None)
+      → ((s : DeviceSlot) → slice_get k.slots d ≡ Some s → context_of s e ≡ None → b.errand ≡ None)
       → Holds setup k gone (with_end endpoints d e b) orders events posted
   pub renews : NoMove d e orders → Holds setup (slot_changed k d (λ s. renewed s e)) gone (with_end endpoints d e (new_kept_endpoint (script_of setup d e))) orders events posted
   pub clears : Holds setup (slot_changed k d (λ s. record s { pipes = slice_set s.pipes (endpoint_id e) (cleared (pipe_at s.pipes e)) })) gone (with_end endpoints d e (record (endpoints d e) { device_halted = false })) orders events posted
