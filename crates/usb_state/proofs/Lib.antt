@@ -1,0 +1,14 @@
+pub mod Lines
+pub mod Lanes
+pub mod Same
+pub mod Changed
+pub mod Rings
+pub mod Errands
+pub mod Counts
+pub mod Transfers
+pub mod Leaving
+pub mod Starting
+pub mod Held
+pub mod Finding
+pub mod Fronts
+pub mod Serving
