@@ -206,6 +206,20 @@ impl EndpointContext {
         self.begun = false;
     }
 
+    /// The slot of its device.
+    pub fn slot(&self) -> Slot
+        ensures { result ≡ self.now.slot }
+    {
+        self.slot
+    }
+
+    /// Its number among its device's endpoints, 1 to 31 (Device Context Index; xHCI 1.2, 4.5.1).
+    pub fn id(&self) -> EndpointId
+        ensures { result ≡ self.now.id }
+    {
+        self.id
+    }
+
     /// The bytes of a whole packet.
     pub fn size(&self) -> u16
         ensures { result ≡ self.now.size }

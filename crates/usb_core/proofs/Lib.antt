@@ -1,1 +1,2 @@
 mod Instances
+mod Turning

@@ -42,8 +42,8 @@ pub fn bounds()
     ensures { (setup : Setup) (steps : List Step) (h : ℕ) → KeepsBounds setup steps h }
 {}
 
-/// The laws at worked rows, computed: bounds that are reached, calls of what was made, and scripts that are cut. One that
-/// isn't, at the packet size 0.
+/// The laws at worked rows, computed: bounds that are reached, calls of what was made, and scripts that are cut. One
+/// that isn't, at the packet size 0.
 pub fn instances()
     ensures bound { ReachesBound }
     ensures bounds { ReachesBounds }

@@ -4,4 +4,8 @@
 //! The one promise: no transfer is lost, none is doubled, and none is told what its device didn't do.
 #![tactic(auto)]
 
+mod calls;
 pub mod laws;
+
+pub use calls::Core;
+pub use usb_parts::{Setup, Taken, Unaccepted, Unadded};

@@ -184,24 +184,28 @@ impl<P> Flights<P> {
     }
 
     /// One packet of the transfer at a place of an endpoint's line, at the controller: the bytes that come join those read
-    /// before, or the next ones of those to be sent are sent. None where there is nothing to serve.
+    /// before, or the next ones of those to be sent are sent. The transfer's number, and what the host is told; None where
+    /// there is nothing to serve.
     pub fn serve<D: Device>(
         &mut self,
         dev: DeviceNo,
         ep: EpAddr,
         item: usize,
         controller: &mut Controller<D>,
-    ) -> Option<Packet>
+    ) -> Option<(u64, Packet)>
         requires item { IsSome (item_at self.old dev ep item) }
         requires serves { IfSome (item_at self.old dev ep item) (λ t. CanServe controller.old dev ep t.request.body t) }
         requires room { length controller.old.events.waits < 4095 }
-        ensures packet { result ≡ told_at controller.old dev ep }
+        ensures packet { option_map (λ x. x.1) result ≡ told_at controller.old dev ep }
+        ensures number { IfSome result (λ x. (t : InFlight P) → item_at self.old dev ep item ≡ Some t → t.n ≡ x.0) }
         ensures controller { (t : InFlight P) → item_at self.old dev ep item ≡ Some t → controller.new ≡ served_at controller.old dev ep (out_of ep t.request.body) }
         ensures transfer { (t : InFlight P) → item_at self.old dev ep item ≡ Some t → Serves self.old self.new controller.old dev ep item t }
     {
         let key = self.lanes.line(dev, ep).get(item)?;
         let transfer = self.store.get_mut(key)?;
-        serve(transfer, dev, ep, controller)
+        let n = transfer.n;
+        let packet = serve(transfer, dev, ep, controller)?;
+        Some((n, packet))
     }
 
     /// The transfer that ended first of those that wait, and what came of it; None where none waits.

@@ -183,11 +183,12 @@ deliver_works setup w c x xs a fine s is handles posting few near first run =
     })
 
 -- the errand that has an order
-sent_there : (o : Option SentErrand) (x : Errand) → errand_of o ≡ Some x → (y : SentErrand) × (o ≡ Some y) × (y.errand ≡ x)
+pub sent_there : (o : Option SentErrand) (x : Errand) → errand_of o ≡ Some x → (y : SentErrand) × (o ≡ Some y) × (y.errand ≡ x)
 sent_there None x e = absurd cc
 sent_there (Some y) x e = (y, refl, same_Some y.errand x e)
 
-code_tells : (ok : Bool) → (code_of ok == 1) ≡ ok
+-- the code tells whether the order was carried out
+pub code_tells : (ok : Bool) → (code_of ok == 1) ≡ ok
 code_tells true = refl
 code_tells false = refl
 

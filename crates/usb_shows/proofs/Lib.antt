@@ -37,3 +37,7 @@ pub mod Ahead
 pub mod Places
 pub mod Halting
 pub mod Stale
+pub mod FirstOrders
+pub mod Numbers
+pub mod Apart
+pub mod Strays

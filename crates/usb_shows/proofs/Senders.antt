@@ -32,7 +32,7 @@ completes i (Completion index code) = index == i
 abbrev pub stands_at : ℕ → SentErrand → Bool
 stands_at i s = s.index == i
 
-abbrev UnderWay : ℕ → List SentErrand → List Telling → Type 0
+abbrev pub UnderWay : ℕ → List SentErrand → List Telling → Type 0
 UnderWay i sent told = (list_any (stands_at i) sent ≡ true) ⊎ (list_any (completes i) told ≡ true)
 
 -- an order that waits, or a completion that is told, of the errand
@@ -59,7 +59,7 @@ by_phase s er os es tail o b i sent told front pause is at reset_ran q one two =
 by_phase s er os es tail o b i sent told front pause is at move_waits q one two = inl (order_waits i b errand.Move sent at q)
 by_phase s er os es tail o b i sent told front pause is at move_ran q one two = inr (end_told i (index_of b) _ told front at (one errand.Move true refl))
 
-is_under_way : (size : ℕ) (e : Endpoint) (os : List Errand) (ns : List Event) (b : KeptEndpoint) (sent : List SentErrand) (told : List Telling) (x : SentErrand) → IsCoherent e os ns → ShowsEnd size e os ns b sent told → b.errand ≡ Some x → UnderWay x.index sent told
+pub is_under_way : (size : ℕ) (e : Endpoint) (os : List Errand) (ns : List Event) (b : KeptEndpoint) (sent : List SentErrand) (told : List Telling) (x : SentErrand) → IsCoherent e os ns → ShowsEnd size e os ns b sent told → b.errand ≡ Some x → UnderWay x.index sent told
 is_under_way size e os ns b sent told x c s is =
     by_phase e.state e.errand os (served_events e.line) c.tail x.errand b.errand x.index sent told (told_of size e.line b.line) (pause_told size e.line b.line) (sym s.errand ∙ ap (option_map (λ s. s.errand)) is) (ap index_of is) c.phase s.sent_is
     (λ o ok t. s.told_is ∙ ap (λ l. told_of size e.line b.line ++ tail_told size e.line b.line b.errand l) (same_tail e.line ns s.tail c.tail s.news c.news ∙ t))
@@ -67,7 +67,7 @@ is_under_way size e os ns b sent told x c s is =
     ∙ sym (append_assoc (told_of size e.line b.line) (pause_told size e.line b.line) (Completion (index_of b.errand) (code_of ok) ∷ []))))
 
 -- what is under way at an endpoint is under way
-order_in : (i d e : ℕ) (xs : List (At SentErrand)) → list_any (stands_at i) (at d e xs) ≡ true → list_any (λ j. j == i) (map (λ (o : RingOrder). o.place) (map ring_order xs)) ≡ true
+pub order_in : (i d e : ℕ) (xs : List (At SentErrand)) → list_any (stands_at i) (at d e xs) ≡ true → list_any (λ j. j == i) (map (λ (o : RingOrder). o.place) (map ring_order xs)) ≡ true
 order_in i d e [] q = absurd cc
 order_in i d e (x ∷ xs) q = by_test (here d e x) q (order_in i d e xs)
   where
@@ -87,7 +87,7 @@ completed_any : (i dev ep : ℕ) (t : Telling) → completes i t ≡ true → li
 completed_any i dev ep (Transfer place residual code) q = absurd cc
 completed_any i dev ep (Completion index code) q = or_left (index == i) false q
 
-news_in : (i d e : ℕ) (xs : List (At Report)) → list_any (completes i) (tellings (at d e xs)) ≡ true → list_any (λ j. j == i) (flat_map completed (map ring_event xs)) ≡ true
+pub news_in : (i d e : ℕ) (xs : List (At Report)) → list_any (completes i) (tellings (at d e xs)) ≡ true → list_any (λ j. j == i) (flat_map completed (map ring_event xs)) ≡ true
 news_in i d e [] q = absurd cc
 news_in i d e (x ∷ xs) q = list_any-append (λ j. j == i) (completed (ring_event x)) (flat_map completed (map ring_event xs)) ∙ by_test (here d e x) q (news_in i d e xs)
   where
@@ -106,7 +106,7 @@ news_in i d e (x ∷ xs) q = list_any-append (λ j. j == i) (completed (ring_eve
     by_test false p more = or_right head rest (more p)
 
 -- each place of a run is at its first or later
-run_later : (first next i : ℕ) (is : List ℕ) → InRun first is next → list_any (λ j. j == i) is ≡ true → first ≤ i
+pub run_later : (first next i : ℕ) (is : List ℕ) → InRun first is next → list_any (λ j. j == i) is ≡ true → first ≤ i
 run_later first next i [] r q = absurd cc
 run_later first next i (j ∷ is) r q = by_head (j == i) refl q (run_later (suc first) next i is r.1)
   where

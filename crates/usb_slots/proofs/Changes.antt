@@ -25,6 +25,7 @@ pub record IsSame (c f : Context) : Type 0 where
 -- a ring that has another line
 pub ring_with : (setup : Setup) (d e : ℕ) (p : Pipe) (b after : KeptEndpoint) (c f : Context) → HasRing setup d e p b c → IsContext f after → IsSame c f → HasRing setup d e p after f
 ring_with setup d e p b after c f r is same = record {
+  supported = r.supported;
   context = is;
   slot = same.slot ∙ r.slot;
   id = same.id ∙ r.id;

@@ -22,7 +22,8 @@ use Rattle.usb_match.specs.Endpoint.{IsContext}
 use Rattle.usb_match.proofs.Hosts as match
 use Rattle.usb_shows.specs.Shows.{RingEvent, RingOrder}
 use Rattle.usb_slots.specs.Holds.{HasRing, Holds, with_end}
-use Rattle.usb_slots.specs.Laws.{HasPlain, NoMove}
+use Rattle.usb_shows.specs.Known.{NoMove}
+use Rattle.usb_slots.specs.Laws.{HasPlain}
 use Rattle.usb_slots.proofs.Changes.{holds_changed}
 use Rattle.usb_slots.proofs.Orders.{orders_kept, orders_still, start_joined}
 

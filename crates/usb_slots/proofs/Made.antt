@@ -9,7 +9,7 @@ use Rattle.usb_model.specs.declared.setup.DeviceSetup.{DeviceSetup}
 use Rattle.usb_model.specs.declared.setup.EndpointInfo.{EndpointInfo}
 use Rattle.usb_model.specs.declared.request.Kind.TheVariants.{Control}
 use Rattle.usb_model.specs.Requests.{is_unsupported}
-use Rattle.usb_model.specs.Setup.{Setup, endpoint_id, interface_of, is_in, packet_size_of, script_at, script_of}
+use Rattle.usb_model.specs.Setup.{Setup, endpoint_id, interface_of, is_in, kind_of, packet_size_of, script_at, script_of}
 use Rattle.usb_descriptors.specs.Table.{info_at}
 use Rattle.usb_kept.specs.Kept.{new_kept_endpoint}
 use Rattle.usb_device.specs.Pipe.{Pipe, no_pipe, pipe_at, rewound}
@@ -94,10 +94,14 @@ new_end setup d e i x pipes plain numbers there new at =
     size : z.packet_size ≡ packet_size_of setup d e
     size = sym (ap (λ (o : Option EndpointInfo). option_map_or (λ (y : EndpointInfo). y.packet_size) o 0) f.is)
 
+    kind : is_unsupported (kind_of setup d e) ≡ is_unsupported z.kind
+    kind = ap (λ (o : Option EndpointInfo). is_unsupported (option_map_or (λ (y : EndpointInfo). y.kind) o Control)) f.is
+
     ring_if : (u : Bool) → is_unsupported z.kind ≡ u → (n : Bool) → n ≡ true
         → RingIs setup d e p (new_kept_endpoint (script_of setup d e)) (if not u && n then Some (configured (suc d) id z.packet_size (ring_at d e)) else None)
-    ring_if true is n some = record { unsupported = ap (λ (o : Option EndpointInfo). is_unsupported (option_map_or (λ (y : EndpointInfo). y.kind) o Control)) f.is ∙ is; line = refl; errand = refl; begins = rewound_pipe }
+    ring_if true is n some = record { unsupported = kind ∙ is; line = refl; errand = refl; begins = rewound_pipe }
     ring_if false is n some = rw some (record {
+      supported = kind ∙ is;
       context = new_context (suc d) id z.packet_size (ring_at d e) (script_of setup d e);
       slot = refl;
       id = refl;

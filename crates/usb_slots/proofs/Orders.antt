@@ -20,7 +20,7 @@ use Rattle.usb_match.specs.Laws.{HaveTrbsOf}
 use Rattle.usb_match.proofs.Goes.{put_same}
 use Rattle.usb_shows.specs.Shows.{RingOrder}
 use Rattle.usb_slots.specs.Holds.{AllPosted, IsPosted, ring_at, with_end}
-use Rattle.usb_slots.specs.Laws.{NoMove}
+use Rattle.usb_shows.specs.Known.{NoMove}
 
 -- where an endpoint goes on behind its blanks
 abbrev pub start_of : KeptEndpoint → ℕ

@@ -16,7 +16,8 @@ use Rattle.usb_match.specs.Laws.{HaveTrbsOf}
 use Rattle.usb_match.proofs.Hosts as match
 use Rattle.usb_shows.specs.Shows.{RingEvent, RingOrder}
 use Rattle.usb_slots.specs.Holds.{Holds, IsEnd, IsSlot, RingIs, with_end}
-use Rattle.usb_slots.specs.Laws.{HostsAll, NoMove}
+use Rattle.usb_shows.specs.Known.{NoMove}
+use Rattle.usb_slots.specs.Laws.{HostsAll}
 use Rattle.usb_slots.proofs.Changes.{context_set, slot_changed_is}
 use Rattle.usb_slots.proofs.Hosts.{IsAt, blanks, drops, pushes, rings}
 use Rattle.usb_slots.proofs.Ids.{id-lt}
@@ -56,7 +57,7 @@ no_line (y ∷ ys) zs same e = absurd cc
 -- so its ring, or that it has none
 like_ring : (setup : Setup) (d e : ℕ) (p : Pipe) (old b : KeptEndpoint) (o : Option Context) → IsLike old b → (o ≡ None → b.errand ≡ None) → RingIs setup d e p old o → RingIs setup d e p b o
 like_ring setup d e p old b None like errand is = record { unsupported = is.unsupported; line = no_line old.line b.line like.line is.line; errand = errand refl; begins = like_pipe (rewound p) old b like is.begins }
-like_ring setup d e p old b (Some c) like errand is = record { context = like_context c old b like is.context; slot = is.slot; id = is.id; size = is.size; fits = is.fits; base = is.base }
+like_ring setup d e p old b (Some c) like errand is = record { supported = is.supported; context = like_context c old b like is.context; slot = is.slot; id = is.id; size = is.size; fits = is.fits; base = is.base }
 
 -- it goes on at the same place
 like_start : (old b : KeptEndpoint) → IsLike old b → first_place (past_kept_blanks b.line) b.end ≡ first_place (past_kept_blanks old.line) old.end
@@ -153,7 +154,7 @@ renewed_end setup d e s gone endpoints is end = subst (λ (t : DeviceSlot). IsBu
           but_both id s (rewound p) (configured c.slot c.id c.size c.ring.line.base),
           end_from setup (made_slot c) d e new (rewound p) (Some (configured c.slot c.id c.size c.ring.line.base)) (context_set setup d e s gone endpoints (configured c.slot c.id c.size c.ring.line.base) is)
               (pipe_set setup d e s gone endpoints (rewound p) is) new_pipe end.script
-              (record { context = new_context c.slot c.id c.size c.ring.line.base (script_of setup d e); slot = r.slot; id = r.id; size = r.size; fits = r.fits; base = r.base }),
+              (record { supported = r.supported; context = new_context c.slot c.id c.size c.ring.line.base (script_of setup d e); slot = r.slot; id = r.id; size = r.size; fits = r.fits; base = r.base }),
         )
 
 -- an endpoint is made new
@@ -191,6 +192,7 @@ clears setup k gone endpoints orders events posted d e i is =
     ring : (p : Pipe) (o : Option Context) → RingIs setup d e p (endpoints d e) o → RingIs setup d e (cleared p) after o
     ring p None none = record { unsupported = none.unsupported; line = none.line; errand = none.errand; begins = record { left = none.begins.left; halted = refl; taken = none.begins.taken } }
     ring p (Some c) r = record {
+      supported = r.supported;
       context = record { ring = r.context.ring; runs = r.context.runs; partly = r.context.partly; front = λ y h. let f = r.context.front y h in record { begun = f.begun; fits = f.fits }; rests = r.context.rests };
       slot = r.slot;
       id = r.id;

@@ -112,7 +112,7 @@ serves_busy setup k gone endpoints orders events posted d e i s c first is busy 
     new_ring : HasRing setup d e (pipe_behind (gone d) out p) a.endpoint x.context
     new_ring =
         let h = ring_with setup d e p b a.endpoint c x.context r w.context (same_served (gone d) c (answer_of p)) in
-        record { context = h.context; slot = h.slot; id = h.id; size = h.size; fits = omega (arith, h.fits, (same_script (gone d) out p).1); base = h.base }
+        record { supported = h.supported; context = h.context; slot = h.slot; id = h.id; size = h.size; fits = omega (arith, h.fits, (same_script (gone d) out p).1); base = h.base }
 
     new : IsEnd setup t d e a.endpoint
     new = end_from setup t d e a.endpoint (pipe_behind (gone d) out p) (Some x.context) (context_set setup d e s gone endpoints x.context is.slot)

@@ -1,5 +1,5 @@
 -- When the controller's slots and rings hold the core's endpoints, orders and events.
-use Rattle.std.specs.Prelude.{◌≡◌, ℕ, suc, ◌%◌, ◌==◌, ◌≤◌, Bool, true, ◌&&◌, List, [], ◌∷◌, length, map, slice_get, Option, Some, None, if◌then◌else◌}
+use Rattle.std.specs.Prelude.{◌≡◌, ℕ, suc, ◌%◌, ◌==◌, ◌≤◌, Bool, true, false, ◌&&◌, List, [], ◌∷◌, length, map, slice_get, Option, Some, None, if◌then◌else◌}
 use Rattle.usb_model.specs.declared.errand.Errand.{Errand}
 use Rattle.usb_model.specs.declared.errand.Errand.TheVariants as errand
 use Rattle.usb_model.specs.Requests.{is_unsupported}
@@ -23,8 +23,9 @@ use Rattle.usb_shows.specs.Shows.{Completes, Core, RingEvent, RingOrder, Transfe
 abbrev pub ring_at : ℕ → ℕ → ℕ
 ring_at d e = ring_base (suc d) (endpoint_id e)
 
--- an endpoint with a ring
+-- an endpoint with a ring, one where transfers can go
 pub record HasRing (setup : Setup) (d e : ℕ) (p : Pipe) (b : KeptEndpoint) (c : Context) : Type 0 where
+  pub supported : is_unsupported (kind_of setup d e) ≡ false
   pub context : IsContext c b
   pub slot : c.slot ≡ suc d
   pub id : c.id ≡ endpoint_id e

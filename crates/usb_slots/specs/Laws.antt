@@ -33,6 +33,7 @@ use Rattle.usb_match.specs.Endpoint.{IsFresh}
 use Rattle.usb_match.specs.Laws.{HaveTrbsOf}
 use Rattle.usb_match.specs.Told.{reply_of}
 use Rattle.usb_shows.specs.Lively.{IsFine}
+use Rattle.usb_shows.specs.Known.{NoMove}
 use Rattle.usb_shows.specs.Shows.{RingEvent, RingOrder, event_at, order_at}
 use Rattle.usb_slots.specs.Holds.{Holds, IsPosted, with_end}
 use Rattle.usb_slots.specs.Made.{AreLawful, IsMade, IsRead}
@@ -103,14 +104,6 @@ PostsCore = (setup : Setup) (k : Controller) (gone : ℕ → Bool) (endpoints : 
 abbrev pub TakesCore : Type 0
 TakesCore = (setup : Setup) (k : Controller) (gone : ℕ → Bool) (endpoints : ℕ → ℕ → KeptEndpoint) (orders : List RingOrder) (events : List RingEvent) (posted : ℕ) → Holds setup k gone endpoints orders events posted
     → Holds setup (record k { events = record k.events { waits = drop 1 k.events.waits } }) gone endpoints orders (drop 1 events) posted
-
--- no order to go on elsewhere in its ring waits for this endpoint
-abbrev pub moves_here : ℕ → ℕ → RingOrder → Type 0
-moves_here d e o = (o.dev ≡ d) × (o.ep ≡ e) × (o.errand ≡ errand.Move)
-
-abbrev pub NoMove : ℕ → ℕ → List RingOrder → Type 0
-NoMove d e [] = Unit {0}
-NoMove d e (o ∷ os) = (moves_here d e o → ⊥) × NoMove d e os
 
 -- work of the host at one endpoint: a change of its ring, or of its device, leaves the controller with the core's endpoint
 pub record HostsCore (setup : Setup) (k : Controller) (gone : ℕ → Bool) (endpoints : ℕ → ℕ → KeptEndpoint) (orders : List RingOrder) (events : List RingEvent) (posted d e : ℕ) : Type 0 where

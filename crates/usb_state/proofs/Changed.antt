@@ -1,5 +1,5 @@
 -- Parts that keep another core, where one endpoint changed.
-use Rattle.std.proofs.Common.{◌≡◌, ℕ, ap, sym, subst, subst₂, ◌∙◌, List, length, map, Option, Some, true, ◌⊎◌, inl, inr}
+use Rattle.std.proofs.Common.{◌≡◌, ℕ, ap, ap₂, sym, subst, subst₂, ◌∙◌, List, [], length, map, Option, Some, None, true, ◌⊎◌, inl, inr}
 use Rattle.std.specs.List.{AllByRecursion}
 use Rattle.std.proofs.lemmas.Bool.{cases_eq}
 use Rattle.usb_model.specs.declared.handle.Handle.{Handle}
@@ -65,6 +65,7 @@ module _ {P : Type 0} where
     plain = at.keeps.plain;
     fine = at.keeps.fine;
     few = at.keeps.few;
+    bounded = at.keeps.bounded;
     lanes = but.lanes;
     cells = but.cells;
     held = with.held;
@@ -73,6 +74,7 @@ module _ {P : Type 0} where
     ended = with.ended;
     ended_plain = with.ended_plain;
     ends = λ dev ep i there. by_device dev ep i there (cases_eq d dev) (cases_eq e ep);
+    free = λ dev ep i there nobody. unheld dev ep i there (sym (ap (λ (f : Claims). holder setup f dev ep) with.same) ∙ nobody) (cases_eq d dev) (cases_eq e ep);
   }
     where
       still : (dev ep i : ℕ) → interface_of setup dev ep ≡ Some i → ((d ≡ dev) × (e ≡ ep) → ⊥) → KeepsEnd new (holder setup after.claims dev ep) dev ep (after.endpoints dev ep)
@@ -80,6 +82,17 @@ module _ {P : Type 0} where
           let apart : lane_at dev ep ≡ lane_at d e → ⊥ = lanes_apart setup d e at.interface dev ep i at.keeps.plain at.there there other in
           subst₂ (λ (o : Option ℕ) (b : KeptEndpoint). KeepsEnd new o dev ep b) (ap (λ (f : Claims). holder setup f dev ep) (sym with.same)) (sym (with.others dev ep other))
           (end_still old new (holder setup c.claims dev ep) dev ep (c.endpoints dev ep) (but.lines dev ep apart) (but.sent dev ep apart) (at.keeps.ends dev ep i there))
+
+      free_still : (dev ep i : ℕ) → interface_of setup dev ep ≡ Some i → holder setup c.claims dev ep ≡ None → ((d ≡ dev) × (e ≡ ep) → ⊥) → ((after.endpoints dev ep).line ≡ []) × ((after.endpoints dev ep).errand ≡ None)
+      free_still dev ep i there nobody other =
+          subst (λ (b : KeptEndpoint). (b.line ≡ []) × (b.errand ≡ None)) (sym (with.others dev ep other)) (at.keeps.free dev ep i there nobody)
+
+      unheld : (dev ep i : ℕ) → interface_of setup dev ep ≡ Some i → holder setup c.claims dev ep ≡ None → (d ≡ dev) ⊎ (d ≡ dev → ⊥) → (e ≡ ep) ⊎ (e ≡ ep → ⊥) → ((after.endpoints dev ep).line ≡ []) × ((after.endpoints dev ep).errand ≡ None)
+      unheld dev ep i there nobody (inl device) (inl end) =
+          let both : None ≡ Some h = sym nobody ∙ ap₂ (λ (x y : ℕ). holder setup c.claims x y) (sym device) (sym end) ∙ at.holds in
+          absurd cc
+      unheld dev ep i there nobody (inl device) (inr other) = free_still dev ep i there nobody (λ both. other both.1)
+      unheld dev ep i there nobody (inr other) end = free_still dev ep i there nobody (λ both. other both.0)
 
       mine : KeepsEnd new (holder setup after.claims d e) d e (after.endpoints d e)
       mine = subst (λ (o : Option ℕ). KeepsEnd new o d e (after.endpoints d e)) (sym (ap (λ (f : Claims). holder setup f d e) with.same ∙ at.holds)) with.mine

@@ -18,7 +18,7 @@ use Rattle.usb_slots.proofs.Ids.{same_id}
 use Rattle.usb_state.specs.State.{KeepsName, State}
 
 -- plain addresses are the same just where their ids are
-same_by_id : (e ep : ℕ) → is_plain e ≡ true → is_plain ep ≡ true → (endpoint_id e == endpoint_id ep) ≡ (e == ep)
+pub same_by_id : (e ep : ℕ) → is_plain e ≡ true → is_plain ep ≡ true → (endpoint_id e == endpoint_id ep) ≡ (e == ep)
 same_by_id e ep p q = by_case (cases_eq e ep)
   where
     by_case : (e ≡ ep) ⊎ (e ≡ ep → ⊥) → (endpoint_id e == endpoint_id ep) ≡ (e == ep)
@@ -30,7 +30,7 @@ pub count_append : {X : Type 0} (p : X → Bool) (xs ys : List X) → count_by p
 count_append p xs ys = sum_by-append (λ x. cond (p x) 1 0) xs ys
 
 -- of one
-count_one : {X : Type 0} (p : X → Bool) (x : X) → count_by p (x ∷ []) ≡ (if p x then 1 else 0)
+pub count_one : {X : Type 0} (p : X → Bool) (x : X) → count_by p (x ∷ []) ≡ (if p x then 1 else 0)
 count_one p x = by_test (p x)
   where
     by_test : (t : Bool) → 0 + cond t 1 0 ≡ (if t then 1 else 0)

@@ -17,7 +17,7 @@ pub record IsFoundAt (p : ℕ) (ys : List KeptTransfer) (y : KeptTransfer) (i : 
   pub past : past_at p ys ≡ drop (suc i) ys
 
 -- each transfer that is found stands somewhere
-found_somewhere : (p : ℕ) (ys : List KeptTransfer) (y : KeptTransfer) → find_at p ys ≡ Some y → (i : ℕ) × IsFoundAt p ys y i
+pub found_somewhere : (p : ℕ) (ys : List KeptTransfer) (y : KeptTransfer) → find_at p ys ≡ Some y → (i : ℕ) × IsFoundAt p ys y i
 unfolding find_at put_at past_at
 found_somewhere p [] y found = absurd cc
 found_somewhere p (x ∷ xs) y found = by_test (covers p x) refl found (found_somewhere p xs y)
@@ -52,7 +52,7 @@ no_earlier (x ∷ xs) end (suc i) y row there =
     omega (arith, later, row.0)
 
 -- two places of a line have two transfers
-one_place : (size : ℕ) (ys : List KeptTransfer) (kss : List (List TrbKind)) (end i j : ℕ) (y : KeptTransfer) → AllItems size ys kss → InRow ys end → slice_get ys i ≡ Some y → slice_get ys j ≡ Some y → i ≡ j
+pub one_place : (size : ℕ) (ys : List KeptTransfer) (kss : List (List TrbKind)) (end i j : ℕ) (y : KeptTransfer) → AllItems size ys kss → InRow ys end → slice_get ys i ≡ Some y → slice_get ys j ≡ Some y → i ≡ j
 one_place size [] kss end i j y all row here there = absurd cc
 one_place size (x ∷ xs) [] end i j y all row here there = absurd all
 one_place size (x ∷ xs) (ks ∷ kss) end zero zero y all row here there = refl

@@ -68,22 +68,27 @@ has_here k d e F s x first there context work is =
     (subst (λ (o : Option TrbAt). IfSome o (λ f. F s x f)) (sym work) is))
 
 module _ {P : Type 0} where
-  -- the item where the controller works is a transfer in progress
-  pub at_work : (setup : Setup) (w : World) (s : State P) (c : Core) (h d e item : ℕ) (x : Context) (first : TrbAt) → IsAt setup s c h d e → Shows setup w c → context_in s.controller d e ≡ Some x → working x ≡ Some first
-      → IsFront s d e (Some item) → IsAtWork setup s c h d e item x first
-  at_work setup w s c h d e item x first at shows there work front = record {
-    slot = slot.slot;
-    there = slot.there;
-    context = context;
-    ring = ring;
-    y = packet.y;
-    found = packet.found;
-    in_line = in_line;
-    live = packet.live;
-    is = live_at setup s c h d e item packet.y at in_line packet.live;
-    room = packet.room;
-    reaches = packet.reaches;
-  }
+  -- where the controller works there is a transfer in progress
+  pub works_at : (setup : Setup) (w : World) (s : State P) (c : Core) (h d e : ℕ) (x : Context) (first : TrbAt) → IsAt setup s c h d e → Shows setup w c → context_in s.controller d e ≡ Some x → working x ≡ Some first
+      → (item : ℕ) × (j : ℕ) × IsInRing x.ring.line first.pointer item j × IsAtWork setup s c h d e item x first
+  works_at setup w s c h d e x first at shows there work = (
+    where_is.0,
+    b.dequeue - packet.y.place,
+    subst (λ (p : ℕ). IsInRing x.ring.line p where_is.0 (b.dequeue - packet.y.place)) (sym packet.pointer) where_is.2,
+    record {
+      slot = slot.slot;
+      there = slot.there;
+      context = context;
+      ring = ring;
+      y = packet.y;
+      found = packet.found;
+      in_line = where_is.1;
+      live = packet.live;
+      is = live_at setup s c h d e where_is.0 packet.y at where_is.1 packet.live;
+      room = packet.room;
+      reaches = packet.reaches;
+    },
+  )
     where
       b : KeptEndpoint
       b = c.endpoints d e
@@ -107,11 +112,12 @@ module _ {P : Type 0} where
       where_is : (i : ℕ) × (slice_get b.line i ≡ Some packet.y) × IsInRing x.ring.line (address_of places x.ring.line.base b.dequeue) i (b.dequeue - packet.y.place)
       where_is = where_.item x b b.dequeue packet.y ring.context packet.found
 
-      index : item ≡ where_is.0
-      index = same_Some item where_is.0 (front.found x first where_is.0 (b.dequeue - packet.y.place) there work (subst (λ (p : ℕ). IsInRing x.ring.line p where_is.0 (b.dequeue - packet.y.place)) (sym packet.pointer) where_is.2))
-
-      in_line : slice_get b.line item ≡ Some packet.y
-      in_line = ap (slice_get b.line) index ∙ where_is.1
+  -- the item where the controller works is that transfer
+  pub at_work : (setup : Setup) (w : World) (s : State P) (c : Core) (h d e item : ℕ) (x : Context) (first : TrbAt) → IsAt setup s c h d e → Shows setup w c → context_in s.controller d e ≡ Some x → working x ≡ Some first
+      → IsFront s d e (Some item) → IsAtWork setup s c h d e item x first
+  at_work setup w s c h d e item x first at shows there work front =
+      let works = works_at setup w s c h d e x first at shows there work in
+      subst (λ (i : ℕ). IsAtWork setup s c h d e i x first) (sym (same_Some item works.0 (front.found x first works.0 works.1 there work works.2))) works.3
 
   -- so one packet of it can be served
   pub can_serve : (setup : Setup) (w : World) (s : State P) (c : Core) (h d e item : ℕ) (x : Context) (first : TrbAt) → IsAt setup s c h d e → Shows setup w c → working x ≡ Some first → IsAtWork setup s c h d e item x first

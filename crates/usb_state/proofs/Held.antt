@@ -17,7 +17,7 @@ holder_same setup f g d e same = by_interface (interface_of setup d e)
     by_interface (Some i) = same d i
 
 -- an endpoint that is held is of an interface
-held_interface : (setup : Setup) (f : Claims) (d e h : ℕ) → holder setup f d e ≡ Some h → (i : ℕ) × (interface_of setup d e ≡ Some i)
+pub held_interface : (setup : Setup) (f : Claims) (d e h : ℕ) → holder setup f d e ≡ Some h → (i : ℕ) × (interface_of setup d e ≡ Some i)
 held_interface setup f d e h held = by_interface (interface_of setup d e) refl held
   where
     by_interface : (o : Option ℕ) → interface_of setup d e ≡ o → option_and_then (λ i. f d i) o ≡ Some h → (i : ℕ) × (interface_of setup d e ≡ Some i)

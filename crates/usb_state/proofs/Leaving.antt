@@ -45,7 +45,7 @@ set_twice (z ∷ zs) zero x y = refl
 set_twice (z ∷ zs) (suc i) x y = ap (λ ws. z ∷ ws) (set_twice zs i x y)
 
 -- one more passes the test
-all_more : {A : Type 0} (p : A → Type 0) (xs : List A) (x : A) → AllByRecursion p xs → p x → AllByRecursion p (xs ++ x ∷ [])
+pub all_more : {A : Type 0} (p : A → Type 0) (xs : List A) (x : A) → AllByRecursion p xs → p x → AllByRecursion p (xs ++ x ∷ [])
 all_more p [] x all is = (is, tt)
 all_more p (y ∷ ys) x all is = (all.0, all_more p ys x all.1 is)
 

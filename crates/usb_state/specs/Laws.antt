@@ -15,12 +15,15 @@ use Rattle.usb_flight.specs.declared.ending.Ending.{Ending}
 use Rattle.usb_kept.specs.Kept.{trbs_of}
 use Rattle.usb_model.specs.Setup.{Setup, endpoint_id}
 use Rattle.usb_model.specs.World.{World}
+use Rattle.usb_model.specs.declared.entry.Entry.{Entry}
 use Rattle.usb_model.specs.declared.errand.Errand.{Errand}
 use Rattle.usb_model.specs.declared.item.Ask.{Ask}
 use Rattle.usb_model.specs.declared.request.Request.{Request}
+use Rattle.usb_model.specs.declared.step.Step.{Step}
 use Rattle.usb_segment.specs.Places.{index_of}
 use Rattle.usb_shows.specs.Shows.{Core, Shows}
-use Rattle.usb_state.specs.State.{State}
+use Rattle.usb_state.specs.State.{IsState, State}
+use Rattle.usb_state.specs.Steps.{Does, Turns}
 use Rattle.usb_state.specs.Works.{Asks, CanServeItem, Finishes, IsAt, IsFront, IsUnstarted, Leaves, MovesPacket, Pauses, Posts, Resumes, Starts, Withdraws, context_in, leading, order_by}
 use Rattle.usb_transfer.specs.Tds.{tds_of}
 use Rattle.usb_transfer.specs.Trbs.{normals_of}
@@ -71,3 +74,7 @@ module _ (P : Type 0) where
   -- a packet is the core's: what is told of it, and what it leaves
   abbrev pub MovesPackets : Type 0
   MovesPackets = (old : State P) (k : Controller) (f : Flights (InFlight P)) (h d e item n : ℕ) (told : Told) → (x : Context) → (first : TrbAt) → context_in old.controller d e ≡ Some x → working x ≡ Some first → Some told ≡ told_at old.controller d e → ((t : InFlight P) → item_at old.flights d e item ≡ Some t → t.n ≡ n) → ((t : InFlight P) → item_at old.flights d e item ≡ Some t → k ≡ served_at old.controller d e (flight.out_of e t.request.body)) → ((t : InFlight P) → item_at old.flights d e item ≡ Some t → Serves old.flights f old.controller d e item t) → f.ended ≡ old.flights.ended → MovesPacket old (record old { controller = k; flights = f }) h d e item n told
+
+  -- a step that is the core's is the world's, and leaves parts that show a world
+  abbrev pub TurnsWorlds : Type 0
+  TurnsWorlds = (old new : State P) (step : Step) (entry : Entry) → Does old step entry new → Turns old step entry new × (IsState old → IsState new)

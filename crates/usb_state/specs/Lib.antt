@@ -1,3 +1,10 @@
 pub mod State
 pub mod Works
+pub mod Steps
+pub mod Making
+pub mod Delivering
 pub mod Laws
+pub mod Handles
+pub mod Calls
+pub mod Submitting
+pub mod Renewing

@@ -21,7 +21,7 @@ use Rattle.usb_xhc.specs.Controller.{Controller}
 use Rattle.usb_flight.specs.Flights.{EndedOf, Flights, line_at}
 use Rattle.usb_callers.specs.Caller.{Kept as Caller}
 use Rattle.usb_callers.specs.Callers.{callback_at, callbacks_at, number_of, results_at}
-use Rattle.usb_shows.specs.Lively.{IsFine}
+use Rattle.usb_shows.specs.Lively.{IsFine, ends_of}
 use Rattle.usb_shows.specs.Shows.{Core, Shows}
 use Rattle.usb_slots.specs.Holds.{HoldsCore}
 use Rattle.usb_slots.specs.Laws.{HasPlain}
@@ -91,6 +91,7 @@ pub record Keeps {P : Type 0} (setup : Setup) (s : State P) (c : Core) : Type 0 
   pub plain : HasPlain setup
   pub fine : IsFine setup
   pub few : length setup ≤ 4
+  pub bounded : length (ends_of setup) ≤ 120
   pub lanes : length s.flights.lines ≡ 128
   pub cells : length s.outstanding ≡ 128
   pub held : HoldsCore setup s.controller c
@@ -99,6 +100,8 @@ pub record Keeps {P : Type 0} (setup : Setup) (s : State P) (c : Core) : Type 0 
   pub ended : c.results ≡ map result_of s.flights.ended
   pub ended_plain : AllByRecursion (λ x. is_plain x.piece.request.ep ≡ true) c.results
   pub ends : (d e i : ℕ) → interface_of setup d e ≡ Some i → KeepsEnd s (holder setup c.claims d e) d e (c.endpoints d e)
+  -- where nobody holds an endpoint nothing is left there
+  pub free : (d e i : ℕ) → interface_of setup d e ≡ Some i → holder setup c.claims d e ≡ None → ((c.endpoints d e).line ≡ []) × ((c.endpoints d e).errand ≡ None)
 
 -- they show this world (a core between them is what they keep)
 abbrev pub ShowsWorld : {P : Type 0} → Setup → State P → World → Type 0

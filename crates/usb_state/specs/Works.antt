@@ -34,7 +34,7 @@ use Rattle.usb_flight.specs.declared.ending.Ending.{Ending}
 use Rattle.usb_match.specs.Told.{reply_of}
 use Rattle.usb_shows.specs.Shows.{Core, Shows, event_at, order_at}
 use Rattle.usb_slots.specs.Holds.{with_end}
-use Rattle.usb_slots.specs.Laws.{NoMove}
+use Rattle.usb_shows.specs.Known.{NoMove}
 use Rattle.usb_claims.specs.Holding.{IsSetup, owner_of}
 use Rattle.usb_state.specs.State.{Keeps, State}
 

@@ -1,6 +1,6 @@
 //! What is proved of the definitions in specs/. Each is the contract of a function with an empty body.
 
-ghost use Rattle.usb_state.specs.Laws.{AsksTransfers, FinishesTransfers, LeavesBlanks, MovesPackets, OrdersErrands, PausesTransfers, ResumesEndpoints, ServesSafely, StartsTransfers, WithdrawsTransfers};
+ghost use Rattle.usb_state.specs.Laws.{AsksTransfers, FinishesTransfers, LeavesBlanks, MovesPackets, OrdersErrands, PausesTransfers, ResumesEndpoints, ServesSafely, StartsTransfers, TurnsWorlds, WithdrawsTransfers};
 
 /// An errand that is ordered is ordered in the core.
 pub fn posts<P>()
@@ -50,4 +50,9 @@ pub fn can_serve<P>()
 /// A packet is the core's: what is told of it, and what it leaves.
 pub fn moves<P>()
     ensures { MovesPackets P }
+{}
+
+/// A step that is the core's is the world's, and leaves parts that show a world.
+pub fn turns<P>()
+    ensures { TurnsWorlds P }
 {}

@@ -1,10 +1,11 @@
 //! The TDs of a transfer, by their lengths.
 
-ghost use Rattle.std.specs.Prelude.{◌≡◌, ◌≤◌, length};
+ghost use Rattle.std.specs.Prelude.{◌≡◌, ◌≤◌, ◌<◌, length};
 ghost use Rattle.usb_model.specs.Limits.{most_bytes};
 ghost use Rattle.usb_model.specs.Requests.{length_of};
 ghost use Rattle.usb_transfer.specs.Tds.{tds_of, lengths};
 ghost use Rattle.usb_kept.specs.Kept.{is_extra, trbs_of};
+ghost use Rattle.usb_kept.specs.Stands.{length_at, read_off};
 
 use std::marker::Model;
 use usb_model::{Body, Request};
@@ -34,8 +35,9 @@ impl Model for Tds {
 }
 
 impl Tds {
-    /// Those of a request that isn't refused, at an endpoint of this packet size in bytes.
-    pub(crate) fn of(size: u16, request: &Request) -> Tds
+    /// Those of a request of at most 262,144 bytes, as is each that isn't refused, at an endpoint of this packet size in
+    /// bytes.
+    pub fn of(size: u16, request: &Request) -> Tds
         requires { length_of request.now.body ≤ most_bytes }
         ensures { result ≡ tds_of size request.now }
     {
@@ -62,6 +64,19 @@ impl Tds {
     {
         let whole = self.length.saturating_sub(1) / PIECE;
         whole as usize + 1 + usize::from(self.extra)
+    }
+
+    /// How many bytes of the transfer moved where an event at its TRB of this number, from 0 on, has this residual, which is
+    /// how many bytes of that TRB did not move (xHCI 1.2, 6.4.2.1): those of the TRBs before it, and that TRB's without the
+    /// residual.
+    pub fn moved(self, trb: usize, residual: u32) -> u32
+        requires trb { trb < length (lengths self) }
+        requires residual { residual ≤ length_at (lengths self) trb }
+        ensures value { result ≡ read_off (lengths self) trb residual }
+        ensures most { result ≤ self.length }
+    {
+        let end = (trb as u32 + 1) * PIECE;
+        end.min(self.length) - residual
     }
 }
 

@@ -71,6 +71,8 @@ fn is_sent_as(rt: &impl Abort, request: &Request, trbs: &[Normal]) -> Result<(),
     assert_eq!(rt; tds.trbs(0).as_slice(), trbs);
     assert_eq!(rt; tds.count(), trbs.len());
     assert_eq!(rt; tds.length() as usize, request.body.length());
+    let last = tds.count() - 1;
+    assert_eq!(rt; tds.moved(last, 0), tds.length());
     Ok(())
 }
 

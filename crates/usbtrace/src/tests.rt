@@ -9,6 +9,6 @@ mod long;
 mod model;
 mod rows;
 mod runs;
-mod scenes;
 mod streams;
+mod texts;
 mod words;

@@ -1,6 +1,6 @@
 //! Texts at the edges of what is taken.
 
-use super::fakes::{Comment, Input, Outcome, Output, run, run_into};
+use super::fakes::{Comment, Input, Output, run, run_into};
 use std::alloc::Global;
 use std::io::ErrorKind;
 
@@ -9,58 +9,46 @@ const WORDS: &[&str] = &["usbtrace", "run"];
 /// How many bytes an input may have.
 const LONGEST: usize = 67_108_864;
 
-#[test]
-fn a_comment_may_have_any_bytes(rt: HostRuntime) {
-    let text = b"# caf\xc3\xa9 \xff\x00\x80\nopen 1 0\n#\xff";
-    let outcome = run(rt.alloc(), WORDS, Input::new(text, 4));
-    assert!(rt; outcome.is(0, "h1 refused 3\n", ""));
+/// Whether a line of this input is refused.
+fn refuses(alloc: Global, input: &[u8], said: &str) -> bool {
+    run(alloc, WORDS, Input::new(input, 4)).only_says(1, said)
 }
 
-#[test]
-fn bytes_past_ascii_make_another_line_bad(rt: HostRuntime) {
-    for text in [b"#\xff\n\xc3\xa9\n".as_slice(), b"#\xff\nopen 1 0\x80\n"] {
-        let outcome = run(rt.alloc(), WORDS, Input::new(text, 4));
-        assert!(rt; outcome.only_says(1, "usbtrace: line 2 refused\n"));
-    }
-}
+/// A worked row that is no text, as the others are.
+const A_BYTE_PAST_ASCII: &[u8] = b"\
+# a comment
 
-/// A transfer waits at endpoint 81; the address 91 has the same number and direction, and is no endpoint's.
-const ANOTHER_ADDRESS: &[u8] = b"\
 device 0 0902300002010080320904000002ff00000007058102080000070502020800000904010001ff0000000705830308000a
-script 0 81 d:01
-open 1 0
-claim 1 0
-submit 1 81 bulk 8
-serve 0 91
-serve 0 81
+open 1 0\xe9
 ";
 
 #[test]
-fn an_address_with_bit_4_is_no_endpoint(rt: HostRuntime) {
-    let outcome = run(rt.alloc(), WORDS, Input::new(ANOTHER_ADDRESS, 64));
-    let lines = "h1 done\nh1 done\nh1 number 0\n- idle\nh1 ended 0 code 13\n";
-    assert!(rt; outcome.is(0, lines, ""));
+fn bytes_past_ascii_stand_in_comments_alone(rt: HostRuntime) {
+    let text = b"# caf\xc3\xa9 \xff\x00\x80\nopen 1 0\n#\xff";
+    let outcome = run(rt.alloc(), WORDS, Input::new(text, 4));
+    assert!(rt; outcome.is(0, "h1 refused 3\n", ""));
+    let second = "usbtrace: line 2 refused\n";
+    assert!(rt; refuses(rt.alloc(), b"#\xff\n\xc3\xa9\n", second));
+    assert!(rt; refuses(rt.alloc(), b"#\xff\nopen 1 0\x80\n", second));
+    let fourth = "usbtrace: line 4 refused\n";
+    assert!(rt; refuses(rt.alloc(), A_BYTE_PAST_ASCII, fourth));
 }
 
-/// Runs the program over a comment of so many bytes.
-fn over_a_comment(alloc: Global, bytes: usize) -> Outcome {
-    run_into(
+/// Whether a run over a comment of so many bytes answers this status and says this.
+fn ends_over_a_comment(alloc: Global, bytes: usize, status: u8, said: &str) -> bool {
+    let outcome = run_into(
         alloc,
         WORDS,
         &mut Comment::new(bytes),
         Output::new(alloc, usize::MAX, ErrorKind::BrokenPipe),
         Output::new(alloc, usize::MAX, ErrorKind::BrokenPipe),
-    )
+    );
+    outcome.only_says(status, said)
 }
 
 #[test]
-fn the_longest_input_is_taken(rt: HostRuntime) {
-    let outcome = over_a_comment(rt.alloc(), LONGEST);
-    assert!(rt; outcome.is(0, "", ""));
-}
-
-#[test]
-fn a_longer_input_cannot_be_read(rt: HostRuntime) {
-    let outcome = over_a_comment(rt.alloc(), LONGEST + 1);
-    assert!(rt; outcome.only_says(1, "usbtrace: input or output failed\n"));
+fn the_longest_input_is_taken_and_none_longer(rt: HostRuntime) {
+    assert!(rt; ends_over_a_comment(rt.alloc(), LONGEST, 0, ""));
+    let said = "usbtrace: input or output failed\n";
+    assert!(rt; ends_over_a_comment(rt.alloc(), LONGEST + 1, 1, said));
 }

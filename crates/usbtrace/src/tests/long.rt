@@ -1,7 +1,8 @@
 //! The worked rows of many packets, and a long scenario.
 
-use super::fakes::{Input, run};
-use std::alloc::{AllocError, Global};
+use super::texts::Part::{Numbered, Once, Packets, Times};
+use super::texts::{End, Part, ends};
+use std::alloc::Global;
 
 const WORDS: &[&str] = &["usbtrace", "run"];
 
@@ -12,131 +13,131 @@ const WIDE: &str =
 const NARROW: &str =
     "device 0 0902300002010080320904000002ff00000007058102080000070502020800000904010001ff0000000705830308000a\n";
 
-/// A text, so many times.
-fn times(alloc: Global, count: u32, text: &str) -> Result<String, AllocError> {
-    let mut all = String::new(alloc);
-    for _ in 0..count {
-        all.push_str(text)?;
-    }
-    Ok(all)
-}
+/// Steps before the first transfer.
+const CLAIMED: Part = Once("\nopen 1 0\nclaim 1 0\n");
 
-/// The digits of so many packets of 512 bytes, each byte the packet's number modulo 251, with this before each.
-fn packets(alloc: Global, count: u32, before: &str) -> Result<String, AllocError> {
-    let mut all = String::new(alloc);
-    for k in 0..count {
-        let byte = k % 251;
-        let digits = format!(in alloc; "{byte:02x}")?;
-        all.push_str(before)?;
-        for _ in 0..512 {
-            all.push_str(digits.as_str())?;
-        }
-    }
-    Ok(all)
-}
+/// What follows the last packet of a transfer.
+const ENDED: Part = Once("deliver\ntake\n");
+
+/// A handle's steps of a one-byte transfer: five each.
+const STEPS: &[&str] = &["submit 1 81 bulk 8\nserve 0 81\ndeliver\ntake\nreturn 1 "];
+
+/// What is printed of one, and then of its return.
+const COMPLETED: &[&str] = &[
+    "h1 number ",
+    "\nh1 ended ",
+    " code 13\nh1 finished ",
+    "\nh1 called ",
+];
+
+const RETURNED: &str = " ep 81 round 0 COMPLETED 1 data 01\nh1 done\n";
 
 /// Whether a scenario prints these lines.
-fn prints(alloc: Global, text: &String, lines: &String) -> bool {
-    run(alloc, WORDS, Input::new(text.as_bytes(), 10_007)).is(0, lines.as_str(), "")
+fn prints(alloc: Global, text: &[Part], out: &[Part]) -> bool {
+    let end = End {
+        status: 0,
+        out,
+        err: &[],
+    };
+    ends(alloc, WORDS, text, 10_007, &end)
 }
 
 #[test]
-fn the_longest_read_has_512_packets(rt: HostRuntime) -> Result<(), AllocError> {
-    let alloc = rt.alloc();
-    let script = packets(alloc, 512, " d:")?;
-    let serves = times(alloc, 512, "serve 0 81\n")?;
-    let text = format!(in alloc;
-        "{WIDE}script 0 81{script}\nopen 1 0\nclaim 1 0\nsubmit 1 81 bulk 262145\nsubmit 1 81 bulk 262144\n{serves}deliver\ntake\n"
-    )?;
-    let moved = times(alloc, 511, "h1 moved 0 512\n")?;
-    let bytes = packets(alloc, 512, "")?;
-    let lines = format!(in alloc;
-        "h1 done\nh1 done\nh1 refused 1\nh1 number 0\n{moved}h1 ended 0 code 1\nh1 finished 0\nh1 called 0 ep 81 round 0 COMPLETED 262144 data {bytes}\n"
-    )?;
-    assert!(rt; prints(alloc, &text, &lines));
-    Ok(())
+fn the_longest_read_has_512_packets(rt: HostRuntime) {
+    let text = [
+        Once(WIDE),
+        Once("script 0 81"),
+        Packets(512, " d:"),
+        CLAIMED,
+        Once("submit 1 81 bulk 262145\nsubmit 1 81 bulk 262144\n"),
+        Times(512, "serve 0 81\n"),
+        ENDED,
+    ];
+    let lines = [
+        Once("h1 done\nh1 done\nh1 refused 1\nh1 number 0\n"),
+        Times(511, "h1 moved 0 512\n"),
+        Once("h1 ended 0 code 1\nh1 finished 0\nh1 called 0 ep 81 round 0 COMPLETED 262144 data "),
+        Packets(512, ""),
+        Once("\n"),
+    ];
+    assert!(rt; prints(rt.alloc(), &text, &lines));
 }
 
 #[test]
-fn a_long_read_ends_with_a_short_packet(rt: HostRuntime) -> Result<(), AllocError> {
-    let alloc = rt.alloc();
-    let script = packets(alloc, 128, " d:")?;
-    let serves = times(alloc, 129, "serve 0 81\n")?;
-    let text = format!(in alloc;
-        "{WIDE}script 0 81{script} d:beef\nopen 1 0\nclaim 1 0\nsubmit 1 81 bulk 65540\n{serves}deliver\ntake\n"
-    )?;
-    let moved = times(alloc, 128, "h1 moved 0 512\n")?;
-    let bytes = packets(alloc, 128, "")?;
-    let lines = format!(in alloc;
-        "h1 done\nh1 done\nh1 number 0\n{moved}h1 ended 0 code 13\nh1 finished 0\nh1 called 0 ep 81 round 0 COMPLETED 65538 data {bytes}beef\n"
-    )?;
-    assert!(rt; prints(alloc, &text, &lines));
-    Ok(())
+fn a_long_read_ends_with_a_short_packet(rt: HostRuntime) {
+    let text = [
+        Once(WIDE),
+        Once("script 0 81"),
+        Packets(128, " d:"),
+        Once(" d:beef"),
+        CLAIMED,
+        Once("submit 1 81 bulk 65540\n"),
+        Times(129, "serve 0 81\n"),
+        ENDED,
+    ];
+    let lines = [
+        Once("h1 done\nh1 done\nh1 number 0\n"),
+        Times(128, "h1 moved 0 512\n"),
+        Once("h1 ended 0 code 13\nh1 finished 0\nh1 called 0 ep 81 round 0 COMPLETED 65538 data "),
+        Packets(128, ""),
+        Once("beef\n"),
+    ];
+    assert!(rt; prints(rt.alloc(), &text, &lines));
 }
 
 #[test]
-fn a_long_write_ends_with_an_empty_packet(rt: HostRuntime) -> Result<(), AllocError> {
-    let alloc = rt.alloc();
-    let script = times(alloc, 257, " a")?;
-    let bytes = times(alloc, 131_072, "5a")?;
-    let serves = times(alloc, 257, "serve 0 02\n")?;
-    let text = format!(in alloc;
-        "{WIDE}script 0 02{script}\nopen 1 0\nclaim 1 0\nsubmit 1 02 bulk x:{bytes} flags=ADD_ZERO_PACKET\n{serves}deliver\ntake\n"
-    )?;
-    let moved = times(alloc, 256, "h1 moved 0 512\n")?;
-    let lines = format!(in alloc;
-        "h1 done\nh1 done\nh1 number 0\n{moved}h1 ended 0 code 1\nh1 finished 0\nh1 called 0 ep 02 round 0 COMPLETED 131072 data -\n"
-    )?;
-    assert!(rt; prints(alloc, &text, &lines));
-    Ok(())
-}
-
-/// A handle's steps of so many one-byte transfers, one after another: five each.
-fn one_by_one(alloc: Global, count: u32) -> Result<String, AllocError> {
-    let mut all = String::new(alloc);
-    for n in 0..count {
-        let steps = format!(in alloc;
-            "submit 1 81 bulk 8\nserve 0 81\ndeliver\ntake\nreturn 1 {n}\n"
-        )?;
-        all.push_str(steps.as_str())?;
-    }
-    Ok(all)
-}
-
-/// What is printed of them.
-fn each_completed(alloc: Global, count: u32) -> Result<String, AllocError> {
-    let mut all = String::new(alloc);
-    for n in 0..count {
-        let said = format!(in alloc;
-            "h1 number {n}\nh1 ended {n} code 13\nh1 finished {n}\nh1 called {n} ep 81 round 0 COMPLETED 1 data 01\nh1 done\n"
-        )?;
-        all.push_str(said.as_str())?;
-    }
-    Ok(all)
+fn a_long_write_ends_with_an_empty_packet(rt: HostRuntime) {
+    let text = [
+        Once(WIDE),
+        Once("script 0 02"),
+        Times(257, " a"),
+        CLAIMED,
+        Once("submit 1 02 bulk x:"),
+        Times(131_072, "5a"),
+        Once(" flags=ADD_ZERO_PACKET\n"),
+        Times(257, "serve 0 02\n"),
+        ENDED,
+    ];
+    let lines = [
+        Once("h1 done\nh1 done\nh1 number 0\n"),
+        Times(256, "h1 moved 0 512\n"),
+        Once(
+            "h1 ended 0 code 1\nh1 finished 0\nh1 called 0 ep 02 round 0 COMPLETED 131072 data -\n",
+        ),
+    ];
+    assert!(rt; prints(rt.alloc(), &text, &lines));
 }
 
 #[test]
-fn two_hundred_transfers_go_one_after_another(rt: HostRuntime) -> Result<(), AllocError> {
-    let alloc = rt.alloc();
-    let script = times(alloc, 200, " d:01")?;
-    let steps = one_by_one(alloc, 200)?;
-    let text = format!(in alloc;
-        "{NARROW}script 0 81{script}\nopen 1 0\nclaim 1 0\n{steps}\nsubmit 1 81 bulk 262144\nsubmit 1 81 bulk 262145\n"
-    )?;
-    let said = each_completed(alloc, 200)?;
-    let lines = format!(in alloc; "h1 done\nh1 done\n{said}h1 number 200\nh1 refused 1\n")?;
-    assert!(rt; prints(alloc, &text, &lines));
-    Ok(())
+fn two_hundred_transfers_go_one_after_another(rt: HostRuntime) {
+    let text = [
+        Once(NARROW),
+        Once("script 0 81"),
+        Times(200, " d:01"),
+        CLAIMED,
+        Numbered(200, STEPS, "\n"),
+        Once("\nsubmit 1 81 bulk 262144\nsubmit 1 81 bulk 262145\n"),
+    ];
+    let lines = [
+        Once("h1 done\nh1 done\n"),
+        Numbered(200, COMPLETED, RETURNED),
+        Once("h1 number 200\nh1 refused 1\n"),
+    ];
+    assert!(rt; prints(rt.alloc(), &text, &lines));
 }
 
 #[test]
-fn a_scenario_may_have_many_steps(rt: HostRuntime) -> Result<(), AllocError> {
-    let alloc = rt.alloc();
-    let script = times(alloc, 2_000, " d:01")?;
-    let steps = one_by_one(alloc, 2_000)?;
-    let text = format!(in alloc; "{NARROW}script 0 81{script}\nopen 1 0\nclaim 1 0\n{steps}")?;
-    let said = each_completed(alloc, 2_000)?;
-    let lines = format!(in alloc; "h1 done\nh1 done\n{said}")?;
-    assert!(rt; prints(alloc, &text, &lines));
-    Ok(())
+fn a_scenario_may_have_many_steps(rt: HostRuntime) {
+    let text = [
+        Once(NARROW),
+        Once("script 0 81"),
+        Times(2_000, " d:01"),
+        CLAIMED,
+        Numbered(2_000, STEPS, "\n"),
+    ];
+    let lines = [
+        Once("h1 done\nh1 done\n"),
+        Numbered(2_000, COMPLETED, RETURNED),
+    ];
+    assert!(rt; prints(rt.alloc(), &text, &lines));
 }

@@ -1,12 +1,14 @@
 //! Streams that fail.
 
-use super::fakes::{Input, Outcome, Output, run, run_into, run_until_flushed};
+use super::fakes::{Input, Output, run, run_into, run_until_flushed};
 use std::alloc::Global;
 use std::io::ErrorKind;
 
 const WORDS: &[&str] = &["usbtrace", "run"];
 
 const ALONE: &[&str] = &["usbtrace", "alone", "1"];
+
+const CHECK: &[&str] = &["usbtrace", "check"];
 
 const HELP: &[&str] = &["usbtrace", "-h"];
 
@@ -16,24 +18,46 @@ const TEXT: &[u8] = b"open 1 0\nopen 1 0\n";
 /// What is written of it.
 const LINES: &str = "h1 refused 3\nh1 refused 3\n";
 
-/// Runs it where standard output takes so many bytes and then fails so.
-fn into_a_full_output(alloc: Global, words: &[&str], room: usize, error: ErrorKind) -> Outcome {
-    run_into(
+const FAILED: &str = "usbtrace: input or output failed\n";
+
+const NO_MEMORY: &str = "usbtrace: out of memory\n";
+
+/// Whether a read that fails so behind these bytes is all that is told.
+fn tells_of_a_read(
+    alloc: Global,
+    words: &[&str],
+    bytes: &[u8],
+    error: ErrorKind,
+    said: &str,
+) -> bool {
+    run(alloc, words, Input::failing(bytes, 3, error)).only_says(1, said)
+}
+
+/// Whether a write that fails so behind this is told, and this is what standard output has.
+fn tells_of_a_write(
+    alloc: Global,
+    words: &[&str],
+    text: &[u8],
+    error: ErrorKind,
+    out: &str,
+    said: &str,
+) -> bool {
+    let outcome = run_into(
         alloc,
         words,
-        &mut Input::new(TEXT, 4),
-        Output::new(alloc, room, error),
+        &mut Input::new(text, 4),
+        Output::new(alloc, out.len(), error),
         Output::new(alloc, usize::MAX, ErrorKind::BrokenPipe),
-    )
+    );
+    outcome.is(1, out, said)
 }
 
 #[test]
 fn a_read_that_fails_in_midstream_ends_the_run(rt: HostRuntime) {
     for count in 0..TEXT.len() {
-        let input = Input::failing(&TEXT[..count], 3, ErrorKind::ConnectionReset);
-        let outcome = run(rt.alloc(), WORDS, input);
+        let front = &TEXT[..count];
         assert!(rt;
-            outcome.only_says(1, "usbtrace: input or output failed\n"),
+            tells_of_a_read(rt.alloc(), WORDS, front, ErrorKind::ConnectionReset, FAILED),
             "{count}"
         );
     }
@@ -41,87 +65,89 @@ fn a_read_that_fails_in_midstream_ends_the_run(rt: HostRuntime) {
 
 #[test]
 fn a_read_without_memory_is_told_so(rt: HostRuntime) {
-    for words in [WORDS, ALONE] {
-        let input = Input::failing(TEXT, 3, ErrorKind::OutOfMemory);
-        let outcome = run(rt.alloc(), words, input);
-        assert!(rt; outcome.only_says(1, "usbtrace: out of memory\n"));
-    }
+    let (alloc, error) = (rt.alloc(), ErrorKind::OutOfMemory);
+    assert!(rt; tells_of_a_read(alloc, WORDS, TEXT, error, NO_MEMORY));
+    assert!(rt; tells_of_a_read(alloc, ALONE, TEXT, error, NO_MEMORY));
+    assert!(rt; tells_of_a_read(alloc, CHECK, b"no line\n", error, NO_MEMORY));
 }
 
 #[test]
 fn a_read_that_fails_hides_a_bad_line(rt: HostRuntime) {
-    let input = Input::failing(b"no line\n", 100, ErrorKind::ConnectionReset);
-    let outcome = run(rt.alloc(), WORDS, input);
-    assert!(rt; outcome.only_says(1, "usbtrace: input or output failed\n"));
+    let (alloc, error) = (rt.alloc(), ErrorKind::ConnectionReset);
+    assert!(rt; tells_of_a_read(alloc, WORDS, b"no line\n", error, FAILED));
+    assert!(rt; tells_of_a_read(alloc, CHECK, b"no line\n", error, FAILED));
+}
+
+/// The first beginning of its lines behind which a write that fails isn't told on these words.
+fn first_to_differ(alloc: Global, words: &[&str]) -> Option<usize> {
+    for room in 0..LINES.len() {
+        let front = LINES.get(..room).unwrap_or("");
+        if !tells_of_a_write(alloc, words, TEXT, ErrorKind::BrokenPipe, front, FAILED) {
+            return Some(room);
+        }
+    }
+    None
 }
 
 #[test]
 fn a_write_that_fails_in_midstream_ends_the_run(rt: HostRuntime) {
-    for words in [WORDS, ALONE] {
-        for room in 0..LINES.len() {
-            let outcome = into_a_full_output(rt.alloc(), words, room, ErrorKind::BrokenPipe);
-            let front = LINES.get(..room).unwrap_or("");
-            assert!(rt;
-                outcome.is(1, front, "usbtrace: input or output failed\n"),
-                "{room}"
-            );
-        }
-    }
+    let (alloc, error) = (rt.alloc(), ErrorKind::BrokenPipe);
+    let first = first_to_differ(alloc, WORDS).or(first_to_differ(alloc, ALONE));
+    assert_eq!(rt; first, None);
+    assert!(rt; tells_of_a_write(alloc, CHECK, b"take 1\n", error, "line 1:", FAILED));
+    assert!(rt; tells_of_a_write(alloc, CHECK, b"take\n", error, "0 devic", FAILED));
+    assert!(rt; tells_of_a_write(alloc, HELP, TEXT, error, "", FAILED));
 }
 
 #[test]
 fn a_write_without_memory_is_told_so(rt: HostRuntime) {
-    for words in [WORDS, ALONE] {
-        let outcome = into_a_full_output(rt.alloc(), words, 13, ErrorKind::OutOfMemory);
-        assert!(rt; outcome.is(1, "h1 refused 3\n", "usbtrace: out of memory\n"));
-    }
+    let (alloc, error) = (rt.alloc(), ErrorKind::OutOfMemory);
+    assert!(rt; tells_of_a_write(alloc, WORDS, TEXT, error, "h1 refused 3\n", NO_MEMORY));
+    assert!(rt; tells_of_a_write(alloc, ALONE, TEXT, error, "h1 refused 3\n", NO_MEMORY));
 }
 
-#[test]
-fn help_into_an_output_that_fails_is_a_fault(rt: HostRuntime) {
-    let outcome = into_a_full_output(rt.alloc(), HELP, 0, ErrorKind::BrokenPipe);
-    assert!(rt; outcome.only_says(1, "usbtrace: input or output failed\n"));
+/// Whether these words end so, where only what is flushed is seen.
+fn flushes(
+    alloc: Global,
+    words: &[&str],
+    status: u8,
+    out: &str,
+    said: &str,
+    error: Option<ErrorKind>,
+) -> bool {
+    run_until_flushed(alloc, words, Input::new(TEXT, 4), error).is(status, out, said)
 }
 
 #[test]
 fn what_is_printed_is_flushed(rt: HostRuntime) {
-    for words in [WORDS, ALONE] {
-        let outcome = run_until_flushed(rt.alloc(), words, Input::new(TEXT, 4), None);
-        assert!(rt; outcome.is(0, LINES, ""));
-    }
+    assert!(rt; flushes(rt.alloc(), WORDS, 0, LINES, "", None));
+    assert!(rt; flushes(rt.alloc(), ALONE, 0, LINES, "", None));
     let outcome = run_until_flushed(rt.alloc(), HELP, Input::new(TEXT, 4), None);
     assert!(rt; outcome.ends_well() && outcome.shows("Usage: usbtrace"));
 }
 
 #[test]
 fn a_flush_that_fails_is_a_fault(rt: HostRuntime) {
-    for words in [WORDS, ALONE, HELP] {
-        let input = Input::new(TEXT, 4);
-        let outcome = run_until_flushed(rt.alloc(), words, input, Some(ErrorKind::BrokenPipe));
-        assert!(rt; outcome.only_says(1, "usbtrace: input or output failed\n"));
-    }
+    let error = Some(ErrorKind::BrokenPipe);
+    assert!(rt; flushes(rt.alloc(), WORDS, 1, "", FAILED, error));
+    assert!(rt; flushes(rt.alloc(), ALONE, 1, "", FAILED, error));
+    assert!(rt; flushes(rt.alloc(), HELP, 1, "", FAILED, error));
+}
+
+/// Whether these words answer this status, where standard error fails.
+fn answers(alloc: Global, words: &[&str], text: &[u8], status: u8) -> bool {
+    let outcome = run_into(
+        alloc,
+        words,
+        &mut Input::new(text, 1),
+        Output::new(alloc, usize::MAX, ErrorKind::BrokenPipe),
+        Output::new(alloc, 0, ErrorKind::BrokenPipe),
+    );
+    outcome.only_says(status, "")
 }
 
 #[test]
 fn the_status_is_left_where_standard_error_fails(rt: HostRuntime) {
-    let alloc = rt.alloc();
-    for (text, words, status) in [
-        (b"no line\n".as_slice(), WORDS, 1),
-        (TEXT, ["usbtrace", "walk"].as_slice(), 2),
-    ] {
-        let outcome = run_into(
-            alloc,
-            words,
-            &mut Input::new(text, 1),
-            Output::new(alloc, usize::MAX, ErrorKind::BrokenPipe),
-            Output::new(alloc, 0, ErrorKind::BrokenPipe),
-        );
-        assert!(rt; outcome.only_says(status, ""));
-    }
-}
-
-#[test]
-fn the_last_line_may_lack_its_line_feed(rt: HostRuntime) {
-    let outcome = run(rt.alloc(), WORDS, Input::new(b"open 1 0\nopen 1 0", 5));
-    assert!(rt; outcome.is(0, LINES, ""));
+    assert!(rt; answers(rt.alloc(), WORDS, b"no line\n", 1));
+    assert!(rt; answers(rt.alloc(), &["usbtrace", "walk"], TEXT, 2));
 }

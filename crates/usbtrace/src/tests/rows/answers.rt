@@ -1,12 +1,8 @@
 //! Answers of a device that end a transfer badly.
 
-use super::Row;
-
-pub(crate) const ROWS: &[Row] = &[
-    Row {
-        name: "broken_at_first",
-        words: &["usbtrace", "run"],
-        input: b"\
+pub(crate) static ROWS: &str = "\
+=== broken_at_first
+usbtrace run
 device 0 0902300002010080320904000002ff00000007058102080000070502020800000904010001ff0000000705830308000a
 script 0 81 b d:01
 script 0 02 b a
@@ -32,8 +28,7 @@ submit 1 81 bulk 8
 submit 1 02 bulk x:00
 serve 0 81
 serve 0 02
-",
-        out: "\
+--- prints
 h1 done
 h1 done
 h1 number 0
@@ -56,13 +51,8 @@ h1 number 2
 h1 number 3
 h1 ended 2 code 13
 h1 ended 3 code 1
-",
-        err: "",
-    },
-    Row {
-        name: "broken_amid_packets",
-        words: &["usbtrace", "run"],
-        input: b"\
+=== broken_amid_packets
+usbtrace run
 device 0 0902300002010080320904000002ff00000007058102080000070502020800000904010001ff0000000705830308000a
 script 0 81 d:0102030405060708 b
 script 0 02 a b
@@ -78,8 +68,7 @@ deliver
 deliver
 take
 take
-",
-        out: "\
+--- prints
 h1 done
 h1 done
 h1 number 0
@@ -92,13 +81,8 @@ h1 finished 0
 h1 finished 1
 h1 called 0 ep 81 round 0 ERROR 8 data 0102030405060708
 h1 called 1 ep 02 round 0 ERROR 8 data -
-",
-        err: "",
-    },
-    Row {
-        name: "broken_behind_a_cancel",
-        words: &["usbtrace", "run"],
-        input: b"\
+=== broken_behind_a_cancel
+usbtrace run
 device 0 0902300002010080320904000002ff00000007058102080000070502020800000904010001ff0000000705830308000a
 script 0 81 d:0102030405060708 b
 script 0 02 b
@@ -120,8 +104,7 @@ deliver
 take
 take
 command
-",
-        out: "\
+--- prints
 h1 done
 h1 done
 h1 number 0
@@ -140,13 +123,8 @@ h1 settled stop 02 fail
 h1 called 0 ep 81 round 0 ERROR 8 data 0102030405060708
 h1 called 1 ep 02 round 0 ERROR 0 data -
 h1 ran reset 81 ok
-",
-        err: "",
-    },
-    Row {
-        name: "stall_amid_out",
-        words: &["usbtrace", "run"],
-        input: b"\
+=== stall_amid_out
+usbtrace run
 device 0 0902300002010080320904000002ff00000007058102080000070502020800000904010001ff0000000705830308000a
 script 0 02 a n s a
 open 1 0
@@ -172,8 +150,7 @@ submit 1 02 bulk x:00
 serve 0 02
 take
 take
-",
-        out: "\
+--- prints
 h1 done
 h1 done
 h1 number 0
@@ -197,13 +174,8 @@ h1 number 2
 h1 ended 2 code 1
 h1 called 0 ep 02 round 0 STALL 8 data -
 h1 called 1 ep 02 round 0 STALL 0 data -
-",
-        err: "",
-    },
-    Row {
-        name: "stall_and_babble_amid_reads",
-        words: &["usbtrace", "run"],
-        input: b"\
+=== stall_and_babble_amid_reads
+usbtrace run
 device 0 0902300002010080320904000002ff00000007058102080000070502020800000904010001ff0000000705830308000a
 script 0 81 d:0102030405060708 s
 script 0 83 d:0102030405060708 d:010203040506070809
@@ -220,8 +192,7 @@ deliver
 deliver
 take
 take
-",
-        out: "\
+--- prints
 h1 done
 h1 done
 h1 done
@@ -235,13 +206,8 @@ h1 finished 0
 h1 finished 1
 h1 called 0 ep 81 round 0 STALL 8 data 0102030405060708
 h1 called 1 ep 83 round 0 OVERFLOW 8 data 0102030405060708
-",
-        err: "",
-    },
-    Row {
-        name: "cancel_behind_a_stall",
-        words: &["usbtrace", "run"],
-        input: b"\
+=== cancel_behind_a_stall
+usbtrace run
 device 0 0902300002010080320904000002ff00000007058102080000070502020800000904010001ff0000000705830308000a
 script 0 81 s
 open 1 0
@@ -259,8 +225,7 @@ command
 deliver
 clear 1 81
 command
-",
-        out: "\
+--- prints
 h1 done
 h1 done
 h1 number 0
@@ -276,7 +241,4 @@ h1 ran move 81 ok
 h1 settled move 81 ok
 h1 done
 - idle
-",
-        err: "",
-    },
-];
+";

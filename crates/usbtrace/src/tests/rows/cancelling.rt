@@ -1,12 +1,8 @@
 //! Transfers that are asked to end.
 
-use super::Row;
-
-pub(crate) const ROWS: &[Row] = &[
-    Row {
-        name: "cancel_after_served",
-        words: &["usbtrace", "run"],
-        input: b"\
+pub(crate) static ROWS: &str = "\
+=== cancel_after_served
+usbtrace run
 device 0 0902300002010080320904000002ff00000007058102080000070502020800000904010001ff0000000705830308000a
 script 0 81 d:0102030405060708
 open 1 0
@@ -19,8 +15,7 @@ command
 deliver
 take
 command
-",
-        out: "\
+--- prints
 h1 done
 h1 done
 h1 number 0
@@ -31,13 +26,8 @@ h1 ran stop 81 ok
 h1 settled stop 81 ok
 h1 called 0 ep 81 round 0 COMPLETED 8 data 0102030405060708
 - idle
-",
-        err: "",
-    },
-    Row {
-        name: "cancel_amid_move",
-        words: &["usbtrace", "run"],
-        input: b"\
+=== cancel_amid_move
+usbtrace run
 device 0 0902300002010080320904000002ff00000007058102080000070502020800000904010001ff0000000705830308000a
 script 0 81 d:01
 open 1 0
@@ -57,8 +47,7 @@ serve 0 81
 command
 deliver
 serve 0 81
-",
-        out: "\
+--- prints
 h1 done
 h1 done
 h1 number 0
@@ -76,13 +65,8 @@ h1 idle
 h1 ran move 81 ok
 h1 settled move 81 ok
 h1 ended 2 code 13
-",
-        err: "",
-    },
-    Row {
-        name: "cancel_amid_transfer",
-        words: &["usbtrace", "run"],
-        input: b"\
+=== cancel_amid_transfer
+usbtrace run
 device 0 0902300002010080320904000002ff00000007058102080000070502020800000904010001ff0000000705830308000a
 script 0 81 d:0102030405060708
 open 1 0
@@ -97,8 +81,7 @@ deliver
 take
 command
 deliver
-",
-        out: "\
+--- prints
 h1 done
 h1 done
 h1 number 0
@@ -111,13 +94,8 @@ h1 settled stop 81 ok
 h1 called 0 ep 81 round 0 CANCELLED 8 data 0102030405060708
 h1 ran move 81 ok
 h1 settled move 81 ok
-",
-        err: "",
-    },
-    Row {
-        name: "cancel_at_its_bound",
-        words: &["usbtrace", "run"],
-        input: b"\
+=== cancel_at_its_bound
+usbtrace run
 device 0 0902300002010080320904000002ff00000007058102080000070502020800000904010001ff0000000705830308000a
 script 0 81 d:01 d:01 d:01 d:01 d:01 d:01 d:01 d:01 d:01 d:01 d:01 d:01 d:01 d:01 d:01 d:0102030405060708
 open 1 0
@@ -189,8 +167,7 @@ take
 take
 take
 take
-",
-        out: "\
+--- prints
 h1 done
 h1 done
 h1 number 0
@@ -260,13 +237,8 @@ h1 called 12 ep 81 round 0 COMPLETED 1 data 01
 h1 called 13 ep 81 round 0 COMPLETED 1 data 01
 h1 called 14 ep 81 round 0 COMPLETED 1 data 01
 h1 called 15 ep 81 round 0 CANCELLED 8 data 0102030405060708
-",
-        err: "",
-    },
-    Row {
-        name: "cancel_in_the_middle",
-        words: &["usbtrace", "run"],
-        input: b"\
+=== cancel_in_the_middle
+usbtrace run
 device 0 0902300002010080320904000002ff00000007058102080000070502020800000904010001ff0000000705830308000a
 script 0 81 d:0102030405060708
 open 1 0
@@ -296,8 +268,7 @@ serve 0 81
 deliver
 submit 1 81 bulk 8
 submit 1 81 bulk 8
-",
-        out: "\
+--- prints
 h1 done
 h1 done
 h1 number 0
@@ -325,13 +296,8 @@ h1 ended 0 code 1
 h1 finished 0
 h1 number 16
 h1 refused 4
-",
-        err: "",
-    },
-    Row {
-        name: "cancel_loses_to_stall",
-        words: &["usbtrace", "run"],
-        input: b"\
+=== cancel_loses_to_stall
+usbtrace run
 device 0 0902300002010080320904000002ff00000007058102080000070502020800000904010001ff0000000705830308000a
 script 0 81 s
 open 1 0
@@ -349,8 +315,7 @@ command
 deliver
 take
 take
-",
-        out: "\
+--- prints
 h1 done
 h1 done
 h1 number 0
@@ -366,13 +331,8 @@ h1 ran move 81 ok
 h1 settled move 81 ok
 h1 called 0 ep 81 round 0 STALL 0 data -
 h1 called 1 ep 81 round 0 CANCELLED 0 data -
-",
-        err: "",
-    },
-    Row {
-        name: "cancel_then_expire",
-        words: &["usbtrace", "run"],
-        input: b"\
+=== cancel_then_expire
+usbtrace run
 device 0 0902300002010080320904000002ff00000007058102080000070502020800000904010001ff0000000705830308000a
 open 1 0
 claim 1 0
@@ -382,8 +342,7 @@ expire 1 0
 command
 deliver
 take
-",
-        out: "\
+--- prints
 h1 done
 h1 done
 h1 number 0
@@ -392,13 +351,8 @@ h1 refused 3
 h1 ran stop 81 ok
 h1 settled stop 81 ok
 h1 called 0 ep 81 round 0 CANCELLED 0 data -
-",
-        err: "",
-    },
-    Row {
-        name: "expire_then_cancel",
-        words: &["usbtrace", "run"],
-        input: b"\
+=== expire_then_cancel
+usbtrace run
 device 0 0902300002010080320904000002ff00000007058102080000070502020800000904010001ff0000000705830308000a
 open 1 0
 claim 1 0
@@ -408,8 +362,7 @@ cancel 1 0
 command
 deliver
 take
-",
-        out: "\
+--- prints
 h1 done
 h1 done
 h1 number 0
@@ -418,31 +371,20 @@ h1 refused 3
 h1 ran stop 81 ok
 h1 settled stop 81 ok
 h1 called 0 ep 81 round 0 TIMED_OUT 0 data -
-",
-        err: "",
-    },
-    Row {
-        name: "expire_without_timeout",
-        words: &["usbtrace", "run"],
-        input: b"\
+=== expire_without_timeout
+usbtrace run
 device 0 0902300002010080320904000002ff00000007058102080000070502020800000904010001ff0000000705830308000a
 open 1 0
 claim 1 0
 submit 1 81 bulk 8
 expire 1 0
-",
-        out: "\
+--- prints
 h1 done
 h1 done
 h1 number 0
 h1 refused 3
-",
-        err: "",
-    },
-    Row {
-        name: "pause_before_the_zero_packet",
-        words: &["usbtrace", "run"],
-        input: b"\
+=== pause_before_the_zero_packet
+usbtrace run
 device 0 0902300002010080320904000002ff00000007058102080000070502020800000904010001ff0000000705830308000a
 script 0 02 a a n
 open 1 0
@@ -455,8 +397,7 @@ command
 deliver
 deliver
 take
-",
-        out: "\
+--- prints
 h1 done
 h1 done
 h1 number 0
@@ -467,13 +408,8 @@ h1 ran stop 02 ok
 h1 paused 0
 h1 settled stop 02 ok
 h1 called 0 ep 02 round 0 CANCELLED 16 data -
-",
-        err: "",
-    },
-    Row {
-        name: "second_cancel_repeats_nothing",
-        words: &["usbtrace", "run"],
-        input: b"\
+=== second_cancel_repeats_nothing
+usbtrace run
 device 0 0902300002010080320904000002ff00000007058102080000070502020800000904010001ff0000000705830308000a
 open 1 0
 claim 1 0
@@ -490,8 +426,7 @@ deliver
 take
 take
 take
-",
-        out: "\
+--- prints
 h1 done
 h1 done
 h1 number 0
@@ -507,13 +442,8 @@ h1 settled stop 81 ok
 h1 called 1 ep 81 round 0 CANCELLED 0 data -
 h1 called 2 ep 81 round 0 CANCELLED 0 data -
 - idle
-",
-        err: "",
-    },
-    Row {
-        name: "stall_beside_cancel",
-        words: &["usbtrace", "run"],
-        input: b"\
+=== stall_beside_cancel
+usbtrace run
 device 0 0902300002010080320904000002ff00000007058102080000070502020800000904010001ff0000000705830308000a
 script 0 81 s
 script 0 83 d:aa
@@ -536,8 +466,7 @@ deliver
 take
 command
 deliver
-",
-        out: "\
+--- prints
 h1 done
 h2 done
 h1 done
@@ -557,13 +486,8 @@ h2 settled stop 83 ok
 h2 called 0 ep 83 round 0 COMPLETED 1 data aa
 h1 ran move 81 ok
 h1 settled move 81 ok
-",
-        err: "",
-    },
-    Row {
-        name: "stall_beside_cancel_alone_1",
-        words: &["usbtrace", "alone", "1"],
-        input: b"\
+=== stall_beside_cancel_alone_1
+usbtrace alone 1
 device 0 0902300002010080320904000002ff00000007058102080000070502020800000904010001ff0000000705830308000a
 script 0 81 s
 script 0 83 d:aa
@@ -586,8 +510,7 @@ deliver
 take
 command
 deliver
-",
-        out: "\
+--- prints
 h1 done
 h1 done
 h1 number 0
@@ -598,13 +521,8 @@ h1 settled reset 81 ok
 h1 called 0 ep 81 round 0 STALL 0 data -
 h1 ran move 81 ok
 h1 settled move 81 ok
-",
-        err: "",
-    },
-    Row {
-        name: "stall_beside_cancel_alone_2",
-        words: &["usbtrace", "alone", "2"],
-        input: b"\
+=== stall_beside_cancel_alone_2
+usbtrace alone 2
 device 0 0902300002010080320904000002ff00000007058102080000070502020800000904010001ff0000000705830308000a
 script 0 81 s
 script 0 83 d:aa
@@ -627,8 +545,7 @@ deliver
 take
 command
 deliver
-",
-        out: "\
+--- prints
 h2 done
 h2 done
 h2 number 0
@@ -638,7 +555,4 @@ h2 finished 0
 h2 ran stop 83 ok
 h2 settled stop 83 ok
 h2 called 0 ep 83 round 0 COMPLETED 1 data aa
-",
-        err: "",
-    },
-];
+";

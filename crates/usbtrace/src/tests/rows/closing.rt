@@ -1,12 +1,8 @@
 //! What keeps an interface from being given back, and what is left behind that.
 
-use super::Row;
-
-pub(crate) const ROWS: &[Row] = &[
-    Row {
-        name: "close_frees_its_interfaces",
-        words: &["usbtrace", "run"],
-        input: b"\
+pub(crate) static ROWS: &str = "\
+=== close_frees_its_interfaces
+usbtrace run
 device 0 0902300002010080320904000002ff00000007058102080000070502020800000904010001ff0000000705830308000a
 open 1 0
 open 2 0
@@ -22,8 +18,7 @@ submit 2 81 bulk 8
 open 1 0
 release 1 0
 claim 1 1
-",
-        out: "\
+--- prints
 h1 done
 h2 done
 h1 done
@@ -38,13 +33,8 @@ h2 number 0
 h1 done
 h1 refused 3
 h1 refused 5
-",
-        err: "",
-    },
-    Row {
-        name: "numbers_go_on_behind_a_close",
-        words: &["usbtrace", "run"],
-        input: b"\
+=== numbers_go_on_behind_a_close
+usbtrace run
 device 0 0902300002010080320904000002ff00000007058102080000070502020800000904010001ff0000000705830308000a
 script 0 81 d:01 d:02
 open 1 0
@@ -62,8 +52,7 @@ submit 1 81 bulk 8
 serve 0 81
 deliver
 take
-",
-        out: "\
+--- prints
 h1 done
 h1 done
 h1 number 0
@@ -79,13 +68,8 @@ h1 number 1
 h1 ended 1 code 13
 h1 finished 1
 h1 called 1 ep 81 round 0 COMPLETED 1 data 01
-",
-        err: "",
-    },
-    Row {
-        name: "result_that_waits_is_in_the_way",
-        words: &["usbtrace", "run"],
-        input: b"\
+=== result_that_waits_is_in_the_way
+usbtrace run
 device 0 0902300002010080320904000002ff00000007058102080000070502020800000904010001ff0000000705830308000a
 script 0 81 d:01
 open 1 0
@@ -102,8 +86,7 @@ reset 1
 return 1 0
 reset 1
 release 1 0
-",
-        out: "\
+--- prints
 h1 done
 h1 done
 h1 number 0
@@ -118,13 +101,8 @@ h1 refused 4
 h1 done
 h1 done
 h1 done
-",
-        err: "",
-    },
-    Row {
-        name: "errand_is_in_the_way",
-        words: &["usbtrace", "run"],
-        input: b"\
+=== errand_is_in_the_way
+usbtrace run
 device 0 0902300002010080320904000002ff00000007058102080000070502020800000904010001ff0000000705830308000a
 script 0 81 s
 open 1 0
@@ -144,8 +122,7 @@ command
 deliver
 reset 1
 release 1 0
-",
-        out: "\
+--- prints
 h1 done
 h1 done
 h1 number 0
@@ -163,13 +140,8 @@ h1 ran move 81 ok
 h1 settled move 81 ok
 h1 done
 h1 done
-",
-        err: "",
-    },
-    Row {
-        name: "release_looks_at_one_interface",
-        words: &["usbtrace", "run"],
-        input: b"\
+=== release_looks_at_one_interface
+usbtrace run
 device 0 0902300002010080320904000002ff00000007058102080000070502020800000904010001ff0000000705830308000a
 script 0 81 d:01
 open 1 0
@@ -182,8 +154,7 @@ release 1 0
 submit 1 83 int 8
 claim 2 1
 serve 0 81
-",
-        out: "\
+--- prints
 h1 done
 h2 done
 h1 done
@@ -194,13 +165,8 @@ h1 refused 4
 h1 refused 3
 h2 done
 h1 ended 0 code 13
-",
-        err: "",
-    },
-    Row {
-        name: "claim_of_what_is_held",
-        words: &["usbtrace", "run"],
-        input: b"\
+=== claim_of_what_is_held
+usbtrace run
 device 0 0902300002010080320904000002ff00000007058102080000070502020800000904010001ff0000000705830308000a
 script 0 81 d:0102030405060708 d:09
 open 1 0
@@ -211,8 +177,7 @@ claim 1 0
 serve 0 81
 deliver
 take
-",
-        out: "\
+--- prints
 h1 done
 h1 done
 h1 number 0
@@ -221,13 +186,8 @@ h1 done
 h1 ended 0 code 13
 h1 finished 0
 h1 called 0 ep 81 round 0 COMPLETED 9 data 010203040506070809
-",
-        err: "",
-    },
-    Row {
-        name: "reset_ends_a_halt",
-        words: &["usbtrace", "run"],
-        input: b"\
+=== reset_ends_a_halt
+usbtrace run
 device 0 0902300002010080320904000002ff00000007058102080000070502020800000904010001ff0000000705830308000a
 script 0 81 d:01 s
 open 1 0
@@ -249,8 +209,7 @@ return 1 1
 reset 1
 submit 1 81 bulk 8
 serve 0 81
-",
-        out: "\
+--- prints
 h1 done
 h1 done
 h1 number 0
@@ -270,7 +229,4 @@ h1 done
 h1 done
 h1 number 2
 h1 ended 2 code 13
-",
-        err: "",
-    },
-];
+";

@@ -1,12 +1,8 @@
 //! Several devices, and what an unplugged one leaves of its transfers.
 
-use super::Row;
-
-pub(crate) const ROWS: &[Row] = &[
-    Row {
-        name: "two_devices_one_unplugged",
-        words: &["usbtrace", "run"],
-        input: b"\
+pub(crate) static ROWS: &str = "\
+=== two_devices_one_unplugged
+usbtrace run
 device 0 0902300002010080320904000002ff00000007058102080000070502020800000904010001ff0000000705830308000a
 device 1 0902300002010080320904000002ff00000007058102080000070502020800000904010001ff0000000705830308000a
 script 0 81 d:01
@@ -31,8 +27,7 @@ submit 2 81 bulk 8
 open 3 0
 open 3 1
 claim 3 1
-",
-        out: "\
+--- prints
 h1 done
 h2 done
 h1 refused 4
@@ -53,13 +48,8 @@ h2 number 1
 h3 refused 2
 h3 done
 h3 done
-",
-        err: "",
-    },
-    Row {
-        name: "four_devices_one_unplugged",
-        words: &["usbtrace", "run"],
-        input: b"\
+=== four_devices_one_unplugged
+usbtrace run
 device 0 0902300002010080320904000002ff00000007058102080000070502020800000904010001ff0000000705830308000a
 device 1 0902300002010080320904000002ff00000007058102080000070502020800000904010001ff0000000705830308000a
 device 2 0902300002010080320904000002ff00000007058102080000070502020800000904010001ff0000000705830308000a
@@ -96,8 +86,7 @@ take
 take
 claim 3 1
 claim 4 1
-",
-        out: "\
+--- prints
 h1 done
 h2 done
 h3 done
@@ -126,13 +115,8 @@ h3 called 0 ep 81 round 0 NO_DEVICE 0 data -
 h4 called 0 ep 81 round 0 COMPLETED 1 data 0d
 h3 refused 2
 h4 done
-",
-        err: "",
-    },
-    Row {
-        name: "served_before_the_unplug",
-        words: &["usbtrace", "run"],
-        input: b"\
+=== served_before_the_unplug
+usbtrace run
 device 0 0902300002010080320904000002ff00000007058102080000070502020800000904010001ff0000000705830308000a
 script 0 81 d:01 b
 script 0 02 s
@@ -157,8 +141,7 @@ take
 take
 take
 take
-",
-        out: "\
+--- prints
 h1 done
 h1 done
 h1 done
@@ -179,13 +162,8 @@ h1 called 0 ep 83 round 0 ERROR 0 data -
 h1 called 1 ep 81 round 0 COMPLETED 1 data 01
 h1 called 2 ep 81 round 0 NO_DEVICE 0 data -
 h1 called 3 ep 02 round 0 STALL 0 data -
-",
-        err: "",
-    },
-    Row {
-        name: "unplug_amid_packets",
-        words: &["usbtrace", "run"],
-        input: b"\
+=== unplug_amid_packets
+usbtrace run
 device 0 0902300002010080320904000002ff00000007058102080000070502020800000904010001ff0000000705830308000a
 script 0 81 d:0102030405060708
 script 0 02 a
@@ -202,8 +180,7 @@ deliver
 deliver
 take
 take
-",
-        out: "\
+--- prints
 h1 done
 h1 done
 h1 number 0
@@ -217,13 +194,8 @@ h1 finished 0
 h1 finished 1
 h1 called 0 ep 81 round 0 NO_DEVICE 8 data 0102030405060708
 h1 called 1 ep 02 round 0 NO_DEVICE 8 data -
-",
-        err: "",
-    },
-    Row {
-        name: "cancel_at_a_gone_device",
-        words: &["usbtrace", "run"],
-        input: b"\
+=== cancel_at_a_gone_device
+usbtrace run
 device 0 0902300002010080320904000002ff00000007058102080000070502020800000904010001ff0000000705830308000a
 open 1 0
 claim 1 0
@@ -239,8 +211,7 @@ serve 0 81
 deliver
 take
 take
-",
-        out: "\
+--- prints
 h1 done
 h1 done
 h1 number 0
@@ -255,13 +226,8 @@ h1 ended 1 code 4
 h1 finished 1
 h1 called 0 ep 81 round 0 CANCELLED 0 data -
 h1 called 1 ep 81 round 0 NO_DEVICE 0 data -
-",
-        err: "",
-    },
-    Row {
-        name: "cancel_loses_to_the_unplug",
-        words: &["usbtrace", "run"],
-        input: b"\
+=== cancel_loses_to_the_unplug
+usbtrace run
 device 0 0902300002010080320904000002ff00000007058102080000070502020800000904010001ff0000000705830308000a
 open 1 0
 claim 1 0
@@ -274,8 +240,7 @@ deliver
 deliver
 take
 command
-",
-        out: "\
+--- prints
 h1 done
 h1 done
 h1 number 0
@@ -287,7 +252,4 @@ h1 finished 0
 h1 settled stop 81 fail
 h1 called 0 ep 81 round 0 NO_DEVICE 0 data -
 h1 ran reset 81 ok
-",
-        err: "",
-    },
-];
+";

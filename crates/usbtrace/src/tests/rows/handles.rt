@@ -1,12 +1,8 @@
 //! Handles, callbacks beside one another, and devices that go.
 
-use super::Row;
-
-pub(crate) const ROWS: &[Row] = &[
-    Row {
-        name: "again_at_a_gone_device",
-        words: &["usbtrace", "run"],
-        input: b"\
+pub(crate) static ROWS: &str = "\
+=== again_at_a_gone_device
+usbtrace run
 device 0 0902300002010080320904000002ff00000007058102080000070502020800000904010001ff0000000705830308000a
 open 1 0
 claim 1 0
@@ -16,8 +12,7 @@ serve 0 81
 deliver
 take
 return 1 0
-",
-        out: "\
+--- prints
 h1 done
 h1 done
 h1 number 0
@@ -27,13 +22,8 @@ h1 finished 0
 h1 called 0 ep 81 round 0 NO_DEVICE 0 data -
 h1 refused 2
 h1 done
-",
-        err: "",
-    },
-    Row {
-        name: "close_waits_for_errand",
-        words: &["usbtrace", "run"],
-        input: b"\
+=== close_waits_for_errand
+usbtrace run
 device 0 0902300002010080320904000002ff00000007058102080000070502020800000904010001ff0000000705830308000a
 script 0 81 s
 open 1 0
@@ -50,8 +40,7 @@ command
 deliver
 close 1
 submit 1 81 bulk 8
-",
-        out: "\
+--- prints
 h1 done
 h1 done
 h1 number 0
@@ -66,13 +55,8 @@ h1 ran move 81 ok
 h1 settled move 81 ok
 h1 done
 h1 refused 3
-",
-        err: "",
-    },
-    Row {
-        name: "close_waits_for_quiet",
-        words: &["usbtrace", "run"],
-        input: b"\
+=== close_waits_for_quiet
+usbtrace run
 device 0 0902300002010080320904000002ff00000007058102080000070502020800000904010001ff0000000705830308000a
 script 0 81 d:01
 open 1 0
@@ -86,8 +70,7 @@ close 1
 return 1 0
 close 1
 submit 1 81 bulk 8
-",
-        out: "\
+--- prints
 h1 done
 h1 done
 h1 number 0
@@ -99,20 +82,11 @@ h1 refused 4
 h1 done
 h1 done
 h1 refused 3
-",
-        err: "",
-    },
-    Row {
-        name: "empty_scenario",
-        words: &["usbtrace", "run"],
-        input: b"",
-        out: "",
-        err: "",
-    },
-    Row {
-        name: "interface_changes_hands",
-        words: &["usbtrace", "run"],
-        input: b"\
+=== empty_scenario
+usbtrace run
+--- prints
+=== interface_changes_hands
+usbtrace run
 device 0 0902300002010080320904000002ff00000007058102080000070502020800000904010001ff0000000705830308000a
 script 0 81 d:01 d:02
 open 1 0
@@ -131,8 +105,7 @@ submit 2 81 bulk 8
 serve 0 81
 deliver
 take
-",
-        out: "\
+--- prints
 h1 done
 h2 done
 h1 done
@@ -149,13 +122,8 @@ h2 number 0
 h2 ended 0 code 13
 h2 finished 0
 h2 called 0 ep 81 round 0 COMPLETED 1 data 01
-",
-        err: "",
-    },
-    Row {
-        name: "interface_changes_hands_alone_1",
-        words: &["usbtrace", "alone", "1"],
-        input: b"\
+=== interface_changes_hands_alone_1
+usbtrace alone 1
 device 0 0902300002010080320904000002ff00000007058102080000070502020800000904010001ff0000000705830308000a
 script 0 81 d:01 d:02
 open 1 0
@@ -174,8 +142,7 @@ submit 2 81 bulk 8
 serve 0 81
 deliver
 take
-",
-        out: "\
+--- prints
 h1 done
 h1 done
 h1 number 0
@@ -185,13 +152,8 @@ h1 refused 4
 h1 called 0 ep 81 round 0 COMPLETED 1 data 01
 h1 done
 h1 done
-",
-        err: "",
-    },
-    Row {
-        name: "interface_changes_hands_alone_2",
-        words: &["usbtrace", "alone", "2"],
-        input: b"\
+=== interface_changes_hands_alone_2
+usbtrace alone 2
 device 0 0902300002010080320904000002ff00000007058102080000070502020800000904010001ff0000000705830308000a
 script 0 81 d:01 d:02
 open 1 0
@@ -210,21 +172,15 @@ submit 2 81 bulk 8
 serve 0 81
 deliver
 take
-",
-        out: "\
+--- prints
 h2 done
 h2 done
 h2 number 0
 h2 ended 0 code 13
 h2 finished 0
 h2 called 0 ep 81 round 0 COMPLETED 1 data 01
-",
-        err: "",
-    },
-    Row {
-        name: "refusals_of_handles",
-        words: &["usbtrace", "run"],
-        input: b"\
+=== refusals_of_handles
+usbtrace run
 device 0 0902300002010080320904000002ff00000007058102080000070502020800000904010001ff0000000705830308000a
 open 1 1
 open 1 0
@@ -236,8 +192,7 @@ submit 1 81 int 8
 submit 1 83 int 8
 serve 0 83
 serve 0 81
-",
-        out: "\
+--- prints
 h1 refused 3
 h1 done
 h1 refused 4
@@ -248,13 +203,8 @@ h1 refused 1
 h1 refused 3
 - idle
 h1 idle
-",
-        err: "",
-    },
-    Row {
-        name: "reset_with_other_holder",
-        words: &["usbtrace", "run"],
-        input: b"\
+=== reset_with_other_holder
+usbtrace run
 device 0 0902300002010080320904000002ff00000007058102080000070502020800000904010001ff0000000705830308000a
 script 0 81 d:01 d:02
 open 1 0
@@ -273,8 +223,7 @@ submit 1 81 bulk 8
 serve 0 81
 deliver
 take
-",
-        out: "\
+--- prints
 h1 done
 h2 done
 h1 done
@@ -291,13 +240,8 @@ h1 number 1
 h1 ended 1 code 13
 h1 finished 1
 h1 called 1 ep 81 round 0 COMPLETED 1 data 01
-",
-        err: "",
-    },
-    Row {
-        name: "seventeen_submissions",
-        words: &["usbtrace", "run"],
-        input: b"\
+=== seventeen_submissions
+usbtrace run
 device 0 0902300002010080320904000002ff00000007058102080000070502020800000904010001ff0000000705830308000a
 open 1 0
 claim 1 0
@@ -318,8 +262,7 @@ submit 1 81 bulk 8
 submit 1 81 bulk 8
 submit 1 81 bulk 8
 submit 1 81 bulk 8
-",
-        out: "\
+--- prints
 h1 done
 h1 done
 h1 number 0
@@ -339,13 +282,8 @@ h1 number 13
 h1 number 14
 h1 number 15
 h1 refused 4
-",
-        err: "",
-    },
-    Row {
-        name: "two_handles_two_rules_alone_1",
-        words: &["usbtrace", "alone", "1"],
-        input: b"\
+=== two_handles_two_rules_alone_1
+usbtrace alone 1
 device 0 0902300002010080320904000002ff00000007058102080000070502020800000904010001ff0000000705830308000a
 script 0 81 d:0a d:0b
 script 0 83 d:aa d:bb
@@ -371,8 +309,7 @@ take
 take
 return 2 1
 return 1 1
-",
-        out: "\
+--- prints
 h1 done
 h1 done
 h1 number 0
@@ -384,13 +321,8 @@ h1 ended 1 code 1
 h1 finished 1
 h1 called 1 ep 81 round 1 COMPLETED 1 data 0b
 h1 done
-",
-        err: "",
-    },
-    Row {
-        name: "two_handles_two_rules_alone_2",
-        words: &["usbtrace", "alone", "2"],
-        input: b"\
+=== two_handles_two_rules_alone_2
+usbtrace alone 2
 device 0 0902300002010080320904000002ff00000007058102080000070502020800000904010001ff0000000705830308000a
 script 0 81 d:0a d:0b
 script 0 83 d:aa d:bb
@@ -416,8 +348,7 @@ take
 take
 return 2 1
 return 1 1
-",
-        out: "\
+--- prints
 h2 done
 h2 done
 h2 number 0
@@ -429,13 +360,8 @@ h2 ended 1 code 1
 h2 finished 1
 h2 called 1 ep 83 round 1 COMPLETED 1 data bb
 h2 done
-",
-        err: "",
-    },
-    Row {
-        name: "unplug_amid_transfers",
-        words: &["usbtrace", "run"],
-        input: b"\
+=== unplug_amid_transfers
+usbtrace run
 device 0 0902300002010080320904000002ff00000007058102080000070502020800000904010001ff0000000705830308000a
 script 0 81 d:0102030405060708
 open 1 0
@@ -459,8 +385,7 @@ take
 take
 return 1 0
 open 3 0
-",
-        out: "\
+--- prints
 h1 done
 h2 done
 h1 done
@@ -482,13 +407,8 @@ h1 called 1 ep 81 round 0 NO_DEVICE 0 data -
 h2 called 0 ep 83 round 0 NO_DEVICE 0 data -
 h1 done
 h3 refused 2
-",
-        err: "",
-    },
-    Row {
-        name: "unplug_amid_transfers_alone_2",
-        words: &["usbtrace", "alone", "2"],
-        input: b"\
+=== unplug_amid_transfers_alone_2
+usbtrace alone 2
 device 0 0902300002010080320904000002ff00000007058102080000070502020800000904010001ff0000000705830308000a
 script 0 81 d:0102030405060708
 open 1 0
@@ -512,8 +432,7 @@ take
 take
 return 1 0
 open 3 0
-",
-        out: "\
+--- prints
 h2 done
 h2 done
 h2 number 0
@@ -522,23 +441,14 @@ h2 number 0
 h2 ended 0 code 4
 h2 finished 0
 h2 called 0 ep 83 round 0 NO_DEVICE 0 data -
-",
-        err: "",
-    },
-    Row {
-        name: "unplug_of_nothing",
-        words: &["usbtrace", "run"],
-        input: b"\
+=== unplug_of_nothing
+usbtrace run
 device 0 0902300002010080320904000002ff00000007058102080000070502020800000904010001ff0000000705830308000a
 open 1 0
 claim 1 0
 unplug 3
-",
-        out: "\
+--- prints
 h1 done
 h1 done
 - refused 3
-",
-        err: "",
-    },
-];
+";

@@ -1,12 +1,8 @@
 //! What takes a place of an endpoint, and when it is given back.
 
-use super::Row;
-
-pub(crate) const ROWS: &[Row] = &[
-    Row {
-        name: "blanks_behind_a_failed_transfer",
-        words: &["usbtrace", "run"],
-        input: b"\
+pub(crate) static ROWS: &str = "\
+=== blanks_behind_a_failed_transfer
+usbtrace run
 device 0 0902300002010080320904000002ff00000007058102080000070502020800000904010001ff0000000705830308000a
 script 0 81 b
 open 1 0
@@ -28,8 +24,7 @@ deliver
 clear 1 81
 take
 take
-",
-        out: "\
+--- prints
 h1 done
 h1 done
 h1 number 0
@@ -49,13 +44,8 @@ h1 settled move 81 ok
 h1 done
 h1 called 1 ep 81 round 0 CANCELLED 0 data -
 h1 called 0 ep 81 round 0 ERROR 0 data -
-",
-        err: "",
-    },
-    Row {
-        name: "blanks_behind_a_completed_transfer",
-        words: &["usbtrace", "run"],
-        input: b"\
+=== blanks_behind_a_completed_transfer
+usbtrace run
 device 0 0902300002010080320904000002ff00000007058102080000070502020800000904010001ff0000000705830308000a
 script 0 81 d:01
 open 1 0
@@ -72,8 +62,7 @@ clear 1 81
 command
 take
 take
-",
-        out: "\
+--- prints
 h1 done
 h1 done
 h1 number 0
@@ -88,13 +77,8 @@ h1 done
 - idle
 h1 called 1 ep 81 round 0 CANCELLED 0 data -
 h1 called 0 ep 81 round 0 COMPLETED 1 data 01
-",
-        err: "",
-    },
-    Row {
-        name: "sixteen_places_at_each_endpoint",
-        words: &["usbtrace", "run"],
-        input: b"\
+=== sixteen_places_at_each_endpoint
+usbtrace run
 device 0 0902300002010080320904000002ff00000007058102080000070502020800000904010001ff0000000705830308000a
 script 0 81 d:01
 script 0 02 a
@@ -130,8 +114,7 @@ submit 1 81 bulk 8
 take
 submit 1 81 bulk 8
 submit 1 81 bulk 8
-",
-        out: "\
+--- prints
 h1 done
 h1 done
 h1 number 0
@@ -164,7 +147,4 @@ h1 refused 4
 h1 called 2 ep 81 round 0 COMPLETED 1 data 01
 h1 number 19
 h1 refused 4
-",
-        err: "",
-    },
-];
+";

@@ -1,12 +1,8 @@
 //! Refusals of a handle's calls, in their order: where several hold at once, the first of them is told.
 
-use super::Row;
-
-pub(crate) const ROWS: &[Row] = &[
-    Row {
-        name: "refusals_of_open",
-        words: &["usbtrace", "run"],
-        input: b"\
+pub(crate) static ROWS: &str = "\
+=== refusals_of_open
+usbtrace run
 device 0 0902300002010080320904000002ff00000007058102080000070502020800000904010001ff0000000705830308000a
 open 1 0
 open 1 3
@@ -16,8 +12,7 @@ open 1 3
 open 1 0
 open 2 0
 close 1
-",
-        out: "\
+--- prints
 h1 done
 h1 refused 3
 h1 refused 4
@@ -26,13 +21,8 @@ h1 refused 3
 h1 refused 2
 h2 refused 2
 h1 done
-",
-        err: "",
-    },
-    Row {
-        name: "handle_that_is_not_open",
-        words: &["usbtrace", "run"],
-        input: b"\
+=== handle_that_is_not_open
+usbtrace run
 device 0 0902300002010080320904000002ff00000007058102080000070502020800000904010001ff0000000705830308000a
 open 2 0
 claim 2 0
@@ -51,8 +41,7 @@ release 1 0
 reset 1
 clear 1 81
 submit 1 81 int 262145
-",
-        out: "\
+--- prints
 h2 done
 h2 done
 h1 refused 3
@@ -70,13 +59,8 @@ h1 refused 3
 h1 refused 3
 h1 refused 3
 h1 refused 3
-",
-        err: "",
-    },
-    Row {
-        name: "interface_that_is_not_held",
-        words: &["usbtrace", "run"],
-        input: b"\
+=== interface_that_is_not_held
+usbtrace run
 device 0 0902300002010080320904000002ff00000007058102080000070502020800000904010001ff0000000705830308000a
 open 1 0
 open 2 0
@@ -99,8 +83,7 @@ claim 1 0
 claim 1 1
 reset 1
 close 1
-",
-        out: "\
+--- prints
 h1 done
 h2 done
 h2 done
@@ -122,13 +105,8 @@ h1 refused 2
 h1 refused 2
 h1 refused 2
 h1 done
-",
-        err: "",
-    },
-    Row {
-        name: "calls_amid_a_transfer",
-        words: &["usbtrace", "run"],
-        input: b"\
+=== calls_amid_a_transfer
+usbtrace run
 device 0 0902300002010080320904000002ff00000007058102080000070502020800000904010001ff0000000705830308000a
 open 1 0
 open 2 0
@@ -151,8 +129,7 @@ clear 1 81
 clear 1 02
 claim 1 0
 serve 0 81
-",
-        out: "\
+--- prints
 h1 done
 h2 done
 h1 done
@@ -174,7 +151,4 @@ h1 refused 2
 h1 refused 2
 h1 refused 2
 h1 ended 0 code 4
-",
-        err: "",
-    },
-];
+";

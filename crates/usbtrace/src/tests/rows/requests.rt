@@ -1,12 +1,8 @@
 //! Refusals of submissions, asks and answers, in their order.
 
-use super::Row;
-
-pub(crate) const ROWS: &[Row] = &[
-    Row {
-        name: "unsupported_endpoints",
-        words: &["usbtrace", "run"],
-        input: b"\
+pub(crate) static ROWS: &str = "\
+=== unsupported_endpoints
+usbtrace run
 device 0 0902270001010080320904000003ff000000070581020800000705840108000107050500080000
 open 1 0
 claim 1 0
@@ -24,8 +20,7 @@ submit 1 05 bulk 262145
 submit 1 81 int 8
 submit 1 81 bulk 8
 submit 1 06 bulk 262145
-",
-        out: "\
+--- prints
 h1 done
 h1 done
 h1 refused 7
@@ -42,13 +37,8 @@ h1 refused 2
 h1 refused 2
 h1 refused 2
 h1 refused 3
-",
-        err: "",
-    },
-    Row {
-        name: "bad_requests_at_a_full_endpoint",
-        words: &["usbtrace", "run"],
-        input: b"\
+=== bad_requests_at_a_full_endpoint
+usbtrace run
 device 0 0902300002010080320904000002ff00000007058102080000070502020800000904010001ff0000000705830308000a
 open 1 0
 claim 1 0
@@ -76,8 +66,7 @@ submit 1 81 bulk 8
 unplug 0
 submit 1 81 int 8
 submit 1 81 bulk 8
-",
-        out: "\
+--- prints
 h1 done
 h1 done
 h1 number 0
@@ -104,13 +93,8 @@ h1 refused 4
 - done
 h1 refused 2
 h1 refused 2
-",
-        err: "",
-    },
-    Row {
-        name: "refused_asks",
-        words: &["usbtrace", "run"],
-        input: b"\
+=== refused_asks
+usbtrace run
 device 0 0902300002010080320904000002ff00000007058102080000070502020800000904010001ff0000000705830308000a
 open 1 0
 claim 1 0
@@ -131,8 +115,7 @@ take
 cancel 1 0
 take
 command
-",
-        out: "\
+--- prints
 h1 done
 h1 done
 h1 number 0
@@ -152,13 +135,8 @@ h1 called 0 ep 81 round 0 TIMED_OUT 0 data -
 h1 refused 3
 h1 called 1 ep 81 round 0 CANCELLED 0 data -
 h1 ran move 81 ok
-",
-        err: "",
-    },
-    Row {
-        name: "answers_of_no_callback",
-        words: &["usbtrace", "run"],
-        input: b"\
+=== answers_of_no_callback
+usbtrace run
 device 0 0902300002010080320904000002ff00000007058102080000070502020800000904010001ff0000000705830308000a
 script 0 81 d:01
 open 1 0
@@ -176,8 +154,7 @@ return 2 0
 return 1 1
 return 1 0
 return 1 0
-",
-        out: "\
+--- prints
 h1 done
 h2 done
 h1 done
@@ -193,7 +170,4 @@ h2 refused 3
 h1 refused 3
 h1 done
 h1 refused 3
-",
-        err: "",
-    },
-];
+";

@@ -1,12 +1,8 @@
 //! What each status and each flag says.
 
-use super::Row;
-
-pub(crate) const ROWS: &[Row] = &[
-    Row {
-        name: "every_status",
-        words: &["usbtrace", "run"],
-        input: b"\
+pub(crate) static ROWS: &str = "\
+=== every_status
+usbtrace run
 device 0 0902300002010080320904000002ff00000007058102080000070502020800000904010001ff0000000705830308000a
 script 0 81 d:01 d:02
 script 0 02 s
@@ -43,8 +39,7 @@ take
 take
 take
 take
-",
-        out: "\
+--- prints
 h1 done
 h1 done
 h1 done
@@ -77,13 +72,8 @@ h1 called 6 ep 83 round 0 OVERFLOW 0 data -
 h1 called 3 ep 81 round 0 CANCELLED 0 data -
 h1 called 4 ep 81 round 0 TIMED_OUT 0 data -
 h1 called 2 ep 81 round 0 NO_DEVICE 0 data -
-",
-        err: "",
-    },
-    Row {
-        name: "every_flag",
-        words: &["usbtrace", "run"],
-        input: b"\
+=== every_flag
+usbtrace run
 device 0 0902300002010080320904000002ff00000007058102080000070502020800000904010001ff0000000705830308000a
 script 0 81 d:01 d:01 d:01 d:0102030405060708
 script 0 02 a a a
@@ -114,8 +104,7 @@ take
 take
 take
 take
-",
-        out: "\
+--- prints
 h1 done
 h1 done
 h1 number 0
@@ -143,7 +132,4 @@ h1 called 2 ep 81 round 0 COMPLETED 1 data 01
 h1 called 3 ep 81 round 0 COMPLETED 8 data 0102030405060708
 h1 called 4 ep 02 round 0 COMPLETED 8 data -
 h1 called 5 ep 02 round 0 COMPLETED 8 data -
-",
-        err: "",
-    },
-];
+";

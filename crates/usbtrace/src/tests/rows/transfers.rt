@@ -1,12 +1,8 @@
 //! Transfers, and callbacks that begin them again.
 
-use super::Row;
-
-pub(crate) const ROWS: &[Row] = &[
-    Row {
-        name: "again_without_a_place",
-        words: &["usbtrace", "run"],
-        input: b"\
+pub(crate) static ROWS: &str = "\
+=== again_without_a_place
+usbtrace run
 device 0 0902300002010080320904000002ff00000007058102080000070502020800000904010001ff0000000705830308000a
 script 0 81 d:0a
 open 1 0
@@ -33,8 +29,7 @@ submit 1 81 bulk 8
 submit 1 81 bulk 8
 return 1 0
 return 1 0
-",
-        out: "\
+--- prints
 h1 done
 h1 done
 h1 number 0
@@ -60,13 +55,8 @@ h1 number 16
 h1 refused 4
 h1 done
 h1 refused 3
-",
-        err: "",
-    },
-    Row {
-        name: "babble_then_recovery",
-        words: &["usbtrace", "run"],
-        input: b"\
+=== babble_then_recovery
+usbtrace run
 device 0 0902300002010080320904000002ff00000007058102080000070502020800000904010001ff0000000705830308000a
 script 0 81 d:0102030405 d:1112131415161718
 open 1 0
@@ -84,8 +74,7 @@ deliver
 serve 0 81
 deliver
 take
-",
-        out: "\
+--- prints
 h1 done
 h1 done
 h1 number 0
@@ -101,13 +90,8 @@ h1 settled move 81 ok
 h1 ended 1 code 1
 h1 finished 1
 h1 called 1 ep 81 round 0 COMPLETED 8 data 1112131415161718
-",
-        err: "",
-    },
-    Row {
-        name: "bulk_in_eight_bytes",
-        words: &["usbtrace", "run"],
-        input: b"\
+=== bulk_in_eight_bytes
+usbtrace run
 device 0 0902300002010080320904000002ff00000007058102080000070502020800000904010001ff0000000705830308000a
 script 0 81 d:0102030405060708
 open 1 0
@@ -116,21 +100,15 @@ submit 1 81 bulk 8
 serve 0 81
 deliver
 take
-",
-        out: "\
+--- prints
 h1 done
 h1 done
 h1 number 0
 h1 ended 0 code 1
 h1 finished 0
 h1 called 0 ep 81 round 0 COMPLETED 8 data 0102030405060708
-",
-        err: "",
-    },
-    Row {
-        name: "out_with_zero_packet",
-        words: &["usbtrace", "run"],
-        input: b"\
+=== out_with_zero_packet
+usbtrace run
 device 0 0902300002010080320904000002ff00000007058102080000070502020800000904010001ff0000000705830308000a
 script 0 02 a a a a a
 open 1 0
@@ -146,8 +124,7 @@ serve 0 02
 serve 0 02
 deliver
 take
-",
-        out: "\
+--- prints
 h1 done
 h1 done
 h1 number 0
@@ -161,31 +138,20 @@ h1 moved 1 8
 h1 ended 1 code 1
 h1 finished 1
 h1 called 1 ep 02 round 0 COMPLETED 15 data -
-",
-        err: "",
-    },
-    Row {
-        name: "read_over_the_limit",
-        words: &["usbtrace", "run"],
-        input: b"\
+=== read_over_the_limit
+usbtrace run
 device 0 0902300002010080320904000002ff00000007058102080000070502020800000904010001ff0000000705830308000a
 open 1 0
 claim 1 0
 submit 1 81 bulk 262145
 submit 1 81 bulk 262144
-",
-        out: "\
+--- prints
 h1 done
 h1 done
 h1 refused 1
 h1 number 0
-",
-        err: "",
-    },
-    Row {
-        name: "resubmit_three_rounds",
-        words: &["usbtrace", "run"],
-        input: b"\
+=== resubmit_three_rounds
+usbtrace run
 device 0 0902300002010080320904000002ff00000007058102080000070502020800000904010001ff0000000705830308000a
 script 0 81 d:0a d:0b d:0c d:0d
 open 1 0
@@ -207,8 +173,7 @@ serve 0 81
 deliver
 take
 return 1 3
-",
-        out: "\
+--- prints
 h1 done
 h1 done
 h1 number 0
@@ -228,13 +193,8 @@ h1 ended 3 code 1
 h1 finished 3
 h1 called 3 ep 81 round 3 COMPLETED 1 data 0d
 h1 done
-",
-        err: "",
-    },
-    Row {
-        name: "resubmit_until_stall",
-        words: &["usbtrace", "run"],
-        input: b"\
+=== resubmit_until_stall
+usbtrace run
 device 0 0902300002010080320904000002ff00000007058102080000070502020800000904010001ff0000000705830308000a
 script 0 81 d:0a s
 open 1 0
@@ -248,8 +208,7 @@ serve 0 81
 deliver
 take
 return 1 1
-",
-        out: "\
+--- prints
 h1 done
 h1 done
 h1 number 0
@@ -261,13 +220,8 @@ h1 ended 1 code 6
 h1 finished 1
 h1 called 1 ep 81 round 1 STALL 0 data -
 h1 done
-",
-        err: "",
-    },
-    Row {
-        name: "short_is_not_ok",
-        words: &["usbtrace", "run"],
-        input: b"\
+=== short_is_not_ok
+usbtrace run
 device 0 0902300002010080320904000002ff00000007058102080000070502020800000904010001ff0000000705830308000a
 script 0 81 d:0102030405060708 d:1112131415161718 d:212223
 open 1 0
@@ -279,8 +233,7 @@ serve 0 81
 deliver
 take
 command
-",
-        out: "\
+--- prints
 h1 done
 h1 done
 h1 number 0
@@ -290,13 +243,8 @@ h1 ended 0 code 13
 h1 finished 0
 h1 called 0 ep 81 round 0 ERROR 19 data 01020304050607081112131415161718212223
 - idle
-",
-        err: "",
-    },
-    Row {
-        name: "short_third_packet",
-        words: &["usbtrace", "run"],
-        input: b"\
+=== short_third_packet
+usbtrace run
 device 0 0902300002010080320904000002ff00000007058102080000070502020800000904010001ff0000000705830308000a
 script 0 81 d:0102030405060708 d:1112131415161718 d:212223
 open 1 0
@@ -307,8 +255,7 @@ serve 0 81
 serve 0 81
 deliver
 take
-",
-        out: "\
+--- prints
 h1 done
 h1 done
 h1 number 0
@@ -317,13 +264,8 @@ h1 moved 0 8
 h1 ended 0 code 13
 h1 finished 0
 h1 called 0 ep 81 round 0 COMPLETED 19 data 01020304050607081112131415161718212223
-",
-        err: "",
-    },
-    Row {
-        name: "stall_and_clear_halt",
-        words: &["usbtrace", "run"],
-        input: b"\
+=== stall_and_clear_halt
+usbtrace run
 device 0 0902300002010080320904000002ff00000007058102080000070502020800000904010001ff0000000705830308000a
 script 0 81 s d:01
 open 1 0
@@ -350,8 +292,7 @@ deliver
 take
 take
 take
-",
-        out: "\
+--- prints
 h1 done
 h1 done
 h1 number 0
@@ -376,13 +317,8 @@ h1 finished 2
 h1 called 0 ep 81 round 0 STALL 0 data -
 h1 called 1 ep 81 round 0 STALL 0 data -
 h1 called 2 ep 81 round 0 COMPLETED 1 data 01
-",
-        err: "",
-    },
-    Row {
-        name: "three_babbles",
-        words: &["usbtrace", "run"],
-        input: b"\
+=== three_babbles
+usbtrace run
 device 0 0902300002010080320904000002ff00000007058102080000070502020800000904010001ff0000000705830308000a
 script 0 81 d:010203040506070809 d:010203040506070809 d:010203040506070809
 open 1 0
@@ -412,8 +348,7 @@ deliver
 command
 deliver
 serve 0 81
-",
-        out: "\
+--- prints
 h1 done
 h1 done
 h1 number 0
@@ -441,13 +376,8 @@ h1 settled reset 81 ok
 h1 ran move 81 ok
 h1 settled move 81 ok
 h1 idle
-",
-        err: "",
-    },
-    Row {
-        name: "two_transfers_in_order",
-        words: &["usbtrace", "run"],
-        input: b"\
+=== two_transfers_in_order
+usbtrace run
 device 0 0902300002010080320904000002ff00000007058102080000070502020800000904010001ff0000000705830308000a
 script 0 81 d:0102030405060708 d:11 n d:2122232425262728
 open 1 0
@@ -463,8 +393,7 @@ deliver
 take
 take
 serve 0 81
-",
-        out: "\
+--- prints
 h1 done
 h1 done
 h1 number 0
@@ -478,13 +407,8 @@ h1 finished 1
 h1 called 0 ep 81 round 0 COMPLETED 9 data 010203040506070811
 h1 called 1 ep 81 round 0 COMPLETED 8 data 2122232425262728
 h1 idle
-",
-        err: "",
-    },
-    Row {
-        name: "zero_length_in",
-        words: &["usbtrace", "run"],
-        input: b"\
+=== zero_length_in
+usbtrace run
 device 0 0902300002010080320904000002ff00000007058102080000070502020800000904010001ff0000000705830308000a
 script 0 81 d:
 open 1 0
@@ -493,21 +417,15 @@ submit 1 81 bulk 0
 serve 0 81
 deliver
 take
-",
-        out: "\
+--- prints
 h1 done
 h1 done
 h1 number 0
 h1 ended 0 code 1
 h1 finished 0
 h1 called 0 ep 81 round 0 COMPLETED 0 data -
-",
-        err: "",
-    },
-    Row {
-        name: "zero_length_in_babble",
-        words: &["usbtrace", "run"],
-        input: b"\
+=== zero_length_in_babble
+usbtrace run
 device 0 0902300002010080320904000002ff00000007058102080000070502020800000904010001ff0000000705830308000a
 script 0 81 d:aa
 open 1 0
@@ -516,15 +434,26 @@ submit 1 81 bulk 0
 serve 0 81
 deliver
 take
-",
-        out: "\
+--- prints
 h1 done
 h1 done
 h1 number 0
 h1 ended 0 code 3
 h1 finished 0
 h1 called 0 ep 81 round 0 OVERFLOW 0 data -
-",
-        err: "",
-    },
-];
+=== an_address_with_bit_4_is_no_endpoint
+usbtrace run
+device 0 0902300002010080320904000002ff00000007058102080000070502020800000904010001ff0000000705830308000a
+script 0 81 d:01
+open 1 0
+claim 1 0
+submit 1 81 bulk 8
+serve 0 91
+serve 0 81
+--- prints
+h1 done
+h1 done
+h1 number 0
+- idle
+h1 ended 0 code 13
+";

@@ -1,0 +1,6 @@
+mod Views
+mod Asks
+mod Runs
+mod Serves
+mod Rewinding
+mod Callbacks

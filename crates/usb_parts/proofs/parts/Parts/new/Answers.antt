@@ -1,0 +1,30 @@
+-- New parts are unused.
+use Rattle.std.proofs.Common.{refl, subst}
+use Rattle.usb_model.specs.World.{new_world}
+use Rattle.usb_state.specs.Making.{Devices, setup_of}
+use Rattle.usb_state.specs.State.{ShowsWorld, State}
+use Rattle.usb_state.proofs.Making.{no_lines, shows_new}
+use Rattle.usb_parts.proofs.Views.{parts}
+use Rattle.usb_parts.proofs.parts.Parts.new.Goals as goal
+
+pub returns : goal.returns
+returns g c =
+    let new : State g.row.P.Denot = parts c.in_ok-claims.claims c.setup.inside.controller c.in_ok-flights.flights c.in_ok-callers.callers c.in_ok-outstanding.outstanding in
+    let x : Devices = record { configs = c.setup.inside.configs.items; controller = c.setup.inside.controller } in
+    let none = no_lines c.in_ok-flights.flights c.in_ok-flights.ensures in
+    subst (λ (y : Devices). ShowsWorld (setup_of y) new (new_world (setup_of y))) c.setup.view_is
+    (shows_new new x c.setup.invariant (record {
+      configs = c.in_ok-claims.ensures.configs;
+      closed = c.in_ok-claims.ensures.closed;
+      free = c.in_ok-claims.ensures.free;
+      controller = refl;
+      lanes = none.lanes;
+      lines = none.lines;
+      ended = none.ended;
+      numbers = c.in_ok-callers.ensures.numbers;
+      callbacks = c.in_ok-callers.ensures.callbacks;
+      results = c.in_ok-callers.ensures.results;
+      called = c.in_ok-callers.ensures.counts;
+      cells = c.in_ok-outstanding.ensures.whole;
+      errands = c.in_ok-outstanding.ensures.none;
+    }))

@@ -1,0 +1,4 @@
+pub mod Homes
+pub mod Tellings
+pub mod Submitting
+pub mod Senders

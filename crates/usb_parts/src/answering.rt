@@ -1,0 +1,147 @@
+//! A callback ends, or its transfer is submitted once more (libusb 1.0, `libusb_transfer_cb_fn`).
+
+ghost use Rattle.std.specs.Prelude.{◌≡◌, IfErr, IfOk, OnErr, Some};
+ghost use Rattle.usb_model.specs.declared.refused.Refused.TheVariants.{NoMem};
+ghost use Rattle.usb_model.specs.declared.reply.Reply.TheVariants.{Number, Refused as IsRefused};
+ghost use Rattle.usb_model.specs.declared.request.Body.TheVariants.{Out};
+ghost use Rattle.usb_model.specs.declared.step.Step.TheVariants.{Answer};
+ghost use Rattle.usb_callers.specs.Callers.{callback_at};
+ghost use Rattle.std.specs.Option.{option_map};
+ghost use Rattle.usb_model.specs.declared.verdict.Verdict.TheVariants.{Again, AgainWith, Stop};
+ghost use Rattle.usb_state.specs.Calls.{Stays};
+ghost use Rattle.usb_state.specs.State.{IsState};
+ghost use Rattle.usb_state.specs.Steps.{Does};
+ghost use Rattle.usb_parts.specs.Submitting.{AgainIs};
+
+use crate::parts::Parts;
+use crate::submitting::{Place, Unaccepted};
+use usb_device::Device;
+use usb_model::{Body, Bytes, InCallback, Name, Refused, Reply, Request};
+
+impl<P, D: Device> Parts<P, D> {
+    /// Ends the callback of a transfer, which isn't submitted once more. NotFound where the name has no such transfer
+    /// in its callback.
+    pub fn stop(&mut self, h: Name, n: u64) -> Reply
+        requires { IsState self.old }
+        ensures { Does self.old (Answer h n Stop) (record { owner = Some h; reply = result }) self.new }
+    {
+        match self.callers.remove_callback(h, n) {
+            Some(_) => Reply::Done,
+            None => Reply::Refused(Refused::NotFound),
+        }
+    }
+
+    /// Submits the transfer of a callback once more, under a new number; the callback ends. Refused as a submission is,
+    /// and NotFound where the name has no such transfer in its callback: the callback then goes on. NoMem, with nothing
+    /// changed, where memory is refused.
+    pub fn again(&mut self, h: Name, n: u64, payload: P) -> Result<u64, Unaccepted<P>>
+        requires { IsState self.old }
+        ensures accepted { IfOk result (λ k. Does self.old (Answer h n Again) (record { owner = Some h; reply = Number k }) self.new) }
+        ensures back { IfErr result (λ x. x.payload ≡ payload) }
+        ensures refused { IfErr result (λ x. (x.why ≡ NoMem → ⊥) → Does self.old (Answer h n Again) (record { owner = Some h; reply = IsRefused x.why }) self.new) }
+        ensures kept { OnErr result (Stays self.old self.new) }
+    {
+        let place = match self.place_again(h, n) {
+            Ok(place) => place,
+            Err(why) => return Err(Unaccepted { why, payload }),
+        };
+        if self.callers.reserve_callback(h).is_err() {
+            return Err(Unaccepted {
+                why: Refused::NoMem,
+                payload,
+            });
+        }
+        let Some(called) = self.callers.remove_callback(h, n) else {
+            unreachable!()
+        };
+        let (round, status) = (called.round, called.status);
+        match self.start(h, place, called.request, round + 1, payload) {
+            Ok(k) => Ok(k),
+            Err(unmade) => {
+                self.callers.put_callback(
+                    h,
+                    InCallback {
+                        n,
+                        request: unmade.request,
+                        round,
+                        status,
+                    },
+                );
+                Err(Unaccepted {
+                    why: Refused::NoMem,
+                    payload: unmade.payload,
+                })
+            }
+        }
+    }
+
+    /// The same with other bytes to be sent in the place of what the transfer had.
+    pub fn again_with(
+        &mut self,
+        h: Name,
+        n: u64,
+        bytes: Bytes,
+        payload: P,
+    ) -> Result<u64, Unaccepted<P>>
+        requires { IsState self.old }
+        ensures accepted { IfOk result (λ k. Does self.old (Answer h n (AgainWith bytes)) (record { owner = Some h; reply = Number k }) self.new) }
+        ensures back { IfErr result (λ x. x.payload ≡ payload) }
+        ensures refused { IfErr result (λ x. (x.why ≡ NoMem → ⊥) → Does self.old (Answer h n (AgainWith bytes)) (record { owner = Some h; reply = IsRefused x.why }) self.new) }
+        ensures kept { OnErr result (Stays self.old self.new) }
+    {
+        let Some(request) = self.with_bytes(h, n, bytes) else {
+            return Err(Unaccepted {
+                why: Refused::NotFound,
+                payload,
+            });
+        };
+        let place = match self.place(h, &request) {
+            Ok(place) => place,
+            Err(why) => return Err(Unaccepted { why, payload }),
+        };
+        if self.callers.reserve_callback(h).is_err() {
+            return Err(Unaccepted {
+                why: Refused::NoMem,
+                payload,
+            });
+        }
+        let Some(called) = self.callers.remove_callback(h, n) else {
+            unreachable!()
+        };
+        match self.start(h, place, request, called.round + 1, payload) {
+            Ok(k) => Ok(k),
+            Err(unmade) => {
+                self.callers.put_callback(h, called);
+                Err(Unaccepted {
+                    why: Refused::NoMem,
+                    payload: unmade.payload,
+                })
+            }
+        }
+    }
+
+    /// The request of a callback's transfer, with other bytes.
+    fn with_bytes(&self, h: Name, n: u64, bytes: Bytes) -> Option<Request>
+        ensures { result ≡ option_map (λ x. record x.request { body = Out bytes }) (callback_at self.now.callers h n) }
+    {
+        let called = self.callers.callback(h, n)?;
+        Some(Request {
+            ep: called.request.ep,
+            kind: called.request.kind,
+            flags: called.request.flags,
+            timeout: called.request.timeout,
+            body: Body::Out(bytes),
+        })
+    }
+
+    /// Where the transfer of a callback is to join its line once more, or what it is refused for.
+    fn place_again(&self, h: Name, n: u64) -> Result<Place, Refused>
+        requires { IsState self.now }
+        ensures { AgainIs self.now h n result }
+    {
+        match self.callers.callback(h, n) {
+            Some(called) => self.place(h, &called.request),
+            None => Err(Refused::NotFound),
+        }
+    }
+}

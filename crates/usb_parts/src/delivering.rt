@@ -1,0 +1,118 @@
+//! The oldest event is handled (xHCI 1.2, 4.11.3; libusb 1.0, `libusb_handle_events`).
+
+ghost use Rattle.std.specs.Prelude.{◌≡◌, ◌==◌, false, true};
+ghost use Rattle.usb_trb.specs.declared.kind.TrbKind.TheVariants.{CommandCompletion, TransferEvent};
+ghost use Rattle.usb_model.specs.declared.step.Step.TheVariants.{Deliver};
+ghost use Rattle.usb_state.specs.State.{IsState};
+ghost use Rattle.usb_state.specs.Steps.{Does};
+ghost use Rattle.usb_state.specs.Delivering.{Delivers, IsEvent};
+ghost use Rattle.usb_parts.specs.Tellings.{Handles, SomeTold};
+
+use crate::parts::Parts;
+use crate::telling::Told;
+use usb_cancel::next_order;
+use usb_device::Device;
+use usb_model::completion::STOPPED;
+use usb_model::{Entry, Reply};
+use usb_trb::{EndpointId, Pointer, Residual, Slot, TrbKind};
+
+impl<P, D: Device> Parts<P, D> {
+    /// The oldest event is handled. Nobody's and Idle where none waits.
+    pub fn deliver(&mut self) -> Entry
+        requires { IsState self.old }
+        ensures { Does self.old Deliver result self.new }
+    {
+        match self.controller.take_event() {
+            Some(event) => self.event(event),
+            None => Entry {
+                owner: None,
+                reply: Reply::Idle,
+            },
+        }
+    }
+
+    /// An event that was taken is handled.
+    fn event(&mut self, event: TrbKind) -> Entry
+        requires { IsEvent self.old event }
+        ensures { Delivers self.old event result self.new }
+    {
+        match event {
+            TrbKind::TransferEvent {
+                pointer,
+                residual,
+                code,
+                slot,
+                id,
+            } => self.transfer_event(pointer, residual, code, slot, id),
+            TrbKind::CommandCompletion {
+                pointer,
+                code,
+                slot,
+            } => self.completion(pointer, code, slot),
+            _ => unreachable!(),
+        }
+    }
+
+    /// A Command Completion Event TRB that was taken is handled: the errand of its order ended.
+    fn completion(&mut self, pointer: Pointer, code: u8, slot: Slot) -> Entry
+        requires { IsEvent self.old (CommandCompletion pointer code slot) }
+        ensures { Delivers self.old (CommandCompletion pointer code slot) result self.new }
+    {
+        let Some((at, errand)) = self.sender(pointer, slot) else {
+            unreachable!()
+        };
+        let owner = Some(at.name);
+        let reply = self.settle(at, errand, code);
+        Entry { owner, reply }
+    }
+
+    /// A Transfer Event TRB that was taken is handled: its transfer stands, or it ended.
+    fn transfer_event(
+        &mut self,
+        pointer: Pointer,
+        residual: Residual,
+        code: u8,
+        slot: Slot,
+        id: EndpointId,
+    ) -> Entry
+        requires { IsEvent self.old (TransferEvent pointer residual code slot id) }
+        ensures { Delivers self.old (TransferEvent pointer residual code slot id) result self.new }
+    {
+        let Some(told) = self.told(pointer, residual, code, slot, id) else {
+            unreachable!()
+        };
+        let owner = Some(told.name);
+        let reply = if code == STOPPED {
+            self.transfer_stands(told, code)
+        } else {
+            self.transfer_ended(told, code)
+        };
+        Entry { owner, reply }
+    }
+
+    /// A transfer stands: how much of it moved is kept.
+    fn transfer_stands(&mut self, told: Told, code: u8) -> Reply
+        requires told { SomeTold self.old code told }
+        requires stands { (code == 26) ≡ true }
+        ensures { Handles self.old code told result self.new }
+    {
+        self.flights
+            .pause(told.dev, told.ep, told.item, told.ending.actual);
+        Reply::Paused { n: told.n }
+    }
+
+    /// A transfer ended. Where its code halted the endpoint, and no errand is outstanding there, Reset is ordered (xHCI
+    /// 1.2, 4.8.3).
+    fn transfer_ended(&mut self, told: Told, code: u8) -> Reply
+        requires told { SomeTold self.old code told }
+        requires ended { (code == 26) ≡ false }
+        ensures { Handles self.old code told result self.new }
+    {
+        let Told { dev, ep, n, .. } = told;
+        self.finish(told, code);
+        if let Some(errand) = next_order(self.errand(dev, ep), code) {
+            self.post(dev, ep, errand);
+        }
+        Reply::Finished { n }
+    }
+}

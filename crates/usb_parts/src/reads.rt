@@ -1,0 +1,34 @@
+//! What can be asked of the parts without a step.
+
+ghost use Rattle.std.specs.Prelude.{◌≡◌, ℕ, length, slice_get};
+ghost use Rattle.std.specs.Option.{option_map_or};
+ghost use Rattle.usb_model.specs.Setup.{Setup};
+ghost use Rattle.usb_shows.specs.Shows.{Core};
+ghost use Rattle.usb_state.specs.State.{Keeps};
+ghost use Rattle.usb_parts.specs.Homes.{expires_now};
+
+use crate::parts::Parts;
+use usb_device::Device;
+use usb_model::Name;
+
+impl<P, D: Device> Parts<P, D> {
+    /// How many bytes the next result has that is taken; 0 where none waits.
+    pub fn next_len(&self) -> usize
+        ensures { (setup : Setup) (c : Core) → Keeps setup self.now c → result ≡ option_map_or (λ t. length t.piece.bytes) (slice_get c.results 0) 0 }
+    {
+        match self.flights.first_ended() {
+            Some((transfer, _)) => transfer.bytes.len(),
+            None => 0,
+        }
+    }
+
+    /// Whether a transfer can expire: it is in progress, wasn't asked to end, and has a timeout.
+    pub fn expires(&self, h: Name, n: u64) -> bool
+        ensures { (setup : Setup) (c : Core) → Keeps setup self.now c → result ≡ expires_now setup c h n }
+    {
+        match self.home(h, n) {
+            Some(home) => self.is_askable(home.dev, home.ep, home.item, true),
+            None => false,
+        }
+    }
+}

@@ -1,0 +1,96 @@
+//! Devices that are to be run together.
+
+ghost use Rattle.std.specs.Prelude.{◌≡◌, ◌++◌, ◌∷◌, [], IfErr, IfOk, OnErr, OnOk, map};
+ghost use Rattle.usb_device.specs.Pipe.{IsLawful, rewound};
+ghost use Rattle.usb_state.specs.Making.{Takes, setup_of};
+
+use arrayvec::ArrayVec;
+use std::alloc::{AllocError, Global};
+use std::marker::Model;
+use usb_descriptors::Config;
+use usb_device::Device;
+use usb_model::{EpAddr, Refused};
+use usb_xhc::Controller;
+
+/// At most 4 devices, each with its configuration, at the slots of a controller. Contracts see a record of the
+/// configurations and the controller; `setup_of` is what the definitions read of them.
+#[derive(Drop)]
+pub struct Setup<D: Device> {
+    pub(crate) configs: ArrayVec<Config, 4>,
+    pub(crate) controller: Controller<D>,
+}
+
+impl<D: Device> Model for Setup<D> {
+    ghost use Rattle.usb_state.specs.Making.{AreReady, Devices};
+
+    ghost Value = { Devices };
+
+    ghost view = { λ s. record { configs = s.configs.items; controller = s.controller } };
+
+    ghost invariant = { λ s. AreReady (record { configs = s.configs.items; controller = s.controller }) };
+}
+
+/// A device that wasn't added, and why: InvalidParam where there are four, NoMem where memory was refused.
+#[derive(Drop)]
+pub struct Unadded<D: Device> {
+    /// Why.
+    pub why: Refused,
+    /// Its configuration.
+    pub config: Config,
+    /// The device.
+    pub device: D,
+}
+
+impl<D: Device> Setup<D> {
+    /// No device.
+    pub fn new(alloc: Global) -> Result<Setup<D>, AllocError>
+        ensures { IfOk result (λ s. setup_of s ≡ []) }
+    {
+        Ok(Setup {
+            configs: ArrayVec::new(),
+            controller: Controller::new(alloc)?,
+        })
+    }
+
+    /// A device of this configuration, at the beginning of its scripts. It takes packets as long as the configuration
+    /// says. Where it isn't added it comes back; after want of memory it stands at the beginning of its scripts.
+    pub fn add(&mut self, alloc: Global, config: Config, device: D) -> Result<(), Unadded<D>>
+        requires { Takes config (D.pipes device) }
+        ensures added { OnOk result (setup_of self.new ≡ setup_of self.old ++ record { config = config; scripts = map (λ p. p.script) (D.pipes device) } ∷ []) }
+        ensures back { IfErr result (λ x. x.config ≡ config) }
+        ensures scripts { IfErr result (λ x. map (λ p. p.script) (D.pipes x.device) ≡ map (λ p. p.script) (D.pipes device)) }
+        ensures kept { OnErr result (self.new ≡ self.old) }
+    {
+        if self.configs.is_full() {
+            return Err(Unadded {
+                why: Refused::InvalidParam,
+                config,
+                device,
+            });
+        }
+        prove!(config.endpoints().len() <= 30);
+        let mut device = device;
+        rewind(&mut device);
+        match self.controller.add(alloc, &config, device) {
+            Ok(()) => {
+                self.configs.push(config);
+                Ok(())
+            }
+            Err(device) => Err(Unadded {
+                why: Refused::NoMem,
+                config,
+                device,
+            }),
+        }
+    }
+}
+
+/// A device goes back to the beginning of each endpoint's script.
+fn rewind<D: Device>(device: &mut D)
+    ensures pipes { D.pipes device.new ≡ map rewound (D.pipes device.old) }
+    ensures lawful { IsLawful (D.pipes device.new) }
+{
+    for id in 0..32_u8 {
+        device.rewind(EpAddr::new(id / 2 + 128 * (id % 2)));
+    }
+}

@@ -1,0 +1,216 @@
+-- The parts as they are made keep a new core.
+use Rattle.std.proofs.Common.{◌++◌, ◌+◌, zero, ◌≡◌, ℕ, suc, ◌*◌, ◌≤◌, ◌<◌, ◌⊎◌, inl, inr, refl, ap, sym, subst, subst₂, ◌∙◌, arith, List, [], ◌∷◌, length, map, Option, Some, None, length-append, replicate, slice_index_or}
+use Rattle.std.specs.Prelude.{slice_get}
+use Rattle.std.proofs.lemmas.List.{length-map, length-replicate}
+use Rattle.usb_flight.specs.Flights.{Flights, lane_at, line_at}
+use Rattle.std.proofs.lemmas.Option.{same_Some, slice_get-map, slice_get_within}
+use Rattle.std.specs.Option.{unwrap_or}
+use Rattle.std.specs.Prelude.{option_map}
+use Rattle.usb_descriptors.specs.Table.{IsTable}
+use Rattle.usb_device.specs.Pipe.{IsLawful, Pipe, no_pipe, pipe_at, rewound}
+use Rattle.usb_xhc.specs.Making.{slot_for}
+use Rattle.usb_model.specs.declared.setup.Configuration.{Configuration}
+use Rattle.usb_model.specs.declared.setup.DeviceSetup.{DeviceSetup}
+use Rattle.usb_model.specs.declared.setup.EndpointInfo.{EndpointInfo}
+use Rattle.usb_model.specs.Machine.Calls.{callback_of}
+use Rattle.usb_model.specs.Setup.{Setup, endpoint_id}
+use Rattle.usb_model.specs.World.{holder, new_world}
+use Rattle.usb_transfer.specs.declared.transfer.Transfer.{Transfer as InFlight}
+use Rattle.usb_xhc.specs.Controller.{Controller}
+use Rattle.usb_xhc.specs.Slots.{DeviceSlot}
+use Rattle.usb_shows.specs.Lively.{IsFine, ends_from}
+use Rattle.usb_shows.specs.Stepping.{new_core}
+use Rattle.usb_shows.proofs.NewCore.{new_shows}
+use Rattle.usb_slots.specs.Holds.{HoldsCore}
+use Rattle.usb_slots.specs.Made.{IsNewSlot, IsRead}
+use Rattle.usb_slots.specs.Laws.{HasNumbers, HasPlain}
+use Rattle.usb_slots.proofs.Fine.{fine, lawful_scripts}
+use Rattle.usb_slots.proofs.Made.{made}
+use Rattle.usb_state.specs.Making.{AreReady, AreUnused, Devices, Takes, setup_from, setup_of}
+use Rattle.usb_state.specs.State.{AllItems, Keeps, ShowsWorld, State, result_of}
+
+-- as many devices as configurations
+setup_length : (cs : List Configuration) (ss : List DeviceSlot) → length cs ≡ length ss → length (setup_from cs ss) ≡ length cs
+setup_length [] ss same = refl
+setup_length (c ∷ cs) [] same = absurd (omega (arith, same))
+setup_length (c ∷ cs) (s ∷ ss) same = ap suc (setup_length cs ss (omega (arith, same)))
+
+-- with these configurations
+setup_configs : (cs : List Configuration) (ss : List DeviceSlot) → length cs ≡ length ss → map (λ v. v.config) (setup_from cs ss) ≡ cs
+setup_configs [] ss same = refl
+setup_configs (c ∷ cs) [] same = absurd (omega (arith, same))
+setup_configs (c ∷ cs) (s ∷ ss) same = ap (λ (l : List Configuration). c ∷ l) (setup_configs cs ss (omega (arith, same)))
+
+-- one more of both
+setup_more : (cs : List Configuration) (ss : List DeviceSlot) (c : Configuration) (s : DeviceSlot) → length cs ≡ length ss
+    → setup_from (cs ++ c ∷ []) (ss ++ s ∷ []) ≡ setup_from cs ss ++ record { config = c; scripts = map (λ p. p.script) s.pipes } ∷ []
+setup_more [] [] c s same = refl
+setup_more [] (t ∷ ss) c s same = absurd (omega (arith, same))
+setup_more (b ∷ cs) [] c s same = absurd (omega (arith, same))
+setup_more (b ∷ cs) (t ∷ ss) c s same = ap (λ (l : Setup). record { config = b; scripts = map (λ p. p.script) t.pipes } ∷ l) (setup_more cs ss c s (omega (arith, same)))
+
+-- what stands in a longer list stood there before, or is new
+more_get : {A : Type 0} (xs : List A) (x : A) (i : ℕ) (y : A) → slice_get (xs ++ x ∷ []) i ≡ Some y → (slice_get xs i ≡ Some y) ⊎ ((i ≡ length xs) × (x ≡ y))
+more_get [] x zero y there = inr (refl, same_Some x y there)
+more_get [] x (suc i) y there = absurd cc
+more_get (z ∷ xs) x zero y there = inl there
+more_get (z ∷ xs) x (suc i) y there = by_rest (more_get xs x i y there)
+  where
+    by_rest : (slice_get xs i ≡ Some y) ⊎ ((i ≡ length xs) × (x ≡ y)) → (slice_get xs i ≡ Some y) ⊎ ((suc i ≡ suc (length xs)) × (x ≡ y))
+    by_rest (inl before) = inl before
+    by_rest (inr new) = inr (ap suc new.0, new.1)
+
+-- with a device more they are ready
+pub ready_more : (x : Devices) (c : Configuration) (s : DeviceSlot) → AreReady x → length x.configs < 4 → length c.endpoints ≤ 30
+    → IsNewSlot (length x.controller.slots) (record { config = c; scripts = map (λ p. p.script) s.pipes }) s → IsRead (record { config = c; scripts = map (λ p. p.script) s.pipes })
+    → AreReady (record { configs = x.configs ++ c ∷ []; controller = record x.controller { slots = x.controller.slots ++ s ∷ [] } })
+ready_more x c s ready room short new read = record {
+  as_many = length-append x.configs (c ∷ []) ∙ (ap (λ (n : ℕ). n + 1) ready.as_many ∙ sym (length-append x.controller.slots (s ∷ [])));
+  few = omega (arith, room, length-append x.configs (c ∷ []));
+  each = λ d v t there at. by_both d v t (more_get (setup_of x) one d v (subst (λ (l : Setup). slice_get l d ≡ Some v) more there)) (more_get x.controller.slots s d t at);
+  read = λ d v there. by_setup d v (more_get (setup_of x) one d v (subst (λ (l : Setup). slice_get l d ≡ Some v) more there));
+  short = λ d v there. by_short d v (more_get (setup_of x) one d v (subst (λ (l : Setup). slice_get l d ≡ Some v) more there));
+  commands = ready.commands;
+  events = ready.events;
+}
+  where
+    one : DeviceSetup
+    one = record { config = c; scripts = map (λ p. p.script) s.pipes }
+
+    more : setup_from (x.configs ++ c ∷ []) (x.controller.slots ++ s ∷ []) ≡ setup_of x ++ one ∷ []
+    more = setup_more x.configs x.controller.slots c s ready.as_many
+
+    as_long : length (setup_of x) ≡ length x.controller.slots
+    as_long = setup_length x.configs x.controller.slots ready.as_many ∙ ready.as_many
+
+    by_both : (d : ℕ) (v : DeviceSetup) (t : DeviceSlot) → (slice_get (setup_of x) d ≡ Some v) ⊎ ((d ≡ length (setup_of x)) × (one ≡ v)) → (slice_get x.controller.slots d ≡ Some t) ⊎ ((d ≡ length x.controller.slots) × (s ≡ t)) → IsNewSlot d v t
+    by_both d v t (inl before) (inl at) = ready.each d v t before at
+    by_both d v t (inl before) (inr at) = absurd (omega (arith, slice_get_within (setup_of x) d v before, at.0, as_long))
+    by_both d v t (inr after) (inl at) = absurd (omega (arith, slice_get_within x.controller.slots d t at, after.0, as_long))
+    by_both d v t (inr after) (inr at) = subst₂ (λ (u : DeviceSetup) (r : DeviceSlot). IsNewSlot d u r) after.1 at.1 (subst (λ (n : ℕ). IsNewSlot n one s) (sym at.0) new)
+
+    by_setup : (d : ℕ) (v : DeviceSetup) → (slice_get (setup_of x) d ≡ Some v) ⊎ ((d ≡ length (setup_of x)) × (one ≡ v)) → IsRead v
+    by_setup d v (inl before) = ready.read d v before
+    by_setup d v (inr after) = subst (λ (u : DeviceSetup). IsRead u) after.1 read
+
+    by_short : (d : ℕ) (v : DeviceSetup) → (slice_get (setup_of x) d ≡ Some v) ⊎ ((d ≡ length (setup_of x)) × (one ≡ v)) → length v.config.endpoints ≤ 30
+    by_short d v (inl before) = ready.short d v before
+    by_short d v (inr after) = subst (λ (u : DeviceSetup). length u.config.endpoints ≤ 30) after.1 short
+
+-- few endpoints each make few in all
+few_ends : (n : ℕ) (setup : Setup) → ((d : ℕ) (v : DeviceSetup) → slice_get setup d ≡ Some v → length v.config.endpoints ≤ 30) → length (ends_from n setup) ≤ 30 * length setup
+few_ends n [] short = omega arith
+few_ends n (v ∷ vs) short =
+    let at : EndpointInfo → ℕ × ℕ = λ x. (n, x.address) in
+    let rest = few_ends (suc n) vs (λ d x there. short (suc d) x there) in
+    let here = short 0 v refl in
+    omega (arith, rest, here, length-append (map at v.config.endpoints) (ends_from (suc n) vs), length-map v.config.endpoints at)
+
+module _ {P : Type 0} where
+  -- parts that are unused keep a new core
+  pub keeps_new : (s : State P) (x : Devices) → AreReady x → AreUnused s x → Keeps (setup_of x) s (new_core (setup_of x))
+  unfolding callback_of
+  keeps_new s x ready unused = record {
+    set = setup_configs x.configs x.controller.slots ready.as_many ∙ sym unused.configs;
+    plain = read.0;
+    fine = read.2;
+    few = omega (arith, ready.few, setup_length x.configs x.controller.slots ready.as_many);
+    bounded = omega (arith, few_ends 0 (setup_of x) ready.short, ready.few, setup_length x.configs x.controller.slots ready.as_many);
+    lanes = unused.lanes;
+    cells = unused.cells;
+    held = subst (λ (k : Controller). HoldsCore (setup_of x) k (new_core (setup_of x))) (sym unused.controller)
+        (made (setup_of x) x.controller read.0 read.1 (record {
+          slots = sym ready.as_many ∙ sym (setup_length x.configs x.controller.slots ready.as_many);
+          each = ready.each;
+          commands = ready.commands;
+          events = ready.events;
+        }));
+    claimed = λ d i. sym (unused.free d i);
+    named = λ h. record {
+      device = sym (unused.closed h);
+      number = sym (unused.numbers h);
+      callback = λ n. sym (unused.callbacks h n);
+      called = λ e plain. sym (unused.called h (endpoint_id e));
+      waiting = λ e plain. sym (unused.results h (endpoint_id e));
+      plain = tt;
+    };
+    ended = ap (map result_of) (sym unused.ended);
+    ended_plain = tt;
+    ends = λ d e i there. record {
+      line = subst (λ (l : List (Option (InFlight P))). AllItems (holder (setup_of x) (new_core (setup_of x)).claims d e) e l []) (sym (unused.lines d e)) tt;
+      errand = unused.errands d e;
+    };
+    free = λ d e i there nobody. (refl, refl);
+  }
+    where
+      read : HasPlain (setup_of x) × HasNumbers (setup_of x) × IsFine (setup_of x)
+      read = fine (setup_of x) ready.read
+
+  -- they show the new world of these devices
+  pub shows_new : (s : State P) (x : Devices) → AreReady x → AreUnused s x → ShowsWorld (setup_of x) s (new_world (setup_of x))
+  shows_new s x ready unused = (new_core (setup_of x), keeps_new s x ready unused, new_shows (setup_of x))
+
+-- lines as they are made
+pub record HasNoLines {T : Type 0} (f : Flights T) : Type 0 where
+  pub lanes : length f.lines ≡ 128
+  pub lines : (d e : ℕ) → line_at f d e ≡ []
+  pub ended : f.ended ≡ []
+
+pub no_lines : {T : Type 0} (f : Flights T) → f ≡ record { lines = replicate 128 []; ended = []; next_key = 0 } → HasNoLines f
+no_lines {T} f is = record {
+  lanes = ap (λ (v : Flights T). length v.lines) is ∙ length-replicate 128 nothing;
+  lines = λ d e. ap (λ (v : Flights T). line_at v d e) is ∙ none 128 (lane_at d e);
+  ended = ap (λ (v : Flights T). v.ended) is;
+}
+  where
+    nothing : List (Option T)
+    nothing = []
+
+    none : (n k : ℕ) → slice_index_or (replicate n nothing) k nothing ≡ nothing
+    none zero k = refl
+    none (suc n) zero = refl
+    none (suc n) (suc k) = none n k
+
+-- endpoints that are rewound have their scripts, and stand at their beginning
+rewound_scripts : (pipes : List Pipe) → map (λ p. p.script) (map rewound pipes) ≡ map (λ p. p.script) pipes
+rewound_scripts [] = refl
+rewound_scripts (p ∷ ps) = ap (λ l. p.script ∷ l) (rewound_scripts ps)
+
+rewound_twice : (pipes : List Pipe) → map rewound (map rewound pipes) ≡ map rewound pipes
+rewound_twice [] = refl
+rewound_twice (p ∷ ps) = ap (λ (l : List Pipe). rewound p ∷ l) (rewound_twice ps)
+
+-- and take packets as long as before
+rewound_size : (pipes : List Pipe) (e : ℕ) → (pipe_at (map rewound pipes) e).size ≡ (pipe_at pipes e).size
+rewound_size pipes e = ap (λ (o : Option Pipe). (unwrap_or o no_pipe).size) (slice_get-map rewound pipes (endpoint_id e)) ∙ by_pipe (slice_get pipes (endpoint_id e))
+  where
+    by_pipe : (o : Option Pipe) → (unwrap_or (option_map rewound o) no_pipe).size ≡ (unwrap_or o no_pipe).size
+    by_pipe None = refl
+    by_pipe (Some p) = refl
+
+-- a device of a configuration is added at its slot
+pub ready_added : (x : Devices) (k : Controller) (c : Configuration) (pipes before : List Pipe) → AreReady x → length x.configs < 4 → length c.endpoints ≤ 30 → IsTable c.endpoints → pipes ≡ map rewound before → IsLawful pipes → Takes c before
+    → k ≡ record x.controller { slots = x.controller.slots ++ slot_for (suc (length x.controller.slots)) c pipes ∷ [] }
+    → AreReady (record { configs = x.configs ++ c ∷ []; controller = k }) × (setup_from (x.configs ++ c ∷ []) k.slots ≡ setup_of x ++ record { config = c; scripts = map (λ p. p.script) before } ∷ [])
+ready_added x k c pipes before ready room short table is lawful takes added = (
+  subst (λ (v : Controller). AreReady (record { configs = x.configs ++ c ∷ []; controller = v })) (sym added)
+      (ready_more x c slot ready room short
+      (record {
+        added = refl;
+        pipes = lawful.all;
+        scripts = refl;
+        begins = ap (map rewound) is ∙ (rewound_twice before ∙ sym is);
+        sizes = λ e z there supported. omega (arith, takes e z there supported, ap (λ (l : List Pipe). (pipe_at l e).size) is, rewound_size before e);
+      })
+      (record { table = table; lawful = lawful_scripts pipes lawful })),
+  ap (λ (v : Controller). setup_from (x.configs ++ c ∷ []) v.slots) added ∙ setup_more x.configs x.controller.slots c slot ready.as_many
+      ∙ ap (λ (l : List Pipe). setup_of x ++ record { config = c; scripts = map (λ p. p.script) l } ∷ []) is
+      ∙ ap (λ l. setup_of x ++ record { config = c; scripts = l } ∷ []) (rewound_scripts before),
+)
+  where
+    slot : DeviceSlot
+    slot = slot_for (suc (length x.controller.slots)) c pipes
+
+-- a device that comes back has the scripts that it had
+pub scripts_back : (pipes before : List Pipe) → pipes ≡ map rewound before → map (λ p. p.script) pipes ≡ map (λ p. p.script) before
+scripts_back pipes before is = ap (map (λ (p : Pipe). p.script)) is ∙ rewound_scripts before
