@@ -50,7 +50,7 @@ module _ {P : Type 0} where
       → first_why (reset_tests setup c h) ≡ (if a then Some NoDevice else if not b then Some Busy else if others_hold s.claims h d then Some HeldElsewhere else None)
   reset_first setup w s c h d a b keeps shows device gone quiet =
       ap (λ (o : Option ℕ). if not (is_some o) then Some NotFound else if c.gone (unwrap_or o 0) then Some NoDevice else if not (are_quiet setup c h (λ x. true)) then Some Busy
-          else if list_any (λ i. is_others h (c.claims (unwrap_or o 0) i)) (interfaces_of setup (unwrap_or o 0)) then Some HeldElsewhere else None)
+      else if list_any (λ i. is_others h (c.claims (unwrap_or o 0) i)) (interfaces_of setup (unwrap_or o 0)) then Some HeldElsewhere else None)
       ((keeps.named h).device ∙ device)
       ∙ ap (λ (x : Bool). if x then Some NoDevice else if not (are_quiet setup c h (λ x. true)) then Some Busy else if list_any (λ i. is_others h (c.claims d i)) (interfaces_of setup d) then Some HeldElsewhere else None) (sym (gone_is setup w s c d keeps shows) ∙ gone)
       ∙ ap (λ (x : Bool). if a then Some NoDevice else if not x then Some Busy else if list_any (λ i. is_others h (c.claims d i)) (interfaces_of setup d) then Some HeldElsewhere else None) (sym quiet)
