@@ -1,2 +1,3 @@
 mod Instances
 mod Turning
+mod Reached

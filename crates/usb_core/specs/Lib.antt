@@ -1,1 +1,3 @@
 pub mod Instances
+pub mod Stepping
+pub mod Running

@@ -6,6 +6,10 @@
 
 mod calls;
 pub mod laws;
+mod running;
+mod stepping;
 
 pub use calls::Core;
+pub use running::{Stopped, run};
+pub use stepping::{NoMemory, Stepped};
 pub use usb_parts::{Setup, Taken, Unaccepted, Unadded};

@@ -3,4 +3,5 @@ pub mod Changes
 pub mod Fair
 pub mod Isolation
 pub mod Runs
+pub mod Beginnings
 pub mod Alone

@@ -1,3 +1,2 @@
 mod Comparing
 mod Drives
-mod Beginnings

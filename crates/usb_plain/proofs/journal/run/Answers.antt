@@ -4,7 +4,7 @@ use Rattle.usb_model.specs.World.Journal.{world_run, journal}
 use Rattle.usb_model.specs.World.Journal.{run_from}
 use Rattle.usb_system.specs.System.{world_of}
 use Rattle.usb_lemmas.proofs.Handles.Runs.{step_further, run_ends}
-use Rattle.usb_plain.proofs.Beginnings.{first_steps, step_left}
+use Rattle.usb_lemmas.proofs.Handles.Beginnings.{first_steps, step_left}
 use Rattle.usb_plain.proofs.journal.run.Goals as goal
 
 pub returns-in_default-clause-stopped : goal.returns-in_default-clause-stopped

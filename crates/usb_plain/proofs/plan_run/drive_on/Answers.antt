@@ -5,7 +5,7 @@ use Rattle.usb_model.specs.World.Plans.{Stage, expand, expand_from}
 use Rattle.usb_model.specs.World.Journal.{run_from}
 use Rattle.usb_plain.specs.PlanRuns.{kept_with, stage_of}
 use Rattle.usb_plain.proofs.Drives.{piece_further, plan_ends, begun_all, steps_further, steps_end}
-use Rattle.usb_plain.proofs.Beginnings.{first_steps, piece_left}
+use Rattle.usb_lemmas.proofs.Handles.Beginnings.{first_steps, piece_left}
 use Rattle.usb_plain.proofs.plan_run.drive_on.Goals as goal
 
 pub returns-in_default-clause-stopped : goal.returns-in_default-clause-stopped

@@ -1,0 +1,13 @@
+use Rattle.std.proofs.Common.{◌∙◌, ap, option_map, refl, sym}
+use Rattle.usb_model.specs.declared.step.Step.TheVariants.{Take}
+use Rattle.usb_state.specs.Calls.{called_entry}
+use Rattle.usb_core.proofs.Turning.{as_turn}
+use Rattle.usb_core.proofs.calls.Core.step_take.Goals as goal
+
+pub returns-in-Ok-Some-clause-turned : goal.returns-in-Ok-Some-clause-turned
+returns-in-Ok-Some-clause-turned g c = as_turn c.args.self.now c.take.new.self c.take.new.self Take Take c.entry_of.result (called_entry (option_map (λ t. t.returned) c.in-Ok-Some.field-0)) refl
+    (c.entry_of.ensures ∙ sym (ap (λ x. called_entry (option_map (λ t. t.returned) x)) c.in-Ok-Some.field-0-is)) refl c.in-Ok-Some.ensures.taken
+
+pub returns-in-Ok-None-clause-turned : goal.returns-in-Ok-None-clause-turned
+returns-in-Ok-None-clause-turned g c = as_turn c.args.self.now c.take.new.self c.take.new.self Take Take c.told.result.entry (called_entry (option_map (λ t. t.returned) c.in-Ok-None.field-0)) refl
+    (ap (λ x. x.entry) c.told.ensures ∙ sym (ap (λ x. called_entry (option_map (λ t. t.returned) x)) c.in-Ok-None.field-0-is)) refl c.in-Ok-None.ensures.taken

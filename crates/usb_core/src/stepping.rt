@@ -1,0 +1,174 @@
+//! A step of the core, whichever it is.
+
+ghost use Rattle.std.specs.Prelude.{◌≡◌, true, IfErr, IfOk, None, OnErr, Some, is_some, option_map};
+ghost use Rattle.usb_model.specs.declared.step.Step.TheVariants.{Answer, Take};
+ghost use Rattle.usb_model.specs.Numbers.{takes_payload};
+ghost use Rattle.usb_state.specs.Calls.{Stays};
+ghost use Rattle.usb_state.specs.Steps.{Turns};
+ghost use Rattle.usb_core.specs.Stepping.{answered, first_payload, handed_out, left_over, takes_memory};
+
+use crate::calls::Core;
+use usb_device::Device;
+use usb_model::{Entry, Name, Refused, Reply, Step, Verdict};
+use usb_parts::{Taken, Unaccepted};
+
+/// What a step gave.
+#[derive(Drop)]
+pub struct Stepped<P> {
+    /// Whose the step was, and the reply to it.
+    pub entry: Entry,
+    /// What its caller kept with the transfer that went out to its callback; None where none did.
+    pub out: Option<P>,
+    /// The payload that was given with the step; None where a transfer was submitted with it.
+    pub back: Option<P>,
+}
+
+/// A step that found no memory. Nothing changed.
+#[derive(Drop)]
+pub struct NoMemory<P> {
+    /// The payload that was given with the step.
+    pub payload: Option<P>,
+}
+
+/// The entry of a name's step.
+fn entry_of(h: Name, reply: Reply) -> Entry
+    ensures { result ≡ record { owner = Some h; reply = reply } }
+{
+    Entry {
+        owner: Some(h),
+        reply,
+    }
+}
+
+/// A step that hands nothing out and takes no payload.
+fn told<P>(entry: Entry, back: Option<P>) -> Stepped<P>
+    ensures { result ≡ record { entry = entry; out = None; back = back } }
+{
+    Stepped {
+        entry,
+        out: None,
+        back,
+    }
+}
+
+/// What a submission of this name gave.
+fn submitted<P>(h: Name, given: Result<u64, Unaccepted<P>>) -> Result<Stepped<P>, NoMemory<P>>
+    ensures { result ≡ answered h given }
+{
+    match given {
+        Ok(n) => Ok(told(entry_of(h, Reply::Number(n)), None)),
+        Err(Unaccepted { why, payload }) => match why {
+            Refused::NoMem => Err(NoMemory {
+                payload: Some(payload),
+            }),
+            _ => Ok(told(entry_of(h, Reply::Refused(why)), Some(payload))),
+        },
+    }
+}
+
+impl<P, D: Device> Core<P, D> {
+    /// One step. With a payload where the step takes one (`Step::takes_payload`); where one is given to another step it
+    /// comes back. Only a step that submits and Take can find no memory.
+    pub fn step(&mut self, step: Step, payload: Option<P>) -> Result<Stepped<P>, NoMemory<P>>
+        requires { takes_payload step ≡ true → is_some payload ≡ true }
+        ensures turned { IfOk result (λ x. Turns self.old step x.entry self.new) }
+        ensures out { IfOk result (λ x. x.out ≡ handed_out self.old step) }
+        ensures back { IfOk result (λ x. x.back ≡ left_over (takes_payload step) x.entry.reply payload) }
+        ensures payload { IfErr result (λ x. x.payload ≡ payload) }
+        ensures memory { OnErr result (takes_memory step ≡ true) }
+        ensures kept { OnErr result (Stays self.old self.new) }
+    {
+        let entry = match step {
+            Step::Open { h, dev } => entry_of(h, self.open(h, dev)),
+            Step::Close { h } => entry_of(h, self.close(h)),
+            Step::Claim { h, i } => entry_of(h, self.claim(h, i)),
+            Step::Release { h, i } => entry_of(h, self.release(h, i)),
+            Step::Reset { h } => entry_of(h, self.reset(h)),
+            Step::ClearHalt { h, ep } => entry_of(h, self.clear_halt(h, ep)),
+            Step::Submit { h, request } => {
+                let Some(payload) = payload else {
+                    unreachable!()
+                };
+                return submitted(h, self.submit(h, request, payload));
+            }
+            Step::Cancel { h, n } => entry_of(h, self.cancel(h, n)),
+            Step::Expire { h, n } => entry_of(h, self.expire(h, n)),
+            Step::Serve { dev, ep } => self.serve(dev, ep),
+            Step::Command => self.command(),
+            Step::Deliver => self.deliver(),
+            Step::Take => return self.step_take(payload),
+            Step::Answer { h, n, verdict } => return self.step_answer(h, n, verdict, payload),
+            Step::Unplug { dev } => Entry {
+                owner: None,
+                reply: self.unplug(dev),
+            },
+        };
+        Ok(told(entry, payload))
+    }
+
+    /// The oldest result goes out to its callback.
+    fn step_take(&mut self, payload: Option<P>) -> Result<Stepped<P>, NoMemory<P>>
+        ensures turned { IfOk result (λ x. Turns self.old Take x.entry self.new) }
+        ensures out { IfOk result (λ x. x.out ≡ first_payload self.old) }
+        ensures back { IfOk result (λ x. x.back ≡ payload) }
+        ensures payload { IfErr result (λ x. x.payload ≡ payload) }
+        ensures kept { OnErr result (Stays self.old self.new) }
+    {
+        match self.take() {
+            Ok(
+                Some(
+                    Taken {
+                        returned,
+                        payload: out,
+                    },
+                ),
+            ) => Ok(Stepped {
+                entry: entry_of(returned.h, Reply::Called(returned)),
+                out: Some(out),
+                back: payload,
+            }),
+            Ok(None) => Ok(told(
+                Entry {
+                    owner: None,
+                    reply: Reply::Idle,
+                },
+                payload,
+            )),
+            Err(_) => Err(NoMemory { payload }),
+        }
+    }
+
+    /// The verdict of a callback.
+    fn step_answer(
+        &mut self,
+        h: Name,
+        n: u64,
+        verdict: Verdict,
+        payload: Option<P>,
+    ) -> Result<Stepped<P>, NoMemory<P>>
+        requires { takes_payload (Answer h n verdict) ≡ true → is_some payload ≡ true }
+        ensures turned { IfOk result (λ x. Turns self.old (Answer h n verdict) x.entry self.new) }
+        ensures out { IfOk result (λ x. x.out ≡ None) }
+        ensures back { IfOk result (λ x. x.back ≡ left_over (takes_payload (Answer h n verdict)) x.entry.reply payload) }
+        ensures payload { IfErr result (λ x. x.payload ≡ payload) }
+        ensures memory { OnErr result (takes_payload (Answer h n verdict) ≡ true) }
+        ensures kept { OnErr result (Stays self.old self.new) }
+    {
+        let given = match verdict {
+            Verdict::Stop => return Ok(told(entry_of(h, self.stop(h, n)), payload)),
+            Verdict::Again => {
+                let Some(payload) = payload else {
+                    unreachable!()
+                };
+                self.again(h, n, payload)
+            }
+            Verdict::AgainWith(bytes) => {
+                let Some(payload) = payload else {
+                    unreachable!()
+                };
+                self.again_with(h, n, bytes, payload)
+            }
+        };
+        submitted(h, given)
+    }
+}

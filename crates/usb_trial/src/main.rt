@@ -1,0 +1,28 @@
+//! Random scenarios, each run by the core and by the plain program: their entries have to be the same.
+#![tactic(auto)]
+
+mod dice;
+mod scene;
+mod seen;
+mod steps;
+mod trial;
+
+use anyhow::Result;
+
+/// How many scenarios there are.
+const SCENARIOS: u64 = 300;
+
+/// How many steps each of them has.
+const STEPS: u64 = 400;
+
+fn main(rt: HostRuntime) -> Result<()> {
+    let mut seen = seen::Seen::default();
+    for seed in 0..SCENARIOS {
+        trial::run(rt.alloc(), seed, STEPS, &mut seen)?;
+    }
+    seen.are_all()?;
+    println!(rt;
+        "{SCENARIOS} scenarios of {STEPS} steps: the same entries, each kind of reply among them"
+    )?;
+    Ok(())
+}
