@@ -2,6 +2,7 @@
 #![tactic(auto)]
 
 mod coding;
+mod cores;
 mod events;
 mod holders;
 mod plain;

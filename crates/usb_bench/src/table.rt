@@ -1,6 +1,7 @@
 //! The table that is printed.
 
 use crate::coding::{Coding, PlainCoding};
+use crate::cores::{Cores, PlainCores};
 use crate::events::{Events, PlainEvents};
 use crate::holders::{Holders, PlainHolders};
 use crate::readings::{PlainReadings, Readings};
@@ -45,8 +46,7 @@ fn row<W: Work, P: Work>(rt: &HostRuntime, done: &str, work: &mut W, plain: &mut
 /// Prints the table.
 pub fn print(rt: &HostRuntime) -> Result<()> {
     println!(rt; "nanoseconds a turn, the least of 5 runs              ours  plain  ratio")?;
-    print_rings(rt)?;
-    print_parts(rt)
+    print_core(rt)
 }
 
 /// Prints the rows of rings.
@@ -98,5 +98,16 @@ fn print_parts(rt: &HostRuntime) -> Result<()> {
         "the holder of an endpoint",
         &mut Holders::new(alloc)?,
         &mut PlainHolders::new(alloc)?,
+    )
+}
+
+/// Prints the row of the core.
+fn print_core(rt: &HostRuntime) -> Result<()> {
+    let alloc = rt.alloc();
+    row(
+        rt,
+        "a read of 8 bytes, from submission to its end",
+        &mut Cores::new(alloc)?,
+        &mut PlainCores::new(alloc),
     )
 }

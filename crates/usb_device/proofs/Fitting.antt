@@ -113,6 +113,14 @@ directed config script ep (Some x) is h =
 endpoint_id-few : (ep : ℕ) → endpoint_id ep < 32
 endpoint_id-few ep = grind arith
 
+-- the endpoint of an address is made of its id
+pub pipe_is : (config : Configuration) (scripts : List (List Response)) (ep : ℕ) → pipe_at (pipes_of config scripts) ep ≡ pipe_by config scripts (endpoint_id ep)
+unfolding pipes_of
+pipe_is config scripts ep =
+    let id = endpoint_id ep in
+    unwrap_or-slice_get (map (pipe_by config scripts) (range_with_len 0 32)) id no_pipe
+    ∙ get_or-map-range_with_len (pipe_by config scripts) 0 32 id id no_pipe (endpoint_id-few ep) (omega arith)
+
 -- scripts that fit are lawful
 pub lawful : (config : Configuration) (scripts : List (List Response)) → are_scripts config scripts ≡ true → IsLawful (pipes_of config scripts)
 unfolding pipes_of
@@ -120,9 +128,6 @@ lawful config scripts h = record {
   all = length-map-range_with_len (pipe_by config scripts) 0 32;
   fit = λ ep.
       let id = endpoint_id ep in
-      let at : pipe_at (map (pipe_by config scripts) (range_with_len 0 32)) ep ≡ pipe_by config scripts id =
-      unwrap_or-slice_get (map (pipe_by config scripts) (range_with_len 0 32)) id no_pipe
-      ∙ get_or-map-range_with_len (pipe_by config scripts) 0 32 id id no_pipe (endpoint_id-few ep) (omega arith) in
-      ap (λ (p : Pipe). list_all (is_of_direction (is_in ep)) p.script) at
+      ap (λ (p : Pipe). list_all (is_of_direction (is_in ep)) p.script) (pipe_is config scripts ep)
       ∙ directed config (script_by scripts id) ep (info_by config id) refl (script-fits config scripts id h);
 }

@@ -1,5 +1,5 @@
 -- The scripts of a device, by endpoint id, beside its configuration.
-use Rattle.std.specs.Prelude.{ℕ, ◌+◌, ◌==◌, nat_le, Bool, true, false, ◌&&◌, List, [], ◌∷◌, length, count_by, map, Option, Some, None, slice_get}
+use Rattle.std.specs.Prelude.{◌≡◌, ℕ, ◌≤◌, ◌+◌, ◌==◌, nat_le, Bool, true, false, ◌&&◌, List, [], ◌∷◌, length, count_by, map, Option, Some, None, slice_get}
 use Rattle.std.specs.Option.{unwrap_or, option_map_or}
 use Rattle.std.specs.List.{find, list_all, range_with_len}
 use Rattle.usb_model.specs.declared.response.Response.{Response}
@@ -7,8 +7,10 @@ use Rattle.usb_model.specs.declared.setup.Configuration.{Configuration}
 use Rattle.usb_model.specs.declared.setup.EndpointInfo.{EndpointInfo}
 use Rattle.usb_model.specs.Direction.{is_of_direction}
 use Rattle.usb_model.specs.Limits.{largest_packet, longest_script}
+use Rattle.usb_model.specs.Requests.{is_unsupported}
 use Rattle.usb_model.specs.Setup.{endpoint_id, is_in}
-use Rattle.usb_device.specs.Pipe.{Pipe, is_ack, packet_of}
+use Rattle.usb_descriptors.specs.Table.{IsTable, info_at}
+use Rattle.usb_device.specs.Pipe.{Pipe, is_ack, packet_of, pipe_at}
 use Rattle.usb_device.specs.Taken.{Taken}
 
 -- what the configuration says of the endpoint of this id
@@ -63,3 +65,7 @@ room_of config scripts id = record { packets = []; places = count_by is_ack (scr
 
 unfoldable pub rooms_of : Configuration → List (List Response) → List Taken
 rooms_of config scripts = map (room_of config scripts) (range_with_len 0 32)
+
+-- a device takes packets as long as its configuration says, at each endpoint where transfers can go
+abbrev pub Takes : Configuration → List Pipe → Type 0
+Takes c pipes = IsTable c.endpoints → (e : ℕ) (z : EndpointInfo) → info_at c e ≡ Some z → is_unsupported z.kind ≡ false → z.packet_size ≤ (pipe_at pipes e).size

@@ -5,7 +5,7 @@ ghost use Rattle.std.specs.List.{range_with_len};
 ghost use Rattle.std.specs.Vec.Iter.{into_iter_items};
 ghost use Rattle.usb_model.specs.declared.refused.Refused.TheVariants.{InvalidParam, NoMem};
 ghost use Rattle.usb_device.specs.Pipe.{pipe_at};
-ghost use Rattle.usb_device.specs.Scripts.{are_scripts, pipes_of, rooms_of, script_by};
+ghost use Rattle.usb_device.specs.Scripts.{Takes, are_scripts, pipes_of, rooms_of, script_by};
 
 use crate::device::{Act, Device};
 use crate::pipe::TablePipe;
@@ -85,6 +85,7 @@ impl TableDevice {
         scripts: Sequence<Script>,
     ) -> Result<TableDevice, Unmade>
         ensures made { IfOk result (λ d. ⟦<TableDevice as Device>⟧.pipes d ≡ pipes_of config.now scripts) }
+        ensures takes { IfOk result (λ d. Takes config.now (⟦<TableDevice as Device>⟧.pipes d)) }
         ensures fit { OnOk result (are_scripts config.now scripts ≡ true) }
         ensures why { IfErr result (λ u. u.why ≡ (if are_scripts config.now scripts then NoMem else InvalidParam)) }
         ensures back { IfErr result (λ u. u.scripts ≡ scripts) }

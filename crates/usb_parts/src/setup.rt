@@ -2,7 +2,8 @@
 
 ghost use Rattle.std.specs.Prelude.{◌≡◌, ◌++◌, ◌∷◌, [], IfErr, IfOk, OnErr, OnOk, map};
 ghost use Rattle.usb_device.specs.Pipe.{IsLawful, rewound};
-ghost use Rattle.usb_state.specs.Making.{Takes, setup_of};
+ghost use Rattle.usb_device.specs.Scripts.{Takes};
+ghost use Rattle.usb_state.specs.Making.{setup_of};
 
 use arrayvec::ArrayVec;
 use std::alloc::{AllocError, Global};

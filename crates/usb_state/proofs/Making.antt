@@ -8,6 +8,7 @@ use Rattle.std.specs.Option.{unwrap_or}
 use Rattle.std.specs.Prelude.{option_map}
 use Rattle.usb_descriptors.specs.Table.{IsTable}
 use Rattle.usb_device.specs.Pipe.{IsLawful, Pipe, no_pipe, pipe_at, rewound}
+use Rattle.usb_device.specs.Scripts.{Takes}
 use Rattle.usb_xhc.specs.Making.{slot_for}
 use Rattle.usb_model.specs.declared.setup.Configuration.{Configuration}
 use Rattle.usb_model.specs.declared.setup.DeviceSetup.{DeviceSetup}
@@ -26,7 +27,7 @@ use Rattle.usb_slots.specs.Made.{IsNewSlot, IsRead}
 use Rattle.usb_slots.specs.Laws.{HasNumbers, HasPlain}
 use Rattle.usb_slots.proofs.Fine.{fine, lawful_scripts}
 use Rattle.usb_slots.proofs.Made.{made}
-use Rattle.usb_state.specs.Making.{AreReady, AreUnused, Devices, Takes, setup_from, setup_of}
+use Rattle.usb_state.specs.Making.{AreReady, AreUnused, Devices, setup_from, setup_of}
 use Rattle.usb_state.specs.State.{AllItems, Keeps, ShowsWorld, State, result_of}
 
 -- as many devices as configurations
@@ -200,7 +201,7 @@ ready_added x k c pipes before ready room short table is lawful takes added = (
         pipes = lawful.all;
         scripts = refl;
         begins = ap (map rewound) is ∙ (rewound_twice before ∙ sym is);
-        sizes = λ e z there supported. omega (arith, takes e z there supported, ap (λ (l : List Pipe). (pipe_at l e).size) is, rewound_size before e);
+        sizes = λ e z there supported. omega (arith, takes table e z there supported, ap (λ (l : List Pipe). (pipe_at l e).size) is, rewound_size before e);
       })
       (record { table = table; lawful = lawful_scripts pipes lawful })),
   ap (λ (v : Controller). setup_from (x.configs ++ c ∷ []) v.slots) added ∙ setup_more x.configs x.controller.slots c slot ready.as_many

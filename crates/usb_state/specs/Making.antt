@@ -41,10 +41,6 @@ pub record AreReady (x : Devices) : Type 0 where
   pub commands : x.controller.commands ≡ empty 255 256 0x2000_0000
   pub events : x.controller.events ≡ empty 4096 4096 0x3000_0000
 
--- a device takes packets as long as its configuration says, at each endpoint where transfers can go
-abbrev pub Takes : Configuration → List Pipe → Type 0
-Takes c pipes = (e : ℕ) (z : EndpointInfo) → info_at c e ≡ Some z → is_unsupported z.kind ≡ false → z.packet_size ≤ (pipe_at pipes e).size
-
 -- nothing is kept yet of any name or endpoint
 pub record AreUnused {P : Type 0} (s : State P) (x : Devices) : Type 0 where
   pub configs : s.claims.configs ≡ x.configs

@@ -1,5 +1,7 @@
 //! Numbers that look random, the same at each run.
 
+ghost use Rattle.std.specs.Prelude.{◌≤◌};
+
 use rand_core::{Rng, SeedableRng};
 use rand_xoshiro::SplitMix64;
 
@@ -23,7 +25,9 @@ impl Dice {
     }
 
     /// A number from 0 to this.
-    pub fn up_to(&mut self, most: u8) -> u8 {
+    pub fn up_to(&mut self, most: u8) -> u8
+        ensures { result ≤ most }
+    {
         (self.rng.next_u64() % (u64::from(most) + 1)) as u8
     }
 

@@ -4,10 +4,11 @@ use Rattle.std.specs.Vec.Iter.{into_iter_items}
 use Rattle.std.proofs.lemmas.List.{nil_from_length}
 use Rattle.std.proofs.lemmas.List.FromFn.{length-map-range_with_len}
 use Rattle.usb_device.specs.Pipe.{IsLawful, Pipe}
-use Rattle.usb_device.specs.Scripts.{are_scripts, pipe_by, room_of, rooms_of, script_by}
+use Rattle.usb_device.specs.Scripts.{Takes, are_scripts, pipe_by, room_of, rooms_of, script_by}
 use Rattle.usb_device.specs.Taken.{Taken}
 use Rattle.usb_device.proofs.Filling.{IsFilling, all-filled, few-done, filled, left-is, next-room, next-script}
 use Rattle.usb_device.proofs.Fitting.{all-short, lawful}
+use Rattle.usb_device.proofs.Sizes.{table_takes}
 use Rattle.usb_device.proofs.table.TableDevice.new.Goals as goal
 use Rattle.usb_device.proofs.table.TableDevice.new.Goals.{After-next_script, In-None}
 
@@ -83,3 +84,6 @@ invariant_of-result c =
 pub returns-clause-made : goal.returns-clause-made
 returns-clause-made c =
     all-filled c.args.config.now c.args.scripts c.loop-room.pipes.items c.loop-room.yielded (into_iter_items c.loop-room.scripts) (at_end (goal.at.returns-clause-made c).In-None)
+
+pub returns-clause-takes : goal.returns-clause-takes
+returns-clause-takes c = subst (Takes c.args.config.now) (sym (returns-clause-made c)) (table_takes c.args.config.now c.args.scripts)
