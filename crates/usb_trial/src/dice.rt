@@ -3,19 +3,19 @@
 ghost use Rattle.std.specs.Prelude.{◌≤◌};
 
 use rand_core::{Rng, SeedableRng};
-use rand_xoshiro::SplitMix64;
+use rand_pcg::Pcg32;
 
 /// A generator.
 #[derive(Drop)]
 pub struct Dice {
-    rng: SplitMix64,
+    rng: Pcg32,
 }
 
 impl Dice {
     /// The generator of a seed.
     pub fn new(seed: u64) -> Dice {
         Dice {
-            rng: SplitMix64::seed_from_u64(seed),
+            rng: Pcg32::seed_from_u64(seed),
         }
     }
 
