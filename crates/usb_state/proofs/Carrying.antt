@@ -133,10 +133,6 @@ module _ {P : Type 0} where
   pub still_by : (old seen new : State P) → seen ≡ old → Follows seen.flights new.flights → SameNumbers seen.callers new.callers → StillCarries old new
   still_by old seen new is follows numbers = subst (λ (s : State P). StillCarries s new) is (still seen new follows numbers)
 
-  -- nothing of it changed
-  pub still_same : (old seen new : State P) → seen ≡ old → new.flights ≡ seen.flights → new.callers ≡ seen.callers → StillCarries old new
-  still_same old seen new is flights callers = still_by old seen new is (λ R. subst (EachHas R) (sym flights)) (λ g. ap (λ v. number_of v g) callers)
-
   -- and then again
   pub still_on : (old mid new : State P) → StillCarries old mid → StillCarries mid new → StillCarries old new
   still_on old mid new first behind kept carried = behind kept (first kept carried)
