@@ -4,3 +4,4 @@ mod Runs
 mod Serves
 mod Rewinding
 mod Callbacks
+mod Carried

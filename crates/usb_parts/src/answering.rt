@@ -9,6 +9,7 @@ ghost use Rattle.usb_callers.specs.Callers.{callback_at};
 ghost use Rattle.std.specs.Option.{option_map};
 ghost use Rattle.usb_model.specs.declared.verdict.Verdict.TheVariants.{Again, AgainWith, Stop};
 ghost use Rattle.usb_state.specs.Calls.{Stays};
+ghost use Rattle.usb_state.specs.Carrying.{CarriesMore, StillCarries};
 ghost use Rattle.usb_state.specs.State.{IsState};
 ghost use Rattle.usb_state.specs.Steps.{Does};
 ghost use Rattle.usb_parts.specs.Submitting.{AgainIs};
@@ -23,7 +24,8 @@ impl<P, D: Device> Parts<P, D> {
     /// in its callback.
     pub fn stop(&mut self, h: Name, n: u64) -> Reply
         requires { IsState self.old }
-        ensures { Does self.old (Answer h n Stop) (record { owner = Some h; reply = result }) self.new }
+        ensures done { Does self.old (Answer h n Stop) (record { owner = Some h; reply = result }) self.new }
+        ensures carries { StillCarries self.old self.new }
     {
         match self.callers.remove_callback(h, n) {
             Some(_) => Reply::Done,
@@ -40,6 +42,8 @@ impl<P, D: Device> Parts<P, D> {
         ensures back { IfErr result (λ x. x.payload ≡ payload) }
         ensures refused { IfErr result (λ x. (x.why ≡ NoMem → ⊥) → Does self.old (Answer h n Again) (record { owner = Some h; reply = IsRefused x.why }) self.new) }
         ensures kept { OnErr result (Stays self.old self.new) }
+        ensures carries { IfOk result (λ k. CarriesMore h k payload self.old self.new) }
+        ensures still { OnErr result (StillCarries self.old self.new) }
     {
         let place = match self.place_again(h, n) {
             Ok(place) => place,
@@ -88,6 +92,8 @@ impl<P, D: Device> Parts<P, D> {
         ensures back { IfErr result (λ x. x.payload ≡ payload) }
         ensures refused { IfErr result (λ x. (x.why ≡ NoMem → ⊥) → Does self.old (Answer h n (AgainWith bytes)) (record { owner = Some h; reply = IsRefused x.why }) self.new) }
         ensures kept { OnErr result (Stays self.old self.new) }
+        ensures carries { IfOk result (λ k. CarriesMore h k payload self.old self.new) }
+        ensures still { OnErr result (StillCarries self.old self.new) }
     {
         let Some(request) = self.with_bytes(h, n, bytes) else {
             return Err(Unaccepted {

@@ -4,6 +4,7 @@ ghost use Rattle.std.specs.Prelude.{◌≡◌, ℕ, Some};
 ghost use Rattle.usb_model.specs.declared.step.Step.TheVariants.{Cancel, Expire};
 ghost use Rattle.usb_shows.specs.Shows.{Core};
 ghost use Rattle.usb_model.specs.Setup.{Setup};
+ghost use Rattle.usb_state.specs.Carrying.{StillCarries};
 ghost use Rattle.usb_state.specs.State.{IsState, Keeps};
 ghost use Rattle.usb_state.specs.Steps.{AskedAt, AsksToEnd, CanAsk, Does, InLine};
 ghost use Rattle.usb_parts.specs.Homes.{HomeIs, is_askable};
@@ -29,7 +30,8 @@ impl<P, D: Device> Parts<P, D> {
     /// progress, or it was asked before.
     pub fn cancel(&mut self, h: Name, n: u64) -> Reply
         requires { IsState self.old }
-        ensures { Does self.old (Cancel h n) (record { owner = Some h; reply = result }) self.new }
+        ensures done { Does self.old (Cancel h n) (record { owner = Some h; reply = result }) self.new }
+        ensures carries { StillCarries self.old self.new }
     {
         self.ask_to_end(h, n, Ask::Cancel, false)
     }
@@ -38,7 +40,8 @@ impl<P, D: Device> Parts<P, D> {
     /// and where it has no timeout.
     pub fn expire(&mut self, h: Name, n: u64) -> Reply
         requires { IsState self.old }
-        ensures { Does self.old (Expire h n) (record { owner = Some h; reply = result }) self.new }
+        ensures done { Does self.old (Expire h n) (record { owner = Some h; reply = result }) self.new }
+        ensures carries { StillCarries self.old self.new }
     {
         self.ask_to_end(h, n, Ask::Time, true)
     }
@@ -46,7 +49,8 @@ impl<P, D: Device> Parts<P, D> {
     /// Either of them; `timed`: only one that has a timeout.
     fn ask_to_end(&mut self, h: Name, n: u64, why: Ask, timed: bool) -> Reply
         requires { IsState self.old }
-        ensures { AsksToEnd self.old self.new h n why timed result }
+        ensures done { AsksToEnd self.old self.new h n why timed result }
+        ensures carries { StillCarries self.old self.new }
     {
         let Some(home) = self.home(h, n) else {
             return Reply::Refused(Refused::NotFound);
@@ -62,7 +66,8 @@ impl<P, D: Device> Parts<P, D> {
     /// The transfer at a place of an endpoint's line is asked to end; Stop is ordered where no errand is outstanding.
     fn ask_at(&mut self, dev: DeviceNo, ep: EpAddr, item: usize, why: Ask)
         requires { CanAsk self.old dev ep item }
-        ensures { AskedAt self.old self.new dev ep item why }
+        ensures done { AskedAt self.old self.new dev ep item why }
+        ensures carries { StillCarries self.old self.new }
     {
         self.flights.ask(dev, ep, item, why);
         if let Some(errand) = ask(self.errand(dev, ep)) {

@@ -2,6 +2,7 @@
 
 ghost use Rattle.std.specs.Prelude.{◌≡◌};
 ghost use Rattle.usb_model.specs.declared.step.Step.TheVariants.{Command};
+ghost use Rattle.usb_state.specs.Carrying.{StillCarries};
 ghost use Rattle.usb_state.specs.State.{IsState};
 ghost use Rattle.usb_state.specs.Steps.{Does, order_in};
 
@@ -15,7 +16,8 @@ impl<P, D: Device> Parts<P, D> {
     /// The oldest order of the command ring is carried out, or fails. Nobody's and Idle where none waits.
     pub fn command(&mut self) -> Entry
         requires { IsState self.old }
-        ensures { Does self.old Command result self.new }
+        ensures done { Does self.old Command result self.new }
+        ensures carries { StillCarries self.old self.new }
     {
         let Some((order, code)) = self.controller.run_command() else {
             return Entry {

@@ -3,6 +3,7 @@
 ghost use Rattle.std.specs.Prelude.{◌≡◌, ◌==◌, false, true};
 ghost use Rattle.usb_trb.specs.declared.kind.TrbKind.TheVariants.{CommandCompletion, TransferEvent};
 ghost use Rattle.usb_model.specs.declared.step.Step.TheVariants.{Deliver};
+ghost use Rattle.usb_state.specs.Carrying.{StillCarries};
 ghost use Rattle.usb_state.specs.State.{IsState};
 ghost use Rattle.usb_state.specs.Steps.{Does};
 ghost use Rattle.usb_state.specs.Delivering.{Delivers, IsEvent};
@@ -20,7 +21,8 @@ impl<P, D: Device> Parts<P, D> {
     /// The oldest event is handled. Nobody's and Idle where none waits.
     pub fn deliver(&mut self) -> Entry
         requires { IsState self.old }
-        ensures { Does self.old Deliver result self.new }
+        ensures done { Does self.old Deliver result self.new }
+        ensures carries { StillCarries self.old self.new }
     {
         match self.controller.take_event() {
             Some(event) => self.event(event),
@@ -34,7 +36,8 @@ impl<P, D: Device> Parts<P, D> {
     /// An event that was taken is handled.
     fn event(&mut self, event: TrbKind) -> Entry
         requires { IsEvent self.old event }
-        ensures { Delivers self.old event result self.new }
+        ensures done { Delivers self.old event result self.new }
+        ensures carries { StillCarries self.old self.new }
     {
         match event {
             TrbKind::TransferEvent {
@@ -56,7 +59,8 @@ impl<P, D: Device> Parts<P, D> {
     /// A Command Completion Event TRB that was taken is handled: the errand of its order ended.
     fn completion(&mut self, pointer: Pointer, code: u8, slot: Slot) -> Entry
         requires { IsEvent self.old (CommandCompletion pointer code slot) }
-        ensures { Delivers self.old (CommandCompletion pointer code slot) result self.new }
+        ensures done { Delivers self.old (CommandCompletion pointer code slot) result self.new }
+        ensures carries { StillCarries self.old self.new }
     {
         let Some((at, errand)) = self.sender(pointer, slot) else {
             unreachable!()
@@ -76,7 +80,8 @@ impl<P, D: Device> Parts<P, D> {
         id: EndpointId,
     ) -> Entry
         requires { IsEvent self.old (TransferEvent pointer residual code slot id) }
-        ensures { Delivers self.old (TransferEvent pointer residual code slot id) result self.new }
+        ensures done { Delivers self.old (TransferEvent pointer residual code slot id) result self.new }
+        ensures carries { StillCarries self.old self.new }
     {
         let Some(told) = self.told(pointer, residual, code, slot, id) else {
             unreachable!()
@@ -94,7 +99,8 @@ impl<P, D: Device> Parts<P, D> {
     fn transfer_stands(&mut self, told: Told, code: u8) -> Reply
         requires told { SomeTold self.old code told }
         requires stands { (code == 26) ≡ true }
-        ensures { Handles self.old code told result self.new }
+        ensures done { Handles self.old code told result self.new }
+        ensures carries { StillCarries self.old self.new }
     {
         self.flights
             .pause(told.dev, told.ep, told.item, told.ending.actual);
@@ -106,7 +112,8 @@ impl<P, D: Device> Parts<P, D> {
     fn transfer_ended(&mut self, told: Told, code: u8) -> Reply
         requires told { SomeTold self.old code told }
         requires ended { (code == 26) ≡ false }
-        ensures { Handles self.old code told result self.new }
+        ensures done { Handles self.old code told result self.new }
+        ensures carries { StillCarries self.old self.new }
     {
         let Told { dev, ep, n, .. } = told;
         self.finish(told, code);

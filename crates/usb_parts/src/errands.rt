@@ -2,6 +2,7 @@
 
 ghost use Rattle.std.specs.Prelude.{◌≡◌, ◌≤◌, ℕ, IfSome, length, option_map};
 ghost use Rattle.usb_cancel.specs.Outstanding.{sent_at};
+ghost use Rattle.usb_state.specs.Carrying.{StillCarries};
 ghost use Rattle.usb_state.specs.Steps.{CanPost};
 ghost use Rattle.usb_state.specs.Works.{Posts, context_in, order_by};
 
@@ -15,7 +16,8 @@ impl<P, D: Device> Parts<P, D> {
     /// Orders an errand at an endpoint (xHCI 1.2, 4.6): it is then outstanding, under its order's index.
     pub(crate) fn post(&mut self, dev: DeviceNo, ep: EpAddr, errand: Errand)
         requires { CanPost self.old dev ep }
-        ensures { (h : ℕ) → Posts self.old self.new h dev ep errand }
+        ensures done { (h : ℕ) → Posts self.old self.new h dev ep errand }
+        ensures carries { StillCarries self.old self.new }
     {
         let blanks = self.flights.blanks_from(dev, ep, 0);
         if let Some(order) = self.order_of(dev, ep, errand, blanks) {

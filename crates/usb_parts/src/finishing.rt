@@ -1,6 +1,7 @@
 //! The end of a transfer is told: its result is made, and it leaves its line.
 
 ghost use Rattle.std.specs.Prelude.{◌≡◌, ◌≤◌};
+ghost use Rattle.usb_state.specs.Carrying.{StillCarries};
 ghost use Rattle.usb_state.specs.Delivering.{CanFinish, leaving};
 ghost use Rattle.usb_state.specs.Works.{Finishes};
 
@@ -15,7 +16,8 @@ impl<P, D: Device> Parts<P, D> {
     /// those behind it where the endpoint goes on.
     pub(crate) fn finish(&mut self, told: Told, code: u8)
         requires { CanFinish self.old told.name told.dev told.ep told.item (leaving self.old told.dev told.ep told.item code) }
-        ensures { Finishes self.old self.new told.name told.dev told.ep told.item told.ending (leaving self.old told.dev told.ep told.item code) }
+        ensures done { Finishes self.old self.new told.name told.dev told.ep told.item told.ending (leaving self.old told.dev told.ep told.item code) }
+        ensures carries { StillCarries self.old self.new }
     {
         let Told { dev, ep, item, .. } = told;
         let count = self.leaving(dev, ep, item, code);

@@ -1,7 +1,7 @@
 //! The parts in which the core keeps its state, and each of its steps on them.
 //!
 //! The one promise: a step does what the core of lists does that the parts keep, whichever that is: its reply, and the
-//! core that is then kept.
+//! core that is then kept. What a caller keeps with a transfer stays with it, until both go out to the callback.
 #![tactic(auto)]
 
 mod answering;

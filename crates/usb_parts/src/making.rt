@@ -2,6 +2,7 @@
 
 ghost use Rattle.std.specs.Prelude.{IfOk};
 ghost use Rattle.usb_model.specs.World.{new_world};
+ghost use Rattle.usb_state.specs.Carrying.{Carries, Kept};
 ghost use Rattle.usb_state.specs.Making.{setup_of};
 ghost use Rattle.usb_state.specs.State.{ShowsWorld};
 
@@ -17,7 +18,8 @@ use usb_flight::Flights;
 impl<P, D: Device> Parts<P, D> {
     /// No name has a device open, and nothing is submitted.
     pub fn new(alloc: Global, setup: Setup<D>) -> Result<Parts<P, D>, AllocError>
-        ensures { IfOk result (λ s. ShowsWorld (setup_of setup) s (new_world (setup_of setup))) }
+        ensures shows { IfOk result (λ s. ShowsWorld (setup_of setup) s (new_world (setup_of setup))) }
+        ensures carries { IfOk result (λ s. (kept : Kept P) → Carries kept s) }
     {
         let Setup {
             configs,

@@ -2,6 +2,7 @@
 
 ghost use Rattle.std.specs.Prelude.{◌≡◌, Some};
 ghost use Rattle.usb_model.specs.declared.step.Step.TheVariants.{Reset};
+ghost use Rattle.usb_state.specs.Carrying.{StillCarries};
 ghost use Rattle.usb_state.specs.State.{IsState};
 ghost use Rattle.usb_state.specs.Steps.{Does};
 
@@ -16,7 +17,8 @@ impl<P, D: Device> Parts<P, D> {
     /// another name holds an interface of the device.
     pub fn reset(&mut self, h: Name) -> Reply
         requires { IsState self.old }
-        ensures { Does self.old (Reset h) (record { owner = Some h; reply = result }) self.new }
+        ensures done { Does self.old (Reset h) (record { owner = Some h; reply = result }) self.new }
+        ensures carries { StillCarries self.old self.new }
     {
         let Some(dev) = self.claims.device_of(h) else {
             return Reply::Refused(Refused::NotFound);

@@ -3,6 +3,7 @@
 ghost use Rattle.std.specs.Prelude.{◌≡◌};
 ghost use Rattle.usb_model.specs.declared.step.Step.TheVariants.{Serve};
 ghost use Rattle.usb_match.specs.Told.{reply_of};
+ghost use Rattle.usb_state.specs.Carrying.{StillCarries};
 ghost use Rattle.usb_state.specs.State.{IsState};
 ghost use Rattle.usb_state.specs.Steps.{Does};
 ghost use Rattle.usb_state.specs.Works.{IsFront};
@@ -17,7 +18,8 @@ impl<P, D: Device> Parts<P, D> {
     /// endpoint; Idle where there is nothing to serve: it isn't running, or no transfer is left.
     pub fn serve(&mut self, dev: DeviceNo, ep: EpAddr) -> Entry
         requires { IsState self.old }
-        ensures { Does self.old (Serve dev ep) result self.new }
+        ensures done { Does self.old (Serve dev ep) result self.new }
+        ensures carries { StillCarries self.old self.new }
     {
         let Some(name) = self.claims.holder(dev, ep) else {
             return Entry {

@@ -4,6 +4,7 @@
 ghost use Rattle.std.specs.Prelude.{◌≡◌, ℕ, Some, None, true, false};
 ghost use Rattle.usb_model.specs.declared.errand.Errand.{Errand};
 ghost use Rattle.usb_flight.specs.Flights.{item_at};
+ghost use Rattle.usb_state.specs.Carrying.{StillCarries};
 ghost use Rattle.usb_state.specs.Delivering.{CanLeave, CanSettle, IsCompletion, Settled, WithdrawsAll, asked_ending};
 ghost use Rattle.usb_state.specs.Steps.{CanPost};
 ghost use Rattle.usb_state.specs.Works.{Leaves, Posts, Resumes, Withdraws};
@@ -20,7 +21,8 @@ impl<P, D: Device> Parts<P, D> {
     /// The errand that was outstanding at an endpoint ended with this code.
     pub(crate) fn settle(&mut self, at: HeldEndpoint, errand: Errand, code: u8) -> Reply
         requires { IsCompletion self.old at.name at.dev at.ep errand code }
-        ensures { Settled self.old at.name at.dev at.ep errand code result self.new }
+        ensures done { Settled self.old at.name at.dev at.ep errand code result self.new }
+        ensures carries { StillCarries self.old self.new }
     {
         let HeldEndpoint { dev, ep, name } = at;
         let ok = code == SUCCESS;
@@ -35,7 +37,8 @@ impl<P, D: Device> Parts<P, D> {
     /// Blanks leave the front of an endpoint's line.
     fn leave(&mut self, dev: DeviceNo, ep: EpAddr, count: usize)
         requires { CanLeave self.old dev ep count }
-        ensures { (h : ℕ) → Leaves self.old self.new h dev ep count }
+        ensures done { (h : ℕ) → Leaves self.old self.new h dev ep count }
+        ensures carries { StillCarries self.old self.new }
     {
         self.flights.leave(dev, ep, count);
         self.controller.drop_front(dev, ep, count);
@@ -47,6 +50,7 @@ impl<P, D: Device> Parts<P, D> {
         ensures all { withdraw ≡ true → WithdrawsAll self.old self.new name dev ep }
         ensures none { withdraw ≡ false → self.new ≡ self.old }
         ensures settle { CanSettle self.new name dev ep }
+        ensures carries { StillCarries self.old self.new }
     {
         if withdraw {
             self.withdraw_asked(name, dev, ep);
@@ -58,6 +62,7 @@ impl<P, D: Device> Parts<P, D> {
         requires { CanSettle self.old name dev ep }
         ensures all { WithdrawsAll self.old self.new name dev ep }
         ensures settle { CanSettle self.new name dev ep }
+        ensures carries { StillCarries self.old self.new }
     {
         let len = self.flights.len(dev, ep);
         for item in 0..len {
@@ -94,6 +99,7 @@ impl<P, D: Device> Parts<P, D> {
         requires asked { Some ending ≡ asked_ending (item_at self.old.flights dev ep item) }
         ensures withdrawn { Withdraws self.old self.new name dev ep item ending }
         ensures settle { CanSettle self.new name dev ep }
+        ensures carries { StillCarries self.old self.new }
     {
         self.flights.end(dev, ep, item, ending);
         self.callers.result_made(name, ep);
@@ -105,6 +111,7 @@ impl<P, D: Device> Parts<P, D> {
         requires { CanPost self.old dev ep }
         ensures ordered { (h : ℕ) (errand : Errand) → next ≡ Some errand → Posts self.old self.new h dev ep errand }
         ensures resumed { (h : ℕ) → next ≡ None → Resumes self.old self.new h dev ep }
+        ensures carries { StillCarries self.old self.new }
     {
         match next {
             Some(errand) => self.post(dev, ep, errand),
@@ -115,7 +122,8 @@ impl<P, D: Device> Parts<P, D> {
     /// No errand is outstanding at an endpoint, and its doorbell is rung.
     fn resume(&mut self, dev: DeviceNo, ep: EpAddr)
         requires { CanPost self.old dev ep }
-        ensures { (h : ℕ) → Resumes self.old self.new h dev ep }
+        ensures done { (h : ℕ) → Resumes self.old self.new h dev ep }
+        ensures carries { StillCarries self.old self.new }
     {
         if let Some(context) = self.context(dev, ep) {
             let (slot, id) = (context.slot(), context.id());

@@ -10,6 +10,7 @@ ghost use Rattle.usb_model.specs.World.{World};
 ghost use Rattle.usb_callers.specs.Callers.{number_of};
 ghost use Rattle.usb_shows.specs.Shows.{Core, Shows};
 ghost use Rattle.usb_state.specs.Calls.{Stays};
+ghost use Rattle.usb_state.specs.Carrying.{CarriesMore, StillCarries};
 ghost use Rattle.usb_state.specs.State.{IsState, Keeps};
 ghost use Rattle.usb_state.specs.Steps.{Does};
 ghost use Rattle.usb_state.specs.Submitting.{CanStart};
@@ -50,6 +51,8 @@ impl<P, D: Device> Parts<P, D> {
         ensures back { IfErr result (λ x. x.payload ≡ payload) }
         ensures refused { IfErr result (λ x. (x.why ≡ NoMem → ⊥) → Does self.old (Submit h request) (record { owner = Some h; reply = IsRefused x.why }) self.new) }
         ensures kept { OnErr result (Stays self.old self.new) }
+        ensures carries { IfOk result (λ n. CarriesMore h n payload self.old self.new) }
+        ensures still { OnErr result (StillCarries self.old self.new) }
     {
         let place = match self.place(h, &request) {
             Ok(place) => place,
@@ -107,6 +110,7 @@ impl<P, D: Device> Parts<P, D> {
         ensures started { IfOk result (λ _. Starts self.old self.new h place.dev request.ep request round) }
         ensures back { IfErr result (λ u. u ≡ record { request = request; payload = payload }) }
         ensures kept { OnErr result (self.new ≡ self.old) }
+        ensures carries { IfOk result (λ n. CarriesMore h n payload self.old self.new) }
     {
         let (dev, ep) = (place.dev, request.ep);
         let n = self.callers.next_number(h);

@@ -3,8 +3,10 @@
 ghost use Rattle.std.specs.Prelude.{◌≡◌, IfOk, OnErr, option_map, slice_get};
 ghost use Rattle.usb_model.specs.declared.step.Step.TheVariants.{Take};
 ghost use Rattle.usb_state.specs.Calls.{Stays, called_entry};
+ghost use Rattle.usb_state.specs.Carrying.{Carries, Kept, StillCarries};
 ghost use Rattle.usb_state.specs.State.{IsState};
 ghost use Rattle.usb_state.specs.Steps.{Does};
+ghost use Rattle.usb_parts.specs.Taking.{CarriesOut};
 
 use crate::parts::Parts;
 use std::alloc::AllocError;
@@ -23,13 +25,15 @@ pub struct Taken<P> {
 }
 
 impl<P, D: Device> Parts<P, D> {
-    /// The transfer that ended first of those that wait goes out to its callback, with the bytes that it read; None
-    /// where none waits. Nothing changes where memory is refused.
+    /// The transfer that ended first of those that wait goes out to its callback, with the bytes that it read and with what
+    /// was kept with it from its submission on; None where none waits. Nothing changes where memory is refused.
     pub fn take(&mut self) -> Result<Option<Taken<P>>, AllocError>
         requires { IsState self.old }
         ensures taken { IfOk result (λ x. Does self.old Take (called_entry (option_map (λ t. t.returned) x)) self.new) }
         ensures payload { IfOk result (λ x. option_map (λ t. t.payload) x ≡ option_map (λ y. y.transfer.payload) (slice_get self.old.flights.ended 0)) }
         ensures refused { OnErr result (Stays self.old self.new) }
+        ensures carries { IfOk result (λ x. (kept : Kept P) → Carries kept self.old → CarriesOut kept x × Carries kept self.new) }
+        ensures still { OnErr result (StillCarries self.old self.new) }
     {
         let Some((first, _)) = self.flights.first_ended() else {
             return Ok(None);

@@ -52,3 +52,4 @@ pub mod Resetting
 pub mod Called
 pub mod Stopping
 pub mod Again
+pub mod Carrying

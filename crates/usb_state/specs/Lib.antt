@@ -1,5 +1,6 @@
 pub mod State
 pub mod Works
+pub mod Carrying
 pub mod Steps
 pub mod Making
 pub mod Delivering

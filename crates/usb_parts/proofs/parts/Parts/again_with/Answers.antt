@@ -17,6 +17,9 @@ use Rattle.std.specs.Option.{option_map}
 use Rattle.usb_model.specs.declared.request.Body.TheVariants.{Out}
 use Rattle.usb_parts.proofs.Callbacks.{AdmitsIt, absent, ended_by, with_none, with_some}
 use Rattle.usb_parts.proofs.Views.{parts}
+use Rattle.usb_parts.proofs.Carried.{callers_follow}
+use Rattle.usb_state.proofs.Carrying.{more_on, still_on}
+use Rattle.usb_state.specs.Carrying.{StillCarries}
 use Rattle.usb_parts.proofs.parts.Parts.again_with.Goals.{in-Out-4, in-In-4}
 use Rattle.usb_parts.proofs.parts.Parts.again_with.Goals as goal
 
@@ -94,3 +97,23 @@ returns-in-Err-start-clause-kept g c =
     subst (λ (s : State g.row.P.Denot). Stays c.args.self.now (record s { callers = c.put_callback.new.self })) (sym same)
     (subst (λ (s : State g.row.P.Denot). Stays s (record old { callers = c.put_callback.new.self })) c.self.view_is kept) in
     elim c.match-unmade.branch [ in-Out-4 w ↦ subst (λ (s : State g.row.P.Denot). Stays c.args.self.now s) (sym w.self-is) after | in-In-4 w ↦ subst (λ (s : State g.row.P.Denot). Stays c.args.self.now s) (sym w.self-is) after ]
+
+pub returns-in-Ok-start-clause-carries : goal.returns-in-Ok-start-clause-carries
+returns-in-Ok-start-clause-carries g c =
+    let old : State g.row.P.Denot = parts c.self.inside.claims c.self.inside.controller c.self.inside.flights c.self.inside.callers c.self.inside.outstanding in
+    more_on c.args.self.now (record old { callers = c.remove_callback.new.self }) c.start.new.self c.args.h c.in-Ok-start.k c.args.payload
+    (callers_follow c.args.self.now _ c.self.view_is c.remove_callback.new.self (λ h. c.remove_callback.ensures.numbers h ∙ c.reserve_callback.ensures.numbers h)) c.in-Ok-start.ensures.carries
+
+pub returns-in-Err-start-clause-still : goal.returns-in-Err-start-clause-still
+returns-in-Err-start-clause-still g c =
+    let old : State g.row.P.Denot = parts c.self.inside.claims c.self.inside.controller c.self.inside.flights c.self.inside.callers c.self.inside.outstanding in
+    let again : State g.row.P.Denot = parts c.self-2.inside.claims c.self-2.inside.controller c.self-2.inside.flights c.self-2.inside.callers c.self-2.inside.outstanding in
+    let amid : State g.row.P.Denot = record old { callers = c.remove_callback.new.self } in
+    let same : again ≡ amid = c.self-2.view_is ∙ c.in-Err-start.ensures.kept in
+    let after : StillCarries c.args.self.now (record again { callers = c.put_callback.new.self }) =
+    still_on c.args.self.now amid (record again { callers = c.put_callback.new.self }) (callers_follow c.args.self.now _ c.self.view_is c.remove_callback.new.self (λ h. c.remove_callback.ensures.numbers h ∙ c.reserve_callback.ensures.numbers h))
+    (callers_follow amid again same c.put_callback.new.self c.put_callback.ensures.numbers) in
+    elim c.match-unmade.branch [ in-Out-4 w ↦ subst (λ (s : State g.row.P.Denot). StillCarries c.args.self.now s) (sym w.self-is) after | in-In-4 w ↦ subst (λ (s : State g.row.P.Denot). StillCarries c.args.self.now s) (sym w.self-is) after ]
+
+pub returns-then-is_err-clause-still : goal.returns-then-is_err-clause-still
+returns-then-is_err-clause-still g c = callers_follow c.args.self.now _ c.self.view_is c.reserve_callback.new.self c.reserve_callback.ensures.numbers

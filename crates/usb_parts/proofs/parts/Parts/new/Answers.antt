@@ -5,10 +5,11 @@ use Rattle.usb_state.specs.Making.{Devices, setup_of}
 use Rattle.usb_state.specs.State.{ShowsWorld, State}
 use Rattle.usb_state.proofs.Making.{no_lines, shows_new}
 use Rattle.usb_parts.proofs.Views.{parts}
+use Rattle.usb_state.proofs.Carrying.{none_carried}
 use Rattle.usb_parts.proofs.parts.Parts.new.Goals as goal
 
-pub returns : goal.returns
-returns g c =
+pub returns-clause-shows : goal.returns-clause-shows
+returns-clause-shows g c =
     let new : State g.row.P.Denot = parts c.in_ok-claims.claims c.setup.inside.controller c.in_ok-flights.flights c.in_ok-callers.callers c.in_ok-outstanding.outstanding in
     let x : Devices = record { configs = c.setup.inside.configs.items; controller = c.setup.inside.controller } in
     let none = no_lines c.in_ok-flights.flights c.in_ok-flights.ensures in
@@ -28,3 +29,9 @@ returns g c =
       cells = c.in_ok-outstanding.ensures.whole;
       errands = c.in_ok-outstanding.ensures.none;
     }))
+
+pub returns-clause-carries : goal.returns-clause-carries
+returns-clause-carries g c = λ kept.
+    let new : State g.row.P.Denot = parts c.in_ok-claims.claims c.setup.inside.controller c.in_ok-flights.flights c.in_ok-callers.callers c.in_ok-outstanding.outstanding in
+    let none = no_lines c.in_ok-flights.flights c.in_ok-flights.ensures in
+    none_carried new none.lines none.ended kept

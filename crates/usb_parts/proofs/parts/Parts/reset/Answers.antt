@@ -10,23 +10,23 @@ use Rattle.usb_state.proofs.Resetting.{resets_busy, resets_gone, resets_none, re
 use Rattle.usb_parts.proofs.Views.{parts}
 use Rattle.usb_parts.proofs.parts.Parts.reset.Goals as goal
 
-pub returns-in_default : goal.returns-in_default
-returns-in_default g c = resets_none c.args.self.now c.args.h (sym (ap (λ (s : State g.row.P.Denot). device_of s.claims c.args.h) c.self.view_is) ∙ sym c.device_of.ensures ∙ c.in_default.is)
+pub returns-in_default-clause-done : goal.returns-in_default-clause-done
+returns-in_default-clause-done g c = resets_none c.args.self.now c.args.h (sym (ap (λ (s : State g.row.P.Denot). device_of s.claims c.args.h) c.self.view_is) ∙ sym c.device_of.ensures ∙ c.in_default.is)
 
-pub returns-then-is_gone : goal.returns-then-is_gone
-returns-then-is_gone g c = resets_gone c.args.self.now c.args.h c.in-Some.dev (sym (ap (λ (s : State g.row.P.Denot). device_of s.claims c.args.h) c.self.view_is) ∙ sym c.device_of.ensures ∙ c.in-Some.is) (sym c.is_gone.ensures ∙ c.if-is_gone.true)
+pub returns-then-is_gone-clause-done : goal.returns-then-is_gone-clause-done
+returns-then-is_gone-clause-done g c = resets_gone c.args.self.now c.args.h c.in-Some.dev (sym (ap (λ (s : State g.row.P.Denot). device_of s.claims c.args.h) c.self.view_is) ∙ sym c.device_of.ensures ∙ c.in-Some.is) (sym c.is_gone.ensures ∙ c.if-is_gone.true)
 
-pub returns-then-not-are_quiet : goal.returns-then-not-are_quiet
-returns-then-not-are_quiet g c = resets_busy c.args.self.now c.args.h c.in-Some.dev (sym (ap (λ (s : State g.row.P.Denot). device_of s.claims c.args.h) c.self.view_is) ∙ sym c.device_of.ensures ∙ c.in-Some.is) (sym c.is_gone.ensures ∙ c.if-is_gone.false)
+pub returns-then-not-are_quiet-clause-done : goal.returns-then-not-are_quiet-clause-done
+returns-then-not-are_quiet-clause-done g c = resets_busy c.args.self.now c.args.h c.in-Some.dev (sym (ap (λ (s : State g.row.P.Denot). device_of s.claims c.args.h) c.self.view_is) ∙ sym c.device_of.ensures ∙ c.in-Some.is) (sym c.is_gone.ensures ∙ c.if-is_gone.false)
     (subst (λ (b : Bool). AreQuiet c.args.self.now c.args.h c.in-Some.dev None b) c.if-not-are_quiet.true c.are_quiet.ensures)
 
-pub returns-then-others_hold : goal.returns-then-others_hold
-returns-then-others_hold g c = resets_others c.args.self.now c.args.h c.in-Some.dev (sym (ap (λ (s : State g.row.P.Denot). device_of s.claims c.args.h) c.self.view_is) ∙ sym c.device_of.ensures ∙ c.in-Some.is) (sym c.is_gone.ensures ∙ c.if-is_gone.false)
+pub returns-then-others_hold-clause-done : goal.returns-then-others_hold-clause-done
+returns-then-others_hold-clause-done g c = resets_others c.args.self.now c.args.h c.in-Some.dev (sym (ap (λ (s : State g.row.P.Denot). device_of s.claims c.args.h) c.self.view_is) ∙ sym c.device_of.ensures ∙ c.in-Some.is) (sym c.is_gone.ensures ∙ c.if-is_gone.false)
     (subst (λ (b : Bool). AreQuiet c.args.self.now c.args.h c.in-Some.dev None b) c.if-not-are_quiet.false c.are_quiet.ensures)
     (sym (ap (λ (s : State g.row.P.Denot). others_hold s.claims c.args.h c.in-Some.dev) c.self.view_is) ∙ sym c.others_hold.ensures ∙ c.if-others_hold.true)
 
-pub returns : goal.returns
-returns g c =
+pub returns-clause-done : goal.returns-clause-done
+returns-clause-done g c =
     let old : State g.row.P.Denot = parts c.self.inside.claims c.self.inside.controller c.self.inside.flights c.self.inside.callers c.self.inside.outstanding in
     subst (λ (s : State g.row.P.Denot). Does s (Reset c.args.h) (says c.args.h Done) (record old { controller = c.renew_held.new.controller })) c.self.view_is
     (resets_now old c.args.h c.in-Some.dev c.renew_held.new.controller (sym c.device_of.ensures ∙ c.in-Some.is)

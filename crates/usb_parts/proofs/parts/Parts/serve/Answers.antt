@@ -7,16 +7,18 @@ use Rattle.usb_state.specs.Steps.{Does}
 use Rattle.usb_state.specs.Works.{CanServeItem, IsFront, IsHolder}
 use Rattle.usb_parts.proofs.Serves.{can_serve, is_served, nobody, nothing, packet}
 use Rattle.usb_parts.proofs.Views.{parts}
+use Rattle.usb_parts.proofs.Carried.{flights_follow}
+use Rattle.usb_state.proofs.Carrying.{follows_serve}
 use Rattle.usb_parts.proofs.parts.Parts.serve.Goals as goal
 
-pub returns-in_default : goal.returns-in_default
-returns-in_default g c =
+pub returns-in_default-clause-done : goal.returns-in_default-clause-done
+returns-in_default-clause-done g c =
     let old : State g.row.P.Denot = parts c.self.inside.claims c.self.inside.controller c.self.inside.flights c.self.inside.callers c.self.inside.outstanding in
     let none : IsHolder old c.args.dev c.args.ep None = λ setup set. sym c.in_default.is ∙ c.holder.ensures setup set in
     subst (λ (s : State g.row.P.Denot). Does s (Serve c.args.dev c.args.ep) (record { owner = None; reply = Idle }) s) c.self.view_is (nobody old c.args.dev c.args.ep none)
 
-pub returns-in_default-front : goal.returns-in_default-front
-returns-in_default-front g c =
+pub returns-in_default-front-clause-done : goal.returns-in_default-front-clause-done
+returns-in_default-front-clause-done g c =
     let old : State g.row.P.Denot = parts c.self.inside.claims c.self.inside.controller c.self.inside.flights c.self.inside.callers c.self.inside.outstanding in
     let held : IsHolder old c.args.dev c.args.ep (Some c.in-Some.name) = λ setup set. sym c.in-Some.is ∙ c.holder.ensures setup set in
     subst (λ (s : State g.row.P.Denot). Does s (Serve c.args.dev c.args.ep) (record { owner = Some c.in-Some.name; reply = Idle }) s) c.self.view_is
@@ -52,8 +54,8 @@ unreachable-requires g c =
     is_served old c.args.dev c.args.ep c.in-Some-front.item c.serve.result (subst (λ (s : State g.row.P.Denot). IsFront s c.args.dev c.args.ep (Some c.in-Some-front.item)) (sym c.self.view_is) c.in-Some-front.ensures)
     c.serve.ensures.packet c.in_default-serve.is
 
-pub returns : goal.returns
-returns g c =
+pub returns-clause-done : goal.returns-clause-done
+returns-clause-done g c =
     let old : State g.row.P.Denot = parts c.self.inside.claims c.self.inside.controller c.self.inside.flights c.self.inside.callers c.self.inside.outstanding in
     let held : IsHolder old c.args.dev c.args.ep (Some c.in-Some.name) = λ setup set. sym c.in-Some.is ∙ c.holder.ensures setup set in
     let front : IsFront old c.args.dev c.args.ep (Some c.in-Some-front.item) = subst (λ (s : State g.row.P.Denot). IsFront s c.args.dev c.args.ep (Some c.in-Some-front.item)) (sym c.self.view_is) c.in-Some-front.ensures in
@@ -61,3 +63,11 @@ returns g c =
     (subst (λ r. Does old (Serve c.args.dev c.args.ep) (record { owner = Some c.in-Some.name; reply = r }) (record old { controller = c.serve.new.controller; flights = c.serve.new.self })) (sym c.reply_of.ensures)
     (packet old c.serve.new.controller c.serve.new.self c.in-Some.name c.args.dev c.args.ep c.in-Some-front.item c.serve.result c.in-Some-serve.served
     (subst (λ (s : State g.row.P.Denot). IsState s) (sym c.self.view_is) c.requires) held front c.in-Some-serve.is c.serve.ensures.packet c.serve.ensures.number c.serve.ensures.controller c.serve.ensures.transfer))
+
+pub returns-clause-carries : goal.returns-clause-carries
+returns-clause-carries g c =
+    let old : State g.row.P.Denot = parts c.self.inside.claims c.self.inside.controller c.self.inside.flights c.self.inside.callers c.self.inside.outstanding in
+    let held : IsHolder old c.args.dev c.args.ep (Some c.in-Some.name) = λ setup set. sym c.in-Some.is ∙ c.holder.ensures setup set in
+    let can : CanServeItem old c.args.dev c.args.ep c.in-Some-front.item = can_serve old c.in-Some.name c.args.dev c.args.ep c.in-Some-front.item (subst (λ (s : State g.row.P.Denot). IsState s) (sym c.self.view_is) c.requires) held
+    (subst (λ (s : State g.row.P.Denot). IsFront s c.args.dev c.args.ep (Some c.in-Some-front.item)) (sym c.self.view_is) c.in-Some-front.ensures) in
+    flights_follow c.args.self.now _ c.self.view_is c.serve.new.self (follows_serve c.self.inside.flights c.serve.new.self c.self.inside.controller c.args.dev c.args.ep c.in-Some-front.item can.live c.serve.ensures.transfer)

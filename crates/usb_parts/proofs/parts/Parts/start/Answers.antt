@@ -1,5 +1,5 @@
 -- What joins line and ring is the transfer, as its TRBs.
-use Rattle.std.proofs.Common.{ap, refl, sym, subst, ◌∙◌, List}
+use Rattle.std.proofs.Common.{ap, refl, sym, subst, subst₂, ◌∙◌, List}
 use Rattle.usb_model.specs.Setup.{endpoint_id}
 use Rattle.usb_callers.specs.Callers.{number_of}
 use Rattle.usb_trb.specs.declared.kind.Normal.{Normal as NormalTrb}
@@ -14,6 +14,8 @@ use Rattle.usb_state.specs.Submitting.{CanStart}
 use Rattle.usb_state.specs.Works.{IsUnstarted, Starts}
 use Rattle.usb_state.proofs.Starting.{starts}
 use Rattle.usb_parts.proofs.Views.{parts}
+use Rattle.usb_state.specs.Carrying.{CarriesMore}
+use Rattle.usb_state.proofs.Carrying.{joins_carried}
 use Rattle.usb_parts.proofs.parts.Parts.start.Goals as goal
 
 pub returns-clause-started : goal.returns-clause-started
@@ -38,3 +40,13 @@ returns-clause-started g c =
     c.in-Ok.ensures.lines c.in-Ok.ensures.ended
     (c.push-2.ensures ∙ ap (λ (l : List NormalTrb). slot_changed old.controller c.args.place.dev (λ s. changed s (endpoint_id c.args.request.ep) (λ v. with_ring v (with_pushed v.ring (normals l))))) trbs)
     c.count_up.ensures.numbers c.count_up.ensures.callbacks c.count_up.ensures.results c.count_up.ensures.counts)
+
+pub returns-clause-carries : goal.returns-clause-carries
+returns-clause-carries g c =
+    let old : State g.row.P.Denot = parts c.self.inside.claims c.self.inside.controller c.self.inside.flights c.self.inside.callers c.self.inside.outstanding in
+    let new : State g.row.P.Denot = record old { controller = c.push-2.new.self; flights = c.push.new.self; callers = c.count_up.new.self } in
+    let made = c.in_ok-transfer.ensures.made in
+    subst (λ (s : State g.row.P.Denot). CarriesMore c.args.h c.next_number-n.result c.args.payload s new) c.self.view_is
+    (subst₂ (λ n p. CarriesMore c.args.h n p old new) (sym c.next_number-n.ensures) (ap (λ (t : InFlight g.row.P.Denot). t.payload) made)
+    (joins_carried old new c.args.h c.args.place.dev c.args.request.ep c.in_ok-transfer.transfer (ap (λ (t : InFlight g.row.P.Denot). t.name) made) (ap (λ (t : InFlight g.row.P.Denot). t.n) made ∙ c.next_number-n.ensures)
+    c.in-Ok.ensures.lines c.in-Ok.ensures.ended c.count_up.ensures.numbers))

@@ -12,11 +12,12 @@ use Rattle.usb_state.specs.State.{State}
 use Rattle.usb_state.specs.Steps.{Does}
 use Rattle.usb_state.proofs.Stopping.{stop_reply, stops}
 use Rattle.usb_parts.proofs.Views.{parts}
+use Rattle.usb_parts.proofs.Carried.{callers_follow}
 use Rattle.usb_parts.proofs.parts.Parts.stop.Goals.{in-Some, in-None}
 use Rattle.usb_parts.proofs.parts.Parts.stop.Goals as goal
 
-pub returns : goal.returns
-returns g c =
+pub returns-clause-done : goal.returns-clause-done
+returns-clause-done g c =
     let old : State g.row.P.Denot = parts c.self.inside.claims c.self.inside.controller c.self.inside.flights c.self.inside.callers c.self.inside.outstanding in
     let new : State g.row.P.Denot = record old { callers = c.remove_callback.new.self } in
     let replied : c.match-remove_callback.result ≡ stop_reply c.remove_callback.result =
@@ -31,3 +32,6 @@ returns g c =
       numbers = c.remove_callback.ensures.numbers;
       results = c.remove_callback.ensures.results;
     })))
+
+pub returns-clause-carries : goal.returns-clause-carries
+returns-clause-carries g c = callers_follow c.args.self.now _ c.self.view_is c.remove_callback.new.self c.remove_callback.ensures.numbers

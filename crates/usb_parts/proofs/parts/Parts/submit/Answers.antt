@@ -1,5 +1,6 @@
 -- The core's step, by what the tests and the start answer.
 use Rattle.usb_state.proofs.Submitting.{submits_new, refuses_new}
+use Rattle.usb_parts.proofs.Carried.{same_parts}
 use Rattle.usb_parts.proofs.parts.Parts.submit.Goals as goal
 
 pub returns-in-Err-clause-refused : goal.returns-in-Err-clause-refused
@@ -12,3 +13,6 @@ start-requires g c = (c.in-Ok.ensures c.requires.0 c.requires.1 c.requires.2.0 c
 pub returns-in-Ok-start-clause-accepted : goal.returns-in-Ok-start-clause-accepted
 returns-in-Ok-start-clause-accepted g c = λ setup w core keeps shows.
     submits_new setup c.args.self.now c.start.new.self core c.args.h c.in-Ok.place.dev c.in-Ok-start.n c.args.request c.in-Ok.place.tds keeps (c.in-Ok.ensures setup w core keeps shows) c.in-Ok-start.ensures.started c.in-Ok-start.ensures.number
+
+pub returns-in-Err-start-clause-still : goal.returns-in-Err-start-clause-still
+returns-in-Err-start-clause-still g c = same_parts c.args.self.now c.start.new.self c.in-Err-start.ensures.kept

@@ -13,6 +13,9 @@ use Rattle.usb_state.specs.Steps.{Does}
 use Rattle.usb_state.proofs.Naming.{stays}
 use Rattle.usb_state.proofs.Taking.{calls_by, can_take, takes_first, takes_none}
 use Rattle.usb_parts.proofs.Views.{parts}
+use Rattle.usb_parts.proofs.Carried.{callers_follow, parts_follow}
+use Rattle.usb_state.proofs.Carrying.{follows_take, goes_out}
+use Rattle.usb_state.specs.Carrying.{Carries, StillCarries}
 use Rattle.usb_parts.proofs.parts.Parts.take.Goals as goal
 
 -- what holds whatever comes of a call holds where it fails
@@ -67,3 +70,19 @@ returns-clause-taken g c =
     c.reserve_callback.ensures.numbers c.reserve_callback.ensures.callbacks c.reserve_callback.ensures.results c.reserve_callback.ensures.counts
     c.result_taken.ensures.results c.result_taken.ensures.numbers c.result_taken.ensures.callbacks c.result_taken.ensures.counts
     c.put_callback.ensures.callbacks c.put_callback.ensures.counts c.put_callback.ensures.numbers c.put_callback.ensures.results))
+
+pub returns-in_err-reserve_callback-clause-still : goal.returns-in_err-reserve_callback-clause-still
+returns-in_err-reserve_callback-clause-still g c =
+    let old : State g.row.P.Denot = parts c.self.inside.claims c.self.inside.controller c.self.inside.flights c.self.inside.callers c.self.inside.outstanding in
+    on_err (StillCarries c.args.self.now (record old { callers = c.reserve_callback.new.self })) c.from_residual.result (callers_follow c.args.self.now _ c.self.view_is c.reserve_callback.new.self c.reserve_callback.ensures.numbers)
+
+pub returns-clause-carries : goal.returns-clause-carries
+returns-clause-carries g c = λ kept carried.
+    let old : State g.row.P.Denot = parts c.self.inside.claims c.self.inside.controller c.self.inside.flights c.self.inside.callers c.self.inside.outstanding in
+    let x : EndedOf (InFlight g.row.P.Denot) = ended_of c.in-Some-take.field-0 in
+    let first : slice_get old.flights.ended 0 ≡ Some x = sym c.in-Some-take.ensures.value in
+    let name : c.in-Some.first.now.name ≡ x.transfer.name = same_name _ x (c.in-Some.ensures ∙ first) in (
+      ap (λ (h : ℕ). kept h x.transfer.n) name ∙ goes_out old x first kept (subst (λ (s : State g.row.P.Denot). Carries kept s) (sym c.self.view_is) carried),
+      parts_follow c.args.self.now _ c.self.view_is c.take.new.self c.put_callback.new.self (follows_take old.flights c.take.new.self c.take.ensures.lines c.take.ensures.ended)
+          (λ h. c.put_callback.ensures.numbers h ∙ c.result_taken.ensures.numbers h ∙ c.reserve_callback.ensures.numbers h) kept carried,
+    )

@@ -4,6 +4,8 @@ use Rattle.usb_state.specs.Delivering.{leaving}
 use Rattle.usb_state.specs.Works.{Finishes, Posts}
 use Rattle.usb_state.proofs.Delivering.{ends_event}
 use Rattle.usb_state.proofs.Finishing.{can_finish, can_post_end, outstanding_is}
+use Rattle.usb_state.proofs.Carrying.{still_on}
+use Rattle.usb_state.specs.Carrying.{StillCarries}
 use Rattle.usb_parts.proofs.parts.Parts.transfer_ended.Goals.{in-Some, in_default}
 use Rattle.usb_parts.proofs.parts.Parts.transfer_ended.Goals as goal
 
@@ -14,11 +16,11 @@ pub post-requires : goal.post-requires
 post-requires g c =
     let told = c.requires.told.2 in
     can_post_end c.requires.told.0 c.args.self.now c.finish.new.self c.requires.told.1 c.args.told.name c.args.told.dev c.args.told.ep c.args.told.item c.args.told.n c.args.told.ending.actual c.args.code told.tells
-    (subst (λ x. Finishes c.args.self.now c.finish.new.self c.args.told.name c.args.told.dev c.args.told.ep c.args.told.item x (leaving c.args.self.now c.args.told.dev c.args.told.ep c.args.told.item c.args.code)) told.ending c.finish.ensures)
+    (subst (λ x. Finishes c.args.self.now c.finish.new.self c.args.told.name c.args.told.dev c.args.told.ep c.args.told.item x (leaving c.args.self.now c.args.told.dev c.args.told.ep c.args.told.item c.args.code)) told.ending c.finish.ensures.done)
 
-pub returns : goal.returns
-returns g c = λ setup core told.
-    let finished = subst (λ x. Finishes c.args.self.now c.finish.new.self c.args.told.name c.args.told.dev c.args.told.ep c.args.told.item x (leaving c.args.self.now c.args.told.dev c.args.told.ep c.args.told.item c.args.code)) told.ending c.finish.ensures in
+pub returns-clause-done : goal.returns-clause-done
+returns-clause-done g c = λ setup core told.
+    let finished = subst (λ x. Finishes c.args.self.now c.finish.new.self c.args.told.name c.args.told.dev c.args.told.ep c.args.told.item x (leaving c.args.self.now c.args.told.dev c.args.told.ep c.args.told.item c.args.code)) told.ending c.finish.ensures.done in
     let outstanding = outstanding_is setup c.args.self.now c.finish.new.self core c.args.told.name c.args.told.dev c.args.told.ep c.args.told.item c.args.told.n c.args.told.ending.actual c.args.code told.tells finished ∙ sym c.errand.ensures in
     ends_event setup c.args.self.now c.finish.new.self _ core c.args.told.name c.args.told.dev c.args.told.ep c.args.told.item c.args.told.n c.args.told.ending.actual c.args.code c.next_order.result told.tells c.requires.ended finished
     (λ gone next p found. c.next_order.ensures.endpoint gone next p (core.endpoints c.args.told.dev c.args.told.ep) found outstanding)
@@ -27,6 +29,12 @@ returns g c = λ setup core told.
       | in_default w ↦ w.self-is
     ])
     (λ errand some. elim c.match-next_order.branch [
-      | in-Some w ↦ subst₂ (λ o s. Posts c.finish.new.self s c.args.told.name c.args.told.dev c.args.told.ep o) (same_Some w.in-Some.errand errand (sym w.in-Some.is ∙ some)) (sym w.self-is) (w.post.ensures c.args.told.name)
+      | in-Some w ↦ subst₂ (λ o s. Posts c.finish.new.self s c.args.told.name c.args.told.dev c.args.told.ep o) (same_Some w.in-Some.errand errand (sym w.in-Some.is ∙ some)) (sym w.self-is) (w.post.ensures.done c.args.told.name)
       | in_default w ↦ absurd (cc (some, w.in_default.is))
     ])
+
+pub returns-clause-carries : goal.returns-clause-carries
+returns-clause-carries g c = elim c.match-next_order.branch [
+  | in-Some w ↦ subst (λ s. StillCarries c.args.self.now s) (sym w.self-is) (still_on c.args.self.now c.finish.new.self w.post.new.self c.finish.ensures.carries w.post.ensures.carries)
+  | in_default w ↦ subst (λ s. StillCarries c.args.self.now s) (sym w.self-is) c.finish.ensures.carries
+]

@@ -1,14 +1,16 @@
 use Rattle.std.proofs.Common.{sym, subst, subst₂, ◌∙◌, ap, ◌≡◌, ◌+◌, length, suc, arith}
 use Rattle.std.proofs.lemmas.Option.{same_Some}
 use Rattle.usb_flight.specs.Flights.{line_at}
+use Rattle.usb_state.specs.Carrying.{StillCarries}
 use Rattle.usb_state.specs.Delivering.{CanSettle, WithdrawsTo}
 use Rattle.usb_state.specs.Works.{Withdraws}
+use Rattle.usb_state.proofs.Carrying.{still_on}
 use Rattle.usb_state.proofs.Withdrawing.{withdraws_all, withdraws_next, withdraws_none}
 use Rattle.usb_parts.proofs.parts.Parts.withdraw_asked.Goals.{in-Some, in_default}
 use Rattle.usb_parts.proofs.parts.Parts.withdraw_asked.Goals as goal
 
 pub loop-item-init : goal.loop-item-init
-loop-item-init g c = (withdraws_none c.args.self.now c.args.name c.args.dev c.args.ep, c.requires)
+loop-item-init g c = (withdraws_none c.args.self.now c.args.name c.args.dev c.args.ep, c.requires, λ kept carried. carried)
 
 pub loop-item-preserved : goal.loop-item-preserved
 loop-item-preserved g c =
@@ -26,6 +28,10 @@ loop-item-preserved g c =
       elim c.match-withdrawal.branch [
         | in-Some w ↦ subst (λ s. CanSettle s c.args.name c.args.dev c.args.ep) (sym w.self-is) w.withdraw.ensures.settle
         | in_default w ↦ subst (λ s. CanSettle s c.args.name c.args.dev c.args.ep) (sym w.self-is) c.loop-item.invariant.1
+      ],
+      elim c.match-withdrawal.branch [
+        | in-Some w ↦ subst (λ s. StillCarries c.args.self.now s) (sym w.self-is) (still_on c.args.self.now c.loop-item.self w.withdraw.new.self c.loop-item.invariant.2 w.withdraw.ensures.carries)
+        | in_default w ↦ subst (λ s. StillCarries c.args.self.now s) (sym w.self-is) c.loop-item.invariant.2
       ],
     )
 
