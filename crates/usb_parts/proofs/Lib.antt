@@ -2,5 +2,8 @@ mod Views
 mod Asks
 mod Runs
 mod Serves
+mod Worth
+mod Circle
+mod Waits
 mod Rewinding
 mod Callbacks

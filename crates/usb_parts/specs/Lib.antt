@@ -2,3 +2,4 @@ pub mod Homes
 pub mod Tellings
 pub mod Submitting
 pub mod Senders
+pub mod Pending
