@@ -1,5 +1,5 @@
 -- What is kept by name.
-use Rattle.std.specs.Prelude.{◌≡◌, ℕ, ◌<◌, ◌==◌, ◌&&◌, Bool, List, Option, slice_index_or}
+use Rattle.std.specs.Prelude.{◌≡◌, ℕ, ◌<◌, ◌==◌, ◌&&◌, Bool, List, Option, Some, slice_index_or}
 use Rattle.usb_model.specs.declared.result.InCallback.{InCallback}
 use Rattle.usb_callers.specs.Caller.{Kept, nothing, callback_in, results_in, callbacks_in}
 
@@ -30,6 +30,10 @@ room_of v h = (kept_of v h).room
 -- there is room for one more
 abbrev pub has_room : List Kept → ℕ → Type 0
 has_room v h = 0 < room_of v h
+
+-- some name's transfer is in its callback
+abbrev pub IsOut : List Kept → Type 0
+IsOut v = (h : ℕ) × (n : ℕ) × (x : InCallback) × (callback_at v h n ≡ Some x)
 
 -- whether two pairs are the same: a name, with a number or an endpoint id
 abbrev pub is_there : ℕ → ℕ → ℕ → ℕ → Bool

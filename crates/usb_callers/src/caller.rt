@@ -1,6 +1,6 @@
 //! What the core keeps of one name's transfers.
 
-ghost use Rattle.std.specs.Prelude.{◌≡◌, ℕ, ◌+◌, ◌-◌, ◌<◌, ◌≤◌, ◌==◌, None, Some, OnOk, option_copied, if◌then◌else◌};
+ghost use Rattle.std.specs.Prelude.{◌≡◌, ◌↔◌, ℕ, [], IsTrue, ◌+◌, ◌-◌, ◌<◌, ◌≤◌, ◌==◌, None, Some, OnOk, option_copied, if◌then◌else◌};
 ghost use Rattle.usb_model.specs.Limits.{last_number};
 ghost use Rattle.usb_model.specs.Setup.{endpoint_id};
 ghost use Rattle.usb_callers.specs.Caller.{callback_in, callbacks_in, results_in, is_of, is_one_of};
@@ -113,6 +113,13 @@ impl Caller {
         ensures { option_copied result ≡ callback_in self.now n }
     {
         self.running.get(&n)
+    }
+
+    /// Whether none of its transfers is in its callback.
+    pub fn has_none_out(&self) -> bool
+        ensures { IsTrue result ↔ (self.now.running ≡ []) }
+    {
+        self.running.is_empty()
     }
 
     /// Asks for room for one more callback.

@@ -1,10 +1,10 @@
 //! What the core keeps of each name's transfers.
 
-ghost use Rattle.std.specs.Prelude.{◌≡◌, ℕ, ◌+◌, ◌-◌, ◌<◌, ◌≤◌, ◌==◌, ◌&&◌, None, Some, IfOk, OnOk, option_copied, if◌then◌else◌};
+ghost use Rattle.std.specs.Prelude.{◌≡◌, true, false, ℕ, ◌+◌, ◌-◌, ◌<◌, ◌≤◌, ◌==◌, ◌&&◌, None, Some, IfOk, OnOk, option_copied, if◌then◌else◌};
 ghost use Rattle.usb_model.specs.Limits.{last_number};
 ghost use Rattle.usb_model.specs.Setup.{endpoint_id};
 ghost use Rattle.usb_callers.specs.Caller.{is_one_of};
-ghost use Rattle.usb_callers.specs.Callers.{number_of, callback_at, results_at, callbacks_at, room_of, has_room, is_there, SameNumbers, SameCallbacks, SameResults, SameCounts, SameRooms};
+ghost use Rattle.usb_callers.specs.Callers.{number_of, callback_at, results_at, callbacks_at, room_of, has_room, IsOut, is_there, SameNumbers, SameCallbacks, SameResults, SameCounts, SameRooms};
 
 use crate::caller::Caller;
 use std::alloc::{AllocError, Global};
@@ -112,6 +112,19 @@ impl Callers {
         ensures { option_copied result ≡ callback_at self.now h n }
     {
         self.callers[usize::from(h.number())].callback(n)
+    }
+
+    /// Whether a transfer of any name is in its callback.
+    pub fn is_any_out(&self) -> bool
+        ensures some { result ≡ true → IsOut self.now }
+        ensures none { result ≡ false → (h n : ℕ) → callback_at self.now h n ≡ None }
+    {
+        for caller in &self.callers {
+            if !caller.has_none_out() {
+                return true;
+            }
+        }
+        false
     }
 
     /// Asks for room for one more of a name's callbacks. No look-up answers otherwise than before, whether there is memory or not.

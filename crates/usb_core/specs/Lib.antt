@@ -1,3 +1,4 @@
+pub mod Reads
 pub mod Instances
 pub mod Stepping
 pub mod Running

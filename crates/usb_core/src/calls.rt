@@ -24,7 +24,7 @@ use usb_parts::{Parts, Setup, Taken, Unaccepted};
 /// Only `new`, `submit`, `again`, `again_with` and `take` take memory.
 #[derive(Drop)]
 pub struct Core<P, D: Device> {
-    parts: Parts<P, D>,
+    pub(crate) parts: Parts<P, D>,
 }
 
 impl<P, D: Device> Model for Core<P, D> {

@@ -6,6 +6,7 @@
 
 mod calls;
 pub mod laws;
+mod reads;
 mod running;
 mod stepping;
 

@@ -2,6 +2,9 @@ mod Views
 mod Asks
 mod Runs
 mod Serves
+mod Worth
+mod Circle
+mod Waits
 mod Rewinding
 mod Callbacks
 mod Carried

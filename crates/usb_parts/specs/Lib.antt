@@ -3,3 +3,4 @@ pub mod Tellings
 pub mod Submitting
 pub mod Senders
 pub mod Taking
+pub mod Pending

@@ -15,6 +15,7 @@ mod halts;
 mod handles;
 mod making;
 mod parts;
+mod pending;
 mod quiet;
 mod reads;
 mod renewing;
@@ -28,6 +29,7 @@ mod taking;
 mod telling;
 
 pub use parts::Parts;
+pub use pending::Pending;
 pub use setup::{Setup, Unadded};
 pub use submitting::Unaccepted;
 pub use taking::Taken;

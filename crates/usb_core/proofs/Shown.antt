@@ -1,0 +1,45 @@
+-- What can be asked of a world without a step is read off the core.
+use Rattle.std.proofs.Common.{◌≡◌, ℕ, Bool, true, false, List, length, Some, None, Option, ap, refl, ◌∙◌}
+use Rattle.std.specs.Prelude.{◌||◌, ◌==◌, is_some, slice_get}
+use Rattle.std.specs.Option.{option_map_or}
+use Rattle.usb_model.specs.declared.item.Ask.TheVariants.{Time}
+use Rattle.usb_model.specs.declared.result.TransferResult.{TransferResult}
+use Rattle.usb_model.specs.declared.shared.Tagged.{Tagged}
+use Rattle.usb_model.specs.declared.step.Step.{Step}
+use Rattle.usb_model.specs.declared.step.Step.TheVariants.{Expire}
+use Rattle.usb_model.specs.Setup.{Setup, endpoints_of}
+use Rattle.usb_model.specs.World.{World}
+use Rattle.usb_parts.specs.Homes.{can_expire, expires_now}
+use Rattle.usb_shows.specs.Calling.{KeptHome, ask_core, device_of, kept_home, step_core}
+use Rattle.usb_shows.specs.Shows.{Core}
+use Rattle.usb_shows.proofs.Calls.Whole.{whole_steps}
+use Rattle.usb_state.specs.State.{Keeps, ShowsWorld, State}
+use Rattle.usb_core.specs.Reads.{is_done, would_expire}
+
+-- how many bytes the first result has
+abbrev first_len : List (Tagged TransferResult) → ℕ
+first_len results = option_map_or (λ t. length t.piece.bytes) (slice_get results 0) 0
+
+module _ {P : Type 0} where
+  -- the core's results are the world's
+  pub next_shown : (s : State P) (n : ℕ) → ((setup : Setup) (c : Core) → Keeps setup s c → n ≡ first_len c.results) → (setup : Setup) (w : World) → ShowsWorld setup s w → n ≡ first_len w.results
+  next_shown s n reads setup w shown = reads setup shown.0 shown.1 ∙ ap first_len shown.2.results
+
+-- an ask is done where the transfer wasn't asked before and has a timeout
+asked_if : (c : Core) (h n : ℕ) (step : Step) (o : Option KeptHome) → can_expire o ≡ is_done (ask_core c h step n Time true o).entry.reply
+unfolding ask_core
+asked_if c h n step None = refl
+asked_if c h n step (Some home) = by_tests (is_some home.kept.ask || (home.kept.request.timeout == 0)) refl (is_some home.endpoint.errand) refl
+  where
+    by_tests : (a : Bool) → (is_some home.kept.ask || (home.kept.request.timeout == 0)) ≡ a → (b : Bool) → is_some home.endpoint.errand ≡ b → can_expire (Some home) ≡ is_done (ask_core c h step n Time true (Some home)).entry.reply
+    by_tests true a_is b b_is = cc
+    by_tests false a_is true b_is = cc
+    by_tests false a_is false b_is = cc
+
+module _ {P : Type 0} where
+  -- the core expires what the world would
+  pub expires_shown : (s : State P) (h n : ℕ) (b : Bool) → ((setup : Setup) (c : Core) → Keeps setup s c → b ≡ expires_now setup c h n) → (setup : Setup) (w : World) → ShowsWorld setup s w → b ≡ would_expire setup w h n
+  unfolding step_core
+  expires_shown s h n b reads setup w shown =
+      reads setup shown.0 shown.1 ∙ asked_if shown.0 h n (Expire h n) (kept_home setup shown.0 h n (endpoints_of setup (device_of shown.0 h)))
+      ∙ ap (λ e. is_done e.reply) (whole_steps setup shown.1.fine w shown.0 shown.2 (Expire h n)).0

@@ -1,0 +1,28 @@
+//! What can be asked of the core without a step.
+
+ghost use Rattle.std.specs.Prelude.{◌≡◌, ℕ, length, slice_get};
+ghost use Rattle.std.specs.Option.{option_map_or};
+ghost use Rattle.usb_model.specs.Setup.{Setup};
+ghost use Rattle.usb_model.specs.World.{World};
+ghost use Rattle.usb_state.specs.State.{ShowsWorld};
+ghost use Rattle.usb_core.specs.Reads.{would_expire};
+
+use crate::calls::Core;
+use usb_device::Device;
+use usb_model::Name;
+
+impl<P, D: Device> Core<P, D> {
+    /// How many bytes the next result has that is taken; 0 where none waits.
+    pub fn next_len(&self) -> usize
+        ensures { (setup : Setup) (w : World) → ShowsWorld setup self.now w → result ≡ option_map_or (λ t. length t.piece.bytes) (slice_get w.results 0) 0 }
+    {
+        self.parts.next_len()
+    }
+
+    /// Whether `expire` would be done.
+    pub fn expires(&self, h: Name, n: u64) -> bool
+        ensures { (setup : Setup) (w : World) → ShowsWorld setup self.now w → result ≡ would_expire setup w h n }
+    {
+        self.parts.expires(h, n)
+    }
+}
