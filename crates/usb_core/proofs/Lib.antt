@@ -1,3 +1,4 @@
 mod Instances
 mod Turning
 mod Reached
+mod Carrying
