@@ -2,3 +2,4 @@ mod Instances
 mod Turning
 mod Reached
 mod Shown
+mod Carrying

@@ -4,11 +4,12 @@ use Rattle.usb_model.specs.declared.entry.Entry.{Entry}
 use Rattle.usb_model.specs.declared.refused.Refused.{Refused}
 use Rattle.usb_model.specs.declared.refused.Refused.TheVariants.{NoMem}
 use Rattle.usb_model.specs.declared.reply.Reply.{Reply}
-use Rattle.usb_model.specs.declared.reply.Reply.TheVariants.{Number, Refused as IsRefused}
+use Rattle.usb_model.specs.declared.reply.Reply.TheVariants.{Called, Number, Refused as IsRefused}
 use Rattle.usb_model.specs.declared.step.Step.{Step}
 use Rattle.usb_model.specs.declared.step.Step.TheVariants.{Take}
 use Rattle.usb_model.specs.Numbers.{takes_payload}
 use Rattle.usb_parts.specs.declared.submitting.Unaccepted.{Unaccepted}
+use Rattle.usb_state.specs.Carrying.{Kept, kept_with}
 use Rattle.usb_state.specs.State.{State}
 use Rattle.usb_state.specs.Steps.{Turns}
 use Rattle.usb_core.specs.declared.stepping.NoMemory.{NoMemory}
@@ -35,6 +36,21 @@ module _ {P : Type 0} where
   left_over false reply given = given
   left_over true (Number n) given = None
   left_over true reply given = given
+
+  -- what is kept after a call: what it took (takes: whether it takes a payload) is kept under its caller's name and the number that it gives
+  abbrev pub kept_by : Kept P → (takes : Bool) → (owner : Option ℕ) → Reply → Option P → Kept P
+  kept_by kept true (Some h) (Number n) (Some payload) = kept_with kept h n payload
+  kept_by kept takes owner reply given = kept
+
+  -- what is kept after a step with this entry
+  abbrev pub kept_after : Kept P → Step → Entry → Option P → Kept P
+  kept_after kept step entry given = kept_by kept (takes_payload step) entry.owner entry.reply given
+
+  -- what is handed out, if something is, is what is kept under the name and the number that the callback is given
+  abbrev pub GoesOut : Kept P → Option P → Reply → Type 0
+  GoesOut kept None reply = Unit {0}
+  GoesOut kept (Some payload) (Called r) = kept r.h r.n ≡ Some payload
+  GoesOut kept (Some payload) reply = ⊥
 
   -- a submission of name h was refused for this
   abbrev pub turned_down : ℕ → Refused → P → Result (Stepped P) (NoMemory P)

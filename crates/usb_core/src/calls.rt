@@ -7,9 +7,11 @@ ghost use Rattle.usb_model.specs.declared.step.Step.TheVariants.{Answer, Cancel,
 ghost use Rattle.usb_model.specs.declared.verdict.Verdict.TheVariants.{Again, AgainWith, Stop};
 ghost use Rattle.usb_model.specs.World.{new_world};
 ghost use Rattle.usb_state.specs.Calls.{Stays, called_entry};
+ghost use Rattle.usb_state.specs.Carrying.{Carries, CarriesMore, Kept, StillCarries};
 ghost use Rattle.usb_state.specs.Making.{setup_of};
 ghost use Rattle.usb_state.specs.State.{ShowsWorld};
 ghost use Rattle.usb_state.specs.Steps.{Turns};
+ghost use Rattle.usb_parts.specs.Taking.{CarriesOut};
 
 use std::alloc::{AllocError, Global};
 use std::marker::Model;
@@ -19,7 +21,8 @@ use usb_parts::{Parts, Setup, Taken, Unaccepted};
 
 /// The library's core: every step of every name is made here, over the memory of real rings. Contracts see what it
 /// keeps, and say of it which world it shows (`ShowsWorld`); it always shows one. Each call is a turn of that world
-/// (`Turns`).
+/// (`Turns`). What a caller keeps with a transfer, its payload, stays with it: whatever is kept under names and numbers
+/// (`Carries`) is what goes out with the transfer of that name and number.
 ///
 /// Only `new`, `submit`, `again`, `again_with` and `take` take memory.
 #[derive(Drop)]
@@ -40,7 +43,8 @@ impl<P, D: Device> Model for Core<P, D> {
 impl<P, D: Device> Core<P, D> {
     /// No name has a device open, and nothing is submitted.
     pub fn new(alloc: Global, setup: Setup<D>) -> Result<Core<P, D>, AllocError>
-        ensures { IfOk result (λ s. ShowsWorld (setup_of setup) s (new_world (setup_of setup))) }
+        ensures shows { IfOk result (λ s. ShowsWorld (setup_of setup) s (new_world (setup_of setup))) }
+        ensures carries { IfOk result (λ s. (kept : Kept P) → Carries kept s) }
     {
         Ok(Core {
             parts: Parts::new(alloc, setup)?,
@@ -50,7 +54,8 @@ impl<P, D: Device> Core<P, D> {
     /// Opens a device (libusb 1.0, `libusb_open`): the name has it open, and holds no interface. NotFound where there
     /// is no such device, NoDevice where it is gone, Busy where the name has one open.
     pub fn open(&mut self, h: Name, dev: DeviceNo) -> Reply
-        ensures { Turns self.old (Open h dev) (record { owner = Some h; reply = result }) self.new }
+        ensures turned { Turns self.old (Open h dev) (record { owner = Some h; reply = result }) self.new }
+        ensures carries { StillCarries self.old self.new }
     {
         self.parts.open(h, dev)
     }
@@ -58,7 +63,8 @@ impl<P, D: Device> Core<P, D> {
     /// Closes the name's device (libusb 1.0, `libusb_close`): the name has none open, and holds no interface. NotFound
     /// where it has none open, Busy where something is under way at an endpoint of it.
     pub fn close(&mut self, h: Name) -> Reply
-        ensures { Turns self.old (Close h) (record { owner = Some h; reply = result }) self.new }
+        ensures turned { Turns self.old (Close h) (record { owner = Some h; reply = result }) self.new }
+        ensures carries { StillCarries self.old self.new }
     {
         self.parts.close(h)
     }
@@ -67,7 +73,8 @@ impl<P, D: Device> Core<P, D> {
     /// endpoints are made new. NotFound where the name has no device open or this has no such interface, NoDevice where
     /// the device is gone, HeldElsewhere where another name holds the interface.
     pub fn claim(&mut self, h: Name, i: u8) -> Reply
-        ensures { Turns self.old (Claim h i) (record { owner = Some h; reply = result }) self.new }
+        ensures turned { Turns self.old (Claim h i) (record { owner = Some h; reply = result }) self.new }
+        ensures carries { StillCarries self.old self.new }
     {
         self.parts.claim(h, i)
     }
@@ -75,7 +82,8 @@ impl<P, D: Device> Core<P, D> {
     /// Releases an interface (libusb 1.0, `libusb_release_interface`). NotFound where it isn't the name's, Busy where
     /// something is under way at an endpoint of it.
     pub fn release(&mut self, h: Name, i: u8) -> Reply
-        ensures { Turns self.old (Release h i) (record { owner = Some h; reply = result }) self.new }
+        ensures turned { Turns self.old (Release h i) (record { owner = Some h; reply = result }) self.new }
+        ensures carries { StillCarries self.old self.new }
     {
         self.parts.release(h, i)
     }
@@ -84,7 +92,8 @@ impl<P, D: Device> Core<P, D> {
     /// where the name has no device open, NoDevice where the device is gone, Busy where something is under way at an
     /// endpoint of it, HeldElsewhere where another name holds an interface of the device.
     pub fn reset(&mut self, h: Name) -> Reply
-        ensures { Turns self.old (Reset h) (record { owner = Some h; reply = result }) self.new }
+        ensures turned { Turns self.old (Reset h) (record { owner = Some h; reply = result }) self.new }
+        ensures carries { StillCarries self.old self.new }
     {
         self.parts.reset(h)
     }
@@ -92,7 +101,8 @@ impl<P, D: Device> Core<P, D> {
     /// Ends the halt of a device's endpoint (libusb 1.0, `libusb_clear_halt`; USB 2.0, 9.4.1). NotFound where the
     /// endpoint isn't the name's, NoDevice where the device is gone, Busy where a transfer is in the endpoint's line.
     pub fn clear_halt(&mut self, h: Name, ep: EpAddr) -> Reply
-        ensures { Turns self.old (ClearHalt h ep) (record { owner = Some h; reply = result }) self.new }
+        ensures turned { Turns self.old (ClearHalt h ep) (record { owner = Some h; reply = result }) self.new }
+        ensures carries { StillCarries self.old self.new }
     {
         self.parts.clear_halt(h, ep)
     }
@@ -105,6 +115,8 @@ impl<P, D: Device> Core<P, D> {
         ensures back { IfErr result (λ x. x.payload ≡ payload) }
         ensures refused { IfErr result (λ x. (x.why ≡ NoMem → ⊥) → Turns self.old (Submit h request) (record { owner = Some h; reply = IsRefused x.why }) self.new) }
         ensures kept { OnErr result (Stays self.old self.new) }
+        ensures carries { IfOk result (λ n. CarriesMore h n payload self.old self.new) }
+        ensures still { OnErr result (StillCarries self.old self.new) }
     {
         self.parts.submit(h, request, payload)
     }
@@ -112,7 +124,8 @@ impl<P, D: Device> Core<P, D> {
     /// Asks a transfer to end (libusb 1.0, `libusb_cancel_transfer`). NotFound where the name has no such transfer in
     /// progress, or it was asked before.
     pub fn cancel(&mut self, h: Name, n: u64) -> Reply
-        ensures { Turns self.old (Cancel h n) (record { owner = Some h; reply = result }) self.new }
+        ensures turned { Turns self.old (Cancel h n) (record { owner = Some h; reply = result }) self.new }
+        ensures carries { StillCarries self.old self.new }
     {
         self.parts.cancel(h, n)
     }
@@ -120,7 +133,8 @@ impl<P, D: Device> Core<P, D> {
     /// Asks a transfer to end whose time is over (libusb 1.0, `libusb_transfer`, `timeout`). NotFound as for `cancel`,
     /// and where it has no timeout.
     pub fn expire(&mut self, h: Name, n: u64) -> Reply
-        ensures { Turns self.old (Expire h n) (record { owner = Some h; reply = result }) self.new }
+        ensures turned { Turns self.old (Expire h n) (record { owner = Some h; reply = result }) self.new }
+        ensures carries { StillCarries self.old self.new }
     {
         self.parts.expire(h, n)
     }
@@ -128,14 +142,16 @@ impl<P, D: Device> Core<P, D> {
     /// A device answers one packet (USB 2.0, 8.5). Nobody's and Idle where nobody holds the endpoint; Idle where there
     /// is nothing to serve.
     pub fn serve(&mut self, dev: DeviceNo, ep: EpAddr) -> Entry
-        ensures { Turns self.old (Serve dev ep) result self.new }
+        ensures turned { Turns self.old (Serve dev ep) result self.new }
+        ensures carries { StillCarries self.old self.new }
     {
         self.parts.serve(dev, ep)
     }
 
     /// The controller carries out the oldest order (xHCI 1.2, 4.6). Nobody's and Idle where none waits.
     pub fn command(&mut self) -> Entry
-        ensures { Turns self.old Command result self.new }
+        ensures turned { Turns self.old Command result self.new }
+        ensures carries { StillCarries self.old self.new }
     {
         self.parts.command()
     }
@@ -143,7 +159,8 @@ impl<P, D: Device> Core<P, D> {
     /// The oldest event is handled (xHCI 1.2, 4.11.3; libusb 1.0, `libusb_handle_events`): a transfer stands or it
     /// ended, or the errand of an order ended. Nobody's and Idle where none waits.
     pub fn deliver(&mut self) -> Entry
-        ensures { Turns self.old Deliver result self.new }
+        ensures turned { Turns self.old Deliver result self.new }
+        ensures carries { StillCarries self.old self.new }
     {
         self.parts.deliver()
     }
@@ -154,6 +171,8 @@ impl<P, D: Device> Core<P, D> {
         ensures taken { IfOk result (λ x. Turns self.old Take (called_entry (option_map (λ t. t.returned) x)) self.new) }
         ensures payload { IfOk result (λ x. option_map (λ t. t.payload) x ≡ option_map (λ y. y.transfer.payload) (slice_get self.old.flights.ended 0)) }
         ensures refused { OnErr result (Stays self.old self.new) }
+        ensures carries { IfOk result (λ x. (kept : Kept P) → Carries kept self.old → CarriesOut kept x × Carries kept self.new) }
+        ensures still { OnErr result (StillCarries self.old self.new) }
     {
         self.parts.take()
     }
@@ -161,7 +180,8 @@ impl<P, D: Device> Core<P, D> {
     /// Ends the callback of a transfer, which isn't submitted once more (libusb 1.0, `libusb_transfer_cb_fn`). NotFound
     /// where the name has no such transfer in its callback.
     pub fn stop(&mut self, h: Name, n: u64) -> Reply
-        ensures { Turns self.old (Answer h n Stop) (record { owner = Some h; reply = result }) self.new }
+        ensures turned { Turns self.old (Answer h n Stop) (record { owner = Some h; reply = result }) self.new }
+        ensures carries { StillCarries self.old self.new }
     {
         self.parts.stop(h, n)
     }
@@ -175,6 +195,8 @@ impl<P, D: Device> Core<P, D> {
         ensures back { IfErr result (λ x. x.payload ≡ payload) }
         ensures refused { IfErr result (λ x. (x.why ≡ NoMem → ⊥) → Turns self.old (Answer h n Again) (record { owner = Some h; reply = IsRefused x.why }) self.new) }
         ensures kept { OnErr result (Stays self.old self.new) }
+        ensures carries { IfOk result (λ k. CarriesMore h k payload self.old self.new) }
+        ensures still { OnErr result (StillCarries self.old self.new) }
     {
         self.parts.again(h, n, payload)
     }
@@ -191,13 +213,16 @@ impl<P, D: Device> Core<P, D> {
         ensures back { IfErr result (λ x. x.payload ≡ payload) }
         ensures refused { IfErr result (λ x. (x.why ≡ NoMem → ⊥) → Turns self.old (Answer h n (AgainWith bytes)) (record { owner = Some h; reply = IsRefused x.why }) self.new) }
         ensures kept { OnErr result (Stays self.old self.new) }
+        ensures carries { IfOk result (λ k. CarriesMore h k payload self.old self.new) }
+        ensures still { OnErr result (StillCarries self.old self.new) }
     {
         self.parts.again_with(h, n, bytes, payload)
     }
 
     /// A device is gone, for ever. NotFound where there is no such device, NoDevice where it is gone.
     pub fn unplug(&mut self, dev: DeviceNo) -> Reply
-        ensures { Turns self.old (Unplug dev) (record { owner = None; reply = result }) self.new }
+        ensures turned { Turns self.old (Unplug dev) (record { owner = None; reply = result }) self.new }
+        ensures carries { StillCarries self.old self.new }
     {
         self.parts.unplug(dev)
     }

@@ -4,8 +4,9 @@ ghost use Rattle.std.specs.Prelude.{◌≡◌, true, IfErr, IfOk, None, OnErr, S
 ghost use Rattle.usb_model.specs.declared.step.Step.TheVariants.{Answer, Take};
 ghost use Rattle.usb_model.specs.Numbers.{takes_payload};
 ghost use Rattle.usb_state.specs.Calls.{Stays};
+ghost use Rattle.usb_state.specs.Carrying.{Carries, Kept, StillCarries};
 ghost use Rattle.usb_state.specs.Steps.{Turns};
-ghost use Rattle.usb_core.specs.Stepping.{answered, first_payload, handed_out, left_over, takes_memory};
+ghost use Rattle.usb_core.specs.Stepping.{GoesOut, answered, first_payload, handed_out, kept_after, left_over, takes_memory};
 
 use crate::calls::Core;
 use usb_device::Device;
@@ -77,6 +78,9 @@ impl<P, D: Device> Core<P, D> {
         ensures payload { IfErr result (λ x. x.payload ≡ payload) }
         ensures memory { OnErr result (takes_memory step ≡ true) }
         ensures kept { OnErr result (Stays self.old self.new) }
+        ensures carries { IfOk result (λ x. (kept : Kept P) → Carries kept self.old → Carries (kept_after kept step x.entry payload) self.new) }
+        ensures goes_out { IfOk result (λ x. (kept : Kept P) → Carries kept self.old → GoesOut kept x.out x.entry.reply) }
+        ensures still { OnErr result (StillCarries self.old self.new) }
     {
         let entry = match step {
             Step::Open { h, dev } => entry_of(h, self.open(h, dev)),
@@ -113,6 +117,8 @@ impl<P, D: Device> Core<P, D> {
         ensures back { IfOk result (λ x. x.back ≡ payload) }
         ensures payload { IfErr result (λ x. x.payload ≡ payload) }
         ensures kept { OnErr result (Stays self.old self.new) }
+        ensures carries { StillCarries self.old self.new }
+        ensures goes_out { IfOk result (λ x. (kept : Kept P) → Carries kept self.old → GoesOut kept x.out x.entry.reply) }
     {
         match self.take() {
             Ok(
@@ -153,6 +159,8 @@ impl<P, D: Device> Core<P, D> {
         ensures payload { IfErr result (λ x. x.payload ≡ payload) }
         ensures memory { OnErr result (takes_payload (Answer h n verdict) ≡ true) }
         ensures kept { OnErr result (Stays self.old self.new) }
+        ensures carries { IfOk result (λ x. (kept : Kept P) → Carries kept self.old → Carries (kept_after kept (Answer h n verdict) x.entry payload) self.new) }
+        ensures still { OnErr result (StillCarries self.old self.new) }
     {
         let given = match verdict {
             Verdict::Stop => return Ok(told(entry_of(h, self.stop(h, n)), payload)),

@@ -17,7 +17,7 @@ pub returns-in_default-clause-stopped : goal.returns-in_default-clause-stopped
 returns-in_default-clause-stopped g c = none_stopped (setup_of c.args.setup) c.args.steps.now c.new-entries.result c.new-entries.ensures
 
 pub loop-step-init : goal.loop-step-init
-loop-step-init g c = rw c.new-entries.ensures (none_yet (setup_of c.args.setup) c.args.steps.now c.in-Ok.core c.in-Ok.ensures)
+loop-step-init g c = rw c.new-entries.ensures (none_yet (setup_of c.args.setup) c.args.steps.now c.in-Ok.core c.in-Ok.ensures.shows)
 
 pub loop-step-preserved : goal.loop-step-preserved
 loop-step-preserved g c = one_more (setup_of c.args.setup) c.args.steps.now c.loop-step.core c.advance.new.core c.loop-step.entries c.advance.new.entries c.loop-step.step-index c.step-item.result c.loop-step-test.true c.step-item.is c.loop-step.invariant c.in-Ok-advance.ensures.advanced
