@@ -1,18 +1,23 @@
 -- What can be asked of a world without a step is read off the core.
-use Rattle.std.proofs.Common.{◌≡◌, ℕ, Bool, true, false, List, length, Some, None, Option, ap, refl, ◌∙◌}
+use Rattle.std.proofs.Common.{◌≡◌, ℕ, Bool, true, false, List, length, Some, None, Option, ap, refl, subst, sym, ◌∙◌, ◌<◌}
 use Rattle.std.specs.Prelude.{◌||◌, ◌==◌, is_some, slice_get}
-use Rattle.std.specs.Option.{option_map_or}
+use Rattle.std.specs.Option.{option_and_then, option_map_or}
 use Rattle.usb_model.specs.declared.item.Ask.TheVariants.{Time}
 use Rattle.usb_model.specs.declared.result.TransferResult.{TransferResult}
 use Rattle.usb_model.specs.declared.shared.Tagged.{Tagged}
 use Rattle.usb_model.specs.declared.step.Step.{Step}
 use Rattle.usb_model.specs.declared.step.Step.TheVariants.{Expire}
-use Rattle.usb_model.specs.Setup.{Setup, endpoints_of}
-use Rattle.usb_model.specs.World.{World}
+use Rattle.usb_model.specs.Setup.{Setup, endpoints_of, interface_of}
+use Rattle.usb_model.specs.World.{World, holder}
+use Rattle.usb_device.specs.Pipe.{pipe_at}
+use Rattle.usb_xhc.specs.Slots.{DeviceSlot}
 use Rattle.usb_parts.specs.Homes.{can_expire, expires_now}
+use Rattle.usb_parts.specs.Packets.{taken_in}
 use Rattle.usb_shows.specs.Calling.{KeptHome, ask_core, device_of, kept_home, step_core}
 use Rattle.usb_shows.specs.Shows.{Core}
 use Rattle.usb_shows.proofs.Calls.Whole.{whole_steps}
+use Rattle.usb_slots.proofs.Ids.{has_device}
+use Rattle.usb_slots.proofs.Lookups.{get_within}
 use Rattle.usb_state.specs.State.{Keeps, ShowsWorld, State}
 use Rattle.usb_core.specs.Reads.{is_done, would_expire}
 
@@ -43,3 +48,21 @@ module _ {P : Type 0} where
   expires_shown s h n b reads setup w shown =
       reads setup shown.0 shown.1 ∙ asked_if shown.0 h n (Expire h n) (kept_home setup shown.0 h n (endpoints_of setup (device_of shown.0 h)))
       ∙ ap (λ e. is_done e.reply) (whole_steps setup shown.1.fine w shown.0 shown.2 (Expire h n)).0
+
+module _ {P : Type 0} where
+  -- the packets that a held endpoint took are the world's
+  pub taken_shown : (s : State P) (d e i : ℕ) (o : Option (List ℕ)) → o ≡ taken_in s.controller d e i → (setup : Setup) (w : World) (h : ℕ) → ShowsWorld setup s w → holder setup w.claims d e ≡ Some h → o ≡ slice_get (w.endpoints d e).packets_received i
+  taken_shown s d e i o is setup w h shown held =
+      is ∙ ap (λ (m : Option DeviceSlot). option_and_then (λ (x : DeviceSlot). slice_get (pipe_at x.pipes e).taken i) m) slot.1
+      ∙ ap (λ (l : List (List ℕ)). slice_get l i) (((shown.1.held.each d slot.0 slot.1).ends e its.0 its.1).pipe.taken ∙ (shown.2.endpoints h d e held).packets_received)
+    where
+      -- the interface of an endpoint that is held
+      interface : (m : Option ℕ) → interface_of setup d e ≡ m → option_and_then (λ (k : ℕ). w.claims d k) m ≡ Some h → (k : ℕ) × (interface_of setup d e ≡ Some k)
+      interface None none at = absurd cc
+      interface (Some k) some at = (k, some)
+
+      its : (k : ℕ) × (interface_of setup d e ≡ Some k)
+      its = interface (interface_of setup d e) refl held
+
+      slot : (x : DeviceSlot) × (slice_get s.controller.slots d ≡ Some x)
+      slot = get_within s.controller.slots d (subst (λ (n : ℕ). d < n) (sym shown.1.held.slots) (has_device setup d e its.0 its.1))

@@ -1,15 +1,15 @@
 //! What can be asked of the core without a step.
 
-ghost use Rattle.std.specs.Prelude.{◌≡◌, ℕ, length, slice_get};
-ghost use Rattle.std.specs.Option.{option_map_or};
+ghost use Rattle.std.specs.Prelude.{◌≡◌, ℕ, Some, length, slice_get};
+ghost use Rattle.std.specs.Option.{option_copied, option_map_or};
 ghost use Rattle.usb_model.specs.Setup.{Setup};
-ghost use Rattle.usb_model.specs.World.{World};
+ghost use Rattle.usb_model.specs.World.{World, holder};
 ghost use Rattle.usb_state.specs.State.{ShowsWorld};
 ghost use Rattle.usb_core.specs.Reads.{would_expire};
 
 use crate::calls::Core;
 use usb_device::Device;
-use usb_model::Name;
+use usb_model::{DeviceNo, EpAddr, Name};
 
 impl<P, D: Device> Core<P, D> {
     /// How many bytes the next result has that is taken; 0 where none waits.
@@ -24,5 +24,13 @@ impl<P, D: Device> Core<P, D> {
         ensures { (setup : Setup) (w : World) → ShowsWorld setup self.now w → result ≡ would_expire setup w h n }
     {
         self.parts.expires(h, n)
+    }
+
+    /// The packet of index `i`, from 0 on, of those that the device took at an endpoint that somebody holds, since it was
+    /// made new; None past the last.
+    pub fn taken(&self, dev: DeviceNo, ep: EpAddr, i: usize) -> Option<&[u8]>
+        ensures { (setup : Setup) (w : World) (h : ℕ) → ShowsWorld setup self.now w → holder setup w.claims dev ep ≡ Some h → option_copied result ≡ slice_get (w.endpoints dev ep).packets_received i }
+    {
+        self.parts.taken(dev, ep, i)
     }
 }

@@ -4,3 +4,4 @@ pub mod Submitting
 pub mod Senders
 pub mod Taking
 pub mod Pending
+pub mod Packets

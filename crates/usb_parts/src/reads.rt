@@ -1,15 +1,16 @@
 //! What can be asked of the parts without a step.
 
 ghost use Rattle.std.specs.Prelude.{◌≡◌, ℕ, length, slice_get};
-ghost use Rattle.std.specs.Option.{option_map_or};
+ghost use Rattle.std.specs.Option.{option_copied, option_map_or};
 ghost use Rattle.usb_model.specs.Setup.{Setup};
 ghost use Rattle.usb_shows.specs.Shows.{Core};
 ghost use Rattle.usb_state.specs.State.{Keeps};
 ghost use Rattle.usb_parts.specs.Homes.{expires_now};
+ghost use Rattle.usb_parts.specs.Packets.{taken_in};
 
 use crate::parts::Parts;
 use usb_device::Device;
-use usb_model::Name;
+use usb_model::{DeviceNo, EpAddr, Name};
 
 impl<P, D: Device> Parts<P, D> {
     /// How many bytes the next result has that is taken; 0 where none waits.
@@ -29,6 +30,17 @@ impl<P, D: Device> Parts<P, D> {
         match self.home(h, n) {
             Some(home) => self.is_askable(home.dev, home.ep, home.item, true),
             None => false,
+        }
+    }
+
+    /// The packet of index `i`, from 0 on, of those that an endpoint took since it was made new; None past the last, and
+    /// where there is no such device.
+    pub fn taken(&self, dev: DeviceNo, ep: EpAddr, i: usize) -> Option<&[u8]>
+        ensures { option_copied result ≡ taken_in self.now.controller dev ep i }
+    {
+        match self.controller.slot(dev) {
+            Some(slot) => slot.taken(ep, i),
+            None => None,
         }
     }
 }
