@@ -5,5 +5,6 @@ mod Serves
 mod Worth
 mod Circle
 mod Waits
+mod Called
 mod Rewinding
 mod Callbacks
