@@ -5,6 +5,7 @@ mod Serves
 mod Worth
 mod Circle
 mod Waits
+mod Called
 mod Rewinding
 mod Callbacks
 mod Carried

@@ -1,5 +1,5 @@
 -- What is to be done next, by the world alone.
-use Rattle.std.specs.Prelude.{◌≡◌, ℕ, zero, suc, ◌+◌, ◌-◌, ◌*◌, ◌/◌, ◌%◌, nat_lt, Bool, true, false, ◌||◌, ◌&&◌, List, [], ◌∷◌, length, find, is_some, slice_get, Option, Some, None}
+use Rattle.std.specs.Prelude.{◌≡◌, ◌↔◌, ℕ, zero, suc, ◌+◌, ◌-◌, ◌*◌, ◌/◌, ◌%◌, nat_lt, Bool, true, false, ◌||◌, ◌&&◌, List, [], ◌∷◌, length, find, is_some, slice_get, Option, Some, None}
 use Rattle.std.specs.Option.{option_map_or}
 use Rattle.usb_model.specs.declared.reply.Reply.{Reply}
 use Rattle.usb_model.specs.declared.reply.Reply.TheVariants.{Idle, Nak}
@@ -56,6 +56,8 @@ pub record IsPending (setup : Setup) (w : World) (after : Option (ℕ × ℕ)) (
   pub command : p.command ≡ does_something setup w Command
   pub deliver : p.deliver ≡ does_something setup w Deliver
   pub take : p.take ≡ does_something setup w Take
+  -- some name has a transfer in its callback
+  pub out : (p.out ≡ true) ↔ ((h : ℕ) × ((w.names h).in_callbacks ≡ [] → ⊥))
 
 -- the controller has a transfer to serve at an endpoint, and the device is ready there or gone
 abbrev pub can_answer : Controller → (d e : ℕ) → Bool

@@ -22,6 +22,8 @@ pub struct Pending {
     pub deliver: bool,
     /// Whether a result waits.
     pub take: bool,
+    /// Whether a transfer is in its callback.
+    pub out: bool,
 }
 
 impl<P, D: Device> Parts<P, D> {
@@ -35,6 +37,7 @@ impl<P, D: Device> Parts<P, D> {
             command: self.controller.command_ring().room() < 254,
             deliver: self.controller.event_ring().room() < 4095,
             take: self.flights.first_ended().is_some(),
+            out: self.callers.is_any_out(),
         }
     }
 
