@@ -1,5 +1,5 @@
 -- What is kept with transfers, over a call and over a step.
-use Rattle.std.proofs.Common.{◌≡◌, ℕ, Bool, true, false, Option, Some, None, Result, Ok, Err, IfErr, IfOk, OnErr, refl, sym, ap, subst, ◌∙◌}
+use Rattle.std.proofs.Common.{◌≡◌, ℕ, Bool, true, false, Option, Some, Result, Ok, Err, IfErr, IfOk, OnErr, sym, ap, subst, ◌∙◌}
 use Rattle.usb_model.specs.declared.entry.Entry.{Entry}
 use Rattle.usb_model.specs.declared.refused.Refused.{Refused}
 use Rattle.usb_model.specs.declared.refused.Refused.TheVariants.{Busy, HeldElsewhere, InvalidParam, NoDevice, NoMem, NotFound, NotSupported}
@@ -8,15 +8,9 @@ use Rattle.usb_model.specs.Numbers.{takes_payload}
 use Rattle.usb_parts.specs.declared.submitting.Unaccepted.{Unaccepted}
 use Rattle.usb_state.specs.Carrying.{Carries, CarriesMore, Kept, StillCarries}
 use Rattle.usb_state.specs.State.{State}
-use Rattle.usb_core.specs.declared.stepping.NoMemory.{NoMemory}
-use Rattle.usb_core.specs.declared.stepping.Stepped.{Stepped}
-use Rattle.usb_core.specs.Stepping.{GoesOut, answered, kept_after, kept_by, turned_down}
+use Rattle.usb_core.specs.Stepping.{answered, kept_after, kept_by, turned_down}
 
 module _ {P : Type 0} where
-  -- it stays with the transfers of parts as they are seen
-  pub still_seen : (old seen new : State P) → seen ≡ old → StillCarries seen new → StillCarries old new
-  still_seen old seen new is = subst (λ (s : State P). StillCarries s new) is
-
   -- a step that takes no payload, by other names for what it is
   pub as_still : (old new other : State P) (step its : Step) (entry : Entry) (given : Option P) → step ≡ its → takes_payload its ≡ false → new ≡ other → StillCarries old other → (kept : Kept P) → Carries kept old → Carries (kept_after kept step entry given) new
   as_still old new other step its entry given step_is takes new_is still kept carried =
@@ -26,16 +20,6 @@ module _ {P : Type 0} where
 pub if_ok : {A E : Type 0} (Q : A → Type 0) (r : Result A E) → ((x : A) → Q x) → IfOk r Q
 if_ok Q (Ok x) all = all x
 if_ok Q (Err e) all = tt
-
-module _ {P : Type 0} where
-  -- nothing goes out
-  pub none_out : (s : State P) (x : Stepped P) → x.out ≡ None → (kept : Kept P) → Carries kept s → GoesOut kept x.out x.entry.reply
-  none_out s x none kept carried = subst (λ (o : Option P). GoesOut kept o x.entry.reply) (sym none) tt
-
-  -- of a step that may find no memory
-  pub none_goes : (s : State P) (r : Result (Stepped P) (NoMemory P)) → IfOk r (λ x. x.out ≡ None) → IfOk r (λ x. (kept : Kept P) → Carries kept s → GoesOut kept x.out x.entry.reply)
-  none_goes s (Ok x) none = none_out s x none
-  none_goes s (Err e) none = tt
 
 module _ {P : Type 0} (old new : State P) (h : ℕ) where
   -- what is kept after a submission of name h that took this
@@ -69,18 +53,3 @@ module _ {P : Type 0} (old new : State P) (h : ℕ) where
   pub answered_still : (r : Result ℕ (Unaccepted P)) → OnErr r (StillCarries old new) → OnErr (answered h r) (StillCarries old new)
   answered_still (Ok n) still = tt
   answered_still (Err x) still = turned_down_still x.why x.payload still
-
-module _ {P : Type 0} (h : ℕ) where
-  turned_down_none : (why : Refused) (payload : P) → IfOk (turned_down h why payload) (λ x. x.out ≡ None)
-  turned_down_none InvalidParam payload = refl
-  turned_down_none NoDevice payload = refl
-  turned_down_none NotFound payload = refl
-  turned_down_none Busy payload = refl
-  turned_down_none HeldElsewhere payload = refl
-  turned_down_none NoMem payload = tt
-  turned_down_none NotSupported payload = refl
-
-  -- it hands nothing out
-  pub answered_none : (r : Result ℕ (Unaccepted P)) → IfOk (answered h r) (λ x. x.out ≡ None)
-  answered_none (Ok n) = refl
-  answered_none (Err x) = turned_down_none x.why x.payload

@@ -4,7 +4,6 @@ use Rattle.usb_model.specs.declared.reply.Reply.TheVariants.{Number, Refused}
 use Rattle.usb_model.specs.declared.step.Step.TheVariants.{Answer}
 use Rattle.usb_model.specs.declared.verdict.Verdict.TheVariants.{Again}
 use Rattle.usb_state.specs.Calls.{Stays}
-use Rattle.usb_state.specs.Carrying.{CarriesMore, StillCarries}
 use Rattle.usb_state.specs.State.{State}
 use Rattle.usb_state.specs.Steps.{Turns}
 use Rattle.usb_core.proofs.Turning.{shown_either, turns_if, turns_unless}
@@ -23,9 +22,3 @@ returns-clause-refused g c = subst (λ (s : State g.row.P.Denot). IfErr c.again.
 
 pub returns-clause-kept : goal.returns-clause-kept
 returns-clause-kept g c = subst (λ (s : State g.row.P.Denot). OnErr c.again.result (Stays s c.again.new.self)) c.self.view_is c.again.ensures.kept
-
-pub returns-clause-carries : goal.returns-clause-carries
-returns-clause-carries g c = subst (λ (s : State g.row.P.Denot). IfOk c.again.result (λ n. CarriesMore c.args.h n c.args.payload s c.again.new.self)) c.self.view_is c.again.ensures.carries
-
-pub returns-clause-still : goal.returns-clause-still
-returns-clause-still g c = subst (λ (s : State g.row.P.Denot). OnErr c.again.result (StillCarries s c.again.new.self)) c.self.view_is c.again.ensures.still

@@ -3,7 +3,6 @@ use Rattle.usb_model.specs.declared.step.Step.TheVariants.{Cancel}
 use Rattle.usb_state.specs.State.{State}
 use Rattle.usb_state.specs.Steps.{Turns}
 use Rattle.usb_state.proofs.Turning.{shows_again, turns}
-use Rattle.usb_core.proofs.Carrying.{still_seen}
 use Rattle.usb_core.proofs.calls.Core.cancel.Goals as goal
 
 pub invariant_of-self : goal.invariant_of-self
@@ -11,6 +10,3 @@ invariant_of-self g c = shows_again c.self.inside.parts c.cancel.new.self (Cance
 
 pub returns-clause-turned : goal.returns-clause-turned
 returns-clause-turned g c = subst (λ (s : State g.row.P.Denot). Turns s (Cancel c.args.h c.args.n) (record { owner = Some c.args.h; reply = c.cancel.result }) c.cancel.new.self) c.self.view_is (turns c.self.inside.parts c.cancel.new.self (Cancel c.args.h c.args.n) (record { owner = Some c.args.h; reply = c.cancel.result }) c.cancel.ensures.done)
-
-pub returns-clause-carries : goal.returns-clause-carries
-returns-clause-carries g c = still_seen c.args.self.now c.self.inside.parts c.cancel.new.self c.self.view_is c.cancel.ensures.carries

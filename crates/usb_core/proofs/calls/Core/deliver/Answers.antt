@@ -3,7 +3,6 @@ use Rattle.usb_model.specs.declared.step.Step.TheVariants.{Deliver}
 use Rattle.usb_state.specs.State.{State}
 use Rattle.usb_state.specs.Steps.{Turns}
 use Rattle.usb_state.proofs.Turning.{shows_again, turns}
-use Rattle.usb_core.proofs.Carrying.{still_seen}
 use Rattle.usb_core.proofs.calls.Core.deliver.Goals as goal
 
 pub invariant_of-self : goal.invariant_of-self
@@ -11,6 +10,3 @@ invariant_of-self g c = shows_again c.self.inside.parts c.deliver.new.self Deliv
 
 pub returns-clause-turned : goal.returns-clause-turned
 returns-clause-turned g c = subst (λ (s : State g.row.P.Denot). Turns s Deliver (c.deliver.result) c.deliver.new.self) c.self.view_is (turns c.self.inside.parts c.deliver.new.self Deliver (c.deliver.result) c.deliver.ensures.done)
-
-pub returns-clause-carries : goal.returns-clause-carries
-returns-clause-carries g c = still_seen c.args.self.now c.self.inside.parts c.deliver.new.self c.self.view_is c.deliver.ensures.carries

@@ -2,7 +2,7 @@
 use Rattle.std.proofs.Common.{◌≡◌, ◌∙◌, ap, refl}
 use Rattle.usb_model.specs.declared.step.Step.TheVariants.{Submit}
 use Rattle.usb_core.proofs.Turning.{answered_turns, as_turn}
-use Rattle.usb_core.proofs.Carrying.{answered_carries, answered_none, answered_still, as_still, if_ok, none_goes, none_out}
+use Rattle.usb_core.proofs.Carrying.{answered_carries, as_still, if_ok}
 use Rattle.usb_core.proofs.calls.Core.step.Goals as goal
 use Rattle.usb_core.proofs.calls.Core.step.Goals.{in-Open, in-Close, in-Claim, in-Release, in-Reset, in-ClearHalt, in-Cancel, in-Expire, in-Serve, in-Command, in-Deliver, in-Unplug}
 
@@ -36,23 +36,11 @@ returns-clause-turned g c =
 pub returns-in-Submit-clause-carries : goal.returns-in-Submit-clause-carries
 returns-in-Submit-clause-carries g c = rw (c.submitted.ensures, c.in-Submit.is, c.in-Some.is) (answered_carries c.args.self.now c.submit.new.self c.in-Submit.h c.in-Some.payload c.submit.result c.submit.ensures.back c.submit.ensures.carries c.submit.ensures.still)
 
-pub returns-in-Submit-clause-goes_out : goal.returns-in-Submit-clause-goes_out
-returns-in-Submit-clause-goes_out g c = rw c.submitted.ensures (none_goes c.args.self.now _ (answered_none c.in-Submit.h c.submit.result))
-
-pub returns-in-Submit-clause-still : goal.returns-in-Submit-clause-still
-returns-in-Submit-clause-still g c = rw c.submitted.ensures (answered_still c.args.self.now c.submit.new.self c.in-Submit.h c.submit.result c.submit.ensures.still)
-
 pub returns-in-Take-clause-carries : goal.returns-in-Take-clause-carries
 returns-in-Take-clause-carries g c = rw c.in-Take.is (if_ok _ c.step_take.result (λ x. c.step_take.ensures.carries))
 
-pub returns-in-Take-clause-goes_out : goal.returns-in-Take-clause-goes_out
-returns-in-Take-clause-goes_out g c = c.step_take.ensures.goes_out
-
 pub returns-in-Answer-clause-carries : goal.returns-in-Answer-clause-carries
 returns-in-Answer-clause-carries g c = rw c.in-Answer.is c.step_answer.ensures.carries
-
-pub returns-in-Answer-clause-goes_out : goal.returns-in-Answer-clause-goes_out
-returns-in-Answer-clause-goes_out g c = none_goes c.args.self.now c.step_answer.result c.step_answer.ensures.out
 
 pub returns-clause-carries : goal.returns-clause-carries
 returns-clause-carries g c = elim c.match-step.branch [
@@ -69,6 +57,3 @@ returns-clause-carries g c = elim c.match-step.branch [
   | in-Deliver w ↦ as_still c.args.self.now c.match-step.self w.deliver-entry.new.self c.args.step _ c.told.result.entry c.args.payload w.in-Deliver.is refl w.self-is w.deliver-entry.ensures.carries
   | in-Unplug w ↦ as_still c.args.self.now c.match-step.self w.unplug.new.self c.args.step _ c.told.result.entry c.args.payload w.in-Unplug.is refl w.self-is w.unplug.ensures.carries
 ]
-
-pub returns-clause-goes_out : goal.returns-clause-goes_out
-returns-clause-goes_out g c = none_out c.args.self.now c.told.result (ap (λ x. x.out) c.told.ensures)

@@ -2,7 +2,6 @@ use Rattle.std.proofs.Common.{◌∙◌, ap, option_map, refl, sym, subst, Some}
 use Rattle.usb_model.specs.declared.step.Step.TheVariants.{Take}
 use Rattle.usb_state.specs.Calls.{called_entry}
 use Rattle.usb_core.proofs.Turning.{as_turn}
-use Rattle.usb_core.proofs.Carrying.{none_out}
 use Rattle.usb_model.specs.declared.entry.Entry.{Entry}
 use Rattle.usb_parts.specs.Taking.{CarriesOut}
 use Rattle.usb_core.specs.Stepping.{GoesOut}
@@ -16,15 +15,6 @@ pub returns-in-Ok-None-clause-turned : goal.returns-in-Ok-None-clause-turned
 returns-in-Ok-None-clause-turned g c = as_turn c.args.self.now c.take.new.self c.take.new.self Take Take c.told.result.entry (called_entry (option_map (λ t. t.returned) c.in-Ok-None.field-0)) refl
     (ap (λ x. x.entry) c.told.ensures ∙ sym (ap (λ x. called_entry (option_map (λ t. t.returned) x)) c.in-Ok-None.field-0-is)) refl c.in-Ok-None.ensures.taken
 
-pub returns-in-Ok-Some-clause-carries : goal.returns-in-Ok-Some-clause-carries
-returns-in-Ok-Some-clause-carries g c = λ kept carried. (c.in-Ok-Some.ensures.carries kept carried).1
-
 pub returns-in-Ok-Some-clause-goes_out : goal.returns-in-Ok-Some-clause-goes_out
 returns-in-Ok-Some-clause-goes_out g c = λ kept carried. subst (λ (e : Entry). GoesOut kept (Some c.in-Ok-Some.field-0-0.payload) e.reply) (sym c.entry_of.ensures)
     (subst (λ o. CarriesOut kept o) c.in-Ok-Some.field-0-is (c.in-Ok-Some.ensures.carries kept carried).0)
-
-pub returns-in-Ok-None-clause-carries : goal.returns-in-Ok-None-clause-carries
-returns-in-Ok-None-clause-carries g c = λ kept carried. (c.in-Ok-None.ensures.carries kept carried).1
-
-pub returns-in-Ok-None-clause-goes_out : goal.returns-in-Ok-None-clause-goes_out
-returns-in-Ok-None-clause-goes_out g c = none_out c.args.self.now c.told.result (ap (λ x. x.out) c.told.ensures)

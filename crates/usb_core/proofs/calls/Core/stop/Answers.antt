@@ -4,7 +4,6 @@ use Rattle.usb_model.specs.declared.verdict.Verdict.TheVariants.{Stop}
 use Rattle.usb_state.specs.State.{State}
 use Rattle.usb_state.specs.Steps.{Turns}
 use Rattle.usb_state.proofs.Turning.{shows_again, turns}
-use Rattle.usb_core.proofs.Carrying.{still_seen}
 use Rattle.usb_core.proofs.calls.Core.stop.Goals as goal
 
 pub invariant_of-self : goal.invariant_of-self
@@ -12,6 +11,3 @@ invariant_of-self g c = shows_again c.self.inside.parts c.stop.new.self (Answer 
 
 pub returns-clause-turned : goal.returns-clause-turned
 returns-clause-turned g c = subst (λ (s : State g.row.P.Denot). Turns s (Answer c.args.h c.args.n Stop) (record { owner = Some c.args.h; reply = c.stop.result }) c.stop.new.self) c.self.view_is (turns c.self.inside.parts c.stop.new.self (Answer c.args.h c.args.n Stop) (record { owner = Some c.args.h; reply = c.stop.result }) c.stop.ensures.done)
-
-pub returns-clause-carries : goal.returns-clause-carries
-returns-clause-carries g c = still_seen c.args.self.now c.self.inside.parts c.stop.new.self c.self.view_is c.stop.ensures.carries

@@ -3,7 +3,6 @@ use Rattle.usb_model.specs.declared.refused.Refused.TheVariants.{NoMem}
 use Rattle.usb_model.specs.declared.reply.Reply.TheVariants.{Number, Refused}
 use Rattle.usb_model.specs.declared.step.Step.TheVariants.{Submit}
 use Rattle.usb_state.specs.Calls.{Stays}
-use Rattle.usb_state.specs.Carrying.{CarriesMore, StillCarries}
 use Rattle.usb_state.specs.State.{State}
 use Rattle.usb_state.specs.Steps.{Turns}
 use Rattle.usb_core.proofs.Turning.{shown_either, turns_if, turns_unless}
@@ -22,9 +21,3 @@ returns-clause-refused g c = subst (λ (s : State g.row.P.Denot). IfErr c.submit
 
 pub returns-clause-kept : goal.returns-clause-kept
 returns-clause-kept g c = subst (λ (s : State g.row.P.Denot). OnErr c.submit.result (Stays s c.submit.new.self)) c.self.view_is c.submit.ensures.kept
-
-pub returns-clause-carries : goal.returns-clause-carries
-returns-clause-carries g c = subst (λ (s : State g.row.P.Denot). IfOk c.submit.result (λ n. CarriesMore c.args.h n c.args.payload s c.submit.new.self)) c.self.view_is c.submit.ensures.carries
-
-pub returns-clause-still : goal.returns-clause-still
-returns-clause-still g c = subst (λ (s : State g.row.P.Denot). OnErr c.submit.result (StillCarries s c.submit.new.self)) c.self.view_is c.submit.ensures.still

@@ -2,10 +2,8 @@ use Rattle.std.proofs.Common.{IfOk, OnErr, subst}
 use Rattle.std.specs.Prelude.{option_map}
 use Rattle.usb_model.specs.declared.step.Step.TheVariants.{Take}
 use Rattle.usb_state.specs.Calls.{Stays, called_entry}
-use Rattle.usb_state.specs.Carrying.{Carries, Kept, StillCarries}
 use Rattle.usb_state.specs.State.{State}
 use Rattle.usb_state.specs.Steps.{Turns}
-use Rattle.usb_parts.specs.Taking.{CarriesOut}
 use Rattle.usb_core.proofs.Turning.{shown_either, turns_if}
 use Rattle.usb_core.proofs.calls.Core.take.Goals as goal
 
@@ -18,9 +16,3 @@ returns-clause-taken g c = subst (λ (s : State g.row.P.Denot). IfOk c.take.resu
 
 pub returns-clause-refused : goal.returns-clause-refused
 returns-clause-refused g c = subst (λ (s : State g.row.P.Denot). OnErr c.take.result (Stays s c.take.new.self)) c.self.view_is c.take.ensures.refused
-
-pub returns-clause-carries : goal.returns-clause-carries
-returns-clause-carries g c = subst (λ (s : State g.row.P.Denot). IfOk c.take.result (λ x. (kept : Kept g.row.P.Denot) → Carries kept s → CarriesOut kept x × Carries kept c.take.new.self)) c.self.view_is c.take.ensures.carries
-
-pub returns-clause-still : goal.returns-clause-still
-returns-clause-still g c = subst (λ (s : State g.row.P.Denot). OnErr c.take.result (StillCarries s c.take.new.self)) c.self.view_is c.take.ensures.still
