@@ -9,9 +9,11 @@ use Rattle.usb_model.specs.declared.step.Step.{Step}
 use Rattle.usb_model.specs.declared.step.Step.TheVariants.{Expire}
 use Rattle.usb_model.specs.Setup.{Setup, endpoints_of}
 use Rattle.usb_model.specs.World.{World}
+use Rattle.usb_parts.specs.declared.pending.Pending.{Pending}
+use Rattle.usb_parts.specs.Pending.{IsPending}
 use Rattle.usb_parts.specs.Homes.{can_expire, expires_now}
 use Rattle.usb_shows.specs.Calling.{KeptHome, ask_core, device_of, kept_home, step_core}
-use Rattle.usb_shows.specs.Shows.{Core}
+use Rattle.usb_shows.specs.Shows.{Core, Shows}
 use Rattle.usb_shows.proofs.Calls.Whole.{whole_steps}
 use Rattle.usb_state.specs.State.{Keeps, ShowsWorld, State}
 use Rattle.usb_core.specs.Reads.{is_done, would_expire}
@@ -43,3 +45,7 @@ module _ {P : Type 0} where
   expires_shown s h n b reads setup w shown =
       reads setup shown.0 shown.1 ∙ asked_if shown.0 h n (Expire h n) (kept_home setup shown.0 h n (endpoints_of setup (device_of shown.0 h)))
       ∙ ap (λ e. is_done e.reply) (whole_steps setup shown.1.fine w shown.0 shown.2 (Expire h n)).0
+
+  -- what is to be done next by the core is what is by the world
+  pub pending_shown : (s : State P) (after : Option (ℕ × ℕ)) (p : Pending) → ((setup : Setup) (w : World) (c : Core) → Keeps setup s c → Shows setup w c → IsPending setup w after p) → (setup : Setup) (w : World) → ShowsWorld setup s w → IsPending setup w after p
+  pending_shown s after p reads setup w shown = reads setup w shown.0 shown.1 shown.2
