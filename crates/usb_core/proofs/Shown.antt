@@ -11,10 +11,12 @@ use Rattle.usb_model.specs.Setup.{Setup, endpoints_of, interface_of}
 use Rattle.usb_model.specs.World.{World, holder}
 use Rattle.usb_device.specs.Pipe.{pipe_at}
 use Rattle.usb_xhc.specs.Slots.{DeviceSlot}
+use Rattle.usb_parts.specs.declared.pending.Pending.{Pending}
+use Rattle.usb_parts.specs.Pending.{IsPending}
 use Rattle.usb_parts.specs.Homes.{can_expire, expires_now}
 use Rattle.usb_parts.specs.Packets.{taken_in}
 use Rattle.usb_shows.specs.Calling.{KeptHome, ask_core, device_of, kept_home, step_core}
-use Rattle.usb_shows.specs.Shows.{Core}
+use Rattle.usb_shows.specs.Shows.{Core, Shows}
 use Rattle.usb_shows.proofs.Calls.Whole.{whole_steps}
 use Rattle.usb_slots.proofs.Ids.{has_device}
 use Rattle.usb_slots.proofs.Lookups.{get_within}
@@ -48,6 +50,10 @@ module _ {P : Type 0} where
   expires_shown s h n b reads setup w shown =
       reads setup shown.0 shown.1 ∙ asked_if shown.0 h n (Expire h n) (kept_home setup shown.0 h n (endpoints_of setup (device_of shown.0 h)))
       ∙ ap (λ e. is_done e.reply) (whole_steps setup shown.1.fine w shown.0 shown.2 (Expire h n)).0
+
+  -- what is to be done next by the core is what is by the world
+  pub pending_shown : (s : State P) (after : Option (ℕ × ℕ)) (p : Pending) → ((setup : Setup) (w : World) (c : Core) → Keeps setup s c → Shows setup w c → IsPending setup w after p) → (setup : Setup) (w : World) → ShowsWorld setup s w → IsPending setup w after p
+  pending_shown s after p reads setup w shown = reads setup w shown.0 shown.1 shown.2
 
 module _ {P : Type 0} where
   -- the packets that a held endpoint took are the world's

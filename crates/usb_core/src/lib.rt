@@ -13,4 +13,4 @@ mod stepping;
 pub use calls::Core;
 pub use running::{Stopped, run};
 pub use stepping::{NoMemory, Stepped};
-pub use usb_parts::{Setup, Taken, Unaccepted, Unadded};
+pub use usb_parts::{Pending, Setup, Taken, Unaccepted, Unadded};

@@ -5,11 +5,13 @@ ghost use Rattle.std.specs.Option.{option_copied, option_map_or};
 ghost use Rattle.usb_model.specs.Setup.{Setup};
 ghost use Rattle.usb_model.specs.World.{World, holder};
 ghost use Rattle.usb_state.specs.State.{ShowsWorld};
+ghost use Rattle.usb_parts.specs.Pending.{IsPending};
 ghost use Rattle.usb_core.specs.Reads.{would_expire};
 
 use crate::calls::Core;
 use usb_device::Device;
 use usb_model::{DeviceNo, EpAddr, Name};
+use usb_parts::Pending;
 
 impl<P, D: Device> Core<P, D> {
     /// How many bytes the next result has that is taken; 0 where none waits.
@@ -32,5 +34,13 @@ impl<P, D: Device> Core<P, D> {
         ensures { (setup : Setup) (w : World) (h : ℕ) → ShowsWorld setup self.now w → holder setup w.claims dev ep ≡ Some h → option_copied result ≡ slice_get (w.endpoints dev ep).packets_received i }
     {
         self.parts.taken(dev, ep, i)
+    }
+
+    /// What is to be done next. Endpoints are looked at from behind this one on, in a circle; from the first one on
+    /// where there is none. Takes no memory.
+    pub fn pending(&self, after: Option<(DeviceNo, EpAddr)>) -> Pending
+        ensures { (setup : Setup) (w : World) → ShowsWorld setup self.now w → IsPending setup w after result }
+    {
+        self.parts.pending(after)
     }
 }
