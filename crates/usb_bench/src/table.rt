@@ -46,6 +46,8 @@ fn row<W: Work, P: Work>(rt: &HostRuntime, done: &str, work: &mut W, plain: &mut
 /// Prints the table.
 pub fn print(rt: &HostRuntime) -> Result<()> {
     println!(rt; "nanoseconds a turn, the least of 5 runs              ours  plain  ratio")?;
+    print_rings(rt)?;
+    print_parts(rt)?;
     print_core(rt)
 }
 
