@@ -10,3 +10,5 @@ mod Plans
 mod Endpoints
 mod Held
 mod Owners
+mod Returning
+mod NoneRuns

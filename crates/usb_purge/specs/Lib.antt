@@ -1,3 +1,5 @@
 pub mod Holders
 pub mod Whose
 pub mod Laws
+pub mod Returning
+pub mod PlanRuns

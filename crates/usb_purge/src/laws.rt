@@ -6,6 +6,7 @@ ghost use Rattle.usb_model.specs.declared.verdict.Rule.{Rule};
 ghost use Rattle.usb_model.specs.declared.plan.Plan.{Plan};
 ghost use Rattle.usb_model.specs.Setup.{Setup};
 ghost use Rattle.usb_model.specs.World.{World};
+ghost use Rattle.usb_purge.specs.Returning.{IsReached, KeepsCallbacks};
 ghost use Rattle.usb_purge.specs.Laws.{SeesAlone, RunsAlone, StatesAlone, ExpandsAlone, MayExpand, ExpandsOnly, TellsOfAnother, ChangesNothingForAnother, NamesOwner, NamesNobody, IdlesForNobody, CallsOnce, CallsAfterNumber, CallsInOrder};
 
 /// What a handle sees of any run is what it sees alone over its own steps.
@@ -49,4 +50,10 @@ pub fn whose()
     ensures owner { (setup : Setup) (w : World) (step : Step) (h : ℕ) → NamesOwner setup w step h }
     ensures nobody { (setup : Setup) (w : World) (step : Step) → NamesNobody setup w step }
     ensures idle { (setup : Setup) (w : World) (step : Step) → IdlesForNobody setup w step }
+{}
+
+/// A transfer comes into its callback by a Take, with the status and the round that its callback is told, and leaves it
+/// by a verdict that isn't refused; no other step touches it. A number that is given is in no callback.
+pub fn in_callbacks()
+    ensures { (setup : Setup) (w : World) → IsReached setup w → KeepsCallbacks setup w }
 {}

@@ -1,6 +1,11 @@
-//! Isolation of handles: what each handle sees of a shared system is what it sees alone.
+//! Isolation of handles: what each handle sees of a shared system is what it sees alone. And plans over the core, whose
+//! callbacks are called.
 //!
 //! The one promise: no step of another handle changes an entry of a handle's own, nor what its plan stands for.
 #![tactic(auto)]
 
 pub mod laws;
+mod plan_run;
+mod running;
+
+pub use plan_run::{Performed, PlanRun};

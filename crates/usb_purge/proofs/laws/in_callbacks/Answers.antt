@@ -1,0 +1,5 @@
+use Rattle.usb_purge.proofs.Returning.{keeps_callbacks}
+use Rattle.usb_purge.proofs.laws.in_callbacks.Goals as goal
+
+pub returns : goal.returns
+returns c = keeps_callbacks
