@@ -12,3 +12,6 @@ mod Held
 mod Owners
 mod Returning
 mod NoneRuns
+mod Stages
+mod Homes
+mod Answering

@@ -1,13 +1,16 @@
 -- What is kept amid a plan, and the stage of the plan that it shows.
-use Rattle.std.specs.Prelude.{◌≡◌, ℕ, Bool, true, false, nat_eq, List, [], ◌∷◌, ◌++◌, Option, Some, None, IfSome, slice_index_or}
+use Rattle.std.specs.Prelude.{◌≡◌, ℕ, Bool, true, false, nat_eq, List, [], ◌∷◌, ◌++◌, Option, Some, None, IfSome, slice_index_or, if◌then◌else◌}
 use Rattle.std.specs.Map.{lookup}
 use Rattle.usb_model.specs.declared.entry.Entry.{Entry}
 use Rattle.usb_model.specs.declared.plan.Plan.{Plan}
 use Rattle.usb_model.specs.declared.plan.Plan.TheVariants.{Do, Return}
+use Rattle.usb_model.specs.declared.reply.Reply.{Reply}
+use Rattle.usb_model.specs.declared.reply.Reply.TheVariants.{Called}
 use Rattle.usb_model.specs.declared.result.InCallback.{InCallback}
 use Rattle.usb_model.specs.declared.step.Step.{Step}
 use Rattle.usb_model.specs.declared.verdict.Rule.{Rule}
 use Rattle.usb_model.specs.declared.verdict.Verdict.{Verdict}
+use Rattle.usb_model.specs.Numbers.{takes_payload}
 use Rattle.usb_model.specs.Setup.{Setup}
 use Rattle.usb_model.specs.World.{turn}
 use Rattle.usb_model.specs.World.Journal.{run_from}
@@ -34,7 +37,7 @@ pub record PlanState (P : Type 0) : Type 0 where
   pub running : List (List (ℕ × Taken P))
 
 -- the value that an option has, as a list
-abbrev of_option : {A : Type 0} → Option A → List A
+abbrev pub of_option : {A : Type 0} → Option A → List A
 of_option None = []
 of_option (Some x) = x ∷ []
 
@@ -46,6 +49,15 @@ entries_of x = x.entry ∷ of_option x.stop
 abbrev pub nowhere : (h n : ℕ) → Bool
 nowhere h n = false
 
+-- which callback is still called, behind its verdict with this reply
+abbrev pub still_called : (ended : Bool) → (h n : ℕ) → (g m : ℕ) → Bool
+still_called true h n g m = false
+still_called false h n g m = is_there h n g m
+
+-- the stage behind one step, of which a number that it gives is under this rule
+abbrev pub stage_behind : Setup → Stage → Step → Rule → List Rule → Stage
+stage_behind setup s step r rules = record { world = (turn setup s.world step).world; book = noted s.book (turn setup s.world step).entry r; rules = rules }
+
 module _ {P : Type 0} where
   -- one name's callback of this number
   abbrev pub running_in : List (ℕ × Taken P) → ℕ → Option (Taken P)
@@ -54,6 +66,11 @@ module _ {P : Type 0} where
   -- the callback of this name and number
   abbrev pub running_at : List (List (ℕ × Taken P)) → (h n : ℕ) → Option (Taken P)
   running_at v h n = running_in (slice_index_or v h []) n
+
+  -- the callbacks that run behind an entry with this reply: the one that came out runs too
+  abbrev pub RunsToo : Reply → Option P → (old new : List (List (ℕ × Taken P))) → Type 0
+  RunsToo (Called r) (Some c) old new = (h n : ℕ) → running_at new h n ≡ (if is_there r.h r.n h n then Some (record { returned = r; payload = c }) else running_at old h n)
+  RunsToo reply out old new = (h n : ℕ) → running_at new h n ≡ running_at old h n
 
   -- a callback runs just where its transfer is in it, and is told what became of the transfer
   abbrev pub IsRunning : Option (Taken P) → Option InCallback → Type 0
@@ -87,19 +104,10 @@ module _ {P : Type 0} where
     abbrev pub IsUnder : Rule → Option P → Type 0
     IsUnder r callback = IfSome callback (λ c. rule c ≡ r)
 
-    -- the stage behind one step, of which a number that it gives is under this rule
-    abbrev pub stage_behind : Setup → Stage → Step → Rule → List Rule → Stage
-    stage_behind setup s step r rules = record { world = (turn setup s.world step).world; book = noted s.book (turn setup s.world step).entry r; rules = rules }
-
     -- a step was made that is no verdict: it is the world's, and the next stage is shown
     abbrev pub MakesStep : PlanState P → Step → Option P → Entry → PlanState P → Type 0
-    MakesStep old step callback entry new = (setup : Setup) (s : Stage) (r : Rule) (rules : List Rule) → ShowsStage setup old s → IsUnder r callback
+    MakesStep old step callback entry new = (setup : Setup) (s : Stage) (r : Rule) (rules : List Rule) → ShowsStage setup old s → (takes_payload step ≡ true → IsUnder r callback)
         → (entry ≡ (turn setup s.world step).entry) × ShowsStage setup new (stage_behind setup s step r rules)
-
-    -- which callback is still called, behind its verdict with this reply
-    abbrev pub still_called : (ended : Bool) → (h n : ℕ) → (g m : ℕ) → Bool
-    still_called true h n g m = false
-    still_called false h n g m = is_there h n g m
 
     -- a callback's verdict was made, or refused
     abbrev pub MakesAnswer : PlanState P → (h n : ℕ) → Step → Option P → Entry → PlanState P → Type 0

@@ -1,6 +1,6 @@
 //! Pieces of plans, performed over the core: steps are made, and callbacks that return are called.
 
-ghost use Rattle.std.specs.Prelude.{◌≡◌, true, false, List, None, Some, IfOk, is_some};
+ghost use Rattle.std.specs.Prelude.{◌≡◌, true, false, List, None, Some, IfOk, is_some, if◌then◌else◌};
 ghost use Rattle.usb_callback.specs.Callbacks.{Fits};
 ghost use Rattle.usb_model.specs.declared.step.Step.TheVariants.{Answer};
 ghost use Rattle.usb_model.specs.declared.plan.Plan.TheVariants.{Return};
@@ -9,7 +9,7 @@ ghost use Rattle.usb_model.specs.Numbers.{takes_payload};
 ghost use Rattle.usb_model.specs.World.Plans.{first_stage, is_submission};
 ghost use Rattle.usb_state.specs.Making.{setup_of};
 ghost use Rattle.usb_purge.specs.Returning.{is_answer};
-ghost use Rattle.usb_purge.specs.PlanRuns.{MakesAnswer, MakesStep, Performs, Returns, ShowsStage, entries_of, is_verdict};
+ghost use Rattle.usb_purge.specs.PlanRuns.{MakesAnswer, MakesStep, Performs, Returns, RunsToo, ShowsStage, entries_of, is_verdict};
 
 use crate::running::RunningCallbacks;
 use std::alloc::{AllocError, Global};
@@ -63,6 +63,13 @@ fn copied(returned: &Returned) -> Result<Returned, AllocError>
     })
 }
 
+/// Whether a callback has to be told that it ends all the same: its resubmission was refused.
+fn needs_stop(stops: bool, refused: bool) -> bool
+    ensures { result ≡ (if stops then false else refused) }
+{
+    !stops && refused
+}
+
 impl<C: Callback, D: Device> PlanRun<C, D> {
     /// No name has a device open, and no callback runs.
     pub fn new(alloc: Global, setup: Setup<D>) -> Result<PlanRun<C, D>, AllocError>
@@ -103,22 +110,32 @@ impl<C: Callback, D: Device> PlanRun<C, D> {
         let Ok(Stepped { entry, out, back }) = self.core.step(step, callback) else {
             return Err(AllocError);
         };
-        if let Some(payload) = out {
-            if let Reply::Called(returned) = &entry.reply {
-                self.running.put(
-                    returned.h,
-                    Taken {
-                        returned: copied(returned)?,
-                        payload,
-                    },
-                )?;
-            }
-        }
+        self.keep(&entry, out)?;
         Ok(Performed {
             entry,
             stop: None,
             back,
         })
+    }
+
+    /// A callback that came out with its transfer runs.
+    fn keep(&mut self, entry: &Entry, out: Option<C>) -> Result<(), AllocError>
+        ensures core { IfOk result (λ _. self.new.core ≡ self.old.core) }
+        ensures runs { IfOk result (λ _. RunsToo entry.now.reply out self.old.running self.new.running) }
+    {
+        let Some(payload) = out else {
+            return Ok(());
+        };
+        match &entry.reply {
+            Reply::Called(returned) => {
+                let taken = Taken {
+                    returned: copied(returned)?,
+                    payload,
+                };
+                self.running.put(returned.h, taken)
+            }
+            _ => Ok(()),
+        }
     }
 
     /// Makes the verdict of a callback that was called.
@@ -170,14 +187,17 @@ impl<C: Callback, D: Device> PlanRun<C, D> {
         let (verdict, again) = taken.payload.call(taken.returned);
         let stops = verdict.is_stop();
         let entry = self.answer(h, n, verdict, again)?;
-        let stop = if !stops && entry.reply.is_other_refusal() {
-            Some(self.answer(h, n, Verdict::Stop, None)?)
-        } else {
-            None
-        };
+        if !needs_stop(stops, entry.reply.is_other_refusal()) {
+            return Ok(Performed {
+                entry,
+                stop: None,
+                back: callback,
+            });
+        }
+        let stop = self.answer(h, n, Verdict::Stop, None)?;
         Ok(Performed {
             entry,
-            stop,
+            stop: Some(stop),
             back: callback,
         })
     }
