@@ -158,11 +158,12 @@ module _ {P : Type 0} (rule : P → Rule) where
   -- a return of one verdict
   pub returns_once : (old : PlanState P) (h n : ℕ) (taken : Taken P) (v : Verdict) (again : Option P) (entry : Entry) (new : PlanState P) → Fits (rule taken.payload) taken.returned v → IfSome again (λ c. c ≡ taken.payload)
       → MakesAnswer rule old h n (Answer h n v) again entry new → needs_stop v entry.reply ≡ false → Returns rule old h n taken (entry ∷ []) new
-  returns_once old h n taken v again entry new fits same makes once setup s x shown there told under =
-      (Answer h n v ∷ [],
-      (v, fits_return s h n taken v x fits there told under, sym (rw once_there refl)),
-      ap (λ e. e ∷ []) now.0 ∙ sym (one_entry setup s.world (Answer h n v)),
-      subst (ShowsStage rule setup new) (behind_one setup s h n v) (subst (λ b. ShowsBut rule setup (still_called b h n) new behind) ends now.1))
+  returns_once old h n taken v again entry new fits same makes once setup s x shown there told under = (
+    Answer h n v ∷ [],
+    (v, fits_return s h n taken v x fits there told under, sym (rw once_there refl)),
+    ap (λ e. e ∷ []) now.0 ∙ sym (one_entry setup s.world (Answer h n v)),
+    subst (ShowsStage rule setup new) (behind_one setup s h n v) (subst (λ b. ShowsBut rule setup (still_called b h n) new behind) ends now.1),
+  )
     where
       behind : Stage
       behind = stage_behind setup s (Answer h n v) (s.book h n) s.rules
@@ -185,11 +186,12 @@ module _ {P : Type 0} (rule : P → Rule) where
   pub returns_twice : (old : PlanState P) (h n : ℕ) (taken : Taken P) (v : Verdict) (again : Option P) (entry : Entry) (mid : PlanState P) (stop : Entry) (new : PlanState P) → Fits (rule taken.payload) taken.returned v
       → IfSome again (λ c. c ≡ taken.payload) → MakesAnswer rule old h n (Answer h n v) again entry mid → needs_stop v entry.reply ≡ true → MakesAnswer rule mid h n (Answer h n verdict.Stop) None stop new
       → Returns rule old h n taken (entry ∷ stop ∷ []) new
-  returns_twice old h n taken v again entry mid stop new fits same makes twice makes_stop setup s x shown there told under =
-      (Answer h n v ∷ Answer h n verdict.Stop ∷ [],
-      (v, fits_return s h n taken v x fits there told under, sym (rw twice_there refl)),
-      ap (λ e. e ∷ stop ∷ []) now.0 ∙ (ap (λ e. (turn setup s.world (Answer h n v)).entry ∷ e ∷ []) then.0 ∙ sym (two_entries setup s.world (Answer h n v) (Answer h n verdict.Stop))),
-      subst (ShowsStage rule setup new) (behind_two setup s behind h n v verdict.Stop refl done) (subst (λ b. ShowsBut rule setup (still_called b h n) new (stage_behind setup behind (Answer h n verdict.Stop) (s.book h n) s.rules)) ends then.1))
+  returns_twice old h n taken v again entry mid stop new fits same makes twice makes_stop setup s x shown there told under = (
+    Answer h n v ∷ Answer h n verdict.Stop ∷ [],
+    (v, fits_return s h n taken v x fits there told under, sym (rw twice_there refl)),
+    ap (λ e. e ∷ stop ∷ []) now.0 ∙ (ap (λ e. (turn setup s.world (Answer h n v)).entry ∷ e ∷ []) then.0 ∙ sym (two_entries setup s.world (Answer h n v) (Answer h n verdict.Stop))),
+    subst (ShowsStage rule setup new) (behind_two setup s behind h n v verdict.Stop refl done) (subst (λ b. ShowsBut rule setup (still_called b h n) new (stage_behind setup behind (Answer h n verdict.Stop) (s.book h n) s.rules)) ends then.1),
+  )
     where
       behind : Stage
       behind = stage_behind setup s (Answer h n v) (s.book h n) s.rules
@@ -224,12 +226,13 @@ module _ {P : Type 0} (rule : P → Rule) where
   -- a return of a number that isn't out
   pub returns_none : (old mid new : PlanState P) (h n : ℕ) (callback : Option P) (entry : Entry) → mid.core ≡ old.core → ((g m : ℕ) → running_at mid.running g m ≡ (if is_there h n g m then None else running_at old.running g m)) → running_at old.running h n ≡ None
       → MakesAnswer rule mid h n (Answer h n verdict.Stop) None entry new → Performs rule old (Return h n) callback (entry ∷ []) new
-  returns_none old mid new h n callback entry same out none makes setup s shown under =
-      (Answer h n verdict.Stop ∷ [],
-      (verdict.Stop, subst (λ o. FitsReturn o (s.book h n) verdict.Stop) (sym gone) refl, refl),
-      ap (λ e. e ∷ []) now.0 ∙ sym (one_entry setup s.world (Answer h n verdict.Stop)),
-      subst (ShowsStage rule setup new) (behind_one setup s h n verdict.Stop)
-      (none_called rule setup new behind h n (subst (λ b. ShowsBut rule setup (still_called b h n) new behind) goes_on now.1) (still h n ∙ gone)))
+  returns_none old mid new h n callback entry same out none makes setup s shown under = (
+    Answer h n verdict.Stop ∷ [],
+    (verdict.Stop, subst (λ o. FitsReturn o (s.book h n) verdict.Stop) (sym gone) refl, refl),
+    ap (λ e. e ∷ []) now.0 ∙ sym (one_entry setup s.world (Answer h n verdict.Stop)),
+    subst (ShowsStage rule setup new) (behind_one setup s h n verdict.Stop)
+        (none_called rule setup new behind h n (subst (λ b. ShowsBut rule setup (still_called b h n) new behind) goes_on now.1) (still h n ∙ gone)),
+  )
     where
       gone : returning s h n ≡ None
       gone = none_due rule setup old s h n shown none

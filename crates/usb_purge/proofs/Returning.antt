@@ -93,7 +93,7 @@ unfolding machine_of
 other_callbacks setup h n w step t none = ap (λ m. callback_of n m.handle.in_callbacks) none.1
 
 -- a name's callbacks are its machine's
-machine_callbacks : (setup : Setup) (h n : ℕ) (w : World) → callback_of n (machine_of setup h w).handle.in_callbacks ≡ callback_at w h n
+pub machine_callbacks : (setup : Setup) (h n : ℕ) (w : World) → callback_of n (machine_of setup h w).handle.in_callbacks ≡ callback_at w h n
 unfolding machine_of
 machine_callbacks setup h n w = refl
 
@@ -179,8 +179,7 @@ fresh setup w reached step h n owned gives = by_turn (turn_to setup h w step)
     by_turn : IsEither setup h w step (turn setup w step) → (takes_payload step ≡ true) × (callback_at w h n ≡ None)
     by_turn (inl own) =
         let replied : reply.Number n ≡ (effect_to setup h w step).reply = sym gives ∙ ap (λ x. x.reply) own.1 in
-        let next : n ≡ m.handle.next_number = by_moves (effect_to setup h w step).reply (ap number_of (sym replied)) (moves setup h m step) in
-        (
+        let next : n ≡ m.handle.next_number = by_moves (effect_to setup h w step).reply (ap number_of (sym replied)) (moves setup h m step) in (
           done_gives setup h m step (effect_to setup h w step) n (is_done setup h m step (kept setup w reached h).well) (ap number_of (sym replied)),
           sym (machine_callbacks setup h n w) ∙ no_callback n m.handle.in_callbacks ((kept setup w reached h).placed.not_given n (omega (arith, next))).in_no_callback,
         )
@@ -235,7 +234,6 @@ callback_without n m [] = by_test (n == m)
     by_test false = refl
 callback_without n m (x ∷ xs) = by_first (x.n == n) refl (callback_without n m xs)
   where
-
     dropped : (b c : Bool) → b ≡ c → callback_of m (without n xs) ≡ (if b then None else callback_of m xs) → callback_of m (without n xs) ≡ (if b then None else (if c then Some x else callback_of m xs))
     dropped true c same e = e
     dropped false true same e = absurd cc

@@ -131,15 +131,17 @@ module _ {P : Type 0} (rule : P → Rule) where
   pub answered : (old : PlanState P) (h n : ℕ) (verdict : Verdict) (callback : Option P) (entry : Entry) (new : PlanState P) → Turns old.core (Answer h n verdict) entry new.core
       → ((kept : Kept P) → Carries kept old.core → Carries (kept_after kept (Answer h n verdict) entry callback) new.core) → (takes_payload (Answer h n verdict) ≡ true → is_some callback ≡ true)
       → new.running ≡ old.running → MakesAnswer rule old h n (Answer h n verdict) callback entry new
-  answered old h n verdict callback entry new turned carries given same setup s r rules shown under =
-      (b.entry_is, record {
-        world = b.world;
-        kept = kept_after shown.kept step entry callback;
-        carries = b.carries;
-        under = b.under;
-        running = λ g m. subst (λ v. IsRunningBut (still_called ends h n g m) (running_at v g m) (callback_at after g m)) (sym same) (by_ends ends ends_is g m);
-        its = subst (λ v. AreKept v (kept_after shown.kept step entry callback)) (sym same) (kept_behind setup (is_there h n) old s step callback entry shown b.fresh);
-      })
+  answered old h n verdict callback entry new turned carries given same setup s r rules shown under = (
+    b.entry_is,
+    record {
+      world = b.world;
+      kept = kept_after shown.kept step entry callback;
+      carries = b.carries;
+      under = b.under;
+      running = λ g m. subst (λ v. IsRunningBut (still_called ends h n g m) (running_at v g m) (callback_at after g m)) (sym same) (by_ends ends ends_is g m);
+      its = subst (λ v. AreKept v (kept_after shown.kept step entry callback)) (sym same) (kept_behind setup (is_there h n) old s step callback entry shown b.fresh);
+    },
+  )
     where
       step : Step
       step = Answer h n verdict
@@ -244,15 +246,17 @@ module _ {P : Type 0} (rule : P → Rule) where
   pub made : (old : PlanState P) (step : Step) (callback out : Option P) (entry : Entry) (new : PlanState P) → is_answer step ≡ false → Turns old.core step entry new.core
       → ((kept : Kept P) → Carries kept old.core → Carries (kept_after kept step entry callback) new.core) → (takes_payload step ≡ true → is_some callback ≡ true) → out ≡ handed_out old.core step
       → ((kept : Kept P) → Carries kept old.core → GoesOut kept out entry.reply) → RunsToo entry.reply out old.running new.running → MakesStep rule old step callback entry new
-  made old step callback out entry new apart turned carries given out_is goes runs setup s r rules shown under =
-      (b.entry_is, record {
-        world = b.world;
-        kept = kept_after shown.kept step entry callback;
-        carries = b.carries;
-        under = b.under;
-        running = behind.running;
-        its = behind.its;
-      })
+  made old step callback out entry new apart turned carries given out_is goes runs setup s r rules shown under = (
+    b.entry_is,
+    record {
+      world = b.world;
+      kept = kept_after shown.kept step entry callback;
+      carries = b.carries;
+      under = b.under;
+      running = behind.running;
+      its = behind.its;
+    },
+  )
     where
       b : CoreBehind rule setup s step r entry new.core (kept_after shown.kept step entry callback)
       b = core_behind rule setup nowhere old s step callback r entry new.core shown under (record { turned = turned; carries = carries; given = given })

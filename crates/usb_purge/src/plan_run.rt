@@ -85,11 +85,7 @@ impl<C: Callback, D: Device> PlanRun<C, D> {
     /// Performs a piece of a plan. A step is made: with its callback, where it submits. A return calls the very callback
     /// that came out with its transfer, and makes the Answer of its verdict; where a resubmission is refused its callback
     /// ends by a Stop, with an entry of its own, and is dropped. A return of a number that isn't out is refused NotFound.
-    pub fn perform(
-        &mut self,
-        piece: &Plan,
-        callback: Option<C>,
-    ) -> Result<Performed<C>, AllocError>
+    pub fn perform(&mut self, piece: &Plan, callback: Option<C>) -> Result<Performed<C>, AllocError>
         requires submits { is_submission piece.now ≡ true → is_some callback ≡ true }
         requires no_verdict { is_verdict piece.now ≡ false }
         ensures { IfOk result (λ x. Performs C.rule self.old piece.now callback (entries_of x) self.new) }

@@ -1,7 +1,7 @@
 -- Over every run: what waits for an endpoint is bounded, and so is how often a transfer was submitted before.
 use Rattle.std.proofs.Common.{Bool, List, Option, Some, [], ap, append-nil, arith, false, inl, inr, length, length-append, refl, subst, sym, true, ℕ, ◌++◌, ◌+◌, ◌<◌, ◌==◌, ◌∙◌, ◌∷◌, ◌≡◌, ◌≤◌, ◌⊎◌}
-use Rattle.std.specs.Prelude.{if◌then◌else◌}
-use Rattle.std.specs.List.{AllByRecursion, count_by}
+use Rattle.std.specs.Prelude.{◌||◌, if◌then◌else◌, is_some}
+use Rattle.std.specs.List.{AllByRecursion, count_by, list_any}
 use Rattle.std.proofs.lemmas.Bool.{cases_lt, eqb-true}
 use Rattle.std.proofs.lemmas.List.Sums.{count_by-le-length}
 use Rattle.usb_model.specs.declared.endpoint.Endpoint.{Endpoint}
@@ -30,13 +30,14 @@ use Rattle.usb_account.proofs.Bounds.Paused.{PausesWait, acts_wait}
 use Rattle.usb_account.proofs.Bounds.Waiting.{few_waits}
 use Rattle.usb_account.proofs.Calls.{each_without, work_callbacks}
 use Rattle.usb_account.proofs.Machines.Acts.{IsNewOrGone, Rests, acts, acts_at, end_set, rests_at, works_elsewhere}
-use Rattle.usb_account.proofs.Machines.Deeds.{IsDone, IsRest, IsSubmission, IsWork, again, again_with, anew, asks_it, claims, claims_again, clears, closes, commands, delivers, only_rests, opens, releases, resets, serves, stays, stops, submits, takes, works}
+use Rattle.usb_account.proofs.Machines.Deeds.{IsDone, IsRest, IsUnused, IsSubmission, IsWork, again, again_with, anew, asks_it, claims, claims_again, clears, closes, commands, delivers, only_rests, opens, releases, resets, serves, stays, stops, submits, takes, works}
 use Rattle.usb_account.proofs.Machines.Done.{is_done}
 use Rattle.usb_account.proofs.Machines.Well.{first_news, fit_at}
 use Rattle.usb_account.proofs.Places.Exact.{exact_ask, exact_command, exact_deliver, exact_serve}
 use Rattle.usb_account.proofs.Places.Placed.{IsPlaced, called_by, callback_numbers, lives_rest, takes_no_result}
 use Rattle.usb_account.proofs.Places.Runs.{IsKept, kept_at, kept_new, kept_step}
 use Rattle.usb_lemmas.proofs.Handles.Isolation.{IsEither, effect_to, new_machine_of, turn_to}
+use Rattle.usb_lemmas.proofs.Lists.Pieces.{same_name}
 use Rattle.usb_lemmas.proofs.Lists.Parts.{IsPart, each_append, each_here, each_part, each_weaker, part_count, skips, whole}
 use Rattle.usb_lemmas.proofs.Lists.Times.{count-append, count-cons}
 use Rattle.usb_lemmas.proofs.Work.Lines.{lives-push, lives_short}
@@ -46,18 +47,34 @@ use Rattle.std.proofs.lemmas.Option.{same_Some}
 abbrev IsOf : ℕ → ℕ → Request → ℕ → Type 0
 IsOf ep n request round = (request.ep ≡ ep) × (round ≤ n)
 
+-- a transfer whose endpoint the machine has
+abbrev HasHome : Machine → ℕ → Request → ℕ → Type 0
+HasHome m n request round = is_some (endpoint_at m request.ep) ≡ true
+
+-- of a transfer in its callback
+abbrev OfCallback : (ℕ → Request → ℕ → Type 0) → InCallback → Type 0
+OfCallback P x = P x.n x.request x.round
+
 -- what holds of every machine
 record IsWithin (m : Machine) : Type 0 where
   items : (ep : ℕ) → AllByRecursion (OfItem (IsOf ep)) (line_at (endpoint_at m ep))
   results : AllByRecursion (λ r. r.round ≤ r.n) m.results
   in_callbacks : AllByRecursion (λ x. x.round ≤ x.n) m.handle.in_callbacks
   few : (ep : ℕ) → count_by (is_result_at ep) m.results + length (numbers_at (endpoint_at m ep)) ≤ 16
+  -- the endpoint of a result, and of a transfer in its callback, is there
+  results_home : AllByRecursion (OfResult (HasHome m)) m.results
+  callbacks_home : AllByRecursion (OfCallback (HasHome m)) m.handle.in_callbacks
 
 -- a new endpoint has no transfers
 new_items : (P : Item → Type 0) (setup : Setup) (ep : ℕ) (o : Option Endpoint) → IsNewOrGone setup ep o → AllByRecursion P (line_at o)
 unfolding fresh
 new_items P setup ep o (inl e) = rw e tt
 new_items P setup ep o (inr e) = rw e.1 tt
+
+-- what holds of each entry by two things that do
+each_both : {A : Type 0} (P Q R : A → Type 0) (xs : List A) → ((x : A) → P x → Q x → R x) → AllByRecursion P xs → AllByRecursion Q xs → AllByRecursion R xs
+each_both P Q R [] f p q = tt
+each_both P Q R (x ∷ xs) f p q = (f x p.0 q.0, each_both P Q R xs f p.1 q.1)
 
 -- where no work is done, the transfers of an endpoint stay, or are gone
 rest_items : (P : Item → Type 0) (setup : Setup) (ep : ℕ) (m m' : Machine) (step : Step) → Rests setup ep m m' step → AllByRecursion P (line_at (endpoint_at m ep)) → AllByRecursion P (line_at (endpoint_at m' ep))
@@ -82,18 +99,37 @@ rest_part setup h m step done (resets g idle) = part_same _ m.results (append-ni
 rest_part setup h m step done (takes x xs is) = subst (λ l. IsPart (past_first true l ++ []) l) (sym is) (skips (part_same (xs ++ []) xs (append-nil xs)))
 
 -- a result that is taken goes into its callback as it is
-rest_callbacks : (setup : Setup) (h : ℕ) (m : Machine) (step : Step) (done : Effect) → IsRest setup h m step done → AllByRecursion (λ r. r.round ≤ r.n) m.results → AllByRecursion (λ x. x.round ≤ x.n) m.handle.in_callbacks → AllByRecursion (λ x. x.round ≤ x.n) done.handle.in_callbacks
+rest_callbacks : (P : ℕ → Request → ℕ → Type 0) (setup : Setup) (h : ℕ) (m : Machine) (step : Step) (done : Effect) → IsRest setup h m step done → AllByRecursion (OfResult P) m.results → AllByRecursion (OfCallback P) m.handle.in_callbacks → AllByRecursion (OfCallback P) done.handle.in_callbacks
 unfolding take_effect
-rest_callbacks setup h m step done (stops g k x in_call) rs cs = each_without (λ y. y.round ≤ y.n) x.n m.handle.in_callbacks cs
-rest_callbacks setup h m step done (takes x xs is) rs cs =
-    each_append (λ y. y.round ≤ y.n) m.handle.in_callbacks (record { n = x.n; request = x.request; round = x.round; status = x.status } ∷ []) cs ((subst (AllByRecursion (λ r. r.round ≤ r.n)) is rs).0, tt)
-rest_callbacks setup h m step done (stays bare t) rs cs = cs
-rest_callbacks setup h m step done (claims_again g i) rs cs = cs
-rest_callbacks setup h m step done (opens g dev none) rs cs = cs
-rest_callbacks setup h m step done (closes g idle) rs cs = cs
-rest_callbacks setup h m step done (claims g i opened free) rs cs = cs
-rest_callbacks setup h m step done (releases g i idle) rs cs = cs
-rest_callbacks setup h m step done (resets g idle) rs cs = cs
+rest_callbacks P setup h m step done (stops g k x in_call) rs cs = each_without (OfCallback P) x.n m.handle.in_callbacks cs
+rest_callbacks P setup h m step done (takes x xs is) rs cs =
+    each_append (OfCallback P) m.handle.in_callbacks (record { n = x.n; request = x.request; round = x.round; status = x.status } ∷ []) cs ((subst (AllByRecursion (OfResult P)) is rs).0, tt)
+rest_callbacks P setup h m step done (stays bare t) rs cs = cs
+rest_callbacks P setup h m step done (claims_again g i) rs cs = cs
+rest_callbacks P setup h m step done (opens g dev none) rs cs = cs
+rest_callbacks P setup h m step done (closes g idle) rs cs = cs
+rest_callbacks P setup h m step done (claims g i opened free) rs cs = cs
+rest_callbacks P setup h m step done (releases g i idle) rs cs = cs
+rest_callbacks P setup h m step done (resets g idle) rs cs = cs
+
+-- of each entry of a list some entry has its key: itself
+each_found : {A : Type 0} (key : A → ℕ) (xs : List A) → AllByRecursion (λ x. list_any (λ y. key y == key x) xs ≡ true) xs
+each_found key [] = tt
+each_found key (x ∷ xs) = (rw (same_name (key x)) refl, each_weaker (λ y. list_any (λ z. key z == key y) xs ≡ true) (λ y. list_any (λ z. key z == key y) (x ∷ xs) ≡ true) xs (λ y found. by_test (key x == key y) (list_any (λ z. key z == key y) xs) found) (each_found key xs))
+  where
+    by_test : (b c : Bool) → c ≡ true → (b || c) ≡ true
+    by_test true c found = refl
+    by_test false c found = found
+
+-- where an endpoint stays, is new, or is gone and has nothing, what has a home has one still
+rest_homes : {A : Type 0} (setup : Setup) (m m' : Machine) (step : Step) (home : A → ℕ) (xs : List A) → ((ep : ℕ) → Rests setup ep m m' step) → ((ep : ℕ) → IsUnused ep m → is_some (endpoint_at m ep) ≡ true → list_any (λ x. home x == ep) xs ≡ false)
+    → AllByRecursion (λ x. is_some (endpoint_at m (home x)) ≡ true) xs → AllByRecursion (λ x. is_some (endpoint_at m' (home x)) ≡ true) xs
+rest_homes setup m m' step home xs rests none homes =
+    each_both (λ x. list_any (λ y. home y == home x) xs ≡ true) (λ x. is_some (endpoint_at m (home x)) ≡ true) (λ x. is_some (endpoint_at m' (home x)) ≡ true) xs (λ x found there. by_rest (home x) found there (rests (home x))) (each_found home xs) homes
+  where
+    by_rest : (ep : ℕ) → list_any (λ y. home y == ep) xs ≡ true → is_some (endpoint_at m ep) ≡ true → Rests setup ep m m' step → is_some (endpoint_at m' ep) ≡ true
+    by_rest ep found there (inl same) = ap (λ o. is_some o) same.end ∙ there
+    by_rest ep found there (inr r) = let gone : list_any (λ x. home x == ep) xs ≡ false = none ep r.idle.unused there in absurd (cc (gone, found))
 
 -- what the handle is after a step
 handle_after : (P : List InCallback → Type 0) (setup : Setup) (m : Machine) (step : Step) (done : Effect) → P done.handle.in_callbacks → P (machine_after setup m step done).handle.in_callbacks
@@ -117,13 +153,27 @@ within_rest setup h m step done well rest w = record {
   results = each_part (λ r. r.round ≤ r.n) (rest_part setup h m step done rest) w.results;
   in_callbacks = callbacks;
   few = λ ep. omega (arith, w.few ep, part_count (is_result_at ep) (rest_part setup h m step done rest), ap length (lives_rest setup ep m (machine_after setup m step done) step (rests_at setup h m step done ep well rest)));
+  results_home = each_part (OfResult (HasHome m')) (rest_part setup h m step done rest) results;
+  callbacks_home = handle_after (AllByRecursion (OfCallback (HasHome m'))) setup m step done (rest_callbacks (HasHome m') setup h m step done rest results in_callbacks);
 }
   where
-    callbacks : AllByRecursion (λ x. x.round ≤ x.n) (machine_after setup m step done).handle.in_callbacks
-    callbacks = handle_after (AllByRecursion (λ x. x.round ≤ x.n)) setup m step done (rest_callbacks setup h m step done rest w.results w.in_callbacks)
+    m' : Machine
+    m' = machine_after setup m step done
+
+    callbacks : AllByRecursion (λ x. x.round ≤ x.n) m'.handle.in_callbacks
+    callbacks = handle_after (AllByRecursion (λ x. x.round ≤ x.n)) setup m step done (rest_callbacks (λ n request round. round ≤ n) setup h m step done rest w.results w.in_callbacks)
+
+    rests : (ep : ℕ) → Rests setup ep m m' step
+    rests ep = rests_at setup h m step done ep well rest
+
+    results : AllByRecursion (OfResult (HasHome m')) m.results
+    results = rest_homes setup m m' step (λ r. r.request.ep) m.results rests (λ ep unused there. (unused there).0) w.results_home
+
+    in_callbacks : AllByRecursion (OfCallback (HasHome m')) m.handle.in_callbacks
+    in_callbacks = rest_homes setup m m' step (λ x. x.request.ep) m.handle.in_callbacks rests (λ ep unused there. (unused there).1) w.callbacks_home
 
 -- the transfer found in its callback is one of those
-callback_each : (P : InCallback → Type 0) (k : ℕ) (xs : List InCallback) (x : InCallback) → AllByRecursion P xs → callback_of k xs ≡ Some x → P x
+pub callback_each : (P : InCallback → Type 0) (k : ℕ) (xs : List InCallback) (x : InCallback) → AllByRecursion P xs → callback_of k xs ≡ Some x → P x
 unfolding callback_of
 callback_each P k [] x a e = absurd cc
 callback_each P k (y ∷ ys) x a e = by_test (y.n == k) e (callback_each P k ys x a.1)
@@ -175,6 +225,12 @@ within_work setup m called ep e step handle d kept here work w = record {
   results = subst (AllByRecursion (λ r. r.round ≤ r.n)) (sym results_are) (each_append (λ r. r.round ≤ r.n) m.results d.results w.results (each_weaker (OfResult (IsOf ep)) (λ r. r.round ≤ r.n) d.results (λ r p. p.1) k.results));
   in_callbacks = handle_after (AllByRecursion (λ x. x.round ≤ x.n)) setup m step done callbacks;
   few = λ at. few_at at (ep == at) refl;
+  results_home = subst (AllByRecursion (OfResult (HasHome m'))) (sym results_are)
+      (each_append (OfResult (HasHome m')) m.results d.results (each_weaker (OfResult (HasHome m)) (OfResult (HasHome m')) m.results (λ r there. stays_home r.request.ep (ep == r.request.ep) refl there) w.results_home)
+      (each_weaker (OfResult (IsOf ep)) (OfResult (HasHome m')) d.results (λ r p. subst (λ i. is_some (endpoint_at m' i) ≡ true) (sym p.0) home) k.results));
+  callbacks_home = handle_after (AllByRecursion (OfCallback (HasHome m'))) setup m step done
+      (handle_of (AllByRecursion (OfCallback (HasHome m'))) handle (device_of m) ep d
+      (work_callbacks setup m ep e step handle d (OfCallback (HasHome m')) work (each_weaker (OfCallback (HasHome m)) (OfCallback (HasHome m')) m.handle.in_callbacks (λ x there. stays_home x.request.ep (ep == x.request.ep) refl there) w.callbacks_home)));
 }
   where
     done : Effect
@@ -187,6 +243,13 @@ within_work setup m called ep e step handle d kept here work w = record {
     k = keeps_work (IsOf ep) setup m ep e step handle d work
         (λ left request round is at. (at, round_below m step left request round w.in_callbacks (callbacks_given m called kept.placed) is))
         (subst (λ o. AllByRecursion (OfItem (IsOf ep)) (line_at o)) here (w.items ep))
+
+    home : is_some (endpoint_at m' ep) ≡ true
+    home = ap (λ o. is_some o) (end_set setup m ep e step handle d here work)
+
+    stays_home : (at : ℕ) (b : Bool) → (ep == at) ≡ b → is_some (endpoint_at m at) ≡ true → is_some (endpoint_at m' at) ≡ true
+    stays_home at true is there = subst (λ i. is_some (endpoint_at m' i) ≡ true) (eqb-true ep at is) home
+    stays_home at false other there = ap (λ o. is_some o) (works_elsewhere setup m step handle d ep e work at other).end ∙ there
 
     results_are : m'.results ≡ m.results ++ d.results
     results_are = results_after setup m step handle (device_of m) ep d (takes_no_result setup m ep e step handle d work)
@@ -243,7 +306,7 @@ bounded_step setup h m called step kept b =
 bounded_new : IsBounded new_machine
 unfolding new_machine
 bounded_new = record {
-  within = record { items = λ ep. tt; results = tt; in_callbacks = tt; few = λ ep. omega arith };
+  within = record { items = λ ep. tt; results = tt; in_callbacks = tt; few = λ ep. omega arith; results_home = tt; callbacks_home = tt };
   pauses = λ ep p. p;
 }
 
@@ -266,12 +329,20 @@ bounded_from setup h w (step ∷ steps) called k b = by_turn (turn_to setup h w 
         (subst IsBounded (sym own.3) (bounded_step setup h (machine_of setup h w) called step k b))
     by_turn (inr nothing) rest = rest called (subst (λ m. IsKept setup m called) (sym nothing.1) k) (subst IsBounded (sym nothing.1) b)
 
+-- the machine where any run ends
+bounded_at : (setup : Setup) (steps : List Step) (h : ℕ) → IsBounded (machine_of setup h (world_from setup (new_world setup) steps))
+bounded_at setup steps h = bounded_from setup h (new_world setup) steps [] (subst (λ m. IsKept setup m []) (sym (new_machine_of setup h)) (kept_new setup)) (subst IsBounded (sym (new_machine_of setup h)) bounded_new)
+
+-- there the endpoint of each transfer in its callback is the handle's
+pub callbacks_home : (setup : Setup) (steps : List Step) (h : ℕ) → AllByRecursion (λ x. is_some (endpoint_at (machine_of setup h (world_from setup (new_world setup) steps)) x.request.ep) ≡ true) (machine_of setup h (world_from setup (new_world setup) steps)).handle.in_callbacks
+callbacks_home setup steps h = (bounded_at setup steps h).within.callbacks_home
+
 -- where any run ends
 pub keeps_bounds : (setup : Setup) (steps : List Step) (h : ℕ) → KeepsBounds setup steps h
 keeps_bounds setup steps h =
     let m : Machine = machine_of setup h (world_from setup (new_world setup) steps) in
     let well : IsWell setup m = (kept_at setup h steps).well in
-    let b : IsBounded m = bounded_from setup h (new_world setup) steps [] (subst (λ m. IsKept setup m []) (sym (new_machine_of setup h)) (kept_new setup)) (subst IsBounded (sym (new_machine_of setup h)) bounded_new) in
+    let b : IsBounded m = bounded_at setup steps h in
     let few : (ep : ℕ) → (length (line_at (endpoint_at m ep)) ≤ 16) × (length (errands_of ep m.orders) ≤ 1) × (length (events_of ep m.news) ≤ 17) =
     λ ep. few_waits (endpoint_at m ep) (errands_of ep m.orders) (events_of ep m.news) (well.fits ep) (b.pauses ep) in
     record {

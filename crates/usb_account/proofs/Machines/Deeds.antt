@@ -1,5 +1,7 @@
 -- What a step of a machine may do, once its refusals are passed.
 use Rattle.std.proofs.Common.{List, None, Some, [], false, true, ℕ, ◌+◌, ◌∷◌, ◌≡◌, ◌≤◌}
+use Rattle.std.specs.Prelude.{is_some}
+use Rattle.std.specs.List.{list_any}
 use Rattle.usb_model.specs.declared.errand.Errand.{Errand}
 use Rattle.usb_model.specs.declared.endpoint.Endpoint.{Endpoint}
 use Rattle.usb_model.specs.declared.handle.Handle.{Handle}
@@ -26,7 +28,7 @@ use Rattle.usb_model.specs.declared.endpoint_effect.EndpointEffect.{EndpointEffe
 use Rattle.usb_model.specs.Endpoint.{in_progress}
 use Rattle.usb_model.specs.declared.effect.Effect.{Effect}
 use Rattle.usb_model.specs.declared.effect.Change.TheVariants.{Drops, Frees, Gains, Keeps, Renews}
-use Rattle.usb_model.specs.Machine.{Machine, device_of, does, at_endpoint, endpoint_at, is_gone, places, says}
+use Rattle.usb_model.specs.Machine.{Machine, device_of, does, at_endpoint, endpoint_at, is_callback_at, is_gone, is_result_at, places, says}
 use Rattle.usb_model.specs.Endpoint.Serve.{serve}
 use Rattle.usb_model.specs.Setup.{Setup, is_within, packet_size_of}
 use Rattle.usb_model.specs.World.Shared.{past_first}
@@ -62,8 +64,13 @@ pub data IsWork (setup : Setup) (m : Machine) (ep : ℕ) (e : Endpoint) : Step �
       → IsWork setup m ep e step (record handle { next_number = m.handle.next_number + 1 }) (submitted m.handle.next_number request round e)
   clears : (g : ℕ) → e.line ≡ [] → IsWork setup m ep e (ClearHalt g ep) m.handle (cleared e)
 
+-- an endpoint that is there has no result that waits, and no transfer in its callback
+abbrev pub IsUnused : ℕ → Machine → Type 0
+IsUnused ep m = is_some (endpoint_at m ep) ≡ true → (list_any (is_result_at ep) m.results ≡ false) × (list_any (is_callback_at ep) m.handle.in_callbacks ≡ false)
+
 -- no transfer is in the endpoint's line, and nothing waits for it
 pub record IsIdle (ep : ℕ) (m : Machine) : Type 0 where
+  pub unused : IsUnused ep m
   pub no_line : line_at (endpoint_at m ep) ≡ []
   pub no_orders : errands_of ep m.orders ≡ []
   pub no_news : events_of ep m.news ≡ []

@@ -1,19 +1,19 @@
 -- Nothing waits for an endpoint that is quiet.
 use Rattle.std.proofs.Common.{Bool, List, None, Option, Some, [], ap, false, length, not, option_map, refl, subst, sym, true, ℕ, ◌++◌, ◌==◌, ◌||◌, ◌∙◌, ◌∷◌, ◌≡◌}
-use Rattle.std.specs.Prelude.{if◌then◌else◌, is_none, option_and_then, unwrap_or}
-use Rattle.std.proofs.lemmas.Bool.{and_parts, eqb-true}
-use Rattle.std.specs.List.{find, list_all}
+use Rattle.std.specs.Prelude.{if◌then◌else◌, is_none, is_some, option_and_then, unwrap_or}
+use Rattle.std.proofs.lemmas.Bool.{and_parts, eqb-true, not-true}
+use Rattle.std.specs.List.{find, list_all, list_any}
 use Rattle.usb_model.specs.declared.errand.Errand.{Errand}
 use Rattle.usb_model.specs.declared.endpoint.Endpoint.{Endpoint}
 use Rattle.usb_model.specs.declared.endpoint.EndpointState.{EndpointState}
 use Rattle.usb_model.specs.declared.item.Item.{Item}
 use Rattle.usb_model.specs.declared.news.Event.{Event}
 use Rattle.usb_model.specs.declared.setup.EndpointInfo.{EndpointInfo}
-use Rattle.usb_model.specs.Machine.{Machine, are_quiet, device_of, endpoint_at, is_quiet}
+use Rattle.usb_model.specs.Machine.{Machine, are_quiet, device_of, endpoint_at, is_callback_at, is_quiet, is_result_at}
 use Rattle.usb_model.specs.Setup.{Setup, endpoints_of, info_of}
 use Rattle.usb_model.specs.Fitness.{errands_of, events_of, Fits, IsFit, IsWell}
 use Rattle.usb_model.specs.Coherence.{IsCoherent, IsPhase, served_events}
-use Rattle.usb_account.proofs.Machines.Deeds.{IsIdle, line_at}
+use Rattle.usb_account.proofs.Machines.Deeds.{IsIdle, IsUnused, line_at}
 use Rattle.usb_lemmas.proofs.Work.Phases.{free}
 
 -- nothing waits for an endpoint with an empty line and no errand
@@ -21,17 +21,17 @@ nothing_waits : (s : EndpointState) (er : Option Errand) (os : List Errand) (ns 
 nothing_waits s er os ns es tail phase idle told none = let f = free s er os es tail idle phase in (f.0, told ∙ (ap (λ l. l ++ tail) none ∙ f.1))
 
 -- an endpoint whose line is empty and that has no errand is idle
-idle_if : (ep : ℕ) (m : Machine) (e : Endpoint) → endpoint_at m ep ≡ Some e → IsCoherent e (errands_of ep m.orders) (events_of ep m.news) → e.line ≡ [] → e.errand ≡ None → IsIdle ep m
+idle_if : (ep : ℕ) (m : Machine) (e : Endpoint) → endpoint_at m ep ≡ Some e → IsCoherent e (errands_of ep m.orders) (events_of ep m.news) → e.line ≡ [] → e.errand ≡ None → IsUnused ep m → IsIdle ep m
 unfolding served_events
-idle_if ep m e here c line errand =
+idle_if ep m e here c line errand unused =
     let w = nothing_waits e.state e.errand _ _ (served_events e.line) c.tail c.phase errand c.news (ap served_events line) in
-    record { no_line = ap line_at here ∙ line; no_orders = w.0; no_news = w.1 }
+    record { unused = unused; no_line = ap line_at here ∙ line; no_orders = w.0; no_news = w.1 }
 
 -- an endpoint that is not there is idle
 pub idle_if_none : (ep : ℕ) (m : Machine) → endpoint_at m ep ≡ None → Fits (endpoint_at m ep) (errands_of ep m.orders) (events_of ep m.news) → IsIdle ep m
 idle_if_none ep m none f =
     let g : Fits None (errands_of ep m.orders) (events_of ep m.news) = subst (λ o. Fits o (errands_of ep m.orders) (events_of ep m.news)) none f in
-    record { no_line = ap line_at none; no_orders = g.0; no_news = g.1 }
+    record { unused = λ there. let gone : is_some (endpoint_at m ep) ≡ false = ap (λ o. is_some o) none in absurd (cc (gone, there)); no_line = ap line_at none; no_orders = g.0; no_news = g.1 }
 
 -- the endpoints of the machine's device that pass a test are idle, where those must be quiet
 pub no_items : (line : List Item) → (length line == 0) ≡ true → line ≡ []
@@ -92,4 +92,6 @@ quiet_idle setup m test ep well quiet passes = by_end (endpoint_at m ep) refl
         let q : is_quiet m ep (Some e) ≡ true = subst (λ o. is_quiet m ep o ≡ true) here (quiet_at setup m test ep s.0 quiet s.1 (passes s.0 s.1)) in
         let p = and_parts (length e.line == 0) _ q in
         let f : IsFit e (errands_of ep m.orders) (events_of ep m.news) = subst (λ o. Fits o (errands_of ep m.orders) (events_of ep m.news)) here (well.fits ep) in
-        idle_if ep m e here f.coherent (no_items e.line p.0) (no_errand e.errand (and_parts (is_none e.errand) _ p.1).0)
+        let rest = and_parts (is_none e.errand) _ p.1 in
+        let unused = and_parts (not (list_any (is_result_at ep) m.results)) _ rest.1 in
+        idle_if ep m e here f.coherent (no_items e.line p.0) (no_errand e.errand rest.0) (λ there. (not-true (list_any (is_result_at ep) m.results) unused.0, not-true (list_any (is_callback_at ep) m.handle.in_callbacks) unused.1))
