@@ -45,11 +45,11 @@ module _ {P : Type 0} (old new : State P) (h : ℕ) where
   turned_down_still NotSupported payload still = tt
 
   -- what it gave says where it is kept
-  pub answered_carries : (payload : P) (r : Result ℕ (Unaccepted P)) → IfErr r (λ x. x.payload ≡ payload) → IfOk r (λ n. CarriesMore h n payload old new) → OnErr r (StillCarries old new) → IfOk (answered h r) (λ x. After payload x.entry)
+  pub answered_carries : {G : Type 0} → (payload : P) (r : Result ℕ (Unaccepted G P)) → IfErr r (λ x. x.payload ≡ payload) → IfOk r (λ n. CarriesMore h n payload old new) → OnErr r (StillCarries old new) → IfOk (answered h r) (λ x. After payload x.entry)
   answered_carries payload (Ok n) back more still = more
   answered_carries payload (Err x) back more still = subst (λ (p : P). IfOk (turned_down h x.why x.payload) (λ y. After p y.entry)) back (turned_down_carries x.why x.payload still)
 
   -- where it gave nothing, nothing of it changed
-  pub answered_still : (r : Result ℕ (Unaccepted P)) → OnErr r (StillCarries old new) → OnErr (answered h r) (StillCarries old new)
+  pub answered_still : {G : Type 0} → (r : Result ℕ (Unaccepted G P)) → OnErr r (StillCarries old new) → OnErr (answered h r) (StillCarries old new)
   answered_still (Ok n) still = tt
   answered_still (Err x) still = turned_down_still x.why x.payload still

@@ -64,12 +64,12 @@ module _ {P : Type 0} (old new : State P) (step : Step) (h : ℕ) where
   turned_down_stays NotSupported payload kept = tt
 
   -- what a submission gave is a turn, but for want of memory
-  pub answered_turns : (r : Result ℕ (Unaccepted P)) → IfOk r (λ n. Turns old step (record { owner = Some h; reply = Number n }) new)
+  pub answered_turns : {G : Type 0} → (r : Result ℕ (Unaccepted G P)) → IfOk r (λ n. Turns old step (record { owner = Some h; reply = Number n }) new)
       → IfErr r (λ x. (x.why ≡ NoMem → ⊥) → Turns old step (record { owner = Some h; reply = IsRefused x.why }) new) → IfOk (answered h r) (λ x. Turns old step x.entry new)
   answered_turns (Ok n) accepted refused = accepted
   answered_turns (Err x) accepted refused = turned_down_turns x.why x.payload refused
 
   -- where it gave nothing, nothing changed
-  pub answered_stays : (r : Result ℕ (Unaccepted P)) → OnErr r (Stays old new) → OnErr (answered h r) (Stays old new)
+  pub answered_stays : {G : Type 0} → (r : Result ℕ (Unaccepted G P)) → OnErr r (Stays old new) → OnErr (answered h r) (Stays old new)
   answered_stays (Ok n) kept = tt
   answered_stays (Err x) kept = turned_down_stays x.why x.payload kept

@@ -57,8 +57,8 @@ module _ {P : Type 0} where
   turned_down h NoMem payload = Err (record { payload = Some payload })
   turned_down h why payload = Ok (record { entry = record { owner = Some h; reply = IsRefused why }; out = None; back = Some payload })
 
-  -- what a submission of name h gave
-  abbrev pub answered : ℕ → Result ℕ (Unaccepted P) → Result (Stepped P) (NoMemory P)
+  -- what a submission of name h gave, whatever it was to send
+  abbrev pub answered : {G : Type 0} → ℕ → Result ℕ (Unaccepted G P) → Result (Stepped P) (NoMemory P)
   answered h (Ok n) = Ok (record { entry = record { owner = Some h; reply = Number n }; out = None; back = None })
   answered h (Err x) = turned_down h x.why x.payload
 

@@ -109,9 +109,16 @@ impl<P, D: Device> Core<P, D> {
 
     /// Submits a transfer (libusb 1.0, `libusb_submit_transfer`), and gives its number. Refused where the endpoint
     /// isn't the name's, the device is gone, the kind is not supported or another's, direction or length is wrong, or
-    /// no place or number is left; NoMem, with nothing changed, where memory is refused. The payload then comes back.
-    pub fn submit(&mut self, h: Name, request: Request, payload: P) -> Result<u64, Unaccepted<P>>
+    /// no place or number is left; NoMem, with nothing changed, where memory is refused. Request and payload then come
+    /// back.
+    pub fn submit(
+        &mut self,
+        h: Name,
+        request: Request,
+        payload: P,
+    ) -> Result<u64, Unaccepted<Request, P>>
         ensures accepted { IfOk result (λ n. Turns self.old (Submit h request) (record { owner = Some h; reply = Number n }) self.new) }
+        ensures given { IfErr result (λ x. x.given ≡ request) }
         ensures back { IfErr result (λ x. x.payload ≡ payload) }
         ensures refused { IfErr result (λ x. (x.why ≡ NoMem → ⊥) → Turns self.old (Submit h request) (record { owner = Some h; reply = IsRefused x.why }) self.new) }
         ensures kept { OnErr result (Stays self.old self.new) }
@@ -190,7 +197,7 @@ impl<P, D: Device> Core<P, D> {
     /// `libusb_transfer_cb_fn`, `libusb_submit_transfer`). Refused as a submission is, and NotFound where the name has
     /// no such transfer in its callback: the callback then goes on. NoMem, with nothing changed, where memory is
     /// refused. The payload then comes back.
-    pub fn again(&mut self, h: Name, n: u64, payload: P) -> Result<u64, Unaccepted<P>>
+    pub fn again(&mut self, h: Name, n: u64, payload: P) -> Result<u64, Unaccepted<(), P>>
         ensures accepted { IfOk result (λ k. Turns self.old (Answer h n Again) (record { owner = Some h; reply = Number k }) self.new) }
         ensures back { IfErr result (λ x. x.payload ≡ payload) }
         ensures refused { IfErr result (λ x. (x.why ≡ NoMem → ⊥) → Turns self.old (Answer h n Again) (record { owner = Some h; reply = IsRefused x.why }) self.new) }
@@ -201,15 +208,16 @@ impl<P, D: Device> Core<P, D> {
         self.parts.again(h, n, payload)
     }
 
-    /// The same with other bytes to be sent in the place of what the transfer had.
+    /// The same with other bytes to be sent in the place of what the transfer had. Where it is refused they come back.
     pub fn again_with(
         &mut self,
         h: Name,
         n: u64,
         bytes: Bytes,
         payload: P,
-    ) -> Result<u64, Unaccepted<P>>
+    ) -> Result<u64, Unaccepted<Bytes, P>>
         ensures accepted { IfOk result (λ k. Turns self.old (Answer h n (AgainWith bytes)) (record { owner = Some h; reply = Number k }) self.new) }
+        ensures given { IfErr result (λ x. x.given ≡ bytes) }
         ensures back { IfErr result (λ x. x.payload ≡ payload) }
         ensures refused { IfErr result (λ x. (x.why ≡ NoMem → ⊥) → Turns self.old (Answer h n (AgainWith bytes)) (record { owner = Some h; reply = IsRefused x.why }) self.new) }
         ensures kept { OnErr result (Stays self.old self.new) }

@@ -12,6 +12,7 @@ use crate::calls::Core;
 use usb_device::Device;
 use usb_model::{DeviceNo, EpAddr, Name};
 use usb_parts::Pending;
+use usb_xhc::Controller;
 
 impl<P, D: Device> Core<P, D> {
     /// How many bytes the next result has that is taken; 0 where none waits.
@@ -42,5 +43,12 @@ impl<P, D: Device> Core<P, D> {
         ensures { (setup : Setup) (w : World) → ShowsWorld setup self.now w → IsPending setup w after result }
     {
         self.parts.pending(after)
+    }
+
+    /// The controller, with its rings and the contexts of its endpoints: for those who look at bytes.
+    pub fn controller(&self) -> &Controller<D>
+        ensures { result.now ≡ self.now.controller }
+    {
+        self.parts.controller()
     }
 }

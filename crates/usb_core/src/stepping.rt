@@ -52,13 +52,16 @@ fn told<P>(entry: Entry, back: Option<P>) -> Stepped<P>
     }
 }
 
-/// What a submission of this name gave.
-fn submitted<P>(h: Name, given: Result<u64, Unaccepted<P>>) -> Result<Stepped<P>, NoMemory<P>>
+/// What a submission of this name gave. What was to be sent is dropped where it is refused.
+fn submitted<G: Drop, P>(
+    h: Name,
+    given: Result<u64, Unaccepted<G, P>>,
+) -> Result<Stepped<P>, NoMemory<P>>
     ensures { result ≡ answered h given }
 {
     match given {
         Ok(n) => Ok(told(entry_of(h, Reply::Number(n)), None)),
-        Err(Unaccepted { why, payload }) => match why {
+        Err(Unaccepted { why, payload, .. }) => match why {
             Refused::NoMem => Err(NoMemory {
                 payload: Some(payload),
             }),
@@ -69,7 +72,8 @@ fn submitted<P>(h: Name, given: Result<u64, Unaccepted<P>>) -> Result<Stepped<P>
 
 impl<P, D: Device> Core<P, D> {
     /// One step. With a payload where the step takes one (`Step::takes_payload`); where one is given to another step it
-    /// comes back. Only a step that submits and Take can find no memory.
+    /// comes back. Only a step that submits and Take can find no memory. What a step was to send is dropped where it is
+    /// refused or finds no memory; `submit`, `again` and `again_with` hand it back.
     pub fn step(&mut self, step: Step, payload: Option<P>) -> Result<Stepped<P>, NoMemory<P>>
         requires { takes_payload step ≡ true → is_some payload ≡ true }
         ensures turned { IfOk result (λ x. Turns self.old step x.entry self.new) }
@@ -162,21 +166,20 @@ impl<P, D: Device> Core<P, D> {
         ensures carries { IfOk result (λ x. (kept : Kept P) → Carries kept self.old → Carries (kept_after kept (Answer h n verdict) x.entry payload) self.new) }
         ensures still { OnErr result (StillCarries self.old self.new) }
     {
-        let given = match verdict {
-            Verdict::Stop => return Ok(told(entry_of(h, self.stop(h, n)), payload)),
+        match verdict {
+            Verdict::Stop => Ok(told(entry_of(h, self.stop(h, n)), payload)),
             Verdict::Again => {
                 let Some(payload) = payload else {
                     unreachable!()
                 };
-                self.again(h, n, payload)
+                submitted(h, self.again(h, n, payload))
             }
             Verdict::AgainWith(bytes) => {
                 let Some(payload) = payload else {
                     unreachable!()
                 };
-                self.again_with(h, n, bytes, payload)
+                submitted(h, self.again_with(h, n, bytes, payload))
             }
-        };
-        submitted(h, given)
+        }
     }
 }

@@ -6,10 +6,8 @@ use Rattle.usb_model.specs.declared.refused.Refused.TheVariants.{NotFound}
 use Rattle.usb_model.specs.declared.reply.Reply.TheVariants.{Refused}
 use Rattle.usb_model.specs.declared.result.InCallback.{InCallback}
 use Rattle.usb_model.specs.declared.step.Step.TheVariants.{Answer}
-use Rattle.usb_model.specs.declared.request.Body.TheVariants.{Out}
 use Rattle.usb_model.specs.declared.request.Request.{Request}
-use Rattle.usb_model.specs.declared.verdict.Verdict.TheVariants.{Again, AgainWith}
-use Rattle.std.specs.Option.{option_map}
+use Rattle.usb_model.specs.declared.verdict.Verdict.TheVariants.{Again}
 use Rattle.usb_lemmas.proofs.Lists.Pieces.{same_name}
 use Rattle.usb_model.specs.Setup.{Setup}
 use Rattle.usb_model.specs.World.{World}
@@ -20,7 +18,7 @@ use Rattle.usb_state.specs.Handles.{says}
 use Rattle.usb_state.specs.State.{Keeps, State}
 use Rattle.usb_state.specs.Steps.{Does}
 use Rattle.usb_state.specs.Submitting.{Admits}
-use Rattle.usb_state.proofs.Again.{again_none, again_of, again_refused}
+use Rattle.usb_state.proofs.Again.{again_none, again_refused}
 use Rattle.usb_state.proofs.Stopping.{Ended}
 use Rattle.usb_parts.specs.Submitting.{AgainAt, AgainIs}
 use Rattle.usb_parts.specs.declared.submitting.Place.{Place}
@@ -51,15 +49,6 @@ module _ {P : Type 0} where
   pub admits_again : (s : State P) (h n : ℕ) (x : InCallback) (place : Place) → callback_at s.callers h n ≡ Some x → AgainIs s h n (Ok place)
       → (setup : Setup) (w : World) (c : Core) → Keeps setup s c → Shows setup w c → Admits setup s c h place.dev x.request place.tds
   admits_again s h n x place found is = subst (λ (o : Option InCallback). AgainAt s h o (Ok place)) found is
-
--- the transfer of a callback with other bytes
-pub with_some : (o : Option InCallback) (bytes : List ℕ) (request : Request) → Some request ≡ option_map (λ x. record x.request { body = Out bytes }) o → (x : InCallback) × (o ≡ Some x) × (again_of (AgainWith bytes) x ≡ Some request)
-with_some None bytes request is = absurd cc
-with_some (Some x) bytes request is = (x, refl, sym is)
-
-pub with_none : (o : Option InCallback) (bytes : List ℕ) → None ≡ option_map (λ (x : InCallback). record x.request { body = Out bytes }) o → o ≡ None
-with_none None bytes is = refl
-with_none (Some x) bytes is = absurd cc
 
 -- it isn't in its callback once that ended
 pub absent : (amid : List Caller) (old : List Caller) (h n k : ℕ) → k ≡ n → Ended old amid h n → callback_at amid h k ≡ None

@@ -1,12 +1,11 @@
 //! A callback ends, or its transfer is submitted once more (libusb 1.0, `libusb_transfer_cb_fn`).
 
-ghost use Rattle.std.specs.Prelude.{◌≡◌, IfErr, IfOk, OnErr, Some};
+ghost use Rattle.std.specs.Prelude.{◌≡◌, false, IfErr, IfOk, OnErr, Some};
 ghost use Rattle.usb_model.specs.declared.refused.Refused.TheVariants.{NoMem};
 ghost use Rattle.usb_model.specs.declared.reply.Reply.TheVariants.{Number, Refused as IsRefused};
 ghost use Rattle.usb_model.specs.declared.request.Body.TheVariants.{Out};
 ghost use Rattle.usb_model.specs.declared.step.Step.TheVariants.{Answer};
-ghost use Rattle.usb_callers.specs.Callers.{callback_at};
-ghost use Rattle.std.specs.Option.{option_map};
+ghost use Rattle.usb_model.specs.Direction.{IsBody};
 ghost use Rattle.usb_model.specs.declared.verdict.Verdict.TheVariants.{Again, AgainWith, Stop};
 ghost use Rattle.usb_state.specs.Calls.{Stays};
 ghost use Rattle.usb_state.specs.Carrying.{CarriesMore, StillCarries};
@@ -18,6 +17,30 @@ use crate::parts::Parts;
 use crate::submitting::{Place, Unaccepted};
 use usb_device::Device;
 use usb_model::{Body, Bytes, InCallback, Name, Refused, Reply, Request};
+
+/// A request with other bytes.
+fn with_bytes(request: &Request, bytes: Bytes) -> Request
+    ensures { result ≡ record request.now { body = Out bytes } }
+{
+    Request {
+        ep: request.ep,
+        kind: request.kind,
+        flags: request.flags,
+        timeout: request.timeout,
+        body: Body::Out(bytes),
+    }
+}
+
+/// The bytes of a request that sends some.
+fn bytes_of(request: Request) -> Bytes
+    requires { IsBody false request.body }
+    ensures { request.body ≡ Out result }
+{
+    match request.body {
+        Body::Out(bytes) => bytes,
+        Body::In(_) => unreachable!(),
+    }
+}
 
 impl<P, D: Device> Parts<P, D> {
     /// Ends the callback of a transfer, which isn't submitted once more. NotFound where the name has no such transfer
@@ -36,7 +59,7 @@ impl<P, D: Device> Parts<P, D> {
     /// Submits the transfer of a callback once more, under a new number; the callback ends. Refused as a submission is,
     /// and NotFound where the name has no such transfer in its callback: the callback then goes on. NoMem, with nothing
     /// changed, where memory is refused.
-    pub fn again(&mut self, h: Name, n: u64, payload: P) -> Result<u64, Unaccepted<P>>
+    pub fn again(&mut self, h: Name, n: u64, payload: P) -> Result<u64, Unaccepted<(), P>>
         requires { IsState self.old }
         ensures accepted { IfOk result (λ k. Does self.old (Answer h n Again) (record { owner = Some h; reply = Number k }) self.new) }
         ensures back { IfErr result (λ x. x.payload ≡ payload) }
@@ -47,11 +70,18 @@ impl<P, D: Device> Parts<P, D> {
     {
         let place = match self.place_again(h, n) {
             Ok(place) => place,
-            Err(why) => return Err(Unaccepted { why, payload }),
+            Err(why) => {
+                return Err(Unaccepted {
+                    why,
+                    given: (),
+                    payload,
+                });
+            }
         };
         if self.callers.reserve_callback(h).is_err() {
             return Err(Unaccepted {
                 why: Refused::NoMem,
+                given: (),
                 payload,
             });
         }
@@ -73,41 +103,54 @@ impl<P, D: Device> Parts<P, D> {
                 );
                 Err(Unaccepted {
                     why: Refused::NoMem,
+                    given: (),
                     payload: unmade.payload,
                 })
             }
         }
     }
 
-    /// The same with other bytes to be sent in the place of what the transfer had.
+    /// The same with other bytes to be sent in the place of what the transfer had. Where it is refused they come back.
     pub fn again_with(
         &mut self,
         h: Name,
         n: u64,
         bytes: Bytes,
         payload: P,
-    ) -> Result<u64, Unaccepted<P>>
+    ) -> Result<u64, Unaccepted<Bytes, P>>
         requires { IsState self.old }
         ensures accepted { IfOk result (λ k. Does self.old (Answer h n (AgainWith bytes)) (record { owner = Some h; reply = Number k }) self.new) }
+        ensures given { IfErr result (λ x. x.given ≡ bytes) }
         ensures back { IfErr result (λ x. x.payload ≡ payload) }
         ensures refused { IfErr result (λ x. (x.why ≡ NoMem → ⊥) → Does self.old (Answer h n (AgainWith bytes)) (record { owner = Some h; reply = IsRefused x.why }) self.new) }
         ensures kept { OnErr result (Stays self.old self.new) }
         ensures carries { IfOk result (λ k. CarriesMore h k payload self.old self.new) }
         ensures still { OnErr result (StillCarries self.old self.new) }
     {
-        let Some(request) = self.with_bytes(h, n, bytes) else {
-            return Err(Unaccepted {
-                why: Refused::NotFound,
-                payload,
-            });
+        let request = match self.callers.callback(h, n) {
+            Some(called) => with_bytes(&called.request, bytes),
+            None => {
+                return Err(Unaccepted {
+                    why: Refused::NotFound,
+                    given: bytes,
+                    payload,
+                });
+            }
         };
         let place = match self.place(h, &request) {
             Ok(place) => place,
-            Err(why) => return Err(Unaccepted { why, payload }),
+            Err(why) => {
+                return Err(Unaccepted {
+                    why,
+                    given: bytes_of(request),
+                    payload,
+                });
+            }
         };
         if self.callers.reserve_callback(h).is_err() {
             return Err(Unaccepted {
                 why: Refused::NoMem,
+                given: bytes_of(request),
                 payload,
             });
         }
@@ -120,24 +163,11 @@ impl<P, D: Device> Parts<P, D> {
                 self.callers.put_callback(h, called);
                 Err(Unaccepted {
                     why: Refused::NoMem,
+                    given: bytes_of(unmade.request),
                     payload: unmade.payload,
                 })
             }
         }
-    }
-
-    /// The request of a callback's transfer, with other bytes.
-    fn with_bytes(&self, h: Name, n: u64, bytes: Bytes) -> Option<Request>
-        ensures { result ≡ option_map (λ x. record x.request { body = Out bytes }) (callback_at self.now.callers h n) }
-    {
-        let called = self.callers.callback(h, n)?;
-        Some(Request {
-            ep: called.request.ep,
-            kind: called.request.kind,
-            flags: called.request.flags,
-            timeout: called.request.timeout,
-            body: Body::Out(bytes),
-        })
     }
 
     /// Where the transfer of a callback is to join its line once more, or what it is refused for.

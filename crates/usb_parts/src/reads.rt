@@ -11,6 +11,7 @@ ghost use Rattle.usb_parts.specs.Packets.{taken_in};
 use crate::parts::Parts;
 use usb_device::Device;
 use usb_model::{DeviceNo, EpAddr, Name};
+use usb_xhc::Controller;
 
 impl<P, D: Device> Parts<P, D> {
     /// How many bytes the next result has that is taken; 0 where none waits.
@@ -42,5 +43,12 @@ impl<P, D: Device> Parts<P, D> {
             Some(slot) => slot.taken(ep, i),
             None => None,
         }
+    }
+
+    /// The controller, with its rings and contexts.
+    pub fn controller(&self) -> &Controller<D>
+        ensures { result.now ≡ self.now.controller }
+    {
+        &self.controller
     }
 }

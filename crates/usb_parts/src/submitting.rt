@@ -23,11 +23,13 @@ use usb_model::limits::{LAST_NUMBER, MOST_PLACES};
 use usb_model::{DeviceNo, Name, Refused, Request};
 use usb_transfer::{Tds, Transfer, Unmade, check};
 
-/// What isn't accepted.
+/// What isn't accepted: all that was given comes back.
 #[derive(Drop)]
-pub struct Unaccepted<P> {
+pub struct Unaccepted<G, P> {
     /// Why.
     pub why: Refused,
+    /// What was to be sent: a request, or the bytes of one.
+    pub given: G,
     /// What the caller keeps with it.
     pub payload: P,
 }
@@ -44,10 +46,16 @@ pub(crate) struct Place {
 impl<P, D: Device> Parts<P, D> {
     /// A transfer joins the line of its endpoint, under the number that is given. Refused where the endpoint isn't the
     /// name's, the device is gone, the kind is not supported or another's, direction or length is wrong, or no place or
-    /// number is left; NoMem, with nothing changed, where memory is refused.
-    pub fn submit(&mut self, h: Name, request: Request, payload: P) -> Result<u64, Unaccepted<P>>
+    /// number is left; NoMem, with nothing changed, where memory is refused. Request and payload then come back.
+    pub fn submit(
+        &mut self,
+        h: Name,
+        request: Request,
+        payload: P,
+    ) -> Result<u64, Unaccepted<Request, P>>
         requires { IsState self.old }
         ensures accepted { IfOk result (λ n. Does self.old (Submit h request) (record { owner = Some h; reply = Number n }) self.new) }
+        ensures given { IfErr result (λ x. x.given ≡ request) }
         ensures back { IfErr result (λ x. x.payload ≡ payload) }
         ensures refused { IfErr result (λ x. (x.why ≡ NoMem → ⊥) → Does self.old (Submit h request) (record { owner = Some h; reply = IsRefused x.why }) self.new) }
         ensures kept { OnErr result (Stays self.old self.new) }
@@ -56,12 +64,19 @@ impl<P, D: Device> Parts<P, D> {
     {
         let place = match self.place(h, &request) {
             Ok(place) => place,
-            Err(why) => return Err(Unaccepted { why, payload }),
+            Err(why) => {
+                return Err(Unaccepted {
+                    why,
+                    given: request,
+                    payload,
+                });
+            }
         };
         match self.start(h, place, request, 0, payload) {
             Ok(n) => Ok(n),
             Err(unmade) => Err(Unaccepted {
                 why: Refused::NoMem,
+                given: unmade.request,
                 payload: unmade.payload,
             }),
         }
