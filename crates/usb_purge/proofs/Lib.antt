@@ -15,3 +15,5 @@ mod NoneRuns
 mod Stages
 mod Homes
 mod Answering
+mod Reached
+mod Comparing

@@ -28,7 +28,7 @@ fits None r = refl
 fits (Some x) r = fits_rule r x.status x.round
 
 -- what is left of a plan may stand for these steps
-may_expand_from : (setup : Setup) (s : Stage) (plan : List Plan) → ExpandsFrom setup s plan (expand_from setup s plan)
+pub may_expand_from : (setup : Setup) (s : Stage) (plan : List Plan) → ExpandsFrom setup s plan (expand_from setup s plan)
 unfolding expand_from
 may_expand_from setup s [] = refl
 may_expand_from setup s (Do step ∷ plan) =

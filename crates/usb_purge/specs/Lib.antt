@@ -3,3 +3,4 @@ pub mod Whose
 pub mod Laws
 pub mod Returning
 pub mod PlanRuns
+pub mod Driving

@@ -1,0 +1,240 @@
+-- How far a plan is.
+use Rattle.std.proofs.Common.{◌≡◌, ℕ, ◌+◌, ◌<◌, ◌≤◌, Bool, true, false, inl, inr, List, [], ◌∷◌, ◌++◌, drop, length, length-append, map, suc, slice_index_or, Option, Some, None, refl, ap, sym, ◌∙◌, subst, append-nil, append_assoc, arith}
+use Rattle.std.specs.Prelude.{if◌then◌else◌, is_some}
+use Rattle.std.specs.List.{AllByRecursion, count_by}
+use Rattle.std.proofs.lemmas.List.{drop_all, drop_more}
+use Rattle.usb_model.specs.declared.entry.Entry.{Entry}
+use Rattle.usb_model.specs.declared.plan.Plan.{Plan}
+use Rattle.usb_model.specs.declared.plan.Plan.TheVariants.{Do, Return}
+use Rattle.usb_model.specs.declared.step.Step.{Step}
+use Rattle.usb_model.specs.declared.step.Step.TheVariants.{Answer}
+use Rattle.usb_model.specs.declared.verdict.Rule.{Rule}
+use Rattle.usb_model.specs.declared.verdict.Verdict.{Verdict}
+use Rattle.usb_model.specs.declared.verdict.Verdict.TheVariants as verdict
+use Rattle.usb_model.specs.Setup.{Setup}
+use Rattle.usb_model.specs.World.{World, new_world, turn, world_from}
+use Rattle.usb_model.specs.World.Journal.{IsBeginning, journal, journal_from, run_from, world_run}
+use Rattle.usb_model.specs.World.Plans.{Expands, ExpandsFrom, Stage, expand_from, first_rule, first_stage, is_submission, is_submit, needs_stop, return_steps, returning, rules_after, rules_past, stage_after, steps_of, verdict_by}
+use Rattle.usb_lemmas.proofs.Handles.Beginnings.{first_steps}
+use Rattle.usb_lemmas.proofs.Handles.Isolation.{sees_alone}
+use Rattle.usb_lemmas.proofs.Lists.Times.{count-cons}
+use Rattle.usb_account.proofs.Bound.AskedEnds.{asked_ends}
+use Rattle.usb_account.proofs.Cut.Runs.{cuts_at}
+use Rattle.usb_account.proofs.Places.Runs.{keeps_places}
+use Rattle.usb_purge.specs.declared.plan_run.Performed.{Performed}
+use Rattle.usb_purge.specs.Driving.{Advances, IsDriven, IsDrivenTo, ObeysAll, TakesNext}
+use Rattle.usb_purge.specs.PlanRuns.{IsUnder, Performs, PlanState, entries_of, of_option, ShowsStage, StandsFor, is_verdict}
+use Rattle.usb_purge.proofs.Calls.{calls_once}
+use Rattle.usb_purge.proofs.Given.{calls_after_number}
+use Rattle.usb_purge.proofs.Order.{calls_in_order}
+use Rattle.usb_purge.proofs.Plans.{expands_only, may_expand, may_expand_from}
+
+-- what holds of every run
+obeys_all : (setup : Setup) (steps : List Step) → ObeysAll setup steps
+obeys_all setup steps = record { core = record { cut = cuts_at setup steps; places = keeps_places setup steps; ends = asked_ends setup steps }; alone = sees_alone setup steps; once = calls_once setup steps; after = calls_after_number setup steps; order = calls_in_order setup steps }
+
+-- the entries of two lists of steps, one behind the other
+run_append : (setup : Setup) (w : World) (xs ys : List Step) → run_from setup w (xs ++ ys) ≡ run_from setup w xs ++ run_from setup (world_from setup w xs) ys
+unfolding journal_from world_from
+run_append setup w [] ys = refl
+run_append setup w (x ∷ xs) ys = ap (λ l. (turn setup w x).entry ∷ l) (run_append setup (turn setup w x).world xs ys)
+
+-- and where they lead
+world_append : (setup : Setup) (w : World) (xs ys : List Step) → world_from setup w (xs ++ ys) ≡ world_from setup (world_from setup w xs) ys
+unfolding world_from
+world_append setup w [] ys = refl
+world_append setup w (x ∷ xs) ys = world_append setup (turn setup w x).world xs ys
+
+-- the stage behind a piece's steps: their world, and the rules that are left
+piece_world : (setup : Setup) (s : Stage) (piece : Plan) (steps : List Step) → (stage_after setup s piece steps).world ≡ world_from setup s.world steps
+unfolding stage_after world_from
+piece_world setup s piece [] = refl
+piece_world setup s piece (x ∷ xs) = refl
+
+-- a return is at least one step
+return_first : (setup : Setup) (w : World) (h n : ℕ) (v : Verdict) → (rest : List Step) × (return_steps setup w h n v ≡ Answer h n v ∷ rest)
+return_first setup w h n v = by_test (needs_stop v (turn setup w (Answer h n v)).entry.reply)
+  where
+    by_test : (b : Bool) → (rest : List Step) × ((if b then Answer h n v ∷ Answer h n verdict.Stop ∷ [] else Answer h n v ∷ []) ≡ Answer h n v ∷ rest)
+    by_test true = (Answer h n verdict.Stop ∷ [], refl)
+    by_test false = ([], refl)
+
+-- so are those that a piece stands for
+stands_first : (setup : Setup) (s : Stage) (piece : Plan) (steps : List Step) → StandsFor setup s piece steps → (first : Step) × (rest : List Step) × (steps ≡ first ∷ rest)
+stands_first setup s (Do step) steps is = (step, [], is)
+stands_first setup s (Return h n) steps (v, fits, is) = let f = return_first setup s.world h n v in (Answer h n v, f.0, is ∙ f.1)
+
+steps_first : (setup : Setup) (s : Stage) (piece : Plan) → (first : Step) × (rest : List Step) × (steps_of setup s piece ≡ first ∷ rest)
+steps_first setup s (Do step) = (step, [], refl)
+steps_first setup s (Return h n) = let v : Verdict = verdict_by (returning s h n) (s.book h n) in let f = return_first setup s.world h n v in (Answer h n v, f.0, f.1)
+
+-- a run has an entry for each step
+entry_each : (setup : Setup) (w : World) (steps : List Step) → length (run_from setup w steps) ≡ length steps
+unfolding journal_from
+entry_each setup w [] = refl
+entry_each setup w (step ∷ steps) = ap suc (entry_each setup (turn setup w step).world steps)
+
+piece_rules : (setup : Setup) (s : Stage) (piece : Plan) (steps : List Step) → StandsFor setup s piece steps → (stage_after setup s piece steps).rules ≡ rules_after piece s.rules
+unfolding stage_after
+piece_rules setup s piece steps stands = let f = stands_first setup s piece steps stands in rw f.2 refl
+
+-- with the steps of its first piece a plan stands for those and the rest
+stands_joins : (setup : Setup) (s : Stage) (piece : Plan) (plan : List Plan) (here more : List Step) → StandsFor setup s piece here → ExpandsFrom setup (stage_after setup s piece here) plan more → ExpandsFrom setup s (piece ∷ plan) (here ++ more)
+stands_joins setup s (Do step) plan here more is rest = (more, ap (λ l. l ++ more) is, subst (λ l. ExpandsFrom setup (stage_after setup s (Do step) l) plan more) is rest)
+stands_joins setup s (Return h n) plan here more (v, fits, is) rest = (v, more, fits, ap (λ l. l ++ more) is, subst (λ l. ExpandsFrom setup (stage_after setup s (Return h n) l) plan more) is rest)
+
+module _ {P : Type 0} (rule : P → Rule) (setup : Setup) (plan : List Plan) (rules : List Rule) where
+  -- so many pieces were performed, with these entries; left: the callbacks of the submissions to come
+  pub record Reached (v : PlanState P) (entries : List Entry) (i : ℕ) (left : List P) : Type 0 where
+    pub stage : Stage
+    pub steps : List Step
+    pub shows : ShowsStage rule setup v stage
+    pub run : entries ≡ world_run setup steps
+    pub world : stage.world ≡ world_from setup (new_world setup) steps
+    pub joins : (more : List Step) → ExpandsFrom setup stage (drop i plan) more → Expands setup plan rules (steps ++ more)
+    pub under : stage.rules ≡ map rule left
+    pub enough : length left ≡ count_by is_submission (drop i plan)
+    pub no_verdict : AllByRecursion (λ piece. is_verdict piece ≡ false) (drop i plan)
+
+  -- none was
+  pub none_yet : (v : PlanState P) (left : List P) → ((rs : List Rule) → ShowsStage rule setup v (first_stage setup rs)) → rules ≡ map rule left → length left ≡ count_by is_submission plan → AllByRecursion (λ piece. is_verdict piece ≡ false) plan
+      → Reached v [] 0 left
+  unfolding journal journal_from world_from
+  none_yet v left shows under enough none = record {
+    stage = first_stage setup rules;
+    steps = [];
+    shows = shows rules;
+    run = refl;
+    world = refl;
+    joins = λ more is. is;
+    under = under;
+    enough = enough;
+    no_verdict = none;
+  }
+
+  -- what is left at a piece
+  rest_is : (i : ℕ) (piece : Plan) → i < length plan → piece ≡ slice_index_or plan i piece → drop i plan ≡ piece ∷ drop (i + 1) plan
+  rest_is i piece within item = drop_more plan i piece within ∙ ap (λ y. y ∷ drop (i + 1) plan) (sym item)
+
+  -- a piece that submits has its callback
+  pub has_callback : (v : PlanState P) (es : List Entry) (i : ℕ) (left new : List P) (piece : Plan) (callback : Option P) → i < length plan → piece ≡ slice_index_or plan i piece → Reached v es i left → TakesNext (is_submission piece) left new callback
+      → is_submission piece ≡ true → is_some callback ≡ true
+  has_callback v es i left new piece callback within item r takes submits = by_left left (r.enough ∙ ap (count_by is_submission) (rest_is i piece within item)) (subst (λ b. TakesNext b left new callback) submits takes)
+    where
+      by_left : (l : List P) → length l ≡ count_by is_submission (piece ∷ drop (i + 1) plan) → TakesNext true l new callback → is_some callback ≡ true
+      by_left [] enough t = let counted : count_by is_submission (piece ∷ drop (i + 1) plan) ≡ (if is_submission piece then 1 else 0) + count_by is_submission (drop (i + 1) plan) = count-cons is_submission piece (drop (i + 1) plan) in
+          let one : ◌≡◌ {A = ℕ} (if is_submission piece then 1 else 0) 1 = ap (λ (b : Bool). if b then 1 else 0) submits in absurd (omega (arith, enough, counted, one))
+      by_left (c ∷ cs) enough t = ap (λ o. is_some o) t.0
+
+  -- and is no verdict
+  pub is_no_verdict : (v : PlanState P) (es : List Entry) (i : ℕ) (left : List P) (piece : Plan) → i < length plan → piece ≡ slice_index_or plan i piece → Reached v es i left → is_verdict piece ≡ false
+  is_no_verdict v es i left piece within item r = (subst (AllByRecursion (λ p. is_verdict p ≡ false)) (rest_is i piece within item) r.no_verdict).0
+
+  -- one piece more
+  pub one_more : (v new : PlanState P) (es fs : List Entry) (i : ℕ) (left more : List P) (piece : Plan) (callback : Option P) → i < length plan → piece ≡ slice_index_or plan i piece → Reached v es i left → TakesNext (is_submission piece) left more callback
+      → Advances rule v piece callback new es fs → Reached new fs (i + 1) more
+  unfolding journal
+  one_more v new es fs i left more piece callback within item r takes (entries, performs, pushed) = by_steps (performs setup r.stage r.shows under)
+    where
+      rest : drop i plan ≡ piece ∷ drop (i + 1) plan
+      rest = rest_is i piece within item
+
+      counted : count_by is_submission (drop i plan) ≡ (if is_submission piece then 1 else 0) + count_by is_submission (drop (i + 1) plan)
+      counted = ap (count_by is_submission) rest ∙ count-cons is_submission piece (drop (i + 1) plan)
+
+      by_first : (l : List P) → r.stage.rules ≡ map rule l → length l ≡ 1 + count_by is_submission (drop (i + 1) plan) → TakesNext true l more callback
+          → IsUnder rule (first_rule r.stage.rules) callback × (rules_past true r.stage.rules ≡ map rule more) × (length more ≡ count_by is_submission (drop (i + 1) plan))
+      by_first [] are enough t = absurd (omega (arith, enough))
+      by_first (c ∷ cs) are enough (out, cs_is) = (
+        subst (IsUnder rule (first_rule r.stage.rules)) (sym out) (sym (ap first_rule are)),
+        ap (rules_past true) are ∙ ap (map rule) (sym cs_is),
+        ap length cs_is ∙ omega (arith, enough),
+      )
+
+      Takes : Bool → Type 0
+      Takes b = (b ≡ true → IsUnder rule (first_rule r.stage.rules) callback) × (rules_past b r.stage.rules ≡ map rule more) × (length more ≡ count_by is_submission (drop (i + 1) plan))
+
+      by_submits : (b : Bool) → length left ≡ (if b then 1 else 0) + count_by is_submission (drop (i + 1) plan) → TakesNext b left more callback → Takes b
+      by_submits true enough t = let f = by_first left r.under enough t in ((λ e. f.0), f.1, f.2)
+      by_submits false enough t = ((λ e. absurd cc), r.under ∙ ap (map rule) (sym t.1), omega (arith, ap length t.1, enough))
+
+      taken : Takes (is_submission piece)
+      taken = by_submits (is_submission piece) (r.enough ∙ counted) takes
+
+      under : is_submission piece ≡ true → IsUnder rule (first_rule r.stage.rules) callback
+      under = taken.0
+
+      left_over : (p : Plan) → rules_after p r.stage.rules ≡ rules_past (is_submission p) r.stage.rules
+      left_over (Do step) = refl
+      left_over (Return h n) = refl
+
+      by_steps : (here : List Step) × StandsFor setup r.stage piece here × (entries ≡ run_from setup r.stage.world here) × ShowsStage rule setup new (stage_after setup r.stage piece here) → Reached new fs (i + 1) more
+      by_steps (here, stands, run, shows) = record {
+        stage = stage_after setup r.stage piece here;
+        steps = r.steps ++ here;
+        shows = shows;
+        run = pushed ∙ (ap (λ l. l ++ entries) r.run ∙ (ap (λ l. world_run setup r.steps ++ l) (run ∙ ap (λ w. run_from setup w here) r.world) ∙ sym (run_append setup (new_world setup) r.steps here)));
+        world = piece_world setup r.stage piece here ∙ (ap (λ w. world_from setup w here) r.world ∙ sym (world_append setup (new_world setup) r.steps here));
+        joins = λ later is. subst (Expands setup plan rules) (sym (append_assoc r.steps here later)) (r.joins (here ++ later) (subst (λ l. ExpandsFrom setup r.stage l (here ++ later)) (sym rest) (stands_joins setup r.stage piece (drop (i + 1) plan) here later stands is)));
+        under = piece_rules setup r.stage piece here stands ∙ (left_over piece ∙ taken.1);
+        enough = taken.2;
+        no_verdict = (subst (AllByRecursion (λ p. is_verdict p ≡ false)) rest r.no_verdict).1;
+      }
+
+  -- the whole plan
+  pub all : (v : PlanState P) (es : List Entry) (i : ℕ) (left : List P) → length plan ≤ i → Reached v es i left → IsDriven setup plan rules es
+  all v es i left past r = record {
+    steps = r.steps;
+    may = may;
+    only = λ fixed. expands_only setup plan rules fixed r.steps may;
+    run = r.run;
+    laws = obeys_all setup r.steps;
+  }
+    where
+      may : Expands setup plan rules r.steps
+      may = subst (Expands setup plan rules) (append-nil r.steps) (r.joins [] (subst (λ l. ExpandsFrom setup r.stage l []) (sym (drop_all i plan past)) refl))
+
+  -- no memory was found at a piece
+  pub stopped : (v : PlanState P) (es : List Entry) (i : ℕ) (left : List P) (piece : Plan) → i < length plan → piece ≡ slice_index_or plan i piece → Reached v es i left → IsDrivenTo setup plan rules es
+  unfolding journal expand_from
+  stopped v es i left piece within item r = record {
+    steps = steps;
+    may = r.joins more (may_expand_from setup r.stage (drop i plan));
+    run = first_steps setup es steps (run_from setup (world_from setup (new_world setup) r.steps) more, run_append setup (new_world setup) r.steps more ∙ sym (ap (λ l. l ++ run_from setup (world_from setup (new_world setup) r.steps) more) r.run));
+    left = inr fewer;
+  }
+    where
+      more : List Step
+      more = expand_from setup r.stage (drop i plan)
+
+      steps : List Step
+      steps = r.steps ++ more
+
+      first : (x : Step) × (xs : List Step) × (steps_of setup r.stage piece ≡ x ∷ xs)
+      first = steps_first setup r.stage piece
+
+      begins : more ≡ first.0 ∷ (first.1 ++ expand_from setup (stage_after setup r.stage piece (steps_of setup r.stage piece)) (drop (i + 1) plan))
+      begins = ap (expand_from setup r.stage) (rest_is i piece within item) ∙ ap (λ l. l ++ expand_from setup (stage_after setup r.stage piece (steps_of setup r.stage piece)) (drop (i + 1) plan)) first.2
+
+      fewer : length es < length steps
+      fewer = omega (arith, ap length r.run, entry_each setup (new_world setup) r.steps, length-append r.steps more, ap length begins)
+
+  -- nor for the core itself
+  pub none_stopped : (es : List Entry) → es ≡ [] → IsDrivenTo setup plan rules es
+  none_stopped es none = record {
+    steps = expand_from setup (first_stage setup rules) plan;
+    may = may_expand setup plan rules;
+    run = first_steps setup es (expand_from setup (first_stage setup rules) plan) (world_run setup (expand_from setup (first_stage setup rules) plan), rw none refl);
+    left = inl none;
+  }
+
+module _ {P : Type 0} (rule : P → Rule) where
+  -- one entry was put behind the others
+  pub advances_one : (old new : PlanState P) (piece : Plan) (callback : Option P) (x : Performed P) (before after : List Entry) → Performs rule old piece callback (entries_of x) new → x.stop ≡ None → after ≡ before ++ x.entry ∷ [] → Advances rule old piece callback new before after
+  advances_one old new piece callback x before after performs none pushed = (entries_of x, performs, pushed ∙ ap (λ o. before ++ x.entry ∷ of_option o) (sym none))
+
+  -- two were
+  pub advances_two : (old new : PlanState P) (piece : Plan) (callback : Option P) (x : Performed P) (stop : Entry) (before between after : List Entry) → Performs rule old piece callback (entries_of x) new → x.stop ≡ Some stop → between ≡ before ++ x.entry ∷ []
+      → after ≡ between ++ stop ∷ [] → Advances rule old piece callback new before after
+  advances_two old new piece callback x stop before between after performs some pushed again =
+      (entries_of x, performs, again ∙ (ap (λ l. l ++ stop ∷ []) pushed ∙ (append_assoc before (x.entry ∷ []) (stop ∷ []) ∙ ap (λ o. before ++ x.entry ∷ of_option o) (sym some))))
