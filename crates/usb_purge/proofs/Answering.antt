@@ -18,18 +18,17 @@ use Rattle.usb_model.specs.declared.verdict.Rule.{Rule}
 use Rattle.usb_model.specs.declared.verdict.Verdict.{Verdict}
 use Rattle.usb_model.specs.declared.verdict.Verdict.TheVariants as verdict
 use Rattle.usb_model.specs.Machine.{Machine, at_endpoint, endpoint_at, refused_if}
-use Rattle.usb_model.specs.Machine.Calls.{answer_callback, answer_effect, callback_of, called_back, submit_effect, submit_to}
+use Rattle.usb_model.specs.Machine.Calls.{answer_callback, answer_effect, submit_effect, submit_to}
 use Rattle.usb_model.specs.Machine.Turns.{effect}
 use Rattle.usb_model.specs.Numbers.{is_stop, takes_payload}
 use Rattle.usb_model.specs.Setup.{Setup}
 use Rattle.usb_model.specs.World.{World, machine_of, turn, world_from}
 use Rattle.usb_model.specs.World.Journal.{journal_from, run_from}
-use Rattle.usb_model.specs.World.Plans.{Book, FitsReturn, FitsRule, Stage, is_other_refusal, is_submit, needs_stop, noted, noted_by, return_steps, returning, rule_for, rules_after, stage_after}
+use Rattle.usb_model.specs.World.Plans.{Book, FitsReturn, FitsRule, Stage, is_other_refusal, is_submit, needs_stop, noted_by, returning, rule_for, rules_after, stage_after}
 use Rattle.usb_callback.specs.Callbacks.{Fits}
 use Rattle.usb_parts.specs.declared.taking.Taken.{Taken}
-use Rattle.usb_lemmas.proofs.Handles.Isolation.{effect_to}
 use Rattle.usb_purge.specs.declared.plan_run.Performed.{Performed}
-use Rattle.usb_purge.specs.PlanRuns.{entries_of, of_option, IsUnder, MakesAnswer, MakesStep, Performs, PlanState, Returns, running_at, ShowsBut, ShowsStage, StandsFor, stage_behind, still_called}
+use Rattle.usb_purge.specs.PlanRuns.{entries_of, of_option, IsUnder, MakesAnswer, MakesStep, Performs, PlanState, Returns, running_at, ShowsBut, ShowsStage, stage_behind, still_called}
 use Rattle.usb_purge.specs.Returning.{AnswerEnds, IsReached, IsTold, callback_at, ends_callback, is_answer, is_there}
 use Rattle.usb_purge.proofs.Homes.{homed}
 use Rattle.usb_purge.proofs.Returning.{keeps_callbacks}

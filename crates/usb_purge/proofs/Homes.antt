@@ -1,9 +1,9 @@
 -- The endpoint of a transfer that is in its callback is its handle's.
-use Rattle.std.proofs.Common.{◌≡◌, ℕ, true, List, Some, sym, ◌∙◌, subst}
+use Rattle.std.proofs.Common.{◌≡◌, ℕ, true, Some, sym, ◌∙◌, subst}
 use Rattle.std.specs.Prelude.{is_some}
 use Rattle.std.specs.List.{AllByRecursion}
 use Rattle.usb_model.specs.declared.result.InCallback.{InCallback}
-use Rattle.usb_model.specs.Machine.{Machine, endpoint_at}
+use Rattle.usb_model.specs.Machine.{endpoint_at}
 use Rattle.usb_model.specs.Setup.{Setup}
 use Rattle.usb_model.specs.World.{World, machine_of}
 use Rattle.usb_account.proofs.Bounds.Runs.{callback_each, callbacks_home}

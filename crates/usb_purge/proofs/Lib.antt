@@ -16,4 +16,3 @@ mod Stages
 mod Homes
 mod Answering
 mod Reached
-mod Comparing

@@ -1,5 +1,5 @@
 -- Names of which no callback runs.
-use Rattle.std.proofs.Common.{◌≡◌, ℕ, List, [], ◌∷◌, ◌++◌, None, zero, suc, slice_index_or}
+use Rattle.std.proofs.Common.{◌≡◌, ℕ, List, [], ◌∷◌, ◌++◌, None, zero, suc}
 use Rattle.usb_parts.specs.declared.taking.Taken.{Taken}
 use Rattle.usb_purge.specs.PlanRuns.{running_at, running_in}
 

@@ -13,8 +13,8 @@ use Rattle.usb_model.specs.declared.verdict.Verdict.{Verdict}
 use Rattle.usb_model.specs.declared.verdict.Verdict.TheVariants as verdict
 use Rattle.usb_model.specs.Setup.{Setup}
 use Rattle.usb_model.specs.World.{World, new_world, turn, world_from}
-use Rattle.usb_model.specs.World.Journal.{IsBeginning, journal, journal_from, run_from, world_run}
-use Rattle.usb_model.specs.World.Plans.{Expands, ExpandsFrom, Stage, expand_from, first_rule, first_stage, is_submission, is_submit, needs_stop, return_steps, returning, rules_after, rules_past, stage_after, steps_of, verdict_by}
+use Rattle.usb_model.specs.World.Journal.{journal, journal_from, run_from, world_run}
+use Rattle.usb_model.specs.World.Plans.{Expands, ExpandsFrom, Stage, expand_from, first_rule, first_stage, is_submission, needs_stop, return_steps, returning, rules_after, rules_past, stage_after, steps_of, verdict_by}
 use Rattle.usb_lemmas.proofs.Handles.Beginnings.{first_steps}
 use Rattle.usb_lemmas.proofs.Handles.Isolation.{sees_alone}
 use Rattle.usb_lemmas.proofs.Lists.Times.{count-cons}

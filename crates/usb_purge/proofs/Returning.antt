@@ -1,21 +1,17 @@
 -- A transfer comes into its callback by a Take, and leaves it by a verdict.
-use Rattle.std.proofs.Common.{◌≡◌, ℕ, ◌+◌, ◌==◌, ◌<◌, ◌≤◌, ◌⊎◌, Bool, true, false, not, inl, inr, List, [], ◌∷◌, ◌++◌, map, Option, Some, None, refl, ap, sym, ◌∙◌, subst, arith}
+use Rattle.std.proofs.Common.{◌≡◌, ℕ, ◌+◌, ◌==◌, ◌<◌, ◌≤◌, ◌⊎◌, Bool, true, false, inl, inr, List, [], ◌∷◌, ◌++◌, map, Option, Some, None, refl, ap, sym, ◌∙◌, subst, arith}
 use Rattle.std.specs.Prelude.{◌&&◌, ◌||◌, if◌then◌else◌}
 use Rattle.std.proofs.lemmas.Bool.{cases_lt, eqb-true, eqb-false}
 use Rattle.usb_model.specs.declared.endpoint.Endpoint.{Endpoint}
 use Rattle.usb_model.specs.declared.endpoint_effect.EndpointEffect.{EndpointEffect}
 use Rattle.usb_model.specs.declared.effect.Effect.{Effect}
-use Rattle.usb_model.specs.declared.effect.Change.TheVariants.{Keeps}
 use Rattle.usb_model.specs.declared.handle.Handle.{Handle}
 use Rattle.usb_model.specs.declared.refused.Refused.{Refused}
 use Rattle.usb_model.specs.declared.reply.Reply.{Reply}
 use Rattle.usb_model.specs.declared.reply.Reply.TheVariants as reply
-use Rattle.usb_model.specs.declared.reply.Returned.{Returned}
 use Rattle.usb_model.specs.declared.request.Request.{Request}
 use Rattle.usb_model.specs.declared.result.InCallback.{InCallback}
 use Rattle.usb_model.specs.declared.result.TransferResult.{TransferResult}
-use Rattle.usb_model.specs.declared.shared.Tagged.{Tagged}
-use Rattle.usb_model.specs.declared.entry.Entry.{Entry}
 use Rattle.usb_model.specs.declared.step.Step.{Step}
 use Rattle.usb_model.specs.declared.step.Step.TheVariants.{Answer, Take}
 use Rattle.usb_model.specs.declared.verdict.Verdict.{Verdict}
@@ -24,23 +20,23 @@ use Rattle.usb_model.specs.Laws.Cut.{times}
 use Rattle.usb_model.specs.Laws.Places.{InOnePlace, number_of, numbers_called}
 use Rattle.usb_model.specs.Machine.{Machine, at_endpoint, device_of, is_gone, refused_if}
 use Rattle.usb_model.specs.Machine.Calls.{answer_callback, answer_effect, callback_of, called_back, submit_effect, submit_to, without}
-use Rattle.usb_model.specs.Machine.Turns.{effect, machine_after, take_effect, takes_result}
+use Rattle.usb_model.specs.Machine.Turns.{effect, machine_after, take_effect}
 use Rattle.usb_model.specs.Numbers.{takes_payload}
 use Rattle.usb_model.specs.Setup.{Setup, packet_size_of}
-use Rattle.usb_model.specs.World.{World, Turn, is_its, machine_of, new_world, owner_of, turn, turn_by, turn_of_nobody, world_from}
-use Rattle.usb_model.specs.World.Journal.{entries, is_held_elsewhere, is_unplug}
-use Rattle.usb_model.specs.World.Shared.{first_name, pieces_of}
+use Rattle.usb_model.specs.World.{World, Turn, machine_of, turn, turn_by, turn_of_nobody}
+use Rattle.usb_model.specs.World.Journal.{entries, is_unplug}
+use Rattle.usb_model.specs.World.Shared.{first_name}
 use Rattle.usb_lemmas.proofs.Handles.Isolation.{IsEither, IsNothing, IsOwnTurn, effect_to, free_own, is_own_step, turn_free, turn_to}
 use Rattle.usb_lemmas.proofs.Lists.Pieces.{same_name}
 use Rattle.usb_lemmas.proofs.Lists.Times.{times-cons, times_here}
-use Rattle.usb_lemmas.proofs.Work.Moves.{Moves, Submits}
+use Rattle.usb_lemmas.proofs.Work.Moves.{Moves}
 use Rattle.usb_lemmas.proofs.Work.Replies.{asks_told, command_told, deliver_told, serve_told, told_plain}
 use Rattle.usb_lemmas.proofs.Work.StepMoves.{moves}
 use Rattle.usb_account.proofs.Machines.Deeds.{IsDone, IsRest, IsWork, again, again_with, anew, asks_it, claims, claims_again, clears, closes, commands, delivers, idles, only_rests, opens, refuses, releases, resets, serves, stays, stops, submits, takes, unplugs, works}
 use Rattle.usb_account.proofs.Machines.Done.{is_done}
 use Rattle.usb_account.proofs.Places.Placed.{IsPlaced}
 use Rattle.usb_account.proofs.Places.Runs.{IsKept, kept_at}
-use Rattle.usb_purge.specs.Returning.{AnswerEnds, CallsBack, IsReached, IsTold, KeepsCallbacks, SameCallbacks, TakeCalls, callback_at, ends_callback, is_answer, is_of_callback, is_there}
+use Rattle.usb_purge.specs.Returning.{AnswerEnds, IsReached, KeepsCallbacks, SameCallbacks, TakeCalls, callback_at, ends_callback, is_answer, is_of_callback}
 use Rattle.usb_purge.proofs.Gentle.{gentle_else}
 use Rattle.usb_purge.proofs.Verdicts.{answer_others, answer_own}
 

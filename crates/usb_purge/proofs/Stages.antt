@@ -1,6 +1,6 @@
 -- Which stage of a plan is shown behind each step.
 use Rattle.std.proofs.Common.{◌≡◌, ℕ, ◌==◌, Bool, true, false, List, [], ◌∷◌, map, Option, Some, None, refl, ap, sym, ◌∙◌, subst}
-use Rattle.std.specs.Prelude.{◌&&◌, IfSome, if◌then◌else◌, is_some, option_map, slice_get}
+use Rattle.std.specs.Prelude.{◌&&◌, if◌then◌else◌, is_some, option_map, slice_get}
 use Rattle.std.proofs.lemmas.Bool.{and_parts, eqb-true}
 use Rattle.std.proofs.lemmas.Option.{same_Some}
 use Rattle.usb_model.specs.declared.entry.Entry.{Entry}
@@ -24,7 +24,7 @@ use Rattle.usb_flight.specs.Flights.{EndedOf}
 use Rattle.usb_state.specs.State.{ShowsWorld, State, result_of}
 use Rattle.usb_state.specs.Steps.{Turns}
 use Rattle.usb_core.specs.Stepping.{GoesOut, first_payload, handed_out, kept_after, kept_by}
-use Rattle.usb_purge.specs.PlanRuns.{IsRunning, IsRunningBut, IsUnder, MakesAnswer, MakesStep, PlanState, RunsToo, ShowsBut, ShowsStage, nowhere, running_at, stage_behind, still_called}
+use Rattle.usb_purge.specs.PlanRuns.{IsRunning, IsRunningBut, IsUnder, MakesAnswer, MakesStep, PlanState, RunsToo, ShowsBut, ShowsStage, nowhere, running_at, still_called}
 use Rattle.usb_purge.specs.Returning.{AnswerEnds, CallsBack, IsReached, IsTold, KeepsCallbacks, SameCallbacks, TakeCalls, callback_at, ends_callback, is_answer, is_of_callback, is_there}
 use Rattle.usb_purge.proofs.Returning.{keeps_callbacks}
 

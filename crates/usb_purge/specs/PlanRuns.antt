@@ -1,5 +1,5 @@
 -- What is kept amid a plan, and the stage of the plan that it shows.
-use Rattle.std.specs.Prelude.{◌≡◌, ℕ, Bool, true, false, nat_eq, List, [], ◌∷◌, ◌++◌, Option, Some, None, IfSome, slice_index_or, if◌then◌else◌}
+use Rattle.std.specs.Prelude.{◌≡◌, ℕ, Bool, true, false, nat_eq, List, [], ◌∷◌, Option, Some, None, IfSome, slice_index_or, if◌then◌else◌}
 use Rattle.std.specs.Map.{lookup}
 use Rattle.usb_model.specs.declared.entry.Entry.{Entry}
 use Rattle.usb_model.specs.declared.plan.Plan.{Plan}

@@ -1,5 +1,5 @@
 -- One entry, or two.
-use Rattle.std.proofs.Common.{sym, ap, ◌∙◌, ◌++◌, ◌∷◌, []}
+use Rattle.std.proofs.Common.{ap, ◌∙◌, ◌++◌, ◌∷◌, []}
 use Rattle.usb_purge.proofs.Reached.{advances_one, advances_two}
 use Rattle.usb_purge.proofs.driving.advance.Goals as goal
 

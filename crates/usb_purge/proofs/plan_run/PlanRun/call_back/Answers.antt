@@ -1,5 +1,5 @@
 -- One verdict, or two.
-use Rattle.std.proofs.Common.{◌≡◌, true, false, ◌∙◌, ap, sym}
+use Rattle.std.proofs.Common.{◌≡◌, false, ◌∙◌, ap}
 use Rattle.std.specs.Prelude.{if◌then◌else◌}
 use Rattle.usb_model.specs.World.Plans.{needs_stop}
 use Rattle.usb_purge.proofs.Answering.{needs_by, returns_once, returns_twice, takes_back}

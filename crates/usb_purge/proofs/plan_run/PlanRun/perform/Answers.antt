@@ -1,5 +1,5 @@
-use Rattle.std.proofs.Common.{◌≡◌, false, sym, ap, ◌∙◌}
-use Rattle.usb_model.specs.declared.plan.Plan.TheVariants.{Do, Return}
+use Rattle.std.proofs.Common.{sym, ap, ◌∙◌}
+use Rattle.usb_model.specs.declared.plan.Plan.TheVariants.{Do}
 use Rattle.usb_purge.specs.PlanRuns.{is_verdict}
 use Rattle.usb_purge.proofs.Answering.{step_result}
 use Rattle.usb_purge.proofs.plan_run.PlanRun.perform.Goals as goal
