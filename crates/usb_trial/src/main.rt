@@ -2,6 +2,7 @@
 #![tactic(auto)]
 
 mod dice;
+mod plan;
 mod scene;
 mod seen;
 mod steps;
@@ -24,5 +25,7 @@ fn main(rt: HostRuntime) -> Result<()> {
     println!(rt;
         "{SCENARIOS} scenarios of {STEPS} steps: the same entries, each kind of reply among them"
     )?;
+    plan::run(rt.alloc())?;
+    println!(rt; "a plan whose callbacks are called: as the rules have it")?;
     Ok(())
 }

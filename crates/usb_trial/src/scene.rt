@@ -123,3 +123,27 @@ pub fn real(alloc: Global, seed: u64) -> Result<Setup<TableDevice>> {
     }
     Ok(setup)
 }
+
+/// One device, whose endpoint 81 answers with packets of one byte: 10, 11 and 12.
+pub fn three_packets(alloc: Global) -> Result<Setup<TableDevice>> {
+    let config = config()?;
+    let mut scripts = Sequence::new(alloc);
+    for _ in 0..3_u8 {
+        scripts.push(Sequence::new(alloc))?;
+    }
+    let mut script = Sequence::new(alloc);
+    for byte in 10..13_u8 {
+        let mut bytes = Sequence::new(alloc);
+        bytes.push(byte)?;
+        script.push(Response::Data(bytes))?;
+    }
+    scripts.push(script)?;
+    let Ok(device) = TableDevice::new(alloc, &config, scripts) else {
+        return Err(anyhow!("no device"));
+    };
+    let mut setup = Setup::new(alloc)?;
+    if setup.add(alloc, config, device).is_err() {
+        return Err(anyhow!("the device isn't added"));
+    }
+    Ok(setup)
+}
