@@ -5,7 +5,7 @@ use usb_core::Core;
 use usb_device::TableDevice;
 use usb_model::{DeviceNo, EpAddr, Name, Request, Returned};
 
-/// A core, whichever form it has.
+/// A core, whichever form it has. Its calls are kept out of line, so that a profile tells them apart.
 pub trait Calls: Drop {
     /// Submits a transfer, and gives its number.
     fn submit(&mut self, h: Name, request: Request, payload: u64) -> Option<u64>;
@@ -45,6 +45,7 @@ fn weight(returned: &Returned, payload: u64) -> u64 {
 }
 
 impl Calls for Core<u64, TableDevice> {
+    #[inline(never)]
     fn submit(&mut self, h: Name, request: Request, payload: u64) -> Option<u64> {
         match self.submit(h, request, payload) {
             Ok(n) => Some(n),
@@ -52,14 +53,17 @@ impl Calls for Core<u64, TableDevice> {
         }
     }
 
+    #[inline(never)]
     fn serve(&mut self, dev: DeviceNo, ep: EpAddr) {
         let _ = self.serve(dev, ep);
     }
 
+    #[inline(never)]
     fn deliver(&mut self) {
         let _ = self.deliver();
     }
 
+    #[inline(never)]
     fn take(&mut self) -> u64 {
         match self.take() {
             Ok(Some(taken)) => weight(&taken.returned, taken.payload),
@@ -67,16 +71,19 @@ impl Calls for Core<u64, TableDevice> {
         }
     }
 
+    #[inline(never)]
     fn stop(&mut self, h: Name, n: u64) {
         let _ = self.stop(h, n);
     }
 
+    #[inline(never)]
     fn reset(&mut self, h: Name) {
         let _ = self.reset(h);
     }
 }
 
 impl Calls for PlainCore {
+    #[inline(never)]
     fn submit(&mut self, h: Name, request: Request, payload: u64) -> Option<u64> {
         match self.submit(h, request, payload) {
             Ok(n) => Some(n),
@@ -84,14 +91,17 @@ impl Calls for PlainCore {
         }
     }
 
+    #[inline(never)]
     fn serve(&mut self, dev: DeviceNo, ep: EpAddr) {
         let _ = self.serve(dev, ep);
     }
 
+    #[inline(never)]
     fn deliver(&mut self) {
         let _ = self.deliver();
     }
 
+    #[inline(never)]
     fn take(&mut self) -> u64 {
         match self.take() {
             Some((returned, payload)) => weight(&returned, payload),
@@ -99,10 +109,12 @@ impl Calls for PlainCore {
         }
     }
 
+    #[inline(never)]
     fn stop(&mut self, h: Name, n: u64) {
         let _ = self.stop(h, n);
     }
 
+    #[inline(never)]
     fn reset(&mut self, h: Name) {
         let _ = self.reset(h);
     }

@@ -21,6 +21,7 @@ pub struct Traffic<C: Calls> {
     numbers: Vec<(Name, u64)>,
     payload: u64,
     left: u32,
+    aged: bool,
 }
 
 /// Traffic through the core.
@@ -44,12 +45,14 @@ impl<C: Calls> Traffic<C> {
             numbers: Vec::with_capacity(alloc, count)?,
             payload: 0,
             left: shape.answers,
+            aged: false,
         })
     }
 
-    /// The same after so many transfers.
+    /// The same after so many transfers. From then on what comes out is how many were made: their numbers differ.
     pub fn after(mut self, transfers: u64) -> Traffic<C> {
         let _ = self.turn(transfers);
+        self.aged = true;
         self
     }
 
@@ -161,7 +164,7 @@ impl<C: Calls> Work for Traffic<C> {
             self.make_ready(answers);
             sum = sum.wrapping_add(self.round());
         }
-        sum
+        if self.aged { rounds } else { sum }
     }
 }
 

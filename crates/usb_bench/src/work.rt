@@ -16,10 +16,13 @@ pub trait Work {
 pub fn least<W: Work>(rt: &HostRuntime, turns: u64, work: &mut W) -> Result<(u128, u64)> {
     let mut least = u128::MAX;
     let mut sum: u64 = 0;
+    // Nothing in fact, which only the clock knows: else work that changes nothing would be done once for all runs.
+    let mut more = Instant::now(rt)?.elapsed(rt)?.as_nanos() >> 64;
     for _ in 0..RUNS {
         let start = Instant::now(rt)?;
-        sum ^= work.turn(turns);
+        sum ^= work.turn(turns.saturating_add(more.min(1) as u64));
         let took = start.elapsed(rt)?.as_nanos();
+        more = took >> 64;
         if took < least {
             least = took;
         }
