@@ -1,32 +1,63 @@
 //! Times of the hot calls, in nanoseconds, each beside a plain form of the same work in the same run.
 #![tactic(auto)]
 
+mod calls;
 mod coding;
-mod cores;
 mod events;
 mod holders;
 mod plain;
+mod plain_core;
+mod plain_events;
+mod plain_ring;
 mod readings;
 mod requests;
+mod rows;
+mod shape;
 mod stores;
 mod table;
+mod traffic;
 mod transfers;
 mod work;
 
 use anyhow::Result;
 use std::env;
+use table::Asked;
 
-/// Whether the one word behind the program's name asks for measures.
-fn is_asked(rt: &HostRuntime) -> Result<bool> {
-    let words: Vec<String> = env::args(rt)?.collect(rt.alloc())?;
-    Ok(words.len() == 2 && words[1].as_str() == "measure")
+/// What the words behind the program's name ask for.
+fn asked(words: &[String]) -> Option<(u32, Asked)> {
+    match words {
+        [_, row, side, turns] => {
+            let row = row.as_str().parse::<u32>().ok()?;
+            let turns = turns.as_str().parse::<u64>().ok()?;
+            match side.as_str() {
+                "here" => Some((row, Asked::Here(turns))),
+                "plain" => Some((row, Asked::Plain(turns))),
+                _ => None,
+            }
+        }
+        _ => None,
+    }
+}
+
+/// Whether the one word behind the program's name asks for the table.
+fn is_table(words: &[String]) -> bool {
+    match words {
+        [_, word] => word.as_str() == "measure",
+        _ => false,
+    }
 }
 
 fn main(rt: HostRuntime) -> Result<()> {
-    if is_asked(&rt)? {
-        table::print(&rt)
-    } else {
-        println!(rt; "usb_bench measure: prints a table of nanoseconds, in some seconds")?;
-        Ok(())
+    let words: Vec<String> = env::args(&rt)?.collect(rt.alloc())?;
+    if is_table(words.as_slice()) {
+        return rows::print_all(&rt);
     }
+    if let Some((row, asked)) = asked(words.as_slice()) {
+        return rows::print_row(&rt, row, asked);
+    }
+    println!(rt; "usb_bench measure: prints a table of nanoseconds, within two minutes")?;
+    println!(rt;
+        "usb_bench ROW here TURNS, or ROW plain TURNS: one side of a row alone, from 0 on"
+    )?;
+    Ok(())
 }

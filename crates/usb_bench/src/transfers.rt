@@ -2,6 +2,7 @@
 
 use crate::coding::{plain_weight, weight};
 use crate::plain;
+use crate::plain_ring::PlainRing;
 use crate::work::Work;
 use std::alloc::{AllocError, Global};
 use std::collections::VecDeque;
@@ -10,9 +11,6 @@ use usb_tring::TransferRing;
 
 /// The address of a ring's first TRB.
 const BASE: u64 = 0x1002_3000;
-
-/// The index of the Link.
-const LINK: usize = 127;
 
 /// So many places can be in use.
 const ROOM: usize = 126;
@@ -67,99 +65,23 @@ impl Work for Transfers {
 /// The same in the plain form.
 #[derive(Drop)]
 pub struct PlainTransfers {
-    cells: Vec<[u8; 16]>,
+    ring: PlainRing,
     counts: VecDeque<usize>,
-    used: usize,
-    waiting: usize,
-    enqueue: usize,
-    enqueue_cycle: bool,
-    dequeue: usize,
-    dequeue_cycle: bool,
 }
 
 impl PlainTransfers {
     pub fn new(alloc: Global) -> Result<PlainTransfers, AllocError> {
         Ok(PlainTransfers {
-            cells: vec![in alloc; [0; 16]; 128]?,
+            ring: PlainRing::new(alloc, BASE)?,
             counts: VecDeque::with_capacity(alloc, ROOM)?,
-            used: 0,
-            waiting: 0,
-            enqueue: 0,
-            enqueue_cycle: true,
-            dequeue: 0,
-            dequeue_cycle: true,
         })
-    }
-
-    fn write(&mut self, at: usize, kind: plain::Kind) {
-        let cycle = self.enqueue_cycle;
-        if let Some(cell) = self.cells.get_mut(at) {
-            *cell = plain::encode(&plain::Trb { kind, cycle });
-        }
     }
 
     fn push(&mut self, kinds: &[plain::Kind]) {
         for kind in kinds {
-            self.write(self.enqueue, *kind);
-            self.enqueue = self.enqueue.wrapping_add(1);
-            if self.enqueue == LINK {
-                let chain = matches!(*kind, plain::Kind::Normal { chain: true, .. });
-                let link = plain::Kind::Link {
-                    segment: BASE,
-                    toggle: true,
-                    chain,
-                };
-                self.write(LINK, link);
-                self.enqueue = 0;
-                self.enqueue_cycle = !self.enqueue_cycle;
-            }
+            self.ring.put(*kind);
         }
-        self.used = self.used.wrapping_add(kinds.len());
-        self.waiting = self.waiting.wrapping_add(kinds.len());
         let _ = self.counts.push_back(kinds.len());
-    }
-
-    fn front(&self) -> Option<(u64, plain::Trb)> {
-        let trb = plain::decode(self.cells.get(self.dequeue)?)?;
-        if trb.cycle != self.dequeue_cycle {
-            return None;
-        }
-        Some((
-            BASE.wrapping_add((self.dequeue as u64).wrapping_mul(16)),
-            trb,
-        ))
-    }
-
-    fn pass(&mut self) {
-        self.dequeue = self.dequeue.wrapping_add(1);
-        self.waiting = self.waiting.wrapping_sub(1);
-        if self.dequeue == LINK {
-            self.dequeue = 0;
-            self.dequeue_cycle = !self.dequeue_cycle;
-        }
-    }
-
-    fn is_at_no_op(&self) -> bool {
-        match self.cells.get(self.dequeue) {
-            Some(cell) => cell[13] >> 2 == 8,
-            None => false,
-        }
-    }
-
-    fn advance(&mut self) {
-        self.pass();
-        for _ in 0..self.waiting {
-            if !self.is_at_no_op() {
-                return;
-            }
-            self.pass();
-        }
-    }
-
-    fn drop_front(&mut self) {
-        if let Some(count) = self.counts.pop_front() {
-            self.used = self.used.wrapping_sub(count);
-        }
     }
 }
 
@@ -174,15 +96,15 @@ impl Work for PlainTransfers {
                 chain: false,
                 done: true,
             }];
-            if self.used < ROOM {
+            if self.ring.fits() {
                 self.push(&kinds);
             }
-            if let Some((address, trb)) = self.front() {
+            if let Some((address, trb)) = self.ring.front() {
                 sum ^= plain_weight(&trb) ^ address;
-                self.advance();
+                self.ring.advance();
             }
-            if !self.counts.is_empty() {
-                self.drop_front();
+            if let Some(count) = self.counts.pop_front() {
+                self.ring.leave(count);
             }
         }
         sum
