@@ -28,34 +28,6 @@ const TOLD: &str = "h1 done\nh1 done\n\
 /// How often callbacks are called in it.
 const CALLS: u64 = 3;
 
-/// A callback that submits once more where it completed, and counts its calls.
-fn again_once(alloc: Global, calls: &Arc<AtomicU64>) -> Result<StoredCallback> {
-    let rule = Rule::Again {
-        on: StatusSet::COMPLETED,
-        rounds: 1,
-    };
-    let counted = calls.clone()?;
-    let code: Repeat = Box::new(
-        alloc,
-        move |returned: &Returned| -> Verdict
-            ensures { result ≡ verdict_of rule returned.now.status returned.now.round }
-        {
-            let _before = counted.fetch_add(1, Ordering::SeqCst);
-            rule.verdict(returned.status, returned.round)
-        },
-    )?;
-    Ok(StoredCallback::repeat(rule, code))
-}
-
-/// A callback that is called once, and counts that.
-fn once(alloc: Global, calls: &Arc<AtomicU64>) -> Result<StoredCallback> {
-    let counted = calls.clone()?;
-    let code: Once = Box::new(alloc, move |_returned: Returned| {
-        let _before = counted.fetch_add(1, Ordering::SeqCst);
-    })?;
-    Ok(StoredCallback::once(code))
-}
-
 /// Runs the plan. An error where another thing is told of it, or its callbacks are called another number of times.
 pub fn run(alloc: Global) -> Result<()> {
     let (Some(h), Some(dev)) = (Name::new(1), DeviceNo::new(0)) else {
@@ -92,9 +64,26 @@ pub fn run(alloc: Global) -> Result<()> {
         Plan::Return { h, n: 2 },
     ];
     let calls = Arc::new(alloc, AtomicU64::new(0))?;
+    let rule = Rule::Again {
+        on: StatusSet::COMPLETED,
+        rounds: 1,
+    };
+    let (first, second) = (calls.clone()?, calls.clone()?);
+    let again_once: Repeat = Box::new(
+        alloc,
+        move |returned: &Returned| -> Verdict
+            ensures { result ≡ verdict_of rule returned.now.status returned.now.round }
+        {
+            let _before = first.fetch_add(1, Ordering::SeqCst);
+            rule.verdict(returned.status, returned.round)
+        },
+    )?;
+    let once: Once = Box::new(alloc, move |_returned: Returned| {
+        let _before = second.fetch_add(1, Ordering::SeqCst);
+    })?;
     let mut callbacks = Vec::new(alloc);
-    callbacks.push(again_once(alloc, &calls)?)?;
-    callbacks.push(once(alloc, &calls)?)?;
+    callbacks.push(StoredCallback::repeat(rule, again_once))?;
+    callbacks.push(StoredCallback::once(once))?;
     let Ok(entries) = drive(alloc, scene::three_packets(alloc)?, &plan, callbacks) else {
         return Err(anyhow!("the plan stopped"));
     };
