@@ -13,7 +13,7 @@ try:
 	@cd crates/usbtrace && rt try -- run < $(SCENARIO)
 
 test:
-	rt ci
+	RT_JOBS=$$(nproc) rt ci
 
 fmt:
 	@for crate in crates/*; do (cd $$crate && rt fmt); done
