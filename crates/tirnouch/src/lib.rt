@@ -1,0 +1,61 @@
+//! Tirnouch: USB transfers that many threads submit, cancel and time out through many handles, none of which disturbs another
+//! (libusb 1.0, "Asynchronous device I/O").
+//!
+//! What a driver's author needs, under one roof; it has nothing of its own.
+//!
+//! # A small driver
+//!
+//! A meter is read once: 8 bytes from its interrupt endpoint 83. The caller of `read_once` has the devices, two threads in which
+//! `controller_loop` and `event_loop` run, and one for this:
+//!
+//! ```text
+//! fn read_once<L: Naming, C: Callback, D: Device, J: Recorder, R: Wait>(
+//!     rt: &R,
+//!     library: &Library<L, C, D, J>,
+//!     caller: &mut Caller<L>,
+//!     meter: Name,
+//!     callback: C,
+//! ) -> Result<()> {
+//!     let dev = DeviceNo::new(0).ok_or(anyhow!("device 0"))?;
+//!     library.open(rt, caller, meter, dev)?.granted()?;
+//!     library.claim(rt, caller, meter, 1)?.granted()?;
+//!     let request = Request {
+//!         ep: EpAddr::new(0x83),
+//!         kind: Kind::Interrupt,
+//!         flags: Flags::from_bits_retain(0),
+//!         timeout: 100,
+//!         body: Body::In(8),
+//!     };
+//!     match library.submit(rt, caller, meter, request, callback) {
+//!         Ok(submitted) => match submitted.number {
+//!             Ok(_number) => Ok(()),
+//!             Err(refused) => Err(anyhow!("refused: {}", refused.why)),
+//!         },
+//!         Err(_) => Err(anyhow!("no memory")),
+//!     }
+//! }
+//! ```
+//!
+//! # Which name is what
+//!
+//! - **Devices**: `read_config` reads a configuration descriptor; `TableDevice` answers by a script; `Device` is the trait of what
+//!   answers packets; `Setup` has up to four of them.
+//! - **Handles and transfers**: `Name` is a handle's, 0 to 63; `Request` is a transfer as it is submitted; `Returned` is what its
+//!   callback is told; `Refused` says why a call was refused, each with a sentence and libusb's number.
+//! - **The library**: `Opening`, then `Library::new` in a function that is generic in a `Naming`; a `Caller` for each thread;
+//!   `Journal` keeps every step, `Unrecorded` none.
+//! - **Callbacks**: `StoredCallback::once` and `StoredCallback::repeat`; a `Verdict` ends the transfer or submits it once more.
+//! - **The workers**: `controller_loop` and `event_loop`, with `Open` as their gate.
+#![tactic(auto)]
+
+pub use usb_book::{Journal, Naming, NotRecorded, Place, Receipt, Recorder, Unrecorded};
+pub use usb_callback::{Callback, Once, Repeat, StoredCallback};
+pub use usb_core::{Core, Pending, Setup, Taken, Unaccepted, Unadded};
+pub use usb_descriptors::{Config, read_config};
+pub use usb_device::{BoxedDevice, Device, TableDevice};
+pub use usb_library::{Answered, CALLERS, Caller, Ended, Library, Missing, Opening, Submitted};
+pub use usb_model::{
+    Body, Bytes, DeviceNo, Entry, EpAddr, Flags, Kind, Name, Refused, Reply, Request, Response,
+    Returned, Rule, Script, Sequence, Status, StatusSet, Step, Verdict,
+};
+pub use usb_workers::{Gate, Open, Point, controller_loop, event_loop};

@@ -1,0 +1,61 @@
+-- What contracts see of the library's values, and what a call makes.
+use Rattle.std.specs.Prelude.{◌≡◌, ◌≤◌, ◌+◌, ℕ, Bool, true, false, List, [], ◌∷◌, ◌++◌, length, map, Option, Some, None}
+use Rattle.atomic_table.specs.Seated.{TableId}
+use Rattle.usb_model.specs.declared.refused.Refused.{Refused}
+use Rattle.usb_model.specs.declared.reply.Reply.{Reply}
+use Rattle.usb_model.specs.declared.reply.Reply.TheVariants.{Idle, Refused as IsRefused}
+use Rattle.usb_model.specs.declared.step.Step.{Step}
+use Rattle.usb_model.specs.Setup.{Setup}
+use Rattle.usb_model.specs.World.Due.{due}
+use Rattle.usb_book.specs.declared.place.Place.{Place}
+use Rattle.usb_book.specs.Booked.{Booked, asked, asks, dated}
+use Rattle.usb_book.specs.Seen.{Receipted, receipts_from}
+
+-- what a library is made of: the name and the parts of its ledger, the roll of its journal, and its devices
+pub record Opened : Type 0 where
+  pub name : ℕ
+  pub parts : ℕ
+  pub table : TableId
+  pub setup : Setup
+
+-- a caller: its number, how many places the journal had after its last call, and the places of its own calls, in order
+pub record Calling : Type 0 where
+  pub number : ℕ
+  pub mark : ℕ
+  pub own : List Place
+
+-- what lies under the lock: the book, and how many callers were made
+pub record Desked (P : Type 0) : Type 0 where
+  pub book : Booked P
+  pub made : ℕ
+
+-- a call makes a step: the receipt's place is above the caller's earlier ones, and has this step of this caller, as the last of its own
+pub record Makes (step : Step) (old new : Calling) (r : Receipted) : Type 0 where
+  pub asked : r.entry.step ≡ step
+  pub by : r.entry.caller ≡ old.number
+  pub above : old.mark ≤ r.place
+  pub mark : new.mark ≡ r.place + 1
+  pub own : new.own ≡ old.own ++ r.entry ∷ []
+  pub number : new.number ≡ old.number
+
+-- time is moved on to now, or it is later: one Expire for each transfer that is due then, at consecutive places behind a journal, which are the caller's last
+pub record Ticks (setup : Setup) (now : ℕ) (old : Calling) (given : List Receipted) (new : Calling) : Type 0 where
+  pub before : List Place
+  pub moment : ℕ
+  pub places : List Place
+  pub late : now ≤ moment
+  pub each : map asked places ≡ asks old.number moment (due setup (dated before) moment)
+  pub receipts : given ≡ receipts_from (length before) places
+  pub own : new.own ≡ old.own ++ places
+  pub number : new.number ≡ old.number
+
+-- why a step was refused
+abbrev pub refusal : Reply → Option Refused
+refusal (IsRefused why) = Some why
+refusal reply = None
+
+-- whether something was done: the step was neither refused nor idle
+abbrev pub changes : Reply → Bool
+changes Idle = false
+changes (IsRefused why) = false
+changes reply = true

@@ -1,0 +1,137 @@
+//! The calls that submit transfers, and those that end them.
+
+ghost use Rattle.std.specs.Prelude.{◌≡◌, IfErr, IfOk, OnErr, option_map};
+ghost use Rattle.usb_model.specs.declared.step.Step.TheVariants.{Answer, Submit, Take};
+ghost use Rattle.usb_model.specs.declared.verdict.Verdict.TheVariants.{Again, AgainWith, Stop};
+ghost use Rattle.usb_state.specs.Calls.{called_entry};
+ghost use Rattle.usb_book.specs.Booked.{answer_entry};
+ghost use Rattle.usb_library.specs.Calling.{Makes, Ticks};
+
+use crate::answered::{Answered, Submitted};
+use crate::caller::Caller;
+use crate::library::Library;
+use std::alloc::AllocError;
+use std::sync::Wait;
+use usb_book::{Naming, NotRecorded, Receipt, Recorder};
+use usb_core::Taken;
+use usb_device::Device;
+use usb_model::{Bytes, Name, Request, Step, Verdict};
+
+impl<L: Naming, P: Drop, D: Device, J: Recorder> Library<L, P, D, J> {
+    /// Submits a transfer (libusb 1.0, `libusb_submit_transfer`), whose callback is kept with it: its number. Refused
+    /// where the endpoint isn't the name's (NotFound), the device is gone (NoDevice), the kind is not supported or another's,
+    /// direction or length is wrong (NotSupported, InvalidParam), or the endpoint has 16 transfers (Busy). Request and callback then come back, and
+    /// so they do, without a receipt, where memory is refused.
+    pub fn submit<R: Wait>(
+        &self,
+        rt: &R,
+        caller: &mut Caller<L>,
+        h: Name,
+        request: Request,
+        callback: P,
+    ) -> Result<Submitted<L, Request, P>, NotRecorded<Request, P>>
+        ensures made { IfOk result (λ x. Makes (Submit h request) caller.old caller.new x.receipt) }
+        ensures entry { IfOk result (λ x. x.receipt.entry.entry ≡ answer_entry h x.number) }
+        ensures back { IfOk result (λ x. IfErr x.number (λ y. (y.given ≡ request) × (y.payload ≡ callback))) }
+        ensures refused { IfErr result (λ x. (x.given ≡ request) × (x.payload ≡ callback) × (caller.new ≡ caller.old)) }
+    {
+        let submitted = self.desk.lock(rt).submit(caller, h, request, callback)?;
+        self.wake_if(rt, submitted.number.is_ok());
+        Ok(submitted)
+    }
+
+    /// The oldest result goes out to its callback, which is handed over with what it is to be told (libusb 1.0,
+    /// `libusb_transfer_cb_fn`): whoever takes it calls it, with no lock held, and tells its verdict by `answer`. None where none
+    /// waits. An error where memory is refused: then nothing changed.
+    pub fn take<R: Wait>(
+        &self,
+        rt: &R,
+        caller: &mut Caller<L>,
+    ) -> Result<(Receipt<L>, Option<Taken<P>>), AllocError>
+        ensures made { IfOk result (λ x. Makes Take caller.old caller.new x.0) }
+        ensures entry { IfOk result (λ x. x.0.entry.entry ≡ called_entry (option_map (λ t. t.returned) x.1)) }
+        ensures refused { OnErr result (caller.new ≡ caller.old) }
+    {
+        let (receipt, taken) = self.desk.lock(rt).take(caller)?;
+        self.wake_if(rt, taken.is_some());
+        Ok((receipt, taken))
+    }
+
+    /// Ends the callback of a transfer, which isn't submitted once more. NotFound where the name has no such transfer in
+    /// its callback. An error where memory is refused: then nothing changed.
+    pub fn stop<R: Wait>(
+        &self,
+        rt: &R,
+        caller: &mut Caller<L>,
+        h: Name,
+        n: u64,
+    ) -> Result<Answered<L>, AllocError>
+        ensures made { IfOk result (λ x. Makes (Answer h n Stop) caller.old caller.new x.receipt) }
+        ensures entry { IfOk result (λ x. x.entry ≡ x.receipt.entry.entry) }
+        ensures refused { OnErr result (caller.new ≡ caller.old) }
+    {
+        let verdict = Verdict::Stop;
+        self.call(rt, caller, Step::Answer { h, n, verdict })
+    }
+
+    /// Submits the transfer of a callback once more, under a new number; its callback ends. Refused as a submission is, and
+    /// NotFound where the name has no such transfer in its callback: then the callback goes on, and what was kept comes back. So it does,
+    /// without a receipt, where memory is refused.
+    pub fn again<R: Wait>(
+        &self,
+        rt: &R,
+        caller: &mut Caller<L>,
+        h: Name,
+        n: u64,
+        callback: P,
+    ) -> Result<Submitted<L, (), P>, NotRecorded<(), P>>
+        ensures made { IfOk result (λ x. Makes (Answer h n Again) caller.old caller.new x.receipt) }
+        ensures entry { IfOk result (λ x. x.receipt.entry.entry ≡ answer_entry h x.number) }
+        ensures back { IfOk result (λ x. IfErr x.number (λ y. y.payload ≡ callback)) }
+        ensures refused { IfErr result (λ x. (x.payload ≡ callback) × (caller.new ≡ caller.old)) }
+    {
+        let submitted = self.desk.lock(rt).again(caller, h, n, callback)?;
+        self.wake_if(rt, submitted.number.is_ok());
+        Ok(submitted)
+    }
+
+    /// The same with other bytes to be sent in the place of what the transfer had. Where it is refused they come back.
+    pub fn again_with<R: Wait>(
+        &self,
+        rt: &R,
+        caller: &mut Caller<L>,
+        h: Name,
+        n: u64,
+        bytes: Bytes,
+        callback: P,
+    ) -> Result<Submitted<L, Bytes, P>, NotRecorded<Bytes, P>>
+        ensures made { IfOk result (λ x. Makes (Answer h n (AgainWith bytes)) caller.old caller.new x.receipt) }
+        ensures entry { IfOk result (λ x. x.receipt.entry.entry ≡ answer_entry h x.number) }
+        ensures back { IfOk result (λ x. IfErr x.number (λ y. (y.given ≡ bytes) × (y.payload ≡ callback))) }
+        ensures refused { IfErr result (λ x. (x.given ≡ bytes) × (x.payload ≡ callback) × (caller.new ≡ caller.old)) }
+    {
+        let submitted = self
+            .desk
+            .lock(rt)
+            .again_with(caller, h, n, bytes, callback)?;
+        self.wake_if(rt, submitted.number.is_ok());
+        Ok(submitted)
+    }
+
+    /// Time passes (libusb 1.0, `libusb_handle_events_timeout`): the moment becomes `now`, in milliseconds, or stays where it is
+    /// later; then each transfer that is due, since its timeout has passed since its submission, is asked to end, by rising name and
+    /// number. A receipt each. An error where memory is refused: then nothing changed, the moment neither.
+    pub fn tick<R: Wait>(
+        &self,
+        rt: &R,
+        caller: &mut Caller<L>,
+        now: u64,
+    ) -> Result<Vec<Receipt<L>>, AllocError>
+        ensures ticked { IfOk result (λ given. Ticks L.setup now caller.old given.items caller.new) }
+        ensures refused { OnErr result (caller.new ≡ caller.old) }
+    {
+        let receipts = self.desk.lock(rt).tick(caller, now)?;
+        self.wake_if(rt, !receipts.is_empty());
+        Ok(receipts)
+    }
+}

@@ -1,0 +1,84 @@
+//! Who is woken when something changed, and when all is at rest.
+
+use crate::library::Library;
+use crossbeam_utils::sync::Unparker;
+use std::alloc::{AllocError, Global};
+use std::sync::atomic::{AtomicBool, Ordering};
+use std::sync::{Mutex, Wait};
+use usb_book::{Naming, Recorder};
+use usb_core::Pending;
+use usb_device::Device;
+
+/// Those who wait for a change. Their lock is their own: whoever holds it takes no other.
+#[derive(Drop)]
+pub(crate) struct Watchers {
+    stopping: AtomicBool,
+    unparkers: Mutex<Vec<Unparker>>,
+}
+
+impl Watchers {
+    /// Nobody waits, and no worker is asked to stop.
+    pub(crate) fn new(alloc: Global) -> Watchers {
+        Watchers {
+            stopping: AtomicBool::new(false),
+            unparkers: Mutex::new(Vec::new(alloc)),
+        }
+    }
+
+    /// All are woken.
+    pub(crate) fn wake<R: Wait>(&self, rt: &R) {
+        let unparkers = self.unparkers.lock(rt);
+        for unparker in unparkers.iter() {
+            unparker.unpark();
+        }
+    }
+}
+
+/// Whether nothing is to be done, and no transfer is in its callback.
+fn is_nothing(pending: &Pending) -> bool {
+    let Pending {
+        serve,
+        command,
+        deliver,
+        take,
+        out,
+    } = pending;
+    serve.is_none() && !*command && !*deliver && !*take && !*out
+}
+
+impl<L: Naming, P: Drop, D: Device, J: Recorder> Library<L, P, D, J> {
+    /// What there is to do. Endpoints are looked at in a circle, from behind the one that was served last.
+    pub fn pending<R: Wait>(&self, rt: &R) -> Pending {
+        self.desk.lock(rt).pending()
+    }
+
+    /// From now on this is unparked after each call that changed something, and when the workers are asked to stop. A
+    /// thread that looks, finds nothing to do, and parks then misses no change: what comes between is a token that lets
+    /// it pass. An error where memory is refused.
+    pub fn watch<R: Wait>(&self, rt: &R, unparker: Unparker) -> Result<(), AllocError> {
+        self.watchers.unparkers.lock(rt).push(unparker)?;
+        Ok(())
+    }
+
+    /// Asks the workers to end as soon as there is nothing to do.
+    pub fn stop_workers<R: Wait>(&self, rt: &R) {
+        self.watchers.stopping.store(true, Ordering::SeqCst);
+        self.watchers.wake(rt);
+    }
+
+    /// What there is to do; None where the workers were asked to stop and there is nothing. Whether they were asked is
+    /// read first: so a submission before that is seen.
+    pub fn work<R: Wait>(&self, rt: &R) -> Option<Pending> {
+        let stopping = self.watchers.stopping.load(Ordering::SeqCst);
+        let pending = self.pending(rt);
+        if stopping && is_nothing(&pending) {
+            return None;
+        }
+        Some(pending)
+    }
+
+    /// Whether workers were asked to stop, and there is nothing to do.
+    pub fn rested<R: Wait>(&self, rt: &R) -> bool {
+        self.work(rt).is_none()
+    }
+}

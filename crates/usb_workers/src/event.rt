@@ -1,0 +1,127 @@
+//! The worker that handles events and calls callbacks.
+
+ghost use Rattle.std.specs.Prelude.{◌≡◌};
+ghost use Rattle.usb_workers.specs.Steps.{Works, is_events};
+
+use crate::answering::answer;
+use crate::gate::{Gate, Point};
+use crate::parking::Parking;
+use std::alloc::Global;
+use std::sync::Wait;
+use usb_book::{Naming, Recorder};
+use usb_callback::Callback;
+use usb_core::{Pending, Taken};
+use usb_device::Device;
+use usb_library::{Caller, Library};
+
+/// An event is handled, if the look showed one. Want of memory is met by the next look.
+fn deliver<L: Naming, C: Callback, D: Device, J: Recorder, G: Gate, R: Wait>(
+    rt: &R,
+    library: &Library<L, C, D, J>,
+    gate: &mut G,
+    caller: &mut Caller<L>,
+    pending: &Pending,
+)
+    ensures { Works is_events caller.old caller.new }
+{
+    if pending.deliver {
+        gate.pass(rt, Point::Deliver);
+        let _answered = library.deliver(rt, caller);
+    }
+}
+
+/// A result goes out, if one waits.
+fn take<L: Naming, C: Callback, D: Device, J: Recorder, R: Wait>(
+    rt: &R,
+    library: &Library<L, C, D, J>,
+    caller: &mut Caller<L>,
+) -> Option<Taken<C>>
+    ensures { Works is_events caller.old caller.new }
+{
+    match library.take(rt, caller) {
+        Ok((_receipt, taken)) => taken,
+        Err(_) => None,
+    }
+}
+
+/// Calls a callback, with no lock held, and tells its verdict.
+fn call_back<L: Naming, C: Callback, D: Device, J: Recorder, G: Gate, R: Wait>(
+    rt: &R,
+    library: &Library<L, C, D, J>,
+    gate: &mut G,
+    caller: &mut Caller<L>,
+    taken: Taken<C>,
+)
+    ensures { Works is_events caller.old caller.new }
+{
+    let Taken {
+        returned,
+        payload: callback,
+    } = taken;
+    let (h, n) = (returned.h, returned.n);
+    gate.pass(rt, Point::Call);
+    let (verdict, callback) = callback.call(returned);
+    gate.pass(rt, Point::Answer);
+    answer(rt, library, caller, h, n, verdict, callback);
+}
+
+/// A result that the look showed goes out, and its callback is called.
+fn take_and_call<L: Naming, C: Callback, D: Device, J: Recorder, G: Gate, R: Wait>(
+    rt: &R,
+    library: &Library<L, C, D, J>,
+    gate: &mut G,
+    caller: &mut Caller<L>,
+    pending: &Pending,
+)
+    ensures { Works is_events caller.old caller.new }
+{
+    if !pending.take {
+        return;
+    }
+    gate.pass(rt, Point::Take);
+    if let Some(taken) = take(rt, library, caller) {
+        call_back(rt, library, gate, caller, taken);
+    }
+}
+
+/// What one look showed; it waits where that was nothing of its part.
+fn turn<L: Naming, C: Callback, D: Device, J: Recorder, G: Gate, R: Wait>(
+    rt: &R,
+    library: &Library<L, C, D, J>,
+    gate: &mut G,
+    caller: &mut Caller<L>,
+    parking: &Parking,
+    pending: &Pending,
+)
+    ensures { Works is_events caller.old caller.new }
+{
+    if !pending.deliver && !pending.take {
+        parking.park(rt);
+        return;
+    }
+    deliver(rt, library, gate, caller, pending);
+    take_and_call(rt, library, gate, caller, pending);
+}
+
+/// Handles events (libusb 1.0, `libusb_handle_events`), takes results out, calls their callbacks with no lock held and tells their
+/// verdicts, until the library is rested: a Deliver or Take only where `pending` showed one, each behind the gate.
+/// With nothing to do it parks. The caller comes back; its steps grew by Deliver, Take and Answer alone.
+pub fn event_loop<L: Naming, C: Callback, D: Device, J: Recorder, G: Gate, R: Wait>(
+    rt: &R,
+    alloc: Global,
+    library: &Library<L, C, D, J>,
+    gate: &mut G,
+    caller: Caller<L>,
+) -> Caller<L>
+    ensures works { Works is_events caller result }
+{
+    let mut caller = caller;
+    let parking = Parking::new(rt, alloc, library);
+    for _ in rt.forever() {
+        let Some(pending) = library.work(rt) else {
+            break;
+        };
+        turn(rt, library, gate, &mut caller, &parking, &pending);
+    }
+    caller
+}

@@ -1,0 +1,47 @@
+//! How a worker waits.
+
+use crossbeam_utils::sync::Parker;
+use std::alloc::Global;
+use std::sync::Wait;
+use usb_book::{Naming, Recorder};
+use usb_device::Device;
+use usb_library::Library;
+
+/// What a worker waits on while there is nothing to do. Where memory was refused for a parker it doesn't wait, and looks
+/// again and again.
+#[derive(Drop)]
+pub(crate) struct Parking {
+    parker: Option<Parker>,
+}
+
+impl Parking {
+    /// A parker that the library unparks after each change, if there is memory for one.
+    pub(crate) fn new<L: Naming, P: Drop, D: Device, J: Recorder, R: Wait>(
+        rt: &R,
+        alloc: Global,
+        library: &Library<L, P, D, J>,
+    ) -> Parking {
+        Parking {
+            parker: watched(rt, alloc, library),
+        }
+    }
+
+    /// Waits for a change since the last look; a change that came meanwhile lets it pass at once.
+    pub(crate) fn park<R: Wait>(&self, rt: &R) {
+        if let Some(parker) = &self.parker {
+            parker.park(rt);
+        }
+    }
+}
+
+/// A parker among the library's watchers.
+fn watched<L: Naming, P: Drop, D: Device, J: Recorder, R: Wait>(
+    rt: &R,
+    alloc: Global,
+    library: &Library<L, P, D, J>,
+) -> Option<Parker> {
+    let parker = Parker::new(alloc).ok()?;
+    let unparker = parker.unparker().clone().ok()?;
+    library.watch(rt, unparker).ok()?;
+    Some(parker)
+}
