@@ -1,5 +1,5 @@
 -- A caller's own places grow: by none, by one of a call, by those of two works in turn.
-use Rattle.std.proofs.Common.{◌≡◌, Bool, true, false, List, [], ◌∷◌, ◌++◌, ◌&&◌, refl, sym, ap, rw, ◌∙◌, append_assoc}
+use Rattle.std.proofs.Common.{◌≡◌, Bool, true, false, List, [], ◌∷◌, ◌++◌, ◌&&◌, refl, ap, ◌∙◌, append_assoc}
 use Rattle.std.specs.List.{list_all}
 use Rattle.usb_model.specs.declared.step.Step.{Step}
 use Rattle.usb_book.specs.declared.place.Place.{Place}
