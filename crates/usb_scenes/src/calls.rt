@@ -3,7 +3,7 @@
 ghost use Rattle.std.specs.Prelude.{◌≡◌};
 
 use crate::device::devices;
-use crate::reads::{Whose, read, whose};
+use crate::reads::{Whose, held_by, read};
 use anyhow::{Result, anyhow};
 use crossbeam_utils::sync::Parker;
 use std::alloc::Global;
@@ -128,7 +128,7 @@ fn once<L: Naming, D: Device, J: Recorder, R: Wait>(
     };
     let parker = Parker::new(alloc)?;
     library.watch(rt, parker.unparker().clone()?)?;
-    let whose = whose(1, 0, 0x81)?;
+    let whose = held_by(1, 0, 0x81)?;
     handles(rt, &library, &mut caller, whose)?;
     nothings(rt, &library, &mut caller, whose)?;
     transfer(rt, &library, &mut caller, whose)?;

@@ -3,7 +3,7 @@
 ghost use Rattle.std.specs.Prelude.{◌≡◌};
 
 use crate::device::devices;
-use crate::reads::{begin, whose};
+use crate::reads::{begin, held_by};
 use anyhow::{Result, anyhow};
 use std::alloc::Global;
 use std::marker::Brand;
@@ -111,7 +111,7 @@ fn live<
     ) else {
         return Err(anyhow!("no caller"));
     };
-    let whose = whose(1, 0, 0x81)?;
+    let whose = held_by(1, 0, 0x81)?;
     begin(rt, shared, &mut c, whose, 20, callback)?;
     let h = whose.h;
     let (first, second) = (&mut c, &mut d);

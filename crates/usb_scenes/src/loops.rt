@@ -4,7 +4,7 @@
 ghost use Rattle.std.specs.Prelude.{◌≡◌};
 
 use crate::device::devices;
-use crate::reads::{Whose, read, whose};
+use crate::reads::{Whose, held_by, read};
 use crate::waiting::is_set_in_time;
 use anyhow::{Result, anyhow};
 use std::alloc::Global;
@@ -142,7 +142,7 @@ fn live<
     else {
         return Err(anyhow!("no caller"));
     };
-    let whose = whose(1, 0, 0x81)?;
+    let whose = held_by(1, 0, 0x81)?;
     let mut holds = HoldsSecondServe { signs, served: 0 };
     let mut tells = TellsOfCalls { signs };
     let mut c = c;

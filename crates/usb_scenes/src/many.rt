@@ -3,7 +3,7 @@
 ghost use Rattle.std.specs.Prelude.{◌≡◌};
 
 use crate::device::devices;
-use crate::reads::{Whose, read, whose};
+use crate::reads::{Whose, held_by, read};
 use anyhow::{Result, anyhow};
 use std::alloc::{AllocError, Global};
 use std::marker::Brand;
@@ -14,7 +14,6 @@ use usb_callback::{Callback, Once, StoredCallback};
 use usb_device::{Device, TableDevice};
 use usb_library::{Caller, Library, Opening};
 use usb_model::{Entry, Kind, Reply, Returned, Sequence};
-use usb_streams::print;
 use usb_workers::{Open, controller_loop, event_loop};
 
 /// How many devices there are.
@@ -164,7 +163,7 @@ fn drivers<L: Naming, C: Callback, D: Device, R: Wait>(
         };
         drivers.push(Driver {
             caller,
-            whose: whose(number, number / 2, ep)?,
+            whose: held_by(number, number / 2, ep)?,
             interface,
             kind,
             callbacks,
@@ -270,6 +269,16 @@ fn is_called_in_turn(entries: &[Entry], number: u8) -> bool {
     next == READS
 }
 
+/// The lines of these entries.
+fn lines(alloc: Global, entries: &[Entry]) -> Result<String> {
+    let mut lines = String::new(alloc);
+    for entry in entries {
+        let line = format!(in alloc; "{entry}\n")?;
+        lines.push_str(line.as_str())?;
+    }
+    Ok(lines)
+}
+
 /// The run of the journal's steps, over the same devices: its entries are those of the journal.
 fn replay(alloc: Global, journal: Journal) -> Result<()> {
     let mut steps = Sequence::new(alloc);
@@ -282,10 +291,7 @@ fn replay(alloc: Global, journal: Journal) -> Result<()> {
     let Ok(found) = usb_core::run(alloc, setup, steps.as_slice()) else {
         return Err(anyhow!("the run of the journal stopped"));
     };
-    let (mut told, mut again) = (Vec::new(alloc), Vec::new(alloc));
-    let _ = print::print(alloc, &mut told, entries.as_slice());
-    let _ = print::print(alloc, &mut again, found.as_slice());
-    if told.as_slice() != again.as_slice() {
+    if lines(alloc, entries.as_slice())? != lines(alloc, found.as_slice())? {
         return Err(anyhow!("the journal isn't a run of its steps"));
     }
     for number in 0..2 * DEVICES {

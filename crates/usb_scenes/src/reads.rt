@@ -20,7 +20,7 @@ pub struct Whose {
 }
 
 /// A handle of this number, with this device and this endpoint.
-pub fn whose(h: u8, dev: u8, ep: u8) -> Result<Whose> {
+pub fn held_by(h: u8, dev: u8, ep: u8) -> Result<Whose> {
     let (Some(h), Some(dev)) = (Name::new(h), DeviceNo::new(dev)) else {
         return Err(anyhow!("a name and a device"));
     };

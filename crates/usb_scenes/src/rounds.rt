@@ -4,7 +4,7 @@ ghost use Rattle.std.specs.Prelude.{◌≡◌};
 ghost use Rattle.usb_model.specs.World.Plans.{verdict_of};
 
 use crate::device::devices;
-use crate::reads::{begin, whose};
+use crate::reads::{begin, held_by};
 use anyhow::{Result, anyhow};
 use std::alloc::Global;
 use std::marker::Brand;
@@ -88,7 +88,7 @@ fn live<
     else {
         return Err(anyhow!("no caller"));
     };
-    let whose = whose(1, 0, 0x81)?;
+    let whose = held_by(1, 0, 0x81)?;
     begin(rt, shared, &mut c, whose, 1, callback)?;
     let mut closes = ClosesBeforeAnswers {
         library: shared,

@@ -3,7 +3,7 @@
 ghost use Rattle.std.specs.Prelude.{◌≡◌};
 
 use crate::device::devices;
-use crate::reads::{read, whose};
+use crate::reads::{held_by, read};
 use anyhow::{Result, anyhow};
 use std::alloc::Global;
 use std::marker::Brand;
@@ -46,7 +46,7 @@ fn ticks<L: Naming, D: Device, J: Recorder, R: Wait>(
     let Some(mut caller) = library.caller(rt) else {
         return Err(anyhow!("no caller"));
     };
-    let whose = whose(1, 0, 0x81)?;
+    let whose = held_by(1, 0, 0x81)?;
     library.open(rt, &mut caller, whose.h, whose.dev)?;
     library.claim(rt, &mut caller, whose.h, 0)?;
     let request = read(whose.ep, Kind::Bulk, 8, 5);
