@@ -11,6 +11,7 @@ use Rattle.usb_model.specs.Setup.{Setup, endpoints_of, interface_of}
 use Rattle.usb_model.specs.World.{World, holder}
 use Rattle.usb_device.specs.Pipe.{pipe_at}
 use Rattle.usb_xhc.specs.Slots.{DeviceSlot}
+use Rattle.usb_match.specs.Endpoint.{IsPipe}
 use Rattle.usb_parts.specs.declared.pending.Pending.{Pending}
 use Rattle.usb_parts.specs.Pending.{IsPending}
 use Rattle.usb_parts.specs.Homes.{can_expire, expires_now}
@@ -21,7 +22,7 @@ use Rattle.usb_shows.proofs.Calls.Whole.{whole_steps}
 use Rattle.usb_slots.proofs.Ids.{has_device}
 use Rattle.usb_slots.proofs.Lookups.{get_within}
 use Rattle.usb_state.specs.State.{Keeps, ShowsWorld, State}
-use Rattle.usb_core.specs.Reads.{is_done, would_expire}
+use Rattle.usb_core.specs.Reads.{IsLeft, is_done, would_expire}
 
 -- how many bytes the first result has
 abbrev first_len : List (Tagged TransferResult) → ℕ
@@ -56,11 +57,15 @@ module _ {P : Type 0} where
   pending_shown s after p reads setup w shown = reads setup w shown.0 shown.1 shown.2
 
 module _ {P : Type 0} where
-  -- the packets that a held endpoint took are the world's
-  pub taken_shown : (s : State P) (d e i : ℕ) (o : Option (List ℕ)) → o ≡ taken_in s.controller d e i → (setup : Setup) (w : World) (h : ℕ) → ShowsWorld setup s w → holder setup w.claims d e ≡ Some h → o ≡ slice_get (w.endpoints d e).packets_received i
-  taken_shown s d e i o is setup w h shown held =
-      is ∙ ap (λ (m : Option DeviceSlot). option_and_then (λ (x : DeviceSlot). slice_get (pipe_at x.pipes e).taken i) m) slot.1
-      ∙ ap (λ (l : List (List ℕ)). slice_get l i) (((shown.1.held.each d slot.0 slot.1).ends e its.0 its.1).pipe.taken ∙ (shown.2.endpoints h d e held).packets_received)
+  -- the device of a held endpoint stands as the world has it
+  pub left_shown : (s : State P) (setup : Setup) (w : World) (d e h : ℕ) → ShowsWorld setup s w → holder setup w.claims d e ≡ Some h → IsLeft s.controller d e (w.endpoints d e)
+  left_shown s setup w d e h shown held = let end = shown.2.endpoints h d e held in record {
+    slot = slot.0;
+    there = slot.1;
+    left = pipe.left ∙ end.script_left;
+    halted = pipe.halted ∙ end.device_halted;
+    taken = pipe.taken ∙ end.packets_received;
+  }
     where
       -- the interface of an endpoint that is held
       interface : (m : Option ℕ) → interface_of setup d e ≡ m → option_and_then (λ (k : ℕ). w.claims d k) m ≡ Some h → (k : ℕ) × (interface_of setup d e ≡ Some k)
@@ -72,3 +77,13 @@ module _ {P : Type 0} where
 
       slot : (x : DeviceSlot) × (slice_get s.controller.slots d ≡ Some x)
       slot = get_within s.controller.slots d (subst (λ (n : ℕ). d < n) (sym shown.1.held.slots) (has_device setup d e its.0 its.1))
+
+      pipe : IsPipe (pipe_at slot.0.pipes e) (shown.0.endpoints d e)
+      pipe = ((shown.1.held.each d slot.0 slot.1).ends e its.0 its.1).pipe
+
+  -- the packets that a held endpoint took are the world's
+  pub taken_shown : (s : State P) (d e i : ℕ) (o : Option (List ℕ)) → o ≡ taken_in s.controller d e i → (setup : Setup) (w : World) (h : ℕ) → ShowsWorld setup s w → holder setup w.claims d e ≡ Some h → o ≡ slice_get (w.endpoints d e).packets_received i
+  taken_shown s d e i o is setup w h shown held =
+      let left = left_shown s setup w d e h shown held in
+      is ∙ ap (λ (m : Option DeviceSlot). option_and_then (λ (x : DeviceSlot). slice_get (pipe_at x.pipes e).taken i) m) left.there
+      ∙ ap (λ (l : List (List ℕ)). slice_get l i) left.taken

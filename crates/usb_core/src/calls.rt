@@ -41,7 +41,8 @@ impl<P, D: Device> Model for Core<P, D> {
 }
 
 impl<P, D: Device> Core<P, D> {
-    /// No name has a device open, and nothing is submitted.
+    /// No name has a device open, nothing is submitted, and each device is there, at the beginning of its scripts,
+    /// whatever was done with it before. The setup is dropped where memory is refused.
     pub fn new(alloc: Global, setup: Setup<D>) -> Result<Core<P, D>, AllocError>
         ensures shows { IfOk result (λ s. ShowsWorld (setup_of setup) s (new_world (setup_of setup))) }
         ensures carries { IfOk result (λ s. (kept : Kept P) → Carries kept s) }

@@ -1,30 +1,31 @@
-//! What can be asked of the core without a step.
+//! What can be asked of the core without a step, and how its devices are handed back.
 
 ghost use Rattle.std.specs.Prelude.{◌≡◌, ℕ, Some, length, slice_get};
 ghost use Rattle.std.specs.Option.{option_copied, option_map_or};
-ghost use Rattle.usb_model.specs.Setup.{Setup};
+ghost use Rattle.usb_model.specs.Setup.{Setup as ModelSetup};
 ghost use Rattle.usb_model.specs.World.{World, holder};
+ghost use Rattle.usb_state.specs.Making.{setup_of};
 ghost use Rattle.usb_state.specs.State.{ShowsWorld};
 ghost use Rattle.usb_parts.specs.Pending.{IsPending};
-ghost use Rattle.usb_core.specs.Reads.{would_expire};
+ghost use Rattle.usb_core.specs.Reads.{IsLeft, would_expire};
 
 use crate::calls::Core;
 use usb_device::Device;
 use usb_model::{DeviceNo, EpAddr, Name};
-use usb_parts::Pending;
+use usb_parts::{Pending, Setup};
 use usb_xhc::Controller;
 
 impl<P, D: Device> Core<P, D> {
     /// How many bytes the next result has that is taken; 0 where none waits.
     pub fn next_len(&self) -> usize
-        ensures { (setup : Setup) (w : World) → ShowsWorld setup self.now w → result ≡ option_map_or (λ t. length t.piece.bytes) (slice_get w.results 0) 0 }
+        ensures { (setup : ModelSetup) (w : World) → ShowsWorld setup self.now w → result ≡ option_map_or (λ t. length t.piece.bytes) (slice_get w.results 0) 0 }
     {
         self.parts.next_len()
     }
 
     /// Whether `expire` would be done.
     pub fn expires(&self, h: Name, n: u64) -> bool
-        ensures { (setup : Setup) (w : World) → ShowsWorld setup self.now w → result ≡ would_expire setup w h n }
+        ensures { (setup : ModelSetup) (w : World) → ShowsWorld setup self.now w → result ≡ would_expire setup w h n }
     {
         self.parts.expires(h, n)
     }
@@ -32,7 +33,7 @@ impl<P, D: Device> Core<P, D> {
     /// The packet of index `i`, from 0 on, of those that the device took at an endpoint that somebody holds, since it was
     /// made new; None past the last.
     pub fn taken(&self, dev: DeviceNo, ep: EpAddr, i: usize) -> Option<&[u8]>
-        ensures { (setup : Setup) (w : World) (h : ℕ) → ShowsWorld setup self.now w → holder setup w.claims dev ep ≡ Some h → option_copied result ≡ slice_get (w.endpoints dev ep).packets_received i }
+        ensures { (setup : ModelSetup) (w : World) (h : ℕ) → ShowsWorld setup self.now w → holder setup w.claims dev ep ≡ Some h → option_copied result ≡ slice_get (w.endpoints dev ep).packets_received i }
     {
         self.parts.taken(dev, ep, i)
     }
@@ -40,7 +41,7 @@ impl<P, D: Device> Core<P, D> {
     /// What is to be done next. Endpoints are looked at from behind this one on, in a circle; from the first one on
     /// where there is none. Takes no memory.
     pub fn pending(&self, after: Option<(DeviceNo, EpAddr)>) -> Pending
-        ensures { (setup : Setup) (w : World) → ShowsWorld setup self.now w → IsPending setup w after result }
+        ensures { (setup : ModelSetup) (w : World) → ShowsWorld setup self.now w → IsPending setup w after result }
     {
         self.parts.pending(after)
     }
@@ -50,5 +51,17 @@ impl<P, D: Device> Core<P, D> {
         ensures { result.now ≡ self.now.controller }
     {
         self.parts.controller()
+    }
+}
+
+impl<P: Drop, D: Device> Core<P, D> {
+    /// The devices as the steps left them, with their configurations and scripts: what they took can be read, and a core
+    /// that is made of them begins anew. What callers keep with transfers is dropped. Takes no memory.
+    pub fn into_setup(self) -> Setup<D>
+        ensures setup { (setup : ModelSetup) (w : World) → ShowsWorld setup self w → setup_of result ≡ setup }
+        ensures devices { (setup : ModelSetup) (w : World) (d e h : ℕ) → ShowsWorld setup self w → holder setup w.claims d e ≡ Some h → IsLeft result.controller d e (w.endpoints d e) }
+    {
+        let Core { parts } = self;
+        parts.into_setup()
     }
 }

@@ -16,7 +16,7 @@ use Rattle.usb_segment.proofs.Cells.{put-same, cell-put-other, kind-put, written
 use Rattle.usb_segment.proofs.Puts.{written-put, memory-put, memory-same}
 use Rattle.usb_segment.proofs.Fresh.{memory-cleared}
 use Rattle.usb_segment.proofs.Lists.{length-kinds, kinds-append, kinds-keep, kinds-same, window-read}
-use Rattle.usb_ering.specs.Ring.{between, ring_in, dequeue_of, IsSound, IsRing}
+use Rattle.usb_ering.specs.Ring.{between, empty, unused, ring_in, dequeue_of, IsSound, IsRing}
 use Rattle.usb_ering.proofs.Between.{between-end, between-start, between-post, between-take, between-is}
 
 -- a ring in which nothing was posted is sound
@@ -43,6 +43,10 @@ pub unused-waits : (w : ℕ) (m : Memory) → 0 < w → kinds w m 0 (between w 0
 unused-waits w m h =
     let two : 0 < w + w = omega arith in
     ap (kinds w m 0) (between-is w 0 0 0 two two (mod-eq_of_lt two))
+
+-- so memory that was cleared is that of an empty ring
+pub renewed-empty : (w : ℕ) (old now : Memory) → 0 < w → now ≡ cleared w (length old.cells) old.base → ring_in w now 0 0 ≡ empty w (length old.cells) old.base
+renewed-empty w old now h is = ap (λ (l : List TrbKind). record { posted = 0; waits = l; memory = now }) (unused-waits w now h) ∙ ap unused is
 
 -- as many wait as places stand between dequeue and enqueue
 pub length-waits : (w : ℕ) (m : Memory) (e d : ℕ) → length (ring_in w m e d).waits ≡ between w d e

@@ -61,7 +61,7 @@ ghost use Rattle.std.specs.Prelude.{◌≡◌, ◌+◌, ◌-◌, ◌*◌, ◌<�
 ghost use Rattle.usb_segment.specs.Places.{after, index_of, IsWidth};
 ghost use Rattle.usb_segment.specs.Memory.{put, cleared};
 ghost use Rattle.usb_segment.specs.Written.{IsMemory};
-ghost use Rattle.usb_ering.specs.Ring.{unused, capacity, between, dequeue_of, IsRing};
+ghost use Rattle.usb_ering.specs.Ring.{empty, unused, capacity, between, dequeue_of, IsRing};
 
 /// How many places from dequeue to enqueue.
 fn waiting<const N: usize>(dequeue: usize, enqueue: usize) -> usize
@@ -132,6 +132,15 @@ impl<const N: usize> Ring<N> {
             }
             Err(_) => None,
         }
+    }
+
+    /// All is as when it was made: nothing waits, and nothing was posted. Takes no memory.
+    pub fn renew(&mut self)
+        ensures { self.new ≡ empty N (length self.old.memory.cells) self.old.memory.base }
+    {
+        self.segment.clear();
+        self.enqueue = 0;
+        self.dequeue = 0;
     }
 
     /// The sixteen bytes at an index of memory; None past the last.

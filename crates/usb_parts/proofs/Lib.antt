@@ -6,6 +6,5 @@ mod Worth
 mod Circle
 mod Waits
 mod Called
-mod Rewinding
 mod Callbacks
 mod Carried

@@ -39,10 +39,7 @@ impl<P, D: Device> Parts<P, D> {
     pub fn taken(&self, dev: DeviceNo, ep: EpAddr, i: usize) -> Option<&[u8]>
         ensures { option_copied result ≡ taken_in self.now.controller dev ep i }
     {
-        match self.controller.slot(dev) {
-            Some(slot) => slot.taken(ep, i),
-            None => None,
-        }
+        taken_of(&self.controller, dev, ep, i)
     }
 
     /// The controller, with its rings and contexts.
@@ -50,5 +47,20 @@ impl<P, D: Device> Parts<P, D> {
         ensures { result.now ≡ self.now.controller }
     {
         &self.controller
+    }
+}
+
+/// The packet of index `i` of those that an endpoint of a controller's device took.
+pub(crate) fn taken_of<D: Device>(
+    controller: &Controller<D>,
+    dev: DeviceNo,
+    ep: EpAddr,
+    i: usize,
+) -> Option<&[u8]>
+    ensures { option_copied result ≡ taken_in controller.now dev ep i }
+{
+    match controller.slot(dev) {
+        Some(slot) => slot.taken(ep, i),
+        None => None,
     }
 }

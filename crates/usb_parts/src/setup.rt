@@ -1,20 +1,23 @@
 //! Devices that are to be run together.
 
 ghost use Rattle.std.specs.Prelude.{◌≡◌, ◌++◌, ◌∷◌, [], IfErr, IfOk, OnErr, OnOk, map};
-ghost use Rattle.usb_device.specs.Pipe.{IsLawful, rewound};
+ghost use Rattle.std.specs.Option.{option_copied};
 ghost use Rattle.usb_device.specs.Scripts.{Takes};
 ghost use Rattle.usb_state.specs.Making.{setup_of};
+ghost use Rattle.usb_parts.specs.Packets.{taken_in};
 
+use crate::reads::taken_of;
 use arrayvec::ArrayVec;
 use std::alloc::{AllocError, Global};
 use std::marker::Model;
 use usb_descriptors::Config;
 use usb_device::Device;
-use usb_model::{EpAddr, Refused};
+use usb_model::{DeviceNo, EpAddr, Refused};
 use usb_xhc::Controller;
 
 /// At most 4 devices, each with its configuration, at the slots of a controller. Contracts see a record of the
-/// configurations and the controller; `setup_of` is what the definitions read of them.
+/// configurations and the controller; `setup_of` is what the definitions read of them: a device's scripts, wherever it
+/// stands in them. Parts that are made of it begin anew.
 #[derive(Drop)]
 pub struct Setup<D: Device> {
     pub(crate) configs: ArrayVec<Config, 4>,
@@ -53,13 +56,13 @@ impl<D: Device> Setup<D> {
         })
     }
 
-    /// A device of this configuration, at the beginning of its scripts. It takes packets as long as the configuration
-    /// says. Where it isn't added it comes back; after want of memory it stands at the beginning of its scripts.
+    /// A device of this configuration. It takes packets as long as the configuration says. Where it isn't added it comes
+    /// back: InvalidParam where there are four, NoMem where memory was refused.
     pub fn add(&mut self, alloc: Global, config: Config, device: D) -> Result<(), Unadded<D>>
         requires { Takes config (D.pipes device) }
         ensures added { OnOk result (setup_of self.new ≡ setup_of self.old ++ record { config = config; scripts = map (λ p. p.script) (D.pipes device) } ∷ []) }
         ensures back { IfErr result (λ x. x.config ≡ config) }
-        ensures scripts { IfErr result (λ x. map (λ p. p.script) (D.pipes x.device) ≡ map (λ p. p.script) (D.pipes device)) }
+        ensures device { IfErr result (λ x. x.device ≡ device) }
         ensures kept { OnErr result (self.new ≡ self.old) }
     {
         if self.configs.is_full() {
@@ -70,8 +73,6 @@ impl<D: Device> Setup<D> {
             });
         }
         prove!(config.endpoints().len() <= 30);
-        let mut device = device;
-        rewind(&mut device);
         match self.controller.add(alloc, &config, device) {
             Ok(()) => {
                 self.configs.push(config);
@@ -84,14 +85,12 @@ impl<D: Device> Setup<D> {
             }),
         }
     }
-}
 
-/// A device goes back to the beginning of each endpoint's script.
-fn rewind<D: Device>(device: &mut D)
-    ensures pipes { D.pipes device.new ≡ map rewound (D.pipes device.old) }
-    ensures lawful { IsLawful (D.pipes device.new) }
-{
-    for id in 0..32_u8 {
-        device.rewind(EpAddr::new(id / 2 + 128 * (id % 2)));
+    /// The packet of index `i`, from 0 on, of those that a device took at an endpoint since it was made new; None past the
+    /// last, and where there is no such device.
+    pub fn taken(&self, dev: DeviceNo, ep: EpAddr, i: usize) -> Option<&[u8]>
+        ensures { option_copied result ≡ taken_in self.now.controller dev ep i }
+    {
+        taken_of(&self.controller, dev, ep, i)
     }
 }

@@ -1,8 +1,8 @@
 -- A segment as it is made.
-use Rattle.std.proofs.Common.{◌≡◌, ℕ, suc, ◌+◌, ◌-◌, ◌%◌, ◌<◌, ◌≤◌, Bool, true, false, refl, ap, sym, ◌∙◌, arith, List, [], length, get_or, set, replicate, inl, inr, ◌⊎◌}
+use Rattle.std.proofs.Common.{◌≡◌, ℕ, suc, ◌+◌, ◌-◌, ◌%◌, ◌<◌, ◌≤◌, Bool, true, false, refl, ap, sym, ◌∙◌, arith, List, [], length, get_or, set, replicate}
 use Rattle.std.specs.Prelude.{not}
-use Rattle.std.proofs.lemmas.Bool.{lt-ltb, cases_lt}
-use Rattle.std.proofs.lemmas.List.{get_or-set_other, get_or-set_same, length-set, get_or-replicate, length-replicate, ext_get_or, set_past}
+use Rattle.std.proofs.lemmas.Bool.{lt-ltb}
+use Rattle.std.proofs.lemmas.List.{get_or-set_other, get_or-set_same, length-set, get_or-replicate, length-replicate, set_past}
 use Rattle.std.proofs.Math.Nat.{mod-eq_of_lt}
 use Rattle.usb_trb.specs.Words.{trb_bytes}
 use Rattle.usb_trb.specs.Read.{kind_of, cycle_in}
@@ -53,43 +53,6 @@ memory-cleared w size base z h = record {
       ∙ ap (λ (b : Bool). trb_bytes (link_at base b false)) (sym (ap (λ (c : List ℕ). chain_of (kind_of c)) (cell-cleared w size base (w - 1) z h) ∙ zeros-chain))
       ∙ ap (λ (b : Bool). trb_bytes (link_at base (chain_of (kind_of (cell w (cleared w size base) (w - 1)))) (not b))) (sym (cycle-first w 0 z));
 }
-
--- cells of which all are zeros but those from the width on
-pub same-zeros : (w size : ℕ) (cells : List (List ℕ)) (x : List ℕ) → length cells ≡ size → w ≤ size → size ≤ suc w → ((k : ℕ) → k < w → get_or cells k [] ≡ zeros)
-    → set cells w x ≡ set (replicate size zeros) w x
-same-zeros w size cells x len a b h =
-    ext_get_or [] (set cells w x) (set (replicate size zeros) w x) (length-set cells w x ∙ len ∙ sym (length-replicate size zeros) ∙ sym (length-set (replicate size zeros) w x))
-    (λ k l. by_place k (omega (arith, length-set cells w x, len)) (cases_lt k w))
-  where
-    at_end : (k : ℕ) (xs : List (List ℕ)) → length xs ≡ size → k < size → k ≡ w → get_or (set xs w x) k [] ≡ x
-    at_end k xs n l f = rw f (get_or-set_same xs w x [] (omega arith))
-
-    by_place : (k : ℕ) → k < size → (k < w) ⊎ (w ≤ k) → get_or (set cells w x) k [] ≡ get_or (set (replicate size zeros) w x) k []
-    by_place k l (inl low) =
-        let other : k ≡ w → ⊥ = omega arith in
-        get_or-set_other cells w k x [] other ∙ h k low
-        ∙ sym (get_or-replicate size k zeros [] l)
-        ∙ sym (get_or-set_other (replicate size zeros) w k x [] other)
-    by_place k l (inr last) =
-        at_end k cells len l (omega arith) ∙ sym (at_end k (replicate size zeros) (length-replicate size zeros) l (omega arith))
-
--- with a Link behind them
-pub clear-link : (w b base size : ℕ) (cells : List (List ℕ)) (x : List ℕ) → length cells ≡ size → w < size → size ≤ suc w → ((k : ℕ) → k < w → get_or cells k [] ≡ zeros) → b ≡ base
-    → x ≡ trb_bytes (link_at b false false) → record { base = b; cells = set cells w x } ≡ cleared w size base
-unfolding cleared_cells
-clear-link w b base size cells x len a c h e f =
-    ap (λ (y : List ℕ). record { base = b; cells = set cells w y }) f
-    ∙ ap (λ (xs : List (List ℕ)). record { base = b; cells = xs }) (same-zeros w size cells (trb_bytes (link_at b false false)) len (omega arith) c h)
-    ∙ ap (cleared w size) e
-
--- with none
-pub clear-none : (w b base size : ℕ) (cells : List (List ℕ)) → length cells ≡ size → size ≤ w → w ≤ size → ((k : ℕ) → k < w → get_or cells k [] ≡ zeros) → b ≡ base
-    → record { base = b; cells = cells } ≡ cleared w size base
-unfolding cleared_cells
-clear-none w b base size cells len a c h e =
-    ap (λ (xs : List (List ℕ)). record { base = b; cells = xs })
-    (sym (set_past cells w (trb_bytes (link_at b false false)) (omega arith)) ∙ same-zeros w size cells (trb_bytes (link_at b false false)) len c (omega arith) h)
-    ∙ ap (cleared w size) e
 
 -- no Link is written where there is no cell for it
 pub made-none : (w base : ℕ) (cells : List (List ℕ)) → cells ≡ replicate w zeros → record { base = base; cells = cells } ≡ cleared w w base

@@ -119,9 +119,7 @@ impl<const N: usize> Segment<N> {
     pub fn clear(&mut self)
         ensures { self.new ≡ cleared N (length self.old.cells) self.old.base }
     {
-        for i in 0..N {
-            self.cells[i] = [0; 16];
-        }
+        self.cells.fill([0; 16]);
         if N < self.cells.len() {
             self.cells[N] = link(self.base, false, false);
         }

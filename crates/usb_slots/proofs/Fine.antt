@@ -22,7 +22,7 @@ use Rattle.usb_slots.specs.Made.{IsRead}
 use Rattle.usb_slots.proofs.Found.{IsFound, found}
 
 -- an endpoint that is found is numbered, and its size isn't bad
-found_in : (xs : List EndpointInfo) (e : ℕ) (z : EndpointInfo) → AllByRecursion IsNumbered (addresses xs) → AllByRecursion (λ (x : EndpointInfo). is_bad_size x ≡ false) xs → find (λ (x : EndpointInfo). x.address == e) xs ≡ Some z
+pub found_in : (xs : List EndpointInfo) (e : ℕ) (z : EndpointInfo) → AllByRecursion IsNumbered (addresses xs) → AllByRecursion (λ (x : EndpointInfo). is_bad_size x ≡ false) xs → find (λ (x : EndpointInfo). x.address == e) xs ≡ Some z
     → IsNumbered e × (is_bad_size z ≡ false)
 found_in [] e z numbered sized is = absurd cc
 found_in (x ∷ xs) e z numbered sized is = by_test (x.address == e) refl is (found_in xs e z numbered.1 sized.1)

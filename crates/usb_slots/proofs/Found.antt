@@ -44,7 +44,7 @@ abbrev is_plain_one : EndpointInfo → Type 0
 is_plain_one x = is_plain x.address ≡ true
 
 -- where all addresses that are found are plain, all are
-all_plain : (xs : List EndpointInfo) → ((e : ℕ) → is_some (find (λ (x : EndpointInfo). x.address == e) xs) ≡ true → is_plain e ≡ true) → AllByRecursion is_plain_one xs
+pub all_plain : (xs : List EndpointInfo) → ((e : ℕ) → is_some (find (λ (x : EndpointInfo). x.address == e) xs) ≡ true → is_plain e ≡ true) → AllByRecursion is_plain_one xs
 all_plain [] plain = tt
 all_plain (x ∷ xs) plain = (plain x.address (rw (eq-eqb x.address x.address refl) refl), all_plain xs (λ e there. plain e (behind e (x.address == e) there)))
   where
@@ -53,7 +53,7 @@ all_plain (x ∷ xs) plain = (plain x.address (rw (eq-eqb x.address x.address re
     behind e false there = there
 
 -- among endpoints of plain addresses one is found by its id as by its address
-find_by_id : (xs : List EndpointInfo) (e : ℕ) → is_plain e ≡ true → AllByRecursion is_plain_one xs → find (λ (x : EndpointInfo). endpoint_id x.address == endpoint_id e) xs ≡ find (λ (x : EndpointInfo). x.address == e) xs
+pub find_by_id : (xs : List EndpointInfo) (e : ℕ) → is_plain e ≡ true → AllByRecursion is_plain_one xs → find (λ (x : EndpointInfo). endpoint_id x.address == endpoint_id e) xs ≡ find (λ (x : EndpointInfo). x.address == e) xs
 find_by_id [] e plain all = refl
 find_by_id (x ∷ xs) e plain all = by_test (x.address == e) refl (find_by_id xs e plain all.1)
   where
@@ -76,3 +76,8 @@ found_by_id setup d e i x plain at there =
     by_info : (f : ℕ) (o : Option EndpointInfo) → find (λ (y : EndpointInfo). y.address == f) x.config.endpoints ≡ o → is_some o ≡ true → is_plain f ≡ true
     by_info f None none some = absurd cc
     by_info f (Some z) is some = plain d f z.interface (same f ∙ ap (option_map (λ (w : EndpointInfo). w.interface)) is)
+
+-- what the configuration of a device says of an address, the setup says
+pub info_is : (setup : Setup) (d e : ℕ) (x : DeviceSetup) (z : EndpointInfo) → slice_get setup d ≡ Some x → info_at x.config e ≡ Some z → info_of setup d e ≡ Some z
+unfolding info_of
+info_is setup d e x z there here = ap (λ (o : Option DeviceSetup). find (λ (y : EndpointInfo). y.address == e) (option_map_or (λ (v : DeviceSetup). v.config.endpoints) o [])) there ∙ here

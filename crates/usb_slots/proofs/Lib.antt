@@ -12,5 +12,5 @@ pub mod Serves
 pub mod Runs
 pub mod Unplugs
 pub mod Found
-pub mod Made
 pub mod Fine
+pub mod Made

@@ -1,9 +1,11 @@
 -- Slots of which one has another endpoint.
-use Rattle.std.proofs.Common.{◌≡◌, ℕ, refl, ap, sym, subst, subst₂, ◌∙◌, arith, List, length, Some, None, Option, inl, inr, ◌⊎◌, length-set}
+use Rattle.std.proofs.Common.{◌≡◌, ℕ, zero, suc, refl, ap, sym, subst, subst₂, ◌∙◌, arith, List, [], ◌∷◌, length, map, get_or, Some, None, Option, inl, inr, ◌⊎◌, length-set}
 use Rattle.std.specs.Prelude.{slice_get, slice_index_or, slice_set, Bool}
 use Rattle.std.specs.Option.{unwrap_or}
 use Rattle.std.proofs.lemmas.Bool.{cases_eq}
+use Rattle.std.proofs.lemmas.List.{ext_get_or, length-map}
 use Rattle.std.proofs.lemmas.Option.{same_Some, slice_get_within}
+use Rattle.usb_model.specs.declared.response.Response.{Response}
 use Rattle.usb_model.specs.Setup.{Setup, endpoint_id, interface_of, script_of}
 use Rattle.usb_kept.specs.Kept.{KeptEndpoint}
 use Rattle.usb_device.specs.Pipe.{Pipe, no_pipe, pipe_at}
@@ -47,6 +49,22 @@ end_from setup t d e b p o is_context is_pipe pipe script ring = record {
   ring = subst₂ (λ (x : Pipe) (y : Option Context). RingIs setup d e x b y) (sym is_pipe) (sym is_context) ring;
 }
 
+-- the same scripts, where that endpoint has the same
+same_scripts : (id : ℕ) (s t : DeviceSlot) → IsBut id s t → (unwrap_or (slice_get t.pipes id) no_pipe).script ≡ (unwrap_or (slice_get s.pipes id) no_pipe).script → map (λ (p : Pipe). p.script) t.pipes ≡ map (λ (p : Pipe). p.script) s.pipes
+same_scripts id s t but same = ext_get_or [] _ _ (length-map t.pipes script ∙ but.pipes ∙ sym (length-map s.pipes script)) (λ j below. by_id j (cases_eq j id))
+  where
+    script : Pipe → List Response
+    script p = p.script
+
+    at : (l : List Pipe) (j : ℕ) → get_or (map script l) j [] ≡ (unwrap_or (slice_get l j) no_pipe).script
+    at [] j = refl
+    at (p ∷ ps) zero = refl
+    at (p ∷ ps) (suc j) = at ps j
+
+    by_id : (j : ℕ) → (j ≡ id) ⊎ (j ≡ id → ⊥) → get_or (map script t.pipes) j [] ≡ get_or (map script s.pipes) j []
+    by_id j (inl it) = at t.pipes j ∙ (ap (λ (n : ℕ). (unwrap_or (slice_get t.pipes n) no_pipe).script) it ∙ (same ∙ (ap (λ (n : ℕ). (unwrap_or (slice_get s.pipes n) no_pipe).script) (sym it) ∙ sym (at s.pipes j))))
+    by_id j (inr other) = at t.pipes j ∙ (ap (λ (o : Option Pipe). (unwrap_or o no_pipe).script) (but.other_pipe j other) ∙ sym (at s.pipes j))
+
 -- the device's slot with another endpoint
 slot_with : (setup : Setup) (d e i : ℕ) (s t : DeviceSlot) (gone : ℕ → Bool) (endpoints : ℕ → ℕ → KeptEndpoint) (b : KeptEndpoint) → HasPlain setup → interface_of setup d e ≡ Some i
     → IsBut (endpoint_id e) s t → IsSlot setup d s gone endpoints → IsEnd setup t d e b → IsSlot setup d t gone (with_end endpoints d e b)
@@ -54,6 +72,7 @@ slot_with setup d e i s t gone endpoints b plain at but is end = record {
   contexts = but.contexts ∙ is.contexts;
   pipes = but.pipes ∙ is.pipes;
   is_gone = but.is_gone ∙ is.is_gone;
+  scripts = λ x there. is.scripts x there ∙ sym (same_scripts (endpoint_id e) s t but (end.script ∙ sym (is.ends e i at).script));
   ends = λ f j h. by_end f j h (cases_eq e f);
 }
   where
@@ -70,6 +89,7 @@ slot_beside setup d e dev s gone endpoints b other is = record {
   contexts = is.contexts;
   pipes = is.pipes;
   is_gone = is.is_gone;
+  scripts = is.scripts;
   ends = λ f j h. subst (λ (x : KeptEndpoint). IsEnd setup s dev f x) (sym (at_other endpoints d e b dev f other)) (is.ends f j h);
 }
 

@@ -22,12 +22,13 @@ gone_now setup d s gone now endpoints left is = record {
   contexts = is.contexts;
   pipes = is.pipes;
   is_gone = sym left;
+  scripts = is.scripts;
   ends = λ e i h. let end = is.ends e i h in record { pipe = end.pipe; script = end.script; ring = end.ring };
 }
 
 -- the others stay as they are
 still_there : (setup : Setup) (d : ℕ) (s : DeviceSlot) (gone now : ℕ → Bool) (endpoints : ℕ → ℕ → KeptEndpoint) → now d ≡ gone d → IsSlot setup d s gone endpoints → IsSlot setup d s now endpoints
-still_there setup d s gone now endpoints same is = record { contexts = is.contexts; pipes = is.pipes; is_gone = is.is_gone ∙ sym same; ends = is.ends }
+still_there setup d s gone now endpoints same is = record { contexts = is.contexts; pipes = is.pipes; is_gone = is.is_gone ∙ sym same; scripts = is.scripts; ends = is.ends }
 
 -- the controller without the device
 pub unplugs : UnplugsCore

@@ -2,6 +2,7 @@
 use Rattle.std.specs.Prelude.{◌≡◌, ℕ, suc, ◌%◌, ◌==◌, ◌≤◌, Bool, true, false, ◌&&◌, List, [], ◌∷◌, length, map, slice_get, Option, Some, None, if◌then◌else◌}
 use Rattle.usb_model.specs.declared.errand.Errand.{Errand}
 use Rattle.usb_model.specs.declared.errand.Errand.TheVariants as errand
+use Rattle.usb_model.specs.declared.setup.DeviceSetup.{DeviceSetup}
 use Rattle.usb_model.specs.Requests.{is_unsupported}
 use Rattle.usb_model.specs.Setup.{Setup, endpoint_id, interface_of, kind_of, packet_size_of, script_of}
 use Rattle.usb_trb.specs.declared.kind.TrbKind.{TrbKind}
@@ -50,11 +51,12 @@ pub record IsEnd (setup : Setup) (s : DeviceSlot) (d e : ℕ) (b : KeptEndpoint)
   pub script : (pipe_at s.pipes e).script ≡ script_of setup d e
   pub ring : RingIs setup d e (pipe_at s.pipes e) b (context_of s e)
 
--- the slot of device d: each endpoint that its configuration has
+-- the slot of device d: its scripts, and each endpoint that its configuration has
 pub record IsSlot (setup : Setup) (d : ℕ) (s : DeviceSlot) (gone : ℕ → Bool) (endpoints : ℕ → ℕ → KeptEndpoint) : Type 0 where
   pub contexts : length s.contexts ≡ 32
   pub pipes : length s.pipes ≡ 32
   pub is_gone : s.gone ≡ gone d
+  pub scripts : (x : DeviceSetup) → slice_get setup d ≡ Some x → x.scripts ≡ map (λ p. p.script) s.pipes
   pub ends : (e i : ℕ) → interface_of setup d e ≡ Some i → IsEnd setup s d e (endpoints d e)
 
 -- the order of an errand in the command ring (xHCI 1.2, 6.4.3); b: its endpoint

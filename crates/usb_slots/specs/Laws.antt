@@ -2,7 +2,6 @@
 use Rattle.std.specs.Prelude.{◌≡◌, ℕ, suc, ◌+◌, ◌-◌, ◌%◌, ◌<◌, ◌≤◌, Bool, true, false, List, [], ◌∷◌, ◌++◌, length, map, drop, slice_get, slice_set, Option, Some, None}
 use Rattle.usb_model.specs.declared.endpoint.EndpointState.TheVariants.{Running, Halted}
 use Rattle.usb_model.specs.declared.errand.Errand.{Errand}
-use Rattle.usb_model.specs.declared.errand.Errand.TheVariants as errand
 use Rattle.usb_model.specs.declared.reply.Reply.TheVariants.{Idle}
 use Rattle.usb_model.specs.declared.request.Body.{Body}
 use Rattle.usb_model.specs.declared.request.Body.TheVariants.{In, Out}
@@ -12,6 +11,7 @@ use Rattle.usb_model.specs.Limits.{most_bytes}
 use Rattle.usb_model.specs.Requests.{length_of}
 use Rattle.usb_model.specs.Setup.{Setup, endpoint_id, interface_of, packet_size_of, script_of}
 use Rattle.usb_claims.specs.Tables.{is_plain}
+use Rattle.usb_descriptors.specs.Table.{IsTable}
 use Rattle.usb_trb.specs.declared.kind.TrbKind.{TrbKind}
 use Rattle.usb_segment.specs.Places.{index_of}
 use Rattle.usb_kept.specs.Kept.{KeptEndpoint, KeptTransfer, code_of, new_kept_endpoint, trbs_of}
@@ -27,7 +27,8 @@ use Rattle.usb_context.specs.declared.packet.Packet.{Packet as Told}
 use Rattle.usb_context.specs.Context.{Context}
 use Rattle.usb_context.specs.Hosting.{rung, with_ring, with_pushed, with_blank, without_first}
 use Rattle.usb_context.specs.Posting.{posted_one}
-use Rattle.usb_xhc.specs.Controller.{Controller, Run, run_of, served_at, slot_changed, told_at}
+use Rattle.usb_xhc.specs.Controller.{AreLawfulAll, Controller, Run, all_renewed, run_of, served_at, slot_changed, told_at}
+use Rattle.usb_xhc.specs.Making.{slot_for}
 use Rattle.usb_xhc.specs.Slots.{DeviceSlot, changed, context_of, read_after, renewed, sends}
 use Rattle.usb_match.specs.Endpoint.{IsFresh}
 use Rattle.usb_match.specs.Laws.{HaveTrbsOf}
@@ -36,7 +37,7 @@ use Rattle.usb_shows.specs.Lively.{IsFine}
 use Rattle.usb_shows.specs.Known.{NoMove}
 use Rattle.usb_shows.specs.Shows.{RingEvent, RingOrder, event_at, order_at}
 use Rattle.usb_slots.specs.Holds.{Holds, IsPosted, with_end}
-use Rattle.usb_slots.specs.Made.{AreLawful, IsMade, IsRead}
+use Rattle.usb_slots.specs.Made.{AreLawful, IsOf, IsRead, IsSlotOf, TakesSizes}
 
 -- addresses as endpoint descriptors have them (USB 2.0, 9.6.6): no two endpoints of a device have one id
 abbrev pub HasPlain : Setup → Type 0
@@ -46,9 +47,17 @@ HasPlain setup = (d e i : ℕ) → interface_of setup d e ≡ Some i → is_plai
 abbrev pub HasNumbers : Setup → Type 0
 HasNumbers setup = (d e i : ℕ) → interface_of setup d e ≡ Some i → 0 < e % 16
 
--- a controller as it is made holds a new core
+-- the slot of a device as it is added is one of its configuration
+abbrev pub AddsSlot : Type 0
+AddsSlot = (d : ℕ) (x : DeviceSetup) (pipes : List Pipe) → IsTable x.config.endpoints → x.scripts ≡ map (λ p. p.script) pipes → TakesSizes x.config pipes → IsSlotOf d x (slot_for (suc d) x.config pipes)
+
+-- a controller of a setup that is made new holds a new core
 abbrev pub MakesCore : Type 0
-MakesCore = (setup : Setup) (k : Controller) → HasPlain setup → HasNumbers setup → IsMade setup k → Holds setup k (λ d. false) (λ d e. new_kept_endpoint (script_of setup d e)) [] [] 0
+MakesCore = (setup : Setup) (k : Controller) → HasPlain setup → IsOf setup k → AreLawfulAll (all_renewed k).slots → Holds setup (all_renewed k) (λ d. false) (λ d e. new_kept_endpoint (script_of setup d e)) [] [] 0
+
+-- one that holds a core is of its setup
+abbrev pub IsOfHeld : Type 0
+IsOfHeld = (setup : Setup) (k : Controller) (gone : ℕ → Bool) (endpoints : ℕ → ℕ → KeptEndpoint) (orders : List RingOrder) (events : List RingEvent) (posted : ℕ) → Holds setup k gone endpoints orders events posted → IsOf setup k
 
 -- what is asked of a setup follows from what was read, and from what devices promise
 abbrev pub IsFineRead : Type 0

@@ -1,10 +1,20 @@
 //! What is proved of the definitions in specs/. Each is the contract of a function with an empty body.
 
-ghost use Rattle.usb_slots.specs.Laws.{HostsAll, IsFineRead, IsLawfulByScripts, MakesCore, PostsCore, RunsCore, ServesCore, TakesCore, UnplugsCore};
+ghost use Rattle.usb_slots.specs.Laws.{AddsSlot, HostsAll, IsFineRead, IsOfHeld, IsLawfulByScripts, MakesCore, PostsCore, RunsCore, ServesCore, TakesCore, UnplugsCore};
 
-/// A controller as it is made of devices that stand at the beginning of their scripts holds a new core.
+/// The slot of a device as it is added is one of its configuration.
+pub fn adds()
+    ensures { AddsSlot }
+{}
+
+/// A controller of a setup's devices holds a new core once it is made new.
 pub fn made()
     ensures { MakesCore }
+{}
+
+/// A controller that holds a core is of that core's setup, with its scripts.
+pub fn is_of()
+    ensures { IsOfHeld }
 {}
 
 /// A setup of configurations that were read, and of devices that keep the law, is fine, with plain addresses that have numbers.

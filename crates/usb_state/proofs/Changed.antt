@@ -64,6 +64,7 @@ module _ {P : Type 0} where
     set = at.keeps.set ∙ ap (λ (x : Holding). x.configs) (sym but.claims);
     plain = at.keeps.plain;
     fine = at.keeps.fine;
+    read = at.keeps.read;
     few = at.keeps.few;
     bounded = at.keeps.bounded;
     lanes = but.lanes;

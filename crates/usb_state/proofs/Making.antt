@@ -4,10 +4,9 @@ use Rattle.std.specs.Prelude.{slice_get}
 use Rattle.std.proofs.lemmas.List.{length-map, length-replicate}
 use Rattle.usb_flight.specs.Flights.{Flights, lane_at, line_at}
 use Rattle.std.proofs.lemmas.Option.{same_Some, slice_get-map, slice_get_within}
-use Rattle.std.specs.Option.{unwrap_or}
 use Rattle.std.specs.Prelude.{option_map}
 use Rattle.usb_descriptors.specs.Table.{IsTable}
-use Rattle.usb_device.specs.Pipe.{IsLawful, Pipe, no_pipe, pipe_at, rewound}
+use Rattle.usb_device.specs.Pipe.{Pipe, rewound}
 use Rattle.usb_device.specs.Scripts.{Takes}
 use Rattle.usb_xhc.specs.Making.{slot_for}
 use Rattle.usb_model.specs.declared.setup.Configuration.{Configuration}
@@ -17,16 +16,17 @@ use Rattle.usb_model.specs.Machine.Calls.{callback_of}
 use Rattle.usb_model.specs.Setup.{Setup, endpoint_id}
 use Rattle.usb_model.specs.World.{holder, new_world}
 use Rattle.usb_transfer.specs.declared.transfer.Transfer.{Transfer as InFlight}
-use Rattle.usb_xhc.specs.Controller.{Controller}
-use Rattle.usb_xhc.specs.Slots.{DeviceSlot}
+use Rattle.usb_xhc.specs.Controller.{AreLawfulAll, Controller, all_renewed}
+use Rattle.usb_xhc.specs.Slots.{DeviceSlot, slot_renewed}
 use Rattle.usb_shows.specs.Lively.{IsFine, ends_from}
+use Rattle.usb_shows.specs.Shows.{Core}
 use Rattle.usb_shows.specs.Stepping.{new_core}
 use Rattle.usb_shows.proofs.NewCore.{new_shows}
 use Rattle.usb_slots.specs.Holds.{HoldsCore}
-use Rattle.usb_slots.specs.Made.{IsNewSlot, IsRead}
+use Rattle.usb_slots.specs.Made.{AreLawful, IsOf, IsRead, IsSlotOf}
 use Rattle.usb_slots.specs.Laws.{HasNumbers, HasPlain}
 use Rattle.usb_slots.proofs.Fine.{fine, lawful_scripts}
-use Rattle.usb_slots.proofs.Made.{made}
+use Rattle.usb_slots.proofs.Made.{added, is_of, made}
 use Rattle.usb_state.specs.Making.{AreReady, AreUnused, Devices, setup_from, setup_of}
 use Rattle.usb_state.specs.State.{AllItems, Keeps, ShowsWorld, State, result_of}
 
@@ -62,17 +62,14 @@ more_get (z ∷ xs) x (suc i) y there = by_rest (more_get xs x i y there)
     by_rest (inr new) = inr (ap suc new.0, new.1)
 
 -- with a device more they are ready
-pub ready_more : (x : Devices) (c : Configuration) (s : DeviceSlot) → AreReady x → length x.configs < 4 → length c.endpoints ≤ 30
-    → IsNewSlot (length x.controller.slots) (record { config = c; scripts = map (λ p. p.script) s.pipes }) s → IsRead (record { config = c; scripts = map (λ p. p.script) s.pipes })
+ready_more : (x : Devices) (c : Configuration) (s : DeviceSlot) → AreReady x → length x.configs < 4 → IsTable c.endpoints × (length c.endpoints ≤ 30)
+    → IsSlotOf (length x.controller.slots) (record { config = c; scripts = map (λ p. p.script) s.pipes }) s
     → AreReady (record { configs = x.configs ++ c ∷ []; controller = record x.controller { slots = x.controller.slots ++ s ∷ [] } })
-ready_more x c s ready room short new read = record {
+ready_more x c s ready room table new = record {
   as_many = length-append x.configs (c ∷ []) ∙ (ap (λ (n : ℕ). n + 1) ready.as_many ∙ sym (length-append x.controller.slots (s ∷ [])));
   few = omega (arith, room, length-append x.configs (c ∷ []));
   each = λ d v t there at. by_both d v t (more_get (setup_of x) one d v (subst (λ (l : Setup). slice_get l d ≡ Some v) more there)) (more_get x.controller.slots s d t at);
-  read = λ d v there. by_setup d v (more_get (setup_of x) one d v (subst (λ (l : Setup). slice_get l d ≡ Some v) more there));
-  short = λ d v there. by_short d v (more_get (setup_of x) one d v (subst (λ (l : Setup). slice_get l d ≡ Some v) more there));
-  commands = ready.commands;
-  events = ready.events;
+  tables = λ d v there. by_setup d v (more_get (setup_of x) one d v (subst (λ (l : Setup). slice_get l d ≡ Some v) more there));
 }
   where
     one : DeviceSetup
@@ -84,28 +81,61 @@ ready_more x c s ready room short new read = record {
     as_long : length (setup_of x) ≡ length x.controller.slots
     as_long = setup_length x.configs x.controller.slots ready.as_many ∙ ready.as_many
 
-    by_both : (d : ℕ) (v : DeviceSetup) (t : DeviceSlot) → (slice_get (setup_of x) d ≡ Some v) ⊎ ((d ≡ length (setup_of x)) × (one ≡ v)) → (slice_get x.controller.slots d ≡ Some t) ⊎ ((d ≡ length x.controller.slots) × (s ≡ t)) → IsNewSlot d v t
+    by_both : (d : ℕ) (v : DeviceSetup) (t : DeviceSlot) → (slice_get (setup_of x) d ≡ Some v) ⊎ ((d ≡ length (setup_of x)) × (one ≡ v)) → (slice_get x.controller.slots d ≡ Some t) ⊎ ((d ≡ length x.controller.slots) × (s ≡ t)) → IsSlotOf d v t
     by_both d v t (inl before) (inl at) = ready.each d v t before at
     by_both d v t (inl before) (inr at) = absurd (omega (arith, slice_get_within (setup_of x) d v before, at.0, as_long))
     by_both d v t (inr after) (inl at) = absurd (omega (arith, slice_get_within x.controller.slots d t at, after.0, as_long))
-    by_both d v t (inr after) (inr at) = subst₂ (λ (u : DeviceSetup) (r : DeviceSlot). IsNewSlot d u r) after.1 at.1 (subst (λ (n : ℕ). IsNewSlot n one s) (sym at.0) new)
+    by_both d v t (inr after) (inr at) = subst₂ (λ (u : DeviceSetup) (r : DeviceSlot). IsSlotOf d u r) after.1 at.1 (subst (λ (n : ℕ). IsSlotOf n one s) (sym at.0) new)
 
-    by_setup : (d : ℕ) (v : DeviceSetup) → (slice_get (setup_of x) d ≡ Some v) ⊎ ((d ≡ length (setup_of x)) × (one ≡ v)) → IsRead v
-    by_setup d v (inl before) = ready.read d v before
-    by_setup d v (inr after) = subst (λ (u : DeviceSetup). IsRead u) after.1 read
-
-    by_short : (d : ℕ) (v : DeviceSetup) → (slice_get (setup_of x) d ≡ Some v) ⊎ ((d ≡ length (setup_of x)) × (one ≡ v)) → length v.config.endpoints ≤ 30
-    by_short d v (inl before) = ready.short d v before
-    by_short d v (inr after) = subst (λ (u : DeviceSetup). length u.config.endpoints ≤ 30) after.1 short
+    by_setup : (d : ℕ) (v : DeviceSetup) → (slice_get (setup_of x) d ≡ Some v) ⊎ ((d ≡ length (setup_of x)) × (one ≡ v)) → IsTable v.config.endpoints × (length v.config.endpoints ≤ 30)
+    by_setup d v (inl before) = ready.tables d v before
+    by_setup d v (inr after) = subst (λ (u : DeviceSetup). IsTable u.config.endpoints × (length u.config.endpoints ≤ 30)) after.1 table
 
 -- few endpoints each make few in all
-few_ends : (n : ℕ) (setup : Setup) → ((d : ℕ) (v : DeviceSetup) → slice_get setup d ≡ Some v → length v.config.endpoints ≤ 30) → length (ends_from n setup) ≤ 30 * length setup
-few_ends n [] short = omega arith
-few_ends n (v ∷ vs) short =
+few_ends : (n : ℕ) (setup : Setup) → ((d : ℕ) (v : DeviceSetup) → slice_get setup d ≡ Some v → IsTable v.config.endpoints × (length v.config.endpoints ≤ 30)) → length (ends_from n setup) ≤ 30 * length setup
+few_ends n [] tables = omega arith
+few_ends n (v ∷ vs) tables =
     let at : EndpointInfo → ℕ × ℕ = λ x. (n, x.address) in
-    let rest = few_ends (suc n) vs (λ d x there. short (suc d) x there) in
-    let here = short 0 v refl in
+    let rest = few_ends (suc n) vs (λ d x there. tables (suc d) x there) in
+    let here = (tables 0 v refl).1 in
     omega (arith, rest, here, length-append (map at v.config.endpoints) (ends_from (suc n) vs), length-map v.config.endpoints at)
+
+-- the setup of a controller that has its scripts is that setup
+setup_again : (setup : Setup) (cs : List Configuration) (ss : List DeviceSlot) → map (λ v. v.config) setup ≡ cs → length ss ≡ length setup
+    → ((d : ℕ) (x : DeviceSetup) (s : DeviceSlot) → slice_get setup d ≡ Some x → slice_get ss d ≡ Some s → x.scripts ≡ map (λ p. p.script) s.pipes) → setup_from cs ss ≡ setup
+setup_again [] cs ss is same scripts = ap (λ (l : List Configuration). setup_from l ss) (sym is)
+setup_again (x ∷ xs) cs [] is same scripts = absurd (omega (arith, same))
+setup_again (x ∷ xs) cs (s ∷ ss) is same scripts =
+    ap (λ (l : List Configuration). setup_from l (s ∷ ss)) (sym is)
+    ∙ (ap (λ l. record { config = x.config; scripts = l } ∷ setup_from (map (λ v. v.config) xs) ss) (sym (scripts 0 x s refl refl))
+    ∙ ap (λ (l : Setup). x ∷ l) (setup_again xs (map (λ v. v.config) xs) ss refl (omega (arith, same)) (λ d y t a b. scripts (suc d) y t a b)))
+
+-- the scripts of a device that is rewound
+scripts_rewound : (pipes : List Pipe) → map (λ (p : Pipe). p.script) (map rewound pipes) ≡ map (λ (p : Pipe). p.script) pipes
+scripts_rewound [] = refl
+scripts_rewound (p ∷ ps) = ap (λ l. p.script ∷ l) (scripts_rewound ps)
+
+-- devices that keep their law, and configurations that were read
+all_read : (x : Devices) → AreReady x → AreLawfulAll (all_renewed x.controller).slots → (d : ℕ) (v : DeviceSetup) → slice_get (setup_of x) d ≡ Some v → IsRead v
+all_read x ready laws d v there = by_slot (slice_get x.controller.slots d) refl
+  where
+    within : d < length x.controller.slots
+    within = omega (arith, slice_get_within (setup_of x) d v there, setup_length x.configs x.controller.slots ready.as_many, ready.as_many)
+
+    by_slot : (o : Option DeviceSlot) → slice_get x.controller.slots d ≡ o → IsRead v
+    by_slot None none = absurd (omega (arith, within, past x.controller.slots d none))
+      where
+        past : (l : List DeviceSlot) (k : ℕ) → slice_get l k ≡ None → length l ≤ k
+        past [] k h = omega arith
+        past (y ∷ ys) zero h = absurd cc
+        past (y ∷ ys) (suc k) h = let rest = past ys k h in omega (arith, rest)
+    by_slot (Some s) at =
+        let made : slice_get (map slot_renewed x.controller.slots) d ≡ Some (slot_renewed s) = slice_get-map slot_renewed x.controller.slots d ∙ ap (option_map slot_renewed) at in
+        record {
+          table = (ready.tables d v there).0;
+          short = (ready.tables d v there).1;
+          lawful = subst AreLawful (scripts_rewound s.pipes ∙ sym (ready.each d v s there at).scripts) (lawful_scripts (map rewound s.pipes) (laws d (slot_renewed s) made));
+        }
 
 module _ {P : Type 0} where
   -- parts that are unused keep a new core
@@ -113,19 +143,18 @@ module _ {P : Type 0} where
   unfolding callback_of
   keeps_new s x ready unused = record {
     set = setup_configs x.configs x.controller.slots ready.as_many ∙ sym unused.configs;
-    plain = read.0;
-    fine = read.2;
+    plain = fined.0;
+    fine = fined.2;
+    read = read;
     few = omega (arith, ready.few, setup_length x.configs x.controller.slots ready.as_many);
-    bounded = omega (arith, few_ends 0 (setup_of x) ready.short, ready.few, setup_length x.configs x.controller.slots ready.as_many);
+    bounded = omega (arith, few_ends 0 (setup_of x) ready.tables, ready.few, setup_length x.configs x.controller.slots ready.as_many);
     lanes = unused.lanes;
     cells = unused.cells;
     held = subst (λ (k : Controller). HoldsCore (setup_of x) k (new_core (setup_of x))) (sym unused.controller)
-        (made (setup_of x) x.controller read.0 read.1 (record {
+        (made (setup_of x) x.controller fined.0 (record {
           slots = sym ready.as_many ∙ sym (setup_length x.configs x.controller.slots ready.as_many);
           each = ready.each;
-          commands = ready.commands;
-          events = ready.events;
-        }));
+        }) laws);
     claimed = λ d i. sym (unused.free d i);
     named = λ h. record {
       device = sym (unused.closed h);
@@ -144,12 +173,36 @@ module _ {P : Type 0} where
     free = λ d e i there nobody. (refl, refl);
   }
     where
-      read : HasPlain (setup_of x) × HasNumbers (setup_of x) × IsFine (setup_of x)
-      read = fine (setup_of x) ready.read
+      laws : AreLawfulAll (all_renewed x.controller).slots
+      laws = subst (λ (k : Controller). AreLawfulAll k.slots) unused.controller unused.laws
+
+      read : (d : ℕ) (v : DeviceSetup) → slice_get (setup_of x) d ≡ Some v → IsRead v
+      read = all_read x ready laws
+
+      fined : HasPlain (setup_of x) × HasNumbers (setup_of x) × IsFine (setup_of x)
+      fined = fine (setup_of x) read
 
   -- they show the new world of these devices
   pub shows_new : (s : State P) (x : Devices) → AreReady x → AreUnused s x → ShowsWorld (setup_of x) s (new_world (setup_of x))
   shows_new s x ready unused = (new_core (setup_of x), keeps_new s x ready unused, new_shows (setup_of x))
+
+  -- parts that keep a core have the devices of its setup
+  pub ready_again : (setup : Setup) (s : State P) (c : Core) → Keeps setup s c → AreReady (record { configs = s.claims.configs; controller = s.controller }) × (setup_of (record { configs = s.claims.configs; controller = s.controller }) ≡ setup)
+  ready_again setup s c keeps = (
+    record {
+      as_many = sym (ap length keeps.set) ∙ (length-map setup (λ v. v.config) ∙ sym keeps.held.slots);
+      few = omega (arith, keeps.few, ap length keeps.set, length-map setup (λ v. v.config));
+      each = λ d v t there at. of.each d v t (subst (λ (l : Setup). slice_get l d ≡ Some v) same there) at;
+      tables = λ d v there. let read = keeps.read d v (subst (λ (l : Setup). slice_get l d ≡ Some v) same there) in (read.table, read.short);
+    },
+    same,
+  )
+    where
+      of : IsOf setup s.controller
+      of = is_of setup s.controller c.gone c.endpoints c.orders c.events c.posted keeps.held
+
+      same : setup_from s.claims.configs s.controller.slots ≡ setup
+      same = setup_again setup s.claims.configs s.controller.slots keeps.set of.slots (λ d x t there at. (of.each d x t there at).scripts)
 
 -- lines as they are made
 pub record HasNoLines {T : Type 0} (f : Flights T) : Type 0 where
@@ -172,46 +225,15 @@ no_lines {T} f is = record {
     none (suc n) zero = refl
     none (suc n) (suc k) = none n k
 
--- endpoints that are rewound have their scripts, and stand at their beginning
-rewound_scripts : (pipes : List Pipe) → map (λ p. p.script) (map rewound pipes) ≡ map (λ p. p.script) pipes
-rewound_scripts [] = refl
-rewound_scripts (p ∷ ps) = ap (λ l. p.script ∷ l) (rewound_scripts ps)
-
-rewound_twice : (pipes : List Pipe) → map rewound (map rewound pipes) ≡ map rewound pipes
-rewound_twice [] = refl
-rewound_twice (p ∷ ps) = ap (λ (l : List Pipe). rewound p ∷ l) (rewound_twice ps)
-
--- and take packets as long as before
-rewound_size : (pipes : List Pipe) (e : ℕ) → (pipe_at (map rewound pipes) e).size ≡ (pipe_at pipes e).size
-rewound_size pipes e = ap (λ (o : Option Pipe). (unwrap_or o no_pipe).size) (slice_get-map rewound pipes (endpoint_id e)) ∙ by_pipe (slice_get pipes (endpoint_id e))
-  where
-    by_pipe : (o : Option Pipe) → (unwrap_or (option_map rewound o) no_pipe).size ≡ (unwrap_or o no_pipe).size
-    by_pipe None = refl
-    by_pipe (Some p) = refl
-
 -- a device of a configuration is added at its slot
-pub ready_added : (x : Devices) (k : Controller) (c : Configuration) (pipes before : List Pipe) → AreReady x → length x.configs < 4 → length c.endpoints ≤ 30 → IsTable c.endpoints → pipes ≡ map rewound before → IsLawful pipes → Takes c before
+pub ready_added : (x : Devices) (k : Controller) (c : Configuration) (pipes : List Pipe) → AreReady x → length x.configs < 4 → IsTable c.endpoints → length c.endpoints ≤ 30 → Takes c pipes
     → k ≡ record x.controller { slots = x.controller.slots ++ slot_for (suc (length x.controller.slots)) c pipes ∷ [] }
-    → AreReady (record { configs = x.configs ++ c ∷ []; controller = k }) × (setup_from (x.configs ++ c ∷ []) k.slots ≡ setup_of x ++ record { config = c; scripts = map (λ p. p.script) before } ∷ [])
-ready_added x k c pipes before ready room short table is lawful takes added = (
-  subst (λ (v : Controller). AreReady (record { configs = x.configs ++ c ∷ []; controller = v })) (sym added)
-      (ready_more x c slot ready room short
-      (record {
-        added = refl;
-        pipes = lawful.all;
-        scripts = refl;
-        begins = ap (map rewound) is ∙ (rewound_twice before ∙ sym is);
-        sizes = λ e z there supported. omega (arith, takes table e z there supported, ap (λ (l : List Pipe). (pipe_at l e).size) is, rewound_size before e);
-      })
-      (record { table = table; lawful = lawful_scripts pipes lawful })),
-  ap (λ (v : Controller). setup_from (x.configs ++ c ∷ []) v.slots) added ∙ setup_more x.configs x.controller.slots c slot ready.as_many
-      ∙ ap (λ (l : List Pipe). setup_of x ++ record { config = c; scripts = map (λ p. p.script) l } ∷ []) is
-      ∙ ap (λ l. setup_of x ++ record { config = c; scripts = l } ∷ []) (rewound_scripts before),
+    → AreReady (record { configs = x.configs ++ c ∷ []; controller = k }) × (setup_from (x.configs ++ c ∷ []) k.slots ≡ setup_of x ++ record { config = c; scripts = map (λ p. p.script) pipes } ∷ [])
+ready_added x k c pipes ready room table short takes is = (
+  subst (λ (v : Controller). AreReady (record { configs = x.configs ++ c ∷ []; controller = v })) (sym is)
+      (ready_more x c slot ready room (table, short) (added (length x.controller.slots) (record { config = c; scripts = map (λ p. p.script) pipes }) pipes table refl (takes table))),
+  ap (λ (v : Controller). setup_from (x.configs ++ c ∷ []) v.slots) is ∙ setup_more x.configs x.controller.slots c slot ready.as_many,
 )
   where
     slot : DeviceSlot
     slot = slot_for (suc (length x.controller.slots)) c pipes
-
--- a device that comes back has the scripts that it had
-pub scripts_back : (pipes before : List Pipe) → pipes ≡ map rewound before → map (λ p. p.script) pipes ≡ map (λ p. p.script) before
-scripts_back pipes before is = ap (map (λ (p : Pipe). p.script)) is ∙ rewound_scripts before

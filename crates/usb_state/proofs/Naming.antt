@@ -31,6 +31,7 @@ module _ {P : Type 0} where
     set = keeps.set ∙ ap (λ (v : Holding). v.configs) (sym claims);
     plain = keeps.plain;
     fine = keeps.fine;
+    read = keeps.read;
     few = keeps.few;
     bounded = keeps.bounded;
     lanes = ap length lines ∙ keeps.lanes;

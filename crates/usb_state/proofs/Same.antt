@@ -19,6 +19,7 @@ slot_as setup d s gone now endpoints others devices same is = record {
   contexts = is.contexts;
   pipes = is.pipes;
   is_gone = is.is_gone ∙ devices;
+  scripts = is.scripts;
   ends = λ e i there. subst (λ (b : KeptEndpoint). IsEnd setup s d e b) (same d e) (is.ends e i there);
 }
 

@@ -82,6 +82,7 @@ module _ {P : Type 0} where
     set = keeps.set;
     plain = keeps.plain;
     fine = keeps.fine;
+    read = keeps.read;
     few = keeps.few;
     bounded = keeps.bounded;
     lanes = keeps.lanes;

@@ -1,20 +1,16 @@
 -- The parts as they are made.
-use Rattle.std.specs.Prelude.{◌≡◌, ℕ, ◌≤◌, false, List, [], ◌∷◌, length, map, slice_get, Some, None}
+use Rattle.std.specs.Prelude.{◌≡◌, ℕ, ◌≤◌, List, [], ◌∷◌, length, map, slice_get, Some, None}
 use Rattle.usb_model.specs.declared.setup.Configuration.{Configuration}
 use Rattle.usb_model.specs.declared.setup.DeviceSetup.{DeviceSetup}
-use Rattle.usb_model.specs.declared.setup.EndpointInfo.{EndpointInfo}
-use Rattle.usb_model.specs.Requests.{is_unsupported}
 use Rattle.usb_model.specs.Setup.{Setup}
-use Rattle.usb_descriptors.specs.Table.{info_at}
-use Rattle.usb_device.specs.Pipe.{Pipe, pipe_at}
+use Rattle.usb_descriptors.specs.Table.{IsTable}
 use Rattle.usb_claims.specs.Holding.{device_of, owner_of}
 use Rattle.usb_cancel.specs.Outstanding.{sent_at}
-use Rattle.usb_ering.specs.Ring.{empty}
-use Rattle.usb_xhc.specs.Controller.{Controller}
+use Rattle.usb_xhc.specs.Controller.{AreLawfulAll, Controller, all_renewed}
 use Rattle.usb_xhc.specs.Slots.{DeviceSlot}
 use Rattle.usb_flight.specs.Flights.{line_at}
 use Rattle.usb_callers.specs.Callers.{callback_at, callbacks_at, number_of, results_at}
-use Rattle.usb_slots.specs.Made.{IsNewSlot, IsRead}
+use Rattle.usb_slots.specs.Made.{IsSlotOf}
 use Rattle.usb_state.specs.State.{State}
 
 -- devices that wait to be run: their configurations, and the controller that has them at its slots
@@ -31,22 +27,20 @@ setup_from (c ∷ cs) (s ∷ ss) = record { config = c; scripts = map (λ p. p.s
 abbrev pub setup_of : Devices → Setup
 setup_of x = setup_from x.configs x.controller.slots
 
--- a slot for each configuration, each as it is added, and empty rings
+-- a slot for each configuration, whatever was done there
 pub record AreReady (x : Devices) : Type 0 where
   pub as_many : length x.configs ≡ length x.controller.slots
   pub few : length x.configs ≤ 4
-  pub each : (d : ℕ) (v : DeviceSetup) (s : DeviceSlot) → slice_get (setup_of x) d ≡ Some v → slice_get x.controller.slots d ≡ Some s → IsNewSlot d v s
-  pub read : (d : ℕ) (v : DeviceSetup) → slice_get (setup_of x) d ≡ Some v → IsRead v
-  pub short : (d : ℕ) (v : DeviceSetup) → slice_get (setup_of x) d ≡ Some v → length v.config.endpoints ≤ 30
-  pub commands : x.controller.commands ≡ empty 255 256 0x2000_0000
-  pub events : x.controller.events ≡ empty 4096 4096 0x3000_0000
+  pub each : (d : ℕ) (v : DeviceSetup) (s : DeviceSlot) → slice_get (setup_of x) d ≡ Some v → slice_get x.controller.slots d ≡ Some s → IsSlotOf d v s
+  pub tables : (d : ℕ) (v : DeviceSetup) → slice_get (setup_of x) d ≡ Some v → IsTable v.config.endpoints × (length v.config.endpoints ≤ 30)
 
--- nothing is kept yet of any name or endpoint
+-- nothing is kept yet of any name or endpoint, and the controller is made new
 pub record AreUnused {P : Type 0} (s : State P) (x : Devices) : Type 0 where
   pub configs : s.claims.configs ≡ x.configs
   pub closed : (h : ℕ) → device_of s.claims h ≡ None
   pub free : (d i : ℕ) → owner_of s.claims d i ≡ None
-  pub controller : s.controller ≡ x.controller
+  pub controller : s.controller ≡ all_renewed x.controller
+  pub laws : AreLawfulAll s.controller.slots
   pub lanes : length s.flights.lines ≡ 128
   pub lines : (d e : ℕ) → line_at s.flights d e ≡ []
   pub ended : s.flights.ended ≡ []

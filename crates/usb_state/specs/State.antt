@@ -1,9 +1,10 @@
 -- The parts in which the core keeps its state, and when they keep a core that shows a world.
-use Rattle.std.specs.Prelude.{◌≡◌, ℕ, ◌%◌, ◌≤◌, true, false, List, [], ◌∷◌, length, map, count_by, vec_capacity, Option, Some, None}
+use Rattle.std.specs.Prelude.{◌≡◌, ℕ, ◌%◌, ◌≤◌, true, false, List, [], ◌∷◌, length, map, count_by, slice_get, vec_capacity, Option, Some, None}
 use Rattle.std.specs.Option.{option_map}
 use Rattle.std.specs.List.{AllByRecursion}
 use Rattle.usb_model.specs.declared.handle.Handle.{Handle}
 use Rattle.usb_model.specs.declared.result.TransferResult.{TransferResult}
+use Rattle.usb_model.specs.declared.setup.DeviceSetup.{DeviceSetup}
 use Rattle.usb_model.specs.declared.shared.Tagged.{Tagged}
 use Rattle.usb_model.specs.Machine.{is_callback_at, is_result_at}
 use Rattle.usb_model.specs.Machine.Calls.{callback_of}
@@ -25,6 +26,7 @@ use Rattle.usb_shows.specs.Lively.{IsFine, ends_of}
 use Rattle.usb_shows.specs.Shows.{Core, Shows}
 use Rattle.usb_slots.specs.Holds.{HoldsCore}
 use Rattle.usb_slots.specs.Laws.{HasPlain}
+use Rattle.usb_slots.specs.Made.{IsRead}
 
 -- P: what callers keep with their transfers
 module _ {P : Type 0} where
@@ -90,6 +92,7 @@ pub record Keeps {P : Type 0} (setup : Setup) (s : State P) (c : Core) : Type 0 
   pub set : IsSetup s.claims setup
   pub plain : HasPlain setup
   pub fine : IsFine setup
+  pub read : (d : ℕ) (x : DeviceSetup) → slice_get setup d ≡ Some x → IsRead x
   pub few : length setup ≤ 4
   pub bounded : length (ends_of setup) ≤ 120
   pub lanes : length s.flights.lines ≡ 128

@@ -1,14 +1,15 @@
 -- The whole controller: its devices' slots, the command ring and the event ring (xHCI 1.2, 4.9.3, 4.9.4).
-use Rattle.std.specs.Prelude.{ℕ, ◌+◌, ◌-◌, ◌*◌, List, [], ◌∷◌, Option, Some, None, option_map, slice_get, slice_set}
+use Rattle.std.specs.Prelude.{◌≡◌, ℕ, ◌+◌, ◌-◌, ◌*◌, List, [], ◌∷◌, Option, Some, None, length, map, option_map, slice_get, slice_set}
 use Rattle.std.specs.Option.{option_and_then, option_map_or}
 use Rattle.usb_trb.specs.declared.kind.TrbKind.{TrbKind}
 use Rattle.usb_trb.specs.declared.kind.TrbKind.TheVariants.{Normal, Link, NoOp, ResetEndpoint, StopEndpoint, SetDequeue, TransferEvent, CommandCompletion}
 use Rattle.usb_segment.specs.Places.{index_of}
-use Rattle.usb_ering.specs.Ring.{Ring, dequeue_of}
+use Rattle.usb_ering.specs.Ring.{Ring, dequeue_of, empty}
+use Rattle.usb_device.specs.Pipe.{IsLawful}
 use Rattle.usb_context.specs.declared.packet.Packet.{Packet as Told}
 use Rattle.usb_context.specs.Commanding.{carried, endpoint_not_enabled_error, trb_error}
 use Rattle.usb_context.specs.Posting.{posted_all, posted_one}
-use Rattle.usb_xhc.specs.Slots.{DeviceSlot, changed, events_after, order_code, order_events, serving, slot_after}
+use Rattle.usb_xhc.specs.Slots.{DeviceSlot, changed, events_after, order_code, order_events, serving, slot_after, slot_renewed}
 
 -- slots: one a device, by number, slot 1 the first (xHCI 1.2, 4.5.3). commands, events: the two rings
 pub record Controller : Type 0 where
@@ -78,3 +79,15 @@ pub record Run : Type 0 where
 abbrev pub run_of : Controller → List TrbKind → Option Run
 run_of v [] = None
 run_of v (order ∷ rest) = Some (record { order = order; code = code_for v order; controller = run_at v order rest })
+
+-- a ring in which nothing was posted, in the place of another
+abbrev pub emptied : ℕ → Ring → Ring
+emptied width r = empty width (length r.memory.cells) r.memory.base
+
+-- the controller with all devices there, and all that it has made new
+abbrev pub all_renewed : Controller → Controller
+all_renewed v = record { slots = map slot_renewed v.slots; commands = emptied 255 v.commands; events = emptied 4096 v.events }
+
+-- what each device promises of its endpoints
+abbrev pub AreLawfulAll : List DeviceSlot → Type 0
+AreLawfulAll slots = (d : ℕ) (s : DeviceSlot) → slice_get slots d ≡ Some s → IsLawful s.pipes

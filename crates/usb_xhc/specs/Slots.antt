@@ -1,5 +1,5 @@
 -- A device's slot: what it serves at an endpoint, and what an order does there (Device Context; xHCI 1.2, 4.5, 6.2.1).
-use Rattle.std.specs.Prelude.{ℕ, Bool, true, false, not, ◌&&◌, List, [], is_some, Option, Some, None, option_map, slice_index_or, slice_set, if◌then◌else◌}
+use Rattle.std.specs.Prelude.{ℕ, Bool, true, false, not, ◌&&◌, List, [], is_some, map, Option, Some, None, option_map, slice_index_or, slice_set, if◌then◌else◌}
 use Rattle.std.specs.Option.{option_and_then, option_map_or}
 use Rattle.usb_model.specs.declared.response.Response.{Response}
 use Rattle.usb_model.specs.Setup.{endpoint_id}
@@ -77,3 +77,11 @@ renewed s ep =
       pipes = slice_set s.pipes (endpoint_id ep) (rewound (pipe_at s.pipes ep));
       contexts = slice_set s.contexts (endpoint_id ep) (Some (configured c.slot c.id c.size c.ring.line.base));
     }) (context_of s ep) s
+
+-- an endpoint of these as it is made
+abbrev pub as_made : Context → Context
+as_made c = configured c.slot c.id c.size c.ring.line.base
+
+-- the device is there, at the beginning of its scripts, and each endpoint is made new
+abbrev pub slot_renewed : DeviceSlot → DeviceSlot
+slot_renewed s = record { pipes = map rewound s.pipes; gone = false; contexts = map (option_map as_made) s.contexts }

@@ -12,8 +12,9 @@ ghost use Rattle.usb_xhc.specs.Making.{slot_for};
 ghost use Rattle.usb_context.specs.Posting.{posted_one};
 ghost use Rattle.usb_context.specs.Serving.{offset_by, packet_room, working};
 ghost use Rattle.usb_xhc.specs.Slots.{changed, context_of, read_after, renewed, sends};
-ghost use Rattle.usb_xhc.specs.Controller.{slot_changed, served_at, told_at, endpoint_in, code_for, carried_at, slot_in, run_of};
+ghost use Rattle.usb_xhc.specs.Controller.{AreLawfulAll, all_renewed, slot_changed, served_at, told_at, endpoint_in, code_for, carried_at, slot_in, run_of};
 
+use crate::renewing::renew_slots;
 use crate::slot::DeviceSlot;
 use std::alloc::{AllocError, Global};
 use std::marker::Model;
@@ -182,6 +183,17 @@ impl<D: Device> Controller<D> {
         if let Some(slot) = self.slots.get_mut(usize::from(dev.number())) {
             slot.renew(ep);
         }
+    }
+
+    /// All is made new: each device is there, at the beginning of its scripts, each endpoint runs, and nothing is in any
+    /// ring. Takes no memory.
+    pub fn renew_all(&mut self)
+        ensures controller { self.new ≡ all_renewed self.old }
+        ensures lawful { AreLawfulAll self.new.slots }
+    {
+        renew_slots(&mut self.slots);
+        self.commands.renew();
+        self.events.renew();
     }
 
     /// A transfer's TRBs are put behind all others of an endpoint's ring, as one item.

@@ -7,6 +7,7 @@
 
 mod controller;
 mod making;
+mod renewing;
 mod slot;
 #[cfg(test)]
 mod tests;

@@ -2,9 +2,9 @@
 
 ghost use Rattle.std.specs.Prelude.{◌≡◌, ◌+◌, ◌≤◌, ◌<◌, None, length, IfSome, option_map, slice_set, vec_capacity, vec_len, true, slice_get, IfOk, IfErr};
 ghost use Rattle.usb_model.specs.Setup.{endpoint_id};
-ghost use Rattle.usb_device.specs.Pipe.{pipe_at, cleared, is_ready};
+ghost use Rattle.usb_device.specs.Pipe.{IsLawful, pipe_at, cleared, is_ready};
 ghost use Rattle.usb_context.specs.Serving.{offset_by, packet_room, working};
-ghost use Rattle.usb_xhc.specs.Slots.{context_of, serving, sends, slot_after, events_after, read_after, changed, order_code, order_events, renewed};
+ghost use Rattle.usb_xhc.specs.Slots.{context_of, serving, sends, slot_after, events_after, read_after, changed, order_code, order_events, renewed, slot_renewed};
 ghost use Rattle.usb_xhc.specs.Making.{slot_for};
 ghost use Rattle.std.specs.Option.{option_copied};
 ghost use Rattle.usb_tring.specs.Line.{capacity, normals, used};
@@ -13,6 +13,7 @@ ghost use Rattle.usb_context.specs.Hosting.{rung, with_ring, with_pushed, with_b
 ghost use Rattle.usb_context.specs.Posting.{posted_all};
 
 use crate::making::make_contexts;
+use crate::renewing::{renew_contexts, rewind};
 use std::alloc::Global;
 use std::marker::Model;
 use usb_context::{ENDPOINT_NOT_ENABLED_ERROR, EndpointContext, Packet};
@@ -142,6 +143,16 @@ impl<D: Device> DeviceSlot<D> {
             context.renew();
             self.device.rewind(ep);
         }
+    }
+
+    /// The device is there, at the beginning of all its scripts, and each endpoint is made new.
+    pub fn renew_all(&mut self)
+        ensures slot { self.new ≡ slot_renewed self.old }
+        ensures lawful { IsLawful self.new.pipes }
+    {
+        rewind(&mut self.device);
+        renew_contexts(&mut self.contexts);
+        self.gone = false;
     }
 
     /// An endpoint; None where it has no ring.

@@ -1,5 +1,5 @@
 -- New parts are unused.
-use Rattle.std.proofs.Common.{refl, subst}
+use Rattle.std.proofs.Common.{subst}
 use Rattle.usb_model.specs.World.{new_world}
 use Rattle.usb_state.specs.Making.{Devices, setup_of}
 use Rattle.usb_state.specs.State.{ShowsWorld, State}
@@ -10,7 +10,7 @@ use Rattle.usb_parts.proofs.parts.Parts.new.Goals as goal
 
 pub returns-clause-shows : goal.returns-clause-shows
 returns-clause-shows g c =
-    let new : State g.row.P.Denot = parts c.in_ok-claims.claims c.setup.inside.controller c.in_ok-flights.flights c.in_ok-callers.callers c.in_ok-outstanding.outstanding in
+    let new : State g.row.P.Denot = parts c.in_ok-claims.claims c.renew_all.new.self c.in_ok-flights.flights c.in_ok-callers.callers c.in_ok-outstanding.outstanding in
     let x : Devices = record { configs = c.setup.inside.configs.items; controller = c.setup.inside.controller } in
     let none = no_lines c.in_ok-flights.flights c.in_ok-flights.ensures in
     subst (λ (y : Devices). ShowsWorld (setup_of y) new (new_world (setup_of y))) c.setup.view_is
@@ -18,7 +18,8 @@ returns-clause-shows g c =
       configs = c.in_ok-claims.ensures.configs;
       closed = c.in_ok-claims.ensures.closed;
       free = c.in_ok-claims.ensures.free;
-      controller = refl;
+      controller = c.renew_all.ensures.controller;
+      laws = c.renew_all.ensures.lawful;
       lanes = none.lanes;
       lines = none.lines;
       ended = none.ended;
@@ -32,6 +33,6 @@ returns-clause-shows g c =
 
 pub returns-clause-carries : goal.returns-clause-carries
 returns-clause-carries g c = λ kept.
-    let new : State g.row.P.Denot = parts c.in_ok-claims.claims c.setup.inside.controller c.in_ok-flights.flights c.in_ok-callers.callers c.in_ok-outstanding.outstanding in
+    let new : State g.row.P.Denot = parts c.in_ok-claims.claims c.renew_all.new.self c.in_ok-flights.flights c.in_ok-callers.callers c.in_ok-outstanding.outstanding in
     let none = no_lines c.in_ok-flights.flights c.in_ok-flights.ensures in
     none_carried new none.lines none.ended kept

@@ -1,10 +1,12 @@
 -- Each endpoint of a device is rewound, one after another.
-use Rattle.std.proofs.Common.{Bool, true, false, ◌*◌, ◌%◌, ◌/◌, ◌≤◌, length-set, ◌≡◌, ℕ, zero, suc, ◌+◌, ◌<◌, refl, ap, sym, ◌∙◌, arith, List, [], ◌∷◌, ◌++◌, length, map, take, drop}
-use Rattle.std.specs.Prelude.{nat_le, slice_get, slice_set, if◌then◌else◌}
+use Rattle.std.proofs.Common.{Bool, true, false, ◌*◌, ◌%◌, ◌/◌, ◌≤◌, length-set, ◌≡◌, ℕ, zero, suc, ◌+◌, ◌<◌, refl, ap, sym, subst, ◌∙◌, arith, List, [], ◌∷◌, ◌++◌, length, map, take, drop}
+use Rattle.std.specs.Prelude.{nat_le, get_or, slice_get, slice_set, Some, if◌then◌else◌}
 use Rattle.std.proofs.lemmas.Bool.{leb-false, leb-true}
 use Rattle.usb_model.specs.Setup.{endpoint_id}
 use Rattle.usb_device.specs.Pipe.{IsLawful, Pipe, no_pipe, pipe_at, rewound}
 use Rattle.std.specs.Option.{unwrap_or}
+use Rattle.std.proofs.lemmas.Option.{same_Some}
+use Rattle.usb_xhc.specs.Slots.{DeviceSlot}
 
 module _ {A : Type 0} (f : A → A) where
   -- so many of a list were changed
@@ -16,6 +18,19 @@ module _ {A : Type 0} (f : A → A) where
   change_next [] k z within = absurd (omega (arith, within))
   change_next (x ∷ xs) zero z within = refl
   change_next (x ∷ xs) (suc k) z within = ap (λ (l : List A). f x ∷ l) (change_next xs k z (omega (arith, within)))
+
+  -- one more, in a list that changed so far
+  pub change_at : (xs now : List A) (k : ℕ) (d y : A) → k < length xs → now ≡ changed_to k xs → y ≡ f (get_or now k d) → slice_set now k y ≡ changed_to (k + 1) xs
+  change_at xs now k d y within so_far is =
+      let next : suc k ≡ k + 1 = omega arith in
+      ap (slice_set now k) is
+      ∙ (ap (λ (l : List A). slice_set l k (f (get_or l k d))) so_far
+      ∙ (there xs k within ∙ ap (λ (n : ℕ). changed_to n xs) next))
+    where
+      there : (l : List A) (n : ℕ) → n < length l → slice_set (changed_to n l) n (f (get_or (changed_to n l) n d)) ≡ changed_to (suc n) l
+      there [] n below = absurd (omega (arith, below))
+      there (x ∷ l) zero below = refl
+      there (x ∷ l) (suc n) below = ap (λ (m : List A). f x ∷ m) (there l n (omega (arith, below)))
 
   -- as many as before
   pub changed_length : (xs : List A) (k : ℕ) → length (changed_to k xs) ≡ length xs
@@ -57,3 +72,12 @@ pub rewinds_all : (old now : List Pipe) (id : ℕ) → 32 ≤ id → id ≤ 32 �
 rewinds_all old now id low high so_far lawful =
     let before : length old ≡ id = sym (changed_length rewound old id) ∙ ap length (sym so_far) ∙ (lawful.all ∙ omega arith) in
     so_far ∙ changed_all rewound old id before
+
+-- one slot more keeps its device's law
+pub laws_next : (now : List DeviceSlot) (k : ℕ) (y : DeviceSlot) → IsLawful y.pipes → ((d : ℕ) (s : DeviceSlot) → d < k → slice_get now d ≡ Some s → IsLawful s.pipes)
+    → (d : ℕ) (s : DeviceSlot) → d < k + 1 → slice_get (slice_set now k y) d ≡ Some s → IsLawful s.pipes
+laws_next [] k y lawful before d s below there = absurd cc
+laws_next (x ∷ xs) zero y lawful before zero s below there = subst (λ (t : DeviceSlot). IsLawful t.pipes) (same_Some y s there) lawful
+laws_next (x ∷ xs) zero y lawful before (suc d) s below there = absurd (omega (arith, below))
+laws_next (x ∷ xs) (suc k) y lawful before zero s below there = before zero s (omega arith) there
+laws_next (x ∷ xs) (suc k) y lawful before (suc d) s below there = laws_next xs k y lawful (λ e t low h. before (suc e) t (omega (arith, low)) h) d s (omega (arith, below)) there

@@ -1,7 +1,7 @@
 -- Each endpoint is rewound once.
 use Rattle.std.proofs.Common.{refl, arith}
-use Rattle.usb_parts.proofs.Rewinding.{rewinds_all, rewinds_next}
-use Rattle.usb_parts.proofs.setup.rewind.Goals as goal
+use Rattle.usb_xhc.proofs.Renewed.{rewinds_all, rewinds_next}
+use Rattle.usb_xhc.proofs.renewing.rewind.Goals as goal
 
 pub loop-id-init : goal.loop-id-init
 loop-id-init g c = (refl, λ some. absurd (omega (arith, some)))
