@@ -1,0 +1,85 @@
+-- What contracts see of a book, and what one more place of it is.
+use Rattle.std.specs.Prelude.{◌≡◌, ◌≤◌, ◌+◌, ℕ, List, [], ◌∷◌, ◌++◌, length, map, Result, Ok, Err, Some}
+use Rattle.usb_model.specs.declared.entry.Entry.{Entry}
+use Rattle.usb_model.specs.declared.reply.Reply.TheVariants.{Number, Refused}
+use Rattle.usb_model.specs.declared.step.Step.{Step}
+use Rattle.usb_model.specs.Setup.{Setup}
+use Rattle.usb_model.specs.World.{World, new_world, turn, world_from}
+use Rattle.usb_model.specs.World.Due.{Dated}
+use Rattle.usb_model.specs.World.Journal.{world_run}
+use Rattle.usb_parts.specs.declared.submitting.Unaccepted.{Unaccepted}
+use Rattle.usb_state.specs.Calls.{Stays}
+use Rattle.usb_state.specs.Carrying.{StillCarries}
+use Rattle.usb_state.specs.State.{ShowsWorld, State}
+use Rattle.usb_book.specs.declared.place.Place.{Place}
+use Rattle.usb_book.specs.Seen.{Marked, Receipted}
+
+-- a book: its devices, the journal, the moment, and the core
+pub record Booked (P : Type 0) : Type 0 where
+  pub setup : Setup
+  pub journal : List Place
+  pub moment : ℕ
+  pub core : State P
+
+abbrev pub steps_of : List Place → List Step
+steps_of journal = map (λ p. p.step) journal
+
+abbrev pub entries_of : List Place → List Entry
+entries_of journal = map (λ p. p.entry) journal
+
+-- the world where the run of a journal's steps ends
+abbrev pub world_where : Setup → List Place → World
+world_where setup journal = world_from setup (new_world setup) (steps_of journal)
+
+-- the entry of one step more
+abbrev pub next_entry : Setup → List Place → Step → Entry
+next_entry setup journal step = (turn setup (world_where setup journal) step).entry
+
+-- the entries of a journal are those of the run of its steps
+abbrev pub IsRun : Setup → List Place → Type 0
+IsRun setup journal = entries_of journal ≡ world_run setup (steps_of journal)
+
+-- so those of a book, and its core shows the world where that run ends
+abbrev pub Replays : {P : Type 0} → Booked P → Type 0
+Replays b = IsRun b.setup b.journal × ShowsWorld b.setup b.core (world_where b.setup b.journal)
+
+-- the receipt for one step more, with this entry
+abbrev pub next_receipt : {P : Type 0} → Booked P → Step → ℕ → Entry → Receipted
+next_receipt b step caller entry = record {
+  place = length b.journal;
+  entry = record { step = step; caller = caller; entry = entry; moment = b.moment };
+}
+
+-- the entry of a submission of name h that is answered so
+abbrev pub answer_entry : {G P : Type 0} → ℕ → Result ℕ (Unaccepted G P) → Entry
+answer_entry h (Ok n) = record { owner = Some h; reply = Number n }
+answer_entry h (Err x) = record { owner = Some h; reply = Refused x.why }
+
+-- a mark was moved behind this place, which is its bearer's
+abbrev pub IsMoved : Marked → Receipted → Marked → Type 0
+IsMoved old receipt new = (old.mark ≤ receipt.place) × (new.mark ≡ receipt.place + 1) × (new.own ≡ old.own ++ receipt.entry ∷ [])
+
+-- nothing changed that anybody sees
+pub record IsSame {P : Type 0} (old new : Booked P) : Type 0 where
+  pub setup : new.setup ≡ old.setup
+  pub journal : new.journal ≡ old.journal
+  pub moment : new.moment ≡ old.moment
+  pub core : Stays old.core new.core
+  pub carries : StillCarries old.core new.core
+
+-- the places as the definitions of time have them
+abbrev pub dated : List Place → List Dated
+dated journal = map (λ p. record { place = record { step = p.step; entry = p.entry }; moment = p.moment }) journal
+
+-- what was asked for at a place
+pub record Asked : Type 0 where
+  pub step : Step
+  pub caller : ℕ
+  pub moment : ℕ
+
+abbrev pub asked : Place → Asked
+asked p = record { step = p.step; caller = p.caller; moment = p.moment }
+
+-- these steps, asked for by a caller at a moment
+abbrev pub asks : ℕ → ℕ → List Step → List Asked
+asks caller moment steps = map (λ step. record { step = step; caller = caller; moment = moment }) steps

@@ -1,0 +1,159 @@
+//! The book, from its first place to its end.
+
+ghost use Rattle.std.specs.Prelude.{◌≡◌, ◌==◌, ℕ, ◌≤◌, All, IfOk, Some, [], count_by, length, slice_get};
+ghost use Rattle.std.specs.Option.{option_map_or};
+ghost use Rattle.usb_parts.specs.Pending.{IsPending};
+ghost use Rattle.usb_roll.specs.Tokens.{new_keeper};
+ghost use Rattle.usb_state.specs.Carrying.{Carries, Kept};
+ghost use Rattle.usb_state.specs.Making.{setup_of};
+ghost use Rattle.usb_book.specs.Booked.{IsRun, world_where};
+ghost use Rattle.usb_book.specs.Seen.{claims_of};
+
+use crate::closed::{Closed, Whole};
+use crate::mark::Mark;
+use crate::naming::Naming;
+use crate::place::Told;
+use crate::receipt::Receipt;
+use crate::recorder::Recorder;
+use std::alloc::{AllocError, Global};
+use std::marker::{Model, PhantomData};
+use usb_core::{Core, Pending, Setup};
+use usb_device::Device;
+use usb_model::{DeviceNo, EpAddr};
+use usb_roll::{Keeper, Roll};
+
+/// The core, the moment, and the journal of the core's steps. The journal stands in the proofs; at run time there is
+/// what the recorder keeps of it.
+#[derive(Drop)]
+pub struct Book<L: Naming, P, D: Device, J: Recorder> {
+    pub(crate) core: Core<P, D>,
+    pub(crate) moment: u64,
+    pub(crate) recorder: J,
+    pub(crate) places: u64,
+    pub(crate) roll: Roll<Told>,
+    pub(crate) keeper: Keeper<Told>,
+    pub(crate) alloc: Global,
+    pub(crate) library: PhantomData<L>,
+}
+
+/// Contracts see the devices, the journal, the moment in milliseconds, and what the core keeps. Its entries are those of
+/// the run of its steps, and the core shows the world where that ends.
+impl<L: Naming, P, D: Device, J: Recorder> Model for Book<L, P, D, J> {
+    ghost use Rattle.std.specs.Prelude.{◌≡◌, [], length};
+    ghost use Rattle.usb_book.specs.Booked.{Booked, Replays};
+
+    ghost Value = { Booked P };
+
+    ghost view = { λ b. record { setup = L.setup; journal = b.keeper.log; moment = b.moment; core = b.core } };
+
+    ghost invariant = { λ b. (b.roll ≡ L.table) × (b.keeper.roll ≡ L.table) × (b.keeper.taken ≡ []) × (b.places ≡ length b.keeper.log) × J.stands b.recorder b.keeper.log × Replays (record { setup = L.setup; journal = b.keeper.log; moment = b.moment; core = b.core }) };
+}
+
+impl<L: Naming, P, D: Device, J: Recorder> Book<L, P, D, J> {
+    /// No step was made, at moment 0. The roll is the library's, with nothing in it. An error where memory is wanting.
+    pub fn new(
+        alloc: Global,
+        setup: Setup<D>,
+        roll: Roll<Told>,
+        keeper: Keeper<Told>,
+    ) -> Result<Book<L, P, D, J>, AllocError>
+        requires setup { setup_of setup ≡ L.setup }
+        requires roll { roll ≡ L.table }
+        requires keeper { keeper ≡ new_keeper roll }
+        ensures setup { IfOk result (λ b. b.setup ≡ L.setup) }
+        ensures empty { IfOk result (λ b. b.journal ≡ []) }
+        ensures moment { IfOk result (λ b. b.moment ≡ 0) }
+        ensures carries { IfOk result (λ b. (kept : Kept P) → Carries kept b.core) }
+    {
+        Ok(Book {
+            core: Core::new(alloc, setup)?,
+            moment: 0,
+            recorder: J::new(alloc),
+            places: 0,
+            roll,
+            keeper,
+            alloc,
+            library: PhantomData,
+        })
+    }
+
+    /// How many places the journal has.
+    pub fn len(&self) -> u64
+        ensures { result ≡ length self.now.journal }
+    {
+        self.places
+    }
+
+    /// The moment, in milliseconds.
+    pub fn moment(&self) -> u64
+        ensures { result ≡ self.now.moment }
+    {
+        self.moment
+    }
+
+    /// How many bytes the next result has that is taken; 0 where none waits.
+    pub fn next_len(&self) -> usize
+        ensures { result ≡ option_map_or (λ t. length t.piece.bytes) (slice_get (world_where self.now.setup self.now.journal).results 0) 0 }
+    {
+        self.core.next_len()
+    }
+
+    /// What is to be done next, looked for from behind this endpoint on. Takes no memory.
+    pub fn pending(&self, after: Option<(DeviceNo, EpAddr)>) -> Pending
+        ensures { IsPending self.now.setup (world_where self.now.setup self.now.journal) after result }
+    {
+        self.core.pending(after)
+    }
+
+    /// A mark at the end of the journal, whose bearer has no places yet.
+    pub fn mark(&mut self) -> Mark<L>
+        ensures mark { (result.mark ≡ length self.old.journal) × (result.own ≡ []) }
+        ensures same { self.new ≡ self.old }
+    {
+        Mark {
+            mark: self.roll.mark(&mut self.keeper),
+            library: PhantomData,
+        }
+    }
+
+    /// The journal's end, compared with receipts.
+    pub fn finish(self, receipts: Vec<Receipt<L>>) -> Closed<P, D, J>
+        ensures journal { result.journal ≡ self.journal }
+        ensures kept { J.stands result.recorder self.journal }
+        ensures counted { result.places ≡ length self.journal }
+        ensures setup { self.setup ≡ L.setup }
+        ensures run { IsRun L.setup self.journal }
+        ensures core { result.core ≡ self.core }
+        ensures found { All (λ r. slice_get self.journal r.place ≡ Some r.entry) receipts.items }
+        ensures apart { (p : ℕ) → count_by (λ r. r.place == p) receipts.items ≤ 1 }
+    {
+        let Book {
+            core,
+            recorder,
+            places,
+            roll,
+            mut keeper,
+            ..
+        } = self;
+        take_all(&roll, &mut keeper, receipts);
+        roll.check(&mut keeper);
+        Closed {
+            journal: Whole { keeper },
+            recorder,
+            places,
+            core,
+        }
+    }
+}
+
+/// The keeper takes in the receipts' claims.
+fn take_all<L: Naming>(roll: &Roll<Told>, keeper: &mut Keeper<Told>, receipts: Vec<Receipt<L>>)
+    requires here { (keeper.old.roll ≡ roll.now) × (roll.now ≡ L.table) }
+    requires none { keeper.old.taken ≡ [] }
+    ensures same { (keeper.new.roll ≡ keeper.old.roll) × (keeper.new.log ≡ keeper.old.log) }
+    ensures taken { keeper.new.taken ≡ claims_of receipts.items }
+{
+    for receipt in receipts {
+        roll.take_in(keeper, receipt.claim);
+    }
+}

@@ -1,0 +1,28 @@
+//! The book of a library: the core, the moment, and the journal of the core's steps, under one roof.
+//!
+//! The one promise: the entries of the journal are those of the definitions' run of its steps, and the core shows the
+//! world where that run ends; a receipt goes on saying what stands at its place.
+#![tactic(auto)]
+
+mod book;
+mod calls;
+mod closed;
+mod journal;
+mod mark;
+mod naming;
+mod place;
+mod receipt;
+mod recorder;
+mod recording;
+mod ticking;
+
+pub use book::Book;
+pub use closed::{Closed, Whole};
+pub use journal::{Draft, Journal};
+pub use mark::Mark;
+pub use naming::Naming;
+pub use place::{Place, Told};
+pub use receipt::Receipt;
+pub use recorder::{Recorder, Unrecorded};
+pub use recording::NotRecorded;
+pub use usb_core::{Pending, Setup, Stepped, Taken, Unaccepted};

@@ -1,0 +1,34 @@
+//! A place of the journal.
+
+use std::marker::{Model, Snapshot};
+use usb_model::{Entry, Step};
+
+/// A step of the core, as the journal has it.
+#[derive(Drop)]
+pub struct Place {
+    /// The step.
+    pub step: Step,
+    /// The number of the caller who asked for it.
+    pub caller: u32,
+    /// Whose it was, and the reply to it.
+    pub entry: Entry,
+    /// The moment when it was made, in milliseconds.
+    pub moment: u64,
+}
+
+/// A place as the roll is told of it. Contracts see the place; nothing of step and entry is copied.
+#[derive(Drop)]
+pub struct Told {
+    step: Snapshot<Step>,
+    caller: u32,
+    entry: Snapshot<Entry>,
+    moment: u64,
+}
+
+impl Model for Told {
+    ghost use Rattle.usb_book.specs.declared.place.Place.{Place};
+
+    ghost Value = { Place };
+
+    ghost view = { λ p. record { step = p.step.value; caller = p.caller; entry = p.entry.value; moment = p.moment } };
+}
