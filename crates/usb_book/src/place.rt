@@ -1,6 +1,7 @@
 //! A place of the journal.
 
-use std::marker::{Model, Snapshot};
+use std::marker::Model;
+use std::snapshot::Snapshot;
 use usb_model::{Entry, Step};
 
 /// A step of the core, as the journal has it.
