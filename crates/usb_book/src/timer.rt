@@ -1,0 +1,118 @@
+//! The moments at which transfers with a timeout were submitted.
+
+ghost use Rattle.std.specs.Prelude.{◌≡◌, ◌==◌, ◌<◌, ◌&&◌, min, vec_capacity, vec_len};
+ghost use Rattle.usb_model.specs.World.Due.{deadline};
+ghost use Rattle.usb_book.specs.Timers.{is_timer_of, started, started_again_if, started_if, stopped, timeout_in};
+
+use usb_core::Unaccepted;
+use usb_model::Name;
+
+/// Of a transfer with a timeout, from its submission on until its callback ends: when it was submitted.
+#[derive(Clone, Copy)]
+pub(crate) struct Timer {
+    /// Whose it is.
+    pub(crate) h: Name,
+    /// Its number.
+    pub(crate) n: u64,
+    /// After how many milliseconds its time is over.
+    pub(crate) timeout: u32,
+    /// The moment of its submission, in milliseconds.
+    pub(crate) given: u64,
+}
+
+impl Timer {
+    /// Whether it is of this transfer.
+    fn is_of(&self, h: Name, n: u64) -> bool
+        ensures { result ≡ is_timer_of h n self.now }
+    {
+        self.h == h && self.n == n
+    }
+
+    /// The moment from which on its time is over: the largest there is at the latest.
+    pub(crate) fn deadline(&self) -> u64
+        ensures { result ≡ deadline self.now.given self.now.timeout }
+    {
+        self.given.saturating_add(u64::from(self.timeout))
+    }
+}
+
+/// A transfer is submitted. Nothing is kept of one without a timeout.
+pub(crate) fn start(timers: &mut Vec<Timer>, timer: Timer)
+    requires room { vec_len timers.old < vec_capacity timers.old }
+    ensures { timers.new.items ≡ started timers.old.items timer }
+{
+    if timer.timeout != 0 {
+        timers.push_reserved(timer);
+    }
+}
+
+/// The timeout of a transfer; 0 where it has none.
+pub(crate) fn timeout_of(timers: &[Timer], h: Name, n: u64) -> u32
+    ensures { result ≡ timeout_in h n timers.now }
+{
+    match timers.iter().find(|timer| timer.is_of(h, n)) {
+        Some(timer) => timer.timeout,
+        None => 0,
+    }
+}
+
+/// A transfer's callback has ended.
+pub(crate) fn stop(timers: &mut Vec<Timer>, h: Name, n: u64)
+    ensures items { timers.new.items ≡ stopped h n timers.old.items }
+    ensures capacity { vec_capacity timers.new ≡ vec_capacity timers.old }
+    ensures less { vec_len timers.new ≤ vec_len timers.old }
+{
+    if let Some(index) = timers.iter().position(|timer| timer.is_of(h, n)) {
+        let _ = timers.remove(index);
+    }
+}
+
+/// A transfer was submitted, if it was accepted.
+pub(crate) fn start_if<G, P>(
+    timers: &mut Vec<Timer>,
+    h: Name,
+    answer: &Result<u64, Unaccepted<G, P>>,
+    timeout: u32,
+    given: u64,
+)
+    requires room { vec_len timers.old < vec_capacity timers.old }
+    ensures { timers.new.items ≡ started_if h timeout given answer.now timers.old.items }
+{
+    if let Ok(n) = answer {
+        start(
+            timers,
+            Timer {
+                h,
+                n: *n,
+                timeout,
+                given,
+            },
+        );
+    }
+}
+
+/// The transfer of a callback was submitted once more, if it was accepted.
+pub(crate) fn start_again_if<G, P>(
+    timers: &mut Vec<Timer>,
+    h: Name,
+    n: u64,
+    answer: &Result<u64, Unaccepted<G, P>>,
+    given: u64,
+)
+    requires room { vec_len timers.old < vec_capacity timers.old }
+    ensures { timers.new.items ≡ started_again_if h n given answer.now timers.old.items }
+{
+    if let Ok(k) = answer {
+        let timeout = timeout_of(timers, h, n);
+        stop(timers, h, n);
+        start(
+            timers,
+            Timer {
+                h,
+                n: *k,
+                timeout,
+                given,
+            },
+        );
+    }
+}
