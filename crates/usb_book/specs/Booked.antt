@@ -4,7 +4,10 @@ use Rattle.usb_model.specs.declared.entry.Entry.{Entry}
 use Rattle.usb_model.specs.declared.refused.Refused.{Refused}
 use Rattle.usb_model.specs.declared.refused.Refused.TheVariants.{NoMem}
 use Rattle.usb_model.specs.declared.reply.Reply.TheVariants.{Number, Refused as IsRefused}
+use Rattle.usb_model.specs.declared.request.Request.{Request}
 use Rattle.usb_model.specs.declared.step.Step.{Step}
+use Rattle.usb_model.specs.declared.step.Step.TheVariants.{Answer, Submit}
+use Rattle.usb_model.specs.declared.verdict.Verdict.TheVariants.{AgainWith}
 use Rattle.usb_model.specs.Setup.{Setup}
 use Rattle.usb_model.specs.World.{World, new_world, turn, world_from}
 use Rattle.usb_model.specs.World.Due.{Dated}
@@ -57,6 +60,16 @@ next_receipt b step caller entry = record {
 abbrev pub answer_entry : {G P : Type 0} → ℕ → Result ℕ (Unaccepted G P) → Entry
 answer_entry h (Ok n) = record { owner = Some h; reply = Number n }
 answer_entry h (Err x) = record { owner = Some h; reply = IsRefused x.why }
+
+-- the request of a submission
+abbrev pub request_in : Step → Option Request
+request_in (Submit h request) = Some request
+request_in step = None
+
+-- the bytes of a submission from within a callback, where they are other ones
+abbrev pub new_bytes_in : Step → Option (List ℕ)
+new_bytes_in (Answer h n (AgainWith bytes)) = Some bytes
+new_bytes_in step = None
 
 -- the payload that comes back of a submission
 abbrev pub payload_back : {G P : Type 0} → Result ℕ (Unaccepted G P) → Option P

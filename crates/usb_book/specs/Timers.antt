@@ -1,4 +1,4 @@
--- What is kept of transfers with a timeout.
+-- When transfers were submitted, from then on until their callbacks end.
 use Rattle.std.specs.Prelude.{map, nat_le, ℕ, ◌==◌, ◌&&◌, Bool, List, [], ◌∷◌, ◌++◌, Option, Some, None, Result, Ok, Err, if◌then◌else◌}
 use Rattle.usb_model.specs.declared.reply.Reply.{Reply}
 use Rattle.usb_model.specs.declared.reply.Reply.TheVariants.{Done, Number}
@@ -18,11 +18,7 @@ use Rattle.usb_book.specs.declared.timer.Timer.{Timer}
 abbrev pub is_timer_of : (h n : ℕ) → Timer → Bool
 is_timer_of h n t = (t.h == h) && (t.n == n)
 
--- one more; nothing is kept without a timeout
-abbrev pub started : List Timer → Timer → List Timer
-started ts t = if t.timeout == 0 then ts else ts ++ t ∷ []
-
--- the timeout of a transfer; 0 where it has none
+-- the timeout of a transfer; 0 where none is kept
 abbrev pub timeout_in : (h n : ℕ) → List Timer → ℕ
 timeout_in h n [] = 0
 timeout_in h n (t ∷ ts) = if is_timer_of h n t then t.timeout else timeout_in h n ts
@@ -34,12 +30,12 @@ stopped h n (t ∷ ts) = if is_timer_of h n t then ts else t ∷ stopped h n ts
 
 -- a submission of name h was answered so
 abbrev pub started_if : {G P : Type 0} → (h timeout given : ℕ) → Result ℕ (Unaccepted G P) → List Timer → List Timer
-started_if h timeout given (Ok n) ts = started ts (record { h = h; n = n; timeout = timeout; given = given })
+started_if h timeout given (Ok n) ts = ts ++ record { h = h; n = n; timeout = timeout; given = given } ∷ []
 started_if h timeout given (Err x) ts = ts
 
 -- or that of a callback's transfer
 abbrev pub started_again_if : {G P : Type 0} → (h n given : ℕ) → Result ℕ (Unaccepted G P) → List Timer → List Timer
-started_again_if h n given (Ok k) ts = started (stopped h n ts) (record { h = h; n = k; timeout = timeout_in h n ts; given = given })
+started_again_if h n given (Ok k) ts = stopped h n ts ++ record { h = h; n = k; timeout = timeout_in h n ts; given = given } ∷ []
 started_again_if h n given (Err x) ts = ts
 
 -- the transfer whose callback a step ends
@@ -52,12 +48,22 @@ abbrev pub stopped_if : Option (ℕ × ℕ) → Reply → List Timer → List Ti
 stopped_if (Some x) Done ts = stopped x.0 x.1 ts
 stopped_if o reply ts = ts
 
+-- a submission has this number, at this moment
+abbrev pub numbered : List Timer → Step → (n moment : ℕ) → List Timer
+numbered ts (Submit h request) n moment = ts ++ record { h = h; n = n; timeout = request.timeout; given = moment } ∷ []
+numbered ts (Answer h k Again) n moment = stopped h k ts ++ record { h = h; n = n; timeout = timeout_in h k ts; given = moment } ∷ []
+numbered ts (Answer h k (AgainWith bytes)) n moment = stopped h k ts ++ record { h = h; n = n; timeout = timeout_in h k ts; given = moment } ∷ []
+numbered ts step n moment = ts
+
+-- a callback has ended
+abbrev pub ended : List Timer → Step → List Timer
+ended ts (Answer h k Stop) = stopped h k ts
+ended ts step = ts
+
 -- those that are kept after one place more: of its step, the reply, and the moment
 abbrev pub timers_by : List Timer → Step → Reply → ℕ → List Timer
-timers_by ts (Submit h request) (Number n) moment = started ts (record { h = h; n = n; timeout = request.timeout; given = moment })
-timers_by ts (Answer h k Stop) Done moment = stopped h k ts
-timers_by ts (Answer h k Again) (Number n) moment = started (stopped h k ts) (record { h = h; n = n; timeout = timeout_in h k ts; given = moment })
-timers_by ts (Answer h k (AgainWith bytes)) (Number n) moment = started (stopped h k ts) (record { h = h; n = n; timeout = timeout_in h k ts; given = moment })
+timers_by ts step (Number n) moment = numbered ts step n moment
+timers_by ts step Done moment = ended ts step
 timers_by ts step reply moment = ts
 
 abbrev pub timers_from : List Timer → List Place → List Timer

@@ -217,17 +217,23 @@ fn answered<G: Drop, P>(h: Name, answer: Result<u64, Unaccepted<G, P>>) -> Stepp
     ensures out { result.out ≡ None }
     ensures back { result.back ≡ payload_back answer }
 {
-    let (reply, back) = match answer {
-        Ok(n) => (Reply::Number(n), None),
-        Err(Unaccepted { why, payload, .. }) => (Reply::Refused(why), Some(payload)),
-    };
-    Stepped {
-        entry: Entry {
-            owner: Some(h),
-            reply,
+    match answer {
+        Ok(n) => Stepped {
+            entry: Entry {
+                owner: Some(h),
+                reply: Reply::Number(n),
+            },
+            out: None,
+            back: None,
         },
-        out: None,
-        back,
+        Err(Unaccepted { why, payload, .. }) => Stepped {
+            entry: Entry {
+                owner: Some(h),
+                reply: Reply::Refused(why),
+            },
+            out: None,
+            back: Some(payload),
+        },
     }
 }
 

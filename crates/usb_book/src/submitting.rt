@@ -4,7 +4,7 @@ ghost use Rattle.std.specs.Prelude.{◌≡◌, ◌++◌, ◌∷◌, ◌+◌, ◌
 ghost use Rattle.usb_model.specs.declared.step.Step.TheVariants.{Answer, Submit};
 ghost use Rattle.usb_model.specs.declared.verdict.Verdict.TheVariants.{Again, AgainWith};
 ghost use Rattle.usb_state.specs.Carrying.{CarriesMore, StillCarries};
-ghost use Rattle.usb_book.specs.Booked.{IsMoved, IsSame, answer_entry, next_entry, next_receipt, unless_no_memory};
+ghost use Rattle.usb_book.specs.Booked.{IsMoved, IsSame, answer_entry, new_bytes_in, next_entry, next_receipt, request_in, unless_no_memory};
 
 use crate::book::Book;
 use crate::log::Log;
@@ -52,7 +52,7 @@ impl<L: Naming, P, D: Device, J: Recorder> Book<L, P, D, J> {
         let step = Step::Submit { h, request };
         let prepared = prepare(log, timers, *alloc, &step);
         let asked = Snapshot::of(&step);
-        let Step::Submit { request, .. } = step else {
+        let Some(request) = request_in(step) else {
             unreachable!()
         };
         let Ok(draft) = prepared else {
@@ -149,11 +149,7 @@ impl<L: Naming, P, D: Device, J: Recorder> Book<L, P, D, J> {
         };
         let prepared = prepare(log, timers, *alloc, &step);
         let asked = Snapshot::of(&step);
-        let Step::Answer {
-            verdict: Verdict::AgainWith(bytes),
-            ..
-        } = step
-        else {
+        let Some(bytes) = bytes_in(step) else {
             unreachable!()
         };
         let Ok(draft) = prepared else {
@@ -225,5 +221,28 @@ fn unless_no_memory<G, P>(
                 payload,
             })),
         },
+    }
+}
+
+/// The request of a submission.
+fn request_in(step: Step) -> Option<Request>
+    ensures { result ≡ request_in step }
+{
+    match step {
+        Step::Submit { request, .. } => Some(request),
+        _ => None,
+    }
+}
+
+/// The bytes of a submission from within a callback, where they are other ones.
+fn bytes_in(step: Step) -> Option<Bytes>
+    ensures { result ≡ new_bytes_in step }
+{
+    match step {
+        Step::Answer { verdict, .. } => match verdict {
+            Verdict::AgainWith(bytes) => Some(bytes),
+            _ => None,
+        },
+        _ => None,
     }
 }

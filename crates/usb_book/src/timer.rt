@@ -1,20 +1,20 @@
-//! The moments at which transfers with a timeout were submitted.
+//! The moments at which transfers were submitted.
 
-ghost use Rattle.std.specs.Prelude.{◌≡◌, ◌==◌, ◌<◌, ◌&&◌, min, vec_capacity, vec_len};
+ghost use Rattle.std.specs.Prelude.{◌≡◌, ◌<◌, ◌≤◌, vec_capacity, vec_len};
 ghost use Rattle.usb_model.specs.World.Due.{deadline};
-ghost use Rattle.usb_book.specs.Timers.{is_timer_of, started, started_again_if, started_if, stopped, timeout_in};
+ghost use Rattle.usb_book.specs.Timers.{is_timer_of, started_again_if, started_if, stopped, timeout_in};
 
 use usb_core::Unaccepted;
 use usb_model::Name;
 
-/// Of a transfer with a timeout, from its submission on until its callback ends: when it was submitted.
+/// Of a transfer, from its submission on until its callback ends: when it was submitted, and its timeout.
 #[derive(Clone, Copy)]
 pub(crate) struct Timer {
     /// Whose it is.
     pub(crate) h: Name,
     /// Its number.
     pub(crate) n: u64,
-    /// After how many milliseconds its time is over.
+    /// After how many milliseconds its time is over; 0 for never.
     pub(crate) timeout: u32,
     /// The moment of its submission, in milliseconds.
     pub(crate) given: u64,
@@ -36,17 +36,7 @@ impl Timer {
     }
 }
 
-/// A transfer is submitted. Nothing is kept of one without a timeout.
-pub(crate) fn start(timers: &mut Vec<Timer>, timer: Timer)
-    requires room { vec_len timers.old < vec_capacity timers.old }
-    ensures { timers.new.items ≡ started timers.old.items timer }
-{
-    if timer.timeout != 0 {
-        timers.push_reserved(timer);
-    }
-}
-
-/// The timeout of a transfer; 0 where it has none.
+/// The timeout of a transfer; 0 where none is kept.
 pub(crate) fn timeout_of(timers: &[Timer], h: Name, n: u64) -> u32
     ensures { result ≡ timeout_in h n timers.now }
 {
@@ -79,15 +69,12 @@ pub(crate) fn start_if<G, P>(
     ensures { timers.new.items ≡ started_if h timeout given answer.now timers.old.items }
 {
     if let Ok(n) = answer {
-        start(
-            timers,
-            Timer {
-                h,
-                n: *n,
-                timeout,
-                given,
-            },
-        );
+        timers.push_reserved(Timer {
+            h,
+            n: *n,
+            timeout,
+            given,
+        });
     }
 }
 
@@ -105,14 +92,11 @@ pub(crate) fn start_again_if<G, P>(
     if let Ok(k) = answer {
         let timeout = timeout_of(timers, h, n);
         stop(timers, h, n);
-        start(
-            timers,
-            Timer {
-                h,
-                n: *k,
-                timeout,
-                given,
-            },
-        );
+        timers.push_reserved(Timer {
+            h,
+            n: *k,
+            timeout,
+            given,
+        });
     }
 }
