@@ -1,7 +1,10 @@
 mod Runs
+mod Answers
 mod Replies
 mod Receipts
 mod Known
 mod Owns
 mod Tracks
 mod Steps
+mod Journals
+mod Due

@@ -35,8 +35,12 @@ own_stopped h n (t ∷ ts) = by_tests (t.h == h) refl (t.n == n) refl (own_stopp
   where
     by_tests : (a : Bool) → (t.h == h) ≡ a → (b : Bool) → (t.n == n) ≡ b → own h (stopped h n ts) ≡ cut n (own h ts) → own h (stopped h n (t ∷ ts)) ≡ cut n (own h (t ∷ ts))
     by_tests true its true same rest = rw (its, same) refl
-    by_tests true its false other rest = rw (its, other) (ap (λ l. t ∷ l) rest)
-    by_tests false others b test rest = rw others rest
+    by_tests true its false other rest =
+        ap (λ x. own h (if x && (t.n == n) then ts else t ∷ stopped h n ts)) its ∙ (ap (λ y. own h (if y then ts else t ∷ stopped h n ts)) other
+        ∙ (ap (λ b. cond b (t ∷ own h (stopped h n ts)) (own h (stopped h n ts))) its ∙ (ap (λ l. t ∷ l) rest
+        ∙ sym (ap (λ b. cut n (cond b (t ∷ own h ts) (own h ts))) its ∙ ap (λ b. if b then own h ts else t ∷ cut n (own h ts)) other))))
+    by_tests false others b test rest =
+        ap (λ x. own h (if x && (t.n == n) then ts else t ∷ stopped h n ts)) others ∙ (ap (λ x. cond x (t ∷ own h (stopped h n ts)) (own h (stopped h n ts))) others ∙ (rest ∙ sym (ap (λ x. cut n (cond x (t ∷ own h ts) (own h ts))) others)))
 
 pub own_stopped_other : (g h n : ℕ) (ts : List Timer) → (g == h) ≡ false → own h (stopped g n ts) ≡ own h ts
 own_stopped_other g h n [] other = refl

@@ -7,11 +7,13 @@ use Rattle.usb_model.specs.Setup.{Setup}
 use Rattle.usb_model.specs.World.{World, new_world, turn, world_from}
 use Rattle.usb_model.specs.World.Journal.{entries_in, journal, journal_from, world_run}
 use Rattle.usb_state.specs.Calls.{Stays}
+use Rattle.usb_state.specs.Carrying.{StillCarries}
 use Rattle.usb_state.specs.State.{ShowsWorld, State}
 use Rattle.usb_state.specs.Steps.{Turns}
 use Rattle.usb_book.specs.declared.place.Place.{Place}
 use Rattle.usb_book.specs.declared.timer.Timer.{Timer}
-use Rattle.usb_book.specs.Booked.{IsRun, Replays, entries_of, next_entry, steps_of, world_where}
+use Rattle.usb_book.specs.Seen.{Receipted}
+use Rattle.usb_book.specs.Booked.{Booked, IsRun, IsSame, Replays, entries_of, next_entry, steps_of, world_where}
 use Rattle.usb_book.specs.Timers.{timers_by, timers_from, timers_of}
 
 -- the world behind one step more
@@ -56,3 +58,32 @@ module _ {P : Type 0} where
   -- nothing changed that anybody sees
   pub replays_still : (setup : Setup) (places : List Place) (core new : State P) → Stays core new → Replays setup places core → Replays setup places new
   replays_still setup places core new stays r = (r.0, (r.1.0, stays setup r.1.0 r.1.1, r.1.2))
+
+-- one place more of a journal whose timers these are
+pub timers_more : (ts after : List Timer) (places : List Place) (p : Place) → ts ≡ timers_of places → after ≡ timers_by ts p.step p.entry.reply p.moment → after ≡ timers_of (places ++ p ∷ [])
+timers_more ts after places p are is = is ∙ (ap (λ l. timers_by l p.step p.entry.reply p.moment) are ∙ sym (timers-push [] places p))
+
+-- the same place by its step and its entry
+pub same_place : (step its : Step) (caller : ℕ) (entry told : Entry) (moment : ℕ) → step ≡ its → entry ≡ told → ◌≡◌ {A = Place} (record { step = step; caller = caller; entry = entry; moment = moment }) (record { step = its; caller = caller; entry = told; moment = moment })
+same_place step its caller entry told moment is are = ap (λ s. record { step = s; caller = caller; entry = entry; moment = moment }) is ∙ ap (λ e. record { step = its; caller = caller; entry = e; moment = moment }) are
+
+module _ {P : Type 0} (setup : Setup) (journal prepared : List Place) (core new : State P) where
+  -- a book stands with one place more
+  pub entered : (after : List Place) (ts later : List Timer) (p : Place) (receipt : Receipted) (place : ℕ) → prepared ≡ journal → after ≡ prepared ++ receipt.entry ∷ [] → receipt ≡ record { place = place; entry = p } → Turns core p.step p.entry new → later ≡ timers_by ts p.step p.entry.reply p.moment
+      → Replays setup journal core × (ts ≡ timers_of journal) → Replays setup after new × (later ≡ timers_of after)
+  entered after ts later p receipt place same is told turn timers i =
+      let journal_is : after ≡ journal ++ p ∷ [] = is ∙ (ap (λ l. l ++ receipt.entry ∷ []) same ∙ ap (λ (r : Receipted). journal ++ r.entry ∷ []) told) in
+      subst (λ l. Replays setup l new × (later ≡ timers_of l)) (sym journal_is) (replays-push setup journal core new p turn i.0, timers_more ts later journal p i.1 timers)
+
+  -- nothing changed that anybody sees
+  pub stands_still : (ts later : List Timer) → prepared ≡ journal → later ≡ ts → Stays core new → Replays setup journal core × (ts ≡ timers_of journal) → Replays setup prepared new × (later ≡ timers_of prepared)
+  stands_still ts later same are stays i = subst (λ l. Replays setup l new × (later ≡ timers_of l)) (sym same) (replays_still setup journal core new stays i.0, are ∙ i.1)
+
+  pub same_book : (moment : ℕ) (old : Booked P) → record { setup = setup; journal = journal; moment = moment; core = core } ≡ old → prepared ≡ journal → Stays core new → StillCarries core new → IsSame old (record { setup = setup; journal = prepared; moment = moment; core = new })
+  same_book moment old is same stays still = subst (λ b. IsSame b (record { setup = setup; journal = prepared; moment = moment; core = new })) is (record { setup = refl; journal = same; moment = refl; core = stays; carries = still })
+
+module _ {P : Type 0} where
+  -- no step was made
+  pub none_yet : (setup : Setup) (core : State P) → ShowsWorld setup core (new_world setup) → Replays setup [] core
+  unfolding journal journal_from world_from
+  none_yet setup core shows = (refl, shows)

@@ -3,6 +3,7 @@ use Rattle.std.proofs.Common.{◌≡◌, ◌∙◌, ◌==◌, ◌++◌, ◌+◌,
 use Rattle.std.specs.Prelude.{◌&&◌, ◌||◌, not, if◌then◌else◌}
 use Rattle.std.proofs.lemmas.Bool.{or_parts, eqb-true}
 use Rattle.std.proofs.lemmas.Option.{same_Some}
+use Rattle.usb_model.specs.declared.effect.Change.TheVariants.{Keeps}
 use Rattle.usb_model.specs.declared.effect.Effect.{Effect}
 use Rattle.usb_model.specs.declared.endpoint.Endpoint.{Endpoint}
 use Rattle.usb_model.specs.declared.endpoint_effect.EndpointEffect.{EndpointEffect}
@@ -19,7 +20,7 @@ use Rattle.usb_model.specs.declared.verdict.Verdict.TheVariants.{Again, AgainWit
 use Rattle.usb_model.specs.Laws.Places.{number_of}
 use Rattle.usb_model.specs.Machine.Calls.{callback_of, called_back, submitted, without}
 use Rattle.usb_model.specs.Machine.Turns.{effect, machine_after, maker, take_effect}
-use Rattle.usb_model.specs.Machine.{Keeps, Machine, at_endpoint, device_of, does, endpoint_at, is_gone, says}
+use Rattle.usb_model.specs.Machine.{Machine, at_endpoint, device_of, does, endpoint_at, is_gone, says}
 use Rattle.usb_model.specs.Setup.{Setup, packet_size_of}
 use Rattle.usb_model.specs.World.{Turn, World, is_blocked, is_its, machine_of, owner_of, turn, turn_by, turn_of}
 use Rattle.usb_model.specs.World.Due.{Dated, given_at, is_number}

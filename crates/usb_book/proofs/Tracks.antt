@@ -87,7 +87,7 @@ no_result m called k p some = by_order (cases_lt k m.handle.next_number)
     by_order (inr le) = absurd (omega (arith, (p.not_given k le).uncalled, some))
 
 -- what is over stays over
-over_after : (setup : Setup) (h : ℕ) (m : Machine) (step : Step) (done : Effect) (called more : List ℕ) → IsDone setup h m step done → IsPlaced m called → (t : Timer) → IsOver m called t → IsOver (machine_after setup m step done) (called ++ more) t
+pub over_after : (setup : Setup) (h : ℕ) (m : Machine) (step : Step) (done : Effect) (called more : List ℕ) → IsDone setup h m step done → IsPlaced m called → (t : Timer) → IsOver m called t → IsOver (machine_after setup m step done) (called ++ more) t
 over_after setup h m step done called more is p t o = record {
   was_called = omega (arith, o.was_called, times-append t.n called more);
   no_callback = callbacks_after (λ n request round. n ≡ t.n → ⊥) setup h m step done is (none_of (λ (r : TransferResult). r.n) t.n m.results (no_result m called t.n p o.was_called)) o.no_callback;
@@ -97,21 +97,21 @@ over_after setup h m step done called more is p t o = record {
 found_number : (k : ℕ) (xs : List InCallback) (x : InCallback) → callback_of k xs ≡ Some x → x.n ≡ k
 unfolding callback_of
 found_number k [] x e = absurd cc
-found_number k (y ∷ ys) x e = by_test (y.n == k) refl e
+found_number k (y ∷ ys) x e = by_test (y.n == k) refl e (found_number k ys x)
   where
-    by_test : (b : Bool) → (y.n == k) ≡ b → (if b then Some y else callback_of k ys) ≡ Some x → x.n ≡ k
-    by_test true is q = ap (λ (z : InCallback). z.n) (sym (same_Some y x q)) ∙ eqb-true y.n k is
-    by_test false is q = found_number k ys x q
+    by_test : (b : Bool) → (y.n == k) ≡ b → (if b then Some y else callback_of k ys) ≡ Some x → (callback_of k ys ≡ Some x → x.n ≡ k) → x.n ≡ k
+    by_test true is q rest = ap (λ (z : InCallback). z.n) (sym (same_Some y x q)) ∙ eqb-true y.n k is
+    by_test false is q rest = rest q
 
 -- and is one of those in callbacks
 found_times : (k : ℕ) (xs : List InCallback) (x : InCallback) → callback_of k xs ≡ Some x → 1 ≤ times k (callback_numbers xs)
 unfolding callback_of
 found_times k [] x e = absurd cc
-found_times k (y ∷ ys) x e = by_test (y.n == k) refl e
+found_times k (y ∷ ys) x e = by_test (y.n == k) refl e (found_times k ys x)
   where
-    by_test : (b : Bool) → (y.n == k) ≡ b → (if b then Some y else callback_of k ys) ≡ Some x → 1 ≤ times k (callback_numbers (y ∷ ys))
-    by_test true is q = let one : (if y.n == k then 1 else 0) ≡ 1 = ap (λ (b : Bool). if b then 1 else 0) is in omega (arith, times-cons k y.n (callback_numbers ys), one)
-    by_test false is q = omega (arith, found_times k ys x q, times-cons k y.n (callback_numbers ys))
+    by_test : (b : Bool) → (y.n == k) ≡ b → (if b then Some y else callback_of k ys) ≡ Some x → (callback_of k ys ≡ Some x → 1 ≤ times k (callback_numbers ys)) → 1 ≤ times k (callback_numbers (y ∷ ys))
+    by_test true is q rest = let one : ◌≡◌ {A = ℕ} (if y.n == k then 1 else 0) 1 = ap (λ (b : Bool). if b then 1 else 0) is in omega (arith, times-cons k y.n (callback_numbers ys), one)
+    by_test false is q rest = omega (arith, rest q, times-cons k y.n (callback_numbers ys))
 
 -- no callback of its number is left behind it
 none_without : (k : ℕ) (xs : List InCallback) → AllByRecursion (λ x. x.n ≡ k → ⊥) (without k xs)

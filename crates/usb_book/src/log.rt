@@ -112,7 +112,7 @@ impl<L: Naming, J: Recorder> Log<L, J> {
         requires told { told.entry ≡ entry.now }
         requires draft { (bytes : ℕ) × J.is_draft draft told.step bytes × (bytes_in entry.now.reply ≤ bytes) }
         ensures receipt { result ≡ record { place = length self.old.journal; entry = told } }
-        ensures journal { self.new.journal ≡ self.old.journal ++ told ∷ [] }
+        ensures journal { self.new.journal ≡ self.old.journal ++ result.entry ∷ [] }
         ensures mark { IsMoved mark.old result mark.new }
     {
         let (caller, moment) = (told.caller(), told.moment());

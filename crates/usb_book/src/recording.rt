@@ -12,7 +12,7 @@ ghost use Rattle.usb_book.specs.Timers.{ending, stopped_if};
 use crate::book::Book;
 use crate::mark::Mark;
 use crate::naming::Naming;
-use crate::place::Told;
+use crate::submitting::enter;
 use crate::receipt::Receipt;
 use crate::recorder::Recorder;
 use crate::timer::{Timer, stop};
@@ -205,8 +205,7 @@ impl<L: Naming, P: Drop, D: Device, J: Recorder> Book<L, P, D, J> {
             unreachable!()
         };
         stop_if(timers, ending, &stepped.entry);
-        let told = Told::new(asked, caller, &stepped.entry, *moment);
-        let receipt = log.enter(mark, draft, told, &stepped.entry);
+        let receipt = enter(log, mark, draft, asked, caller, &stepped.entry, *moment);
         Ok((receipt, stepped))
     }
 }

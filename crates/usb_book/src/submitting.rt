@@ -4,6 +4,7 @@ ghost use Rattle.std.specs.Prelude.{◌≡◌, ◌++◌, ◌∷◌, ◌+◌, ◌
 ghost use Rattle.usb_model.specs.declared.step.Step.TheVariants.{Answer, Submit};
 ghost use Rattle.usb_model.specs.declared.verdict.Verdict.TheVariants.{Again, AgainWith};
 ghost use Rattle.usb_state.specs.Carrying.{CarriesMore, StillCarries};
+ghost use Rattle.usb_book.specs.Recording.{bytes_in};
 ghost use Rattle.usb_book.specs.Booked.{IsMoved, IsSame, answer_entry, new_bytes_in, next_entry, next_receipt, request_in, unless_no_memory};
 
 use crate::book::Book;
@@ -62,11 +63,13 @@ impl<L: Naming, P, D: Device, J: Recorder> Book<L, P, D, J> {
             });
         };
         let timeout = request.timeout;
-        let answer = unless_no_memory(core.submit(h, request, payload))?;
+        let answer = match unless_no_memory(core.submit(h, request, payload)) {
+            Ok(answer) => answer,
+            Err(back) => return Err(back),
+        };
         start_if(timers, h, &answer, timeout, *moment);
         let entry = answer_entry(h, &answer);
-        let told = Told::new(asked, caller, &entry, *moment);
-        let receipt = log.enter(mark, draft, told, &entry);
+        let receipt = enter(log, mark, draft, asked, caller, &entry, *moment);
         Ok((receipt, answer))
     }
 
@@ -107,11 +110,13 @@ impl<L: Naming, P, D: Device, J: Recorder> Book<L, P, D, J> {
             return Err(NotRecorded { given: (), payload });
         };
         let asked = Snapshot::of(&step);
-        let answer = unless_no_memory(core.again(h, n, payload))?;
+        let answer = match unless_no_memory(core.again(h, n, payload)) {
+            Ok(answer) => answer,
+            Err(back) => return Err(back),
+        };
         start_again_if(timers, h, n, &answer, *moment);
         let entry = answer_entry(h, &answer);
-        let told = Told::new(asked, caller, &entry, *moment);
-        let receipt = log.enter(mark, draft, told, &entry);
+        let receipt = enter(log, mark, draft, asked, caller, &entry, *moment);
         Ok((receipt, answer))
     }
 
@@ -149,7 +154,7 @@ impl<L: Naming, P, D: Device, J: Recorder> Book<L, P, D, J> {
         };
         let prepared = prepare(log, timers, *alloc, &step);
         let asked = Snapshot::of(&step);
-        let Some(bytes) = bytes_in(step) else {
+        let Some(bytes) = new_bytes_in(step) else {
             unreachable!()
         };
         let Ok(draft) = prepared else {
@@ -158,11 +163,13 @@ impl<L: Naming, P, D: Device, J: Recorder> Book<L, P, D, J> {
                 payload,
             });
         };
-        let answer = unless_no_memory(core.again_with(h, n, bytes, payload))?;
+        let answer = match unless_no_memory(core.again_with(h, n, bytes, payload)) {
+            Ok(answer) => answer,
+            Err(back) => return Err(back),
+        };
         start_again_if(timers, h, n, &answer, *moment);
         let entry = answer_entry(h, &answer);
-        let told = Told::new(asked, caller, &entry, *moment);
-        let receipt = log.enter(mark, draft, told, &entry);
+        let receipt = enter(log, mark, draft, asked, caller, &entry, *moment);
         Ok((receipt, answer))
     }
 }
@@ -185,9 +192,31 @@ fn prepare<L: Naming, J: Recorder>(
     Ok(draft)
 }
 
+/// One place more, of a step whose reply has no bytes.
+pub(crate) fn enter<L: Naming, J: Recorder>(
+    log: &mut Log<L, J>,
+    mark: &mut Mark<L>,
+    draft: J::Draft,
+    asked: Snapshot<Step>,
+    caller: u32,
+    entry: &Entry,
+    moment: u64,
+) -> Receipt<L>
+    requires room { (length log.old.journal + 1 < 2 ^ 64) × J.has_room log.old.recorder 1 }
+    requires draft { J.is_draft draft asked.value 0 }
+    requires bytes { bytes_in entry.now.reply ≡ 0 }
+    ensures receipt { result ≡ record { place = length log.old.journal; entry = record { step = asked.value; caller = caller; entry = entry.now; moment = moment } } }
+    ensures journal { log.new.journal ≡ log.old.journal ++ result.entry ∷ [] }
+    ensures mark { IsMoved mark.old result mark.new }
+{
+    let told = Told::new(asked, caller, entry, moment);
+    log.enter(mark, draft, told, entry)
+}
+
 /// The entry of a submission of a name.
 fn answer_entry<G, P>(h: Name, answer: &Result<u64, Unaccepted<G, P>>) -> Entry
-    ensures { result ≡ answer_entry h answer.now }
+    ensures entry { result ≡ answer_entry h answer.now }
+    ensures bytes { bytes_in result.reply ≡ 0 }
 {
     let reply = match answer {
         Ok(n) => Reply::Number(*n),
@@ -235,7 +264,7 @@ fn request_in(step: Step) -> Option<Request>
 }
 
 /// The bytes of a submission from within a callback, where they are other ones.
-fn bytes_in(step: Step) -> Option<Bytes>
+fn new_bytes_in(step: Step) -> Option<Bytes>
     ensures { result ≡ new_bytes_in step }
 {
     match step {

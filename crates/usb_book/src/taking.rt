@@ -47,7 +47,10 @@ impl<L: Naming, P, D: Device, J: Recorder> Book<L, P, D, J> {
         let step = Step::Take;
         let draft = log.prepare(*alloc, &step, core.next_len())?;
         let asked = Snapshot::of(&step);
-        match core.take()? {
+        let Ok(taken) = core.take() else {
+            return Err(AllocError);
+        };
+        match taken {
             None => {
                 let entry = Entry {
                     owner: None,

@@ -1,6 +1,6 @@
 //! Time passes: transfers whose time is over are asked to end.
 
-ghost use Rattle.std.specs.Prelude.{◌≡◌, ◌==◌, ◌++◌, ◌+◌, ◌^◌, ◌<◌, ◌≤◌, [], IfOk, OnErr, OnOk, drop, length, map, max, take, vec_capacity, vec_len};
+ghost use Rattle.std.specs.Prelude.{◌≡◌, ◌==◌, ◌++◌, ◌+◌, ◌^◌, ◌<◌, ◌≤◌, ◌∷◌, [], if◌then◌else◌, IfOk, OnErr, OnOk, drop, length, map, max, take, vec_capacity, vec_len};
 ghost use Rattle.std.specs.List.{filter};
 ghost use Rattle.usb_model.specs.Setup.{Setup as IsSetup};
 ghost use Rattle.usb_model.specs.World.{World};
@@ -78,11 +78,33 @@ fn over_now<P, D: Device>(
 {
     let mut over = Vec::new(alloc);
     for timer in timers {
-        if timer.deadline() <= moment && core.expires(timer.h, timer.n) {
-            over.push(*timer)?;
-        }
+        let test = is_over(core, timer, moment);
+        let Ok(()) = push_if(&mut over, timer, test) else {
+            return Err(AllocError);
+        };
     }
     Ok(over)
+}
+
+/// Whether the time of a timer's transfer is over.
+fn is_over<P, D: Device>(core: &Core<P, D>, timer: &Timer, moment: u64) -> bool
+    ensures { (setup : IsSetup) (w : World) → ShowsWorld setup core.now w → result ≡ is_over setup w moment timer.now }
+{
+    if moment < timer.deadline() {
+        return false;
+    }
+    core.expires(timer.h, timer.n)
+}
+
+/// A timer goes behind these, if it passes the test.
+fn push_if(timers: &mut Vec<Timer>, timer: &Timer, test: bool) -> Result<(), AllocError>
+    ensures { OnOk result (timers.new.items ≡ timers.old.items ++ (if test then timer.now ∷ [] else [])) }
+{
+    if test {
+        timers.reserve(1)?;
+        timers.push_reserved(*timer);
+    }
+    Ok(())
 }
 
 /// The same timers by rising name; those of one name in the same order.
@@ -90,11 +112,10 @@ fn sorted(alloc: Global, timers: &[Timer]) -> Result<Vec<Timer>, AllocError>
     ensures { IfOk result (λ sorted. sorted.items ≡ by_name timers.now) }
 {
     let mut sorted = Vec::with_capacity(alloc, timers.len())?;
-    if timers.is_empty() {
-        return Ok(sorted);
-    }
     for number in 0..64_u8 {
-        push_named(number, timers, &mut sorted)?;
+        let Ok(()) = push_named(number, timers, &mut sorted) else {
+            return Err(AllocError);
+        };
     }
     Ok(sorted)
 }
@@ -104,9 +125,10 @@ fn push_named(number: u8, timers: &[Timer], sorted: &mut Vec<Timer>) -> Result<(
     ensures { OnOk result (sorted.new.items ≡ sorted.old.items ++ filter (λ t. t.h == number) timers.now) }
 {
     for timer in timers {
-        if timer.h.number() == number {
-            sorted.push(*timer)?;
-        }
+        let test = timer.h.number() == number;
+        let Ok(()) = push_if(sorted, timer, test) else {
+            return Err(AllocError);
+        };
     }
     Ok(())
 }
