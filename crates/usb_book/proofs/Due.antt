@@ -20,7 +20,7 @@ use Rattle.usb_model.specs.Machine.Calls.{Home, ask_effect, ask_in_progress, ask
 use Rattle.usb_model.specs.Machine.Turns.{effect}
 use Rattle.usb_model.specs.Machine.{Machine, at_endpoint, device_of, endpoint_at, refused_if}
 use Rattle.usb_model.specs.Setup.{Setup, endpoints_of}
-use Rattle.usb_model.specs.World.{World, is_blocked, machine_of, new_world, turn, turn_of, world_after, world_from}
+use Rattle.usb_model.specs.World.{Turn, World, is_blocked, machine_of, new_world, turn, turn_of, world_after, world_from}
 use Rattle.usb_model.specs.World.Due.{Dated, below, deadline, due, due_of, given_at, is_due}
 use Rattle.usb_model.specs.World.Journal.{steps_in}
 use Rattle.usb_account.proofs.Bounds.Items.{OfItem}
@@ -52,7 +52,10 @@ module _ (setup : Setup) (w : World) (h n : ℕ) where
   asked_if false home = refl
 
   -- the reply of a turn that may be blocked
-  turn_reply : (b : Bool) (done : Effect) → (if b then record { entry = record { owner = Some h; reply = reply.Refused HeldElsewhere }; world = w } else record { entry = record { owner = Some h; reply = done.reply }; world = world_after setup h w (Expire h n) done }).entry.reply ≡ (if b then reply.Refused HeldElsewhere else done.reply)
+  abbrev turn_if : Bool → Effect → Turn
+  turn_if b done = if b then record { entry = record { owner = Some h; reply = reply.Refused HeldElsewhere }; world = w } else record { entry = record { owner = Some h; reply = done.reply }; world = world_after setup h w (Expire h n) done }
+
+  turn_reply : (b : Bool) (done : Effect) → (turn_if b done).entry.reply ≡ (if b then reply.Refused HeldElsewhere else done.reply)
   turn_reply true done = refl
   turn_reply false done = refl
 

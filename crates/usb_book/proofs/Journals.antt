@@ -9,9 +9,10 @@ use Rattle.usb_model.specs.declared.reply.Reply.TheVariants as reply
 use Rattle.usb_model.specs.declared.step.Step.{Step}
 use Rattle.usb_model.specs.declared.step.Step.TheVariants.{Answer, Submit}
 use Rattle.usb_model.specs.declared.verdict.Verdict.TheVariants.{Again, AgainWith, Stop}
+use Rattle.usb_model.specs.Machine.Turns.{machine_after}
 use Rattle.usb_model.specs.Machine.{Machine, new_machine}
 use Rattle.usb_model.specs.Setup.{Setup}
-use Rattle.usb_model.specs.World.{Turn, World, is_blocked, is_its, machine_of, new_world, owner_of, turn, turn_by, turn_of}
+use Rattle.usb_model.specs.World.{Turn, World, is_blocked, is_its, machine_of, new_world, owner_of, turn, turn_by, turn_of, world_from}
 use Rattle.usb_model.specs.World.Due.{Dated, is_number}
 use Rattle.usb_model.specs.World.Journal.{entries_in, is_held_elsewhere, is_unplug, journal, journal_from}
 use Rattle.usb_account.proofs.Machines.Done.{is_done}
@@ -86,22 +87,22 @@ module _ (setup : Setup) (h : ℕ) (w : World) (ts : List Timer) (book : List Da
   -- a step that is nothing to the handle
   nothing_step : (entry : Entry) → ((g : ℕ) → submitter step ≡ Some g → entry.owner ≡ Some g) → is_own_step h step entry ≡ false → Tracks setup h (machine_of setup h w) (own h ts) book
       → Tracks setup h (machine_of setup h w) (own h (timers_by ts step entry.reply moment)) (book ++ place_of entry ∷ [])
-  nothing_step entry owned none t = by_test (is_its h entry.owner) refl
+  nothing_step entry owned others t = by_test (is_its h entry.owner) refl
     where
       parts : (is_its h entry.owner && not (is_held_elsewhere entry.reply)) ≡ false
-      parts = (or_parts (is_unplug step) _ none).1
+      parts = (or_parts (is_unplug step) _ others).1
 
-      as : own h (timers_by ts step entry.reply moment) ≡ own h ts → ((n : ℕ) → gives h n (place_of entry) ≡ false) → Tracks setup h (machine_of setup h w) (own h (timers_by ts step entry.reply moment)) (book ++ place_of entry ∷ [])
-      as same gives_none =
+      moved : own h (timers_by ts step entry.reply moment) ≡ own h ts → ((n : ℕ) → gives h n (place_of entry) ≡ false) → Tracks setup h (machine_of setup h w) (own h (timers_by ts step entry.reply moment)) (book ++ place_of entry ∷ [])
+      moved same gives_none =
           quiet setup h (machine_of setup h w) (machine_of setup h w) (own h ts) (own h (timers_by ts step entry.reply moment)) book (place_of entry) t t.called t.kept refl t.known
           (subst (λ l. Left (IsOver (machine_of setup h w) t.called) l t.all) (sym same) t.left) gives_none
 
       by_test : (b : Bool) → is_its h entry.owner ≡ b → Tracks setup h (machine_of setup h w) (own h (timers_by ts step entry.reply moment)) (book ++ place_of entry ∷ [])
-      by_test false other = as (others_timers h ts step moment entry.reply (λ g e. ap (is_its h) (sym (owned g e)) ∙ other)) (λ n. ap (λ b. b && is_number n entry.reply) other)
+      by_test false other = moved (others_timers h ts step moment entry.reply (λ g e. ap (is_its h) (sym (owned g e)) ∙ other)) (λ n. ap (λ b. b && is_number n entry.reply) other)
       by_test true its = by_held (is_held_elsewhere entry.reply) refl
         where
           by_held : (b : Bool) → is_held_elsewhere entry.reply ≡ b → Tracks setup h (machine_of setup h w) (own h (timers_by ts step entry.reply moment)) (book ++ place_of entry ∷ [])
-          by_held true held = as (ap (own h) (held_timers ts step moment entry.reply held)) (λ n. ap (λ b. is_its h entry.owner && b) (held_number entry.reply n held) ∙ and_false (is_its h entry.owner))
+          by_held true held = moved (ap (own h) (held_timers ts step moment entry.reply held)) (λ n. ap (λ b. is_its h entry.owner && b) (held_number entry.reply n held) ∙ and_false (is_its h entry.owner))
           by_held false free = let yes : (is_its h entry.owner && not (is_held_elsewhere entry.reply)) ≡ true = ap (λ b. b && not (is_held_elsewhere entry.reply)) its ∙ ap (λ b. not b) free in absurd (cc (yes, parts))
 
   -- any step
@@ -112,7 +113,7 @@ module _ (setup : Setup) (h : ℕ) (w : World) (ts : List Timer) (book : List Da
       by_turn : IsEither setup h w step (turn setup w step) → Tracks setup h (machine_of setup h (turn setup w step).world) (own h (timers_by ts step (turn setup w step).entry.reply moment)) (book ++ place_of (turn setup w step).entry ∷ [])
       by_turn (inl mine) =
           subst (λ m. Tracks setup h m (own h (timers_by ts step (turn setup w step).entry.reply moment)) (book ++ place_of (turn setup w step).entry ∷ [])) (sym mine.3)
-          (subst (λ (e : Entry). Tracks setup h _ (own h (timers_by ts step e.reply moment)) (book ++ place_of e ∷ [])) (sym mine.1)
+          (subst (λ (e : Entry). Tracks setup h (machine_after setup (machine_of setup h w) step (effect_to setup h w step)) (own h (timers_by ts step e.reply moment)) (book ++ place_of e ∷ [])) (sym mine.1)
           (own_step setup h (machine_of setup h w) ts book moment w t step (effect_to setup h w step) mine.0 (is_done setup h (machine_of setup h w) step t.kept.well) (kept_step setup h (machine_of setup h w) step t.called t.kept)))
       by_turn (inr nothing) =
           subst (λ m. Tracks setup h m (own h (timers_by ts step (turn setup w step).entry.reply moment)) (book ++ place_of (turn setup w step).entry ∷ [])) (sym nothing.1)
@@ -146,7 +147,7 @@ module _ (setup : Setup) (h : ℕ) where
 
   -- no place
   at_first : At []
-  unfolding new_machine
+  unfolding new_machine world_from
   at_first = subst (λ m. Tracks setup h m [] []) (sym (new_machine_of setup h)) (record {
     called = [];
     kept = kept_new setup;
@@ -161,5 +162,5 @@ module _ (setup : Setup) (h : ℕ) where
 
   -- the timers go with the transfers where a run ends
   pub tracks_at : (places : List Place) → IsRun setup places → At places
-  unfolding journal
+  unfolding journal world_from
   tracks_at places run = at_all [] places run at_first

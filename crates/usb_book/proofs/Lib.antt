@@ -8,3 +8,5 @@ mod Tracks
 mod Steps
 mod Journals
 mod Due
+mod Loops
+mod Expiring

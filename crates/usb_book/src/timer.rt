@@ -1,6 +1,6 @@
 //! The moments at which transfers were submitted.
 
-ghost use Rattle.std.specs.Prelude.{◌≡◌, ◌<◌, ◌≤◌, vec_capacity, vec_len};
+ghost use Rattle.std.specs.Prelude.{◌≡◌, ◌++◌, ◌+◌, ◌<◌, ◌≤◌, IfSome, IfNone, drop, length, take, vec_capacity, vec_len};
 ghost use Rattle.usb_model.specs.World.Due.{deadline};
 ghost use Rattle.usb_book.specs.Timers.{is_timer_of, started_again_if, started_if, stopped, timeout_in};
 
@@ -40,10 +40,27 @@ impl Timer {
 pub(crate) fn timeout_of(timers: &[Timer], h: Name, n: u64) -> u32
     ensures { result ≡ timeout_in h n timers.now }
 {
-    match timers.iter().find(|timer| timer.is_of(h, n)) {
-        Some(timer) => timer.timeout,
-        None => 0,
+    for timer in timers {
+        if timer.is_of(h, n) {
+            return timer.timeout;
+        }
     }
+    0
+}
+
+/// Where the timer of a transfer stands.
+fn position(timers: &[Timer], h: Name, n: u64) -> Option<usize>
+    ensures found { IfSome result (λ i. (i < length timers.now) × (stopped h n timers.now ≡ take i timers.now ++ drop (i + 1) timers.now)) }
+    ensures none { IfNone result (stopped h n timers.now ≡ timers.now) }
+{
+    let mut index = 0;
+    for timer in timers {
+        if timer.is_of(h, n) {
+            return Some(index);
+        }
+        index += 1;
+    }
+    None
 }
 
 /// A transfer's callback has ended.
@@ -52,7 +69,7 @@ pub(crate) fn stop(timers: &mut Vec<Timer>, h: Name, n: u64)
     ensures capacity { vec_capacity timers.new ≡ vec_capacity timers.old }
     ensures less { vec_len timers.new ≤ vec_len timers.old }
 {
-    if let Some(index) = timers.iter().position(|timer| timer.is_of(h, n)) {
+    if let Some(index) = position(timers, h, n) {
         let _ = timers.remove(index);
     }
 }

@@ -6,7 +6,7 @@ use Rattle.usb_state.specs.Steps.{Turns}
 use Rattle.usb_book.specs.declared.place.Place.{Place}
 use Rattle.usb_book.specs.Booked.{world_where}
 use Rattle.usb_book.proofs.Replies.{taken_bytes}
-use Rattle.usb_book.proofs.Runs.{entered, same_place}
+use Rattle.usb_book.proofs.Runs.{entered, same_book, same_place}
 use Rattle.usb_book.proofs.book.Book.take.Goals as goal
 
 pub invariant_of-self-in-None : goal.invariant_of-self-in-None
@@ -36,3 +36,8 @@ invariant_of-self-2 g c =
     c.prepare.ensures.same c.enter-receipt-in-Some.ensures.journal
     (c.enter-receipt-in-Some.ensures.receipt ∙ ap (λ (x : Place). record { place = length c.prepare.new.self.journal; entry = x }) (c.new-told-in-Some.ensures ∙ same_place _ Take c.args.caller _ _ c.self.inside.moment c.of-asked.ensures refl))
     turn refl c.self.invariant
+
+pub returns-in_default-clause-err : goal.returns-in_default-clause-err
+returns-in_default-clause-err g c =
+    let s = c.in_default.ensures in
+    (same_book g.L.Naming.setup c.self.inside.log.journal c.prepare.new.self.journal c.self.inside.core c.take.new.self c.self.inside.moment c.args.self.now c.self.view_is c.prepare.ensures.same s.refused s.still, refl)
