@@ -1,5 +1,5 @@
 -- Lists as loops make them.
-use Rattle.std.proofs.Common.{◌≡◌, ◌∙◌, ◌==◌, ◌++◌, ◌+◌, ◌<◌, ◌≤◌, ℕ, suc, Bool, true, false, List, [], ◌∷◌, ap, append_assoc, arith, drop, length, slice_index_or, sym, take, append-nil}
+use Rattle.std.proofs.Common.{◌≡◌, ◌∙◌, ◌==◌, ◌++◌, ◌+◌, ◌<◌, ◌≤◌, ℕ, suc, Bool, true, false, Result, Ok, Err, IfOk, List, [], ◌∷◌, ap, append_assoc, arith, drop, length, slice_index_or, sym, take, append-nil}
 use Rattle.std.specs.Prelude.{if◌then◌else◌}
 use Rattle.std.specs.List.{filter, flat_map}
 use Rattle.std.proofs.lemmas.Grind.{flat_map-append}
@@ -55,3 +55,8 @@ pub filter_behind : (test : Timer → Bool) (xs : List Timer) (i : ℕ) (x : Tim
 filter_behind test xs i x b first before after lt item passes made so_far =
     made ∙ (ap (λ l. l ++ (if b then x ∷ [] else [])) so_far ∙ (append_assoc first (filter test (take i xs)) (if b then x ∷ [] else [])
     ∙ ap (λ l. first ++ l) (ap (λ c. filter test (take i xs) ++ (if c then x ∷ [] else [])) passes ∙ (ap (λ y. filter test (take i xs) ++ (if test y then y ∷ [] else [])) item ∙ sym (filter_more test xs i x lt)))))
+
+-- what follows of a result
+pub ok_more : {A E : Type 0} {P Q : A → Type 0} (r : Result A E) → ((x : A) → P x → Q x) → IfOk r P → IfOk r Q
+ok_more (Ok x) f p = f x p
+ok_more (Err e) f p = tt

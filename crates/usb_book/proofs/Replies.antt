@@ -152,14 +152,6 @@ plain_timers ts step (reply.Paused n) moment e = nothing_stops ts (ending step) 
 plain_timers ts step (reply.Settled ep errand ok) moment e = nothing_stops ts (ending step) (reply.Settled ep errand ok) refl
 plain_timers ts step (reply.Called r) moment e = nothing_stops ts (ending step) (reply.Called r) refl
 
--- such a step keeps no payload
-pub plain_kept : {P : Type 0} (kept : Kept P) (step : Step) (entry : Entry) (given : Option P) → takes_memory step ≡ false → kept_after kept step entry given ≡ kept
-plain_kept kept (Submit h request) entry given e = absurd cc
-plain_kept kept (Answer h k Again) entry given e = absurd cc
-plain_kept kept (Answer h k (AgainWith bytes)) entry given e = absurd cc
-plain_kept kept (Answer h k Stop) entry given e = refl
-plain_kept kept _ entry given e = refl
-
 -- a submission keeps its own
 pub submit_keeps : {G P : Type 0} (old new : State P) (kept : Kept P) (h : ℕ) (request : Request) (payload : P) (a : Result ℕ (Unaccepted G P)) → IfOk a (λ n. CarriesMore h n payload old new) → OnErr a (StillCarries old new) → Carries kept old
     → Carries (kept_after kept (Submit h request) (answer_entry h a) (Some payload)) new

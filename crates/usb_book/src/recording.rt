@@ -181,9 +181,10 @@ impl<L: Naming, P: Drop, D: Device, J: Recorder> Book<L, P, D, J> {
         ensures entry { IfOk result (λ r. r.1.entry ≡ next_entry self.old.setup self.old.journal step) }
         ensures mark { IfOk result (λ r. IsMoved mark.old r.0 mark.new) }
         ensures rest { (self.new.setup ≡ self.old.setup) × (self.new.moment ≡ self.old.moment) }
-        ensures out { IfOk result (λ r. r.1.out ≡ None) }
-        ensures back { IfOk result (λ r. r.1.back ≡ payload) }
-        ensures carries { IfOk result (λ r. StillCarries self.old.core self.new.core) }
+        ensures out { IfOk result (λ r. r.1.out ≡ handed_out self.old.core step) }
+        ensures back { IfOk result (λ r. r.1.back ≡ left_over (takes_payload step) r.1.entry.reply payload) }
+        ensures carries { IfOk result (λ r. (kept : Kept P) → Carries kept self.old.core → Carries (kept_after kept step r.1.entry payload) self.new.core) }
+        ensures goes_out { IfOk result (λ r. (kept : Kept P) → Carries kept self.old.core → GoesOut kept r.1.out r.1.entry.reply) }
         ensures err { IfErr result (λ x. (x.given ≡ step) × (x.payload ≡ payload) × IsSame self.old self.new × (mark.new ≡ mark.old)) }
     {
         let Book {

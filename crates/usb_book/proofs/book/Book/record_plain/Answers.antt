@@ -4,7 +4,7 @@ use Rattle.usb_state.specs.Carrying.{Carries}
 use Rattle.usb_book.specs.declared.place.Place.{Place}
 use Rattle.usb_book.specs.Booked.{Booked}
 use Rattle.usb_book.specs.Timers.{stopped_if}
-use Rattle.usb_book.proofs.Replies.{no_bytes_of, plain_kept, plain_timers}
+use Rattle.usb_book.proofs.Replies.{no_bytes_of, plain_timers}
 use Rattle.usb_book.proofs.Runs.{entered, same_place}
 use Rattle.usb_book.proofs.book.Book.record_plain.Goals as goal
 
@@ -23,6 +23,7 @@ invariant_of-self-2 g c =
     c.self.invariant
 
 pub returns-clause-carries : goal.returns-clause-carries
-returns-clause-carries g c = λ kept has.
-    subst (λ k. Carries k c.step.new.self) (plain_kept kept c.args.step c.in-Ok-step.stepped.entry c.args.payload c.requires)
-    (c.in-Ok-step.ensures.carries kept (subst (λ (b : Booked g.row.P.Denot). Carries kept b.core) (sym c.self.view_is) has))
+returns-clause-carries g c = λ kept has. c.in-Ok-step.ensures.carries kept (subst (λ (b : Booked g.row.P.Denot). Carries kept b.core) (sym c.self.view_is) has)
+
+pub returns-clause-goes_out : goal.returns-clause-goes_out
+returns-clause-goes_out g c = λ kept has. c.in-Ok-step.ensures.goes_out kept (subst (λ (b : Booked g.row.P.Denot). Carries kept b.core) (sym c.self.view_is) has)
