@@ -1,1 +1,12 @@
+mod Runs
+mod Answers
+mod Replies
 mod Receipts
+mod Known
+mod Owns
+mod Tracks
+mod Steps
+mod Journals
+mod Due
+mod Loops
+mod Expiring

@@ -1,8 +1,13 @@
 -- What contracts see of a book, and what one more place of it is.
-use Rattle.std.specs.Prelude.{◌≡◌, ◌≤◌, ◌+◌, ℕ, List, [], ◌∷◌, ◌++◌, length, map, Result, Ok, Err, Some}
+use Rattle.std.specs.Prelude.{◌≡◌, ◌≤◌, ◌+◌, ℕ, List, [], ◌∷◌, ◌++◌, length, map, Option, Some, None, Result, Ok, Err}
 use Rattle.usb_model.specs.declared.entry.Entry.{Entry}
-use Rattle.usb_model.specs.declared.reply.Reply.TheVariants.{Number, Refused}
+use Rattle.usb_model.specs.declared.refused.Refused.{Refused}
+use Rattle.usb_model.specs.declared.refused.Refused.TheVariants.{NoMem}
+use Rattle.usb_model.specs.declared.reply.Reply.TheVariants.{Number, Refused as IsRefused}
+use Rattle.usb_model.specs.declared.request.Request.{Request}
 use Rattle.usb_model.specs.declared.step.Step.{Step}
+use Rattle.usb_model.specs.declared.step.Step.TheVariants.{Answer, Submit}
+use Rattle.usb_model.specs.declared.verdict.Verdict.TheVariants.{AgainWith}
 use Rattle.usb_model.specs.Setup.{Setup}
 use Rattle.usb_model.specs.World.{World, new_world, turn, world_from}
 use Rattle.usb_model.specs.World.Due.{Dated}
@@ -12,6 +17,7 @@ use Rattle.usb_state.specs.Calls.{Stays}
 use Rattle.usb_state.specs.Carrying.{StillCarries}
 use Rattle.usb_state.specs.State.{ShowsWorld, State}
 use Rattle.usb_book.specs.declared.place.Place.{Place}
+use Rattle.usb_book.specs.declared.recording.NotRecorded.{NotRecorded}
 use Rattle.usb_book.specs.Seen.{Marked, Receipted}
 
 -- a book: its devices, the journal, the moment, and the core
@@ -39,9 +45,9 @@ next_entry setup journal step = (turn setup (world_where setup journal) step).en
 abbrev pub IsRun : Setup → List Place → Type 0
 IsRun setup journal = entries_of journal ≡ world_run setup (steps_of journal)
 
--- so those of a book, and its core shows the world where that run ends
-abbrev pub Replays : {P : Type 0} → Booked P → Type 0
-Replays b = IsRun b.setup b.journal × ShowsWorld b.setup b.core (world_where b.setup b.journal)
+-- so they are, and a core shows the world where that run ends
+abbrev pub Replays : {P : Type 0} → Setup → List Place → State P → Type 0
+Replays setup journal core = IsRun setup journal × ShowsWorld setup core (world_where setup journal)
 
 -- the receipt for one step more, with this entry
 abbrev pub next_receipt : {P : Type 0} → Booked P → Step → ℕ → Entry → Receipted
@@ -53,7 +59,32 @@ next_receipt b step caller entry = record {
 -- the entry of a submission of name h that is answered so
 abbrev pub answer_entry : {G P : Type 0} → ℕ → Result ℕ (Unaccepted G P) → Entry
 answer_entry h (Ok n) = record { owner = Some h; reply = Number n }
-answer_entry h (Err x) = record { owner = Some h; reply = Refused x.why }
+answer_entry h (Err x) = record { owner = Some h; reply = IsRefused x.why }
+
+-- the request of a submission
+abbrev pub request_in : Step → Option Request
+request_in (Submit h request) = Some request
+request_in step = None
+
+-- the bytes of a submission from within a callback, where they are other ones
+abbrev pub new_bytes_in : Step → Option (List ℕ)
+new_bytes_in (Answer h n (AgainWith bytes)) = Some bytes
+new_bytes_in step = None
+
+-- the payload that comes back of a submission
+abbrev pub payload_back : {G P : Type 0} → Result ℕ (Unaccepted G P) → Option P
+payload_back (Ok n) = None
+payload_back (Err x) = Some x.payload
+
+-- a submission was turned down for this
+abbrev pub turned_down : {G P : Type 0} → Refused → G → P → Result (Result ℕ (Unaccepted G P)) (NotRecorded G P)
+turned_down NoMem given payload = Err (record { given = given; payload = payload })
+turned_down why given payload = Ok (Err (record { why = why; given = given; payload = payload }))
+
+-- what a submission is answered, unless memory was wanting
+abbrev pub unless_no_memory : {G P : Type 0} → Result ℕ (Unaccepted G P) → Result (Result ℕ (Unaccepted G P)) (NotRecorded G P)
+unless_no_memory (Ok n) = Ok (Ok n)
+unless_no_memory (Err x) = turned_down x.why x.given x.payload
 
 -- a mark was moved behind this place, which is its bearer's
 abbrev pub IsMoved : Marked → Receipted → Marked → Type 0

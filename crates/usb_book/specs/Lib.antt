@@ -1,3 +1,4 @@
 pub mod Seen
 pub mod Booked
 pub mod Recording
+pub mod Timers

@@ -14,6 +14,11 @@ pub record Marked : Type 0 where
   pub mark : ℕ
   pub own : List Place
 
+-- a log: its places, and the recorder that was told them
+pub record Logged (J : Type 0) : Type 0 where
+  pub journal : List Place
+  pub recorder : J
+
 -- a receipt: the place's number, and what stands there
 pub record Receipted : Type 0 where
   pub place : ℕ

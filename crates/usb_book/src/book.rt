@@ -1,22 +1,23 @@
 //! The book, from its first place to its end.
 
 ghost use Rattle.std.specs.Prelude.{◌≡◌, ◌==◌, ℕ, ◌≤◌, All, IfOk, Some, [], count_by, length, slice_get};
-
+ghost use Rattle.std.specs.Option.{option_map_or};
 ghost use Rattle.usb_parts.specs.Pending.{IsPending};
 ghost use Rattle.usb_roll.specs.Tokens.{new_keeper};
 ghost use Rattle.usb_state.specs.Carrying.{Carries, Kept};
 ghost use Rattle.usb_state.specs.Making.{setup_of};
 ghost use Rattle.usb_book.specs.Booked.{IsRun, world_where};
-ghost use Rattle.usb_book.specs.Seen.{claims_of};
 
-use crate::closed::{Closed, Whole};
+use crate::closed::Closed;
+use crate::log::Log;
 use crate::mark::Mark;
 use crate::naming::Naming;
 use crate::place::Told;
 use crate::receipt::Receipt;
 use crate::recorder::Recorder;
+use crate::timer::Timer;
 use std::alloc::{AllocError, Global};
-use std::marker::{Model, PhantomData};
+use std::marker::Model;
 use usb_core::{Core, Pending, Setup};
 use usb_device::Device;
 use usb_model::{DeviceNo, EpAddr};
@@ -28,25 +29,23 @@ use usb_roll::{Keeper, Roll};
 pub struct Book<L: Naming, P, D: Device, J: Recorder> {
     pub(crate) core: Core<P, D>,
     pub(crate) moment: u64,
-    pub(crate) recorder: J,
-    pub(crate) places: u64,
-    pub(crate) roll: Roll<Told>,
-    pub(crate) keeper: Keeper<Told>,
+    pub(crate) log: Log<L, J>,
+    pub(crate) timers: Vec<Timer>,
     pub(crate) alloc: Global,
-    pub(crate) library: PhantomData<L>,
 }
 
-/// Contracts see the devices, the journal, the moment in milliseconds, and what the core keeps. Its entries are those of
-/// the run of its steps, and the core shows the world where that ends.
+/// Contracts see the devices, the journal, the moment in milliseconds, and what the core keeps. The entries of the journal
+/// are those of the run of its steps, and the core shows the world where that ends.
 impl<L: Naming, P, D: Device, J: Recorder> Model for Book<L, P, D, J> {
-    ghost use Rattle.std.specs.Prelude.{◌≡◌, [], length};
+    ghost use Rattle.std.specs.Prelude.{◌≡◌};
     ghost use Rattle.usb_book.specs.Booked.{Booked, Replays};
+    ghost use Rattle.usb_book.specs.Timers.{timers_of};
 
     ghost Value = { Booked P };
 
-    ghost view = { λ b. record { setup = L.setup; journal = b.keeper.log; moment = b.moment; core = b.core } };
+    ghost view = { λ b. record { setup = L.setup; journal = b.log.journal; moment = b.moment; core = b.core } };
 
-    ghost invariant = { λ b. (b.roll ≡ L.table) × (b.keeper.roll ≡ L.table) × (b.keeper.taken ≡ []) × (b.places ≡ length b.keeper.log) × J.stands b.recorder b.keeper.log × Replays (record { setup = L.setup; journal = b.keeper.log; moment = b.moment; core = b.core }) };
+    ghost invariant = { λ b. Replays L.setup b.log.journal b.core × (b.timers.items ≡ timers_of b.log.journal) };
 }
 
 impl<L: Naming, P, D: Device, J: Recorder> Book<L, P, D, J> {
@@ -65,15 +64,20 @@ impl<L: Naming, P, D: Device, J: Recorder> Book<L, P, D, J> {
         ensures moment { IfOk result (λ b. b.moment ≡ 0) }
         ensures carries { IfOk result (λ b. (kept : Kept P) → Carries kept b.core) }
     {
-        let _ = (alloc, setup, roll, keeper);
-        Err(AllocError)
+        Ok(Book {
+            core: Core::new(alloc, setup)?,
+            moment: 0,
+            log: Log::new(alloc, roll, keeper),
+            timers: Vec::new(alloc),
+            alloc,
+        })
     }
 
     /// How many places the journal has.
     pub fn len(&self) -> u64
         ensures { result ≡ length self.now.journal }
     {
-        self.places
+        self.log.len()
     }
 
     /// The moment, in milliseconds.
@@ -85,12 +89,14 @@ impl<L: Naming, P, D: Device, J: Recorder> Book<L, P, D, J> {
 
     /// How many bytes the next result has that is taken; 0 where none waits.
     pub fn next_len(&self) -> usize
+        ensures { result ≡ option_map_or (λ t. length t.piece.bytes) (slice_get (world_where self.now.setup self.now.journal).results 0) 0 }
     {
         self.core.next_len()
     }
 
     /// What is to be done next, looked for from behind this endpoint on. Takes no memory.
     pub fn pending(&self, after: Option<(DeviceNo, EpAddr)>) -> Pending
+        ensures { IsPending self.now.setup (world_where self.now.setup self.now.journal) after result }
     {
         self.core.pending(after)
     }
@@ -100,10 +106,7 @@ impl<L: Naming, P, D: Device, J: Recorder> Book<L, P, D, J> {
         ensures mark { (result.mark ≡ length self.old.journal) × (result.own ≡ []) }
         ensures same { self.new ≡ self.old }
     {
-        Mark {
-            mark: self.roll.mark(&mut self.keeper),
-            library: PhantomData,
-        }
+        self.log.mark()
     }
 
     /// The journal's end, compared with receipts.
@@ -117,33 +120,13 @@ impl<L: Naming, P, D: Device, J: Recorder> Book<L, P, D, J> {
         ensures found { All (λ r. slice_get self.journal r.place ≡ Some r.entry) receipts.items }
         ensures apart { (p : ℕ) → count_by (λ r. r.place == p) receipts.items ≤ 1 }
     {
-        let Book {
-            core,
-            recorder,
-            places,
-            roll,
-            mut keeper,
-            ..
-        } = self;
-        take_all(&roll, &mut keeper, receipts);
-        roll.check(&mut keeper);
+        let Book { core, log, .. } = self;
+        let (journal, recorder, places) = log.finish(receipts);
         Closed {
-            journal: Whole { keeper },
+            journal,
             recorder,
             places,
             core,
         }
-    }
-}
-
-/// The keeper takes in the receipts' claims.
-fn take_all<L: Naming>(roll: &Roll<Told>, keeper: &mut Keeper<Told>, receipts: Vec<Receipt<L>>)
-    requires here { (keeper.old.roll ≡ roll.now) × (roll.now ≡ L.table) }
-    requires none { keeper.old.taken ≡ [] }
-    ensures same { (keeper.new.roll ≡ keeper.old.roll) × (keeper.new.log ≡ keeper.old.log) }
-    ensures taken { keeper.new.taken ≡ claims_of receipts.items }
-{
-    for receipt in receipts {
-        roll.take_in(keeper, receipt.claim);
     }
 }

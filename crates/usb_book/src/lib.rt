@@ -5,16 +5,19 @@
 #![tactic(auto)]
 
 mod book;
-mod calls;
 mod closed;
 mod journal;
+mod log;
 mod mark;
 mod naming;
 mod place;
 mod receipt;
 mod recorder;
 mod recording;
+mod submitting;
+mod taking;
 mod ticking;
+mod timer;
 
 pub use book::Book;
 pub use closed::{Closed, Whole};

@@ -1,5 +1,7 @@
 //! A place of the journal.
 
+ghost use Rattle.std.specs.Prelude.{◌≡◌};
+
 use std::marker::Model;
 use std::snapshot::Snapshot;
 use usb_model::{Entry, Step};
@@ -32,4 +34,44 @@ impl Model for Told {
     ghost Value = { Place };
 
     ghost view = { λ p. record { step = p.step.value; caller = p.caller; entry = p.entry.value; moment = p.moment } };
+}
+
+impl Told {
+    /// What is told of a step with this entry.
+    pub(crate) fn new(step: Snapshot<Step>, caller: u32, entry: &Entry, moment: u64) -> Told
+        ensures { result ≡ record { step = step.value; caller = caller; entry = entry.now; moment = moment } }
+    {
+        Told {
+            step,
+            caller,
+            entry: Snapshot::of(entry),
+            moment,
+        }
+    }
+
+    /// The number of the caller.
+    pub(crate) fn caller(&self) -> u32
+        ensures { result ≡ self.now.caller }
+    {
+        self.caller
+    }
+
+    /// The moment.
+    pub(crate) fn moment(&self) -> u64
+        ensures { result ≡ self.now.moment }
+    {
+        self.moment
+    }
+
+    /// What is told of a whole place.
+    pub(crate) fn of(place: &Place) -> Told
+        ensures { result ≡ place.now }
+    {
+        Told {
+            step: Snapshot::of(&place.step),
+            caller: place.caller,
+            entry: Snapshot::of(&place.entry),
+            moment: place.moment,
+        }
+    }
 }

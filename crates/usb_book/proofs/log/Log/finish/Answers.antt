@@ -1,5 +1,5 @@
 use Rattle.usb_book.proofs.Receipts.{all_stand, claimed_count}
-use Rattle.usb_book.proofs.book.Book.finish.Goals as goal
+use Rattle.usb_book.proofs.log.Log.finish.Goals as goal
 
 pub returns-clause-found : goal.returns-clause-found
 returns-clause-found g c = rw (← c.self.view_is) (all_stand c.self.inside.keeper.log c.args.receipts.items (rw (← c.take_all.ensures.same.1, ← c.take_all.ensures.taken) c.check.ensures.stand))

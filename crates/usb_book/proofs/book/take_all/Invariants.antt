@@ -1,8 +1,0 @@
-use Rattle.std.proofs.Common.{◌≡◌}
-use Rattle.usb_book.specs.Seen.{claims_of}
-use Rattle.usb_book.proofs.book.take_all.Given as goal
-
--- the claims of those that were taken in so far
-abbrev pub invariant-loop-receipt : goal.invariant-loop-receipt
-invariant-loop-receipt g l =
-    (l.keeper.roll ≡ l.initial.keeper.roll) × (l.keeper.log ≡ l.initial.keeper.log) × (l.keeper.taken ≡ claims_of l.yielded)

@@ -1,0 +1,181 @@
+//! The journal, as a book has it.
+
+ghost use Rattle.std.specs.Prelude.{◌≡◌, ◌==◌, ◌++◌, ◌+◌, ◌^◌, ◌<◌, ◌≤◌, ◌∷◌, ℕ, [], All, IfOk, OnErr, OnOk, Some, count_by, length, slice_get};
+ghost use Rattle.usb_roll.specs.Tokens.{new_keeper};
+ghost use Rattle.usb_book.specs.Booked.{IsMoved};
+ghost use Rattle.usb_book.specs.Recording.{bytes_in};
+ghost use Rattle.usb_book.specs.Seen.{claims_of};
+
+use crate::closed::Whole;
+use crate::mark::Mark;
+use crate::naming::Naming;
+use crate::place::{Place, Told};
+use crate::receipt::Receipt;
+use crate::recorder::Recorder;
+use std::alloc::{AllocError, Global};
+use std::marker::{Model, PhantomData};
+use std::snapshot::Snapshot;
+use usb_model::{Entry, Step};
+use usb_roll::{Keeper, Roll};
+
+/// What is kept of the places, how many there are, and the roll with its keeper, on which they all stand.
+#[derive(Drop)]
+pub(crate) struct Log<L: Naming, J: Recorder> {
+    recorder: J,
+    places: u64,
+    roll: Roll<Told>,
+    keeper: Keeper<Told>,
+    library: PhantomData<L>,
+}
+
+/// Contracts see the places, and the recorder for the room that it has.
+impl<L: Naming, J: Recorder> Model for Log<L, J> {
+    ghost use Rattle.std.specs.Prelude.{◌≡◌, [], length};
+    ghost use Rattle.usb_book.specs.Seen.{Logged};
+
+    ghost Value = { Logged J };
+
+    ghost view = { λ l. record { journal = l.keeper.log; recorder = l.recorder } };
+
+    ghost invariant = { λ l. (l.roll ≡ L.table) × (l.keeper.roll ≡ L.table) × (l.keeper.taken ≡ []) × (l.places ≡ length l.keeper.log) × J.stands l.recorder l.keeper.log };
+}
+
+impl<L: Naming, J: Recorder> Log<L, J> {
+    /// No place.
+    pub(crate) fn new(alloc: Global, roll: Roll<Told>, keeper: Keeper<Told>) -> Log<L, J>
+        requires roll { roll ≡ L.table }
+        requires keeper { keeper ≡ new_keeper roll }
+        ensures { result.journal ≡ [] }
+    {
+        Log {
+            recorder: J::new(alloc),
+            places: 0,
+            roll,
+            keeper,
+            library: PhantomData,
+        }
+    }
+
+    /// How many places there are.
+    pub(crate) fn len(&self) -> u64
+        ensures { result ≡ length self.now.journal }
+    {
+        self.places
+    }
+
+    /// A mark at the end, whose bearer has no places yet.
+    pub(crate) fn mark(&mut self) -> Mark<L>
+        ensures mark { (result.mark ≡ length self.old.journal) × (result.own ≡ []) }
+        ensures same { self.new ≡ self.old }
+    {
+        Mark {
+            mark: self.roll.mark(&mut self.keeper),
+            library: PhantomData,
+        }
+    }
+
+    /// Makes room for so many more places. The last number of a place is 2^64 - 2.
+    pub(crate) fn reserve(&mut self, more: usize) -> Result<(), AllocError>
+        ensures room { OnOk result (J.has_room self.new.recorder more × (length self.old.journal + more < 2 ^ 64)) }
+        ensures same { self.new.journal ≡ self.old.journal }
+    {
+        if u64::MAX - self.places < more as u64 {
+            return Err(AllocError);
+        }
+        self.recorder.reserve(more)
+    }
+
+    /// Asks for all that a place of this step takes, whose reply has at most so many bytes.
+    pub(crate) fn prepare(
+        &mut self,
+        alloc: Global,
+        step: &Step,
+        bytes: usize,
+    ) -> Result<J::Draft, AllocError>
+        ensures draft { IfOk result (λ draft. J.is_draft draft step.now bytes) }
+        ensures room { OnOk result (J.has_room self.new.recorder 1 × (length self.old.journal + 1 < 2 ^ 64)) }
+        ensures same { self.new.journal ≡ self.old.journal }
+    {
+        self.reserve(1)?;
+        J::draft(alloc, step, bytes)
+    }
+
+    /// One place more, of a step for which all was asked, for the bearer of the mark. Takes no memory.
+    pub(crate) fn enter(
+        &mut self,
+        mark: &mut Mark<L>,
+        draft: J::Draft,
+        told: Told,
+        entry: &Entry,
+    ) -> Receipt<L>
+        requires room { (length self.old.journal + 1 < 2 ^ 64) × J.has_room self.old.recorder 1 }
+        requires told { told.entry ≡ entry.now }
+        requires draft { (bytes : ℕ) × J.is_draft draft told.step bytes × (bytes_in entry.now.reply ≤ bytes) }
+        ensures receipt { result ≡ record { place = length self.old.journal; entry = told } }
+        ensures journal { self.new.journal ≡ self.old.journal ++ result.entry ∷ [] }
+        ensures mark { IsMoved mark.old result mark.new }
+    {
+        let (caller, moment) = (told.caller(), told.moment());
+        let place = self.places;
+        let claim = self.roll.enter(&mut self.keeper, &mut mark.mark, &told);
+        self.recorder.keep_drafted(draft, caller, entry, moment);
+        self.places = place + 1;
+        Receipt {
+            place,
+            claim,
+            library: PhantomData,
+        }
+    }
+
+    /// One place more, where there is room. Takes no memory.
+    pub(crate) fn enter_whole(&mut self, mark: &mut Mark<L>, whole: Place) -> Receipt<L>
+        requires room { (length self.old.journal + 1 < 2 ^ 64) × ((n : ℕ) × J.has_room self.old.recorder (n + 1)) }
+        ensures receipt { result ≡ record { place = length self.old.journal; entry = whole } }
+        ensures journal { self.new.journal ≡ self.old.journal ++ whole ∷ [] }
+        ensures mark { IsMoved mark.old result mark.new }
+        ensures room { (n : ℕ) → J.has_room self.old.recorder (n + 1) → J.has_room self.new.recorder n }
+    {
+        let place = self.places;
+        let told = Told::of(&whole);
+        let claim = self.roll.enter(&mut self.keeper, &mut mark.mark, &told);
+        self.recorder.keep(whole);
+        self.places = place + 1;
+        Receipt {
+            place,
+            claim,
+            library: PhantomData,
+        }
+    }
+
+    /// The end, compared with receipts: the journal, what was kept of it, and how many places it has.
+    pub(crate) fn finish(self, receipts: Vec<Receipt<L>>) -> (Whole, J, u64)
+        ensures journal { result.0 ≡ self.journal }
+        ensures kept { J.stands result.1 self.journal }
+        ensures counted { result.2 ≡ length self.journal }
+        ensures found { All (λ r. slice_get self.journal r.place ≡ Some r.entry) receipts.items }
+        ensures apart { (p : ℕ) → count_by (λ r. r.place == p) receipts.items ≤ 1 }
+    {
+        let Log {
+            recorder,
+            places,
+            roll,
+            mut keeper,
+            ..
+        } = self;
+        take_all(&roll, &mut keeper, receipts);
+        roll.check(&mut keeper);
+        (Whole { keeper }, recorder, places)
+    }
+}
+
+/// The keeper takes in the receipts' claims.
+fn take_all<L: Naming>(roll: &Roll<Told>, keeper: &mut Keeper<Told>, receipts: Vec<Receipt<L>>)
+    requires here { (keeper.old.roll ≡ roll.now) × (roll.now ≡ L.table) }
+    requires none { keeper.old.taken ≡ [] }
+    ensures same { (keeper.new.roll ≡ keeper.old.roll) × (keeper.new.log ≡ keeper.old.log) }
+    ensures taken { keeper.new.taken ≡ claims_of receipts.items }
+{
+    for receipt in receipts {
+        roll.take_in(keeper, receipt.claim);
+    }
+}

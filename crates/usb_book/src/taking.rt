@@ -1,0 +1,77 @@
+//! A result goes out to its callback.
+
+ghost use Rattle.std.specs.Prelude.{◌≡◌, ◌++◌, ◌∷◌, [], IfOk, OnErr, option_map};
+ghost use Rattle.usb_model.specs.declared.step.Step.TheVariants.{Take};
+ghost use Rattle.usb_core.specs.Stepping.{first_payload};
+ghost use Rattle.usb_parts.specs.Taking.{CarriesOut};
+ghost use Rattle.usb_state.specs.Calls.{called_entry};
+ghost use Rattle.usb_state.specs.Carrying.{Carries, Kept};
+ghost use Rattle.usb_book.specs.Booked.{IsMoved, IsSame, next_entry, next_receipt};
+
+use crate::book::Book;
+use crate::mark::Mark;
+use crate::naming::Naming;
+use crate::place::Told;
+use crate::receipt::Receipt;
+use crate::recorder::Recorder;
+use std::alloc::AllocError;
+use std::snapshot::Snapshot;
+use usb_core::Taken;
+use usb_device::Device;
+use usb_model::{Entry, Reply, Step};
+
+impl<L: Naming, P, D: Device, J: Recorder> Book<L, P, D, J> {
+    /// The oldest result goes out to its callback (libusb 1.0, `libusb_transfer_cb_fn`), with the payload of its
+    /// transfer; None where none waits. A place is made in any case. Where memory is wanting nothing changed.
+    pub fn take(
+        &mut self,
+        caller: u32,
+        mark: &mut Mark<L>,
+    ) -> Result<(Receipt<L>, Option<Taken<P>>), AllocError>
+        ensures receipt { IfOk result (λ r. r.0 ≡ next_receipt self.old Take caller (called_entry (option_map (λ t. t.returned) r.1))) }
+        ensures journal { IfOk result (λ r. self.new.journal ≡ self.old.journal ++ r.0.entry ∷ []) }
+        ensures entry { IfOk result (λ r. called_entry (option_map (λ t. t.returned) r.1) ≡ next_entry self.old.setup self.old.journal Take) }
+        ensures mark { IfOk result (λ r. IsMoved mark.old r.0 mark.new) }
+        ensures rest { (self.new.setup ≡ self.old.setup) × (self.new.moment ≡ self.old.moment) }
+        ensures payload { IfOk result (λ r. option_map (λ t. t.payload) r.1 ≡ first_payload self.old.core) }
+        ensures carries { IfOk result (λ r. (kept : Kept P) → Carries kept self.old.core → CarriesOut kept r.1 × Carries kept self.new.core) }
+        ensures err { OnErr result (IsSame self.old self.new × (mark.new ≡ mark.old)) }
+    {
+        let Book {
+            core,
+            moment,
+            log,
+            alloc,
+            ..
+        } = self;
+        let step = Step::Take;
+        let draft = log.prepare(*alloc, &step, core.next_len())?;
+        let asked = Snapshot::of(&step);
+        let Ok(taken) = core.take() else {
+            return Err(AllocError);
+        };
+        match taken {
+            None => {
+                let entry = Entry {
+                    owner: None,
+                    reply: Reply::Idle,
+                };
+                let told = Told::new(asked, caller, &entry, *moment);
+                let receipt = log.enter(mark, draft, told, &entry);
+                Ok((receipt, None))
+            }
+            Some(Taken { returned, payload }) => {
+                let entry = Entry {
+                    owner: Some(returned.h),
+                    reply: Reply::Called(returned),
+                };
+                let told = Told::new(asked, caller, &entry, *moment);
+                let receipt = log.enter(mark, draft, told, &entry);
+                let Reply::Called(returned) = entry.reply else {
+                    unreachable!()
+                };
+                Ok((receipt, Some(Taken { returned, payload })))
+            }
+        }
+    }
+}
