@@ -1,3 +1,5 @@
 pub mod Scenarios
 pub mod Sifting
 pub mod Places
+mod Lines
+mod Runnables

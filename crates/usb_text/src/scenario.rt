@@ -1,7 +1,9 @@
 //! A scenario: devices, and a plan with the rules of its submissions.
 
+ghost use Rattle.std.specs.Prelude.{IfOk};
 ghost use Rattle.usb_text.specs.Scenario.{scenario_of};
 ghost use Rattle.usb_text.specs.Reading.{AnswersAs};
+ghost use Rattle.usb_text.specs.Runnable.{IsRunnable};
 
 use crate::draft::Draft;
 use crate::fault::TextFault;
@@ -19,9 +21,10 @@ pub struct Scenario {
     pub rules: Sequence<Rule>,
 }
 
-/// The scenario of a text, or the fault in it: its first line that isn't taken, or want of memory.
+/// The scenario of a text, or the fault in it: its first line that isn't taken, or want of memory. What it gives can be run.
 pub fn read_scenario(alloc: Global, text: &[u8]) -> Result<Scenario, TextFault>
-    ensures { AnswersAs result (scenario_of text.now) }
+    ensures scenario { AnswersAs result (scenario_of text.now) }
+    ensures runnable { IfOk result (λ s. IsRunnable s) }
 {
     let mut draft = Draft::new(alloc);
     let mut at: u64 = 0;

@@ -6,11 +6,12 @@ use Rattle.std.proofs.lemmas.Iterator.Consumers.{YieldsList-turn, YieldsList-end
 use Rattle.usb_text.specs.declared.scenario.Scenario.{Scenario}
 use Rattle.usb_text.specs.Reading.{AnswersAs, fault_at}
 use Rattle.usb_text.specs.Scenario.{scenario_of, scenario_from, taken_at}
+use Rattle.usb_text.proofs.Runnables.{scenarios_runnable}
 use Rattle.usb_text.proofs.Scenarios.{scenario-more, scenario-end, faulty, counted}
 use Rattle.usb_text.proofs.scenario.read_scenario.Goals as goal
 
-pub returns-in-Err : goal.returns-in-Err
-returns-in-Err c =
+pub returns-in-Err-clause-scenario : goal.returns-in-Err-clause-scenario
+returns-in-Err-clause-scenario c =
     let texts = slice_split (λ b. b == 10) c.args.text.now in
     let i = length c.loop-line.yielded in
     let t = YieldsList-turn (YieldsList-from_slice_split {s = c.into_iter-line-iterator.result} _ (λ b. b == 10) c.args.text.now (cc) (cc) (cc) (λ x b q k. search (rules, tests))) c.loop-line.yielded _ c.loop-line.yielded_by _ _ c.in-Some.line c.in-Some.is c.next.ensures.steps in
@@ -35,9 +36,12 @@ loop-line-preserved c =
           ∙ sym (ap (λ n. scenario_from (n + 1) c.read.new.self (drop n texts)) grows);
     }
 
-pub returns : goal.returns
-returns c =
+pub returns-clause-scenario : goal.returns-clause-scenario
+returns-clause-scenario c =
     let texts = slice_split (λ b. b == 10) c.args.text.now in
     let t = YieldsList-end (YieldsList-from_slice_split {s = c.into_iter-line-iterator.result} _ (λ b. b == 10) c.args.text.now (cc) (cc) (cc) (λ x b q k. search (rules, tests))) c.loop-line.yielded _ c.loop-line.yielded_by _ _ c.in-None.is c.next.ensures.steps in
     c.loop-line.invariant.rest ∙ scenario-end (length c.loop-line.yielded + 1) c.loop-line.draft texts (length c.loop-line.yielded) (omega (arith, t.1))
     ∙ ap Ok (sym c.into_scenario.ensures)
+
+pub returns-clause-runnable : goal.returns-clause-runnable
+returns-clause-runnable c = scenarios_runnable c.args.text.now c.into_scenario.result (returns-clause-scenario c)
