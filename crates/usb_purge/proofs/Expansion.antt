@@ -24,7 +24,7 @@ use Rattle.usb_purge.proofs.Runs.{own-append, AllOwn, NoneOwn, own_all, own_none
 use Rattle.usb_purge.proofs.Verdicts.{answer_own, answer_others}
 
 -- books that have the same rules for a name
-abbrev SameBook : ℕ → Book → Book → Type 0
+abbrev pub SameBook : ℕ → Book → Book → Type 0
 SameBook h book other = (n : ℕ) → book h n ≡ other h n
 
 -- the same entry under the same rule keeps them so
@@ -54,13 +54,13 @@ noted_nothing h book step entry rule e n = by_owner entry.owner entry.reply (or_
     by_owner (Some g) _ e = refl
 
 -- to the handle, one stage is another in which it is alone, but for the rules to come
-record IsSame (setup : Setup) (h : ℕ) (s t : Stage) : Type 0 where
-  machine : machine_of setup h s.world ≡ machine_of setup h t.world
-  only : OnlyOf h t.world
-  book : SameBook h s.book t.book
+pub record IsSame (setup : Setup) (h : ℕ) (s t : Stage) : Type 0 where
+  pub machine : machine_of setup h s.world ≡ machine_of setup h t.world
+  pub only : OnlyOf h t.world
+  pub book : SameBook h s.book t.book
 
 -- after a piece that stands for own steps, under the same rule
-same_after : (setup : Setup) (h : ℕ) (s t : Stage) (piece : Plan) (step : Step) (more : List Step) → IsSame setup h s t → AllOwn setup h s.world (step ∷ more)
+pub same_after : (setup : Setup) (h : ℕ) (s t : Stage) (piece : Plan) (step : Step) (more : List Step) → IsSame setup h s t → AllOwn setup h s.world (step ∷ more)
     → rule_for s.book s.rules piece ≡ rule_for t.book t.rules piece → IsSame setup h (stage_after setup s piece (step ∷ more)) (stage_after setup t piece (step ∷ more))
 unfolding stage_after
 same_after setup h s t piece step more same all rule =
@@ -75,7 +75,7 @@ same_after setup h s t piece step more same all rule =
     }
 
 -- after one that stands for steps of others
-same_past : (setup : Setup) (h : ℕ) (s t : Stage) (piece : Plan) (step : Step) (more : List Step) → IsSame setup h s t → NoneOwn setup h s.world (step ∷ more)
+pub same_past : (setup : Setup) (h : ℕ) (s t : Stage) (piece : Plan) (step : Step) (more : List Step) → IsSame setup h s t → NoneOwn setup h s.world (step ∷ more)
     → IsSame setup h (stage_after setup s piece (step ∷ more)) t
 unfolding stage_after
 same_past setup h s t piece step more same none = record {
@@ -85,19 +85,19 @@ same_past setup h s t piece step more same none = record {
 }
 
 -- a piece of the handle's own stands for the same steps at both stages
-record IsOwnPiece (setup : Setup) (h : ℕ) (s t : Stage) (piece : Plan) : Type 0 where
-  first : Step
-  more : List Step
-  here : steps_of setup s piece ≡ first ∷ more
-  there : steps_of setup t piece ≡ first ∷ more
-  all : AllOwn setup h s.world (first ∷ more)
+pub record IsOwnPiece (setup : Setup) (h : ℕ) (s t : Stage) (piece : Plan) : Type 0 where
+  pub first : Step
+  pub more : List Step
+  pub here : steps_of setup s piece ≡ first ∷ more
+  pub there : steps_of setup t piece ≡ first ∷ more
+  pub all : AllOwn setup h s.world (first ∷ more)
 
 -- another's stands for steps that are none of its own
-record IsOthersPiece (setup : Setup) (h : ℕ) (s : Stage) (piece : Plan) : Type 0 where
-  first : Step
-  more : List Step
-  here : steps_of setup s piece ≡ first ∷ more
-  none : NoneOwn setup h s.world (first ∷ more)
+pub record IsOthersPiece (setup : Setup) (h : ℕ) (s : Stage) (piece : Plan) : Type 0 where
+  pub first : Step
+  pub more : List Step
+  pub here : steps_of setup s piece ≡ first ∷ more
+  pub none : NoneOwn setup h s.world (first ∷ more)
 
 -- a return of the handle's own
 own_return : (setup : Setup) (h : ℕ) (s t : Stage) (n : ℕ) → IsSame setup h s t → IsOwnPiece setup h s t (Return h n)
@@ -146,7 +146,7 @@ others_return setup h s g n differ = by_test (needs_stop v (turn setup s.world (
     by_test false e = record { first = Answer g n v; more = []; here = rw e; none = (answer_others setup g h s.world n v differ, tt) }
 
 -- any piece of its own
-own_piece : (setup : Setup) (h : ℕ) (s t : Stage) (piece : Plan) → IsSame setup h s t → is_own_piece setup h s piece ≡ true → IsOwnPiece setup h s t piece
+pub own_piece : (setup : Setup) (h : ℕ) (s t : Stage) (piece : Plan) → IsSame setup h s t → is_own_piece setup h s piece ≡ true → IsOwnPiece setup h s t piece
 own_piece setup h s t (Do step) same mine = by_turn (turn_to setup h s.world step)
   where
     by_turn : IsEither setup h s.world step (turn setup s.world step) → IsOwnPiece setup h s t (Do step)
@@ -155,7 +155,7 @@ own_piece setup h s t (Do step) same mine = by_turn (turn_to setup h s.world ste
 own_piece setup h s t (Return g n) same mine = subst (λ k. IsOwnPiece setup h s t (Return k n)) (sym (eqb-true g h mine)) (own_return setup h s t n same)
 
 -- any other
-others_piece : (setup : Setup) (h : ℕ) (s : Stage) (piece : Plan) → is_own_piece setup h s piece ≡ false → IsOthersPiece setup h s piece
+pub others_piece : (setup : Setup) (h : ℕ) (s : Stage) (piece : Plan) → is_own_piece setup h s piece ≡ false → IsOthersPiece setup h s piece
 others_piece setup h s (Do step) others = by_turn (turn_to setup h s.world step)
   where
     by_turn : IsEither setup h s.world step (turn setup s.world step) → IsOthersPiece setup h s (Do step)
@@ -168,7 +168,7 @@ abbrev with_first_rule : Bool → List Rule → List Rule → List Rule
 with_first_rule b rules rest = if b then first_rule rules ∷ rest else rest
 
 -- it has the same rule
-rule_same : (setup : Setup) (h : ℕ) (s t : Stage) (piece : Plan) (rest : List Rule) → IsSame setup h s t → is_own_piece setup h s piece ≡ true → t.rules ≡ with_first_rule (is_submission piece) s.rules rest
+pub rule_same : (setup : Setup) (h : ℕ) (s t : Stage) (piece : Plan) (rest : List Rule) → IsSame setup h s t → is_own_piece setup h s piece ≡ true → t.rules ≡ with_first_rule (is_submission piece) s.rules rest
     → rule_for s.book s.rules piece ≡ rule_for t.book t.rules piece
 rule_same setup h s t (Do step) rest same mine rules = rw rules (by_test (is_submit step))
   where

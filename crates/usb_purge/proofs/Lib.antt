@@ -7,6 +7,7 @@ mod Gentle
 mod Verdicts
 mod Expansion
 mod Plans
+mod Taking
 mod Endpoints
 mod Held
 mod Owners
@@ -16,3 +17,5 @@ mod Stages
 mod Homes
 mod Answering
 mod Reached
+mod Apart
+mod ApartPlans

@@ -43,19 +43,19 @@ pub may_expand : (setup : Setup) (plan : List Plan) (rules : List Rule) → MayE
 may_expand setup plan rules = may_expand_from setup (first_stage setup rules) plan
 
 -- a rule that isn't Free
-abbrev IsFixed : Rule → Type 0
+abbrev pub IsFixed : Rule → Type 0
 IsFixed r = r ≢ rule.Free
 
 -- rules of which none is
-abbrev AreFixed : List Rule → Type 0
+abbrev pub AreFixed : List Rule → Type 0
 AreFixed rules = AllByRecursion IsFixed rules
 
 -- a book of such rules
-abbrev IsFixedBook : Book → Type 0
+abbrev pub IsFixedBook : Book → Type 0
 IsFixedBook book = (h n : ℕ) → IsFixed (book h n)
 
 -- a callback that is called once isn't Free
-fixed_once : IsFixed once_only
+pub fixed_once : IsFixed once_only
 fixed_once e = cc
 
 -- one of two rules
@@ -90,12 +90,12 @@ fixed_left (Do step) rules all = fixed_past (is_submit step) rules all
 fixed_left (Return h n) rules all = all
 
 -- a stage at which no rule is Free
-record IsFixedStage (s : Stage) : Type 0 where
-  noted : IsFixedBook s.book
-  coming : AreFixed s.rules
+pub record IsFixedStage (s : Stage) : Type 0 where
+  pub noted : IsFixedBook s.book
+  pub coming : AreFixed s.rules
 
 -- after a piece none is
-fixed_after : (setup : Setup) (s : Stage) (piece : Plan) (steps : List Step) → IsFixedStage s → IsFixedStage (stage_after setup s piece steps)
+pub fixed_after : (setup : Setup) (s : Stage) (piece : Plan) (steps : List Step) → IsFixedStage s → IsFixedStage (stage_after setup s piece steps)
 unfolding stage_after
 fixed_after setup s piece [] f = f
 fixed_after setup s piece (step ∷ steps) f = record {
@@ -109,7 +109,7 @@ one_verdict rule.Free s round v fixed e = absurd (fixed refl)
 one_verdict (rule.Again on rounds) s round v fixed e = e
 
 -- so it is at a return
-one_return : (o : Option InCallback) (r : Rule) (v : Verdict) → IsFixed r → FitsReturn o r v → v ≡ verdict_by o r
+pub one_return : (o : Option InCallback) (r : Rule) (v : Verdict) → IsFixed r → FitsReturn o r v → v ≡ verdict_by o r
 one_return None r v fixed e = e
 one_return (Some x) r v fixed e = one_verdict r x.status x.round v fixed e
 

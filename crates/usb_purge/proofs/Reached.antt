@@ -28,25 +28,26 @@ use Rattle.usb_purge.proofs.Calls.{calls_once}
 use Rattle.usb_purge.proofs.Given.{calls_after_number}
 use Rattle.usb_purge.proofs.Order.{calls_in_order}
 use Rattle.usb_purge.proofs.Plans.{expands_only, may_expand, may_expand_from}
+use Rattle.usb_purge.proofs.Taking.{Takes, has_one, takes}
 
 -- what holds of every run
 obeys_all : (setup : Setup) (steps : List Step) → ObeysAll setup steps
 obeys_all setup steps = record { core = record { cut = cuts_at setup steps; places = keeps_places setup steps; ends = asked_ends setup steps }; alone = sees_alone setup steps; once = calls_once setup steps; after = calls_after_number setup steps; order = calls_in_order setup steps }
 
 -- the entries of two lists of steps, one behind the other
-run_append : (setup : Setup) (w : World) (xs ys : List Step) → run_from setup w (xs ++ ys) ≡ run_from setup w xs ++ run_from setup (world_from setup w xs) ys
+pub run_append : (setup : Setup) (w : World) (xs ys : List Step) → run_from setup w (xs ++ ys) ≡ run_from setup w xs ++ run_from setup (world_from setup w xs) ys
 unfolding journal_from world_from
 run_append setup w [] ys = refl
 run_append setup w (x ∷ xs) ys = ap (λ l. (turn setup w x).entry ∷ l) (run_append setup (turn setup w x).world xs ys)
 
 -- and where they lead
-world_append : (setup : Setup) (w : World) (xs ys : List Step) → world_from setup w (xs ++ ys) ≡ world_from setup (world_from setup w xs) ys
+pub world_append : (setup : Setup) (w : World) (xs ys : List Step) → world_from setup w (xs ++ ys) ≡ world_from setup (world_from setup w xs) ys
 unfolding world_from
 world_append setup w [] ys = refl
 world_append setup w (x ∷ xs) ys = world_append setup (turn setup w x).world xs ys
 
 -- the stage behind a piece's steps: their world, and the rules that are left
-piece_world : (setup : Setup) (s : Stage) (piece : Plan) (steps : List Step) → (stage_after setup s piece steps).world ≡ world_from setup s.world steps
+pub piece_world : (setup : Setup) (s : Stage) (piece : Plan) (steps : List Step) → (stage_after setup s piece steps).world ≡ world_from setup s.world steps
 unfolding stage_after world_from
 piece_world setup s piece [] = refl
 piece_world setup s piece (x ∷ xs) = refl
@@ -74,7 +75,7 @@ unfolding journal_from
 entry_each setup w [] = refl
 entry_each setup w (step ∷ steps) = ap suc (entry_each setup (turn setup w step).world steps)
 
-piece_rules : (setup : Setup) (s : Stage) (piece : Plan) (steps : List Step) → StandsFor setup s piece steps → (stage_after setup s piece steps).rules ≡ rules_after piece s.rules
+pub piece_rules : (setup : Setup) (s : Stage) (piece : Plan) (steps : List Step) → StandsFor setup s piece steps → (stage_after setup s piece steps).rules ≡ rules_after piece s.rules
 unfolding stage_after
 piece_rules setup s piece steps stands = let f = stands_first setup s piece steps stands in rw f.2 refl
 
@@ -119,12 +120,7 @@ module _ {P : Type 0} (rule : P → Rule) (setup : Setup) (plan : List Plan) (ru
   -- a piece that submits has its callback
   pub has_callback : (v : PlanState P) (es : List Entry) (i : ℕ) (left new : List P) (piece : Plan) (callback : Option P) → i < length plan → piece ≡ slice_index_or plan i piece → Reached v es i left → TakesNext (is_submission piece) left new callback
       → is_submission piece ≡ true → is_some callback ≡ true
-  has_callback v es i left new piece callback within item r takes submits = by_left left (r.enough ∙ ap (count_by is_submission) (rest_is i piece within item)) (subst (λ b. TakesNext b left new callback) submits takes)
-    where
-      by_left : (l : List P) → length l ≡ count_by is_submission (piece ∷ drop (i + 1) plan) → TakesNext true l new callback → is_some callback ≡ true
-      by_left [] enough t = let counted : count_by is_submission (piece ∷ drop (i + 1) plan) ≡ (if is_submission piece then 1 else 0) + count_by is_submission (drop (i + 1) plan) = count-cons is_submission piece (drop (i + 1) plan) in
-          let one : ◌≡◌ {A = ℕ} (if is_submission piece then 1 else 0) 1 = ap (λ (b : Bool). if b then 1 else 0) submits in absurd (omega (arith, enough, counted, one))
-      by_left (c ∷ cs) enough t = ap (λ o. is_some o) t.0
+  has_callback v es i left new piece callback within item r next = has_one rule piece (drop (i + 1) plan) left new callback (r.enough ∙ ap (count_by is_submission) (rest_is i piece within item)) next
 
   -- and is no verdict
   pub is_no_verdict : (v : PlanState P) (es : List Entry) (i : ℕ) (left : List P) (piece : Plan) → i < length plan → piece ≡ slice_index_or plan i piece → Reached v es i left → is_verdict piece ≡ false
@@ -134,39 +130,13 @@ module _ {P : Type 0} (rule : P → Rule) (setup : Setup) (plan : List Plan) (ru
   pub one_more : (v new : PlanState P) (es fs : List Entry) (i : ℕ) (left more : List P) (piece : Plan) (callback : Option P) → i < length plan → piece ≡ slice_index_or plan i piece → Reached v es i left → TakesNext (is_submission piece) left more callback
       → Advances rule v piece callback new es fs → Reached new fs (i + 1) more
   unfolding journal
-  one_more v new es fs i left more piece callback within item r takes (entries, performs, pushed) = by_steps (performs setup r.stage r.shows under)
+  one_more v new es fs i left more piece callback within item r next (entries, performs, pushed) = by_steps (performs setup r.stage r.shows taken.under)
     where
       rest : drop i plan ≡ piece ∷ drop (i + 1) plan
       rest = rest_is i piece within item
 
-      counted : count_by is_submission (drop i plan) ≡ (if is_submission piece then 1 else 0) + count_by is_submission (drop (i + 1) plan)
-      counted = ap (count_by is_submission) rest ∙ count-cons is_submission piece (drop (i + 1) plan)
-
-      by_first : (l : List P) → r.stage.rules ≡ map rule l → length l ≡ 1 + count_by is_submission (drop (i + 1) plan) → TakesNext true l more callback
-          → IsUnder rule (first_rule r.stage.rules) callback × (rules_past true r.stage.rules ≡ map rule more) × (length more ≡ count_by is_submission (drop (i + 1) plan))
-      by_first [] are enough t = absurd (omega (arith, enough))
-      by_first (c ∷ cs) are enough (out, cs_is) = (
-        subst (IsUnder rule (first_rule r.stage.rules)) (sym out) (sym (ap first_rule are)),
-        ap (rules_past true) are ∙ ap (map rule) (sym cs_is),
-        ap length cs_is ∙ omega (arith, enough),
-      )
-
-      Takes : Bool → Type 0
-      Takes b = (b ≡ true → IsUnder rule (first_rule r.stage.rules) callback) × (rules_past b r.stage.rules ≡ map rule more) × (length more ≡ count_by is_submission (drop (i + 1) plan))
-
-      by_submits : (b : Bool) → length left ≡ (if b then 1 else 0) + count_by is_submission (drop (i + 1) plan) → TakesNext b left more callback → Takes b
-      by_submits true enough t = let f = by_first left r.under enough t in ((λ e. f.0), f.1, f.2)
-      by_submits false enough t = ((λ e. absurd cc), r.under ∙ ap (map rule) (sym t.1), omega (arith, ap length t.1, enough))
-
-      taken : Takes (is_submission piece)
-      taken = by_submits (is_submission piece) (r.enough ∙ counted) takes
-
-      under : is_submission piece ≡ true → IsUnder rule (first_rule r.stage.rules) callback
-      under = taken.0
-
-      left_over : (p : Plan) → rules_after p r.stage.rules ≡ rules_past (is_submission p) r.stage.rules
-      left_over (Do step) = refl
-      left_over (Return h n) = refl
+      taken : Takes rule r.stage.rules piece (drop (i + 1) plan) callback more
+      taken = takes rule r.stage.rules piece (drop (i + 1) plan) left more callback r.under (r.enough ∙ ap (count_by is_submission) rest) next
 
       by_steps : (here : List Step) × StandsFor setup r.stage piece here × (entries ≡ run_from setup r.stage.world here) × ShowsStage rule setup new (stage_after setup r.stage piece here) → Reached new fs (i + 1) more
       by_steps (here, stands, run, shows) = record {
@@ -176,8 +146,8 @@ module _ {P : Type 0} (rule : P → Rule) (setup : Setup) (plan : List Plan) (ru
         run = pushed ∙ (ap (λ l. l ++ entries) r.run ∙ (ap (λ l. world_run setup r.steps ++ l) (run ∙ ap (λ w. run_from setup w here) r.world) ∙ sym (run_append setup (new_world setup) r.steps here)));
         world = piece_world setup r.stage piece here ∙ (ap (λ w. world_from setup w here) r.world ∙ sym (world_append setup (new_world setup) r.steps here));
         joins = λ later is. subst (Expands setup plan rules) (sym (append_assoc r.steps here later)) (r.joins (here ++ later) (subst (λ l. ExpandsFrom setup r.stage l (here ++ later)) (sym rest) (stands_joins setup r.stage piece (drop (i + 1) plan) here later stands is)));
-        under = piece_rules setup r.stage piece here stands ∙ (left_over piece ∙ taken.1);
-        enough = taken.2;
+        under = piece_rules setup r.stage piece here stands ∙ taken.left;
+        enough = taken.enough;
         no_verdict = (subst (AllByRecursion (λ p. is_verdict p ≡ false)) rest r.no_verdict).1;
       }
 

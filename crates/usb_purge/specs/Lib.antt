@@ -4,3 +4,4 @@ pub mod Laws
 pub mod Returning
 pub mod PlanRuns
 pub mod Driving
+pub mod Alone

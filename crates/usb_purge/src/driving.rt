@@ -27,7 +27,7 @@ fn is_submission(piece: &Plan) -> bool
 }
 
 /// The callback that a piece takes: the next one, where it submits.
-fn next_callback<C>(piece: &Plan, left: &mut IntoIter<C>) -> Option<C>
+pub(crate) fn next_callback<C>(piece: &Plan, left: &mut IntoIter<C>) -> Option<C>
     ensures { TakesNext (is_submission piece.now) (into_iter_items left.old) (into_iter_items left.new) result }
 {
     if is_submission(piece) {
@@ -38,7 +38,7 @@ fn next_callback<C>(piece: &Plan, left: &mut IntoIter<C>) -> Option<C>
 }
 
 /// Puts an entry behind the others, where there is room for it. Takes no memory.
-fn put(entries: &mut Vec<Entry>, entry: Entry)
+pub(crate) fn put(entries: &mut Vec<Entry>, entry: Entry)
     requires { vec_len entries.old < vec_capacity entries.old }
     ensures items { entries.new.items ≡ entries.old.items ++ entry ∷ [] }
     ensures len { vec_len entries.new ≡ vec_len entries.old + 1 }
@@ -49,7 +49,7 @@ fn put(entries: &mut Vec<Entry>, entry: Entry)
 }
 
 /// Performs one piece more: its entries stand behind the others. Where memory is refused the entries are as before.
-fn advance<C: Callback, D: Device>(
+pub(crate) fn advance<C: Callback, D: Device>(
     run: &mut PlanRun<C, D>,
     piece: &Plan,
     callback: Option<C>,

@@ -4,10 +4,13 @@
 //! The one promise: no step of another handle changes an entry of a handle's own, nor what its plan stands for.
 #![tactic(auto)]
 
+mod comparison;
 mod driving;
 pub mod laws;
 mod plan_run;
+mod reads;
 mod running;
 
+pub use comparison::{Comparison, alone};
 pub use driving::drive;
 pub use plan_run::{Performed, PlanRun};

@@ -35,7 +35,7 @@ pub struct Performed<C> {
 /// dropped: what it shows then isn't said.
 #[derive(Drop)]
 pub struct PlanRun<C: Callback, D: Device> {
-    core: Core<C, D>,
+    pub(crate) core: Core<C, D>,
     running: RunningCallbacks<C>,
     alloc: Global,
 }

@@ -1,0 +1,55 @@
+-- A handle's own part of a run, and what holds of its callbacks.
+use Rattle.std.specs.Prelude.{◌≡◌, ℕ, ◌≤◌, ◌==◌, Bool, true, false, List, [], ◌∷◌, ◌++◌, Option}
+use Rattle.std.specs.List.Sorted.{IsStrictlyIncreasing}
+use Rattle.usb_model.specs.declared.entry.Entry.{Entry}
+use Rattle.usb_model.specs.declared.plan.Plan.{Plan}
+use Rattle.usb_model.specs.declared.plan.Plan.TheVariants.{Do, Return}
+use Rattle.usb_model.specs.declared.step.Step.{Step}
+use Rattle.usb_model.specs.declared.verdict.Rule.{Rule}
+use Rattle.usb_model.specs.World.Journal.{Place, is_own}
+use Rattle.usb_model.specs.Laws.Cut.{times}
+use Rattle.usb_model.specs.Laws.Places.{calls, numbers_called}
+use Rattle.usb_state.specs.State.{State}
+use Rattle.usb_state.specs.Steps.{Turns}
+use Rattle.usb_purge.specs.declared.comparison.Comparison.{Comparison}
+use Rattle.usb_purge.specs.declared.plan_run.Performed.{Performed}
+use Rattle.usb_purge.specs.Driving.{Advances}
+use Rattle.usb_purge.specs.Laws.{uncut_numbers}
+use Rattle.usb_purge.specs.PlanRuns.{PlanState, Performs, entries_of}
+
+-- a step and its entry
+abbrev pub place_of : Step → Entry → Place
+place_of step entry = record { step = step; entry = entry }
+
+-- whether a piece of a plan is the handle's own: a step by its entry, a return by the name that it says
+abbrev pub is_own_by : ℕ → Plan → Entry → Bool
+is_own_by h (Do step) entry = is_own h (place_of step entry)
+is_own_by h (Return g n) entry = g == h
+
+-- what a step that is the handle's own, or isn't, does to the core of the handle alone, and to what is told
+abbrev pub StepsAlone : {P : Type 0} → (is_own : Bool) → Step → Entry → (own own' : State P) → (told told' : Comparison) → Type 0
+StepsAlone true step entry own own' told told' = (again : Entry) × Turns own step again own' × (told'.shared ≡ told.shared ++ entry ∷ []) × (told'.alone ≡ told.alone ++ again ∷ [])
+StepsAlone false step entry own own' told told' = (own' ≡ own) × (told'.shared ≡ told.shared) × (told'.alone ≡ told.alone)
+
+-- a step was made amid the others, and where it is the handle's own, alone
+abbrev pub StepsBoth : {P : Type 0} → ℕ → Step → (core core' own own' : State P) → (told told' : Comparison) → Type 0
+StepsBoth h step core core' own own' told told' = (entry : Entry) × Turns core step entry core' × StepsAlone (is_own h (place_of step entry)) step entry own own' told told'
+
+module _ {P : Type 0} (rule : P → Rule) where
+  -- what a piece of a plan that is the handle's own, or isn't, does to the run of the handle alone, and to the entries that are told of both
+  abbrev pub PerformsAlone : (is_own : Bool) → Plan → (callback : Option P) → List Entry → (own own' : PlanState P) → (shared shared' alone alone' : List Entry) → Type 0
+  PerformsAlone true piece callback entries own own' shared shared' alone alone' = (shared' ≡ shared ++ entries) × Advances rule own piece callback own' alone alone'
+  PerformsAlone false piece callback entries own own' shared shared' alone alone' = (own' ≡ own) × (shared' ≡ shared) × (alone' ≡ alone)
+
+  -- a piece was performed amid the others, and where it is the handle's own, alone; each run has a callback of its own for it
+  abbrev pub PerformsBoth : ℕ → Plan → (callback its : Option P) → (run run' own own' : PlanState P) → (shared shared' alone alone' : List Entry) → Type 0
+  PerformsBoth h piece callback its run run' own own' shared shared' alone alone' =
+      (x : Performed P) × Performs rule run piece callback (entries_of x) run' × PerformsAlone (is_own_by h piece x.entry) piece its (entries_of x) own own' shared shared' alone alone'
+
+-- each callback stands among these entries at most once
+abbrev pub AreCalledOnce : List Entry → Type 0
+AreCalledOnce entries = (n : ℕ) → times n (numbers_called entries) ≤ 1
+
+-- those of one endpoint that were neither cancelled nor timed out are called in the order of their numbers
+abbrev pub AreCalledInOrder : List Entry → Type 0
+AreCalledInOrder entries = (ep : ℕ) → IsStrictlyIncreasing (uncut_numbers ep (calls entries))
