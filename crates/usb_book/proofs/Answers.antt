@@ -1,6 +1,5 @@
 -- What a submission is answered.
-use Rattle.std.proofs.Common.{◌≡◌, ◌∙◌, ◌++◌, ℕ, List, [], ◌∷◌, Some, Result, Ok, Err, IfOk, IfErr, OnErr, ap, refl, subst, sym}
-use Rattle.usb_model.specs.declared.entry.Entry.{Entry}
+use Rattle.std.proofs.Common.{◌≡◌, ◌∙◌, ℕ, List, Some, Result, Ok, Err, IfOk, IfErr, OnErr, ap, refl, subst, sym}
 use Rattle.usb_model.specs.declared.refused.Refused.{Refused}
 use Rattle.usb_model.specs.declared.refused.Refused.TheVariants.{Busy, HeldElsewhere, InvalidParam, NoDevice, NoMem, NotFound, NotSupported}
 use Rattle.usb_model.specs.declared.reply.Reply.TheVariants.{Number, Refused as IsRefused}
@@ -8,10 +7,7 @@ use Rattle.usb_model.specs.declared.request.Request.{Request}
 use Rattle.usb_model.specs.declared.step.Step.{Step}
 use Rattle.usb_model.specs.declared.step.Step.TheVariants.{Answer, Submit}
 use Rattle.usb_model.specs.declared.verdict.Verdict.TheVariants.{Again, AgainWith}
-use Rattle.usb_model.specs.Setup.{Setup}
 use Rattle.usb_parts.specs.declared.submitting.Unaccepted.{Unaccepted}
-use Rattle.usb_state.specs.Calls.{Stays}
-use Rattle.usb_state.specs.Carrying.{CarriesMore, StillCarries}
 use Rattle.usb_state.specs.State.{State}
 use Rattle.usb_state.specs.Steps.{Turns}
 use Rattle.usb_book.specs.declared.recording.NotRecorded.{NotRecorded}

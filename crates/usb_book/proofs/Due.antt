@@ -1,18 +1,17 @@
 -- The transfers that are due, by the timers.
-use Rattle.std.proofs.Common.{◌≡◌, ◌∙◌, ◌==◌, ◌++◌, ◌<◌, ◌≤◌, ℕ, Bool, true, false, List, [], ◌∷◌, Option, Some, None, ap, append_assoc, arith, cond, inl, inr, map, refl, subst, sym, ◌⊎◌}
+use Rattle.std.proofs.Common.{◌≡◌, ◌∙◌, ◌==◌, ◌++◌, ◌<◌, ◌≤◌, ℕ, Bool, true, false, List, [], ◌∷◌, Option, Some, None, ap, arith, cond, inl, inr, map, refl, subst, sym, ◌⊎◌}
 use Rattle.std.specs.Prelude.{◌&&◌, ◌||◌, if◌then◌else◌, is_none, is_some, nat_le, not}
 use Rattle.std.specs.List.{AllByRecursion, filter, flat_map}
 use Rattle.std.proofs.lemmas.Bool.{cases_lt, eqb-true, and_parts}
 use Rattle.std.proofs.lemmas.List.{append-nil, map-append}
 use Rattle.usb_model.specs.declared.effect.Effect.{Effect}
-use Rattle.usb_model.specs.declared.entry.Entry.{Entry}
 use Rattle.usb_model.specs.declared.item.Ask.{Ask}
 use Rattle.usb_model.specs.declared.item.Ask.TheVariants as ask
 use Rattle.usb_model.specs.declared.refused.Refused.TheVariants.{HeldElsewhere, NotFound}
 use Rattle.usb_model.specs.declared.reply.Reply.TheVariants as reply
 use Rattle.usb_model.specs.declared.step.Step.{Step}
 use Rattle.usb_model.specs.declared.step.Step.TheVariants.{Expire}
-use Rattle.usb_model.specs.Endpoint.{in_progress, is_blank, is_transfer}
+use Rattle.usb_model.specs.Endpoint.{is_blank}
 use Rattle.usb_model.specs.Laws.Cut.{times}
 use Rattle.usb_model.specs.Laws.Bounds.{line_at}
 use Rattle.usb_model.specs.Laws.Places.{numbers_at}
@@ -24,7 +23,6 @@ use Rattle.usb_model.specs.World.{Turn, World, is_blocked, machine_of, new_world
 use Rattle.usb_model.specs.World.Due.{Dated, below, deadline, due, due_of, given_at, is_due}
 use Rattle.usb_model.specs.World.Journal.{steps_in}
 use Rattle.usb_account.proofs.Bounds.Items.{OfItem}
-use Rattle.usb_account.proofs.Places.Placed.{IsPlaced}
 use Rattle.usb_core.specs.Reads.{is_done, would_expire}
 use Rattle.usb_lemmas.proofs.Lists.Parts.{each_weaker}
 use Rattle.usb_lemmas.proofs.Work.Each.{each-in_progress}
@@ -34,7 +32,7 @@ use Rattle.usb_book.specs.declared.place.Place.{Place}
 use Rattle.usb_book.specs.declared.timer.Timer.{Timer}
 use Rattle.usb_book.specs.Booked.{IsRun, dated, steps_of, world_where}
 use Rattle.usb_book.specs.Timers.{by_name, expires, is_over, timers_of}
-use Rattle.usb_book.proofs.Journals.{At, tracks_at}
+use Rattle.usb_book.proofs.Journals.{tracks_at}
 use Rattle.usb_book.proofs.Owns.{left_filter, look, own}
 use Rattle.usb_book.proofs.Tracks.{HasTime, IsFound, IsOver, Tracks}
 

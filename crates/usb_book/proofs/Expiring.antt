@@ -1,5 +1,5 @@
 -- One Expire more.
-use Rattle.std.proofs.Common.{◌≡◌, ◌∙◌, ◌+◌, ◌<◌, ◌++◌, ℕ, List, Some, [], ◌∷◌, ap, arith, length, map, refl, slice_index_or, sym, take}
+use Rattle.std.proofs.Common.{◌≡◌, ◌∙◌, ◌+◌, ◌<◌, ◌++◌, ℕ, List, Some, [], ◌∷◌, ap, length, refl, slice_index_or, sym, take}
 use Rattle.std.proofs.lemmas.List.{map-append, take_more}
 use Rattle.usb_model.specs.declared.reply.Reply.{Reply}
 use Rattle.usb_model.specs.declared.reply.Reply.TheVariants as reply

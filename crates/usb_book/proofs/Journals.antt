@@ -1,6 +1,6 @@
 -- The timers of each handle go with its transfers where a journal ends.
-use Rattle.std.proofs.Common.{◌≡◌, ◌∙◌, ◌==◌, ◌++◌, ℕ, Bool, true, false, List, [], ◌∷◌, Option, Some, None, ap, append-nil, append_assoc, inl, inr, map, refl, subst, sym, ◌⊎◌}
-use Rattle.std.specs.Prelude.{◌&&◌, ◌||◌, not}
+use Rattle.std.proofs.Common.{◌≡◌, ◌∙◌, ◌==◌, ◌++◌, ℕ, Bool, true, false, List, [], ◌∷◌, Option, Some, None, ap, append-nil, append_assoc, inl, inr, refl, subst, sym}
+use Rattle.std.specs.Prelude.{◌&&◌, not}
 use Rattle.std.proofs.lemmas.Bool.{or_parts}
 use Rattle.std.proofs.lemmas.List.{map-append}
 use Rattle.usb_model.specs.declared.entry.Entry.{Entry}
@@ -10,9 +10,9 @@ use Rattle.usb_model.specs.declared.step.Step.{Step}
 use Rattle.usb_model.specs.declared.step.Step.TheVariants.{Answer, Submit}
 use Rattle.usb_model.specs.declared.verdict.Verdict.TheVariants.{Again, AgainWith, Stop}
 use Rattle.usb_model.specs.Machine.Turns.{machine_after}
-use Rattle.usb_model.specs.Machine.{Machine, new_machine}
+use Rattle.usb_model.specs.Machine.{new_machine}
 use Rattle.usb_model.specs.Setup.{Setup}
-use Rattle.usb_model.specs.World.{Turn, World, is_blocked, is_its, machine_of, new_world, owner_of, turn, turn_by, turn_of, world_from}
+use Rattle.usb_model.specs.World.{Turn, World, is_blocked, is_its, machine_of, owner_of, turn, turn_by, turn_of, world_from}
 use Rattle.usb_model.specs.World.Due.{Dated, is_number}
 use Rattle.usb_model.specs.World.Journal.{entries_in, is_held_elsewhere, is_unplug, journal, journal_from}
 use Rattle.usb_account.proofs.Machines.Done.{is_done}

@@ -1,26 +1,24 @@
 -- How many bytes a reply has.
-use Rattle.std.proofs.Common.{◌≡◌, ◌∙◌, ◌≤◌, ◌<◌, ◌+◌, ℕ, Bool, true, false, List, [], ◌∷◌, ◌++◌, length, Option, Some, None, Result, Ok, Err, IfOk, OnErr, ap, arith, inl, inr, refl, subst, sym, slice_get, length-append}
-use Rattle.std.specs.Prelude.{if◌then◌else◌, not, option_map}
+use Rattle.std.proofs.Common.{◌≡◌, ◌∙◌, ◌≤◌, ℕ, Bool, true, false, List, [], ◌∷◌, ◌++◌, length, Option, Some, None, Result, Ok, Err, IfOk, OnErr, ap, arith, inl, inr, refl, subst, sym, slice_get, length-append}
+use Rattle.std.specs.Prelude.{if◌then◌else◌, not}
 use Rattle.std.specs.Option.{option_map_or}
-use Rattle.usb_model.specs.declared.effect.Effect.{Effect}
 use Rattle.usb_model.specs.declared.entry.Entry.{Entry}
 use Rattle.usb_model.specs.declared.reply.Reply.{Reply}
 use Rattle.usb_model.specs.declared.reply.Reply.TheVariants as reply
-use Rattle.usb_model.specs.declared.reply.Returned.{Returned}
 use Rattle.usb_model.specs.declared.refused.Refused.TheVariants.{NoDevice, NotFound}
 use Rattle.usb_model.specs.declared.result.TransferResult.{TransferResult}
 use Rattle.usb_model.specs.declared.shared.Tagged.{Tagged}
 use Rattle.usb_model.specs.declared.step.Step.{Step}
-use Rattle.usb_model.specs.declared.step.Step.TheVariants.{Answer, Cancel, Claim, ClearHalt, Close, Command, Deliver, Expire, Open, Release, Reset, Serve, Submit, Take, Unplug}
+use Rattle.usb_model.specs.declared.step.Step.TheVariants.{Answer, Submit, Take, Unplug}
 use Rattle.usb_model.specs.Laws.Places.{call_of}
 use Rattle.usb_model.specs.Machine.{Machine}
-use Rattle.usb_model.specs.Machine.Turns.{effect, machine_after, take_effect, takes_result, unplug_reply}
+use Rattle.usb_model.specs.Machine.Turns.{effect, machine_after, take_effect, takes_result}
 use Rattle.usb_model.specs.Setup.{Setup, is_device}
 use Rattle.usb_model.specs.World.{Turn, World, is_blocked, machine_of, owner_of, turn, turn_by, turn_of, turn_of_nobody}
-use Rattle.usb_model.specs.World.Shared.{first_name, past_first, pieces_of}
+use Rattle.usb_model.specs.World.Shared.{past_first}
 use Rattle.usb_lemmas.proofs.Handles.Isolation.{turn_blocked, turn_free, effect_to}
 use Rattle.usb_lemmas.proofs.Lists.Pieces.{same_name}
-use Rattle.usb_lemmas.proofs.Work.Moves.{Moves, Takes}
+use Rattle.usb_lemmas.proofs.Work.Moves.{Moves}
 use Rattle.usb_lemmas.proofs.Work.StepMoves.{moves}
 use Rattle.usb_model.specs.declared.request.Request.{Request}
 use Rattle.usb_model.specs.declared.verdict.Verdict.TheVariants.{Again, AgainWith, Stop}

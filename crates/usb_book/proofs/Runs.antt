@@ -1,5 +1,5 @@
 -- A run of one step more.
-use Rattle.std.proofs.Common.{◌≡◌, ◌∙◌, ℕ, List, [], ◌∷◌, ◌++◌, map, ap, refl, subst, sym}
+use Rattle.std.proofs.Common.{◌≡◌, ◌∙◌, ℕ, List, [], ◌∷◌, ◌++◌, ap, refl, subst, sym}
 use Rattle.std.proofs.lemmas.List.{map-append}
 use Rattle.usb_model.specs.declared.entry.Entry.{Entry}
 use Rattle.usb_model.specs.declared.step.Step.{Step}
@@ -13,7 +13,7 @@ use Rattle.usb_state.specs.Steps.{Turns}
 use Rattle.usb_book.specs.declared.place.Place.{Place}
 use Rattle.usb_book.specs.declared.timer.Timer.{Timer}
 use Rattle.usb_book.specs.Seen.{Receipted}
-use Rattle.usb_book.specs.Booked.{Booked, IsRun, IsSame, Replays, entries_of, next_entry, steps_of, world_where}
+use Rattle.usb_book.specs.Booked.{Booked, IsRun, IsSame, Replays, next_entry, steps_of, world_where}
 use Rattle.usb_book.specs.Timers.{timers_by, timers_from, timers_of}
 
 -- the world behind one step more

@@ -1,13 +1,11 @@
 -- The timers of a handle go with its transfers: over the steps of a journal.
-use Rattle.std.proofs.Common.{◌≡◌, ◌∙◌, ◌==◌, ◌++◌, ◌+◌, ◌≤◌, ℕ, Bool, true, false, List, [], ◌∷◌, Option, Some, None, ap, append-nil, append_assoc, arith, inl, inr, map, refl, subst, sym, ◌⊎◌}
-use Rattle.std.specs.Prelude.{◌&&◌, ◌||◌, not, if◌then◌else◌}
-use Rattle.std.proofs.lemmas.Bool.{or_parts, eqb-true}
+use Rattle.std.proofs.Common.{◌≡◌, ◌∙◌, ◌==◌, ◌++◌, ◌+◌, ℕ, Bool, true, false, List, [], ◌∷◌, Option, Some, ap, refl, subst, sym}
+use Rattle.std.specs.Prelude.{◌&&◌}
 use Rattle.std.proofs.lemmas.Option.{same_Some}
 use Rattle.usb_model.specs.declared.effect.Change.TheVariants.{Keeps}
 use Rattle.usb_model.specs.declared.effect.Effect.{Effect}
 use Rattle.usb_model.specs.declared.endpoint.Endpoint.{Endpoint}
 use Rattle.usb_model.specs.declared.endpoint_effect.EndpointEffect.{EndpointEffect}
-use Rattle.usb_model.specs.declared.entry.Entry.{Entry}
 use Rattle.usb_model.specs.declared.handle.Handle.{Handle}
 use Rattle.usb_model.specs.declared.reply.Reply.{Reply}
 use Rattle.usb_model.specs.declared.reply.Reply.TheVariants as reply
@@ -15,28 +13,26 @@ use Rattle.usb_model.specs.declared.request.Body.TheVariants.{Out}
 use Rattle.usb_model.specs.declared.request.Request.{Request}
 use Rattle.usb_model.specs.declared.result.InCallback.{InCallback}
 use Rattle.usb_model.specs.declared.step.Step.{Step}
-use Rattle.usb_model.specs.declared.step.Step.TheVariants.{Answer, Cancel, Claim, ClearHalt, Close, Command, Deliver, Expire, Open, Release, Reset, Serve, Submit, Take, Unplug}
+use Rattle.usb_model.specs.declared.step.Step.TheVariants.{Answer, Cancel, ClearHalt, Command, Deliver, Expire, Serve, Submit}
 use Rattle.usb_model.specs.declared.verdict.Verdict.TheVariants.{Again, AgainWith, Stop}
 use Rattle.usb_model.specs.Laws.Places.{number_of}
 use Rattle.usb_model.specs.Machine.Calls.{callback_of, called_back, submitted, without}
-use Rattle.usb_model.specs.Machine.Turns.{effect, machine_after, maker, take_effect}
-use Rattle.usb_model.specs.Machine.{Machine, at_endpoint, device_of, does, endpoint_at, is_gone, says}
+use Rattle.usb_model.specs.Machine.Turns.{machine_after, maker, take_effect}
+use Rattle.usb_model.specs.Machine.{Machine, at_endpoint, device_of, does, endpoint_at, is_gone}
 use Rattle.usb_model.specs.Setup.{Setup, packet_size_of}
-use Rattle.usb_model.specs.World.{Turn, World, is_blocked, is_its, machine_of, owner_of, turn, turn_by, turn_of}
-use Rattle.usb_model.specs.World.Due.{Dated, given_at, is_number}
-use Rattle.usb_model.specs.World.Journal.{is_held_elsewhere, is_unplug}
-use Rattle.usb_account.proofs.Machines.Deeds.{IsAsk, IsBare, IsDone, IsRest, IsSubmission, IsWork, again, again_with, anew, asks_it, cancels, claims, claims_again, clears, closes, commands, delivers, expires, idles, only_rests, opens, refuses, releases, resets, serves, stays, stops, submits, takes, unplugs, works}
-use Rattle.usb_account.proofs.Machines.Done.{is_done}
+use Rattle.usb_model.specs.World.{World, is_its, owner_of}
+use Rattle.usb_model.specs.World.Due.{Dated, is_number}
+use Rattle.usb_model.specs.World.Journal.{is_unplug}
+use Rattle.usb_account.proofs.Machines.Deeds.{IsDone, IsRest, IsSubmission, IsWork, again, again_with, anew, asks_it, cancels, claims, claims_again, clears, closes, commands, delivers, expires, idles, only_rests, opens, refuses, releases, resets, serves, stays, stops, submits, takes, unplugs, works}
 use Rattle.usb_account.proofs.Places.Placed.{called_by}
-use Rattle.usb_account.proofs.Places.Runs.{IsKept, kept_step}
-use Rattle.usb_lemmas.proofs.Handles.Isolation.{IsEither, effect_to, turn_blocked, turn_free, turn_to}
+use Rattle.usb_account.proofs.Places.Runs.{IsKept}
 use Rattle.usb_lemmas.proofs.Lists.Pieces.{same_name}
 use Rattle.usb_lemmas.proofs.Work.Replies.{asks_told, command_told, deliver_told, serve_told, told_plain}
 use Rattle.usb_book.specs.declared.timer.Timer.{Timer}
 use Rattle.usb_book.specs.Timers.{ended, numbered, stopped, timeout_in, timers_by}
 use Rattle.usb_book.proofs.Known.{Known, known_rest, known_work}
-use Rattle.usb_book.proofs.Owns.{Left, cut, left_cut, left_push, left_weaker, own, own_push, own_push_other, own_stopped, own_stopped_other, timeout_own}
-use Rattle.usb_book.proofs.Tracks.{HasTime, IsOver, Tracks, callback_time, given, gives, new_has_time, over_after, quiet, stop_over, times_later}
+use Rattle.usb_book.proofs.Owns.{Left, cut, left_cut, left_push, left_weaker, own, own_push, own_stopped, timeout_own}
+use Rattle.usb_book.proofs.Tracks.{HasTime, IsOver, Tracks, callback_time, given, new_has_time, over_after, quiet, stop_over, times_later}
 
 -- a step that gives no number and ends no callback leaves the timers
 same_timers : (ts : List Timer) (step : Step) (moment : ℕ) → ((n : ℕ) → numbered ts step n moment ≡ ts) → ended ts step ≡ ts → (r : Reply) → timers_by ts step r moment ≡ ts

@@ -1,34 +1,25 @@
 -- The timers of a handle go with its transfers: over any step.
-use Rattle.std.proofs.Common.{◌≡◌, ◌∙◌, ◌==◌, ◌++◌, ◌+◌, ◌<◌, ◌≤◌, ℕ, suc, Bool, true, false, List, [], ◌∷◌, Option, Some, None, ap, append-nil, append_assoc, arith, inl, inr, map, refl, subst, sym, ◌⊎◌}
+use Rattle.std.proofs.Common.{◌≡◌, ◌∙◌, ◌==◌, ◌++◌, ◌+◌, ◌<◌, ◌≤◌, ℕ, suc, Bool, true, false, List, [], ◌∷◌, Some, ap, append-nil, append_assoc, arith, inl, inr, map, refl, subst, sym, ◌⊎◌}
 use Rattle.std.specs.Prelude.{◌&&◌, if◌then◌else◌}
-use Rattle.std.specs.List.{AllByRecursion, filter}
+use Rattle.std.specs.List.{AllByRecursion}
 use Rattle.std.proofs.lemmas.Bool.{cases_lt, eqb-false, eqb-true}
 use Rattle.std.proofs.lemmas.List.{map-append}
 use Rattle.std.proofs.lemmas.Option.{same_Some}
 use Rattle.usb_model.specs.declared.effect.Effect.{Effect}
-use Rattle.usb_model.specs.declared.endpoint.Endpoint.{Endpoint}
-use Rattle.usb_model.specs.declared.endpoint_effect.EndpointEffect.{EndpointEffect}
-use Rattle.usb_model.specs.declared.handle.Handle.{Handle}
-use Rattle.usb_model.specs.declared.reply.Reply.{Reply}
-use Rattle.usb_model.specs.declared.reply.Reply.TheVariants as reply
 use Rattle.usb_model.specs.declared.request.Request.{Request}
 use Rattle.usb_model.specs.declared.result.InCallback.{InCallback}
 use Rattle.usb_model.specs.declared.result.TransferResult.{TransferResult}
 use Rattle.usb_model.specs.declared.step.Step.{Step}
-use Rattle.usb_model.specs.declared.step.Step.TheVariants.{Answer, Submit}
-use Rattle.usb_model.specs.declared.verdict.Verdict.TheVariants.{Again, AgainWith, Stop}
 use Rattle.usb_model.specs.Laws.Cut.{times}
-use Rattle.usb_model.specs.Laws.Places.{number_of}
 use Rattle.usb_model.specs.Machine.Calls.{callback_of, without}
 use Rattle.usb_model.specs.Machine.Turns.{machine_after}
 use Rattle.usb_model.specs.Machine.{Machine}
 use Rattle.usb_model.specs.Setup.{Setup}
 use Rattle.usb_model.specs.World.{is_its}
 use Rattle.usb_model.specs.World.Due.{Dated, below, given_at, is_number}
-use Rattle.usb_account.proofs.Bounds.Items.{OfItem, OfResult}
 use Rattle.usb_account.proofs.Bounds.Runs.{callback_each}
-use Rattle.usb_account.proofs.Machines.Deeds.{IsDone, IsSubmission, again, again_with, anew}
-use Rattle.usb_account.proofs.Places.Placed.{IsPlaced, callback_numbers, called_by}
+use Rattle.usb_account.proofs.Machines.Deeds.{IsDone}
+use Rattle.usb_account.proofs.Places.Placed.{IsPlaced, callback_numbers}
 use Rattle.usb_account.proofs.Places.Runs.{IsKept}
 use Rattle.usb_lemmas.proofs.Lists.Parts.{each_append, each_weaker}
 use Rattle.usb_lemmas.proofs.Lists.Pieces.{same_name}
@@ -36,7 +27,7 @@ use Rattle.usb_lemmas.proofs.Lists.Times.{each_apart, times-append, times-cons}
 use Rattle.usb_lemmas.proofs.Work.Lines.{result_numbers}
 use Rattle.usb_book.specs.declared.timer.Timer.{Timer}
 use Rattle.usb_book.proofs.Known.{Known, OfCallback, callbacks_after, known_weaker}
-use Rattle.usb_book.proofs.Owns.{Left, cut, left_cut, left_look, left_push, left_weaker, look}
+use Rattle.usb_book.proofs.Owns.{Left, left_look, look}
 
 -- the timeout of a transfer is found among all timers, now and later
 abbrev pub HasTime : List Timer → ℕ → Request → ℕ → Type 0

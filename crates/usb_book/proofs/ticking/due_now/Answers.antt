@@ -1,4 +1,4 @@
-use Rattle.std.proofs.Common.{◌≡◌, ◌∙◌, ap}
+use Rattle.std.proofs.Common.{◌∙◌, ap}
 use Rattle.usb_book.specs.Timers.{by_name}
 use Rattle.usb_book.proofs.Loops.{ok_more}
 use Rattle.usb_book.proofs.ticking.due_now.Goals as goal

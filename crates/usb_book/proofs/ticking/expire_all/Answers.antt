@@ -1,15 +1,11 @@
-use Rattle.std.proofs.Common.{◌≡◌, ◌∙◌, ◌+◌, ◌-◌, ◌<◌, ◌≤◌, ◌++◌, ℕ, List, Some, [], ◌∷◌, ap, append_assoc, arith, drop, get_or, length, length-append, map, subst, sym, take}
-use Rattle.std.proofs.lemmas.List.{map-append, take_more, take-append-le, take_all}
-use Rattle.usb_model.specs.declared.step.Step.{Step}
+use Rattle.std.proofs.Common.{◌≡◌, ◌∙◌, ◌+◌, ◌-◌, ◌<◌, ◌≤◌, ◌++◌, ℕ, List, Some, [], ◌∷◌, ap, append_assoc, arith, drop, length, length-append, map, subst, sym}
+use Rattle.std.proofs.lemmas.List.{map-append, take-append-le}
 use Rattle.usb_model.specs.declared.step.Step.TheVariants.{Expire}
 use Rattle.usb_book.specs.declared.place.Place.{Place}
-use Rattle.usb_book.specs.declared.timer.Timer.{Timer}
-use Rattle.usb_book.specs.Booked.{asked, asks, Asked}
+use Rattle.usb_book.specs.Booked.{asked, Asked}
 use Rattle.usb_book.specs.Seen.{Receipted}
-use Rattle.usb_book.specs.Timers.{expires}
 use Rattle.usb_book.proofs.Receipts.{drop_push, receipts_one}
-use Rattle.usb_book.proofs.Replies.{plain_timers}
-use Rattle.usb_book.proofs.Runs.{replays-push, timers_more}
+use Rattle.usb_book.proofs.Runs.{replays-push}
 use Rattle.usb_book.proofs.Expiring.{asks_next, expire_timers}
 use Rattle.usb_book.proofs.ticking.expire_all.Goals as goal
 

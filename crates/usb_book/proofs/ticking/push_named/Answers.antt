@@ -1,4 +1,4 @@
-use Rattle.std.proofs.Common.{◌≡◌, ◌∙◌, ◌==◌, ◌++◌, ap, arith}
+use Rattle.std.proofs.Common.{◌∙◌, ◌==◌, ◌++◌, ap, arith}
 use Rattle.std.specs.List.{filter}
 use Rattle.std.proofs.lemmas.List.{take_all}
 use Rattle.usb_book.specs.declared.timer.Timer.{Timer}

@@ -3,7 +3,6 @@ use Rattle.std.specs.List.{filter, flat_map}
 use Rattle.usb_model.specs.World.Due.{below}
 use Rattle.usb_book.specs.declared.timer.Timer.{Timer}
 use Rattle.usb_book.proofs.Loops.{names_next}
-use Rattle.usb_book.proofs.Due.{due_by_timers}
 use Rattle.usb_book.proofs.ticking.sorted.Goals as goal
 
 pub loop-number-preserved : goal.loop-number-preserved

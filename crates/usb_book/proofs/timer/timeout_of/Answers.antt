@@ -1,1 +1,0 @@
-use Rattle.usb_book.proofs.timer.timeout_of.Goals as goal

@@ -1,4 +1,4 @@
-use Rattle.std.proofs.Common.{◌≡◌, ◌∙◌, ap, length, refl, subst, sym}
+use Rattle.std.proofs.Common.{◌∙◌, ap, length, refl, sym}
 use Rattle.usb_model.specs.declared.step.Step.{Step}
 use Rattle.usb_model.specs.declared.step.Step.TheVariants.{Answer}
 use Rattle.usb_model.specs.declared.verdict.Verdict.TheVariants.{Again}
@@ -12,11 +12,10 @@ use Rattle.usb_book.proofs.book.Book.again.Goals as goal
 pub returns-in-Err-clause-err : goal.returns-in-Err-clause-err
 returns-in-Err-clause-err g c =
     let e = sym c.unless_no_memory.ensures ∙ c.in-Err.is in
-    let s = c.again.ensures in
-    (
+    let s = c.again.ensures in (
       payload_comes_back c.again.result c.in-Err.back c.args.payload e s.back,
       same_book g.L.Naming.setup c.self.inside.log.journal c.prepare.new.log.journal c.self.inside.core c.again.new.self c.self.inside.moment c.args.self.now c.self.view_is c.prepare.ensures.same
-      (none_done c.again.result c.in-Err.back _ e s.kept) (none_done c.again.result c.in-Err.back _ e s.still),
+          (none_done c.again.result c.in-Err.back _ e s.kept) (none_done c.again.result c.in-Err.back _ e s.still),
       refl,
     )
 

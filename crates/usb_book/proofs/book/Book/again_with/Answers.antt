@@ -16,12 +16,11 @@ pub returns-in-Err-clause-err : goal.returns-in-Err-clause-err
 returns-in-Err-clause-err g c =
     let same : c.args.bytes ≡ c.in-Some.bytes = same_Some _ _ (sym c.new_bytes_in.ensures ∙ c.in-Some.is) in
     let e = sym c.unless_no_memory.ensures ∙ c.in-Err.is in
-    let s = c.again_with.ensures in
-    (
+    let s = c.again_with.ensures in (
       given_back c.again_with.result c.in-Err.back c.in-Some.bytes e s.given ∙ sym same,
       payload_comes_back c.again_with.result c.in-Err.back c.args.payload e s.back,
       same_book g.L.Naming.setup c.self.inside.log.journal c.prepare-prepared.new.log.journal c.self.inside.core c.again_with.new.self c.self.inside.moment c.args.self.now c.self.view_is c.prepare-prepared.ensures.same
-      (none_done c.again_with.result c.in-Err.back _ e s.kept) (none_done c.again_with.result c.in-Err.back _ e s.still),
+          (none_done c.again_with.result c.in-Err.back _ e s.kept) (none_done c.again_with.result c.in-Err.back _ e s.still),
       refl,
     )
 

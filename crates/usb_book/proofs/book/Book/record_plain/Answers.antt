@@ -1,11 +1,11 @@
-use Rattle.std.proofs.Common.{◌≡◌, ◌∙◌, ap, length, subst, sym}
+use Rattle.std.proofs.Common.{◌∙◌, ap, length, subst, sym}
 use Rattle.usb_model.specs.declared.step.Step.{Step}
 use Rattle.usb_state.specs.Carrying.{Carries}
 use Rattle.usb_book.specs.declared.place.Place.{Place}
 use Rattle.usb_book.specs.Booked.{Booked}
 use Rattle.usb_book.specs.Timers.{stopped_if}
 use Rattle.usb_book.proofs.Replies.{no_bytes_of, plain_timers}
-use Rattle.usb_book.proofs.Runs.{entered, same_place}
+use Rattle.usb_book.proofs.Runs.{entered}
 use Rattle.usb_book.proofs.book.Book.record_plain.Goals as goal
 
 pub enter-receipt-requires-clause-bytes : goal.enter-receipt-requires-clause-bytes

@@ -1,15 +1,12 @@
-use Rattle.std.proofs.Common.{◌≡◌, ◌∙◌, ap, length, refl, subst, sym}
+use Rattle.std.proofs.Common.{◌≡◌, ◌∙◌, ap, length, refl, sym}
 use Rattle.std.proofs.lemmas.Option.{same_Some}
 use Rattle.usb_model.specs.declared.request.Request.{Request}
 use Rattle.usb_model.specs.declared.step.Step.{Step}
 use Rattle.usb_model.specs.declared.step.Step.TheVariants.{Submit}
-use Rattle.usb_state.specs.Steps.{Turns}
 use Rattle.usb_book.specs.declared.place.Place.{Place}
 use Rattle.usb_book.specs.Booked.{answer_entry}
 use Rattle.usb_book.specs.Timers.{started_if}
 use Rattle.usb_book.proofs.Answers.{answer_turns, given_back, none_done, payload_comes_back, submitted_timers}
-use Rattle.usb_book.proofs.Steps.{own_step}
-use Rattle.usb_book.proofs.Replies.{plain_bytes}
 use Rattle.usb_book.proofs.Runs.{entered, same_book, same_place}
 use Rattle.usb_book.proofs.book.Book.submit.Goals as goal
 
@@ -17,12 +14,11 @@ pub returns-in-Err-clause-err : goal.returns-in-Err-clause-err
 returns-in-Err-clause-err g c =
     let e = sym c.unless_no_memory.ensures ∙ c.in-Err.is in
     let s = c.submit.ensures in
-    let same : c.args.request ≡ c.in-Some.request = same_Some _ _ (sym c.request_in.ensures ∙ c.in-Some.is) in
-    (
+    let same : c.args.request ≡ c.in-Some.request = same_Some _ _ (sym c.request_in.ensures ∙ c.in-Some.is) in (
       given_back c.submit.result c.in-Err.back c.in-Some.request e s.given ∙ sym same,
       payload_comes_back c.submit.result c.in-Err.back c.args.payload e s.back,
       same_book g.L.Naming.setup c.self.inside.log.journal c.prepare-prepared.new.log.journal c.self.inside.core c.submit.new.self c.self.inside.moment c.args.self.now c.self.view_is c.prepare-prepared.ensures.same
-      (none_done c.submit.result c.in-Err.back _ e s.kept) (none_done c.submit.result c.in-Err.back _ e s.still),
+          (none_done c.submit.result c.in-Err.back _ e s.kept) (none_done c.submit.result c.in-Err.back _ e s.still),
       refl,
     )
 

@@ -1,4 +1,4 @@
-use Rattle.std.proofs.Common.{◌≡◌, ◌∙◌, None, Some, ap, length, option_map, refl, subst, sym}
+use Rattle.std.proofs.Common.{◌∙◌, None, Some, ap, length, option_map, refl, subst, sym}
 use Rattle.usb_model.specs.declared.reply.Reply.TheVariants.{Idle}
 use Rattle.usb_model.specs.declared.step.Step.TheVariants.{Take}
 use Rattle.usb_state.specs.Calls.{called_entry}
@@ -21,8 +21,7 @@ invariant_of-self-in-None g c =
 pub enter-receipt-requires-in-Some-clause-draft : goal.enter-receipt-requires-in-Some-clause-draft
 enter-receipt-requires-in-Some-clause-draft g c =
     let turn = subst (λ x. Turns c.self.inside.core Take (called_entry (option_map (λ t. t.returned) x)) c.take.new.self) c.in-Some.is c.in-Ok.ensures.taken in
-    let w = world_where g.L.Naming.setup c.self.inside.log.journal in
-    (
+    let w = world_where g.L.Naming.setup c.self.inside.log.journal in (
       c.next_len.result,
       subst (λ s. g.J.Recorder.is_draft c.in_ok-draft.draft s c.next_len.result) (sym (ap (λ (x : Place). x.step) c.new-told-in-Some.ensures ∙ c.of-asked.ensures)) c.in_ok-draft.ensures.draft,
       taken_bytes g.L.Naming.setup c.self.inside.log.journal c.self.inside.core c.take.new.self _ c.next_len.result turn c.self.invariant.0 (c.next_len.ensures g.L.Naming.setup w c.self.invariant.0.1),
