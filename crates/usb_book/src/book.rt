@@ -64,11 +64,14 @@ impl<L: Naming, P, D: Device, J: Recorder> Book<L, P, D, J> {
         ensures moment { IfOk result (λ b. b.moment ≡ 0) }
         ensures carries { IfOk result (λ b. (kept : Kept P) → Carries kept b.core) }
     {
+        let core = Core::new(alloc, setup)?;
+        let log = Log::new(alloc, roll, keeper);
+        let timers = Vec::new(alloc);
         Ok(Book {
-            core: Core::new(alloc, setup)?,
+            core,
             moment: 0,
-            log: Log::new(alloc, roll, keeper),
-            timers: Vec::new(alloc),
+            log,
+            timers,
             alloc,
         })
     }

@@ -1,6 +1,6 @@
 //! The journal that is kept in memory.
 
-ghost use Rattle.std.specs.Prelude.{◌≡◌, ℕ, ◌+◌, ◌≤◌, ◌++◌, [], ◌∷◌, IfOk, OnOk, vec_len, vec_capacity, length};
+ghost use Rattle.std.specs.Prelude.{◌≡◌, ◌+◌, ◌≤◌, [], vec_len, vec_capacity, length};
 ghost use Rattle.usb_book.specs.Recording.{bytes_in};
 
 use crate::place::Place;

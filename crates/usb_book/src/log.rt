@@ -1,6 +1,6 @@
 //! The journal, as a book has it.
 
-ghost use Rattle.std.specs.Prelude.{◌≡◌, ◌==◌, ◌++◌, ◌+◌, ◌^◌, ◌<◌, ◌≤◌, ◌∷◌, ℕ, [], All, IfOk, OnErr, OnOk, Some, count_by, length, slice_get};
+ghost use Rattle.std.specs.Prelude.{◌≡◌, ◌==◌, ◌++◌, ◌+◌, ◌^◌, ◌<◌, ◌≤◌, ◌∷◌, ℕ, [], All, IfOk, OnOk, Some, count_by, length, slice_get};
 ghost use Rattle.usb_roll.specs.Tokens.{new_keeper};
 ghost use Rattle.usb_book.specs.Booked.{IsMoved};
 ghost use Rattle.usb_book.specs.Recording.{bytes_in};

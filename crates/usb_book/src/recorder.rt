@@ -1,6 +1,6 @@
 //! What a book keeps of its places when it runs.
 
-ghost use Rattle.std.specs.Prelude.{◌≡◌, ⊤, ℕ, ◌+◌, ◌≤◌, List, [], ◌∷◌, ◌++◌, IfOk, OnOk, vec_len, vec_capacity};
+ghost use Rattle.std.specs.Prelude.{◌≡◌, ⊤, ℕ, ◌+◌, ◌≤◌, List, [], ◌∷◌, ◌++◌, IfOk, OnOk};
 ghost use Rattle.usb_model.specs.declared.step.Step.{Step};
 ghost use Rattle.usb_book.specs.declared.place.Place.{Place};
 ghost use Rattle.usb_book.specs.Recording.{bytes_in};

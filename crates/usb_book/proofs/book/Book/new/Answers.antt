@@ -8,5 +8,5 @@ use Rattle.usb_book.proofs.book.Book.new.Goals as goal
 
 pub invariant_of-result : goal.invariant_of-result
 invariant_of-result g c =
-    subst (λ l. Replays g.L.Naming.setup l c.in_ok-new.field-0 × (c.new-3.result.items ≡ timers_of l)) (sym c.new-2.ensures)
-    (none_yet g.L.Naming.setup c.in_ok-new.field-0 (subst (λ s. ShowsWorld s c.in_ok-new.field-0 (new_world s)) c.requires.setup c.in_ok-new.ensures.shows), c.new-3.ensures.items)
+    subst (λ l. Replays g.L.Naming.setup l c.in_ok-core.core × (c.new-timers.result.items ≡ timers_of l)) (sym c.new-log.ensures)
+    (none_yet g.L.Naming.setup c.in_ok-core.core (subst (λ s. ShowsWorld s c.in_ok-core.core (new_world s)) c.requires.setup c.in_ok-core.ensures.shows), c.new-timers.ensures.items)
