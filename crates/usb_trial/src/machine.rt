@@ -76,14 +76,13 @@ impl Machine {
 
     /// A transfer goes out to its callback, which then ends.
     pub fn take(&mut self) -> Result<Returned> {
-        match self.core.take() {
-            Ok(Some(taken)) => {
-                let stopped = self.core.stop(taken.returned.h, taken.returned.n);
-                is(self.alloc, &stopped, "done")?;
-                Ok(taken.returned)
-            }
-            _ => Err(anyhow!("nothing goes out")),
-        }
+        let Ok(Some(taken)) = self.core.take() else {
+            return Err(anyhow!("nothing goes out"));
+        };
+        let returned = taken.returned;
+        let stopped = self.core.stop(returned.h, returned.n);
+        is(self.alloc, &stopped, "done")?;
+        Ok(returned)
     }
 
     /// The TRB at an index of an endpoint's ring has these bytes.

