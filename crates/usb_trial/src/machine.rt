@@ -87,25 +87,33 @@ impl Machine {
 
     /// The TRB at an index of an endpoint's ring has these bytes.
     pub fn has_trb(&self, ep: EpAddr, index: usize, bytes: u128) -> Result<()> {
-        has(self.trb(ep, index), bytes)
+        has(self.trb(ep, index), index, bytes)
     }
 
     /// Its last eight bytes, where what it points at isn't told.
     pub fn has_end(&self, ep: EpAddr, index: usize, bytes: u64) -> Result<()> {
         match self.trb(ep, index) {
-            Some(found) if u128::from_be_bytes(found) % (1 << 64) == u128::from(bytes) => Ok(()),
+            Some(found) if found.ends_with(&bytes.to_be_bytes()) => Ok(()),
             _ => Err(anyhow!("another TRB at {index}")),
         }
     }
 
     /// The order at an index of the command ring has these bytes.
     pub fn has_order(&self, index: usize, bytes: u128) -> Result<()> {
-        has(self.core.controller().command_ring().bytes_at(index), bytes)
+        has(
+            self.core.controller().command_ring().bytes_at(index),
+            index,
+            bytes,
+        )
     }
 
     /// The event at an index of the event ring has these bytes.
     pub fn has_event(&self, index: usize, bytes: u128) -> Result<()> {
-        has(self.core.controller().event_ring().bytes_at(index), bytes)
+        has(
+            self.core.controller().event_ring().bytes_at(index),
+            index,
+            bytes,
+        )
     }
 
     /// The next TRB of an endpoint is put at this index, with this cycle.
@@ -147,9 +155,9 @@ fn is(alloc: Global, told: &Reply, text: &str) -> Result<()> {
 }
 
 /// An error where these aren't the bytes of a TRB.
-fn has(found: Option<[u8; 16]>, bytes: u128) -> Result<()> {
+fn has(found: Option<[u8; 16]>, index: usize, bytes: u128) -> Result<()> {
     match found {
-        Some(found) if u128::from_be_bytes(found) == bytes => Ok(()),
-        _ => Err(anyhow!("another TRB than {bytes:032x}")),
+        Some(found) if found == bytes.to_be_bytes() => Ok(()),
+        _ => Err(anyhow!("another TRB at {index}")),
     }
 }
