@@ -1,6 +1,6 @@
 //! Two devices with random scripts, for the core and for the plain program.
 
-ghost use Rattle.std.specs.Prelude.{◌≡◌, IfOk, vec_len};
+ghost use Rattle.std.specs.Prelude.{◌≡◌, IfOk};
 
 use crate::dice::Dice;
 use anyhow::{Result, anyhow};
@@ -19,20 +19,14 @@ pub const DEVICES: u8 = 2;
 /// How many answers a script has.
 const ANSWERS: u8 = 120;
 
-/// Interface 0 with the bulk endpoints 81 and 02 of so many bytes, interface 1 with the interrupt endpoints 83 of 8 and 04
-/// of 4.
-fn config_of(size: u16) -> Result<Config> {
-    let [low, high] = size.to_le_bytes();
+/// Interface 0 with the bulk endpoints 81 and 02 of 8 bytes, interface 1 with the interrupt endpoints 83 of 8 and 04 of 4.
+fn config() -> Result<Config> {
     read_config(&[
-        9, 2, 55, 0, 2, 1, 0, 0x80, 0x32, 9, 4, 0, 0, 2, 0xff, 0, 0, 0, 7, 5, 0x81, 2, low, high,
-        0, 7, 5, 0x02, 2, low, high, 0, 9, 4, 1, 0, 2, 0xff, 0, 0, 0, 7, 5, 0x83, 3, 8, 0, 1, 7, 5,
-        0x04, 3, 4, 0, 1,
+        9, 2, 55, 0, 2, 1, 0, 0x80, 0x32, 9, 4, 0, 0, 2, 0xff, 0, 0, 0, 7, 5, 0x81, 2, 8, 0, 0, 7,
+        5, 0x02, 2, 8, 0, 0, 9, 4, 1, 0, 2, 0xff, 0, 0, 0, 7, 5, 0x83, 3, 8, 0, 1, 7, 5, 0x04, 3,
+        4, 0, 1,
     ])
     .map_err(|_| anyhow!("the configuration isn't read"))
-}
-
-fn config() -> Result<Config> {
-    config_of(8)
 }
 
 /// A packet of up to so many random bytes.
@@ -132,32 +126,19 @@ pub fn real(alloc: Global, seed: u64) -> Result<Setup<TableDevice>> {
 
 /// One device, whose endpoint 81 answers with packets of one byte: 10, 11 and 12.
 pub fn three_packets(alloc: Global) -> Result<Setup<TableDevice>> {
+    let config = config()?;
+    let mut scripts = Sequence::new(alloc);
+    for _ in 0..3_u8 {
+        scripts.push(Sequence::new(alloc))?;
+    }
     let mut script = Sequence::new(alloc);
     for byte in 10..13_u8 {
         let mut bytes = Sequence::new(alloc);
         bytes.push(byte)?;
         script.push(Response::Data(bytes))?;
     }
-    let mut scripts = no_scripts(alloc)?;
-    scripts[3] = script;
-    device(alloc, 8, scripts)
-}
-
-/// No script at any endpoint id.
-fn no_scripts(alloc: Global) -> Result<Vec<Script>>
-    ensures { IfOk result (λ scripts. vec_len scripts ≡ 32) }
-{
-    let mut scripts = Vec::with_capacity(alloc, 32)?;
-    for _ in 0..32_u8 {
-        scripts.push(Sequence::new(alloc))?;
-    }
-    Ok(scripts)
-}
-
-/// One device of these scripts, whose bulk endpoints have packets of so many bytes.
-pub fn device(alloc: Global, size: u16, scripts: Vec<Script>) -> Result<Setup<TableDevice>> {
-    let config = config_of(size)?;
-    let Ok(device) = TableDevice::new(alloc, &config, Sequence::from_vec(scripts)) else {
+    scripts.push(script)?;
+    let Ok(device) = TableDevice::new(alloc, &config, scripts) else {
         return Err(anyhow!("no device"));
     };
     let mut setup = Setup::new(alloc)?;
@@ -165,49 +146,4 @@ pub fn device(alloc: Global, size: u16, scripts: Vec<Script>) -> Result<Setup<Ta
         return Err(anyhow!("the device isn't added"));
     }
     Ok(setup)
-}
-
-/// A packet of so many zeros.
-fn plain_packet(alloc: Global, len: u16) -> Result<Response> {
-    let mut bytes = Sequence::new(alloc);
-    for _ in 0..len {
-        bytes.push(0)?;
-    }
-    Ok(Response::Data(bytes))
-}
-
-/// Endpoint 81 answers with so many packets of this length, and then with one of `last` bytes, unless that is 0.
-pub fn packets(alloc: Global, count: u16, len: u16, last: u16) -> Result<Vec<Script>> {
-    let mut script = Sequence::new(alloc);
-    for _ in 0..count {
-        script.push(plain_packet(alloc, len)?)?;
-    }
-    if last != 0 {
-        script.push(plain_packet(alloc, last)?)?;
-    }
-    let mut scripts = no_scripts(alloc)?;
-    scripts[3] = script;
-    Ok(scripts)
-}
-
-/// Endpoint 02 takes so many packets.
-pub fn acks(alloc: Global, count: u16) -> Result<Vec<Script>> {
-    let mut script = Sequence::new(alloc);
-    for _ in 0..count {
-        script.push(Response::Ack)?;
-    }
-    let mut scripts = no_scripts(alloc)?;
-    scripts[4] = script;
-    Ok(scripts)
-}
-
-/// Endpoint 81 stalls, and endpoint 83 answers with a packet of one byte.
-pub fn stall_and_packet(alloc: Global) -> Result<Vec<Script>> {
-    let (mut stall, mut packet) = (Sequence::new(alloc), Sequence::new(alloc));
-    stall.push(Response::Stall)?;
-    packet.push(plain_packet(alloc, 1)?)?;
-    let mut scripts = no_scripts(alloc)?;
-    scripts[3] = stall;
-    scripts[7] = packet;
-    Ok(scripts)
 }
