@@ -9,16 +9,28 @@
 //! `controller_loop` and `event_loop` run, and one for this:
 //!
 //! ```text
-//! fn read_once<L: Naming, C: Callback, D: Device, J: Recorder, R: Wait>(
+//! use anyhow::{Result, anyhow};
+//! use bitflags::Flags as _;
+//! use std::sync::Wait;
+//!
+//! pub fn read_once<L: Naming, C: Callback, D: Device, J: Recorder, R: Wait>(
 //!     rt: &R,
 //!     library: &Library<L, C, D, J>,
 //!     caller: &mut Caller<L>,
 //!     meter: Name,
 //!     callback: C,
 //! ) -> Result<()> {
-//!     let dev = DeviceNo::new(0).ok_or(anyhow!("device 0"))?;
-//!     library.open(rt, caller, meter, dev)?.granted()?;
-//!     library.claim(rt, caller, meter, 1)?.granted()?;
+//!     let Some(dev) = DeviceNo::new(0) else {
+//!         return Err(anyhow!("no device 0"));
+//!     };
+//!     let opened = library.open(rt, caller, meter, dev)?;
+//!     if let Err(why) = opened.granted() {
+//!         return Err(anyhow!("open: {why}"));
+//!     }
+//!     let claimed = library.claim(rt, caller, meter, 1)?;
+//!     if let Err(why) = claimed.granted() {
+//!         return Err(anyhow!("claim: {why}"));
+//!     }
 //!     let request = Request {
 //!         ep: EpAddr::new(0x83),
 //!         kind: Kind::Interrupt,
@@ -26,12 +38,12 @@
 //!         timeout: 100,
 //!         body: Body::In(8),
 //!     };
-//!     match library.submit(rt, caller, meter, request, callback) {
-//!         Ok(submitted) => match submitted.number {
-//!             Ok(_number) => Ok(()),
-//!             Err(refused) => Err(anyhow!("refused: {}", refused.why)),
-//!         },
-//!         Err(_) => Err(anyhow!("no memory")),
+//!     let Ok(submitted) = library.submit(rt, caller, meter, request, callback) else {
+//!         return Err(anyhow!("no memory"));
+//!     };
+//!     match submitted.number {
+//!         Ok(_number) => Ok(()),
+//!         Err(refused) => Err(anyhow!("submit: {}", refused.why)),
 //!     }
 //! }
 //! ```
