@@ -57,7 +57,7 @@
 //! - **The library**: `Opening`, then `Library::new` in a function that is generic in a `Naming`; a `Caller` for each thread;
 //!   `Journal` keeps every step, `Unrecorded` none.
 //! - **Callbacks**: `StoredCallback::once` and `StoredCallback::repeat`; a `Verdict` ends the transfer or submits it once more.
-//! - **The workers**: `controller_loop` and `event_loop`, with `Open` as their gate.
+//! - **The workers**: `controller_loop` and `event_loop`, with `Open` as their gate; `Moments` reads a clock for `Library::tick`.
 #![tactic(auto)]
 
 pub use usb_book::{Journal, Naming, NotRecorded, Place, Receipt, Recorder, Unrecorded};
@@ -70,4 +70,4 @@ pub use usb_model::{
     Body, Bytes, DeviceNo, Entry, EpAddr, Flags, Kind, Name, Refused, Reply, Request, Response,
     Returned, Rule, Script, Sequence, Status, StatusSet, Step, Verdict,
 };
-pub use usb_workers::{Gate, Open, Point, controller_loop, event_loop};
+pub use usb_workers::{Gate, Moments, Open, Point, controller_loop, event_loop};

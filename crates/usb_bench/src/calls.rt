@@ -27,7 +27,7 @@ pub trait Calls: Drop {
 }
 
 /// A number that depends on what a callback is given.
-fn weight(returned: &Returned, payload: u64) -> u64 {
+pub fn weight(returned: &Returned, payload: u64) -> u64 {
     let bytes = returned.bytes.as_slice();
     let last = match bytes.last() {
         Some(last) => u64::from(*last),

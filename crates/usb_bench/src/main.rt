@@ -5,9 +5,13 @@ mod calls;
 mod coding;
 mod events;
 mod holders;
+mod library;
+mod library_rows;
 mod plain;
 mod plain_core;
 mod plain_events;
+mod plain_journal;
+mod plain_library;
 mod plain_ring;
 mod readings;
 mod requests;
@@ -50,10 +54,15 @@ fn is_table(words: &[String]) -> bool {
 fn main(rt: HostRuntime) -> Result<()> {
     let words: Vec<String> = env::args(&rt)?.collect(rt.alloc())?;
     if is_table(words.as_slice()) {
-        return rows::print_all(&rt);
+        rows::print_all(&rt)?;
+        return library_rows::print_all(&rt, rt.alloc());
     }
     if let Some((row, asked)) = asked(words.as_slice()) {
-        return rows::print_row(&rt, row, asked);
+        return if row < rows::ROWS {
+            rows::print_row(&rt, row, asked)
+        } else {
+            library_rows::print_row(&rt, rt.alloc(), row, asked)
+        };
     }
     println!(rt; "usb_bench measure: prints a table of nanoseconds, within two minutes")?;
     println!(rt;

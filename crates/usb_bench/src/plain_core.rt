@@ -39,7 +39,8 @@ pub struct Entry {
     pub reply: Reply,
 }
 
-const IDLE: Entry = Entry {
+/// The entry of nobody, of nothing.
+pub const IDLE: Entry = Entry {
     owner: None,
     reply: Reply::Idle,
 };
@@ -309,6 +310,17 @@ impl PlainCore {
         Entry {
             owner: Some(owner),
             reply: Reply::Finished(n),
+        }
+    }
+
+    /// How many bytes the next result has that is taken; 0 where none waits.
+    pub fn next_len(&self) -> usize {
+        match self.results.front() {
+            Some(waiting) => match self.store.get(waiting.key) {
+                Some(transfer) => transfer.bytes.len(),
+                None => 0,
+            },
+            None => 0,
         }
     }
 

@@ -13,7 +13,7 @@ use crate::transfers::{PlainTransfers, Transfers};
 use anyhow::Result;
 
 /// How many rows there are.
-const ROWS: u32 = 17;
+pub const ROWS: u32 = 17;
 
 /// So many turns are one run of the work of rings and parts.
 const MANY: u64 = 10_000_000;

@@ -139,8 +139,8 @@ impl Shape {
         false
     }
 
-    /// The core, in which a name holds each device.
-    pub fn core(&self, alloc: Global) -> Result<Core<u64, TableDevice>> {
+    /// The devices.
+    pub fn setup(&self, alloc: Global) -> Result<Setup<TableDevice>> {
         let mut setup = Setup::new(alloc)?;
         for _ in 0..self.devices {
             let config = self.config(alloc)?;
@@ -151,7 +151,12 @@ impl Shape {
                 return Err(anyhow!("no device"));
             }
         }
-        let mut core = Core::new(alloc, setup)?;
+        Ok(setup)
+    }
+
+    /// The core, in which a name holds each device.
+    pub fn core(&self, alloc: Global) -> Result<Core<u64, TableDevice>> {
+        let mut core = Core::new(alloc, self.setup(alloc)?)?;
         for device in 0..self.devices {
             let (name, device) = holder(device)?;
             let _ = core.open(name, device);

@@ -2,6 +2,7 @@
 
 use crate::work::{Work, least};
 use anyhow::Result;
+use std::time::Clock;
 
 /// What is asked of a row.
 #[derive(Clone, Copy)]
@@ -23,8 +24,8 @@ fn tenths(nanoseconds: u128, turns: u64) -> u128 {
 }
 
 /// Prints a row: what is done, its time, that of the plain form, and their ratio in hundredths; or what is asked.
-pub fn row<W: Work, P: Work>(
-    rt: &HostRuntime,
+pub fn row<R: Print + Clock, W: Work, P: Work>(
+    rt: &R,
     asked: Asked,
     done: &str,
     turns: u64,
@@ -39,15 +40,15 @@ pub fn row<W: Work, P: Work>(
 }
 
 /// Does so many turns, and prints what comes out.
-fn alone<W: Work>(rt: &HostRuntime, done: &str, turns: u64, work: &mut W) -> Result<()> {
+fn alone<R: Print, W: Work>(rt: &R, done: &str, turns: u64, work: &mut W) -> Result<()> {
     let sum = work.turn(turns);
     println!(rt; "{done}: {turns} turns, {sum}")?;
     Ok(())
 }
 
 /// Prints both times.
-fn times<W: Work, P: Work>(
-    rt: &HostRuntime,
+fn times<R: Print + Clock, W: Work, P: Work>(
+    rt: &R,
     done: &str,
     turns: u64,
     work: &mut W,

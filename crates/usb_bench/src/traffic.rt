@@ -35,7 +35,8 @@ pub fn through_plain(alloc: Global, shape: Shape) -> Result<Traffic<PlainCore>> 
 }
 
 impl<C: Calls> Traffic<C> {
-    fn new(alloc: Global, shape: Shape, core: C) -> Result<Traffic<C>> {
+    /// Traffic through a core in which a name holds each device.
+    pub fn new(alloc: Global, shape: Shape, core: C) -> Result<Traffic<C>> {
         let count = shape.at_once.saturating_mul(shape.groups);
         Ok(Traffic {
             core,

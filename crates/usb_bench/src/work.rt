@@ -1,7 +1,7 @@
 //! Work that is measured.
 
 use anyhow::Result;
-use std::time::Instant;
+use std::time::{Clock, Instant};
 
 /// So many runs are made, of which the least time counts.
 const RUNS: u32 = 5;
@@ -13,7 +13,7 @@ pub trait Work {
 }
 
 /// The least time of a run of so many turns, in nanoseconds, and what came out of all, which nobody asks for.
-pub fn least<W: Work>(rt: &HostRuntime, turns: u64, work: &mut W) -> Result<(u128, u64)> {
+pub fn least<R: Clock, W: Work>(rt: &R, turns: u64, work: &mut W) -> Result<(u128, u64)> {
     let mut least = u128::MAX;
     let mut sum: u64 = 0;
     // Nothing in fact, which only the clock knows: else work that changes nothing would be done once for all runs.

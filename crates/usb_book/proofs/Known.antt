@@ -10,7 +10,6 @@ use Rattle.usb_model.specs.declared.item.Item.{Item}
 use Rattle.usb_model.specs.declared.request.Request.{Request}
 use Rattle.usb_model.specs.declared.result.InCallback.{InCallback}
 use Rattle.usb_model.specs.declared.step.Step.{Step}
-use Rattle.usb_model.specs.Endpoint.{fresh}
 use Rattle.usb_model.specs.Fitness.{IsWell}
 use Rattle.usb_model.specs.Laws.Bounds.{line_at}
 use Rattle.usb_model.specs.Machine.Turns.{machine_after, take_effect, takes_result}
@@ -18,15 +17,12 @@ use Rattle.usb_model.specs.Machine.{Machine, at_endpoint, device_of, endpoint_at
 use Rattle.usb_model.specs.Setup.{Setup}
 use Rattle.usb_model.specs.World.Shared.{past_first}
 use Rattle.usb_account.proofs.Bounds.Items.{KeepsItems, OfItem, OfResult, keeps_work}
-use Rattle.usb_account.proofs.Calls.{each_without, work_callbacks}
-use Rattle.usb_account.proofs.Machines.Acts.{IsNewOrGone, Rests, end_set, rests_at, works_elsewhere}
-use Rattle.usb_account.proofs.Machines.Deeds.{IsDone, IsRest, IsSubmission, IsWork, claims, claims_again, closes, only_rests, opens, releases, resets, stays, stops, takes, works}
+use Rattle.usb_account.proofs.Bounds.Runs.{OfCallback, rest_callbacks, rest_items, rest_part}
+use Rattle.usb_account.proofs.Calls.{work_callbacks}
+use Rattle.usb_account.proofs.Machines.Acts.{end_set, rests_at, works_elsewhere}
+use Rattle.usb_account.proofs.Machines.Deeds.{IsDone, IsRest, IsSubmission, IsWork, only_rests, works}
 use Rattle.usb_account.proofs.Places.Placed.{takes_no_result}
-use Rattle.usb_lemmas.proofs.Lists.Parts.{IsPart, each_append, each_part, each_weaker, skips, whole}
-
--- of a transfer in its callback
-abbrev pub OfCallback : (ℕ → Request → ℕ → Type 0) → InCallback → Type 0
-OfCallback P x = P x.n x.request x.round
+use Rattle.usb_lemmas.proofs.Lists.Parts.{IsPart, each_append, each_part, each_weaker}
 
 -- of each transfer in a line, in a result, and in its callback
 pub record Known (P : ℕ → Request → ℕ → Type 0) (m : Machine) : Type 0 where
@@ -41,48 +37,6 @@ known_weaker P Q m f k = record {
   results = each_weaker (OfResult P) (OfResult Q) m.results (λ x p. f x.n x.request x.round p) k.results;
   in_callbacks = each_weaker (OfCallback P) (OfCallback Q) m.handle.in_callbacks (λ x p. f x.n x.request x.round p) k.in_callbacks;
 }
-
--- a new endpoint has no transfers
-new_items : (P : Item → Type 0) (setup : Setup) (ep : ℕ) (m' : Machine) → IsNewOrGone setup ep (endpoint_at m' ep) → AllByRecursion P (line_at (endpoint_at m' ep))
-unfolding fresh
-new_items P setup ep m' (inl e) = rw e tt
-new_items P setup ep m' (inr e) = rw e.1 tt
-
--- where no work is done, the transfers of an endpoint stay, or are gone
-rest_items : (P : Item → Type 0) (setup : Setup) (ep : ℕ) (m m' : Machine) (step : Step) → Rests setup ep m m' step → AllByRecursion P (line_at (endpoint_at m ep)) → AllByRecursion P (line_at (endpoint_at m' ep))
-rest_items P setup ep m m' step (inl s) a = subst (λ o. AllByRecursion P (line_at o)) (sym s.end) a
-rest_items P setup ep m m' step (inr r) a = new_items P setup ep m' r.end
-
--- the same list is a part
-part_same : {A : Type 0} (xs ys : List A) → xs ≡ ys → IsPart xs ys
-part_same xs ys e = subst (λ l. IsPart l ys) (sym e) (whole ys)
-
--- and no result is made
-rest_part : (setup : Setup) (h : ℕ) (m : Machine) (step : Step) (done : Effect) → IsRest setup h m step done → IsPart (machine_after setup m step done).results m.results
-unfolding machine_after take_effect
-rest_part setup h m step done (stays bare t) = part_same _ m.results (ap (λ l. l ++ []) t.results ∙ append-nil m.results)
-rest_part setup h m step done (claims_again g i) = part_same _ m.results (append-nil m.results)
-rest_part setup h m step done (stops g k x in_call) = part_same _ m.results (append-nil m.results)
-rest_part setup h m step done (opens g dev none) = part_same _ m.results (append-nil m.results)
-rest_part setup h m step done (closes g idle) = part_same _ m.results (append-nil m.results)
-rest_part setup h m step done (claims g i opened free) = part_same _ m.results (append-nil m.results)
-rest_part setup h m step done (releases g i idle) = part_same _ m.results (append-nil m.results)
-rest_part setup h m step done (resets g idle) = part_same _ m.results (append-nil m.results)
-rest_part setup h m step done (takes x xs is) = subst (λ l. IsPart (past_first true l ++ []) l) (sym is) (skips (part_same (xs ++ []) xs (append-nil xs)))
-
--- a result that is taken goes into its callback as it is
-rest_callbacks : (P : ℕ → Request → ℕ → Type 0) (setup : Setup) (h : ℕ) (m : Machine) (step : Step) (done : Effect) → IsRest setup h m step done → AllByRecursion (OfResult P) m.results → AllByRecursion (OfCallback P) m.handle.in_callbacks → AllByRecursion (OfCallback P) done.handle.in_callbacks
-unfolding take_effect
-rest_callbacks P setup h m step done (stops g k x in_call) rs cs = each_without (OfCallback P) x.n m.handle.in_callbacks cs
-rest_callbacks P setup h m step done (takes x xs is) rs cs =
-    each_append (OfCallback P) m.handle.in_callbacks (record { n = x.n; request = x.request; round = x.round; status = x.status } ∷ []) cs ((subst (AllByRecursion (OfResult P)) is rs).0, tt)
-rest_callbacks P setup h m step done (stays bare t) rs cs = cs
-rest_callbacks P setup h m step done (claims_again g i) rs cs = cs
-rest_callbacks P setup h m step done (opens g dev none) rs cs = cs
-rest_callbacks P setup h m step done (closes g idle) rs cs = cs
-rest_callbacks P setup h m step done (claims g i opened free) rs cs = cs
-rest_callbacks P setup h m step done (releases g i idle) rs cs = cs
-rest_callbacks P setup h m step done (resets g idle) rs cs = cs
 
 -- those in callbacks after a step, by the results and those in callbacks before it
 pub callbacks_after : (P : ℕ → Request → ℕ → Type 0) (setup : Setup) (h : ℕ) (m : Machine) (step : Step) (done : Effect) → IsDone setup h m step done → AllByRecursion (OfResult P) m.results → AllByRecursion (OfCallback P) m.handle.in_callbacks

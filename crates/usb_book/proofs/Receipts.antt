@@ -1,9 +1,10 @@
 -- What the claims of receipts say of the receipts.
-use Rattle.std.proofs.Common.{◌≡◌, ◌==◌, ℕ, zero, suc, ◌<◌, List, [], ◌∷◌, length, get_or, Some, refl, arith, count_by, ◌+◌, ◌≤◌, ◌++◌, drop, ap, ◌∙◌, length-drop}
+use Rattle.std.proofs.Common.{◌≡◌, ◌==◌, ℕ, zero, suc, ◌<◌, List, [], ◌∷◌, length, get_or, Some, refl, arith, count_by, ◌+◌, ◌≤◌, ◌++◌, drop, ap, ◌∙◌, length-drop, subst}
 use Rattle.std.proofs.lemmas.Grind.{common_steps}
 use Rattle.std.specs.Prelude.{slice_get}
 use Rattle.usb_book.specs.declared.place.Place.{Place}
 use Rattle.usb_roll.specs.Rule.{Stand, claimed}
+use Rattle.usb_book.specs.Booked.{AreMoved}
 use Rattle.usb_book.specs.Seen.{Receipted, claims_of, receipts_from}
 
 pub all_stand : (log : List Place) (rs : List Receipted) → Stand log (claims_of rs) → (k : ℕ) (d : Receipted) → k < length rs → slice_get log (get_or rs k d).place ≡ Some (get_or rs k d).entry
@@ -30,3 +31,8 @@ pub receipts_one : (n : ℕ) (xs : List Place) (x : Place) → n ≤ length xs �
 receipts_one n xs x le =
     let rest = length-drop n xs in
     ap (receipts_from n) (drop_push n xs x le) ∙ receipts_push n (drop n xs) x (length xs) (omega arith)
+
+-- one receipt more for a mark
+pub moved_more : (first : ℕ) (rs : List Receipted) (mark : ℕ) (r : Receipted) (new : ℕ) → AreMoved first rs mark → mark ≤ r.place → new ≡ r.place + 1 → AreMoved first (rs ++ r ∷ []) new
+moved_more first [] mark r new same le at = (subst (λ k. k ≤ r.place) same le, at)
+moved_more first (x ∷ xs) mark r new moved le at = (moved.0, moved_more (x.place + 1) xs mark r new moved.1 le at)

@@ -17,7 +17,7 @@ use Rattle.usb_model.specs.Machine.{Machine}
 use Rattle.usb_model.specs.Setup.{Setup}
 use Rattle.usb_model.specs.World.{is_its}
 use Rattle.usb_model.specs.World.Due.{Dated, below, given_at, is_number}
-use Rattle.usb_account.proofs.Bounds.Runs.{callback_each}
+use Rattle.usb_account.proofs.Bounds.Runs.{OfCallback, callback_each}
 use Rattle.usb_account.proofs.Machines.Deeds.{IsDone}
 use Rattle.usb_account.proofs.Places.Placed.{IsPlaced, callback_numbers}
 use Rattle.usb_account.proofs.Places.Runs.{IsKept}
@@ -26,7 +26,7 @@ use Rattle.usb_lemmas.proofs.Lists.Pieces.{same_name}
 use Rattle.usb_lemmas.proofs.Lists.Times.{each_apart, times-append, times-cons}
 use Rattle.usb_lemmas.proofs.Work.Lines.{result_numbers}
 use Rattle.usb_book.specs.declared.timer.Timer.{Timer}
-use Rattle.usb_book.proofs.Known.{Known, OfCallback, callbacks_after, known_weaker}
+use Rattle.usb_book.proofs.Known.{Known, callbacks_after, known_weaker}
 use Rattle.usb_book.proofs.Owns.{Left, left_look, look}
 
 -- the timeout of a transfer is found among all timers, now and later

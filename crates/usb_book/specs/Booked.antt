@@ -90,6 +90,11 @@ unless_no_memory (Err x) = turned_down x.why x.given x.payload
 abbrev pub IsMoved : Marked → Receipted → Marked → Type 0
 IsMoved old receipt new = (old.mark ≤ receipt.place) × (new.mark ≡ receipt.place + 1) × (new.own ≡ old.own ++ receipt.entry ∷ [])
 
+-- places that were entered for a mark one after another: each stands where the mark was or behind it, and the mark goes behind the last
+abbrev pub AreMoved : ℕ → List Receipted → ℕ → Type 0
+AreMoved old [] new = new ≡ old
+AreMoved old (r ∷ rs) new = (old ≤ r.place) × AreMoved (r.place + 1) rs new
+
 -- nothing changed that anybody sees
 pub record IsSame {P : Type 0} (old new : Booked P) : Type 0 where
   pub setup : new.setup ≡ old.setup

@@ -7,7 +7,7 @@ ghost use Rattle.usb_model.specs.World.{World};
 ghost use Rattle.usb_model.specs.World.Due.{due};
 ghost use Rattle.usb_state.specs.Carrying.{StillCarries};
 ghost use Rattle.usb_state.specs.State.{ShowsWorld};
-ghost use Rattle.usb_book.specs.Booked.{IsSame, Replays, asked, asks, dated};
+ghost use Rattle.usb_book.specs.Booked.{AreMoved, IsSame, Replays, asked, asks, dated};
 ghost use Rattle.usb_book.specs.Seen.{receipts_from};
 ghost use Rattle.usb_book.specs.Timers.{by_name, expires, is_over, timers_of};
 
@@ -39,6 +39,7 @@ impl<L: Naming, P, D: Device, J: Recorder> Book<L, P, D, J> {
         ensures moment { OnOk result (self.new.moment ≡ max self.old.moment now) }
         ensures steps { OnOk result (map asked (drop (length self.old.journal) self.new.journal) ≡ asks caller (max self.old.moment now) (due self.old.setup (dated self.old.journal) (max self.old.moment now))) }
         ensures own { OnOk result (mark.new.own ≡ mark.old.own ++ drop (length self.old.journal) self.new.journal) }
+        ensures mark { IfOk result (λ rs. AreMoved mark.old.mark rs.items mark.new.mark) }
         ensures setup { self.new.setup ≡ self.old.setup }
         ensures carries { StillCarries self.old.core self.new.core }
         ensures err { OnErr result (IsSame self.old self.new × (mark.new ≡ mark.old)) }
@@ -151,6 +152,7 @@ fn expire_all<L: Naming, P, D: Device, J: Recorder>(
     ensures steps { map asked (drop (length log.old.journal) log.new.journal) ≡ asks caller moment (expires due.now) }
     ensures own { mark.new.own ≡ mark.old.own ++ drop (length log.old.journal) log.new.journal }
     ensures receipts { receipts.new.items ≡ receipts_from (length log.old.journal) (drop (length log.old.journal) log.new.journal) }
+    ensures mark { AreMoved mark.old.mark receipts.new.items mark.new.mark }
     ensures carries { StillCarries core.old core.new }
 {
     for timer in due {

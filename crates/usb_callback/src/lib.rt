@@ -5,9 +5,11 @@
 #![tactic(auto)]
 
 mod callback;
+mod ruled;
 mod stored;
 #[cfg(test)]
 mod tests;
 
 pub use callback::Callback;
+pub use ruled::Ruled;
 pub use stored::{Once, Repeat, StoredCallback};

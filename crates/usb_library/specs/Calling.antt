@@ -8,7 +8,7 @@ use Rattle.usb_model.specs.declared.step.Step.{Step}
 use Rattle.usb_model.specs.Setup.{Setup}
 use Rattle.usb_model.specs.World.Due.{due}
 use Rattle.usb_book.specs.declared.place.Place.{Place}
-use Rattle.usb_book.specs.Booked.{Booked, asked, asks, dated}
+use Rattle.usb_book.specs.Booked.{AreMoved, Booked, asked, asks, dated}
 use Rattle.usb_book.specs.Seen.{Receipted, receipts_from}
 
 -- what a library is made of: the name and the parts of its ledger, the roll of its journal, and its devices
@@ -46,6 +46,7 @@ pub record Ticks (setup : Setup) (now : ℕ) (old : Calling) (given : List Recei
   pub late : now ≤ moment
   pub each : map asked places ≡ asks old.number moment (due setup (dated before) moment)
   pub receipts : given ≡ receipts_from (length before) places
+  pub mark : AreMoved old.mark given new.mark
   pub own : new.own ≡ old.own ++ places
   pub number : new.number ≡ old.number
 

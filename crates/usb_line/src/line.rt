@@ -18,10 +18,8 @@ use crate::submit::submit;
 use crate::verb::Verb;
 use std::alloc::Global;
 use std::str;
-use usb_descriptors::read_config;
-use usb_model::{
-    Configuration, DeviceNo, EpAddr, Name, Plan, Request, Rule, Script, Sequence, Step,
-};
+use usb_descriptors::{Config, read_config};
+use usb_model::{DeviceNo, EpAddr, Name, Plan, Request, Rule, Script, Step};
 use usb_words::Expected;
 use usb_words::number::{bytes, device};
 
@@ -31,7 +29,7 @@ pub enum Line {
     /// The device of this number has this configuration.
     Device {
         number: DeviceNo,
-        config: Configuration,
+        config: Config,
     },
     /// The answers of an endpoint of a device.
     Script {
@@ -126,19 +124,13 @@ fn device_line(alloc: Global, words: &[&str]) -> Result<Line, LineFault>
     };
     let number = device(number)?;
     let descriptor = bytes(alloc, descriptor)?.ok_or(Expected::Bytes)?;
-    let config = configuration(alloc, descriptor.as_slice())?;
+    let config = configuration(descriptor.as_slice())?;
     Ok(Line::Device { number, config })
 }
 
 /// What a configuration descriptor says.
-fn configuration(alloc: Global, descriptor: &[u8]) -> Result<Configuration, LineFault>
+fn configuration(descriptor: &[u8]) -> Result<Config, LineFault>
     ensures { ReadsAs result (result_ok (reading descriptor.now)) }
 {
-    let config = read_config(descriptor).map_err(Problem::Descriptor)?;
-    let interfaces = Sequence::from_vec(Vec::from_slice(alloc, config.interfaces())?);
-    let endpoints = Sequence::from_vec(Vec::from_slice(alloc, config.endpoints())?);
-    Ok(Configuration {
-        interfaces,
-        endpoints,
-    })
+    Ok(read_config(descriptor).map_err(Problem::Descriptor)?)
 }

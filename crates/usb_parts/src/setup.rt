@@ -1,7 +1,8 @@
 //! Devices that are to be run together.
 
-ghost use Rattle.std.specs.Prelude.{◌≡◌, ◌++◌, ◌∷◌, [], IfErr, IfOk, OnErr, OnOk, map};
+ghost use Rattle.std.specs.Prelude.{◌≡◌, ◌==◌, ◌++◌, ◌<◌, ◌∷◌, [], if◌then◌else◌, IfErr, IfOk, OnErr, OnOk, length, map};
 ghost use Rattle.std.specs.Option.{option_copied};
+ghost use Rattle.usb_model.specs.declared.refused.Refused.TheVariants.{InvalidParam, NoMem};
 ghost use Rattle.usb_device.specs.Scripts.{Takes};
 ghost use Rattle.usb_state.specs.Making.{setup_of};
 ghost use Rattle.usb_parts.specs.Packets.{taken_in};
@@ -61,6 +62,8 @@ impl<D: Device> Setup<D> {
     pub fn add(&mut self, alloc: Global, config: Config, device: D) -> Result<(), Unadded<D>>
         requires { Takes config (D.pipes device) }
         ensures added { OnOk result (setup_of self.new ≡ setup_of self.old ++ record { config = config; scripts = map (λ p. p.script) (D.pipes device) } ∷ []) }
+        ensures room { OnOk result (length self.old.configs < 4) }
+        ensures why { IfErr result (λ x. x.why ≡ (if length self.old.configs == 4 then InvalidParam else NoMem)) }
         ensures back { IfErr result (λ x. x.config ≡ config) }
         ensures device { IfErr result (λ x. x.device ≡ device) }
         ensures kept { OnErr result (self.new ≡ self.old) }

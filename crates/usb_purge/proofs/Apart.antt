@@ -5,9 +5,9 @@ use Rattle.usb_model.specs.declared.entry.Entry.{Entry}
 use Rattle.usb_model.specs.declared.step.Step.{Step}
 use Rattle.usb_model.specs.Setup.{Setup}
 use Rattle.usb_model.specs.Machine.Turns.{alone}
-use Rattle.usb_model.specs.World.{World, Turn, machine_of, new_world, turn}
+use Rattle.usb_model.specs.World.{World, machine_of, new_world, turn}
 use Rattle.usb_model.specs.World.Journal.{entries, is_own, journal, journal_from, own, world_run}
-use Rattle.usb_lemmas.proofs.Handles.Isolation.{IsEither, IsNothing, IsOwnTurn, entries_from, entries_less, entries_more, sees_alone, turn_to}
+use Rattle.usb_lemmas.proofs.Handles.Isolation.{IsEither, entries_from, entries_less, entries_more, sees_alone, turn_to}
 use Rattle.usb_lemmas.proofs.Handles.Alone.{OnlyOf, only_new, runs_alone, turn_again}
 use Rattle.usb_state.specs.State.{ShowsWorld, State}
 use Rattle.usb_state.specs.Steps.{Turns}

@@ -1,6 +1,6 @@
 -- A run of a plan beside one of a handle's own part of it.
-use Rattle.std.proofs.Common.{◌≡◌, ℕ, ◌+◌, ◌<◌, ◌≤◌, ◌==◌, Bool, true, false, List, [], ◌∷◌, ◌++◌, drop, length, map, slice_index_or, Option, refl, ap, sym, ◌∙◌, subst, append-nil, append_assoc}
-use Rattle.std.specs.Prelude.{if◌then◌else◌, is_some}
+use Rattle.std.proofs.Common.{◌≡◌, ℕ, ◌+◌, ◌<◌, ◌≤◌, Bool, true, false, List, [], ◌∷◌, ◌++◌, drop, length, map, slice_index_or, Option, refl, ap, sym, ◌∙◌, subst, append-nil, append_assoc}
+use Rattle.std.specs.Prelude.{is_some}
 use Rattle.std.specs.List.{AllByRecursion, count_by}
 use Rattle.std.proofs.lemmas.Bool.{eqb-true}
 use Rattle.std.proofs.lemmas.List.{drop_all, drop_more, length-map}
@@ -10,9 +10,9 @@ use Rattle.usb_model.specs.declared.plan.Plan.TheVariants.{Do, Return}
 use Rattle.usb_model.specs.declared.step.Step.{Step}
 use Rattle.usb_model.specs.declared.verdict.Rule.{Rule}
 use Rattle.usb_model.specs.Setup.{Setup}
-use Rattle.usb_model.specs.World.{new_world, turn, world_from}
+use Rattle.usb_model.specs.World.{turn, world_from}
 use Rattle.usb_model.specs.World.Journal.{entries, is_own, journal, journal_from, run_from}
-use Rattle.usb_model.specs.World.Plans.{Stage, expand, expand_from, first_stage, is_own_piece, is_submit, is_submission, once_only, return_steps, returning, rule_for, rules_after, stage_after, steps_of}
+use Rattle.usb_model.specs.World.Plans.{Stage, expand, expand_from, first_stage, is_own_piece, is_submission, return_steps, returning, rule_for, rules_after, stage_after, steps_of}
 use Rattle.usb_lemmas.proofs.Handles.Alone.{only_new}
 use Rattle.usb_lemmas.proofs.Handles.Isolation.{entries_from}
 use Rattle.usb_purge.specs.Alone.{PerformsAlone, PerformsBoth, is_own_by, place_of}
@@ -22,7 +22,7 @@ use Rattle.usb_purge.specs.declared.plan_run.Performed.{Performed}
 use Rattle.usb_purge.proofs.Expansion.{IsOthersPiece, IsOwnPiece, IsSame, others_piece, own_piece, same_after, same_past}
 use Rattle.usb_purge.proofs.Plans.{AreFixed, IsFixedStage, fixed_after, fixed_once, one_return}
 use Rattle.usb_purge.proofs.Reached.{piece_rules, piece_world}
-use Rattle.usb_purge.proofs.Runs.{AllOwn, NoneOwn, entries-append, entries_all, entries_none, told_again}
+use Rattle.usb_purge.proofs.Runs.{entries-append, entries_all, entries_none, told_again}
 use Rattle.usb_purge.proofs.Taking.{Takes, has_one, takes}
 
 -- where no rule is Free a piece stands for these steps alone
@@ -51,17 +51,6 @@ own_by_first setup h s (Return g n) here first more is told = refl
 rule_again : (setup : Setup) (h : ℕ) (s t : Stage) (piece : Plan) → IsSame setup h s t → is_own_piece setup h s piece ≡ true → t.rules ≡ s.rules → rule_for s.book s.rules piece ≡ rule_for t.book t.rules piece
 rule_again setup h s t (Do step) same mine rules = ap (λ rs. rule_for s.book rs (Do step)) (sym rules)
 rule_again setup h s t (Return g n) same mine rules = subst (λ k. s.book k n ≡ t.book k n) (sym (eqb-true g h mine)) (same.book n)
-
-module _ {P : Type 0} (rule : P → Rule) (h : ℕ) (piece : Plan) (callback its : Option P) where
-  -- a piece of another was performed amid the others alone
-  pub performs_one : (run run' own : PlanState P) (x : Performed P) (shared alone : List Entry) (mine : Bool) → Performs rule run piece callback (entries_of x) run' → mine ≡ is_own_by h piece x.entry → mine ≡ false → PerformsBoth rule h piece callback its run run' own own shared shared alone alone
-  performs_one run run' own x shared alone mine performs tested others = (x, performs, subst (λ b. PerformsAlone rule b piece its (entries_of x) own own shared shared alone alone) (sym others ∙ tested) (refl, refl, refl))
-
-  -- one of its own was performed by both
-  pub performs_two : (run run' own own' : PlanState P) (x : Performed P) (shared shared' alone alone' : List Entry) (mine : Bool) → Performs rule run piece callback (entries_of x) run' → mine ≡ is_own_by h piece x.entry → mine ≡ true → shared' ≡ shared ++ entries_of x → Advances rule own piece its own' alone alone'
-      → PerformsBoth rule h piece callback its run run' own own' shared shared' alone alone'
-  performs_two run run' own own' x shared shared' alone alone' mine performs tested owned pushed advances =
-      (x, performs, subst (λ b. PerformsAlone rule b piece its (entries_of x) own own' shared shared' alone alone') (sym owned ∙ tested) (pushed, advances))
 
 module _ {P : Type 0} (rule : P → Rule) (setup : Setup) (plan : List Plan) (rules : List Rule) (h : ℕ) where
   -- so many pieces were performed, and of the handle's own the same beside: to the handle both stages are one, and it was told the same.

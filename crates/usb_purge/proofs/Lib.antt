@@ -19,3 +19,4 @@ mod Answering
 mod Reached
 mod Apart
 mod ApartPlans
+mod BothRuns

@@ -13,17 +13,16 @@ use Rattle.usb_model.specs.declared.verdict.Verdict.{Verdict}
 use Rattle.usb_model.specs.declared.verdict.Verdict.TheVariants as verdict
 use Rattle.usb_model.specs.Setup.{Setup}
 use Rattle.usb_model.specs.World.{World, new_world, turn, world_from}
-use Rattle.usb_model.specs.World.Journal.{journal, journal_from, run_from, world_run}
-use Rattle.usb_model.specs.World.Plans.{Expands, ExpandsFrom, Stage, expand_from, first_rule, first_stage, is_submission, needs_stop, return_steps, returning, rules_after, rules_past, stage_after, steps_of, verdict_by}
+use Rattle.usb_model.specs.World.Journal.{IsBeginning, journal, journal_from, run_from, world_run}
+use Rattle.usb_model.specs.World.Plans.{Expands, ExpandsFrom, Stage, expand_from, first_stage, is_submission, needs_stop, return_steps, returning, rules_after, stage_after, steps_of, verdict_by}
 use Rattle.usb_lemmas.proofs.Handles.Beginnings.{first_steps}
 use Rattle.usb_lemmas.proofs.Handles.Isolation.{sees_alone}
-use Rattle.usb_lemmas.proofs.Lists.Times.{count-cons}
 use Rattle.usb_account.proofs.Bound.AskedEnds.{asked_ends}
 use Rattle.usb_account.proofs.Cut.Runs.{cuts_at}
 use Rattle.usb_account.proofs.Places.Runs.{keeps_places}
 use Rattle.usb_purge.specs.declared.plan_run.Performed.{Performed}
 use Rattle.usb_purge.specs.Driving.{Advances, IsDriven, IsDrivenTo, ObeysAll, TakesNext}
-use Rattle.usb_purge.specs.PlanRuns.{IsUnder, Performs, PlanState, entries_of, of_option, ShowsStage, StandsFor, is_verdict}
+use Rattle.usb_purge.specs.PlanRuns.{PlanState, entries_of, of_option, ShowsStage, StandsFor, is_verdict}
 use Rattle.usb_purge.proofs.Calls.{calls_once}
 use Rattle.usb_purge.proofs.Given.{calls_after_number}
 use Rattle.usb_purge.proofs.Order.{calls_in_order}
@@ -169,8 +168,10 @@ module _ {P : Type 0} (rule : P → Rule) (setup : Setup) (plan : List Plan) (ru
   unfolding journal expand_from
   stopped v es i left piece within item r = record {
     steps = steps;
-    may = r.joins more (may_expand_from setup r.stage (drop i plan));
-    run = first_steps setup es steps (run_from setup (world_from setup (new_world setup) r.steps) more, run_append setup (new_world setup) r.steps more ∙ sym (ap (λ l. l ++ run_from setup (world_from setup (new_world setup) r.steps) more) r.run));
+    may = may;
+    only = λ fixed. expands_only setup plan rules fixed steps may;
+    begins = begun;
+    run = first_steps setup es steps begun;
     left = inr fewer;
   }
     where
@@ -179,6 +180,12 @@ module _ {P : Type 0} (rule : P → Rule) (setup : Setup) (plan : List Plan) (ru
 
       steps : List Step
       steps = r.steps ++ more
+
+      may : Expands setup plan rules steps
+      may = r.joins more (may_expand_from setup r.stage (drop i plan))
+
+      begun : IsBeginning es (world_run setup steps)
+      begun = (run_from setup (world_from setup (new_world setup) r.steps) more, run_append setup (new_world setup) r.steps more ∙ sym (ap (λ l. l ++ run_from setup (world_from setup (new_world setup) r.steps) more) r.run))
 
       first : (x : Step) × (xs : List Step) × (steps_of setup r.stage piece ≡ x ∷ xs)
       first = steps_first setup r.stage piece
@@ -194,17 +201,20 @@ module _ {P : Type 0} (rule : P → Rule) (setup : Setup) (plan : List Plan) (ru
   none_stopped es none = record {
     steps = expand_from setup (first_stage setup rules) plan;
     may = may_expand setup plan rules;
-    run = first_steps setup es (expand_from setup (first_stage setup rules) plan) (world_run setup (expand_from setup (first_stage setup rules) plan), rw none refl);
+    only = λ fixed. refl;
+    begins = begun;
+    run = first_steps setup es (expand_from setup (first_stage setup rules) plan) begun;
     left = inl none;
   }
+    where
+      begun : IsBeginning es (world_run setup (expand_from setup (first_stage setup rules) plan))
+      begun = (world_run setup (expand_from setup (first_stage setup rules) plan), rw none refl)
 
-module _ {P : Type 0} (rule : P → Rule) where
-  -- one entry was put behind the others
-  pub advances_one : (old new : PlanState P) (piece : Plan) (callback : Option P) (x : Performed P) (before after : List Entry) → Performs rule old piece callback (entries_of x) new → x.stop ≡ None → after ≡ before ++ x.entry ∷ [] → Advances rule old piece callback new before after
-  advances_one old new piece callback x before after performs none pushed = (entries_of x, performs, pushed ∙ ap (λ o. before ++ x.entry ∷ of_option o) (sym none))
+-- one entry of a piece was put behind the others
+pub one_told : {P : Type 0} (x : Performed P) (before after : List Entry) → x.stop ≡ None → after ≡ before ++ x.entry ∷ [] → after ≡ before ++ entries_of x
+one_told x before after none pushed = pushed ∙ ap (λ o. before ++ x.entry ∷ of_option o) (sym none)
 
-  -- two were
-  pub advances_two : (old new : PlanState P) (piece : Plan) (callback : Option P) (x : Performed P) (stop : Entry) (before between after : List Entry) → Performs rule old piece callback (entries_of x) new → x.stop ≡ Some stop → between ≡ before ++ x.entry ∷ []
-      → after ≡ between ++ stop ∷ [] → Advances rule old piece callback new before after
-  advances_two old new piece callback x stop before between after performs some pushed again =
-      (entries_of x, performs, again ∙ (ap (λ l. l ++ stop ∷ []) pushed ∙ (append_assoc before (x.entry ∷ []) (stop ∷ []) ∙ ap (λ o. before ++ x.entry ∷ of_option o) (sym some))))
+-- two were
+pub two_told : {P : Type 0} (x : Performed P) (stop : Entry) (before between after : List Entry) → x.stop ≡ Some stop → between ≡ before ++ x.entry ∷ [] → after ≡ between ++ stop ∷ [] → after ≡ before ++ entries_of x
+two_told x stop before between after some pushed again =
+    again ∙ (ap (λ l. l ++ stop ∷ []) pushed ∙ (append_assoc before (x.entry ∷ []) (stop ∷ []) ∙ ap (λ o. before ++ x.entry ∷ of_option o) (sym some)))

@@ -3,11 +3,10 @@ use Rattle.std.proofs.Common.{◌≡◌, ℕ, List, [], ◌∷◌, ◌++◌, map
 use Rattle.std.specs.List.{filter}
 use Rattle.std.proofs.lemmas.List.{map-append}
 use Rattle.std.proofs.lemmas.List.Elements.{filter-append}
-use Rattle.usb_model.specs.declared.entry.Entry.{Entry}
 use Rattle.usb_model.specs.declared.step.Step.{Step}
 use Rattle.usb_model.specs.Setup.{Setup}
 use Rattle.usb_model.specs.World.{World, machine_of, turn, world_from}
-use Rattle.usb_model.specs.World.Journal.{Place, entries_in, journal_from, is_own, own_places, run_from, steps_in}
+use Rattle.usb_model.specs.World.Journal.{Place, journal_from, is_own, own_places, run_from}
 use Rattle.usb_lemmas.proofs.Handles.Isolation.{IsOwnTurn, IsNothing, entries_from, entries_less, entries_more, own_from, own_more, own_less}
 use Rattle.usb_lemmas.proofs.Handles.Alone.{OnlyOf, turn_again}
 

@@ -1,21 +1,24 @@
 -- A handle's own part of a run, and what holds of its callbacks.
-use Rattle.std.specs.Prelude.{◌≡◌, ℕ, ◌≤◌, ◌==◌, Bool, true, false, List, [], ◌∷◌, ◌++◌, Option}
+use Rattle.std.specs.Prelude.{◌≡◌, ℕ, ◌<◌, ◌≤◌, ◌==◌, Bool, true, false, List, [], ◌∷◌, ◌++◌, length, Option}
 use Rattle.std.specs.List.Sorted.{IsStrictlyIncreasing}
 use Rattle.usb_model.specs.declared.entry.Entry.{Entry}
 use Rattle.usb_model.specs.declared.plan.Plan.{Plan}
 use Rattle.usb_model.specs.declared.plan.Plan.TheVariants.{Do, Return}
 use Rattle.usb_model.specs.declared.step.Step.{Step}
 use Rattle.usb_model.specs.declared.verdict.Rule.{Rule}
-use Rattle.usb_model.specs.World.Journal.{Place, is_own}
+use Rattle.usb_model.specs.Setup.{Setup}
+use Rattle.usb_model.specs.Machine.Turns.{alone}
+use Rattle.usb_model.specs.World.Journal.{Place, entries, is_own, own, world_run}
+use Rattle.usb_model.specs.World.Plans.{expand, first_stage, is_submission, own_plan, own_rules}
 use Rattle.usb_model.specs.Laws.Cut.{times}
 use Rattle.usb_model.specs.Laws.Places.{calls, numbers_called}
 use Rattle.usb_state.specs.State.{State}
 use Rattle.usb_state.specs.Steps.{Turns}
 use Rattle.usb_purge.specs.declared.comparison.Comparison.{Comparison}
 use Rattle.usb_purge.specs.declared.plan_run.Performed.{Performed}
-use Rattle.usb_purge.specs.Driving.{Advances}
+use Rattle.usb_purge.specs.Driving.{Advances, TakesNext}
 use Rattle.usb_purge.specs.Laws.{uncut_numbers}
-use Rattle.usb_purge.specs.PlanRuns.{PlanState, Performs, entries_of}
+use Rattle.usb_purge.specs.PlanRuns.{PlanState, Performs, ShowsStage, entries_of}
 
 -- a step and its entry
 abbrev pub place_of : Step → Entry → Place
@@ -35,6 +38,19 @@ StepsAlone false step entry own own' told told' = (own' ≡ own) × (told'.share
 abbrev pub StepsBoth : {P : Type 0} → ℕ → Step → (core core' own own' : State P) → (told told' : Comparison) → Type 0
 StepsBoth h step core core' own own' told told' = (entry : Entry) × Turns core step entry core' × StepsAlone (is_own h (place_of step entry)) step entry own own' told told'
 
+-- two runs side by side: that of a plan, and that of a handle's own pieces; the callbacks that are left to each, and what was told of the handle by each
+pub record TwinState (P : Type 0) : Type 0 where
+  pub run : PlanState P
+  pub own : PlanState P
+  pub left : List P
+  pub its : List P
+  pub shared : List Entry
+  pub alone : List Entry
+
+-- there is a callback left to either
+abbrev pub AreLeft : {P : Type 0} → TwinState P → Type 0
+AreLeft v = (0 < length v.left) × (0 < length v.its)
+
 module _ {P : Type 0} (rule : P → Rule) where
   -- what a piece of a plan that is the handle's own, or isn't, does to the run of the handle alone, and to the entries that are told of both
   abbrev pub PerformsAlone : (is_own : Bool) → Plan → (callback : Option P) → List Entry → (own own' : PlanState P) → (shared shared' alone alone' : List Entry) → Type 0
@@ -46,6 +62,29 @@ module _ {P : Type 0} (rule : P → Rule) where
   PerformsBoth h piece callback its run run' own own' shared shared' alone alone' =
       (x : Performed P) × Performs rule run piece callback (entries_of x) run' × PerformsAlone (is_own_by h piece x.entry) piece its (entries_of x) own own' shared shared' alone alone'
 
+  -- so it is of two runs side by side; the callbacks that are left to them stay
+  pub record PerformsTwice (h : ℕ) (piece : Plan) (callback mine : Option P) (old new : TwinState P) : Type 0 where
+    pub both : PerformsBoth h piece callback mine old.run new.run old.own new.own old.shared new.shared old.alone new.alone
+    pub left : new.left ≡ old.left
+    pub its : new.its ≡ old.its
+
+  -- a piece was performed with the next callbacks of either, where it submits
+  pub record AdvancesBoth (h : ℕ) (piece : Plan) (old new : TwinState P) : Type 0 where
+    pub callback : Option P
+    pub mine : Option P
+    pub takes : TakesNext (is_submission piece) old.left new.left callback
+    pub takes_its : TakesNext (is_submission piece) old.its new.its mine
+    pub both : PerformsBoth h piece callback mine old.run new.run old.own new.own old.shared new.shared old.alone new.alone
+
+  -- no piece was performed, and nothing told: each run shows the first stage of its own devices, and has these callbacks
+  pub record Begins (setup other : Setup) (callbacks others : List P) (v : TwinState P) : Type 0 where
+    pub run : (rules : List Rule) → ShowsStage rule setup v.run (first_stage setup rules)
+    pub own : (rules : List Rule) → ShowsStage rule other v.own (first_stage other rules)
+    pub left : v.left ≡ callbacks
+    pub its : v.its ≡ others
+    pub shared : v.shared ≡ []
+    pub alone : v.alone ≡ []
+
 -- each callback stands among these entries at most once
 abbrev pub AreCalledOnce : List Entry → Type 0
 AreCalledOnce entries = (n : ℕ) → times n (numbers_called entries) ≤ 1
@@ -53,3 +92,15 @@ AreCalledOnce entries = (n : ℕ) → times n (numbers_called entries) ≤ 1
 -- those of one endpoint that were neither cancelled nor timed out are called in the order of their numbers
 abbrev pub AreCalledInOrder : List Entry → Type 0
 AreCalledInOrder entries = (ep : ℕ) → IsStrictlyIncreasing (uncut_numbers ep (calls entries))
+
+-- what is told of a plan under these rules: the handle's entries amid the others, of the steps that the plan stands for;
+-- what the handle's machine says alone over its own of these, and what a system of its own does;
+-- that is the run of what its own part of the plan stands for; both are the same, with each callback once at most and in order
+pub record TellsPlan (setup : Setup) (plan : List Plan) (rules : List Rule) (h : ℕ) (told : Comparison) : Type 0 where
+  pub shared : told.shared ≡ entries setup (expand setup plan rules) h
+  pub machine : told.alone ≡ alone setup (own setup (expand setup plan rules) h) h
+  pub runs : told.alone ≡ world_run setup (own setup (expand setup plan rules) h)
+  pub part : told.alone ≡ world_run setup (expand setup (own_plan setup plan rules h) (own_rules setup plan rules h))
+  pub same : told.shared ≡ told.alone
+  pub once : AreCalledOnce told.shared
+  pub order : AreCalledInOrder told.shared

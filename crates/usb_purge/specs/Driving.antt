@@ -7,7 +7,7 @@ use Rattle.usb_model.specs.declared.step.Step.{Step}
 use Rattle.usb_model.specs.declared.verdict.Rule.{Rule}
 use Rattle.usb_model.specs.declared.verdict.Rule.TheVariants.{Free}
 use Rattle.usb_model.specs.Setup.{Setup}
-use Rattle.usb_model.specs.World.Journal.{world_run}
+use Rattle.usb_model.specs.World.Journal.{IsBeginning, world_run}
 use Rattle.usb_model.specs.World.Plans.{Expands, expand}
 use Rattle.usb_core.specs.Running.{ObeysLaws}
 use Rattle.usb_purge.specs.Laws.{CallsAfterNumber, CallsInOrder, CallsOnce, SeesAlone}
@@ -39,9 +39,12 @@ pub record IsDriven (setup : Setup) (plan : List Plan) (rules : List Rule) (entr
   pub run : entries ≡ world_run setup steps
   pub laws : ObeysAll setup steps
 
--- those before a step that found no memory: of the first so many steps, as many as there are entries, and a step is left; or there are none
+-- those before a step that found no memory, of steps that the plan may stand for, and of the only ones where no rule is Free: a beginning of
+-- their run's, of the first so many steps, as many as there are entries, and a step is left; or there are none
 pub record IsDrivenTo (setup : Setup) (plan : List Plan) (rules : List Rule) (entries : List Entry) : Type 0 where
   pub steps : List Step
   pub may : Expands setup plan rules steps
+  pub only : AllByRecursion (λ rule. rule ≢ Free) rules → steps ≡ expand setup plan rules
+  pub begins : IsBeginning entries (world_run setup steps)
   pub run : entries ≡ world_run setup (take (length entries) steps)
   pub left : (entries ≡ []) ⊎ (length entries < length steps)

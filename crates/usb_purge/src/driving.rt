@@ -6,7 +6,7 @@ ghost use Rattle.std.specs.Vec.Iter.{into_iter_items};
 ghost use Rattle.usb_model.specs.World.Plans.{is_submission};
 ghost use Rattle.usb_state.specs.Making.{setup_of};
 ghost use Rattle.usb_purge.specs.Driving.{Advances, IsDriven, IsDrivenTo, TakesNext};
-ghost use Rattle.usb_purge.specs.PlanRuns.{is_verdict};
+ghost use Rattle.usb_purge.specs.PlanRuns.{entries_of, is_verdict};
 
 use crate::plan_run::{Performed, PlanRun};
 use std::alloc::{AllocError, Global};
@@ -38,7 +38,7 @@ pub(crate) fn next_callback<C>(piece: &Plan, left: &mut IntoIter<C>) -> Option<C
 }
 
 /// Puts an entry behind the others, where there is room for it. Takes no memory.
-pub(crate) fn put(entries: &mut Vec<Entry>, entry: Entry)
+fn put(entries: &mut Vec<Entry>, entry: Entry)
     requires { vec_len entries.old < vec_capacity entries.old }
     ensures items { entries.new.items ≡ entries.old.items ++ entry ∷ [] }
     ensures len { vec_len entries.new ≡ vec_len entries.old + 1 }
@@ -46,6 +46,19 @@ pub(crate) fn put(entries: &mut Vec<Entry>, entry: Entry)
 {
     // There is room, so that this can't fail.
     let _ = entries.push(entry);
+}
+
+/// Puts the entries of a piece behind the others, where there is room for both. Takes no memory.
+pub(crate) fn tell<C: Drop>(entries: &mut Vec<Entry>, performed: Performed<C>)
+    requires { vec_len entries.old + 2 ≤ vec_capacity entries.old }
+    ensures { entries.new.items ≡ entries.old.items ++ entries_of performed }
+{
+    let Performed { entry, stop, .. } = performed;
+    put(entries, entry);
+    let Some(stop) = stop else {
+        return;
+    };
+    put(entries, stop);
 }
 
 /// Performs one piece more: its entries stand behind the others. Where memory is refused the entries are as before.
@@ -61,11 +74,8 @@ pub(crate) fn advance<C: Callback, D: Device>(
     ensures kept { OnErr result (entries.new.items ≡ entries.old.items) }
 {
     entries.reserve(2)?;
-    let Performed { entry, stop, .. } = run.perform(piece, callback)?;
-    put(entries, entry);
-    if let Some(stop) = stop {
-        put(entries, stop);
-    }
+    let performed = run.perform(piece, callback)?;
+    tell(entries, performed);
     Ok(())
 }
 

@@ -10,7 +10,9 @@ pub mod laws;
 mod plan_run;
 mod reads;
 mod running;
+mod twins;
 
 pub use comparison::{Comparison, alone};
 pub use driving::drive;
 pub use plan_run::{Performed, PlanRun};
+pub use twins::drive_alone;

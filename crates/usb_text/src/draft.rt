@@ -7,13 +7,13 @@ ghost use Rattle.usb_text.specs.Reading.{Becomes, IsJudged};
 
 use crate::findings::Counts;
 use crate::scenario::Scenario;
+use crate::scripted::ScriptedDevice;
 use std::alloc::{AllocError, Global};
 use std::marker::Model;
 use std::mem;
+use usb_descriptors::Config;
 use usb_line::{Line, LineFault, Misplaced, Problem};
-use usb_model::{
-    Configuration, DeviceNo, DeviceSetup, EpAddr, Kind, Plan, Rule, Script, Sequence, Setup, Step,
-};
+use usb_model::{DeviceNo, EpAddr, Kind, Plan, Rule, Script, Sequence, Step};
 
 /// How many ids the endpoints of a device have: one for each number and direction.
 const ENDPOINT_IDS: u8 = 32;
@@ -21,7 +21,7 @@ const ENDPOINT_IDS: u8 = 32;
 /// The scenario that the lines so far say.
 #[derive(Drop)]
 pub(crate) struct Draft {
-    devices: Vec<DeviceSetup>,
+    devices: Vec<ScriptedDevice>,
     plan: Vec<Plan>,
     rules: Vec<Rule>,
 }
@@ -58,7 +58,7 @@ impl Draft {
             rules,
         } = self;
         Scenario {
-            setup: Setup::from_vec(devices),
+            setup: Sequence::from_vec(devices),
             plan: Sequence::from_vec(plan),
             rules: Sequence::from_vec(rules),
         }
@@ -136,7 +136,7 @@ impl Draft {
         &mut self,
         alloc: Global,
         number: DeviceNo,
-        config: Configuration,
+        config: Config,
     ) -> Result<(), LineFault>
         ensures { Becomes result (with_line self.old (Line.Device number config)) self.old self.new }
     {
@@ -148,7 +148,7 @@ impl Draft {
             return Err(LineFault::Bad(Problem::Place(turn)));
         }
         let scripts = empty_scripts(alloc, ENDPOINT_IDS)?;
-        self.devices.push(DeviceSetup { config, scripts })?;
+        self.devices.push(ScriptedDevice { config, scripts })?;
         Ok(())
     }
 
@@ -182,7 +182,7 @@ impl Draft {
 }
 
 /// How many scripts some devices have.
-fn scripts_of(devices: &[DeviceSetup]) -> Result<usize, AllocError>
+fn scripts_of(devices: &[ScriptedDevice]) -> Result<usize, AllocError>
     ensures { IfOk result (λ count. count ≡ scripts_of devices.now) }
 {
     let mut count: usize = 0;
@@ -219,10 +219,10 @@ fn empty_scripts(alloc: Global, count: u8) -> Result<Sequence<Script>, AllocErro
 }
 
 /// Whether a configuration has a bulk or interrupt endpoint of this address.
-fn takes_script(config: &Configuration, ep: EpAddr) -> bool
+fn takes_script(config: &Config, ep: EpAddr) -> bool
     ensures { result ≡ takes_script config.now ep }
 {
-    config.endpoints.as_slice().iter().any(|info| info.address == ep
+    config.endpoints().iter().any(|info| info.address == ep
         && matches!(info.kind, Kind::Bulk | Kind::Interrupt))
 }
 
@@ -235,7 +235,7 @@ fn is_free(scripts: &[Script], id: usize) -> bool
 
 /// Puts a script at an id where there is room.
 #[tactic(auto, using(crate::proofs::Places::free_place))]
-fn put_script(alloc: Global, device: &mut DeviceSetup, id: usize, answers: Script)
+fn put_script(alloc: Global, device: &mut ScriptedDevice, id: usize, answers: Script)
     requires { is_free id device.old.scripts ≡ true }
     ensures { device.new ≡ record device.old { scripts = slice_set device.old.scripts id answers } }
 {

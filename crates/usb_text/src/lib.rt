@@ -9,9 +9,11 @@ mod fault;
 mod findings;
 pub mod laws;
 mod scenario;
+mod scripted;
 
 pub use fault::TextFault;
 pub use findings::{Counts, Finding, Findings, check};
 pub use scenario::{Scenario, read_scenario};
+pub use scripted::{ScriptedDevice, into_setups};
 pub use usb_line::{Misplaced, Problem, Verb};
 pub use usb_words::Expected;

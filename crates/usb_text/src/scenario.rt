@@ -7,14 +7,15 @@ ghost use Rattle.usb_text.specs.Runnable.{IsRunnable};
 
 use crate::draft::Draft;
 use crate::fault::TextFault;
+use crate::scripted::ScriptedDevice;
 use std::alloc::Global;
-use usb_model::{Plan, Rule, Sequence, Setup};
+use usb_model::{Plan, Rule, Sequence};
 
 /// A scenario that was read.
 #[derive(Drop)]
 pub struct Scenario {
     /// The devices.
-    pub setup: Setup,
+    pub setup: Sequence<ScriptedDevice>,
     /// What is to be done.
     pub plan: Sequence<Plan>,
     /// The rule of each submission's callback, in order.

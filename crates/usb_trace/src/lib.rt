@@ -6,5 +6,6 @@
 #![tactic(auto)]
 
 mod program;
+mod ready;
 
 pub use program::trace;

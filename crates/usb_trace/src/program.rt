@@ -15,6 +15,7 @@ ghost use Rattle.usb_trace.specs.Program.{alone_text, run_text, status_of, Begin
 ghost use Rattle.usb_command.specs.declared.words.Task.{Task};
 ghost use Rattle.usb_command.specs.declared.words.Task.TheVariants.{Check};
 
+use crate::ready::Ready;
 use clap::Error;
 use clap::error::ErrorKind;
 use std::alloc::Global;
@@ -24,7 +25,7 @@ use usb_model::Name;
 use usb_plain::{drive, drive_alone};
 use usb_streams::print::{print, print_findings};
 use usb_streams::{Fault, read_whole};
-use usb_text::{Scenario, check, read_scenario};
+use usb_text::{check, read_scenario};
 
 /// The status of a run that ended early, and of a check that found bad lines.
 const FAILED: u8 = 1;
@@ -131,8 +132,14 @@ fn perform<R: Read, W: Write>(
 {
     let text = read_whole(alloc, input)?;
     match task {
-        Task::Run => run(alloc, &read_scenario(alloc, text.as_slice())?, out),
-        Task::Alone(h) => run_alone(alloc, &read_scenario(alloc, text.as_slice())?, h, out),
+        Task::Run => {
+            let scenario = read_scenario(alloc, text.as_slice())?;
+            run(alloc, &Ready::new(alloc, scenario)?, out)
+        }
+        Task::Alone(h) => {
+            let scenario = read_scenario(alloc, text.as_slice())?;
+            run_alone(alloc, &Ready::new(alloc, scenario)?, h, out)
+        }
         Task::Check => report(alloc, text.as_slice(), out),
     }
 }
@@ -152,7 +159,7 @@ fn report<W: Write>(alloc: Global, text: &[u8], out: &mut W) -> Result<Ending, F
 }
 
 /// Prints the entries of a scenario; where memory ran out, those before.
-fn run<W: Write>(alloc: Global, scenario: &Scenario, out: &mut W) -> Result<Ending, Fault>
+fn run<W: Write>(alloc: Global, scenario: &Ready, out: &mut W) -> Result<Ending, Fault>
     ensures lines { OnOk result (Appends (W.contents out.old) (W.contents out.new) (run_text scenario.now)) }
     ensures begun { AppendsSome (run_text scenario.now) (W.contents out.old) (W.contents out.new) }
     ensures good { IfOk result (λ ending. ending ≡ Ending.Good) }
@@ -165,7 +172,7 @@ fn run<W: Write>(alloc: Global, scenario: &Scenario, out: &mut W) -> Result<Endi
 }
 
 /// Prints the entries of a scenario as far as the run comes.
-fn print_run<W: Write>(alloc: Global, scenario: &Scenario, out: &mut W) -> Result<Reach, Fault>
+fn print_run<W: Write>(alloc: Global, scenario: &Ready, out: &mut W) -> Result<Reach, Fault>
     ensures lines { IfOk result (λ reach. PrintsTo reach scenario.now (W.contents out.old) (W.contents out.new)) }
     ensures begun { AppendsSome (run_text scenario.now) (W.contents out.old) (W.contents out.new) }
     ensures fault { IfErr result (λ fault. IsOfRun fault) }
@@ -186,7 +193,7 @@ fn print_run<W: Write>(alloc: Global, scenario: &Scenario, out: &mut W) -> Resul
 /// Prints the entries of a handle alone.
 fn run_alone<W: Write>(
     alloc: Global,
-    scenario: &Scenario,
+    scenario: &Ready,
     h: Name,
     out: &mut W,
 ) -> Result<Ending, Fault>

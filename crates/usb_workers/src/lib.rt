@@ -7,8 +7,10 @@ mod answering;
 mod controller;
 mod event;
 mod gate;
+mod moments;
 mod parking;
 
 pub use controller::controller_loop;
 pub use event::event_loop;
 pub use gate::{Gate, Open, Point};
+pub use moments::Moments;

@@ -52,7 +52,7 @@ abbrev HasHome : Machine → ℕ → Request → ℕ → Type 0
 HasHome m n request round = is_some (endpoint_at m request.ep) ≡ true
 
 -- of a transfer in its callback
-abbrev OfCallback : (ℕ → Request → ℕ → Type 0) → InCallback → Type 0
+abbrev pub OfCallback : (ℕ → Request → ℕ → Type 0) → InCallback → Type 0
 OfCallback P x = P x.n x.request x.round
 
 -- what holds of every machine
@@ -77,7 +77,7 @@ each_both P Q R [] f p q = tt
 each_both P Q R (x ∷ xs) f p q = (f x p.0 q.0, each_both P Q R xs f p.1 q.1)
 
 -- where no work is done, the transfers of an endpoint stay, or are gone
-rest_items : (P : Item → Type 0) (setup : Setup) (ep : ℕ) (m m' : Machine) (step : Step) → Rests setup ep m m' step → AllByRecursion P (line_at (endpoint_at m ep)) → AllByRecursion P (line_at (endpoint_at m' ep))
+pub rest_items : (P : Item → Type 0) (setup : Setup) (ep : ℕ) (m m' : Machine) (step : Step) → Rests setup ep m m' step → AllByRecursion P (line_at (endpoint_at m ep)) → AllByRecursion P (line_at (endpoint_at m' ep))
 rest_items P setup ep m m' step (inl s) a = subst (λ o. AllByRecursion P (line_at o)) (sym s.end) a
 rest_items P setup ep m m' step (inr r) a = new_items P setup ep (endpoint_at m' ep) r.end
 
@@ -86,7 +86,7 @@ part_same : {A : Type 0} (xs ys : List A) → xs ≡ ys → IsPart xs ys
 part_same xs ys e = subst (λ l. IsPart l ys) (sym e) (whole ys)
 
 -- and no result is made
-rest_part : (setup : Setup) (h : ℕ) (m : Machine) (step : Step) (done : Effect) → IsRest setup h m step done → IsPart (machine_after setup m step done).results m.results
+pub rest_part : (setup : Setup) (h : ℕ) (m : Machine) (step : Step) (done : Effect) → IsRest setup h m step done → IsPart (machine_after setup m step done).results m.results
 unfolding machine_after take_effect
 rest_part setup h m step done (stays bare t) = part_same _ m.results (ap (λ l. l ++ []) t.results ∙ append-nil m.results)
 rest_part setup h m step done (claims_again g i) = part_same _ m.results (append-nil m.results)
@@ -99,7 +99,7 @@ rest_part setup h m step done (resets g idle) = part_same _ m.results (append-ni
 rest_part setup h m step done (takes x xs is) = subst (λ l. IsPart (past_first true l ++ []) l) (sym is) (skips (part_same (xs ++ []) xs (append-nil xs)))
 
 -- a result that is taken goes into its callback as it is
-rest_callbacks : (P : ℕ → Request → ℕ → Type 0) (setup : Setup) (h : ℕ) (m : Machine) (step : Step) (done : Effect) → IsRest setup h m step done → AllByRecursion (OfResult P) m.results → AllByRecursion (OfCallback P) m.handle.in_callbacks → AllByRecursion (OfCallback P) done.handle.in_callbacks
+pub rest_callbacks : (P : ℕ → Request → ℕ → Type 0) (setup : Setup) (h : ℕ) (m : Machine) (step : Step) (done : Effect) → IsRest setup h m step done → AllByRecursion (OfResult P) m.results → AllByRecursion (OfCallback P) m.handle.in_callbacks → AllByRecursion (OfCallback P) done.handle.in_callbacks
 unfolding take_effect
 rest_callbacks P setup h m step done (stops g k x in_call) rs cs = each_without (OfCallback P) x.n m.handle.in_callbacks cs
 rest_callbacks P setup h m step done (takes x xs is) rs cs =

@@ -4,7 +4,7 @@ use super::model::is_line_of;
 use std::alloc::Global;
 use usb_model::{Entry, Name, Plan, Sequence, Setup, Step};
 use usb_plain::{alone, run};
-use usb_text::{Scenario, read_scenario};
+use usb_text::{Scenario, into_setups, read_scenario};
 
 /// Two handles with transfers at one device, which is unplugged. It has bulk endpoints of interface 0 and an interrupt
 /// endpoint of interface 1; endpoint 81 answers one packet.
@@ -86,7 +86,7 @@ fn unplugged(alloc: Global) -> Option<(Setup, Vec<Step>)> {
                 plan,
                 rules: _,
             },
-        ) => Some((setup, steps_of(alloc, plan))),
+        ) => Some((into_setups(alloc, setup).ok()?, steps_of(alloc, plan))),
         Err(_) => None,
     }
 }

@@ -2,9 +2,9 @@ use Rattle.std.proofs.Common.{◌≡◌, ◌∙◌, ◌+◌, ◌-◌, ◌<◌, �
 use Rattle.std.proofs.lemmas.List.{map-append, take-append-le}
 use Rattle.usb_model.specs.declared.step.Step.TheVariants.{Expire}
 use Rattle.usb_book.specs.declared.place.Place.{Place}
-use Rattle.usb_book.specs.Booked.{asked, Asked}
+use Rattle.usb_book.specs.Booked.{AreMoved, asked, Asked}
 use Rattle.usb_book.specs.Seen.{Receipted}
-use Rattle.usb_book.proofs.Receipts.{drop_push, receipts_one}
+use Rattle.usb_book.proofs.Receipts.{drop_push, moved_more, receipts_one}
 use Rattle.usb_book.proofs.Runs.{replays-push}
 use Rattle.usb_book.proofs.Expiring.{asks_next, expire_timers}
 use Rattle.usb_book.proofs.ticking.expire_all.Goals as goal
@@ -38,5 +38,6 @@ loop-timer-preserved g c =
       steps = rw e.journal (ap (map asked) (drop_push first log p counts) ∙ (map-append asked (drop first log) (p ∷ []) ∙ (ap (λ (l : List Asked). l ++ asked p ∷ []) i.steps ∙ asks_next c.args.caller c.args.moment c.args.due.now c.loop-timer.timer-index t at c.timer-item.is)));
       own = rw e.journal (e.mark.2 ∙ (ap (λ (r : Receipted). c.loop-timer.mark.own ++ r.entry ∷ []) e.receipt ∙ (ap (λ l. l ++ p ∷ []) i.own ∙ (append_assoc c.args.mark.now.own (drop first log) (p ∷ []) ∙ ap (λ l. c.args.mark.now.own ++ l) (sym (drop_push first log p counts))))));
       receipts = rw e.journal (c.push_reserved.ensures.items ∙ (ap (λ r. c.loop-timer.receipts.items ++ r ∷ []) e.receipt ∙ (ap (λ l. l ++ at_place (length log) ∷ []) i.receipts ∙ sym (receipts_one first log p counts))));
+      moved = subst (λ rs. AreMoved c.args.mark.now.mark rs c.enter_whole-receipt.new.mark.mark) (sym c.push_reserved.ensures.items) (moved_more c.args.mark.now.mark c.loop-timer.receipts.items c.loop-timer.mark.mark c.enter_whole-receipt.result c.enter_whole-receipt.new.mark.mark i.moved e.mark.0 e.mark.1);
       carries = λ kept has. c.expire-reply.ensures.carries kept (i.carries kept has);
     }

@@ -1,7 +1,7 @@
 use Rattle.std.proofs.Common.{◌≡◌, ◌+◌, ◌-◌, ◌++◌, take, drop, map, length, vec_len, vec_capacity}
 use Rattle.usb_model.specs.Setup.{Setup}
 use Rattle.usb_state.specs.Carrying.{StillCarries}
-use Rattle.usb_book.specs.Booked.{Replays, asked, asks}
+use Rattle.usb_book.specs.Booked.{AreMoved, Replays, asked, asks}
 use Rattle.usb_book.specs.Seen.{receipts_from}
 use Rattle.usb_book.specs.Timers.{expires, timers_of}
 use Rattle.usb_book.proofs.ticking.expire_all.Given as goal
@@ -17,5 +17,6 @@ invariant-loop-timer g l = record {
   steps : map asked (drop (length l.initial.log.journal) l.log.journal) ≡ asks l.fn.caller l.fn.moment (expires (take l.timer-index l.fn.due));
   own : l.mark.own ≡ l.initial.mark.own ++ drop (length l.initial.log.journal) l.log.journal;
   receipts : l.receipts.items ≡ receipts_from (length l.initial.log.journal) (drop (length l.initial.log.journal) l.log.journal);
+  moved : AreMoved l.initial.mark.mark l.receipts.items l.mark.mark;
   carries : StillCarries l.initial.core l.core;
 }

@@ -1,5 +1,4 @@
 -- One step by one core or by both.
-use Rattle.std.proofs.Common.{refl}
 use Rattle.usb_purge.proofs.Apart.{steps_one, steps_two}
 use Rattle.usb_purge.proofs.comparison.advance.Goals as goal
 

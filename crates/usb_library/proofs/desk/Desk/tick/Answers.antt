@@ -34,6 +34,7 @@ returns-clause-ticked g c = record {
   late = omega arith;
   each = rw (← c.self.invariant.0, ← c.caller.view_is) c.in_ok-receipts.ensures.steps;
   receipts = c.in_ok-receipts.ensures.receipts;
+  mark = rw (← c.caller.view_is) c.in_ok-receipts.ensures.mark;
   own = rw (← c.caller.view_is) c.in_ok-receipts.ensures.own;
   number = rw (← c.caller.view_is) refl;
 }

@@ -1,0 +1,57 @@
+//! What the scenes submit.
+
+ghost use Rattle.std.specs.Prelude.{◌≡◌};
+ghost use Rattle.usb_model.specs.declared.request.Body.TheVariants.{In};
+
+use anyhow::{Result, anyhow};
+use bitflags::Flags as _;
+use usb_model::{Body, DeviceNo, EpAddr, Flags, Kind, Name, Request};
+
+/// A handle, with what it reads from.
+#[derive(Clone, Copy)]
+pub struct Reader {
+    /// Its name.
+    pub h: Name,
+    /// Its device.
+    pub dev: DeviceNo,
+    /// Its interface.
+    pub i: u8,
+    /// The endpoint of that, for packets to the host.
+    pub ep: EpAddr,
+    /// The endpoint's kind.
+    pub kind: Kind,
+}
+
+impl Reader {
+    /// The handle of this number, with interface 0 or 1 of a device.
+    pub fn new(h: u8, dev: u8, i: u8) -> Result<Reader> {
+        let (Some(h), Some(dev)) = (Name::new(h), DeviceNo::new(dev)) else {
+            return Err(anyhow!("a name and a device"));
+        };
+        let (ep, kind) = match i {
+            0 => (0x81, Kind::Bulk),
+            _ => (0x83, Kind::Interrupt),
+        };
+        Ok(Reader {
+            h,
+            dev,
+            i,
+            ep: EpAddr::new(ep),
+            kind,
+        })
+    }
+
+    /// A read of so many bytes, with this timeout in milliseconds.
+    pub fn read(&self, bytes: u32, timeout: u32) -> Request
+        ensures endpoint { (result.ep ≡ self.now.ep) × (result.kind ≡ self.now.kind) }
+        ensures asked { (result.body ≡ In bytes) × (result.timeout ≡ timeout) }
+    {
+        Request {
+            ep: self.ep,
+            kind: self.kind,
+            flags: Flags::from_bits_retain(0),
+            timeout,
+            body: Body::In(bytes),
+        }
+    }
+}
