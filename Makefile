@@ -1,10 +1,10 @@
 # `make run` proves the program and shows the README's example; `make try` shows it unproved; `make test` is the gate;
-# `make fmt` lays all files out, which the gate asks for;
-# `make plant` makes definitions wrong, and says what refuses that (half an hour). `make bench` prints nanoseconds.
+# `make fmt` lays all files out, which the gate asks for; `make bench` prints nanoseconds;
+# `make wrong_bodies` tries those that the gate leaves out, `make plant` makes definitions wrong, and says what refuses that.
 
 SCENARIO = ../../examples/cancel_amid_transfer.txt
 
-.PHONY: run try test fmt bench plant
+.PHONY: run try test fmt bench wrong_bodies plant
 
 run:
 	@cd crates/usbtrace && rt run -- run < $(SCENARIO)
@@ -13,6 +13,7 @@ try:
 	@cd crates/usbtrace && rt try -- run < $(SCENARIO)
 
 test:
+	tools/wrong_bodies.py fit
 	RT_JOBS=$$(nproc) rt ci
 
 fmt:
@@ -20,6 +21,9 @@ fmt:
 
 bench:
 	@cd crates/usb_bench && rt run -- measure
+
+wrong_bodies:
+	tools/wrong_bodies.py try
 
 plant:
 	tools/plant_definitions.py

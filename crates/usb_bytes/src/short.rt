@@ -9,6 +9,7 @@ pub const SCENES: &[Scene] = &[
     ERRAND_BYTES,
     STALL_BESIDE_CANCEL,
     EVENT_RING_TURNS,
+    COMMAND_RING_TURNS,
 ];
 
 /// A handle opens the device, and claims its interface 0.
@@ -24,6 +25,16 @@ pub const SHORT_READ: &str = "submit 1 81 bulk 8: h1 number #\n\
     serve 0 81: h1 ended # code 13\n\
     deliver: h1 finished #\n\
     take: h1 called # ep 81 round 0 COMPLETED 1 data 00\n\
+    return 1 #: h1 done";
+
+/// A read of 8 bytes that is cancelled before any packet, from its submission to the end of its callback.
+const CANCELLED_READ: &str = "submit 1 81 bulk 8: h1 number #\n\
+    cancel 1 #: h1 done\n\
+    command: h1 ran stop 81 ok\n\
+    deliver: h1 settled stop 81 ok\n\
+    take: h1 called # ep 81 round 0 CANCELLED 0 data -\n\
+    command: h1 ran move 81 ok\n\
+    deliver: h1 settled move 81 ok\n\
     return 1 #: h1 done";
 
 /// 200 reads one after another. The ring has 127 places and a Link, so the read of number 127 stands at index 0 again, with
@@ -207,6 +218,43 @@ const EVENT_RING_TURNS: Scene = Scene {
             to: 1,
             lines: "event 903: 60350210 00000000 0700000d 00800301\n\
                 event 904: f0300210 00000000 0700000d 01800301",
+        },
+    ],
+};
+
+/// 128 reads that are cancelled before any packet: each takes two orders, so the last Move stands at index 0 again, with the
+/// other cycle, behind the Link at index 255. It leads to the end of a line that has turned as well.
+const COMMAND_RING_TURNS: Scene = Scene {
+    title: "128 cancels: the orders and the Link at which the command ring turns",
+    size: 8,
+    answers: &[],
+    blocks: &[
+        HOLD,
+        Block {
+            from: 0,
+            to: 127,
+            lines: CANCELLED_READ,
+        },
+        Block {
+            from: 0,
+            to: 1,
+            lines: "order 0: 00000000 00000000 00000000 013c0301\n\
+                order 1: 11300210 00000000 00000000 01400301\n\
+                order 254: 00000000 00000000 00000000 00000000\n\
+                order 255: 00000020 00000000 00000000 02180000",
+        },
+        Block {
+            from: 127,
+            to: 128,
+            lines: CANCELLED_READ,
+        },
+        Block {
+            from: 0,
+            to: 1,
+            lines: "order 254: 00000000 00000000 00000000 013c0301\n\
+                order 255: 00000020 00000000 00000000 03180000\n\
+                order 0: 10300210 00000000 00000000 00400301\n\
+                order 1: 11300210 00000000 00000000 01400301",
         },
     ],
 };

@@ -6,7 +6,5 @@
 
 mod caller;
 mod callers;
-#[cfg(test)]
-mod tests;
 
 pub use callers::Callers;

@@ -8,8 +8,6 @@
 mod ended;
 mod order;
 mod outstanding;
-#[cfg(test)]
-mod tests;
 
 pub use ended::{Mark, Settlement, settle};
 pub use order::{ask, next_order};

@@ -10,8 +10,6 @@ mod endpoint_table;
 mod held;
 mod open_table;
 mod owner_table;
-#[cfg(test)]
-mod tests;
 
 pub use claims::Claims;
 pub use held::HeldEndpoint;

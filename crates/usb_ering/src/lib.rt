@@ -7,8 +7,6 @@
 pub mod laws;
 mod made;
 mod ring;
-#[cfg(test)]
-mod tests;
 
 pub use made::{COMMAND_BASE, CommandRing, EVENT_BASE, EventRing};
 pub use ring::Ring;

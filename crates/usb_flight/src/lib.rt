@@ -9,8 +9,6 @@ mod flights;
 mod lanes;
 mod line;
 mod serving;
-#[cfg(test)]
-mod tests;
 
 pub use ending::{Ended, Ending};
 pub use flights::Flights;

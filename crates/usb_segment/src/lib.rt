@@ -5,8 +5,6 @@
 
 mod place;
 mod segment;
-#[cfg(test)]
-mod tests;
 
 pub use place::{cycle, index, place_after, place_before};
 pub use segment::Segment;

@@ -9,8 +9,6 @@ pub mod laws;
 mod refusal;
 mod store;
 mod tds;
-#[cfg(test)]
-mod tests;
 mod transfer;
 mod trbs;
 

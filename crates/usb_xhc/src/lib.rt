@@ -9,8 +9,6 @@ mod controller;
 mod making;
 mod renewing;
 mod slot;
-#[cfg(test)]
-mod tests;
 
 pub use controller::Controller;
 pub use slot::DeviceSlot;

@@ -1,0 +1,70 @@
+#!/usr/bin/env python3
+"""The wrong bodies that the gate doesn't try, for its time: tools/wrong_bodies/CRATE/NAME.edit, in the form of a crate's
+must-fail/NAME.edit.
+
+    tools/wrong_bodies.py fit             says which of them fit their files no more; seconds, and the gate asks it
+    tools/wrong_bodies.py try [CRATE ..]  has the prover refuse each, in a copy of the repository beside it: half a minute
+                                          each, and that of the crates below first, where they aren't built
+"""
+import pathlib
+import shutil
+import subprocess
+import sys
+import tempfile
+
+ROOT = pathlib.Path(__file__).resolve().parent.parent
+KEPT = ROOT / "tools" / "wrong_bodies"
+
+
+def misfit(edit, crate):
+    """Why an edit can't be applied to its crate: each old text has to stand once in its file, behind the pairs before it."""
+    path, old, texts, pairs = None, None, {}, 0
+    for line in edit.read_text().split("\n"):
+        if line.startswith("file: "):
+            path = ROOT / "crates" / crate / line[len("file: "):].strip()
+            if not path.is_file():
+                return f"there is no {path.relative_to(ROOT)}"
+        elif line.startswith("old: "):
+            old = line[len("old: "):]
+        elif line.startswith("new:"):
+            if path is None or old is None:
+                return "a new text without a file or an old one"
+            text = texts.setdefault(path, path.read_text())
+            if text.count(old) != 1:
+                return f"its old text stands {text.count(old)} times in {path.relative_to(ROOT)}"
+            texts[path], old, pairs = text.replace(old, line[len("new:"):].removeprefix(" ")), None, pairs + 1
+    return None if pairs else "it changes nothing"
+
+
+def fit():
+    edits = sorted(KEPT.glob("*/*.edit"))
+    misfits = [(it, why) for it in edits if (why := misfit(it, it.parent.name))]
+    for it, why in misfits:
+        print(f"{it.relative_to(ROOT)}: {why}")
+    print(f"{len(edits) - len(misfits)} wrong bodies beside the gate fit their files, {len(misfits)} don't")
+    return 1 if misfits else 0
+
+
+def try_all(crates):
+    wanted = crates or sorted(it.name for it in KEPT.iterdir() if it.is_dir())
+    with tempfile.TemporaryDirectory(prefix="wrong-bodies-") as room:
+        copy = pathlib.Path(room) / "copy"
+        shutil.copytree(ROOT, copy, ignore=shutil.ignore_patterns(".git"))
+        (copy / ".git").mkdir()
+        for crate in wanted:
+            into = copy / "crates" / crate / "must-fail"
+            shutil.rmtree(into, ignore_errors=True)
+            shutil.copytree(KEPT / crate, into)
+        return subprocess.run(["rt", "must-fail", *wanted], cwd=copy).returncode
+
+
+def main(words):
+    if words == ["fit"]:
+        return fit()
+    if words[:1] == ["try"]:
+        return try_all(words[1:])
+    print(__doc__)
+    return 2
+
+
+sys.exit(main(sys.argv[1:]))
