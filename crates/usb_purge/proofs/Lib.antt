@@ -16,7 +16,7 @@ mod NoneRuns
 mod Stages
 mod Homes
 mod Answering
-mod Reached
+pub mod Reached
 mod Apart
 mod ApartPlans
 mod BothRuns

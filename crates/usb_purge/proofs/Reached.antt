@@ -14,7 +14,7 @@ use Rattle.usb_model.specs.declared.verdict.Verdict.TheVariants as verdict
 use Rattle.usb_model.specs.Setup.{Setup}
 use Rattle.usb_model.specs.World.{World, new_world, turn, world_from}
 use Rattle.usb_model.specs.World.Journal.{IsBeginning, journal, journal_from, run_from, world_run}
-use Rattle.usb_model.specs.World.Plans.{Expands, ExpandsFrom, Stage, expand_from, first_stage, is_submission, needs_stop, return_steps, returning, rules_after, stage_after, steps_of, verdict_by}
+use Rattle.usb_model.specs.World.Plans.{Expands, ExpandsFrom, Stage, expand, expand_from, first_stage, is_submission, needs_stop, return_steps, returning, rules_after, stage_after, steps_of, verdict_by}
 use Rattle.usb_lemmas.proofs.Handles.Beginnings.{first_steps}
 use Rattle.usb_lemmas.proofs.Handles.Isolation.{sees_alone}
 use Rattle.usb_account.proofs.Bound.AskedEnds.{asked_ends}
@@ -26,7 +26,7 @@ use Rattle.usb_purge.specs.PlanRuns.{PlanState, entries_of, of_option, ShowsStag
 use Rattle.usb_purge.proofs.Calls.{calls_once}
 use Rattle.usb_purge.proofs.Given.{calls_after_number}
 use Rattle.usb_purge.proofs.Order.{calls_in_order}
-use Rattle.usb_purge.proofs.Plans.{expands_only, may_expand, may_expand_from}
+use Rattle.usb_purge.proofs.Plans.{AreFixed, expands_only, may_expand, may_expand_from}
 use Rattle.usb_purge.proofs.Taking.{Takes, has_one, takes}
 
 -- what holds of every run
@@ -162,6 +162,24 @@ module _ {P : Type 0} (rule : P → Rule) (setup : Setup) (plan : List Plan) (ru
     where
       may : Expands setup plan rules r.steps
       may = subst (Expands setup plan rules) (append-nil r.steps) (r.joins [] (subst (λ l. ExpandsFrom setup r.stage l []) (sym (drop_all i plan past)) refl))
+
+  -- where no rule is Free, its entries are those of the steps that it stands for
+  pub all_fixed : (v : PlanState P) (es : List Entry) (i : ℕ) (left : List P) → length plan ≤ i → Reached v es i left → AreFixed rules → es ≡ world_run setup (expand setup plan rules)
+  all_fixed v es i left past r fixed = let driven = all v es i left past r in driven.run ∙ ap (world_run setup) (driven.only fixed)
+
+  -- and before its end they are a beginning of these
+  pub begins_fixed : (v : PlanState P) (es : List Entry) (i : ℕ) (left : List P) → Reached v es i left → AreFixed rules → IsBeginning es (world_run setup (expand setup plan rules))
+  unfolding journal
+  begins_fixed v es i left r fixed = subst (λ l. IsBeginning es (world_run setup l)) (expands_only setup plan rules fixed (r.steps ++ more) may) begun
+    where
+      more : List Step
+      more = expand_from setup r.stage (drop i plan)
+
+      may : Expands setup plan rules (r.steps ++ more)
+      may = r.joins more (may_expand_from setup r.stage (drop i plan))
+
+      begun : IsBeginning es (world_run setup (r.steps ++ more))
+      begun = (run_from setup (world_from setup (new_world setup) r.steps) more, run_append setup (new_world setup) r.steps more ∙ sym (ap (λ l. l ++ run_from setup (world_from setup (new_world setup) r.steps) more) r.run))
 
   -- no memory was found at a piece
   pub stopped : (v : PlanState P) (es : List Entry) (i : ℕ) (left : List P) (piece : Plan) → i < length plan → piece ≡ slice_index_or plan i piece → Reached v es i left → IsDrivenTo setup plan rules es

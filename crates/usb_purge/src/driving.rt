@@ -27,7 +27,7 @@ fn is_submission(piece: &Plan) -> bool
 }
 
 /// The callback that a piece takes: the next one, where it submits.
-pub(crate) fn next_callback<C>(piece: &Plan, left: &mut IntoIter<C>) -> Option<C>
+pub fn next_callback<C>(piece: &Plan, left: &mut IntoIter<C>) -> Option<C>
     ensures { TakesNext (is_submission piece.now) (into_iter_items left.old) (into_iter_items left.new) result }
 {
     if is_submission(piece) {

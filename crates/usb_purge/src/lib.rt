@@ -13,6 +13,6 @@ mod running;
 mod twins;
 
 pub use comparison::{Comparison, alone};
-pub use driving::drive;
+pub use driving::{drive, next_callback};
 pub use plan_run::{Performed, PlanRun};
 pub use twins::drive_alone;

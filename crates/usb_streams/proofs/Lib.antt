@@ -1,3 +1,3 @@
 pub mod Findings
 pub mod Beginnings
-pub mod Lines
+pub mod Printed

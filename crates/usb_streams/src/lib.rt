@@ -5,10 +5,12 @@
 #![tactic(auto)]
 
 mod fault;
+mod lines;
 pub mod print;
 mod read;
 mod write;
 
 pub use fault::Fault;
+pub use lines::Lines;
 pub use read::read_whole;
 pub use write::write_bytes;

@@ -1,20 +1,18 @@
 //! Printed lines.
 
-ghost use Rattle.std.specs.Prelude.{◌≡◌, ◌++◌, ℕ, List, map, IfErr, OnErr, OnOk};
+ghost use Rattle.std.specs.Prelude.{ℕ, List, map, IfErr, OnErr, OnOk};
 ghost use Rattle.std.specs.Io.KnownBytes.{Appends};
 ghost use Rattle.usb_model.specs.Text.{lines_text};
 ghost use Rattle.usb_streams.specs.Faults.{IsOfRun};
-ghost use Rattle.usb_streams.specs.Printing.{finding_text, counts_line, line_text, AppendsAllBut, AppendsFindings, AppendsReport, AppendsSome, AppendsSomeFindings, AppendsSomeReport};
+ghost use Rattle.usb_streams.specs.Printing.{finding_text, counts_line, AppendsFindings, AppendsReport, AppendsSome, AppendsSomeFindings, AppendsSomeReport};
 
 use crate::fault::Fault;
+use crate::lines::Lines;
 use crate::write::write_bytes;
-use std::alloc::{AllocError, Global};
+use std::alloc::Global;
 use std::io::Write;
 use usb_model::Entry;
 use usb_text::{Counts, Finding, Findings};
-
-/// How many bytes of lines are gathered before they are written.
-const CHUNK: usize = 16_384;
 
 /// Prints the entries, one line each and many lines a write. Where that fails, a beginning of their text is printed.
 pub fn print<W: Write>(alloc: Global, out: &mut W, entries: &[Entry]) -> Result<(), Fault>
@@ -22,43 +20,11 @@ pub fn print<W: Write>(alloc: Global, out: &mut W, entries: &[Entry]) -> Result<
     ensures begun { AppendsSome (lines_text entries.now) (W.contents out.old) (W.contents out.new) }
     ensures fault { IfErr result (λ fault. IsOfRun fault) }
 {
-    let mut lines = Vec::new(alloc);
+    let mut lines = Lines::new(alloc);
     for entry in entries {
-        print_line(alloc, out, &mut lines, entry)?;
+        lines.put(out, entry)?;
     }
-    write_bytes(out, lines.as_slice())?;
-    out.flush()?;
-    Ok(())
-}
-
-/// Gathers the line of an entry behind these. Where they are many, or no memory is had for one more, they are written
-/// first.
-fn print_line<W: Write>(
-    alloc: Global,
-    out: &mut W,
-    lines: &mut Vec<u8>,
-    entry: &Entry,
-) -> Result<(), Fault>
-    ensures line { OnOk result (AppendsAllBut (lines.old.items ++ line_text entry.now) lines.new.items (W.contents out.old) (W.contents out.new)) }
-    ensures begun { OnErr result (AppendsSome (lines.old.items ++ line_text entry.now) (W.contents out.old) (W.contents out.new)) }
-    ensures fault { IfErr result (λ fault. IsOfRun fault) }
-{
-    if lines.len() < CHUNK && gather(alloc, lines, entry).is_ok() {
-        return Ok(());
-    }
-    write_bytes(out, lines.as_slice())?;
-    lines.clear();
-    gather(alloc, lines, entry)?;
-    Ok(())
-}
-
-/// Puts the line of an entry behind these.
-fn gather(alloc: Global, lines: &mut Vec<u8>, entry: &Entry) -> Result<(), AllocError>
-    ensures line { OnOk result (lines.new.items ≡ lines.old.items ++ line_text entry.now) }
-    ensures kept { OnErr result (lines.new.items ≡ lines.old.items) }
-{
-    let line = format!(in alloc; "{entry}\n")?;
-    lines.extend_from_slice(line.as_bytes())
+    lines.end(out)
 }
 
 /// Prints what a check found: a line for each bad line, and then the counts. Where that fails, a beginning of it is

@@ -5,4 +5,4 @@ use Rattle.usb_streams.specs.Printing.{AppendsAllBut}
 use Rattle.usb_streams.proofs.print.print.Given as goal
 
 abbrev pub invariant-loop-entry : goal.invariant-loop-entry
-invariant-loop-entry g l = AppendsAllBut (lines_text (take l.entry-index l.entries)) l.lines.items (g.W.Write.contents l.initial.out) (g.W.Write.contents l.out)
+invariant-loop-entry g l = AppendsAllBut (lines_text (take l.entry-index l.entries)) l.lines (g.W.Write.contents l.initial.out) (g.W.Write.contents l.out)

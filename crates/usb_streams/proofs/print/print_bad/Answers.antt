@@ -1,5 +1,5 @@
 use Rattle.usb_streams.proofs.Findings.{finding_begun, one_more}
-use Rattle.usb_streams.proofs.Lines.{on_error}
+use Rattle.usb_streams.proofs.Printed.{on_error}
 use Rattle.usb_streams.proofs.print.print_bad.Goals as goal
 
 pub loop-finding-preserved : goal.loop-finding-preserved

@@ -1,6 +1,6 @@
 -- The lines of a beginning of the entries, or a beginning of these lines.
 use Rattle.usb_model.specs.World.Journal.{world_run}
-use Rattle.usb_streams.proofs.Lines.{lines_begun}
+use Rattle.usb_streams.proofs.Printed.{lines_begun}
 use Rattle.usb_trace.specs.Program.{steps_of}
 use Rattle.usb_trace.proofs.program.print_run.Goals as goal
 
