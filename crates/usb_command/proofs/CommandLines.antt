@@ -17,7 +17,8 @@ use Rattle.clap.specs.declared.parser.matches.Found.{Found}
 use Rattle.clap.proofs.OnLiterals.{clap_on_literals}
 use Rattle.clap.proofs.WalkLemmas.{one_text-rows}
 use Rattle.usb_command.specs.CommandLine.{grammar, handle_in, task_named, task_of}
-use Rattle.usb_command.specs.declared.words.Task.TheVariants.{Alone, Check, Run}
+use Rattle.usb_command.specs.declared.words.Task.{Task}
+use Rattle.usb_command.specs.declared.words.Task.TheVariants.{Alone, Run}
 
 -- a number that a getter reads is the number that the text says
 pub number_read : (t : List ℕ) (n : ℕ) (r : Option ℕ)
@@ -91,41 +92,51 @@ has_subcommand_without_fault words e =
     level_wanted (built grammar).top (names_of (built grammar)) nothing_held (argument_words grammar words)
     (is_some (entered (built grammar) stop)) (entered_fault (built grammar) stop) refl refl e
 
--- of three shapes the one that is found is one of them
-found : (test : Shape → Bool) (x y z s : Shape) → find test (x ∷ y ∷ z ∷ []) ≡ Some s → (s ≡ x) ⊎ ((s ≡ y) ⊎ (s ≡ z))
-found test x y z s e = by_first (test x) refl
+-- of four shapes the one that is found is one of them
+found : (test : Shape → Bool) (x y z u s : Shape) → find test (x ∷ y ∷ z ∷ u ∷ []) ≡ Some s → (s ≡ x) ⊎ ((s ≡ y) ⊎ ((s ≡ z) ⊎ (s ≡ u)))
+found test x y z u s e = by_first (test x) refl
   where
-    by_third : (t : Bool) → test x ≡ false → test y ≡ false → test z ≡ t → (s ≡ x) ⊎ ((s ≡ y) ⊎ (s ≡ z))
-    by_third true first second t = let got : Some z ≡ Some s = rw (first, second, t) at e in inr (inr (grind rules))
-    by_third false first second t = let got : None ≡ Some s = rw (first, second, t) at e in cc
+    by_fourth : (t : Bool) → test x ≡ false → test y ≡ false → test z ≡ false → test u ≡ t → (s ≡ x) ⊎ ((s ≡ y) ⊎ ((s ≡ z) ⊎ (s ≡ u)))
+    by_fourth true first second third t = let got : Some u ≡ Some s = rw (first, second, third, t) at e in inr (inr (inr (grind rules)))
+    by_fourth false first second third t = let got : None ≡ Some s = rw (first, second, third, t) at e in cc
 
-    by_second : (t : Bool) → test x ≡ false → test y ≡ t → (s ≡ x) ⊎ ((s ≡ y) ⊎ (s ≡ z))
+    by_third : (t : Bool) → test x ≡ false → test y ≡ false → test z ≡ t → (s ≡ x) ⊎ ((s ≡ y) ⊎ ((s ≡ z) ⊎ (s ≡ u)))
+    by_third true first second t = let got : Some z ≡ Some s = rw (first, second, t) at e in inr (inr (inl (grind rules)))
+    by_third false first second t = by_fourth (test u) first second t refl
+
+    by_second : (t : Bool) → test x ≡ false → test y ≡ t → (s ≡ x) ⊎ ((s ≡ y) ⊎ ((s ≡ z) ⊎ (s ≡ u)))
     by_second true other t = let got : Some y ≡ Some s = rw (other, t) at e in inr (inl (grind rules))
     by_second false other t = by_third (test z) other t refl
 
-    by_first : (t : Bool) → test x ≡ t → (s ≡ x) ⊎ ((s ≡ y) ⊎ (s ≡ z))
+    by_first : (t : Bool) → test x ≡ t → (s ≡ x) ⊎ ((s ≡ y) ⊎ ((s ≡ z) ⊎ (s ≡ u)))
     by_first true t = let got : Some x ≡ Some s = rw t at e in inl (grind rules)
     by_first false t = by_second (test y) t refl
 
--- the subcommand that words name is one of the three
-pub one_of_three : (words : List Text) (named : Text × List Row) → subcommand_of grammar words ≡ Some named
-    → (named.0 ≡ codes "run") ⊎ ((named.0 ≡ codes "alone") ⊎ (named.0 ≡ codes "check"))
-one_of_three words named e = by_stop (walk (built grammar).top.rules (names_of (built grammar)) nothing_held (argument_words grammar words)).stopped e
+-- a subcommand's name is one of the four
+abbrev pub IsOneOfFour : Text → Type 0
+IsOneOfFour name = (name ≡ codes "run") ⊎ ((name ≡ codes "alone") ⊎ ((name ≡ codes "check") ⊎ (name ≡ codes "draw")))
+
+-- the subcommand that words name is one of them
+pub one_of_four : (words : List Text) (named : Text × List Row) → subcommand_of grammar words ≡ Some named → IsOneOfFour named.0
+one_of_four words named e = by_stop (walk (built grammar).top.rules (names_of (built grammar)) nothing_held (argument_words grammar words)).stopped e
   where
     by_found : (p : Text × List Text) (o : Option Shape) → find (λ s. answers_to p.0 (label_of s)) (built grammar).subs ≡ o
-        → option_map (λ s. rows_at s p.1) o ≡ Some named → (named.0 ≡ codes "run") ⊎ ((named.0 ≡ codes "alone") ⊎ (named.0 ≡ codes "check"))
+        → option_map (λ s. rows_at s p.1) o ≡ Some named → IsOneOfFour named.0
     by_found p None at same = cc
     by_found p (Some s) at same =
         let name : s.name ≡ named.0 = ap (λ (o : Option (Text × List Row)). unwrap_or (option_map (λ n. n.0) o) []) same in
-        elim (found (λ s. answers_to p.0 (label_of s)) (slice_index_or (built grammar).subs 0 s) (slice_index_or (built grammar).subs 1 s) (slice_index_or (built grammar).subs 2 s) s at) [
+        elim (found (λ s. answers_to p.0 (label_of s)) (slice_index_or (built grammar).subs 0 s) (slice_index_or (built grammar).subs 1 s) (slice_index_or (built grammar).subs 2 s) (slice_index_or (built grammar).subs 3 s) s at) [
           | inl first ↦ inl (sym name ∙ ap (λ (t : Shape). t.name) first)
           | inr others ↦ elim others [
             | inl second ↦ inr (inl (sym name ∙ ap (λ (t : Shape). t.name) second))
-            | inr third ↦ inr (inr (sym name ∙ ap (λ (t : Shape). t.name) third))
+            | inr more ↦ elim more [
+              | inl third ↦ inr (inr (inl (sym name ∙ ap (λ (t : Shape). t.name) third)))
+              | inr fourth ↦ inr (inr (inr (sym name ∙ ap (λ (t : Shape). t.name) fourth)))
+            ]
           ]
         ]
 
-    by_stop : (o : Option (Text × List Text)) → entered (built grammar) o ≡ Some named → (named.0 ≡ codes "run") ⊎ ((named.0 ≡ codes "alone") ⊎ (named.0 ≡ codes "check"))
+    by_stop : (o : Option (Text × List Text)) → entered (built grammar) o ≡ Some named → IsOneOfFour named.0
     by_stop None same = cc
     by_stop (Some p) same = by_found p (find (λ s. answers_to p.0 (label_of s)) (built grammar).subs) refl same
 
@@ -150,35 +161,38 @@ asks_for_alone words m rows h same name behind number = by_rows (subcommand_rows
         let its_rows : named.1 ≡ rows = ap (λ o. unwrap_or o []) (ap (option_map (λ n. n.1)) (sym at) ∙ behind) in
         ap task_of (sym same ∙ at) ∙ ap₂ task_named is_name its_rows ∙ ap (option_map Alone) number
 
--- words whose subcommand is `check` ask for a check
-pub asks_for_check : (words : List Text) (m : ArgMatches)
-    → subcommand_rows_of m ≡ subcommand_of grammar words → subcommand_name_of m ≡ Some (codes "check")
-    → task_of (subcommand_of grammar words) ≡ Some Check
-asks_for_check words m same name = by_rows (subcommand_rows_of m) refl
+-- words whose subcommand has this name ask for the task that the name alone says
+pub asks_for : (name : Text) (task : Task) → ((rows : List Row) → task_named name rows ≡ Some task) → (words : List Text) (m : ArgMatches)
+    → subcommand_rows_of m ≡ subcommand_of grammar words → subcommand_name_of m ≡ Some name
+    → task_of (subcommand_of grammar words) ≡ Some task
+asks_for name task says words m same is_name = by_rows (subcommand_rows_of m) refl
   where
-    by_rows : (o : Option (Text × List Row)) → subcommand_rows_of m ≡ o → task_of (subcommand_of grammar words) ≡ Some Check
+    by_rows : (o : Option (Text × List Row)) → subcommand_rows_of m ≡ o → task_of (subcommand_of grammar words) ≡ Some task
     by_rows None at =
-        let none : None ≡ Some (codes "check") = ap (option_map (λ n. n.0)) (sym at) ∙ name_of_rows (out-ArgMatches m).subcommand ∙ name in cc
+        let none : None ≡ Some name = ap (option_map (λ n. n.0)) (sym at) ∙ name_of_rows (out-ArgMatches m).subcommand ∙ is_name in cc
     by_rows (Some named) at =
-        let its_name : Some named.0 ≡ Some (codes "check") = ap (option_map (λ n. n.0)) (sym at) ∙ name_of_rows (out-ArgMatches m).subcommand ∙ name in
-        let is_name : named.0 ≡ codes "check" = ap (λ o. unwrap_or o []) its_name in
-        ap task_of (sym same ∙ at) ∙ ap (λ (name : Text). task_named name named.1) is_name
+        let its_name : Some named.0 ≡ Some name = ap (option_map (λ n. n.0)) (sym at) ∙ name_of_rows (out-ArgMatches m).subcommand ∙ is_name in
+        let its : named.0 ≡ name = ap (λ o. unwrap_or o []) its_name in
+        ap task_of (sym same ∙ at) ∙ (ap (λ (n : Text). task_named n named.1) its ∙ says named.1)
 
--- words without fault whose subcommand is neither `alone` nor `check` ask for a run
+-- words without fault whose subcommand is none of the others ask for a run
 pub asks_for_run : (words : List Text) (m : ArgMatches) → subcommand_rows_of m ≡ subcommand_of grammar words
-    → (subcommand_name_of m ≡ Some (codes "alone") → ⊥) → (subcommand_name_of m ≡ Some (codes "check") → ⊥) → fault_of grammar words ≡ []
-    → task_of (subcommand_of grammar words) ≡ Some Run
-asks_for_run words m same other third clear = by_rows (subcommand_of grammar words) refl (has_subcommand_without_fault words clear)
+    → (subcommand_name_of m ≡ Some (codes "alone") → ⊥) → (subcommand_name_of m ≡ Some (codes "check") → ⊥) → (subcommand_name_of m ≡ Some (codes "draw") → ⊥)
+    → fault_of grammar words ≡ [] → task_of (subcommand_of grammar words) ≡ Some Run
+asks_for_run words m same other third fourth clear = by_rows (subcommand_of grammar words) refl (has_subcommand_without_fault words clear)
   where
     name_is : (named : Text × List Row) (name : Text) → subcommand_of grammar words ≡ Some named → named.0 ≡ name → subcommand_name_of m ≡ Some name
     name_is named name at is = sym (name_of_rows (out-ArgMatches m).subcommand) ∙ ap (option_map (λ n. n.0)) (same ∙ at) ∙ ap Some is
 
     by_rows : (o : Option (Text × List Row)) → subcommand_of grammar words ≡ o → is_some o ≡ true → task_of (subcommand_of grammar words) ≡ Some Run
     by_rows None at some = cc
-    by_rows (Some named) at some = elim (one_of_three words named at) [
+    by_rows (Some named) at some = elim (one_of_four words named at) [
       | inl run ↦ ap task_of at ∙ ap (λ (name : Text). task_named name named.1) run
       | inr others ↦ elim others [
         | inl alone ↦ absurd (other (name_is named (codes "alone") at alone))
-        | inr check ↦ absurd (third (name_is named (codes "check") at check))
+        | inr more ↦ elim more [
+          | inl check ↦ absurd (third (name_is named (codes "check") at check))
+          | inr draw ↦ absurd (fourth (name_is named (codes "draw") at draw))
+        ]
       ]
     ]

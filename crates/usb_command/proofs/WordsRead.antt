@@ -10,7 +10,7 @@ use Rattle.clap.specs.declared.error.kind.ErrorKind.TheVariants as kind
 use Rattle.clap.proofs.OnLiterals.{clap_on_literals}
 use Rattle.usb_command.specs.CommandLine.{AreBad, AskFor, AskForHelp, grammar, task_of}
 use Rattle.usb_command.specs.declared.words.Task.{Task}
-use Rattle.usb_command.specs.declared.words.Task.TheVariants.{Run, Alone, Check}
+use Rattle.usb_command.specs.declared.words.Task.TheVariants.{Run, Alone, Check, Draw}
 
 pub run_asks : (name : Text) → AskFor (name ∷ codes "run" ∷ []) Run
 unfolding clap_on_literals
@@ -19,6 +19,10 @@ run_asks name = (refl, refl)
 pub check_asks : (name : Text) → AskFor (name ∷ codes "check" ∷ []) Check
 unfolding clap_on_literals
 check_asks name = (refl, refl)
+
+pub draw_asks : (name : Text) → AskFor (name ∷ codes "draw" ∷ []) Draw
+unfolding clap_on_literals
+draw_asks name = (refl, refl)
 
 pub check_of_a_file_is_bad : (name : Text) → AreBad (name ∷ codes "check" ∷ codes "1" ∷ [])
 unfolding clap_on_literals
@@ -72,12 +76,14 @@ abbrev is_alone : ℕ → Option Task → Bool
 is_alone h (Some (Alone k)) = nat_eq k h
 is_alone h (Some Run) = false
 is_alone h (Some Check) = false
+is_alone h (Some Draw) = false
 is_alone h None = false
 
 is_alone_says : (h : ℕ) (task : Option Task) → is_alone h task ≡ true → task ≡ Some (Alone h)
 is_alone_says h (Some (Alone k)) e = ap (λ (n : ℕ). Some (Alone n)) (eqb-true k h e)
 is_alone_says h (Some Run) e = let bad : false ≡ true = e in cc
 is_alone_says h (Some Check) e = let bad : false ≡ true = e in cc
+is_alone_says h (Some Draw) e = let bad : false ≡ true = e in cc
 is_alone_says h None e = let bad : false ≡ true = e in cc
 
 is_empty_says : (kinds : Kinds) → is_empty kinds ≡ true → kinds ≡ []

@@ -12,7 +12,7 @@ use Rattle.clap.specs.declared.error.kind.ErrorKind.{ErrorKind}
 use Rattle.clap.specs.declared.error.kind.ErrorKind.TheVariants.{DisplayHelp}
 use Rattle.usb_words.specs.Number.{last_handle}
 use Rattle.usb_command.specs.declared.words.Task.{Task}
-use Rattle.usb_command.specs.declared.words.Task.TheVariants.{Run, Alone, Check}
+use Rattle.usb_command.specs.declared.words.Task.TheVariants.{Run, Alone, Check, Draw}
 
 -- the word H: a whole number from 0 to the last name, which has to be there
 abbrev pub handle_word : Rule
@@ -30,7 +30,11 @@ alone_words = record (new_shape (codes "alone")) { rules = handle_word ∷ [] }
 abbrev pub check_words : Shape
 check_words = new_shape (codes "check")
 
--- usbtrace, and then one of the three; there is no subcommand for help
+-- draw
+abbrev pub draw_words : Shape
+draw_words = new_shape (codes "draw")
+
+-- usbtrace, and then one of the four; there is no subcommand for help
 abbrev pub first_words : Shape
 first_words = record (new_shape (codes "usbtrace")) { is_leaf = false; disable_help_subcommand = true; subcommand_required = true }
 
@@ -40,7 +44,7 @@ program_alone = record { top = record first_words { is_leaf = true }; subs = [] 
 
 -- the command line
 abbrev pub grammar : App
-grammar = record { top = first_words; subs = run_words ∷ alone_words ∷ check_words ∷ [] }
+grammar = record { top = first_words; subs = run_words ∷ alone_words ∷ check_words ∷ draw_words ∷ [] }
 
 -- the number of the handle, as its word says it
 abbrev pub handle_in : List Row → Option ℕ
@@ -51,7 +55,8 @@ abbrev pub task_named : Text → List Row → Option Task
 task_named name rows =
     if bytes_eq name (codes "alone") then option_map Alone (handle_in rows)
     else (if bytes_eq name (codes "check") then Some Check
-    else (if bytes_eq name (codes "run") then Some Run else None))
+    else (if bytes_eq name (codes "draw") then Some Draw
+    else (if bytes_eq name (codes "run") then Some Run else None)))
 
 -- the task of the subcommand that the words name
 abbrev pub task_of : Option (Text × List Row) → Option Task

@@ -50,3 +50,10 @@ pub(crate) const CHECK: &str = help_text!(
     "where each line is taken",
     "where one isn't, memory is wanting or a stream fails"
 );
+
+/// The help of `draw`.
+pub(crate) const DRAW: &str = help_text!(
+    "draw > run.svg",
+    "where the whole run is drawn",
+    "where a line is bad, memory is wanting or a stream fails"
+);

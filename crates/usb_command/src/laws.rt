@@ -3,17 +3,18 @@
 ghost use Rattle.std.specs.Prelude.{◌<◌, ◌∷◌, [], ℕ, List, codes};
 ghost use Rattle.std.specs.Fmt.{decimal};
 ghost use Rattle.usb_command.specs.CommandLine.{AreBad, AskFor, AskForHelp};
-ghost use Rattle.usb_command.specs.declared.words.Task.TheVariants.{Run, Alone, Check};
+ghost use Rattle.usb_command.specs.declared.words.Task.TheVariants.{Run, Alone, Check, Draw};
 
 /// Whatever name the program is called by: `run` asks for a run, `alone H` for each of the 64 handles alone, a plus sign
-/// or leading zeros before its number included, `check` for a check, and `-h` for help. No words, a second word after
-/// `run` or `check`, no handle or the handle 64 after `alone`, and `help` are bad.
+/// or leading zeros before its number included, `check` for a check, `draw` for a picture, and `-h` for help. No words, a second word
+/// after `run` or `check`, no handle or the handle 64 after `alone`, and `help` are bad.
 pub fn words()
     ensures run { (name : List ℕ) → AskFor (name ∷ codes "run" ∷ []) Run }
     ensures alone { (name : List ℕ) (h : ℕ) → h < 64 → AskFor (name ∷ codes "alone" ∷ decimal h ∷ []) (Alone h) }
     ensures plus_sign { (name : List ℕ) → AskFor (name ∷ codes "alone" ∷ codes "+5" ∷ []) (Alone 5) }
     ensures leading_zeros { (name : List ℕ) → AskFor (name ∷ codes "alone" ∷ codes "007" ∷ []) (Alone 7) }
     ensures check { (name : List ℕ) → AskFor (name ∷ codes "check" ∷ []) Check }
+    ensures draw { (name : List ℕ) → AskFor (name ∷ codes "draw" ∷ []) Draw }
     ensures help { (name : List ℕ) → AskForHelp (name ∷ codes "-h" ∷ []) }
     ensures no_words { (name : List ℕ) → AreBad (name ∷ []) }
     ensures too_many { (name : List ℕ) → AreBad (name ∷ codes "run" ∷ codes "1" ∷ []) }

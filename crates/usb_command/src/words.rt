@@ -7,7 +7,7 @@ ghost use Rattle.clap.specs.Matches.{found_of};
 ghost use Rattle.clap.specs.Simple.{app_of, shape_of};
 ghost use Rattle.clap.specs.declared.builder.command.Command.TheViews.{out-Command as fields_of};
 ghost use Rattle.clap.specs.Walk.{rows_of, rule_of};
-ghost use Rattle.usb_command.specs.CommandLine.{AskFor, alone_words, check_words, grammar, handle_in, handle_word, program_alone, run_words};
+ghost use Rattle.usb_command.specs.CommandLine.{AskFor, alone_words, check_words, draw_words, grammar, handle_in, handle_word, program_alone, run_words};
 ghost use Rattle.usb_words.specs.Words.{words_of};
 
 use crate::help;
@@ -25,6 +25,8 @@ pub enum Task {
     Alone(Name),
     /// Print what is wrong with the scenario.
     Check,
+    /// Draw the run of the scenario.
+    Draw,
 }
 
 /// The last name of a handle.
@@ -42,6 +44,9 @@ pub fn read_words(alloc: Global, words: &[&str]) -> Result<Task, Error>
     if matches.subcommand_matches("check").is_some() {
         return Ok(Task::Check);
     }
+    if matches.subcommand_matches("draw").is_some() {
+        return Ok(Task::Draw);
+    }
     Ok(Task::Run)
 }
 
@@ -52,7 +57,8 @@ fn command<'a>(alloc: Global) -> Result<Command<'a>, AllocError>
     program(alloc)
         .subcommand(run(alloc))?
         .subcommand(alone(alloc)?)?
-        .subcommand(check(alloc))
+        .subcommand(check(alloc))?
+        .subcommand(draw(alloc))
 }
 
 /// The program's name, with what holds for all its words.
@@ -95,6 +101,16 @@ fn check<'a>(alloc: Global) -> Command<'a>
     Command::new(alloc, "check")
         .about("Prints what is wrong with the scenario, line by line")
         .after_help(help::CHECK)
+}
+
+/// The words `draw`.
+fn draw<'a>(alloc: Global) -> Command<'a>
+    ensures words { shape_of result ≡ draw_words }
+    ensures local { (fields_of result).has_globals ≡ false }
+{
+    Command::new(alloc, "draw")
+        .about("Prints a picture of the scenario's run, an SVG document")
+        .after_help(help::DRAW)
 }
 
 /// The word of a handle.

@@ -1,15 +1,15 @@
 -- What a task has written, however it ends.
-use Rattle.std.proofs.Common.{◌≡◌, ℕ, List, Option, Some, None, Result, Ok, Err, IfSome, refl, sym, subst}
+use Rattle.std.proofs.Common.{◌≡◌, ℕ, List, [], Option, Some, None, Result, Ok, Err, IfSome, refl, sym, subst}
 use Rattle.std.specs.Io.KnownBytes.{Keeps}
 use Rattle.usb_text.specs.Counts.{counts_of}
 use Rattle.usb_text.specs.Findings.{bad_lines, good_lines}
 use Rattle.usb_text.specs.Scenario.{scenario_of}
 use Rattle.usb_text.specs.declared.scenario.Scenario.{Scenario}
 use Rattle.usb_command.specs.declared.words.Task.{Task}
-use Rattle.usb_command.specs.declared.words.Task.TheVariants.{Run, Alone, Check}
+use Rattle.usb_command.specs.declared.words.Task.TheVariants.{Run, Alone, Check, Draw}
 use Rattle.usb_streams.proofs.Beginnings.{none_yet}
 use Rattle.usb_streams.proofs.Findings.{no_report}
-use Rattle.usb_trace.specs.Program.{task_text, Begins, BeginsEntries}
+use Rattle.usb_trace.specs.Program.{alone_text, run_text, Begins, BeginsEntries, BeginsPicture}
 
 -- known bytes stay
 pub keeps_same : (old : Option (List ℕ)) → Keeps old old
@@ -17,15 +17,21 @@ keeps_same None = tt
 keeps_same (Some xs) = refl
 
 -- no entry is printed
-no_entries : (t : Task) (said : Result Scenario ℕ) (old : Option (List ℕ)) → BeginsEntries t said old old
-no_entries t (Ok s) old = none_yet (task_text t s) old
-no_entries t (Err line) old = keeps_same old
+no_entries : (text : Scenario → List ℕ) (said : Result Scenario ℕ) (old : Option (List ℕ)) → BeginsEntries text said old old
+no_entries text (Ok s) old = none_yet (text s) old
+no_entries text (Err line) old = keeps_same old
+
+-- nothing is drawn
+no_picture : (said : Result Scenario ℕ) (old : Option (List ℕ)) → BeginsPicture said old old
+no_picture (Ok s) old = let none = none_yet [] old in (none.0, none.2)
+no_picture (Err line) old = keeps_same old
 
 -- nothing is written
 nothing_of : (t : Task) (text : List ℕ) (old : Option (List ℕ)) → Begins t text old old
-nothing_of Run text old = no_entries Run (scenario_of text) old
-nothing_of (Alone h) text old = no_entries (Alone h) (scenario_of text) old
+nothing_of Run text old = no_entries run_text (scenario_of text) old
+nothing_of (Alone h) text old = no_entries (alone_text h) (scenario_of text) old
 nothing_of Check text old = no_report (bad_lines text) (counts_of (good_lines text)) old
+nothing_of Draw text old = no_picture (scenario_of text) old
 
 -- nothing is written, whatever the input has
 pub nothing_begun : (input : Option (List ℕ)) (t : Task) (old : Option (List ℕ)) → IfSome input (λ text. Begins t text old old)

@@ -1,2 +1,3 @@
 pub mod Reports
 mod Begun
+mod Making

@@ -38,15 +38,20 @@ run_text s = lines_text (world_run s.setup (steps_of s))
 abbrev pub alone_text : ℕ → Scenario → List ℕ
 alone_text h s = lines_text (alone s.setup (own s.setup (steps_of s) h) h)
 
--- what a task prints of a scenario: all entries, those of one handle alone, or how much the scenario says
-abbrev pub task_text : Task → Scenario → List ℕ
-task_text task.Run s = run_text s
-task_text (task.Alone h) s = alone_text h s
-task_text task.Check s = counts_line (counts_of s)
+-- some text is appended, or none
+abbrev pub AppendsAny : Option (List ℕ) → Option (List ℕ) → Type 0
+AppendsAny old new = (text : List ℕ) × Appends old new text
 
--- what a task does that ends well: the text is a scenario of the longest length at most, and what the task prints of it is written
+-- what a task writes of a scenario: all entries, those of one handle alone, how much the scenario says, or a picture, of which no more is said
+abbrev pub Writes : Task → Scenario → Option (List ℕ) → Option (List ℕ) → Type 0
+Writes task.Run s old new = Appends old new (run_text s)
+Writes (task.Alone h) s old new = Appends old new (alone_text h s)
+Writes task.Check s old new = Appends old new (counts_line (counts_of s))
+Writes task.Draw s old new = AppendsAny old new
+
+-- what a task does that ends well: the text is a scenario of the longest length at most, and what the task makes of it is written
 abbrev pub IsDone : Task → List ℕ → Option (List ℕ) → Option (List ℕ) → Type 0
-IsDone t text old new = (s : Scenario) × (scenario_of text ≡ Ok s) × (length text ≤ longest_input) × Appends old new (task_text t s)
+IsDone t text old new = (s : Scenario) × (scenario_of text ≡ Ok s) × (length text ≤ longest_input) × Writes t s old new
 
 -- what a check does that finds bad lines: a line with the number of each is written, and then how much the good ones say
 abbrev pub IsReported : List ℕ → Option (List ℕ) → Option (List ℕ) → Type 0
@@ -65,16 +70,22 @@ abbrev pub PrintsTo : Reach → Scenario → Option (List ℕ) → Option (List 
 PrintsTo End s old new = Appends old new (run_text s)
 PrintsTo NoMemory s old new = (front : List Entry) × IsBeginning front (world_run s.setup (steps_of s)) × Appends old new (lines_text front)
 
--- what a task that prints entries may have written, however it ends: a beginning of their text, and nothing where a line is bad
-abbrev pub BeginsEntries : Task → Result Scenario ℕ → Option (List ℕ) → Option (List ℕ) → Type 0
-BeginsEntries t (Ok s) old new = AppendsSome (task_text t s) old new
-BeginsEntries t (Err line) old new = Keeps old new
+-- what a task that prints such entries may have written, however it ends: a beginning of their text, and nothing where a line is bad
+abbrev pub BeginsEntries : (Scenario → List ℕ) → Result Scenario ℕ → Option (List ℕ) → Option (List ℕ) → Type 0
+BeginsEntries said (Ok s) old new = AppendsSome (said s) old new
+BeginsEntries said (Err line) old new = Keeps old new
+
+-- what a task that draws may have written: any text, and nothing where a line is bad
+abbrev pub BeginsPicture : Result Scenario ℕ → Option (List ℕ) → Option (List ℕ) → Type 0
+BeginsPicture (Ok s) old new = AppendsAny old new
+BeginsPicture (Err line) old new = Keeps old new
 
 -- what a task over a text may have written, however it ends: a beginning of what it prints
 abbrev pub Begins : Task → List ℕ → Option (List ℕ) → Option (List ℕ) → Type 0
-Begins task.Run text old new = BeginsEntries task.Run (scenario_of text) old new
-Begins (task.Alone h) text old new = BeginsEntries (task.Alone h) (scenario_of text) old new
+Begins task.Run text old new = BeginsEntries run_text (scenario_of text) old new
+Begins (task.Alone h) text old new = BeginsEntries (alone_text h) (scenario_of text) old new
 Begins task.Check text old new = AppendsSomeReport (bad_lines text) (counts_of (good_lines text)) old new
+Begins task.Draw text old new = BeginsPicture (scenario_of text) old new
 
 -- whether this fault may be what ended a run with these words over this input: a line is one where the words ask for entries and it is the text's first bad line; memory and streams may fail always
 abbrev pub MayEnd : List Text → Option (List ℕ) → Fault → Type 0

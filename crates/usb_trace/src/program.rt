@@ -3,6 +3,7 @@
 ghost use Rattle.std.specs.Prelude.{◌≡◌, ◌≢◌, ◌≤◌, ◌⊎◌, [], IfSome, IfErr, IfOk, OnOk, length};
 ghost use Rattle.std.specs.Io.KnownBytes.{Appends, Keeps};
 ghost use Rattle.usb_text.specs.Findings.{bad_lines};
+ghost use Rattle.usb_text.specs.Runnable.{IsRunnable};
 ghost use Rattle.usb_words.specs.Words.{words_of};
 ghost use Rattle.usb_command.specs.CommandLine.{AreBad, AskFor, AskForHelp};
 ghost use Rattle.clap.specs.Values.{kind_of};
@@ -11,10 +12,12 @@ ghost use Rattle.usb_streams.specs.Faults.{message_of, IsOfRun};
 ghost use Rattle.usb_streams.specs.declared.fault.Fault.{Fault};
 ghost use Rattle.usb_streams.specs.Input.{longest_input};
 ghost use Rattle.usb_streams.specs.Printing.{AppendsSome};
-ghost use Rattle.usb_trace.specs.Program.{alone_text, run_text, status_of, Begins, IsDone, IsSilentAtBad, Performs, PrintsTo, TellsWhy};
+ghost use Rattle.usb_trace.specs.Program.{alone_text, run_text, status_of, AppendsAny, Begins, IsDone, IsSilentAtBad, Performs, PrintsTo, TellsWhy};
 ghost use Rattle.usb_command.specs.declared.words.Task.{Task};
 ghost use Rattle.usb_command.specs.declared.words.Task.TheVariants.{Check};
 
+use crate::devices::{callbacks_of, devices_of};
+use crate::drawing::draw;
 use crate::ready::Ready;
 use clap::Error;
 use clap::error::ErrorKind;
@@ -24,8 +27,8 @@ use usb_command::{Task, read_words};
 use usb_model::Name;
 use usb_plain::{drive, drive_alone};
 use usb_streams::print::{print, print_findings};
-use usb_streams::{Fault, read_whole};
-use usb_text::{check, read_scenario};
+use usb_streams::{Fault, read_whole, write_bytes};
+use usb_text::{Scenario, check, read_scenario};
 
 /// The status of a run that ended early, and of a check that found bad lines.
 const FAILED: u8 = 1;
@@ -141,6 +144,7 @@ fn perform<R: Read, W: Write>(
             run_alone(alloc, &Ready::new(alloc, scenario)?, h, out)
         }
         Task::Check => report(alloc, text.as_slice(), out),
+        Task::Draw => draw_run(alloc, read_scenario(alloc, text.as_slice())?, out),
     }
 }
 
@@ -205,6 +209,22 @@ fn run_alone<W: Write>(
     let (plan, rules) = (scenario.plan.as_slice(), scenario.rules.as_slice());
     let both = drive_alone(alloc, &scenario.setup, plan, rules, h)?;
     print(alloc, out, both.alone.as_slice())?;
+    Ok(Ending::Good)
+}
+
+/// Prints a picture of a scenario's run. What it shows is no matter of contracts.
+fn draw_run<W: Write>(alloc: Global, scenario: Scenario, out: &mut W) -> Result<Ending, Fault>
+    requires { IsRunnable scenario }
+    ensures drawn { AppendsAny (W.contents out.old) (W.contents out.new) }
+    ensures good { IfOk result (λ ending. ending ≡ Ending.Good) }
+    ensures fault { IfErr result (λ fault. IsOfRun fault) }
+{
+    let Scenario { setup, plan, rules } = scenario;
+    let devices = devices_of(alloc, setup)?;
+    let callbacks = callbacks_of(alloc, rules.as_slice())?;
+    let page = draw(alloc, devices, plan.as_slice(), callbacks)?.page()?;
+    write_bytes(out, page.as_bytes())?;
+    out.flush()?;
     Ok(Ending::Good)
 }
 

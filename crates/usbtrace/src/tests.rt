@@ -3,6 +3,7 @@
 
 mod bad_lines;
 mod check;
+mod drawing;
 mod edges;
 mod fakes;
 mod long;

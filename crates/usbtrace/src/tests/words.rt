@@ -8,7 +8,7 @@ use std::io::ErrorKind;
 static BAD: &str = "\
 === usbtrace
 error: 'usbtrace' requires a subcommand but one was not provided
-  [subcommands: run, alone, check]
+  [subcommands: run, alone, check, draw]
 
 Usage: usbtrace <COMMAND>
 
@@ -108,6 +108,7 @@ fn help_is_printed_and_no_fault(rt: HostRuntime) {
         "\n  run    Runs the scenario and prints its entries\n",
         "\n  alone  Prints the entries of one handle, alone over its own steps\n",
         "\n  check  Prints what is wrong with the scenario, line by line\n",
+        "\n  draw   Prints a picture of the scenario's run, an SVG document\n",
         "\n  -h, --help  Print help\n",
     ];
     assert!(rt; shows(rt.alloc(), &["usbtrace", "-h"], &parts));

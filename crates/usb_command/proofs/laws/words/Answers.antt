@@ -1,4 +1,4 @@
-use Rattle.usb_command.proofs.WordsRead.{alone_asks, check_asks, check_of_a_file_is_bad, handle_64_is_bad, help_asks, help_is_no_word, leading_zeros_ask, no_handle_is_bad, no_words_are_bad, plus_sign_asks, run_asks, too_many_are_bad}
+use Rattle.usb_command.proofs.WordsRead.{alone_asks, check_asks, check_of_a_file_is_bad, draw_asks, handle_64_is_bad, help_asks, help_is_no_word, leading_zeros_ask, no_handle_is_bad, no_words_are_bad, plus_sign_asks, run_asks, too_many_are_bad}
 use Rattle.usb_command.proofs.laws.words.Goals as goal
 
 pub returns-clause-run : goal.returns-clause-run
@@ -36,3 +36,6 @@ returns-clause-check c = check_asks
 
 pub returns-clause-check_of_a_file : goal.returns-clause-check_of_a_file
 returns-clause-check_of_a_file c = check_of_a_file_is_bad
+
+pub returns-clause-draw : goal.returns-clause-draw
+returns-clause-draw c = draw_asks

@@ -1,0 +1,156 @@
+//! Calls of a handle: submissions, asks, verdicts, refusals and all others.
+
+use crate::drawing::Drawing;
+use crate::known::Flight;
+use crate::lane::Lane;
+use crate::picture::{Side, Spot};
+use crate::sign::Sign;
+use std::alloc::AllocError;
+use usb_model::{Name, Refused, Step};
+
+/// The handle that makes this call; None where it is no call of a handle.
+fn caller(step: &Step) -> Option<Name> {
+    match step {
+        Step::Open { h, .. } | Step::Close { h } | Step::Claim { h, .. } => Some(*h),
+        Step::Release { h, .. } | Step::Reset { h } | Step::ClearHalt { h, .. } => Some(*h),
+        Step::Submit { h, .. } | Step::Cancel { h, .. } => Some(*h),
+        Step::Expire { h, .. } | Step::Answer { h, .. } => Some(*h),
+        Step::Serve { .. } | Step::Command | Step::Deliver => None,
+        Step::Take | Step::Unplug { .. } => None,
+    }
+}
+
+/// The lane of whom a step is: a handle's, or that of the plugs.
+fn caller_lane(step: &Step) -> Lane {
+    match caller(step) {
+        Some(h) => Lane::of_handle(h),
+        None => Lane::Plugs,
+    }
+}
+
+/// The lane at which a step finds nothing to do.
+fn idle_lane(step: &Step) -> Option<Lane> {
+    match step {
+        Step::Serve { dev, ep } => Some(Lane::of_endpoint(*dev, *ep)),
+        Step::Command => Some(Lane::Commands),
+        Step::Deliver | Step::Take => Some(Lane::Events),
+        _ => None,
+    }
+}
+
+impl Drawing {
+    /// A call is done.
+    pub(crate) fn done(&mut self, column: u64, step: &Step) -> Result<(), AllocError> {
+        match step {
+            Step::Cancel { h, n } | Step::Expire { h, n } => self.asked(column, *h, *n),
+            Step::Answer { h, n, .. } => self.answered(column, *h, *n),
+            Step::Unplug { dev } => self.unplugged(column, dev.number()),
+            Step::Open { h, dev } => self.opened(column, *h, dev.number()),
+            _ => self
+                .picture
+                .mark(Spot::head(caller_lane(step), column), Sign::Call),
+        }
+    }
+
+    /// A handle opened a device.
+    fn opened(&mut self, column: u64, h: Name, device: u8) -> Result<(), AllocError> {
+        self.known.note_device(h, device)?;
+        self.picture
+            .mark(Spot::head(Lane::of_handle(h), column), Sign::Call)
+    }
+
+    /// A device went.
+    fn unplugged(&mut self, column: u64, device: u8) -> Result<(), AllocError> {
+        self.picture.unplugs.push(column)?;
+        self.head_number(
+            Spot::head(Lane::Plugs, column),
+            Sign::Unplug,
+            u64::from(device),
+        )
+    }
+
+    /// Puts a sign and a number at the head of a lane.
+    fn head_number(&mut self, spot: Spot, sign: Sign, number: u64) -> Result<(), AllocError> {
+        self.picture.mark(spot, sign)?;
+        let words = format!(in self.alloc; "{number}")?;
+        self.picture.label(spot, Side::Right, words)
+    }
+
+    /// A transfer is asked to end.
+    fn asked(&mut self, column: u64, h: Name, n: u64) -> Result<(), AllocError> {
+        let spot = Spot::head(Lane::of_handle(h), column);
+        self.head_number(spot, Sign::Ask, n)?;
+        let Some(flight) = self.known.flight(h, n) else {
+            return Ok(());
+        };
+        let mut trace = self.known.trace(flight.lane);
+        if trace.asked.is_none() {
+            trace.asked = Some(spot);
+        }
+        self.known.note_trace(flight.lane, trace)
+    }
+
+    /// A callback gave its verdict.
+    fn answered(&mut self, column: u64, h: Name, n: u64) -> Result<(), AllocError> {
+        self.head_number(Spot::head(Lane::of_handle(h), column), Sign::Verdict, n)
+    }
+
+    /// A step is refused.
+    pub(crate) fn refused(
+        &mut self,
+        column: u64,
+        step: &Step,
+        why: Refused,
+    ) -> Result<(), AllocError> {
+        let spot = Spot::head(caller_lane(step), column);
+        self.head_number(spot, Sign::Refusal, u64::from(why.number()))
+    }
+
+    /// A step found nothing to do.
+    pub(crate) fn idle(&mut self, column: u64, step: &Step) -> Result<(), AllocError> {
+        match idle_lane(step) {
+            Some(lane) => self.picture.mark(Spot::head(lane, column), Sign::Idle),
+            None => Ok(()),
+        }
+    }
+
+    /// A transfer is accepted under this number.
+    pub(crate) fn numbered(&mut self, column: u64, step: &Step, n: u64) -> Result<(), AllocError> {
+        match step {
+            Step::Submit { h, request } => {
+                let lane = self.known.lane(*h, request.ep);
+                self.submitted(column, *h, n, lane)
+            }
+            Step::Answer { h, n: before, .. } => {
+                self.answered(column, *h, *before)?;
+                match self.known.flight(*h, *before) {
+                    Some(flight) => self.submitted(column, *h, n, flight.lane),
+                    None => Ok(()),
+                }
+            }
+            _ => Ok(()),
+        }
+    }
+
+    /// A transfer is in the line of the endpoint of this lane.
+    fn submitted(&mut self, column: u64, h: Name, n: u64, lane: Lane) -> Result<(), AllocError> {
+        let own = Lane::of_handle(h);
+        let bar = self.picture.begin_bar(own, column)?;
+        let start = Spot {
+            lane: own,
+            bar: Some(bar),
+            column,
+        };
+        self.head_number(start, Sign::Submission, n)?;
+        let arrival = Spot::head(lane, column);
+        self.picture.join(start, arrival)?;
+        self.picture.mark(arrival, Sign::Arrival)?;
+        let flight = Flight {
+            lane,
+            bar,
+            event: None,
+            halts: false,
+        };
+        self.known.note_flight(h, n, flight)
+    }
+}

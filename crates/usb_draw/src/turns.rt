@@ -1,0 +1,241 @@
+//! What devices, the controller and the core do: packets, orders, events and callbacks.
+
+use crate::drawing::Drawing;
+use crate::known::{Flight, Trace};
+use crate::lane::Lane;
+use crate::picture::{Side, Spot};
+use crate::sign::Sign;
+use std::alloc::AllocError;
+use usb_model::completion::halts;
+use usb_model::{EpAddr, Errand, Name, Returned, Step};
+
+/// How many columns a bar lasts at least whose number is told again at its end.
+const LONG: u64 = 5;
+
+/// The lane of the endpoint that a step serves.
+fn served_lane(step: &Step) -> Option<Lane> {
+    match step {
+        Step::Serve { dev, ep } => Some(Lane::of_endpoint(*dev, *ep)),
+        _ => None,
+    }
+}
+
+impl Drawing {
+    /// Puts a sign at the lane of an endpoint, and the transfer's number above it.
+    fn packet(&mut self, spot: Spot, sign: Sign, n: u64) -> Result<(), AllocError> {
+        self.picture.mark(spot, sign)?;
+        let words = format!(in self.alloc; "{n}")?;
+        self.picture.label(spot, Side::Above, words)
+    }
+
+    /// The device wasn't ready.
+    pub(crate) fn nak(&mut self, column: u64, step: &Step, n: u64) -> Result<(), AllocError> {
+        match served_lane(step) {
+            Some(lane) => self.packet(Spot::head(lane, column), Sign::Nak, n),
+            None => Ok(()),
+        }
+    }
+
+    /// A packet of so many bytes moved.
+    pub(crate) fn moved(
+        &mut self,
+        column: u64,
+        step: &Step,
+        n: u64,
+        bytes: u32,
+    ) -> Result<(), AllocError> {
+        let Some(lane) = served_lane(step) else {
+            return Ok(());
+        };
+        let spot = Spot::head(lane, column);
+        self.packet(spot, Sign::Packet, n)?;
+        let words = format!(in self.alloc; "{bytes} B")?;
+        self.picture.label(spot, Side::Below, words)
+    }
+
+    /// A transfer ended with this code: an event is posted.
+    pub(crate) fn ended(
+        &mut self,
+        column: u64,
+        h: Name,
+        n: u64,
+        code: u8,
+    ) -> Result<(), AllocError> {
+        let Some(flight) = self.known.flight(h, n) else {
+            return Ok(());
+        };
+        let spot = Spot::head(flight.lane, column);
+        self.packet(spot, Sign::Ended, n)?;
+        let words = format!(in self.alloc; "code {code}")?;
+        self.picture.label(spot, Side::Below, words)?;
+        let event = self.posted(spot)?;
+        let flight = Flight {
+            event: Some(event),
+            halts: halts(code),
+            ..flight
+        };
+        self.known.note_flight(h, n, flight)
+    }
+
+    /// Begins the bar of an event that is posted from a place.
+    fn posted(&mut self, from: Spot) -> Result<usize, AllocError> {
+        let event = self.picture.begin_bar(Lane::Events, from.column)?;
+        let to = Spot {
+            lane: Lane::Events,
+            bar: Some(event),
+            column: from.column,
+        };
+        self.picture.join(from, to)?;
+        Ok(event)
+    }
+
+    /// The bar of an event: this one, where there is one.
+    fn event_bar(&mut self, known: Option<usize>, column: u64) -> Result<usize, AllocError> {
+        match known {
+            Some(event) => Ok(event),
+            None => self.picture.begin_bar(Lane::Events, column),
+        }
+    }
+
+    /// The bar of an order that is carried out in this column, from where it was ordered.
+    fn order_bar(&mut self, cause: Option<Spot>, column: u64) -> Result<usize, AllocError> {
+        let Some(cause) = cause else {
+            return self.picture.begin_bar(Lane::Commands, column);
+        };
+        let order = self.picture.begin_bar(Lane::Commands, cause.column)?;
+        let to = Spot {
+            lane: Lane::Commands,
+            bar: Some(order),
+            column: cause.column,
+        };
+        self.picture.join(cause, to)?;
+        Ok(order)
+    }
+
+    /// An order was carried out, or failed: an event is posted.
+    pub(crate) fn ran(
+        &mut self,
+        column: u64,
+        h: Name,
+        ep: EpAddr,
+        errand: Errand,
+        ok: bool,
+    ) -> Result<(), AllocError> {
+        let lane = self.known.lane(h, ep);
+        let trace = self.known.trace(lane);
+        let cause = match errand {
+            Errand::Stop => trace.asked,
+            Errand::Reset | Errand::Move => trace.handled,
+        };
+        let order = self.order_bar(cause, column)?;
+        let spot = self.picture.end_bar(order, Lane::Commands, column);
+        self.outcome(spot, ep, errand, ok)?;
+        let event = self.posted(spot)?;
+        let trace = Trace {
+            ran: Some(spot),
+            event: Some(event),
+            ..trace
+        };
+        self.known.note_trace(lane, trace)
+    }
+
+    /// Puts the sign of an outcome at a place, and the errand and its endpoint beside it.
+    fn outcome(
+        &mut self,
+        spot: Spot,
+        ep: EpAddr,
+        errand: Errand,
+        ok: bool,
+    ) -> Result<(), AllocError> {
+        self.picture.mark(spot, Sign::of_outcome(ok))?;
+        let words = format!(in self.alloc; "{errand} {ep}")?;
+        self.picture.label(spot, Side::Right, words)
+    }
+
+    /// The event of an order was handled.
+    pub(crate) fn settled(
+        &mut self,
+        column: u64,
+        h: Name,
+        ep: EpAddr,
+        errand: Errand,
+        ok: bool,
+    ) -> Result<(), AllocError> {
+        let lane = self.known.lane(h, ep);
+        let trace = self.known.trace(lane);
+        let event = self.event_bar(trace.event, column)?;
+        let spot = self.picture.end_bar(event, Lane::Events, column);
+        self.outcome(spot, ep, errand, ok)?;
+        let trace = Trace {
+            asked: None,
+            handled: Some(spot),
+            ran: trace.ran,
+            event: None,
+        };
+        self.known.note_trace(lane, trace)
+    }
+
+    /// Ends the bar of an event, with a sign and the transfer's name.
+    fn handled(
+        &mut self,
+        event: usize,
+        column: u64,
+        sign: Sign,
+        h: Name,
+        n: u64,
+    ) -> Result<Spot, AllocError> {
+        let spot = self.picture.end_bar(event, Lane::Events, column);
+        self.picture.mark(spot, sign)?;
+        let number = h.number();
+        let words = format!(in self.alloc; "h{number} {n}")?;
+        self.picture.label(spot, Side::Right, words)?;
+        Ok(spot)
+    }
+
+    /// The event of an ended transfer was handled.
+    pub(crate) fn finished(&mut self, column: u64, h: Name, n: u64) -> Result<(), AllocError> {
+        let Some(flight) = self.known.flight(h, n) else {
+            return Ok(());
+        };
+        let event = self.event_bar(flight.event, column)?;
+        let spot = self.handled(event, column, Sign::Finished, h, n)?;
+        if !flight.halts {
+            return Ok(());
+        }
+        let trace = Trace {
+            handled: Some(spot),
+            ..self.known.trace(flight.lane)
+        };
+        self.known.note_trace(flight.lane, trace)
+    }
+
+    /// The event of a paused transfer was handled.
+    pub(crate) fn paused(&mut self, column: u64, h: Name, n: u64) -> Result<(), AllocError> {
+        let Some(flight) = self.known.flight(h, n) else {
+            return Ok(());
+        };
+        let event = match self.known.trace(flight.lane).ran {
+            Some(ran) => self.posted(ran)?,
+            None => self.picture.begin_bar(Lane::Events, column)?,
+        };
+        self.handled(event, column, Sign::Paused, h, n)?;
+        Ok(())
+    }
+
+    /// A callback is called.
+    pub(crate) fn called(&mut self, column: u64, returned: &Returned) -> Result<(), AllocError> {
+        let (h, n, actual) = (returned.h, returned.n, returned.actual);
+        let Some(flight) = self.known.flight(h, n) else {
+            return Ok(());
+        };
+        let spot = self.picture.end_bar(flight.bar, Lane::of_handle(h), column);
+        self.picture.mark(spot, Sign::Called(returned.status))?;
+        let words = format!(in self.alloc; "{actual} B")?;
+        self.picture.label(spot, Side::Right, words)?;
+        if self.picture.age(flight.bar, column) < LONG {
+            return Ok(());
+        }
+        let words = format!(in self.alloc; "{n}")?;
+        self.picture.label(spot, Side::Left, words)
+    }
+}
