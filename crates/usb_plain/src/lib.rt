@@ -11,4 +11,4 @@ mod rule_book;
 
 pub use comparison::{Comparison, alone};
 pub use journal::{Stopped, run};
-pub use plan_run::{drive, drive_alone};
+pub use plan_run::{drive, drive_alone, end_of};
