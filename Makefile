@@ -15,6 +15,7 @@ try:
 test:
 	tools/wrong_bodies.py fit
 	RT_JOBS=$$(nproc) rt ci
+	@tools/pictures.py check
 
 fmt:
 	@for crate in crates/*; do (cd $$crate && rt fmt); done

@@ -1,0 +1,44 @@
+#!/usr/bin/env python3
+"""The pictures of docs/pictures, drawn by the built program, each from examples/NAME.txt.
+
+    tools/pictures.py draw    draws them anew
+    tools/pictures.py check   says which of them the program draws otherwise; the gate asks it once all is built
+"""
+import pathlib
+import subprocess
+import sys
+
+ROOT = pathlib.Path(__file__).resolve().parent.parent
+PROGRAM = ROOT / "crates" / "usbtrace" / "out" / "usbtrace"
+PICTURES = ROOT / "docs" / "pictures"
+
+
+def drawn(name):
+    """The picture of an example, or None where the program doesn't draw it."""
+    with (ROOT / "examples" / f"{name}.txt").open("rb") as scenario:
+        ran = subprocess.run([PROGRAM, "draw"], stdin=scenario, capture_output=True, timeout=60)
+    return ran.stdout if ran.returncode == 0 else None
+
+
+def main(words):
+    if words not in (["draw"], ["check"]):
+        print(__doc__)
+        return 2
+    if not PROGRAM.is_file():
+        print(f"there is no {PROGRAM.relative_to(ROOT)}: make run builds it")
+        return 1
+    failed = 0
+    for picture in sorted(PICTURES.glob("*.svg")):
+        now = drawn(picture.stem)
+        if now is None:
+            print(f"{picture.relative_to(ROOT)}: the program doesn't draw it")
+            failed = 1
+        elif words == ["draw"]:
+            picture.write_bytes(now)
+        elif now != picture.read_bytes():
+            print(f"{picture.relative_to(ROOT)}: the program draws another: tools/pictures.py draw")
+            failed = 1
+    return failed
+
+
+sys.exit(main(sys.argv[1:]))
