@@ -7,7 +7,7 @@ ghost use Rattle.usb_streams.specs.Printing.{line_text, AppendsAllBut, AppendsSo
 
 use crate::fault::Fault;
 use crate::write::write_bytes;
-use std::alloc::{AllocError, Global};
+use std::alloc::Global;
 use std::io::Write;
 use std::marker::Model;
 use usb_model::Entry;
@@ -48,22 +48,28 @@ impl Lines {
         ensures begun { OnErr result (AppendsSome (self.old ++ line_text entry.now) (W.contents out.old) (W.contents out.new)) }
         ensures fault { IfErr result (λ fault. IsOfRun fault) }
     {
-        if self.bytes.len() < CHUNK && self.gather(entry).is_ok() {
+        match format!(in self.alloc; "{entry}\n") {
+            Ok(line) => self.put_text(out, line.as_bytes()),
+            Err(_) => {
+                write_bytes(out, self.bytes.as_slice())?;
+                Err(Fault::Memory)
+            }
+        }
+    }
+
+    /// Puts a text of whole lines behind the others, as `put` does the line of an entry.
+    pub fn put_text<W: Write>(&mut self, out: &mut W, text: &[u8]) -> Result<(), Fault>
+        ensures line { OnOk result (AppendsAllBut (self.old ++ text.now) self.new (W.contents out.old) (W.contents out.new)) }
+        ensures begun { OnErr result (AppendsSome (self.old ++ text.now) (W.contents out.old) (W.contents out.new)) }
+        ensures fault { IfErr result (λ fault. IsOfRun fault) }
+    {
+        if self.bytes.len() < CHUNK && self.bytes.extend_from_slice(text).is_ok() {
             return Ok(());
         }
         write_bytes(out, self.bytes.as_slice())?;
         self.bytes.clear();
-        self.gather(entry)?;
+        self.bytes.extend_from_slice(text)?;
         Ok(())
-    }
-
-    /// Puts the line of an entry behind the others.
-    fn gather(&mut self, entry: &Entry) -> Result<(), AllocError>
-        ensures line { OnOk result (self.new ≡ self.old ++ line_text entry.now) }
-        ensures kept { OnErr result (self.new ≡ self.old) }
-    {
-        let line = format!(in self.alloc; "{entry}\n")?;
-        self.bytes.extend_from_slice(line.as_bytes())
     }
 
     /// Writes those that aren't written yet. Where that fails, a beginning of them is written.

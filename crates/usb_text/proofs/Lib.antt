@@ -3,3 +3,4 @@ pub mod Sifting
 pub mod Places
 mod Lines
 mod Runnables
+pub mod StepLines

@@ -47,7 +47,7 @@ pub if_and_then_of : {A B : Type 0} (G : A → Type 0) (F : B → Type 0) (f : A
 if_and_then_of G F f None known each = tt
 if_and_then_of G F f (Some x) known each = each x known
 
-if_map : {A B : Type 0} (F : B → Type 0) (f : A → B) (o : Option A) → ((x : A) → F (f x)) → IfSome (option_map f o) F
+pub if_map : {A B : Type 0} (F : B → Type 0) (f : A → B) (o : Option A) → ((x : A) → F (f x)) → IfSome (option_map f o) F
 if_map F f None each = tt
 if_map F f (Some x) each = each x
 

@@ -22,6 +22,10 @@ AnswersAs (Ok x) said = said ≡ Ok x
 AnswersAs (Err (fault.Line line)) said = said ≡ Err line
 AnswersAs (Err fault.Memory) said = ⊤
 
+-- the fault may be that of such an answer
+abbrev pub IsFaultOf : {T : Type 0} → TextFault → Result T ℕ → Type 0
+IsFaultOf {T} fault said = AnswersAs {T = T} (Err fault) said
+
 -- a line was taken where no problem is told of it, and else is bad and takes nothing
 abbrev pub IsJudged : {P S : Type 0} → Option P → Option S → S → S → Type 0
 IsJudged None said old new = said ≡ Some new

@@ -116,6 +116,13 @@ impl Draft {
         }
     }
 
+    /// How many pieces the plan has so far.
+    pub(crate) fn pieces(&self) -> usize
+        ensures { result ≡ length self.now.plan }
+    {
+        self.plan.len()
+    }
+
     /// Whether a step stands before, so that no device or script may stand here.
     fn has_steps(&self) -> bool
         ensures { result ≡ not (length self.now.plan == 0) }

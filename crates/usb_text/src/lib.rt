@@ -8,11 +8,13 @@ mod draft;
 mod fault;
 mod findings;
 pub mod laws;
+mod lined;
 mod scenario;
 mod scripted;
 
 pub use fault::TextFault;
 pub use findings::{Counts, Finding, Findings, check};
+pub use lined::{Lined, NumberedLine, read_lined};
 pub use scenario::{Scenario, read_scenario};
 pub use scripted::{ScriptedDevice, into_setups};
 pub use usb_line::{Misplaced, Problem, Verb};

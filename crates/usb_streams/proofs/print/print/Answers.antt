@@ -1,5 +1,5 @@
 -- A line further each turn, and then what is left.
-use Rattle.usb_streams.proofs.Printed.{last_begun, last_written, line_begun, line_gathered}
+use Rattle.usb_streams.proofs.Printed.{last_begun, line_begun, line_gathered}
 use Rattle.usb_streams.proofs.print.print.Goals as goal
 
 pub returns-in_err-put-clause-begun : goal.returns-in_err-put-clause-begun

@@ -1,4 +1,4 @@
-use Rattle.std.proofs.Common.{◌≡◌, ◌++◌}
+use Rattle.std.proofs.Common.{◌≡◌}
 use Rattle.usb_text.proofs.scripted.into_setups.Given as goal
 
 abbrev pub invariant-loop-device : goal.invariant-loop-device

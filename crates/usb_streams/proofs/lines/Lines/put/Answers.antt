@@ -1,19 +1,14 @@
 -- What was gathered is a beginning of it with one more line.
-use Rattle.std.proofs.Common.{◌≡◌, ◌++◌, ap, sym, arith}
-use Rattle.std.proofs.lemmas.Grind.{common_steps}
+use Rattle.std.proofs.Common.{◌≡◌, ◌++◌, ap, sym, rules}
 use Rattle.usb_streams.specs.Printing.{line_text}
 use Rattle.usb_streams.proofs.Beginnings.{some_of_front}
 use Rattle.usb_streams.proofs.Printed.{on_error}
 use Rattle.usb_streams.proofs.lines.Lines.put.Goals as goal
-use Rattle.usb_streams.proofs.lines.Lines.put.Goals.{else-len-lt-CHUNK-via-then-len-lt-CHUNK+else-is_ok, else-len-lt-CHUNK-via-else-len-lt-CHUNK}
 
-pub returns-in_err-write_bytes-clause-begun : goal.returns-in_err-write_bytes-clause-begun
-returns-in_err-write_bytes-clause-begun g c =
+pub returns-in_err-write_bytes-in-Err-clause-begun : goal.returns-in_err-write_bytes-in-Err-clause-begun
+returns-in_err-write_bytes-in-Err-clause-begun g c =
     let line = line_text c.args.entry.now in
-    let same : c.as_slice.result.now ≡ c.args.self.now = elim c.else-len-lt-CHUNK.branch [
-      | else-len-lt-CHUNK-via-then-len-lt-CHUNK+else-is_ok w ↦ grind (arith, common_steps)
-      | else-len-lt-CHUNK-via-else-len-lt-CHUNK w ↦ cc
-    ] in
+    let same : c.as_slice.result.now ≡ c.args.self.now = search rules in
     on_error c.from_residual.result
     (some_of_front (c.args.self.now ++ line) c.as_slice.result.now line
-    (g.W.Write.contents c.args.out.now) (g.W.Write.contents c.write_bytes.new.out) (ap (λ bs. bs ++ line) (sym same)) c.in_err-write_bytes.ensures.begun)
+    (g.W.Write.contents c.args.out.now) (g.W.Write.contents c.write_bytes.new.out) (ap (λ bs. bs ++ line) (sym same)) c.in_err-write_bytes-in-Err.ensures.begun)
