@@ -1,5 +1,5 @@
 -- A run of a plan beside one of a handle's own part of it.
-use Rattle.std.proofs.Common.{◌≡◌, ℕ, ◌+◌, ◌<◌, ◌≤◌, Bool, true, false, List, [], ◌∷◌, ◌++◌, drop, length, map, slice_index_or, Option, refl, ap, sym, ◌∙◌, subst, append-nil, append_assoc}
+use Rattle.std.proofs.Common.{◌≡◌, ℕ, ◌+◌, ◌<◌, ◌≤◌, true, false, List, [], ◌∷◌, ◌++◌, drop, length, map, slice_index_or, Option, None, Some, refl, ap, sym, ◌∙◌, subst, append-nil, append_assoc}
 use Rattle.std.specs.Prelude.{is_some}
 use Rattle.std.specs.List.{AllByRecursion, count_by}
 use Rattle.std.proofs.lemmas.Bool.{eqb-true}
@@ -11,14 +11,15 @@ use Rattle.usb_model.specs.declared.step.Step.{Step}
 use Rattle.usb_model.specs.declared.verdict.Rule.{Rule}
 use Rattle.usb_model.specs.Setup.{Setup}
 use Rattle.usb_model.specs.World.{turn, world_from}
-use Rattle.usb_model.specs.World.Journal.{entries, is_own, journal, journal_from, run_from}
+use Rattle.usb_model.specs.World.Journal.{IsBeginning, entries, is_own, journal, journal_from, run_from}
 use Rattle.usb_model.specs.World.Plans.{Stage, expand, expand_from, first_stage, is_own_piece, is_submission, return_steps, returning, rule_for, rules_after, stage_after, steps_of}
 use Rattle.usb_lemmas.proofs.Handles.Alone.{only_new}
 use Rattle.usb_lemmas.proofs.Handles.Isolation.{entries_from}
-use Rattle.usb_purge.specs.Alone.{PerformsAlone, PerformsBoth, is_own_by, place_of}
+use Rattle.usb_purge.specs.Alone.{PerformsBoth, alone_of, is_own_by, place_of, shared_of}
 use Rattle.usb_purge.specs.Driving.{Advances, TakesNext}
 use Rattle.usb_purge.specs.PlanRuns.{Performs, PlanState, ShowsStage, StandsFor, entries_of, is_verdict}
 use Rattle.usb_purge.specs.declared.plan_run.Performed.{Performed}
+use Rattle.usb_purge.specs.declared.twins.Told.{Told}
 use Rattle.usb_purge.proofs.Expansion.{IsOthersPiece, IsOwnPiece, IsSame, others_piece, own_piece, same_after, same_past}
 use Rattle.usb_purge.proofs.Plans.{AreFixed, IsFixedStage, fixed_after, fixed_once, one_return}
 use Rattle.usb_purge.proofs.Reached.{piece_rules, piece_world}
@@ -289,15 +290,17 @@ module _ {P : Type 0} (rule : P → Rule) (setup : Setup) (plan : List Plan) (ru
                   ∙ ap (λ w. entries_of x ++ entries_from setup h w later) (sym (piece_world setup s piece steps))))
 
   -- one piece more, whosever it is
-  pub one_more : (v v' u u' : PlanState P) (es fs apart apart' : List Entry) (i : ℕ) (left its more its' : List P) (piece : Plan) (callback mine : Option P) → i < length plan → piece ≡ slice_index_or plan i piece → Beside v u es apart i left its
-      → TakesNext (is_submission piece) left more callback → TakesNext (is_submission piece) its its' mine → PerformsBoth rule h piece callback mine v v' u u' es fs apart apart' → Beside v' u' fs apart' (i + 1) more its'
-  one_more v v' u u' es fs apart apart' i left its more its' piece callback mine within item b next next_its (x, performs, rest) = by_test (is_own_by h piece x.entry) refl rest
-    where
-      by_test : (own : Bool) → is_own_by h piece x.entry ≡ own → PerformsAlone rule own piece mine (entries_of x) u u' es fs apart apart' → Beside v' u' fs apart' (i + 1) more its'
-      by_test true e (pushed, advances) = own_more v v' u u' es fs apart apart' i left its more its' piece callback mine x within item b next next_its performs e pushed advances
-      by_test false e (stays, shared, alone) =
-          subst (λ w. Beside v' w fs apart' (i + 1) more its') (sym stays)
-          (subst (λ l. Beside v' u l apart' (i + 1) more its') (sym shared) (subst (λ l. Beside v' u es l (i + 1) more its') (sym alone) (others_more v v' u es apart i left its more its' piece callback mine x within item b next next_its performs e)))
+  pub one_more : (v v' u u' : PlanState P) (es apart : List Entry) (i : ℕ) (left its more its' : List P) (piece : Plan) (callback mine : Option P) (told : Option (Told P)) → i < length plan → piece ≡ slice_index_or plan i piece → Beside v u es apart i left its
+      → TakesNext (is_submission piece) left more callback → TakesNext (is_submission piece) its its' mine → PerformsBoth rule h piece callback mine v v' u u' told → Beside v' u' (es ++ shared_of told) (apart ++ alone_of told) (i + 1) more its'
+  one_more v v' u u' es apart i left its more its' piece callback mine None within item b next next_its (x, performs, others, stays) =
+      subst (λ w. Beside v' w (es ++ []) (apart ++ []) (i + 1) more its') (sym stays)
+      (rw (append-nil es, append-nil apart) (others_more v v' u es apart i left its more its' piece callback mine x within item b next next_its performs others))
+  one_more v v' u u' es apart i left its more its' piece callback mine (Some t) within item b next next_its (performs, own, again) =
+      own_more v v' u u' es (es ++ entries_of t.shared) apart (apart ++ entries_of t.alone) i left its more its' piece callback mine t.shared within item b next next_its performs own refl (entries_of t.alone, again, refl)
+
+  -- what it was told is a beginning of the handle's entries
+  pub begins : (v u : PlanState P) (es apart : List Entry) (i : ℕ) (left its : List P) → Beside v u es apart i left its → IsBeginning apart (entries setup (expand setup plan rules) h)
+  begins v u es apart i left its b = (entries_from setup h b.stage.world (expand_from setup b.stage (drop i plan)), sym b.told ∙ ap (λ l. l ++ entries_from setup h b.stage.world (expand_from setup b.stage (drop i plan))) (sym b.told_alone))
 
   -- at the end it was told all
   pub all_told : (v u : PlanState P) (es apart : List Entry) (i : ℕ) (left its : List P) → length plan ≤ i → Beside v u es apart i left its → es ≡ entries setup (expand setup plan rules) h

@@ -19,4 +19,4 @@ mod Answering
 pub mod Reached
 mod Apart
 mod ApartPlans
-mod BothRuns
+pub mod BothRuns

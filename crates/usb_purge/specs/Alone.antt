@@ -1,5 +1,5 @@
 -- A handle's own part of a run, and what holds of its callbacks.
-use Rattle.std.specs.Prelude.{◌≡◌, ℕ, ◌<◌, ◌≤◌, ◌==◌, Bool, true, false, List, [], ◌∷◌, ◌++◌, length, Option}
+use Rattle.std.specs.Prelude.{◌≡◌, ℕ, ◌<◌, ◌≤◌, ◌==◌, Bool, true, false, List, [], ◌∷◌, ◌++◌, length, Option, Some, None}
 use Rattle.std.specs.List.Sorted.{IsStrictlyIncreasing}
 use Rattle.usb_model.specs.declared.entry.Entry.{Entry}
 use Rattle.usb_model.specs.declared.plan.Plan.{Plan}
@@ -16,7 +16,8 @@ use Rattle.usb_state.specs.State.{State}
 use Rattle.usb_state.specs.Steps.{Turns}
 use Rattle.usb_purge.specs.declared.comparison.Comparison.{Comparison}
 use Rattle.usb_purge.specs.declared.plan_run.Performed.{Performed}
-use Rattle.usb_purge.specs.Driving.{Advances, TakesNext}
+use Rattle.usb_purge.specs.declared.twins.Told.{Told}
+use Rattle.usb_purge.specs.Driving.{TakesNext}
 use Rattle.usb_purge.specs.Laws.{uncut_numbers}
 use Rattle.usb_purge.specs.PlanRuns.{PlanState, Performs, ShowsStage, entries_of}
 
@@ -38,52 +39,62 @@ StepsAlone false step entry own own' told told' = (own' ≡ own) × (told'.share
 abbrev pub StepsBoth : {P : Type 0} → ℕ → Step → (core core' own own' : State P) → (told told' : Comparison) → Type 0
 StepsBoth h step core core' own own' told told' = (entry : Entry) × Turns core step entry core' × StepsAlone (is_own h (place_of step entry)) step entry own own' told told'
 
--- two runs side by side: that of a plan, and that of a handle's own pieces; the callbacks that are left to each, and what was told of the handle by each
+-- two runs side by side: that of a plan, and that of a handle's own pieces; and the callbacks that are left to each
 pub record TwinState (P : Type 0) : Type 0 where
   pub run : PlanState P
   pub own : PlanState P
   pub left : List P
   pub its : List P
-  pub shared : List Entry
-  pub alone : List Entry
 
 -- there is a callback left to either
 abbrev pub AreLeft : {P : Type 0} → TwinState P → Type 0
 AreLeft v = (0 < length v.left) × (0 < length v.its)
 
-module _ {P : Type 0} (rule : P → Rule) where
-  -- what a piece of a plan that is the handle's own, or isn't, does to the run of the handle alone, and to the entries that are told of both
-  abbrev pub PerformsAlone : (is_own : Bool) → Plan → (callback : Option P) → List Entry → (own own' : PlanState P) → (shared shared' alone alone' : List Entry) → Type 0
-  PerformsAlone true piece callback entries own own' shared shared' alone alone' = (shared' ≡ shared ++ entries) × Advances rule own piece callback own' alone alone'
-  PerformsAlone false piece callback entries own own' shared shared' alone alone' = (own' ≡ own) × (shared' ≡ shared) × (alone' ≡ alone)
+-- the entries that are told of a piece, of the run amid the others
+abbrev pub shared_of : {P : Type 0} → Option (Told P) → List Entry
+shared_of None = []
+shared_of (Some t) = entries_of t.shared
 
-  -- a piece was performed amid the others, and where it is the handle's own, alone; each run has a callback of its own for it
-  abbrev pub PerformsBoth : ℕ → Plan → (callback its : Option P) → (run run' own own' : PlanState P) → (shared shared' alone alone' : List Entry) → Type 0
-  PerformsBoth h piece callback its run run' own own' shared shared' alone alone' =
-      (x : Performed P) × Performs rule run piece callback (entries_of x) run' × PerformsAlone (is_own_by h piece x.entry) piece its (entries_of x) own own' shared shared' alone alone'
+-- and of the run alone
+abbrev pub alone_of : {P : Type 0} → Option (Told P) → List Entry
+alone_of None = []
+alone_of (Some t) = entries_of t.alone
+
+module _ {P : Type 0} (rule : P → Rule) where
+  -- a piece that isn't the handle's own was performed amid the others, and nothing is told of it; one that is was performed by either run, with a callback of its own, and what came of it in either is told
+  abbrev pub PerformsBoth : ℕ → Plan → (callback its : Option P) → (run run' own own' : PlanState P) → Option (Told P) → Type 0
+  PerformsBoth h piece callback its run run' own own' None =
+      (x : Performed P) × Performs rule run piece callback (entries_of x) run' × (is_own_by h piece x.entry ≡ false) × (own' ≡ own)
+  PerformsBoth h piece callback its run run' own own' (Some t) =
+      Performs rule run piece callback (entries_of t.shared) run' × (is_own_by h piece t.shared.entry ≡ true) × Performs rule own piece its (entries_of t.alone) own'
 
   -- so it is of two runs side by side; the callbacks that are left to them stay
-  pub record PerformsTwice (h : ℕ) (piece : Plan) (callback mine : Option P) (old new : TwinState P) : Type 0 where
-    pub both : PerformsBoth h piece callback mine old.run new.run old.own new.own old.shared new.shared old.alone new.alone
+  pub record PerformsTwice (h : ℕ) (piece : Plan) (callback mine : Option P) (old new : TwinState P) (told : Option (Told P)) : Type 0 where
+    pub both : PerformsBoth h piece callback mine old.run new.run old.own new.own told
     pub left : new.left ≡ old.left
     pub its : new.its ≡ old.its
 
   -- a piece was performed with the next callbacks of either, where it submits
-  pub record AdvancesBoth (h : ℕ) (piece : Plan) (old new : TwinState P) : Type 0 where
+  pub record AdvancesBoth (h : ℕ) (piece : Plan) (old new : TwinState P) (told : Option (Told P)) : Type 0 where
     pub callback : Option P
     pub mine : Option P
     pub takes : TakesNext (is_submission piece) old.left new.left callback
     pub takes_its : TakesNext (is_submission piece) old.its new.its mine
-    pub both : PerformsBoth h piece callback mine old.run new.run old.own new.own old.shared new.shared old.alone new.alone
+    pub both : PerformsBoth h piece callback mine old.run new.run old.own new.own told
 
-  -- no piece was performed, and nothing told: each run shows the first stage of its own devices, and has these callbacks
+  -- and what is told of it stands behind the rest
+  pub record Compares (h : ℕ) (piece : Plan) (old new : TwinState P) (before after : Comparison) : Type 0 where
+    pub told : Option (Told P)
+    pub advances : AdvancesBoth h piece old new told
+    pub shared : after.shared ≡ before.shared ++ shared_of told
+    pub alone : after.alone ≡ before.alone ++ alone_of told
+
+  -- no piece was performed: each run shows the first stage of its own devices, and has these callbacks
   pub record Begins (setup other : Setup) (callbacks others : List P) (v : TwinState P) : Type 0 where
     pub run : (rules : List Rule) → ShowsStage rule setup v.run (first_stage setup rules)
     pub own : (rules : List Rule) → ShowsStage rule other v.own (first_stage other rules)
     pub left : v.left ≡ callbacks
     pub its : v.its ≡ others
-    pub shared : v.shared ≡ []
-    pub alone : v.alone ≡ []
 
 -- each callback stands among these entries at most once
 abbrev pub AreCalledOnce : List Entry → Type 0

@@ -49,7 +49,7 @@ fn put(entries: &mut Vec<Entry>, entry: Entry)
 }
 
 /// Puts the entries of a piece behind the others, where there is room for both. Takes no memory.
-pub(crate) fn tell<C: Drop>(entries: &mut Vec<Entry>, performed: Performed<C>)
+fn tell<C: Drop>(entries: &mut Vec<Entry>, performed: Performed<C>)
     requires { vec_len entries.old + 2 ≤ vec_capacity entries.old }
     ensures { entries.new.items ≡ entries.old.items ++ entries_of performed }
 {
@@ -62,7 +62,7 @@ pub(crate) fn tell<C: Drop>(entries: &mut Vec<Entry>, performed: Performed<C>)
 }
 
 /// Performs one piece more: its entries stand behind the others. Where memory is refused the entries are as before.
-pub(crate) fn advance<C: Callback, D: Device>(
+fn advance<C: Callback, D: Device>(
     run: &mut PlanRun<C, D>,
     piece: &Plan,
     callback: Option<C>,

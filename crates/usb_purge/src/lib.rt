@@ -15,4 +15,4 @@ mod twins;
 pub use comparison::{Comparison, alone};
 pub use driving::{drive, next_callback};
 pub use plan_run::{Performed, PlanRun};
-pub use twins::drive_alone;
+pub use twins::{Told, Twins, drive_alone};

@@ -1,16 +1,16 @@
 //! A plan run twice, side by side: all of it amid the others, and a handle's own pieces of it by themselves.
 
-ghost use Rattle.std.specs.Prelude.{◌≡◌, ◌≢◌, true, false, IfOk, is_some, length, map};
+ghost use Rattle.std.specs.Prelude.{◌≡◌, ◌≢◌, ◌++◌, true, false, IfOk, is_some, length, map};
 ghost use Rattle.std.specs.List.{AllByRecursion, count_by};
 ghost use Rattle.usb_model.specs.declared.verdict.Rule.TheVariants.{Free};
 ghost use Rattle.usb_model.specs.World.Plans.{is_submission};
 ghost use Rattle.usb_state.specs.Making.{setup_of};
-ghost use Rattle.usb_purge.specs.Alone.{AdvancesBoth, AreLeft, Begins, PerformsTwice, TellsPlan, is_own_by};
-ghost use Rattle.usb_purge.specs.PlanRuns.{is_verdict};
+ghost use Rattle.usb_purge.specs.Alone.{AdvancesBoth, AreLeft, Begins, Compares, PerformsTwice, TellsPlan, is_own_by};
+ghost use Rattle.usb_purge.specs.PlanRuns.{entries_of, is_verdict};
 
 use crate::comparison::Comparison;
-use crate::driving::{advance, next_callback, tell};
-use crate::plan_run::PlanRun;
+use crate::driving::next_callback;
+use crate::plan_run::{Performed, PlanRun};
 use std::alloc::{AllocError, Global};
 use std::marker::Model;
 use std::vec::IntoIter;
@@ -19,16 +19,24 @@ use usb_core::Setup;
 use usb_device::Device;
 use usb_model::{Entry, Name, Plan, Sequence};
 
-/// A run of a plan amid all handles, and one of a handle's own pieces beside it. Each has callbacks of its own for the
-/// submissions to come, and the entries that were told of the handle.
+/// What came of a piece that is the handle's own.
 #[derive(Drop)]
-struct Twins<C: Callback, D: Device> {
+pub struct Told<C> {
+    /// Amid the others.
+    pub shared: Performed<C>,
+    /// In the handle's own run.
+    pub alone: Performed<C>,
+}
+
+/// A run of a plan amid all handles, and one of a handle's own pieces beside it, each with callbacks of its own for the
+/// submissions to come. Contracts see both runs and both lists of callbacks. Where memory is refused it is to be dropped:
+/// what it shows then isn't said.
+#[derive(Drop)]
+pub struct Twins<C: Callback, D: Device> {
     run: PlanRun<C, D>,
     own: PlanRun<C, D>,
     left: IntoIter<C>,
     its: IntoIter<C>,
-    shared: Vec<Entry>,
-    alone: Vec<Entry>,
 }
 
 impl<C: Callback, D: Device> Model for Twins<C, D> {
@@ -42,8 +50,6 @@ impl<C: Callback, D: Device> Model for Twins<C, D> {
       own = t.own;
       left = into_iter_items t.left;
       its = into_iter_items t.its;
-      shared = t.shared.items;
-      alone = t.alone.items;
     } };
 }
 
@@ -58,8 +64,8 @@ fn is_own(h: Name, piece: &Plan, entry: &Entry) -> bool
 }
 
 impl<C: Callback, D: Device> Twins<C, D> {
-    /// Neither has a device open or a callback that runs, and nothing was told.
-    fn new(
+    /// Neither has a device open or a callback that runs. Each has a setup and callbacks of its own.
+    pub fn new(
         alloc: Global,
         setup: Setup<D>,
         other_setup: Setup<D>,
@@ -79,8 +85,6 @@ impl<C: Callback, D: Device> Twins<C, D> {
             own,
             left: callbacks.into_iter(),
             its: other_callbacks.into_iter(),
-            shared: Vec::new(alloc),
-            alone: Vec::new(alloc),
         })
     }
 
@@ -91,43 +95,61 @@ impl<C: Callback, D: Device> Twins<C, D> {
         piece: &Plan,
         callback: Option<C>,
         its: Option<C>,
-    ) -> Result<(), AllocError>
+    ) -> Result<Option<Told<C>>, AllocError>
         requires submits { is_submission piece.now ≡ true → is_some callback ≡ true }
         requires submits_its { is_submission piece.now ≡ true → is_some its ≡ true }
         requires no_verdict { is_verdict piece.now ≡ false }
-        ensures { IfOk result (λ _. PerformsTwice C.rule h piece.now callback its self.old self.new) }
+        ensures { IfOk result (λ told. PerformsTwice C.rule h piece.now callback its self.old self.new told) }
     {
-        self.shared.reserve(2)?;
-        let performed = self.run.perform(piece, callback)?;
-        if !is_own(h, piece, &performed.entry) {
-            return Ok(());
+        let shared = self.run.perform(piece, callback)?;
+        if !is_own(h, piece, &shared.entry) {
+            return Ok(None);
         }
-        tell(&mut self.shared, performed);
-        advance(&mut self.own, piece, its, &mut self.alone)?;
-        Ok(())
+        let alone = self.own.perform(piece, its)?;
+        Ok(Some(Told { shared, alone }))
     }
 
-    /// One piece more, with the next callbacks where it submits.
-    fn advance(&mut self, h: Name, piece: &Plan) -> Result<(), AllocError>
+    /// One piece of the plan more, with the next callbacks where it submits. What is told is what came of it, by either
+    /// run; nothing of a piece that isn't the handle's own.
+    pub fn advance(&mut self, h: Name, piece: &Plan) -> Result<Option<Told<C>>, AllocError>
         requires submits { is_submission piece.now ≡ true → AreLeft self.old }
         requires no_verdict { is_verdict piece.now ≡ false }
-        ensures { IfOk result (λ _. AdvancesBoth C.rule h piece.now self.old self.new) }
+        ensures { IfOk result (λ told. AdvancesBoth C.rule h piece.now self.old self.new told) }
     {
         let callback = next_callback(piece, &mut self.left);
         let its = next_callback(piece, &mut self.its);
         self.perform(h, piece, callback, its)
     }
+}
 
-    /// What was told of the handle. Takes no memory.
-    fn into_told(self) -> Comparison
-        ensures shared { result.shared ≡ self.shared }
-        ensures alone { result.alone ≡ self.alone }
-    {
-        Comparison {
-            shared: Sequence::from_vec(self.shared),
-            alone: Sequence::from_vec(self.alone),
-        }
+/// Puts the entries of a piece behind the others.
+fn put<C: Drop>(entries: &mut Sequence<Entry>, performed: Performed<C>) -> Result<(), AllocError>
+    ensures { IfOk result (λ _. entries.new ≡ entries.old ++ entries_of performed) }
+{
+    let Performed { entry, stop, .. } = performed;
+    entries.push(entry)?;
+    match stop {
+        None => Ok(()),
+        Some(stop) => entries.push(stop),
     }
+}
+
+/// One piece of the plan more. What is told of it stands behind the rest.
+fn compare<C: Callback, D: Device>(
+    twins: &mut Twins<C, D>,
+    h: Name,
+    piece: &Plan,
+    told: &mut Comparison,
+) -> Result<(), AllocError>
+    requires submits { is_submission piece.now ≡ true → AreLeft twins.old }
+    requires no_verdict { is_verdict piece.now ≡ false }
+    ensures { IfOk result (λ _. Compares C.rule h piece.now twins.old twins.new told.old told.new) }
+{
+    if let Some(Told { shared, alone }) = twins.advance(h, piece)? {
+        put(&mut told.shared, shared)?;
+        put(&mut told.alone, alone)?;
+    }
+    Ok(())
 }
 
 /// A handle's entries of a plan amid the others, and alone over its own pieces of the plan, each by a core and with
@@ -154,8 +176,12 @@ pub fn drive_alone<C: Callback, D: Device>(
     ensures { IfOk result (λ told. TellsPlan (setup_of setup) plan.now (map C.rule callbacks.items) h told) }
 {
     let mut twins = Twins::new(alloc, setup, other_setup, callbacks, other_callbacks)?;
+    let mut told = Comparison {
+        shared: Sequence::new(alloc),
+        alone: Sequence::new(alloc),
+    };
     for piece in plan {
-        twins.advance(h, piece)?;
+        compare(&mut twins, h, piece, &mut told)?;
     }
-    Ok(twins.into_told())
+    Ok(told)
 }
