@@ -21,15 +21,10 @@ use Rattle.usb_purge.specs.PlanRuns.{Performs, PlanState, ShowsStage, StandsFor,
 use Rattle.usb_purge.specs.declared.plan_run.Performed.{Performed}
 use Rattle.usb_purge.specs.declared.twins.Told.{Told}
 use Rattle.usb_purge.proofs.Expansion.{IsOthersPiece, IsOwnPiece, IsSame, others_piece, own_piece, same_after, same_past}
-use Rattle.usb_purge.proofs.Plans.{AreFixed, IsFixedStage, fixed_after, fixed_once, one_return}
+use Rattle.usb_purge.proofs.Plans.{AreFixed, IsFixedStage, fixed_after, fixed_once, stands_only}
 use Rattle.usb_purge.proofs.Reached.{piece_rules, piece_world}
 use Rattle.usb_purge.proofs.Runs.{entries-append, entries_all, entries_none, told_again}
 use Rattle.usb_purge.proofs.Taking.{Takes, has_one, takes}
-
--- where no rule is Free a piece stands for these steps alone
-stands_only : (setup : Setup) (s : Stage) (piece : Plan) (here : List Step) → IsFixedStage s → StandsFor setup s piece here → here ≡ steps_of setup s piece
-stands_only setup s (Do step) here fixed is = is
-stands_only setup s (Return h n) here fixed (v, fits, is) = is ∙ ap (return_steps setup s.world h n) (one_return (returning s h n) (s.book h n) v (fixed.noted h n) fits)
 
 -- the same stage but for the rules to come
 abbrev ruled : Stage → List Rule → Stage

@@ -6,8 +6,8 @@ mod Runs
 mod Gentle
 mod Verdicts
 mod Expansion
-mod Plans
-mod Taking
+pub mod Plans
+pub mod Taking
 mod Endpoints
 mod Held
 mod Owners

@@ -14,6 +14,7 @@ use Rattle.usb_model.specs.declared.plan.Plan.TheVariants.{Do, Return}
 use Rattle.usb_model.specs.declared.result.InCallback.{InCallback}
 use Rattle.usb_model.specs.Setup.{Setup}
 use Rattle.usb_model.specs.World.{turn}
+use Rattle.usb_purge.specs.PlanRuns.{StandsFor}
 use Rattle.usb_model.specs.World.Plans.{verdict_of, FitsRule, once_only, Book, noted_by, verdict_by, FitsReturn, return_steps, is_submit, rules_past, rules_after, first_rule, rule_for, Stage, first_stage, returning, steps_of, stage_after, expand_from, ExpandsFrom}
 use Rattle.usb_purge.specs.Laws.{MayExpand, ExpandsOnly}
 
@@ -112,6 +113,11 @@ one_verdict (rule.Again on rounds) s round v fixed e = e
 pub one_return : (o : Option InCallback) (r : Rule) (v : Verdict) → IsFixed r → FitsReturn o r v → v ≡ verdict_by o r
 one_return None r v fixed e = e
 one_return (Some x) r v fixed e = one_verdict r x.status x.round v fixed e
+
+-- where no rule is Free a piece stands for these steps alone
+pub stands_only : (setup : Setup) (s : Stage) (piece : Plan) (here : List Step) → IsFixedStage s → StandsFor setup s piece here → here ≡ steps_of setup s piece
+stands_only setup s (Do step) here fixed is = is
+stands_only setup s (Return h n) here fixed (v, fits, is) = is ∙ ap (return_steps setup s.world h n) (one_return (returning s h n) (s.book h n) v (fixed.noted h n) fits)
 
 -- what stands behind a return with this verdict
 abbrev Rest : Setup → Stage → ℕ → ℕ → List Plan → List Step → Verdict → Type 0
