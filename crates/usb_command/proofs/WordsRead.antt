@@ -10,11 +10,19 @@ use Rattle.clap.specs.declared.error.kind.ErrorKind.TheVariants as kind
 use Rattle.clap.proofs.OnLiterals.{clap_on_literals}
 use Rattle.usb_command.specs.CommandLine.{AreBad, AskFor, AskForHelp, grammar, task_of}
 use Rattle.usb_command.specs.declared.words.Task.{Task}
-use Rattle.usb_command.specs.declared.words.Task.TheVariants.{Run, Alone, Check, Draw}
+use Rattle.usb_command.specs.declared.words.Task.TheVariants.{Run, Alone, Live, Left, Check, Draw}
 
 pub run_asks : (name : Text) → AskFor (name ∷ codes "run" ∷ []) Run
 unfolding clap_on_literals
 run_asks name = (refl, refl)
+
+pub live_asks : (name : Text) → AskFor (name ∷ codes "live" ∷ []) Live
+unfolding clap_on_literals
+live_asks name = (refl, refl)
+
+pub left_asks : (name : Text) → AskFor (name ∷ codes "left" ∷ []) Left
+unfolding clap_on_literals
+left_asks name = (refl, refl)
 
 pub check_asks : (name : Text) → AskFor (name ∷ codes "check" ∷ []) Check
 unfolding clap_on_literals
@@ -27,6 +35,10 @@ draw_asks name = (refl, refl)
 pub check_of_a_file_is_bad : (name : Text) → AreBad (name ∷ codes "check" ∷ codes "1" ∷ [])
 unfolding clap_on_literals
 check_of_a_file_is_bad name = (kind.UnknownArgument, inl refl, λ e. cc)
+
+pub live_alone_is_bad : (name : Text) → AreBad (name ∷ codes "live" ∷ codes "1" ∷ [])
+unfolding clap_on_literals
+live_alone_is_bad name = (kind.UnknownArgument, inl refl, λ e. cc)
 
 pub help_asks : (name : Text) → AskForHelp (name ∷ codes "-h" ∷ [])
 unfolding clap_on_literals
@@ -75,6 +87,8 @@ held_below (suc n) k test e low = by_test (test n) (holds_below n test) refl ref
 abbrev is_alone : ℕ → Option Task → Bool
 is_alone h (Some (Alone k)) = nat_eq k h
 is_alone h (Some Run) = false
+is_alone h (Some Live) = false
+is_alone h (Some Left) = false
 is_alone h (Some Check) = false
 is_alone h (Some Draw) = false
 is_alone h None = false
@@ -82,6 +96,8 @@ is_alone h None = false
 is_alone_says : (h : ℕ) (task : Option Task) → is_alone h task ≡ true → task ≡ Some (Alone h)
 is_alone_says h (Some (Alone k)) e = ap (λ (n : ℕ). Some (Alone n)) (eqb-true k h e)
 is_alone_says h (Some Run) e = let bad : false ≡ true = e in cc
+is_alone_says h (Some Live) e = let bad : false ≡ true = e in cc
+is_alone_says h (Some Left) e = let bad : false ≡ true = e in cc
 is_alone_says h (Some Check) e = let bad : false ≡ true = e in cc
 is_alone_says h (Some Draw) e = let bad : false ≡ true = e in cc
 is_alone_says h None e = let bad : false ≡ true = e in cc

@@ -7,7 +7,7 @@ ghost use Rattle.clap.specs.Matches.{found_of};
 ghost use Rattle.clap.specs.Simple.{app_of, shape_of};
 ghost use Rattle.clap.specs.declared.builder.command.Command.TheViews.{out-Command as fields_of};
 ghost use Rattle.clap.specs.Walk.{rows_of, rule_of};
-ghost use Rattle.usb_command.specs.CommandLine.{AskFor, alone_words, check_words, draw_words, grammar, handle_in, handle_word, program_alone, run_words};
+ghost use Rattle.usb_command.specs.CommandLine.{AskFor, alone_words, check_words, draw_words, grammar, handle_in, handle_word, left_words, live_words, program_alone, program_of_runs, run_words};
 ghost use Rattle.usb_words.specs.Words.{words_of};
 
 use crate::help;
@@ -23,6 +23,10 @@ pub enum Task {
     Run,
     /// Print the entries of this handle alone.
     Alone(Name),
+    /// Run the scenario in threads, and print what its callbacks were told.
+    Live,
+    /// Print what the scenario leaves behind.
+    Left,
     /// Print what is wrong with the scenario.
     Check,
     /// Draw the run of the scenario.
@@ -41,6 +45,12 @@ pub fn read_words(alloc: Global, words: &[&str]) -> Result<Task, Error>
     if let Some(found) = matches.subcommand_matches("alone") {
         return Ok(Task::Alone(handle_of(found)?));
     }
+    if matches.subcommand_matches("live").is_some() {
+        return Ok(Task::Live);
+    }
+    if matches.subcommand_matches("left").is_some() {
+        return Ok(Task::Left);
+    }
     if matches.subcommand_matches("check").is_some() {
         return Ok(Task::Check);
     }
@@ -54,11 +64,20 @@ pub fn read_words(alloc: Global, words: &[&str]) -> Result<Task, Error>
 fn command<'a>(alloc: Global) -> Result<Command<'a>, AllocError>
     ensures { IfOk result (λ command. app_of command ≡ grammar) }
 {
+    runs(alloc)?
+        .subcommand(left(alloc))?
+        .subcommand(check(alloc))?
+        .subcommand(draw(alloc))
+}
+
+/// The words that run a scenario and print entries.
+fn runs<'a>(alloc: Global) -> Result<Command<'a>, AllocError>
+    ensures { IfOk result (λ command. app_of command ≡ program_of_runs) }
+{
     program(alloc)
         .subcommand(run(alloc))?
         .subcommand(alone(alloc)?)?
-        .subcommand(check(alloc))?
-        .subcommand(draw(alloc))
+        .subcommand(live(alloc))
 }
 
 /// The program's name, with what holds for all its words.
@@ -91,6 +110,26 @@ fn alone<'a>(alloc: Global) -> Result<Command<'a>, AllocError>
         .about("Prints the entries of one handle, alone over its own steps")
         .after_help(help::ALONE)
         .arg(handle(alloc))
+}
+
+/// The words `live`.
+fn live<'a>(alloc: Global) -> Command<'a>
+    ensures words { shape_of result ≡ live_words }
+    ensures local { (fields_of result).has_globals ≡ false }
+{
+    Command::new(alloc, "live")
+        .about("Runs the scenario in threads, and prints what its callbacks were told")
+        .after_help(help::LIVE)
+}
+
+/// The words `left`.
+fn left<'a>(alloc: Global) -> Command<'a>
+    ensures words { shape_of result ≡ left_words }
+    ensures local { (fields_of result).has_globals ≡ false }
+{
+    Command::new(alloc, "left")
+        .about("Prints what the scenario's run leaves behind, handle by handle")
+        .after_help(help::LEFT)
 }
 
 /// The words `check`.

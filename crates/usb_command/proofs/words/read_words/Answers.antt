@@ -3,7 +3,7 @@ use Rattle.clap.specs.Matches.{found_of}
 use Rattle.clap.specs.Simple.{app_of}
 use Rattle.clap.specs.Walk.{rows_of}
 use Rattle.usb_words.specs.Words.{words_of}
-use Rattle.usb_command.specs.declared.words.Task.TheVariants.{Check, Draw}
+use Rattle.usb_command.specs.declared.words.Task.TheVariants.{Check, Draw, Left, Live}
 use Rattle.usb_command.proofs.CommandLines.{asks_for, asks_for_alone, asks_for_run, met, without_fault}
 use Rattle.usb_command.proofs.words.read_words.Goals as goal
 
@@ -28,7 +28,7 @@ returns-then-is_some-clause-task c =
     let words = words_of c.args.words.now in
     let a = app_of c.in_ok-command.field-0 in (
       without_fault a words c.in_ok-command.ensures c.in_ok-matches.ensures.kinds,
-      asks_for (codes "check") Check (λ rows. refl) words c.in_ok-matches.matches (met a words c.in_ok-matches.matches c.in_ok-command.ensures c.in_ok-matches.ensures.matches)
+      asks_for (codes "live") Live (λ rows. refl) words c.in_ok-matches.matches (met a words c.in_ok-matches.matches c.in_ok-command.ensures c.in_ok-matches.ensures.matches)
           (search rules),
     )
 
@@ -37,6 +37,30 @@ returns-then-is_some-2-clause-fault c = without_fault (app_of c.in_ok-command.fi
 
 pub returns-then-is_some-2-clause-task : goal.returns-then-is_some-2-clause-task
 returns-then-is_some-2-clause-task c =
+    let words = words_of c.args.words.now in
+    let a = app_of c.in_ok-command.field-0 in (
+      without_fault a words c.in_ok-command.ensures c.in_ok-matches.ensures.kinds,
+      asks_for (codes "left") Left (λ rows. refl) words c.in_ok-matches.matches (met a words c.in_ok-matches.matches c.in_ok-command.ensures c.in_ok-matches.ensures.matches)
+          (search rules),
+    )
+
+pub returns-then-is_some-3-clause-fault : goal.returns-then-is_some-3-clause-fault
+returns-then-is_some-3-clause-fault c = without_fault (app_of c.in_ok-command.field-0) (words_of c.args.words.now) c.in_ok-command.ensures c.in_ok-matches.ensures.kinds
+
+pub returns-then-is_some-3-clause-task : goal.returns-then-is_some-3-clause-task
+returns-then-is_some-3-clause-task c =
+    let words = words_of c.args.words.now in
+    let a = app_of c.in_ok-command.field-0 in (
+      without_fault a words c.in_ok-command.ensures c.in_ok-matches.ensures.kinds,
+      asks_for (codes "check") Check (λ rows. refl) words c.in_ok-matches.matches (met a words c.in_ok-matches.matches c.in_ok-command.ensures c.in_ok-matches.ensures.matches)
+          (search rules),
+    )
+
+pub returns-then-is_some-4-clause-fault : goal.returns-then-is_some-4-clause-fault
+returns-then-is_some-4-clause-fault c = without_fault (app_of c.in_ok-command.field-0) (words_of c.args.words.now) c.in_ok-command.ensures c.in_ok-matches.ensures.kinds
+
+pub returns-then-is_some-4-clause-task : goal.returns-then-is_some-4-clause-task
+returns-then-is_some-4-clause-task c =
     let words = words_of c.args.words.now in
     let a = app_of c.in_ok-command.field-0 in (
       without_fault a words c.in_ok-command.ensures c.in_ok-matches.ensures.kinds,
@@ -54,5 +78,5 @@ returns-clause-task c =
     let clear = without_fault a words c.in_ok-command.ensures c.in_ok-matches.ensures.kinds in (
       clear,
       asks_for_run words c.in_ok-matches.matches (met a words c.in_ok-matches.matches c.in_ok-command.ensures c.in_ok-matches.ensures.matches)
-          (search rules) (search rules) (search rules) clear,
+          (search rules) (search rules) (search rules) (search rules) (search rules) clear,
     )
