@@ -3,8 +3,10 @@ use Rattle.std.proofs.Common.{◌≡◌, ◌⊎◌, ◌∙◌, ℕ, Bool, true, 
 use Rattle.std.specs.Prelude.{◌&&◌, Box, find, not, option_map, slice_index_or, unwrap_or}
 use Rattle.std.specs.Box.{box_value}
 use Rattle.std.specs.List.{list_any}
+use Rattle.std.specs.Option.{option_map_or}
+use Rattle.std.specs.Str.{bytes_eq}
 use Rattle.std.specs.Str.Parse.{ExplainsUnsignedError, HasUnsignedDigitsIfOk, ParsesUnsigned, digits_value, without_leading_plus}
-use Rattle.clap.specs.Matches.{ReadsOne, one_text, subcommand_name_of}
+use Rattle.clap.specs.Matches.{ReadsOne, first_value, one_text, subcommand_name_of}
 use Rattle.clap.specs.Faults.{check_fault, defaults_fault, entered_fault, fault_of, is_simple_and_free, level_fault, settle_fault, walk_fault}
 use Rattle.clap.specs.Kinds.{Kinds, check_kinds, or_else}
 use Rattle.clap.specs.Simple.{App, HasMatchesOf, Shape, argument_words, built, entered, label_of, names_of, is_simple, rows_at, subcommand_of, subcommand_rows, subcommand_rows_of}
@@ -15,10 +17,9 @@ use Rattle.clap.specs.declared.parser.matches.ArgMatches.TheViews.{out-ArgMatche
 use Rattle.clap.specs.declared.parser.matches.SubCommand.{SubCommand}
 use Rattle.clap.specs.declared.parser.matches.Found.{Found}
 use Rattle.clap.proofs.OnLiterals.{clap_on_literals}
-use Rattle.clap.proofs.WalkLemmas.{one_text-rows}
-use Rattle.usb_command.specs.CommandLine.{grammar, handle_in, task_named, task_of}
+use Rattle.clap.proofs.WalkLemmas.{first_value-rows, one_text-rows}
+use Rattle.usb_command.specs.CommandLine.{grammar, handle_in, is_stepwise, task_named, task_of}
 use Rattle.usb_command.specs.declared.words.Task.{Task}
-use Rattle.usb_command.specs.declared.words.Task.TheVariants.{Alone, Run}
 
 -- a number that a getter reads is the number that the text says
 pub number_read : (t : List ℕ) (n : ℕ) (r : Option ℕ)
@@ -163,20 +164,23 @@ name_of_rows : {Z : Type 0} (o : Option (Box SubCommand Z)) → option_map (λ n
 name_of_rows None = refl
 name_of_rows (Some b) = refl
 
--- words whose subcommand is `alone`, with a handle's number behind it, ask for that handle alone
-pub asks_for_alone : (words : List Text) (m : ArgMatches) (rows : List Row) (h : ℕ)
-    → subcommand_rows_of m ≡ subcommand_of grammar words → subcommand_name_of m ≡ Some (codes "alone")
-    → option_map (λ n. n.1) (subcommand_rows_of m) ≡ Some rows → handle_in rows ≡ Some h
-    → task_of (subcommand_of grammar words) ≡ Some (Alone h)
-asks_for_alone words m rows h same name behind number = by_rows (subcommand_rows_of m) refl
+-- words whose subcommand has this name, with these rows behind it, ask for the task that both say
+pub asks_behind : (name : Text) (rows : List Row) (task : Task) → task_named name rows ≡ Some task → (words : List Text) (m : ArgMatches)
+    → subcommand_rows_of m ≡ subcommand_of grammar words → subcommand_name_of m ≡ Some name
+    → option_map (λ n. n.1) (subcommand_rows_of m) ≡ Some rows → task_of (subcommand_of grammar words) ≡ Some task
+asks_behind name rows task says words m same called behind = by_rows (subcommand_rows_of m) refl
   where
-    by_rows : (o : Option (Text × List Row)) → subcommand_rows_of m ≡ o → task_of (subcommand_of grammar words) ≡ Some (Alone h)
+    by_rows : (o : Option (Text × List Row)) → subcommand_rows_of m ≡ o → task_of (subcommand_of grammar words) ≡ Some task
     by_rows None at = let gone : None ≡ Some rows = rw at at behind in cc
     by_rows (Some named) at =
-        let its_name : Some named.0 ≡ Some (codes "alone") = ap (option_map (λ n. n.0)) (sym at) ∙ name_of_rows (out-ArgMatches m).subcommand ∙ name in
-        let is_name : named.0 ≡ codes "alone" = ap (λ o. unwrap_or o []) its_name in
+        let its_name : Some named.0 ≡ Some name = ap (option_map (λ n. n.0)) (sym at) ∙ name_of_rows (out-ArgMatches m).subcommand ∙ called in
+        let is_name : named.0 ≡ name = ap (λ o. unwrap_or o []) its_name in
         let its_rows : named.1 ≡ rows = ap (λ o. unwrap_or o []) (ap (option_map (λ n. n.1)) (sym at) ∙ behind) in
-        ap task_of (sym same ∙ at) ∙ ap₂ task_named is_name its_rows ∙ ap (option_map Alone) number
+        ap task_of (sym same ∙ at) ∙ ap₂ task_named is_name its_rows ∙ says
+
+-- the flag that was read is that of the rows
+pub flag_read : (f : Found) (o : Option Text) → o ≡ first_value f (codes "steps") → option_map_or (λ text. bytes_eq text (codes "true")) o false ≡ is_stepwise (rows_of f)
+flag_read f o read = ap (λ (x : Option Text). option_map_or (λ text. bytes_eq text (codes "true")) x false) (read ∙ first_value-rows f (codes "steps"))
 
 -- words whose subcommand has this name ask for the task that the name alone says
 pub asks_for : (name : Text) (task : Task) → ((rows : List Row) → task_named name rows ≡ Some task) → (words : List Text) (m : ArgMatches)
@@ -192,30 +196,29 @@ asks_for name task says words m same is_name = by_rows (subcommand_rows_of m) re
         let its : named.0 ≡ name = ap (λ o. unwrap_or o []) its_name in
         ap task_of (sym same ∙ at) ∙ (ap (λ (n : Text). task_named n named.1) its ∙ says named.1)
 
--- words without fault whose subcommand is none of the others ask for a run
-pub asks_for_run : (words : List Text) (m : ArgMatches) → subcommand_rows_of m ≡ subcommand_of grammar words
+-- words without fault have one of the subcommands
+pub has_one : (words : List Text) (m : ArgMatches) (task : Task) → subcommand_rows_of m ≡ subcommand_of grammar words
     → (subcommand_name_of m ≡ Some (codes "alone") → ⊥) → (subcommand_name_of m ≡ Some (codes "live") → ⊥) → (subcommand_name_of m ≡ Some (codes "left") → ⊥)
-    → (subcommand_name_of m ≡ Some (codes "check") → ⊥)
-    → (subcommand_name_of m ≡ Some (codes "draw") → ⊥)
-    → fault_of grammar words ≡ [] → task_of (subcommand_of grammar words) ≡ Some Run
-asks_for_run words m same other third fourth fifth sixth clear = by_rows (subcommand_of grammar words) refl (has_subcommand_without_fault words clear)
+    → (subcommand_name_of m ≡ Some (codes "check") → ⊥) → (subcommand_name_of m ≡ Some (codes "draw") → ⊥) → (subcommand_name_of m ≡ Some (codes "run") → ⊥)
+    → fault_of grammar words ≡ [] → task_of (subcommand_of grammar words) ≡ Some task
+has_one words m task same no_alone no_live no_left no_check no_draw no_run clear = by_rows (subcommand_of grammar words) refl (has_subcommand_without_fault words clear)
   where
     name_is : (named : Text × List Row) (name : Text) → subcommand_of grammar words ≡ Some named → named.0 ≡ name → subcommand_name_of m ≡ Some name
     name_is named name at is = sym (name_of_rows (out-ArgMatches m).subcommand) ∙ ap (option_map (λ n. n.0)) (same ∙ at) ∙ ap Some is
 
-    by_rows : (o : Option (Text × List Row)) → subcommand_of grammar words ≡ o → is_some o ≡ true → task_of (subcommand_of grammar words) ≡ Some Run
+    by_rows : (o : Option (Text × List Row)) → subcommand_of grammar words ≡ o → is_some o ≡ true → task_of (subcommand_of grammar words) ≡ Some task
     by_rows None at some = cc
     by_rows (Some named) at some = elim (one_of_six words named at) [
-      | inl run ↦ ap task_of at ∙ ap (λ (name : Text). task_named name named.1) run
+      | inl run ↦ absurd (no_run (name_is named (codes "run") at run))
       | inr others ↦ elim others [
-        | inl alone ↦ absurd (other (name_is named (codes "alone") at alone))
+        | inl alone ↦ absurd (no_alone (name_is named (codes "alone") at alone))
         | inr more ↦ elim more [
-          | inl live ↦ absurd (third (name_is named (codes "live") at live))
+          | inl live ↦ absurd (no_live (name_is named (codes "live") at live))
           | inr rest ↦ elim rest [
-            | inl left ↦ absurd (fourth (name_is named (codes "left") at left))
+            | inl left ↦ absurd (no_left (name_is named (codes "left") at left))
             | inr last ↦ elim last [
-              | inl check ↦ absurd (fifth (name_is named (codes "check") at check))
-              | inr draw ↦ absurd (sixth (name_is named (codes "draw") at draw))
+              | inl check ↦ absurd (no_check (name_is named (codes "check") at check))
+              | inr draw ↦ absurd (no_draw (name_is named (codes "draw") at draw))
             ]
           ]
         ]

@@ -10,11 +10,15 @@ use Rattle.clap.specs.declared.error.kind.ErrorKind.TheVariants as kind
 use Rattle.clap.proofs.OnLiterals.{clap_on_literals}
 use Rattle.usb_command.specs.CommandLine.{AreBad, AskFor, AskForHelp, grammar, task_of}
 use Rattle.usb_command.specs.declared.words.Task.{Task}
-use Rattle.usb_command.specs.declared.words.Task.TheVariants.{Run, Alone, Live, Left, Check, Draw}
+use Rattle.usb_command.specs.declared.words.Task.TheVariants.{Run, Steps, Alone, Live, Left, Check, Draw}
 
 pub run_asks : (name : Text) → AskFor (name ∷ codes "run" ∷ []) Run
 unfolding clap_on_literals
 run_asks name = (refl, refl)
+
+pub steps_ask : (name : Text) → AskFor (name ∷ codes "run" ∷ codes "--steps" ∷ []) Steps
+unfolding clap_on_literals
+steps_ask name = (refl, refl)
 
 pub live_asks : (name : Text) → AskFor (name ∷ codes "live" ∷ []) Live
 unfolding clap_on_literals
@@ -87,6 +91,7 @@ held_below (suc n) k test e low = by_test (test n) (holds_below n test) refl ref
 abbrev is_alone : ℕ → Option Task → Bool
 is_alone h (Some (Alone k)) = nat_eq k h
 is_alone h (Some Run) = false
+is_alone h (Some Steps) = false
 is_alone h (Some Live) = false
 is_alone h (Some Left) = false
 is_alone h (Some Check) = false
@@ -96,6 +101,7 @@ is_alone h None = false
 is_alone_says : (h : ℕ) (task : Option Task) → is_alone h task ≡ true → task ≡ Some (Alone h)
 is_alone_says h (Some (Alone k)) e = ap (λ (n : ℕ). Some (Alone n)) (eqb-true k h e)
 is_alone_says h (Some Run) e = let bad : false ≡ true = e in cc
+is_alone_says h (Some Steps) e = let bad : false ≡ true = e in cc
 is_alone_says h (Some Live) e = let bad : false ≡ true = e in cc
 is_alone_says h (Some Left) e = let bad : false ≡ true = e in cc
 is_alone_says h (Some Check) e = let bad : false ≡ true = e in cc

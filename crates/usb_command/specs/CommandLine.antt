@@ -1,26 +1,35 @@
 -- The command line: which words mean which task, by the reading of clap's documentation.
-use Rattle.std.specs.Prelude.{◌≡◌, ◌≢◌, ℕ, ◌∷◌, [], List, Option, Some, None, true, false, codes, if◌then◌else◌, option_map}
+use Rattle.std.specs.Prelude.{◌≡◌, ◌≢◌, ℕ, Bool, ◌∷◌, [], List, Option, Some, None, true, false, codes, if◌then◌else◌, option_map}
+use Rattle.std.specs.Option.{option_map_or}
 use Rattle.std.specs.Str.{bytes_eq}
 use Rattle.std.specs.Str.Parse.{digits_value, without_leading_plus}
-use Rattle.clap.specs.Walk.{Row, Rule, Text, one_of}
+use Rattle.clap.specs.Walk.{Row, Rule, Text, first_of, one_of}
 use Rattle.clap.specs.Simple.{App, Shape, new_rule, new_shape, subcommand_of}
 use Rattle.clap.specs.Kinds.{IsAmong}
 use Rattle.clap.specs.Faults.{fault_of}
-use Rattle.clap.specs.declared.builder.action.ArgAction.TheVariants.{Set}
+use Rattle.clap.specs.declared.builder.action.ArgAction.TheVariants.{Set, SetTrue}
 use Rattle.clap.specs.declared.builder.value_parser.ValueParser.TheVariants.{Unsigned}
 use Rattle.clap.specs.declared.error.kind.ErrorKind.{ErrorKind}
 use Rattle.clap.specs.declared.error.kind.ErrorKind.TheVariants.{DisplayHelp}
 use Rattle.usb_words.specs.Number.{last_handle}
 use Rattle.usb_command.specs.declared.words.Task.{Task}
-use Rattle.usb_command.specs.declared.words.Task.TheVariants.{Run, Alone, Live, Left, Check, Draw}
+use Rattle.usb_command.specs.declared.words.Task.TheVariants.{Run, Steps, Alone, Live, Left, Check, Draw}
 
 -- the word H: a whole number from 0 to the last name, which has to be there
 abbrev pub handle_word : Rule
 handle_word = record (new_rule (codes "H")) { action = Some Set; parser = Some (Unsigned 0 last_handle); required = true }
 
--- run
+-- the word --steps: a flag
+abbrev pub steps_word : Rule
+steps_word = record (new_rule (codes "steps")) { long = Some (codes "steps"); action = Some SetTrue }
+
+-- run, or run --steps
 abbrev pub run_words : Shape
-run_words = new_shape (codes "run")
+run_words = record (new_shape (codes "run")) { rules = steps_word ∷ [] }
+
+-- whether the flag is there
+abbrev pub is_stepwise : List Row → Bool
+is_stepwise rows = option_map_or (λ text. bytes_eq text (codes "true")) (first_of (codes "steps") rows) false
 
 -- alone H
 abbrev pub alone_words : Shape
@@ -70,7 +79,7 @@ task_named name rows =
     else (if bytes_eq name (codes "left") then Some Left
     else (if bytes_eq name (codes "check") then Some Check
     else (if bytes_eq name (codes "draw") then Some Draw
-    else (if bytes_eq name (codes "run") then Some Run else None)))))
+    else (if bytes_eq name (codes "run") then Some (if is_stepwise rows then Steps else Run) else None)))))
 
 -- the task of the subcommand that the words name
 abbrev pub task_of : Option (Text × List Row) → Option Task

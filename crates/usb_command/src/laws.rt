@@ -3,13 +3,14 @@
 ghost use Rattle.std.specs.Prelude.{◌<◌, ◌∷◌, [], ℕ, List, codes};
 ghost use Rattle.std.specs.Fmt.{decimal};
 ghost use Rattle.usb_command.specs.CommandLine.{AreBad, AskFor, AskForHelp};
-ghost use Rattle.usb_command.specs.declared.words.Task.TheVariants.{Run, Alone, Live, Left, Check, Draw};
+ghost use Rattle.usb_command.specs.declared.words.Task.TheVariants.{Run, Steps, Alone, Live, Left, Check, Draw};
 
 /// Whatever name the program is called by: `run` asks for a run, `alone H` for each of the 64 handles alone, a plus sign
 /// or leading zeros before its number included, `live` for a run in threads, `check` for a check, `draw` for a picture, and `-h` for help.
 /// No words, a second word after `run`, `live` or `check`, no handle or the handle 64 after `alone`, and `help` are bad.
 pub fn words()
     ensures run { (name : List ℕ) → AskFor (name ∷ codes "run" ∷ []) Run }
+    ensures steps { (name : List ℕ) → AskFor (name ∷ codes "run" ∷ codes "--steps" ∷ []) Steps }
     ensures alone { (name : List ℕ) (h : ℕ) → h < 64 → AskFor (name ∷ codes "alone" ∷ decimal h ∷ []) (Alone h) }
     ensures plus_sign { (name : List ℕ) → AskFor (name ∷ codes "alone" ∷ codes "+5" ∷ []) (Alone 5) }
     ensures leading_zeros { (name : List ℕ) → AskFor (name ∷ codes "alone" ∷ codes "007" ∷ []) (Alone 7) }

@@ -1,14 +1,17 @@
 //! The words of the command line.
 
-ghost use Rattle.std.specs.Prelude.{◌≡◌, IfOk, Some, false};
+ghost use Rattle.std.specs.Prelude.{◌≡◌, IfOk, Some, codes, false, option_map, if◌then◌else◌};
+ghost use Rattle.std.specs.Option.{option_map_or};
+ghost use Rattle.std.specs.Str.{bytes_eq};
 ghost use Rattle.clap.specs.Kinds.{FailsBy};
 ghost use Rattle.clap.specs.Faults.{fault_of};
 ghost use Rattle.clap.specs.Matches.{found_of};
 ghost use Rattle.clap.specs.Simple.{app_of, shape_of};
 ghost use Rattle.clap.specs.declared.builder.command.Command.TheViews.{out-Command as fields_of};
 ghost use Rattle.clap.specs.Walk.{rows_of, rule_of};
-ghost use Rattle.usb_command.specs.CommandLine.{AskFor, alone_words, check_words, draw_words, grammar, handle_in, handle_word, left_words, live_words, program_alone, program_of_runs, run_words};
+ghost use Rattle.usb_command.specs.CommandLine.{AskFor, alone_words, check_words, draw_words, grammar, handle_in, handle_word, is_stepwise, left_words, live_words, program_alone, program_of_runs, run_words, steps_word};
 ghost use Rattle.usb_words.specs.Words.{words_of};
+ghost use Rattle.usb_command.specs.declared.words.Task.TheVariants.{Run, Steps};
 
 use crate::help;
 use clap::builder::ValueParser;
@@ -21,6 +24,8 @@ use usb_model::Name;
 pub enum Task {
     /// Run the scenario, and print all entries.
     Run,
+    /// The same, each entry behind the line of its step.
+    Steps,
     /// Print the entries of this handle alone.
     Alone(Name),
     /// Run the scenario in threads, and print what its callbacks were told.
@@ -57,6 +62,10 @@ pub fn read_words(alloc: Global, words: &[&str]) -> Result<Task, Error>
     if matches.subcommand_matches("draw").is_some() {
         return Ok(Task::Draw);
     }
+    if let Some(found) = matches.subcommand_matches("run") {
+        return Ok(run_task(found));
+    }
+    // clap has seen that there is one of the words, so that nothing comes here.
     Ok(Task::Run)
 }
 
@@ -75,7 +84,7 @@ fn runs<'a>(alloc: Global) -> Result<Command<'a>, AllocError>
     ensures { IfOk result (λ command. app_of command ≡ program_of_runs) }
 {
     program(alloc)
-        .subcommand(run(alloc))?
+        .subcommand(run(alloc)?)?
         .subcommand(alone(alloc)?)?
         .subcommand(live(alloc))
 }
@@ -91,14 +100,54 @@ fn program<'a>(alloc: Global) -> Command<'a>
         .subcommand_required(true)
 }
 
-/// The words `run`.
-fn run<'a>(alloc: Global) -> Command<'a>
-    ensures words { shape_of result ≡ run_words }
-    ensures local { (fields_of result).has_globals ≡ false }
+/// The words `run` and `run --steps`.
+fn run<'a>(alloc: Global) -> Result<Command<'a>, AllocError>
+    ensures words { IfOk result (λ command. shape_of command ≡ run_words) }
+    ensures local { IfOk result (λ command. (fields_of command).has_globals ≡ false) }
 {
     Command::new(alloc, "run")
         .about("Runs the scenario and prints its entries")
         .after_help(help::RUN)
+        .arg(steps(alloc))
+}
+
+/// The word `--steps`.
+fn steps<'a>(alloc: Global) -> Arg<'a>
+    ensures word { rule_of result ≡ steps_word }
+    ensures local { result.global ≡ false }
+{
+    Arg::new(alloc, "steps")
+        .long("steps")
+        .action(ArgAction::SetTrue)
+        .help("Each entry behind the number and the text of its step's line")
+}
+
+/// Whether a flag's text says that it is there.
+fn is_true(given: Option<&str>) -> bool
+    ensures { result ≡ option_map_or (λ text. bytes_eq text (codes "true")) (option_map (λ s. s.now) given.entry) false }
+{
+    match given {
+        Some(text) => text == "true",
+        None => false,
+    }
+}
+
+/// Whether `--steps` stands behind `run`.
+fn is_stepwise(found: &ArgMatches<'_>) -> bool
+    ensures { result ≡ is_stepwise (rows_of (found_of found.now)) }
+{
+    is_true(found.get_str("steps"))
+}
+
+/// Which run the words behind `run` ask for.
+fn run_task(found: &ArgMatches<'_>) -> Task
+    ensures { result ≡ (if is_stepwise (rows_of (found_of found.now)) then Steps else Run) }
+{
+    if is_stepwise(found) {
+        Task::Steps
+    } else {
+        Task::Run
+    }
 }
 
 /// The words `alone H`.

@@ -1,4 +1,4 @@
-use Rattle.usb_command.proofs.WordsRead.{alone_asks, check_asks, check_of_a_file_is_bad, draw_asks, handle_64_is_bad, help_asks, help_is_no_word, leading_zeros_ask, left_asks, live_alone_is_bad, live_asks, no_handle_is_bad, no_words_are_bad, plus_sign_asks, run_asks, too_many_are_bad}
+use Rattle.usb_command.proofs.WordsRead.{alone_asks, check_asks, check_of_a_file_is_bad, draw_asks, handle_64_is_bad, help_asks, help_is_no_word, leading_zeros_ask, left_asks, live_alone_is_bad, live_asks, no_handle_is_bad, no_words_are_bad, plus_sign_asks, run_asks, steps_ask, too_many_are_bad}
 use Rattle.usb_command.proofs.laws.words.Goals as goal
 
 pub returns-clause-run : goal.returns-clause-run
@@ -48,3 +48,6 @@ returns-clause-live_alone c = live_alone_is_bad
 
 pub returns-clause-left : goal.returns-clause-left
 returns-clause-left c = left_asks
+
+pub returns-clause-steps : goal.returns-clause-steps
+returns-clause-steps c = steps_ask
