@@ -2,8 +2,6 @@
 use Rattle.std.proofs.Common.{◌≡◌, ◌∙◌, ◌+◌, ◌<◌, ◌≤◌, ◌++◌, ℕ, List, [], ◌∷◌, None, Some, ap, arith, drop, get_or, length, length-drop, map, option_map, refl, slice_get, subst, suc, sym, take, zero}
 use Rattle.std.proofs.lemmas.Option.{slice_get-get_or, slice_get-map, slice_get_past}
 use Rattle.std.proofs.lemmas.List.{drop-append-le, drop-take, drop_at, length-map, length-take-le, map-append, take-append-le, take-take, take_all, take_at}
-use Rattle.usb_model.specs.declared.reply.Reply.{Reply}
-use Rattle.usb_model.specs.declared.step.Step.{Step}
 use Rattle.usb_book.specs.declared.kept.Kept.{Kept}
 use Rattle.usb_book.specs.declared.place.Place.{Place}
 use Rattle.usb_book.specs.Keeping.{AreWithin, part, place_of, reply_of, step_of}

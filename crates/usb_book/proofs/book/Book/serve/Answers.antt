@@ -1,11 +1,8 @@
-use Rattle.std.proofs.Common.{◌∙◌, Some, arith, length, refl}
+use Rattle.std.proofs.Common.{arith, length, refl}
 use Rattle.usb_model.specs.declared.entry.Entry.{Entry}
 use Rattle.usb_model.specs.declared.step.Step.{Step}
-use Rattle.usb_model.specs.declared.step.Step.TheVariants.{Answer, Deliver, Serve}
-use Rattle.usb_model.specs.declared.verdict.Verdict.TheVariants.{Stop}
+use Rattle.usb_model.specs.declared.step.Step.TheVariants.{Serve}
 use Rattle.usb_book.specs.declared.place.Place.{Place}
-use Rattle.usb_book.specs.Booked.{world_where}
-use Rattle.usb_book.specs.Recording.{bytes_in}
 use Rattle.usb_book.proofs.Replies.{no_bytes_of, plain_timers}
 use Rattle.usb_book.proofs.Runs.{entered}
 use Rattle.usb_book.proofs.book.Book.serve.Goals as goal

@@ -1,9 +1,8 @@
-use Rattle.std.proofs.Common.{◌≤◌, arith, length, option_map, refl}
+use Rattle.std.proofs.Common.{arith, length, option_map, refl}
 use Rattle.usb_model.specs.declared.step.Step.TheVariants.{Take}
 use Rattle.usb_state.specs.Calls.{called_entry}
 use Rattle.usb_book.specs.declared.place.Place.{Place}
 use Rattle.usb_book.specs.Booked.{world_where}
-use Rattle.usb_book.specs.Recording.{bytes_in}
 use Rattle.usb_book.proofs.Replies.{take_timers, taken_bytes}
 use Rattle.usb_book.proofs.Runs.{entered, same_book}
 use Rattle.usb_book.proofs.book.Book.take.Goals as goal

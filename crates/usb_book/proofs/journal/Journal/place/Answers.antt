@@ -1,4 +1,4 @@
-use Rattle.std.proofs.Common.{◌≡◌, ◌∙◌, ◌<◌, ◌≤◌, List, None, Some, ap, arith, length, slice_get, sym}
+use Rattle.std.proofs.Common.{◌∙◌, ◌<◌, ◌≤◌, Some, ap, arith, length, slice_get}
 use Rattle.usb_book.specs.declared.place.Place.{Place}
 use Rattle.usb_book.specs.Keeping.{Journaled, place_of}
 use Rattle.usb_book.proofs.Keeping.{place_at, place_past, within_item}

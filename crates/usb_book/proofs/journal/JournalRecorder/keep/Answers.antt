@@ -1,4 +1,4 @@
-use Rattle.std.proofs.Common.{◌≡◌, ◌∙◌, ◌++◌, ◌∷◌, [], ◌+◌, ◌-◌, ◌≤◌, List, ℕ, ap, arith, drop, length, map, refl, subst, sym, vec_len}
+use Rattle.std.proofs.Common.{◌≡◌, ◌∙◌, ◌++◌, ◌+◌, ◌-◌, ◌≤◌, ap, arith, drop, length, map, refl, subst, sym, vec_len}
 use Rattle.usb_model.specs.declared.reply.Reply.{Reply}
 use Rattle.usb_model.specs.declared.step.Step.{Step}
 use Rattle.usb_book.specs.declared.kept.Kept.{Kept}
