@@ -1,10 +1,11 @@
 #!/usr/bin/env python3
-"""Refuses each allocation of usbtrace in turn: tools/refuse_allocations.py BINARY SCENARIO..
+"""Refuses each allocation of a program in turn: tools/refuse_allocations.py BINARY SCENARIO.., or --same BINARY WORD..
 
-Runs `BINARY run < SCENARIO` once undisturbed, and then once for each call of malloc and realloc, which fails. Each such
+For usbtrace, runs `BINARY run < SCENARIO` once undisturbed, and then once for each call of malloc and realloc, which fails. Each such
 run has to print a beginning of the undisturbed run's lines and end in `usbtrace: out of memory` and status 1, or end as
 the undisturbed run does, where the program gets by without that allocation. Prints a line for each scenario; status 1
-where a run does anything else. Needs gcc.
+where a run does anything else. With --same, runs `BINARY WORD..` in the same way, and each run has to print what the
+undisturbed one does, and to end as it does: for `usb_scenes refusals`, which makes each call again. Needs gcc.
 """
 import os
 import subprocess
@@ -40,13 +41,43 @@ __attribute__((destructor)) static void tell(void) {
 """
 
 
-def main(binary, scenarios):
+def main(words):
     with tempfile.TemporaryDirectory() as room:
         with open(f"{room}/refuser.c", "w") as text:
             text.write(REFUSER)
         subprocess.run(["gcc", "-shared", "-fPIC", "-o", f"{room}/refuser.so", f"{room}/refuser.c", "-ldl"], check=True)
-        right = [tries(binary, it, room) for it in scenarios]
+        if words[0] == "--same":
+            right = [is_same(words[1:], room)]
+        else:
+            right = [tries(words[0], it, room) for it in words[1:]]
     return 0 if all(right) else 1
+
+
+def ran(words, given, call, room):
+    """The program's end, where this call is refused; none for 0."""
+    names = {"LD_PRELOAD": f"{room}/refuser.so", "CALLS_FILE": f"{room}/calls", "REFUSED_CALL": str(call)}
+    return subprocess.run(words, input=given, capture_output=True, env={**os.environ, **names})
+
+
+def counted(room):
+    """How many calls the last run made."""
+    with open(f"{room}/calls") as text:
+        return int(text.read())
+
+
+def is_same(words, room):
+    """Whether the program prints the same and ends in the same way, whichever of its allocations is refused."""
+    whole = ran(words, b"", 0, room)
+    calls = counted(room)
+    wrong = again = 0
+    for call in range(1, calls + 1):
+        it = ran(words, b"", call, room)
+        again += counted(room) > calls
+        if (it.stdout, it.stderr, it.returncode) != (whole.stdout, whole.stderr, whole.returncode):
+            wrong += 1
+            print(f"call {call}: status {it.returncode}, {it.stderr!r}, .. {it.stdout[-60:]!r}")
+    print(f"{calls} calls, each refused once: {again} times something was asked for again, {wrong} wrong")
+    return not wrong and not whole.returncode
 
 
 def tries(binary, scenario, room):
@@ -54,23 +85,18 @@ def tries(binary, scenario, room):
     with open(scenario, "rb") as text:
         given = text.read()
 
-    def ends(call):
-        names = {"LD_PRELOAD": f"{room}/refuser.so", "CALLS_FILE": f"{room}/calls", "REFUSED_CALL": str(call)}
-        return subprocess.run([binary, "run"], input=given, capture_output=True, env={**os.environ, **names})
-
-    whole = ends(0)
-    with open(f"{room}/calls") as text:
-        calls = int(text.read())
+    whole = ran([binary, "run"], given, 0, room)
+    calls = counted(room)
     early = unharmed = wrong = 0
     for call in range(1, calls + 1):
-        ran = ends(call)
-        if (ran.stdout, ran.stderr, ran.returncode) == (whole.stdout, whole.stderr, whole.returncode):
+        it = ran([binary, "run"], given, call, room)
+        if (it.stdout, it.stderr, it.returncode) == (whole.stdout, whole.stderr, whole.returncode):
             unharmed += 1
-        elif ran.returncode == 1 and ran.stderr == b"usbtrace: out of memory\n" and is_beginning(ran.stdout, whole.stdout):
+        elif it.returncode == 1 and it.stderr == b"usbtrace: out of memory\n" and is_beginning(it.stdout, whole.stdout):
             early += 1
         else:
             wrong += 1
-            print(f"{scenario}: call {call}: status {ran.returncode}, {ran.stderr!r}, .. {ran.stdout[-60:]!r}")
+            print(f"{scenario}: call {call}: status {it.returncode}, {it.stderr!r}, .. {it.stdout[-60:]!r}")
     print(f"{scenario}: {calls} calls: {early} ended early, {unharmed} ended unharmed, {wrong} wrong")
     return not wrong
 
@@ -81,4 +107,4 @@ def is_beginning(printed, whole):
 
 
 if __name__ == "__main__":
-    sys.exit(main(sys.argv[1], sys.argv[2:]))
+    sys.exit(main(sys.argv[1:]))

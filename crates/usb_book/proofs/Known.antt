@@ -1,18 +1,16 @@
 -- What is known of each transfer of a machine by its number, its request and its round stays known over any step.
-use Rattle.std.proofs.Common.{◌≡◌, ◌∙◌, ◌==◌, ◌++◌, ℕ, Bool, true, false, List, Some, [], ◌∷◌, ap, append-nil, inl, inr, refl, subst, sym}
+use Rattle.std.proofs.Common.{◌≡◌, ◌==◌, ◌++◌, ℕ, Bool, true, false, Some, ap, refl, subst, sym}
 use Rattle.std.proofs.lemmas.Bool.{eqb-true}
 use Rattle.std.specs.List.{AllByRecursion}
 use Rattle.usb_model.specs.declared.effect.Effect.{Effect}
 use Rattle.usb_model.specs.declared.endpoint.Endpoint.{Endpoint}
 use Rattle.usb_model.specs.declared.endpoint_effect.EndpointEffect.{EndpointEffect}
 use Rattle.usb_model.specs.declared.handle.Handle.{Handle}
-use Rattle.usb_model.specs.declared.item.Item.{Item}
 use Rattle.usb_model.specs.declared.request.Request.{Request}
-use Rattle.usb_model.specs.declared.result.InCallback.{InCallback}
 use Rattle.usb_model.specs.declared.step.Step.{Step}
 use Rattle.usb_model.specs.Fitness.{IsWell}
 use Rattle.usb_model.specs.Laws.Bounds.{line_at}
-use Rattle.usb_model.specs.Machine.Turns.{machine_after, take_effect, takes_result}
+use Rattle.usb_model.specs.Machine.Turns.{machine_after, takes_result}
 use Rattle.usb_model.specs.Machine.{Machine, at_endpoint, device_of, endpoint_at}
 use Rattle.usb_model.specs.Setup.{Setup}
 use Rattle.usb_model.specs.World.Shared.{past_first}
@@ -22,7 +20,7 @@ use Rattle.usb_account.proofs.Calls.{work_callbacks}
 use Rattle.usb_account.proofs.Machines.Acts.{end_set, rests_at, works_elsewhere}
 use Rattle.usb_account.proofs.Machines.Deeds.{IsDone, IsRest, IsSubmission, IsWork, only_rests, works}
 use Rattle.usb_account.proofs.Places.Placed.{takes_no_result}
-use Rattle.usb_lemmas.proofs.Lists.Parts.{IsPart, each_append, each_part, each_weaker}
+use Rattle.usb_lemmas.proofs.Lists.Parts.{each_append, each_part, each_weaker}
 
 -- of each transfer in a line, in a result, and in its callback
 pub record Known (P : ℕ → Request → ℕ → Type 0) (m : Machine) : Type 0 where

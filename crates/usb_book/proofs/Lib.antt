@@ -10,3 +10,4 @@ mod Journals
 mod Due
 mod Loops
 mod Expiring
+mod Keeping

@@ -4,6 +4,7 @@ use Rattle.std.specs.Prelude.{if◌then◌else◌, not}
 use Rattle.std.specs.Option.{option_map_or}
 use Rattle.usb_model.specs.declared.entry.Entry.{Entry}
 use Rattle.usb_model.specs.declared.reply.Reply.{Reply}
+use Rattle.usb_model.specs.declared.reply.Returned.{Returned}
 use Rattle.usb_model.specs.declared.reply.Reply.TheVariants as reply
 use Rattle.usb_model.specs.declared.refused.Refused.TheVariants.{NoDevice, NotFound}
 use Rattle.usb_model.specs.declared.result.TransferResult.{TransferResult}
@@ -26,6 +27,7 @@ use Rattle.usb_core.specs.Reads.{is_done}
 use Rattle.usb_core.specs.Stepping.{kept_after, takes_memory}
 use Rattle.usb_parts.specs.declared.submitting.Unaccepted.{Unaccepted}
 use Rattle.usb_state.specs.Carrying.{Carries, CarriesMore, Kept, StillCarries}
+use Rattle.usb_state.specs.Calls.{called_entry}
 use Rattle.usb_state.specs.State.{State}
 use Rattle.usb_state.specs.Steps.{Turns}
 use Rattle.usb_book.specs.declared.place.Place.{Place}
@@ -155,3 +157,8 @@ pub submit_keeps : {G P : Type 0} (old new : State P) (kept : Kept P) (h : ℕ) 
     → Carries (kept_after kept (Submit h request) (answer_entry h a) (Some payload)) new
 submit_keeps old new kept h request payload (Ok n) more still has = more kept has
 submit_keeps old new kept h request payload (Err x) more still has = still kept has
+
+-- a result that goes out leaves the timers
+pub take_timers : (ts : List Timer) (o : Option Returned) (moment : ℕ) → ts ≡ timers_by ts Take (called_entry o).reply moment
+take_timers ts None moment = refl
+take_timers ts (Some r) moment = refl

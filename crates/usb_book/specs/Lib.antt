@@ -1,4 +1,5 @@
 pub mod Seen
 pub mod Booked
 pub mod Recording
+pub mod Keeping
 pub mod Timers

@@ -1,119 +1,143 @@
 //! The journal that is kept in memory.
 
-ghost use Rattle.std.specs.Prelude.{◌≡◌, ◌+◌, ◌≤◌, [], vec_len, vec_capacity, length};
-ghost use Rattle.usb_book.specs.Recording.{bytes_in};
+ghost use Rattle.std.specs.Prelude.{◌≡◌, ◌++◌, ◌+◌, ◌≤◌, IfOk, length, slice_get, vec_capacity, vec_len};
 
+use crate::kept::{Asked, Kept, Replied, given_by, sent_by};
 use crate::place::Place;
+use crate::reading;
 use crate::recorder::Recorder;
 use std::alloc::{AllocError, Global};
-use usb_model::{Bytes, Entry, Reply, Returned, Step};
+use std::marker::Model;
+use usb_model::{Entry, Step};
 
-/// Keeps each place whole.
+/// Keeps each place, small, and the bytes of all of them in one buffer.
 #[derive(Drop)]
 pub struct Journal {
-    /// The places, in order.
-    pub places: Vec<Place>,
+    kept: Vec<Kept>,
+    bytes: Vec<u8>,
+    used: usize,
 }
 
-/// A copy of a step, and room for the bytes of its reply.
+/// A step without its bytes, which stand in the buffer.
 #[derive(Drop)]
 pub struct Draft {
-    step: Step,
-    bytes: Vec<u8>,
+    asked: Asked,
 }
 
-/// A copy of what a callback is given, whose bytes are put behind these, where there is room. Takes no memory.
-fn copied(returned: &Returned, mut bytes: Vec<u8>) -> Returned
-    requires { (bytes.items ≡ []) × (length returned.now.bytes ≤ vec_capacity bytes) }
-    ensures { result ≡ returned.now }
-{
-    // There is room, so that this can't fail.
-    let _ = bytes.extend_from_slice(returned.bytes.as_slice());
-    Returned {
-        h: returned.h,
-        n: returned.n,
-        ep: returned.ep,
-        round: returned.round,
-        status: returned.status,
-        actual: returned.actual,
-        bytes: Bytes::from_vec(bytes),
+/// Contracts see the places. Behind the bytes of these stand those of a step that is drafted.
+impl Model for Journal {
+    ghost use Rattle.std.specs.Prelude.{◌≤◌, drop, map, vec_capacity, vec_len};
+    ghost use Rattle.usb_book.specs.Keeping.{AreWithin, Journaled, place_of};
+
+    ghost Value = { Journaled };
+
+    ghost view = { λ j. record { places = map (place_of j.bytes.items) j.kept.items; drafted = drop j.used j.bytes.items; len = vec_len j.kept; capacity = vec_capacity j.kept; filled = vec_len j.bytes; bytes_capacity = vec_capacity j.bytes } };
+
+    ghost invariant = { λ j. (j.used ≤ vec_len j.bytes) × AreWithin j.used j.kept.items };
+}
+
+impl Journal {
+    /// How many places there are.
+    pub fn len(&self) -> usize
+        ensures { result ≡ length self.now.places }
+    {
+        self.kept.len()
+    }
+
+    /// Whether there is none.
+    pub fn is_empty(&self) -> bool {
+        self.kept.is_empty()
+    }
+
+    /// A copy of the place with this number, from 0 on; None where there is none. An error where memory is wanting.
+    pub fn place(&self, alloc: Global, number: usize) -> Result<Option<Place>, AllocError>
+        ensures { IfOk result (λ place. place ≡ slice_get self.now.places number) }
+    {
+        if number < self.kept.len() {
+            let kept = self.kept[number];
+            let place = reading::place_of(alloc, &kept, self.bytes.as_slice())?;
+            return Ok(Some(place));
+        }
+        Ok(None)
+    }
+
+    /// Copies of all places, in order. An error where memory is wanting.
+    pub fn places(&self, alloc: Global) -> Result<Vec<Place>, AllocError>
+        ensures { IfOk result (λ places. places.items ≡ self.now.places) }
+    {
+        let mut places = Vec::new(alloc);
+        for kept in self.kept.iter() {
+            places.push(reading::place_of(alloc, kept, self.bytes.as_slice())?)?;
+        }
+        Ok(places)
     }
 }
 
-/// A copy of a reply, whose bytes are put here. Takes no memory.
-fn reply_copied(reply: &Reply, bytes: Vec<u8>) -> Reply
-    requires { (bytes.items ≡ []) × (bytes_in reply.now ≤ vec_capacity bytes) }
-    ensures { result ≡ reply.now }
+/// These bytes go behind the others, where there is room.
+fn append(bytes: &mut Vec<u8>, more: &[u8])
+    requires { vec_len bytes.old + length more.now ≤ vec_capacity bytes.old }
+    ensures items { bytes.new.items ≡ bytes.old.items ++ more.now }
+    ensures len { vec_len bytes.new ≡ vec_len bytes.old + length more.now }
+    ensures capacity { vec_capacity bytes.old ≤ vec_capacity bytes.new }
 {
-    match reply {
-        Reply::Done => Reply::Done,
-        Reply::Number(n) => Reply::Number(*n),
-        Reply::Refused(refused) => Reply::Refused(*refused),
-        Reply::Idle => Reply::Idle,
-        Reply::Nak { n } => Reply::Nak { n: *n },
-        Reply::Moved { n, bytes } => Reply::Moved {
-            n: *n,
-            bytes: *bytes,
-        },
-        Reply::Ended { n, code } => Reply::Ended { n: *n, code: *code },
-        Reply::Ran { ep, errand, ok } => Reply::Ran {
-            ep: *ep,
-            errand: *errand,
-            ok: *ok,
-        },
-        Reply::Finished { n } => Reply::Finished { n: *n },
-        Reply::Paused { n } => Reply::Paused { n: *n },
-        Reply::Settled { ep, errand, ok } => Reply::Settled {
-            ep: *ep,
-            errand: *errand,
-            ok: *ok,
-        },
-        Reply::Called(returned) => Reply::Called(copied(returned, bytes)),
+    if !more.is_empty() {
+        // There is room, so that this can't fail.
+        let _ = bytes.extend_from_slice(more);
     }
 }
 
 impl Recorder for Journal {
-    ghost use Rattle.std.specs.Prelude.{◌≡◌, ◌+◌, ◌≤◌, [], vec_len, vec_capacity};
+    ghost use Rattle.std.specs.Prelude.{◌≡◌, ◌+◌, ◌≤◌};
+    ghost use Rattle.usb_book.specs.Keeping.{step_of};
 
     type Draft = Draft;
 
-    ghost stands = { λ j journal. j.places.items ≡ journal };
+    ghost stands = { λ j journal. j.places ≡ journal };
 
-    ghost has_room = { λ j n. vec_len j.places + n ≤ vec_capacity j.places };
+    ghost has_room = { λ j places bytes. (j.len + places ≤ j.capacity) × (j.filled + bytes ≤ j.bytes_capacity) };
 
-    ghost is_draft = { λ d step n. (d.step ≡ step) × (d.bytes.items ≡ []) × (n ≤ vec_capacity d.bytes) };
+    ghost is_draft = { λ j draft step. step_of draft.asked j.drafted ≡ step };
 
     fn new(alloc: Global) -> Journal {
         Journal {
-            places: Vec::new(alloc),
+            kept: Vec::new(alloc),
+            bytes: Vec::new(alloc),
+            used: 0,
         }
     }
 
-    fn reserve(&mut self, more: usize) -> Result<(), AllocError> {
-        self.places.reserve(more)
+    #[inline(always)]
+    fn reserve(&mut self, places: usize, bytes: usize) -> Result<(), AllocError> {
+        self.kept.reserve(places)?;
+        self.bytes.reserve(bytes)
     }
 
-    fn draft(alloc: Global, step: &Step, bytes: usize) -> Result<Draft, AllocError> {
-        Ok(Draft {
-            step: step.clone()?,
-            bytes: Vec::with_capacity(alloc, bytes)?,
-        })
+    #[inline(always)]
+    fn draft(&mut self, step: &Step) -> Draft {
+        // What is left of a step that found no memory goes first.
+        self.bytes.truncate(self.used);
+        append(&mut self.bytes, sent_by(step));
+        Draft {
+            asked: Asked::of(step),
+        }
     }
 
-    fn keep_drafted(&mut self, draft: Draft, caller: u32, entry: &Entry, moment: u64) {
-        let Draft { step, bytes } = draft;
-        self.places.push_reserved(Place {
-            step,
-            caller,
-            entry: Entry {
-                owner: entry.owner,
-                reply: reply_copied(&entry.reply, bytes),
-            },
+    #[inline(always)]
+    fn keep(&mut self, draft: Draft, caller: u32, entry: &Entry, moment: u64) {
+        let from = self.used;
+        let sent = self.bytes.len() - from;
+        let given = given_by(&entry.reply);
+        append(&mut self.bytes, given);
+        self.kept.push_reserved(Kept {
+            from,
+            sent,
+            given: given.len(),
             moment,
+            asked: draft.asked,
+            replied: Replied::of(&entry.reply),
+            caller,
+            owner: entry.owner,
         });
-    }
-
-    fn keep(&mut self, place: Place) {
-        self.places.push_reserved(place);
+        self.used = self.bytes.len();
     }
 }

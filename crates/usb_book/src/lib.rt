@@ -7,13 +7,16 @@
 mod book;
 mod closed;
 mod journal;
+mod kept;
 mod log;
 mod mark;
 mod naming;
 mod place;
+mod reading;
 mod receipt;
 mod recorder;
 mod recording;
+mod serving;
 mod submitting;
 mod taking;
 mod ticking;

@@ -1,15 +1,16 @@
 //! The journal, as a book has it.
 
-ghost use Rattle.std.specs.Prelude.{◌≡◌, ◌==◌, ◌++◌, ◌+◌, ◌^◌, ◌<◌, ◌≤◌, ◌∷◌, ℕ, [], All, IfOk, OnOk, Some, count_by, length, slice_get};
+ghost use Rattle.std.specs.Prelude.{◌≡◌, ◌==◌, ◌++◌, ◌+◌, ◌-◌, ◌^◌, ◌<◌, ◌≤◌, ◌∷◌, ℕ, [], All, IfOk, OnOk, Some, count_by, length, slice_get};
 ghost use Rattle.usb_roll.specs.Tokens.{new_keeper};
 ghost use Rattle.usb_book.specs.Booked.{IsMoved};
-ghost use Rattle.usb_book.specs.Recording.{bytes_in};
+ghost use Rattle.usb_book.specs.Recording.{bytes_in, sent_by};
 ghost use Rattle.usb_book.specs.Seen.{claims_of};
 
 use crate::closed::Whole;
+use crate::kept::sent_by;
 use crate::mark::Mark;
 use crate::naming::Naming;
-use crate::place::{Place, Told};
+use crate::place::Told;
 use crate::receipt::Receipt;
 use crate::recorder::Recorder;
 use std::alloc::{AllocError, Global};
@@ -74,51 +75,51 @@ impl<L: Naming, J: Recorder> Log<L, J> {
         }
     }
 
-    /// Makes room for so many more places. The last number of a place is 2^64 - 2.
-    pub(crate) fn reserve(&mut self, more: usize) -> Result<(), AllocError>
-        ensures room { OnOk result (J.has_room self.new.recorder more × (length self.old.journal + more < 2 ^ 64)) }
+    /// Makes room for so many more places, with so many bytes in all. The last number of a place is 2^64 - 2.
+    #[inline(always)]
+    pub(crate) fn reserve(&mut self, places: usize, bytes: usize) -> Result<(), AllocError>
+        ensures room { OnOk result ((length self.old.journal + places < 2 ^ 64) × J.has_room self.new.recorder places bytes) }
         ensures same { self.new.journal ≡ self.old.journal }
     {
-        if u64::MAX - self.places < more as u64 {
+        if u64::MAX - self.places < places as u64 {
             return Err(AllocError);
         }
-        self.recorder.reserve(more)
+        self.recorder.reserve(places, bytes)
     }
 
-    /// Asks for all that a place of this step takes, whose reply has at most so many bytes.
-    pub(crate) fn prepare(
-        &mut self,
-        alloc: Global,
-        step: &Step,
-        bytes: usize,
-    ) -> Result<J::Draft, AllocError>
-        ensures draft { IfOk result (λ draft. J.is_draft draft step.now bytes) }
-        ensures room { OnOk result (J.has_room self.new.recorder 1 × (length self.old.journal + 1 < 2 ^ 64)) }
+    /// Asks for all that a place of this step takes, whose reply has no bytes, and has it drafted.
+    #[inline(always)]
+    pub(crate) fn prepare(&mut self, step: &Step) -> Result<J::Draft, AllocError>
+        ensures draft { IfOk result (λ draft. J.is_draft self.new.recorder draft step.now) }
+        ensures room { OnOk result ((length self.old.journal + 1 < 2 ^ 64) × J.has_room self.new.recorder 1 0) }
         ensures same { self.new.journal ≡ self.old.journal }
     {
-        self.reserve(1)?;
-        J::draft(alloc, step, bytes)
+        self.reserve(1, sent_by(step).len())?;
+        Ok(self.recorder.draft(step))
     }
 
-    /// One place more, of a step for which all was asked, for the bearer of the mark. Takes no memory.
-    pub(crate) fn enter(
+    /// One place more, of the step that was drafted last, for the bearer of the mark. Takes no memory.
+    #[inline(always)]
+    pub(crate) fn enter_drafted(
         &mut self,
         mark: &mut Mark<L>,
         draft: J::Draft,
         told: Told,
         entry: &Entry,
     ) -> Receipt<L>
-        requires room { (length self.old.journal + 1 < 2 ^ 64) × J.has_room self.old.recorder 1 }
+        requires count { length self.old.journal + 1 < 2 ^ 64 }
+        requires room { (places : ℕ) × (bytes : ℕ) × J.has_room self.old.recorder places bytes × (1 ≤ places) × (bytes_in entry.now.reply ≤ bytes) }
         requires told { told.entry ≡ entry.now }
-        requires draft { (bytes : ℕ) × J.is_draft draft told.step bytes × (bytes_in entry.now.reply ≤ bytes) }
+        requires draft { J.is_draft self.old.recorder draft told.step }
         ensures receipt { result ≡ record { place = length self.old.journal; entry = told } }
         ensures journal { self.new.journal ≡ self.old.journal ++ result.entry ∷ [] }
         ensures mark { IsMoved mark.old result mark.new }
+        ensures room { (places bytes : ℕ) → J.has_room self.old.recorder places bytes → J.has_room self.new.recorder (places - 1) (bytes - bytes_in entry.now.reply) }
     {
-        let (caller, moment) = (told.caller(), told.moment());
         let place = self.places;
         let claim = self.roll.enter(&mut self.keeper, &mut mark.mark, &told);
-        self.recorder.keep_drafted(draft, caller, entry, moment);
+        self.recorder
+            .keep(draft, told.caller(), entry, told.moment());
         self.places = place + 1;
         Receipt {
             place,
@@ -127,24 +128,27 @@ impl<L: Naming, J: Recorder> Log<L, J> {
         }
     }
 
-    /// One place more, where there is room. Takes no memory.
-    pub(crate) fn enter_whole(&mut self, mark: &mut Mark<L>, whole: Place) -> Receipt<L>
-        requires room { (length self.old.journal + 1 < 2 ^ 64) × ((n : ℕ) × J.has_room self.old.recorder (n + 1)) }
-        ensures receipt { result ≡ record { place = length self.old.journal; entry = whole } }
-        ensures journal { self.new.journal ≡ self.old.journal ++ whole ∷ [] }
+    /// One place more, of a step without bytes. Takes no memory.
+    #[inline(always)]
+    pub(crate) fn enter(
+        &mut self,
+        mark: &mut Mark<L>,
+        step: Step,
+        caller: u32,
+        entry: &Entry,
+        moment: u64,
+    ) -> Receipt<L>
+        requires count { length self.old.journal + 1 < 2 ^ 64 }
+        requires step { length (sent_by step) ≡ 0 }
+        requires room { (places : ℕ) × (bytes : ℕ) × J.has_room self.old.recorder places bytes × (1 ≤ places) × (bytes_in entry.now.reply ≤ bytes) }
+        ensures receipt { result ≡ record { place = length self.old.journal; entry = record { step = step; caller = caller; entry = entry.now; moment = moment } } }
+        ensures journal { self.new.journal ≡ self.old.journal ++ result.entry ∷ [] }
         ensures mark { IsMoved mark.old result mark.new }
-        ensures room { (n : ℕ) → J.has_room self.old.recorder (n + 1) → J.has_room self.new.recorder n }
+        ensures room { (places : ℕ) → J.has_room self.old.recorder places 0 → J.has_room self.new.recorder (places - 1) 0 }
     {
-        let place = self.places;
-        let told = Told::of(&whole);
-        let claim = self.roll.enter(&mut self.keeper, &mut mark.mark, &told);
-        self.recorder.keep(whole);
-        self.places = place + 1;
-        Receipt {
-            place,
-            claim,
-            library: PhantomData,
-        }
+        let draft = self.recorder.draft(&step);
+        let told = Told::new(Snapshot::of(&step), caller, entry, moment);
+        self.enter_drafted(mark, draft, told, entry)
     }
 
     /// The end, compared with receipts: the journal, what was kept of it, and how many places it has.

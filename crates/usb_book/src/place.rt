@@ -62,16 +62,4 @@ impl Told {
     {
         self.moment
     }
-
-    /// What is told of a whole place.
-    pub(crate) fn of(place: &Place) -> Told
-        ensures { result ≡ place.now }
-    {
-        Told {
-            step: Snapshot::of(&place.step),
-            caller: place.caller,
-            entry: Snapshot::of(&place.entry),
-            moment: place.moment,
-        }
-    }
 }

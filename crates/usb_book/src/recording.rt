@@ -7,7 +7,7 @@ ghost use Rattle.usb_core.specs.Stepping.{GoesOut, first_payload, handed_out, ke
 ghost use Rattle.usb_state.specs.Carrying.{Carries, Kept, StillCarries};
 ghost use Rattle.usb_state.specs.Calls.{called_entry};
 ghost use Rattle.usb_book.specs.Booked.{IsMoved, IsSame, answer_entry, next_entry, next_receipt, payload_back};
-ghost use Rattle.usb_book.specs.Timers.{ending, stopped_if};
+ghost use Rattle.usb_book.specs.Timers.{ending};
 
 use crate::book::Book;
 use crate::mark::Mark;
@@ -15,7 +15,7 @@ use crate::naming::Naming;
 use crate::receipt::Receipt;
 use crate::recorder::Recorder;
 use crate::submitting::enter;
-use crate::timer::{Timer, stop};
+use crate::timer::stop_if;
 use std::snapshot::Snapshot;
 use usb_core::{Stepped, Taken, Unaccepted};
 use usb_device::Device;
@@ -192,9 +192,9 @@ impl<L: Naming, P: Drop, D: Device, J: Recorder> Book<L, P, D, J> {
             moment,
             log,
             timers,
-            alloc,
+            ..
         } = self;
-        let Ok(draft) = log.prepare(*alloc, &step, 0) else {
+        let Ok(draft) = log.prepare(&step) else {
             return Err(NotRecorded {
                 given: step,
                 payload,
@@ -273,16 +273,5 @@ fn ending(step: &Step) -> Option<(Name, u64)>
             _ => None,
         },
         _ => None,
-    }
-}
-
-/// A callback has ended, if that was done.
-fn stop_if(timers: &mut Vec<Timer>, ending: Option<(Name, u64)>, entry: &Entry)
-    ensures { timers.new.items ≡ stopped_if ending entry.now.reply timers.old.items }
-{
-    if let Some((h, n)) = ending {
-        if matches!(entry.reply, Reply::Done) {
-            stop(timers, h, n);
-        }
     }
 }

@@ -16,7 +16,7 @@ use crate::receipt::Receipt;
 use crate::recorder::Recorder;
 use crate::recording::NotRecorded;
 use crate::timer::{Timer, start_again_if, start_if};
-use std::alloc::{AllocError, Global};
+use std::alloc::AllocError;
 use std::snapshot::Snapshot;
 use usb_core::Unaccepted;
 use usb_device::Device;
@@ -48,10 +48,10 @@ impl<L: Naming, P, D: Device, J: Recorder> Book<L, P, D, J> {
             moment,
             log,
             timers,
-            alloc,
+            ..
         } = self;
         let step = Step::Submit { h, request };
-        let prepared = prepare(log, timers, *alloc, &step);
+        let prepared = prepare(log, timers, &step);
         let asked = Snapshot::of(&step);
         let Some(request) = request_in(step) else {
             unreachable!()
@@ -99,14 +99,14 @@ impl<L: Naming, P, D: Device, J: Recorder> Book<L, P, D, J> {
             moment,
             log,
             timers,
-            alloc,
+            ..
         } = self;
         let step = Step::Answer {
             h,
             n,
             verdict: Verdict::Again,
         };
-        let Ok(draft) = prepare(log, timers, *alloc, &step) else {
+        let Ok(draft) = prepare(log, timers, &step) else {
             return Err(NotRecorded { given: (), payload });
         };
         let asked = Snapshot::of(&step);
@@ -145,14 +145,14 @@ impl<L: Naming, P, D: Device, J: Recorder> Book<L, P, D, J> {
             moment,
             log,
             timers,
-            alloc,
+            ..
         } = self;
         let step = Step::Answer {
             h,
             n,
             verdict: Verdict::AgainWith(bytes),
         };
-        let prepared = prepare(log, timers, *alloc, &step);
+        let prepared = prepare(log, timers, &step);
         let asked = Snapshot::of(&step);
         let Some(bytes) = new_bytes_in(step) else {
             unreachable!()
@@ -178,18 +178,16 @@ impl<L: Naming, P, D: Device, J: Recorder> Book<L, P, D, J> {
 fn prepare<L: Naming, J: Recorder>(
     log: &mut Log<L, J>,
     timers: &mut Vec<Timer>,
-    alloc: Global,
     step: &Step,
 ) -> Result<J::Draft, AllocError>
-    ensures draft { IfOk result (λ draft. J.is_draft draft step.now 0) }
-    ensures room { OnOk result (J.has_room log.new.recorder 1 × (length log.old.journal + 1 < 2 ^ 64)) }
+    ensures draft { IfOk result (λ draft. J.is_draft log.new.recorder draft step.now) }
+    ensures room { OnOk result ((length log.old.journal + 1 < 2 ^ 64) × J.has_room log.new.recorder 1 0) }
     ensures same { log.new.journal ≡ log.old.journal }
     ensures timers { timers.new.items ≡ timers.old.items }
     ensures place { OnOk result (vec_len timers.new < vec_capacity timers.new) }
 {
-    let draft = log.prepare(alloc, step, 0)?;
     timers.reserve(1)?;
-    Ok(draft)
+    log.prepare(step)
 }
 
 /// One place more, of a step whose reply has no bytes.
@@ -202,15 +200,15 @@ pub(crate) fn enter<L: Naming, J: Recorder>(
     entry: &Entry,
     moment: u64,
 ) -> Receipt<L>
-    requires room { (length log.old.journal + 1 < 2 ^ 64) × J.has_room log.old.recorder 1 }
-    requires draft { J.is_draft draft asked.value 0 }
+    requires room { (length log.old.journal + 1 < 2 ^ 64) × J.has_room log.old.recorder 1 0 }
+    requires draft { J.is_draft log.old.recorder draft asked.value }
     requires bytes { bytes_in entry.now.reply ≡ 0 }
     ensures receipt { result ≡ record { place = length log.old.journal; entry = record { step = asked.value; caller = caller; entry = entry.now; moment = moment } } }
     ensures journal { log.new.journal ≡ log.old.journal ++ result.entry ∷ [] }
     ensures mark { IsMoved mark.old result mark.new }
 {
     let told = Told::new(asked, caller, entry, moment);
-    log.enter(mark, draft, told, entry)
+    log.enter_drafted(mark, draft, told, entry)
 }
 
 /// The entry of a submission of a name.

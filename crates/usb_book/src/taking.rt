@@ -1,21 +1,21 @@
 //! A result goes out to its callback.
 
-ghost use Rattle.std.specs.Prelude.{◌≡◌, ◌++◌, ◌∷◌, [], IfOk, OnErr, option_map};
+ghost use Rattle.std.specs.Prelude.{◌≡◌, ℕ, ◌+◌, ◌^◌, ◌<◌, ◌≤◌, ◌++◌, ◌∷◌, [], IfOk, OnErr, length, option_map};
 ghost use Rattle.usb_model.specs.declared.step.Step.TheVariants.{Take};
 ghost use Rattle.usb_core.specs.Stepping.{first_payload};
 ghost use Rattle.usb_parts.specs.Taking.{CarriesOut};
 ghost use Rattle.usb_state.specs.Calls.{called_entry};
 ghost use Rattle.usb_state.specs.Carrying.{Carries, Kept};
+ghost use Rattle.usb_book.specs.Recording.{bytes_in};
 ghost use Rattle.usb_book.specs.Booked.{IsMoved, IsSame, next_entry, next_receipt};
 
 use crate::book::Book;
+use crate::log::Log;
 use crate::mark::Mark;
 use crate::naming::Naming;
-use crate::place::Told;
 use crate::receipt::Receipt;
 use crate::recorder::Recorder;
 use std::alloc::AllocError;
-use std::snapshot::Snapshot;
 use usb_core::Taken;
 use usb_device::Device;
 use usb_model::{Entry, Reply, Step};
@@ -41,37 +41,45 @@ impl<L: Naming, P, D: Device, J: Recorder> Book<L, P, D, J> {
             core,
             moment,
             log,
-            alloc,
             ..
         } = self;
-        let step = Step::Take;
-        let draft = log.prepare(*alloc, &step, core.next_len())?;
-        let asked = Snapshot::of(&step);
+        log.reserve(1, core.next_len())?;
         let Ok(taken) = core.take() else {
             return Err(AllocError);
         };
-        match taken {
-            None => {
-                let entry = Entry {
-                    owner: None,
-                    reply: Reply::Idle,
-                };
-                let told = Told::new(asked, caller, &entry, *moment);
-                let receipt = log.enter(mark, draft, told, &entry);
-                Ok((receipt, None))
-            }
-            Some(Taken { returned, payload }) => {
-                let entry = Entry {
-                    owner: Some(returned.h),
-                    reply: Reply::Called(returned),
-                };
-                let told = Told::new(asked, caller, &entry, *moment);
-                let receipt = log.enter(mark, draft, told, &entry);
-                let Reply::Called(returned) = entry.reply else {
-                    unreachable!()
-                };
-                Ok((receipt, Some(Taken { returned, payload })))
-            }
-        }
+        Ok(enter(log, mark, caller, *moment, taken))
     }
+}
+
+/// One place more, of a result that goes out, or of none.
+fn enter<L: Naming, P, J: Recorder>(
+    log: &mut Log<L, J>,
+    mark: &mut Mark<L>,
+    caller: u32,
+    moment: u64,
+    taken: Option<Taken<P>>,
+) -> (Receipt<L>, Option<Taken<P>>)
+    requires count { length log.old.journal + 1 < 2 ^ 64 }
+    requires room { (places : ℕ) × (bytes : ℕ) × J.has_room log.old.recorder places bytes × (1 ≤ places) × (bytes_in (called_entry (option_map (λ t. t.returned) taken)).reply ≤ bytes) }
+    ensures receipt { result.0 ≡ record { place = length log.old.journal; entry = record { step = Take; caller = caller; entry = called_entry (option_map (λ t. t.returned) taken); moment = moment } } }
+    ensures taken { result.1 ≡ taken }
+    ensures journal { log.new.journal ≡ log.old.journal ++ result.0.entry ∷ [] }
+    ensures mark { IsMoved mark.old result.0 mark.new }
+{
+    let Some(Taken { returned, payload }) = taken else {
+        let entry = Entry {
+            owner: None,
+            reply: Reply::Idle,
+        };
+        return (log.enter(mark, Step::Take, caller, &entry, moment), None);
+    };
+    let entry = Entry {
+        owner: Some(returned.h),
+        reply: Reply::Called(returned),
+    };
+    let receipt = log.enter(mark, Step::Take, caller, &entry, moment);
+    let Reply::Called(returned) = entry.reply else {
+        unreachable!()
+    };
+    (receipt, Some(Taken { returned, payload }))
 }

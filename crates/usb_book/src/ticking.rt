@@ -15,7 +15,6 @@ use crate::book::Book;
 use crate::log::Log;
 use crate::mark::Mark;
 use crate::naming::Naming;
-use crate::place::Place;
 use crate::receipt::Receipt;
 use crate::recorder::Recorder;
 use crate::timer::Timer;
@@ -47,7 +46,7 @@ impl<L: Naming, P, D: Device, J: Recorder> Book<L, P, D, J> {
         let later = self.moment.max(now);
         let due = due_now(self.alloc, &self.core, &self.timers, later)?;
         let mut receipts = Vec::with_capacity(self.alloc, due.len())?;
-        self.log.reserve(due.len())?;
+        self.log.reserve(due.len(), 0)?;
         self.moment = later;
         let Book { core, log, .. } = self;
         expire_all(core, log, mark, caller, later, &due, &mut receipts);
@@ -144,9 +143,10 @@ fn expire_all<L: Naming, P, D: Device, J: Recorder>(
     due: &[Timer],
     receipts: &mut Vec<Receipt<L>>,
 )
-    requires room { (length log.old.journal + length due.now < 2 ^ 64) × J.has_room log.old.recorder (length due.now) }
+    requires room { (length log.old.journal + length due.now < 2 ^ 64) × J.has_room log.old.recorder (length due.now) 0 }
+    requires run { Replays L.setup log.old.journal core.old }
     requires receipts { (receipts.old.items ≡ []) × (vec_len receipts.old ≡ 0) × (length due.now ≤ vec_capacity receipts.old) }
-    ensures run { (setup : IsSetup) → Replays setup log.old.journal core.old → Replays setup log.new.journal core.new }
+    ensures run { Replays L.setup log.new.journal core.new }
     ensures timers { timers_of log.new.journal ≡ timers_of log.old.journal }
     ensures begins { take (length log.old.journal) log.new.journal ≡ log.old.journal }
     ensures steps { map asked (drop (length log.old.journal) log.new.journal) ≡ asks caller moment (expires due.now) }
@@ -158,16 +158,11 @@ fn expire_all<L: Naming, P, D: Device, J: Recorder>(
     for timer in due {
         let (h, n) = (timer.h, timer.n);
         let reply = core.expire(h, n);
-        let place = Place {
-            step: Step::Expire { h, n },
-            caller,
-            entry: Entry {
-                owner: Some(h),
-                reply,
-            },
-            moment,
+        let entry = Entry {
+            owner: Some(h),
+            reply,
         };
-        let receipt = log.enter_whole(mark, place);
+        let receipt = log.enter(mark, Step::Expire { h, n }, caller, &entry, moment);
         receipts.push_reserved(receipt);
     }
 }

@@ -2,10 +2,10 @@
 
 ghost use Rattle.std.specs.Prelude.{◌≡◌, ◌++◌, ◌+◌, ◌<◌, ◌≤◌, IfSome, IfNone, drop, length, take, vec_capacity, vec_len};
 ghost use Rattle.usb_model.specs.World.Due.{deadline};
-ghost use Rattle.usb_book.specs.Timers.{is_timer_of, started_again_if, started_if, stopped, timeout_in};
+ghost use Rattle.usb_book.specs.Timers.{is_timer_of, started_again_if, started_if, stopped, stopped_if, timeout_in};
 
 use usb_core::Unaccepted;
-use usb_model::Name;
+use usb_model::{Entry, Name, Reply};
 
 /// Of a transfer, from its submission on until its callback ends: when it was submitted, and its timeout.
 #[derive(Clone, Copy)]
@@ -64,13 +64,24 @@ fn position(timers: &[Timer], h: Name, n: u64) -> Option<usize>
 }
 
 /// A transfer's callback has ended.
-pub(crate) fn stop(timers: &mut Vec<Timer>, h: Name, n: u64)
+fn stop(timers: &mut Vec<Timer>, h: Name, n: u64)
     ensures items { timers.new.items ≡ stopped h n timers.old.items }
     ensures capacity { vec_capacity timers.new ≡ vec_capacity timers.old }
     ensures less { vec_len timers.new ≤ vec_len timers.old }
 {
     if let Some(index) = position(timers, h, n) {
         let _ = timers.remove(index);
+    }
+}
+
+/// A callback has ended, if that was done.
+pub(crate) fn stop_if(timers: &mut Vec<Timer>, ending: Option<(Name, u64)>, entry: &Entry)
+    ensures { timers.new.items ≡ stopped_if ending entry.now.reply timers.old.items }
+{
+    if let Some((h, n)) = ending {
+        if matches!(entry.reply, Reply::Done) {
+            stop(timers, h, n);
+        }
     }
 }
 

@@ -168,7 +168,9 @@ impl<L: Naming, P: Drop, D: Device, J: Recorder> Library<L, P, D, J> {
         ensures entry { IfOk result (λ x. x.entry ≡ x.receipt.entry.entry) }
         ensures refused { OnErr result (caller.new ≡ caller.old) }
     {
-        self.call(rt, caller, Step::Deliver)
+        let answered = self.desk.lock(rt).deliver(caller)?;
+        self.wake_if(rt, answered.has_changed());
+        Ok(answered)
     }
 
     /// A device is gone, for ever. NotFound where there is no such device, NoDevice where it is gone already.

@@ -1,8 +1,8 @@
 //! What lies under the lock.
 
 ghost use Rattle.std.specs.Prelude.{◌≡◌, ◌+◌, ◌<◌, IfErr, IfNone, IfOk, IfSome, OnErr, Some, [], false, option_map};
-ghost use Rattle.usb_model.specs.declared.step.Step.TheVariants.{Answer, Serve, Submit, Take};
-ghost use Rattle.usb_model.specs.declared.verdict.Verdict.TheVariants.{Again, AgainWith};
+ghost use Rattle.usb_model.specs.declared.step.Step.TheVariants.{Answer, Deliver, Serve, Submit, Take};
+ghost use Rattle.usb_model.specs.declared.verdict.Verdict.TheVariants.{Again, AgainWith, Stop};
 ghost use Rattle.usb_model.specs.Numbers.{takes_payload};
 ghost use Rattle.usb_state.specs.Calls.{called_entry};
 ghost use Rattle.usb_book.specs.Booked.{answer_entry};
@@ -124,7 +124,36 @@ impl<L: Naming, P: Drop, D: Device, J: Recorder> Desk<L, P, D, J> {
         ensures refused { OnErr result (caller.new ≡ caller.old) }
     {
         self.served = Some((dev, ep));
-        self.call(caller, Step::Serve { dev, ep })
+        let (receipt, entry) = self.book.serve(dev, ep, caller.number, &mut caller.mark)?;
+        self.total.add(&mut caller.share, 1);
+        Ok(Answered { receipt, entry })
+    }
+
+    /// The oldest event is handled, for a caller.
+    pub(crate) fn deliver(&mut self, caller: &mut Caller<L>) -> Result<Answered<L>, AllocError>
+        ensures made { IfOk result (λ x. Makes Deliver caller.old caller.new x.receipt) }
+        ensures entry { IfOk result (λ x. x.entry ≡ x.receipt.entry.entry) }
+        ensures refused { OnErr result (caller.new ≡ caller.old) }
+    {
+        let (receipt, entry) = self.book.deliver(caller.number, &mut caller.mark)?;
+        self.total.add(&mut caller.share, 1);
+        Ok(Answered { receipt, entry })
+    }
+
+    /// Ends the callback of a transfer, for a caller.
+    pub(crate) fn stop(
+        &mut self,
+        caller: &mut Caller<L>,
+        h: Name,
+        n: u64,
+    ) -> Result<Answered<L>, AllocError>
+        ensures made { IfOk result (λ x. Makes (Answer h n Stop) caller.old caller.new x.receipt) }
+        ensures entry { IfOk result (λ x. x.entry ≡ x.receipt.entry.entry) }
+        ensures refused { OnErr result (caller.new ≡ caller.old) }
+    {
+        let (receipt, entry) = self.book.stop(h, n, caller.number, &mut caller.mark)?;
+        self.total.add(&mut caller.share, 1);
+        Ok(Answered { receipt, entry })
     }
 
     /// Submits a transfer for a caller.

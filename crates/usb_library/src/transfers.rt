@@ -15,7 +15,7 @@ use std::sync::Wait;
 use usb_book::{Naming, NotRecorded, Receipt, Recorder};
 use usb_core::Taken;
 use usb_device::Device;
-use usb_model::{Bytes, Name, Request, Step, Verdict};
+use usb_model::{Bytes, Name, Request};
 
 impl<L: Naming, P: Drop, D: Device, J: Recorder> Library<L, P, D, J> {
     /// Submits a transfer (libusb 1.0, `libusb_submit_transfer`), whose callback is kept with it: its number. Refused
@@ -70,8 +70,9 @@ impl<L: Naming, P: Drop, D: Device, J: Recorder> Library<L, P, D, J> {
         ensures entry { IfOk result (λ x. x.entry ≡ x.receipt.entry.entry) }
         ensures refused { OnErr result (caller.new ≡ caller.old) }
     {
-        let verdict = Verdict::Stop;
-        self.call(rt, caller, Step::Answer { h, n, verdict })
+        let answered = self.desk.lock(rt).stop(caller, h, n)?;
+        self.wake_if(rt, answered.has_changed());
+        Ok(answered)
     }
 
     /// Submits the transfer of a callback once more, under a new number; its callback ends. Refused as a submission is, and

@@ -10,9 +10,13 @@ use usb_core::Pending;
 use usb_device::Device;
 
 /// Those who wait for a change. Their lock is their own: whoever holds it takes no other.
+///
+/// As long as nobody watches it isn't taken. Whether somebody does is read after a call's step was made, and is said before
+/// `watch` comes back: so where a call finds nobody, whoever comes to watch looks later than its step, and finds that.
 #[derive(Drop)]
 pub(crate) struct Watchers {
     stopping: AtomicBool,
+    watched: AtomicBool,
     unparkers: Mutex<Vec<Unparker>>,
 }
 
@@ -21,12 +25,29 @@ impl Watchers {
     pub(crate) fn new(alloc: Global) -> Watchers {
         Watchers {
             stopping: AtomicBool::new(false),
+            watched: AtomicBool::new(false),
             unparkers: Mutex::new(Vec::new(alloc)),
         }
     }
 
-    /// All are woken.
+    /// One more.
+    fn add<R: Wait>(&self, rt: &R, unparker: Unparker) -> Result<(), AllocError> {
+        self.unparkers.lock(rt).push(unparker)?;
+        self.watched.store(true, Ordering::SeqCst);
+        Ok(())
+    }
+
+    /// All are woken, where there are any.
+    #[inline(always)]
     pub(crate) fn wake<R: Wait>(&self, rt: &R) {
+        if self.watched.load(Ordering::SeqCst) {
+            self.wake_all(rt);
+        }
+    }
+
+    /// All are woken.
+    #[inline(never)]
+    fn wake_all<R: Wait>(&self, rt: &R) {
         let unparkers = self.unparkers.lock(rt);
         for unparker in unparkers.iter() {
             unparker.unpark();
@@ -56,8 +77,7 @@ impl<L: Naming, P: Drop, D: Device, J: Recorder> Library<L, P, D, J> {
     /// thread that looks, finds nothing to do, and parks then misses no change: what comes between is a token that lets
     /// it pass. An error where memory is refused.
     pub fn watch<R: Wait>(&self, rt: &R, unparker: Unparker) -> Result<(), AllocError> {
-        self.watchers.unparkers.lock(rt).push(unparker)?;
-        Ok(())
+        self.watchers.add(rt, unparker)
     }
 
     /// Asks the workers to end as soon as there is nothing to do.

@@ -34,20 +34,30 @@ fn packets(alloc: Global, sizes: &[u8]) -> Result<Script, AllocError> {
     Ok(script)
 }
 
-/// Such packets at endpoints 81 and 83; nothing elsewhere.
+/// So many packets that are taken.
+fn taken(alloc: Global, count: usize) -> Result<Script, AllocError> {
+    let mut script = Sequence::new(alloc);
+    for _ in 0..count {
+        script.push(Response::Ack)?;
+    }
+    Ok(script)
+}
+
+/// Such packets at endpoints 81 and 83, and as many taken at 02; nothing elsewhere.
 fn scripts(alloc: Global, sizes: &[u8]) -> Result<Sequence<Script>, AllocError> {
     let mut scripts = Sequence::new(alloc);
     for id in 0..8_u8 {
-        if id == 3 || id == 7 {
-            scripts.push(packets(alloc, sizes)?)?;
-        } else {
-            scripts.push(Sequence::new(alloc))?;
-        }
+        let script = match id {
+            3 | 7 => packets(alloc, sizes)?,
+            4 => taken(alloc, sizes.len())?,
+            _ => Sequence::new(alloc),
+        };
+        scripts.push(script)?;
     }
     Ok(scripts)
 }
 
-/// So many devices, whose endpoints 81 and 83 answer with packets of these sizes.
+/// So many devices, whose endpoints 81 and 83 answer with packets of these sizes; 02 takes as many packets.
 pub fn devices(alloc: Global, count: u8, sizes: &[u8]) -> Result<Setup<TableDevice>> {
     let mut setup = Setup::new(alloc)?;
     for _ in 0..count {

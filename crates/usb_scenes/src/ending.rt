@@ -41,7 +41,7 @@ pub fn end_with<L: Naming, P: Drop, D: Device>(
     requires { L.parts ≡ 1025 }
 {
     let ended = end(library, callers, receipts)?;
-    let told = lines_of(alloc, ended.recorder.places.as_slice())?;
+    let told = lines_of(alloc, &ended.recorder.places(alloc)?)?;
     if told.as_str() != lines {
         return Err(anyhow!("another thing is told: {told}"));
     }

@@ -5,7 +5,7 @@ ghost use Rattle.usb_model.specs.declared.request.Body.TheVariants.{In};
 
 use anyhow::{Result, anyhow};
 use bitflags::Flags as _;
-use usb_model::{Body, DeviceNo, EpAddr, Flags, Kind, Name, Request};
+use usb_model::{Body, Bytes, DeviceNo, EpAddr, Flags, Kind, Name, Request};
 
 /// A handle, with what it reads from.
 #[derive(Clone, Copy)]
@@ -52,6 +52,17 @@ impl Reader {
             flags: Flags::from_bits_retain(0),
             timeout,
             body: Body::In(bytes),
+        }
+    }
+
+    /// A write of these bytes to endpoint 02.
+    pub fn write(&self, bytes: Bytes) -> Request {
+        Request {
+            ep: EpAddr::new(0x02),
+            kind: Kind::Bulk,
+            flags: Flags::from_bits_retain(0),
+            timeout: 0,
+            body: Body::Out(bytes),
         }
     }
 }

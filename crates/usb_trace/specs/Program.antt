@@ -1,19 +1,17 @@
 -- What the program does.
 use Rattle.std.specs.Prelude.{◌≡◌, ◌≢◌, ◌≤◌, ◌⊎◌, ℕ, length, ⊤, IfSome, List, [], Option, Result, Ok, Err}
 use Rattle.std.specs.Io.KnownBytes.{Appends, Keeps}
-use Rattle.usb_model.specs.declared.entry.Entry.{Entry}
 use Rattle.usb_model.specs.declared.step.Step.{Step}
 use Rattle.usb_model.specs.Text.{lines_text}
 use Rattle.usb_model.specs.World.Plans.{expand}
 use Rattle.usb_model.specs.World.Journal.{world_run, own}
 use Rattle.usb_model.specs.Machine.Turns.{alone}
-use Rattle.usb_model.specs.World.Journal.{IsBeginning}
 use Rattle.usb_streams.specs.declared.fault.Fault.{Fault}
 use Rattle.usb_streams.specs.declared.fault.Fault.TheVariants.{Line, Memory, InputOutput}
 use Rattle.usb_trace.specs.declared.program.Ending.{Ending}
 use Rattle.usb_trace.specs.declared.program.Ending.TheVariants.{Good, BadLines}
-use Rattle.usb_trace.specs.declared.program.Reach.{Reach}
-use Rattle.usb_trace.specs.declared.program.Reach.TheVariants.{End, NoMemory}
+use Rattle.usb_trace.specs.declared.printing.Reach.{Reach}
+use Rattle.usb_trace.specs.declared.printing.Reach.TheVariants.{End, NoMemory}
 use Rattle.usb_text.specs.declared.scenario.Scenario.{Scenario}
 use Rattle.clap.specs.Walk.{Text}
 use Rattle.usb_command.specs.CommandLine.{AskFor}
@@ -65,11 +63,6 @@ Performs t text old new (Err (Line line)) = (scenario_of text ≡ Err line) × K
 Performs t text old new (Err Memory) = ⊤
 Performs t text old new (Err InputOutput) = ⊤
 
--- what a run writes: its lines, or those of a beginning where it came to a step that found no memory
-abbrev pub PrintsTo : Reach → Scenario → Option (List ℕ) → Option (List ℕ) → Type 0
-PrintsTo End s old new = Appends old new (run_text s)
-PrintsTo NoMemory s old new = (front : List Entry) × IsBeginning front (world_run s.setup (steps_of s)) × Appends old new (lines_text front)
-
 -- what a task that prints such entries may have written, however it ends: a beginning of their text, and nothing where a line is bad
 abbrev pub BeginsEntries : (Scenario → List ℕ) → Result Scenario ℕ → Option (List ℕ) → Option (List ℕ) → Type 0
 BeginsEntries said (Ok s) old new = AppendsSome (said s) old new
@@ -104,6 +97,11 @@ abbrev pub status_of : Result Ending Fault → ℕ
 status_of (Ok Good) = 0
 status_of (Ok BadLines) = 1
 status_of (Err fault) = 1
+
+-- how a task ends whose run came so far
+abbrev pub ending_of : Reach → Result Ending Fault
+ending_of End = Ok Good
+ending_of NoMemory = Err Memory
 
 -- nothing is written where a line of the text is bad
 abbrev pub IsSilentAtBad : List ℕ → Option (List ℕ) → Option (List ℕ) → Type 0

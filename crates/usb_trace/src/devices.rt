@@ -5,6 +5,7 @@ ghost use Rattle.std.specs.List.{AllByRecursion};
 ghost use Rattle.usb_state.specs.Making.{setup_of};
 ghost use Rattle.usb_text.specs.Runnable.{CanBeMade};
 
+use crate::printing::Parts;
 use std::alloc::{AllocError, Global};
 use usb_callback::{Callback, Ruled};
 use usb_core::Setup;
@@ -56,4 +57,21 @@ pub(crate) fn callbacks_of(alloc: Global, rules: &[Rule]) -> Result<Vec<Ruled>, 
         callbacks.push(Ruled::new(*rule))?;
     }
     Ok(callbacks)
+}
+
+/// What a scenario's run is made of. An error where memory is refused.
+pub(crate) fn parts_of(
+    alloc: Global,
+    devices: Sequence<ScriptedDevice>,
+    rules: &[Rule],
+) -> Result<Parts<Ruled, TableDevice>, AllocError>
+    requires few { length devices ≤ 4 }
+    requires each { AllByRecursion CanBeMade devices }
+    ensures devices { IfOk result (λ parts. setup_of parts.setup ≡ devices) }
+    ensures rules { IfOk result (λ parts. map (⟦<Ruled as Callback>⟧.rule) parts.callbacks.items ≡ rules.now) }
+{
+    Ok(Parts {
+        setup: devices_of(alloc, devices)?,
+        callbacks: callbacks_of(alloc, rules)?,
+    })
 }

@@ -1,6 +1,5 @@
-//! The program `usbtrace` as a library: the scenario of an input is run by the model's plain program and its entries
-//! are printed, or it is run by the core on rings and drawn,
-//! or it is checked and its bad lines are printed. The texts are those of docs/FORMATS.md.
+//! The program `usbtrace` as a library: the scenario of an input is run by the core on rings, and its entries are printed
+//! as they arise, or drawn; or it is checked and its bad lines are printed. The texts are those of docs/FORMATS.md.
 //!
 //! The one promise: what is printed is the text of the entries of the scenario that the input spells, or a beginning of
 //! it where the status isn't 0.
@@ -8,7 +7,7 @@
 
 mod devices;
 mod drawing;
+mod printing;
 mod program;
-mod ready;
 
 pub use program::trace;

@@ -12,23 +12,22 @@ ghost use Rattle.usb_streams.specs.Faults.{message_of, IsOfRun};
 ghost use Rattle.usb_streams.specs.declared.fault.Fault.{Fault};
 ghost use Rattle.usb_streams.specs.Input.{longest_input};
 ghost use Rattle.usb_streams.specs.Printing.{AppendsSome};
-ghost use Rattle.usb_trace.specs.Program.{alone_text, run_text, status_of, AppendsAny, Begins, IsDone, IsSilentAtBad, Performs, PrintsTo, TellsWhy};
+ghost use Rattle.usb_trace.specs.Program.{alone_text, ending_of, run_text, status_of, AppendsAny, Begins, IsDone, IsSilentAtBad, Performs, TellsWhy};
 ghost use Rattle.usb_command.specs.declared.words.Task.{Task};
 ghost use Rattle.usb_command.specs.declared.words.Task.TheVariants.{Check};
 
-use crate::devices::{callbacks_of, devices_of};
+use crate::devices::{callbacks_of, devices_of, parts_of};
 use crate::drawing::draw;
-use crate::ready::Ready;
+use crate::printing::{Reach, print_alone, print_plan};
 use clap::Error;
 use clap::error::ErrorKind;
 use std::alloc::Global;
 use std::io::{Read, Write};
 use usb_command::{Task, read_words};
-use usb_model::Name;
-use usb_plain::{drive, drive_alone};
-use usb_streams::print::{print, print_findings};
+use usb_model::{Name, Sequence};
+use usb_streams::print::print_findings;
 use usb_streams::{Fault, read_whole, write_bytes};
-use usb_text::{Scenario, check, read_scenario};
+use usb_text::{Scenario, ScriptedDevice, check, read_scenario};
 
 /// The status of a run that ended early, and of a check that found bad lines.
 const FAILED: u8 = 1;
@@ -43,15 +42,6 @@ enum Ending {
     Good,
     /// A check found bad lines, and told of them.
     BadLines,
-}
-
-/// How far a run comes.
-#[derive(Clone, Copy, PartialEq, Eq, Debug)]
-enum Reach {
-    /// To its end.
-    End,
-    /// To a step that finds no memory.
-    NoMemory,
 }
 
 /// Runs the program on its words, of which the first is its name, and its input, and answers its status: 0, or 1 where
@@ -135,13 +125,11 @@ fn perform<R: Read, W: Write>(
 {
     let text = read_whole(alloc, input)?;
     match task {
-        Task::Run => {
-            let scenario = read_scenario(alloc, text.as_slice())?;
-            run(alloc, &Ready::new(alloc, scenario)?, out)
-        }
+        Task::Run => run(alloc, read_scenario(alloc, text.as_slice())?, out),
         Task::Alone(h) => {
+            let Scenario { setup, .. } = read_scenario(alloc, text.as_slice())?;
             let scenario = read_scenario(alloc, text.as_slice())?;
-            run_alone(alloc, &Ready::new(alloc, scenario)?, h, out)
+            run_alone(alloc, scenario, setup, h, out)
         }
         Task::Check => report(alloc, text.as_slice(), out),
         Task::Draw => draw_run(alloc, read_scenario(alloc, text.as_slice())?, out),
@@ -162,54 +150,49 @@ fn report<W: Write>(alloc: Global, text: &[u8], out: &mut W) -> Result<Ending, F
     Ok(Ending::BadLines)
 }
 
-/// Prints the entries of a scenario; where memory ran out, those before.
-fn run<W: Write>(alloc: Global, scenario: &Ready, out: &mut W) -> Result<Ending, Fault>
-    ensures lines { OnOk result (Appends (W.contents out.old) (W.contents out.new) (run_text scenario.now)) }
-    ensures begun { AppendsSome (run_text scenario.now) (W.contents out.old) (W.contents out.new) }
-    ensures good { IfOk result (λ ending. ending ≡ Ending.Good) }
-    ensures fault { IfErr result (λ fault. IsOfRun fault) }
+/// How a task ends whose run came so far.
+fn ending_of(reach: Reach) -> Result<Ending, Fault>
+    ensures { result ≡ ending_of reach }
 {
-    match print_run(alloc, scenario, out)? {
+    match reach {
         Reach::End => Ok(Ending::Good),
         Reach::NoMemory => Err(Fault::Memory),
     }
 }
 
-/// Prints the entries of a scenario as far as the run comes.
-fn print_run<W: Write>(alloc: Global, scenario: &Ready, out: &mut W) -> Result<Reach, Fault>
-    ensures lines { IfOk result (λ reach. PrintsTo reach scenario.now (W.contents out.old) (W.contents out.new)) }
-    ensures begun { AppendsSome (run_text scenario.now) (W.contents out.old) (W.contents out.new) }
-    ensures fault { IfErr result (λ fault. IsOfRun fault) }
-{
-    let (plan, rules) = (scenario.plan.as_slice(), scenario.rules.as_slice());
-    match drive(alloc, &scenario.setup, plan, rules) {
-        Ok(entries) => {
-            print(alloc, out, entries.as_slice())?;
-            Ok(Reach::End)
-        }
-        Err(stopped) => {
-            print(alloc, out, stopped.entries.as_slice())?;
-            Ok(Reach::NoMemory)
-        }
-    }
-}
-
-/// Prints the entries of a handle alone.
-fn run_alone<W: Write>(
-    alloc: Global,
-    scenario: &Ready,
-    h: Name,
-    out: &mut W,
-) -> Result<Ending, Fault>
-    ensures lines { OnOk result (Appends (W.contents out.old) (W.contents out.new) (alone_text h scenario.now)) }
-    ensures begun { AppendsSome (alone_text h scenario.now) (W.contents out.old) (W.contents out.new) }
+/// Prints the entries of a scenario, as the core on rings runs it; where memory ran out, those before.
+fn run<W: Write>(alloc: Global, scenario: Scenario, out: &mut W) -> Result<Ending, Fault>
+    requires { IsRunnable scenario }
+    ensures lines { OnOk result (Appends (W.contents out.old) (W.contents out.new) (run_text scenario)) }
+    ensures begun { AppendsSome (run_text scenario) (W.contents out.old) (W.contents out.new) }
     ensures good { IfOk result (λ ending. ending ≡ Ending.Good) }
     ensures fault { IfErr result (λ fault. IsOfRun fault) }
 {
-    let (plan, rules) = (scenario.plan.as_slice(), scenario.rules.as_slice());
-    let both = drive_alone(alloc, &scenario.setup, plan, rules, h)?;
-    print(alloc, out, both.alone.as_slice())?;
-    Ok(Ending::Good)
+    let Scenario { setup, plan, rules } = scenario;
+    let parts = parts_of(alloc, setup, rules.as_slice())?;
+    ending_of(print_plan(alloc, parts, plan.as_slice(), out)?)
+}
+
+/// Prints the entries of a handle alone, as a core of its own runs them; where memory ran out, those before. Takes the
+/// devices a second time, for that core.
+fn run_alone<W: Write>(
+    alloc: Global,
+    scenario: Scenario,
+    other_setup: Sequence<ScriptedDevice>,
+    h: Name,
+    out: &mut W,
+) -> Result<Ending, Fault>
+    requires runnable { IsRunnable scenario }
+    requires same_devices { other_setup ≡ scenario.setup }
+    ensures lines { OnOk result (Appends (W.contents out.old) (W.contents out.new) (alone_text h scenario)) }
+    ensures begun { AppendsSome (alone_text h scenario) (W.contents out.old) (W.contents out.new) }
+    ensures good { IfOk result (λ ending. ending ≡ Ending.Good) }
+    ensures fault { IfErr result (λ fault. IsOfRun fault) }
+{
+    let Scenario { setup, plan, rules } = scenario;
+    let parts = parts_of(alloc, setup, rules.as_slice())?;
+    let other_parts = parts_of(alloc, other_setup, rules.as_slice())?;
+    ending_of(print_alone(alloc, parts, other_parts, plan.as_slice(), h, out)?)
 }
 
 /// Prints a picture of a scenario's run. What it shows is no matter of contracts.

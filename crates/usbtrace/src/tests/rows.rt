@@ -22,6 +22,8 @@ mod transfers;
 
 use super::fakes::{Input, run};
 use std::alloc::{AllocError, Global};
+use usb_plain::drive;
+use usb_text::{Scenario, into_setups, read_scenario};
 
 /// Whether the program does as a row says, from its words on. Its input is read a few bytes at a time.
 fn does(alloc: Global, row: &str) -> Result<bool, AllocError> {
@@ -36,10 +38,37 @@ fn does(alloc: Global, row: &str) -> Result<bool, AllocError> {
     Ok(outcome.is(status, out, err))
 }
 
-/// Whether a row holds, from its name on; not where memory is wanting.
+/// What the plain program's entries of a scenario print; nothing where its text isn't read.
+fn plain_lines(alloc: Global, input: &str) -> Result<String, AllocError> {
+    let mut lines = String::new(alloc);
+    let Ok(Scenario { setup, plan, rules }) = read_scenario(alloc, input.as_bytes()) else {
+        return Ok(lines);
+    };
+    let setup = into_setups(alloc, setup)?;
+    let Ok(entries) = drive(alloc, &setup, plan.as_slice(), rules.as_slice()) else {
+        return Err(AllocError);
+    };
+    for entry in entries.as_slice() {
+        lines.push_str(entry.to_string(alloc)?.as_str())?;
+        lines.push('\n')?;
+    }
+    Ok(lines)
+}
+
+/// Whether the plain program prints the same as a row that runs its scenario whole.
+fn does_plainly(alloc: Global, row: &str) -> Result<bool, AllocError> {
+    let Some(rest) = row.strip_prefix("usbtrace run\n") else {
+        return Ok(true);
+    };
+    let (input, rest) = rest.split_once("--- prints\n").unwrap_or((rest, ""));
+    let (out, _) = rest.split_once("--- fails\n").unwrap_or((rest, ""));
+    Ok(plain_lines(alloc, input)?.as_str() == out)
+}
+
+/// Whether a row holds, from its name on, and by the plain program too; not where memory is wanting.
 fn holds(alloc: Global, row: &str) -> bool {
     let (_, rest) = row.split_once('\n').unwrap_or((row, ""));
-    does(alloc, rest).unwrap_or(false)
+    does(alloc, rest).unwrap_or(false) && does_plainly(alloc, rest).unwrap_or(false)
 }
 
 /// The first row that doesn't hold, from its name on; or nothing's, where they aren't so many.

@@ -1,5 +1,4 @@
 use Rattle.std.proofs.Common.{◌≡◌, ◌+◌, ◌-◌, ◌++◌, take, drop, map, length, vec_len, vec_capacity}
-use Rattle.usb_model.specs.Setup.{Setup}
 use Rattle.usb_state.specs.Carrying.{StillCarries}
 use Rattle.usb_book.specs.Booked.{AreMoved, Replays, asked, asks}
 use Rattle.usb_book.specs.Seen.{receipts_from}
@@ -10,8 +9,8 @@ abbrev pub invariant-loop-timer : goal.invariant-loop-timer
 invariant-loop-timer g l = record {
   room : (vec_len l.receipts ≡ l.timer-index) × (vec_capacity l.receipts ≡ vec_capacity l.initial.receipts);
   count : length l.log.journal ≡ length l.initial.log.journal + l.timer-index;
-  left : g.J.Recorder.has_room l.log.recorder (length l.fn.due - l.timer-index);
-  run : (setup : Setup) → Replays setup l.initial.log.journal l.initial.core → Replays setup l.log.journal l.core;
+  left : g.J.Recorder.has_room l.log.recorder (length l.fn.due - l.timer-index) 0;
+  run : Replays g.L.Naming.setup l.log.journal l.core;
   timers : timers_of l.log.journal ≡ timers_of l.initial.log.journal;
   begins : take (length l.initial.log.journal) l.log.journal ≡ l.initial.log.journal;
   steps : map asked (drop (length l.initial.log.journal) l.log.journal) ≡ asks l.fn.caller l.fn.moment (expires (take l.timer-index l.fn.due));
