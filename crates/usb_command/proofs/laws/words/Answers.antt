@@ -1,4 +1,4 @@
-use Rattle.usb_command.proofs.WordsRead.{alone_asks, check_asks, check_of_a_file_is_bad, draw_asks, handle_64_is_bad, help_asks, help_is_no_word, leading_zeros_ask, left_asks, live_alone_is_bad, live_asks, no_handle_is_bad, no_words_are_bad, plus_sign_asks, run_asks, steps_ask, too_many_are_bad}
+use Rattle.usb_command.proofs.WordsRead.{alone_asks, check_asks, check_of_a_file_is_bad, draw_asks, handle_64_is_bad, help_asks, help_is_no_word, leading_zeros_ask, left_with_a_word_is_bad, left_asks, no_handle_is_bad, no_words_are_bad, plus_sign_asks, run_asks, steps_ask, too_many_are_bad}
 use Rattle.usb_command.proofs.laws.words.Goals as goal
 
 pub returns-clause-run : goal.returns-clause-run
@@ -40,14 +40,11 @@ returns-clause-check_of_a_file c = check_of_a_file_is_bad
 pub returns-clause-draw : goal.returns-clause-draw
 returns-clause-draw c = draw_asks
 
-pub returns-clause-live : goal.returns-clause-live
-returns-clause-live c = live_asks
-
-pub returns-clause-live_alone : goal.returns-clause-live_alone
-returns-clause-live_alone c = live_alone_is_bad
-
 pub returns-clause-left : goal.returns-clause-left
 returns-clause-left c = left_asks
+
+pub returns-clause-left_with_a_word : goal.returns-clause-left_with_a_word
+returns-clause-left_with_a_word c = left_with_a_word_is_bad
 
 pub returns-clause-steps : goal.returns-clause-steps
 returns-clause-steps c = steps_ask
