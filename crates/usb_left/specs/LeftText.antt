@@ -23,6 +23,10 @@ thing_text (thing.Callback n) = codes "callback " ++ decimal n
 abbrev pub left_text : Left → List ℕ
 left_text x = codes "h" ++ (decimal x.h ++ (codes " ep " ++ (hex_byte x.ep ++ (codes " " ++ thing_text x.thing))))
 
+-- a line of it
+abbrev pub left_line : Left → List ℕ
+left_line x = left_text x ++ codes "\n"
+
 -- a line each
 abbrev pub lines_left : List Left → List ℕ
-lines_left xs = flat_map (λ x. left_text x ++ codes "\n") xs
+lines_left xs = flat_map left_line xs

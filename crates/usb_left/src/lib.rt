@@ -5,7 +5,9 @@
 
 mod inventory;
 mod left;
+mod lines;
 mod run;
 
 pub use left::{Left, Thing};
+pub use lines::lines_of;
 pub use run::left_behind;

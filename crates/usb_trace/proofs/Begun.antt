@@ -6,10 +6,10 @@ use Rattle.usb_text.specs.Findings.{bad_lines, good_lines}
 use Rattle.usb_text.specs.Scenario.{scenario_of}
 use Rattle.usb_text.specs.declared.scenario.Scenario.{Scenario}
 use Rattle.usb_command.specs.declared.words.Task.{Task}
-use Rattle.usb_command.specs.declared.words.Task.TheVariants.{Run, Alone, Check, Draw}
+use Rattle.usb_command.specs.declared.words.Task.TheVariants.{Run, Steps, Alone, Left, Check, Draw}
 use Rattle.usb_streams.proofs.Beginnings.{none_yet}
 use Rattle.usb_streams.proofs.Findings.{no_report}
-use Rattle.usb_trace.specs.Program.{alone_text, run_text, Begins, BeginsEntries, BeginsPicture}
+use Rattle.usb_trace.specs.Program.{alone_text, left_lines, run_text, steps_text, Begins, BeginsEntries, BeginsPicture}
 
 -- known bytes stay
 pub keeps_same : (old : Option (List ℕ)) → Keeps old old
@@ -29,7 +29,9 @@ no_picture (Err line) old = keeps_same old
 -- nothing is written
 nothing_of : (t : Task) (text : List ℕ) (old : Option (List ℕ)) → Begins t text old old
 nothing_of Run text old = no_entries run_text (scenario_of text) old
+nothing_of Steps text old = no_entries (steps_text text) (scenario_of text) old
 nothing_of (Alone h) text old = no_entries (alone_text h) (scenario_of text) old
+nothing_of Left text old = no_entries left_lines (scenario_of text) old
 nothing_of Check text old = no_report (bad_lines text) (counts_of (good_lines text)) old
 nothing_of Draw text old = no_picture (scenario_of text) old
 
@@ -38,9 +40,9 @@ pub nothing_begun : (input : Option (List ℕ)) (t : Task) (old : Option (List �
 nothing_begun None t old = tt
 nothing_begun (Some text) t old = nothing_of t text old
 
--- a check of all that the input has
-pub check_begun : (input : Option (List ℕ)) (t : Task) (bytes : List ℕ) (old new : Option (List ℕ)) → t ≡ Check → IfSome input (λ given. bytes ≡ given)
-    → Begins Check bytes old new → IfSome input (λ text. Begins t text old new)
-check_begun None t bytes old new asked same some = tt
-check_begun (Some text) t bytes old new asked same some =
-    subst (λ (x : Task). Begins x text old new) (sym asked) (subst (λ bs. Begins Check bs old new) same some)
+-- a task over all that the input has
+pub bytes_begun : (input : Option (List ℕ)) (t s : Task) (bytes : List ℕ) (old new : Option (List ℕ)) → t ≡ s → IfSome input (λ given. bytes ≡ given)
+    → Begins s bytes old new → IfSome input (λ text. Begins t text old new)
+bytes_begun None t s bytes old new asked same some = tt
+bytes_begun (Some text) t s bytes old new asked same some =
+    subst (λ (x : Task). Begins x text old new) (sym asked) (subst (λ bs. Begins s bs old new) same some)

@@ -2,3 +2,4 @@ pub mod Reports
 mod Begun
 mod Making
 mod Printed
+mod Lined

@@ -1,3 +1,4 @@
+pub mod Stepwise
 pub mod Program
 pub mod Printed
 pub use Rattle.usb_command.specs.CommandLine
@@ -12,3 +13,6 @@ pub use Rattle.usb_text.specs.Counts
 pub use Rattle.usb_text.specs.Findings
 pub use Rattle.usb_text.specs.Scenario
 pub use Rattle.usb_words.specs.Words
+pub use Rattle.usb_text.specs.StepLines
+pub use Rattle.usb_left.specs.Left
+pub use Rattle.usb_left.specs.LeftText

@@ -3,6 +3,7 @@ use Rattle.std.specs.Prelude.{◌≡◌, ◌≢◌, ◌≤◌, ◌⊎◌, ℕ, l
 use Rattle.std.specs.Io.KnownBytes.{Appends, Keeps}
 use Rattle.usb_model.specs.declared.step.Step.{Step}
 use Rattle.usb_model.specs.Text.{lines_text}
+use Rattle.usb_model.specs.World.{new_world, world_from}
 use Rattle.usb_model.specs.World.Plans.{expand}
 use Rattle.usb_model.specs.World.Journal.{world_run, own}
 use Rattle.usb_model.specs.Machine.Turns.{alone}
@@ -23,6 +24,10 @@ use Rattle.usb_streams.specs.Printing.{counts_line, AppendsReport, AppendsSome, 
 use Rattle.usb_text.specs.Counts.{counts_of}
 use Rattle.usb_text.specs.Findings.{bad_lines, good_lines}
 use Rattle.usb_text.specs.Scenario.{scenario_of}
+use Rattle.usb_text.specs.StepLines.{step_lines}
+use Rattle.usb_left.specs.Left.{all_left}
+use Rattle.usb_left.specs.LeftText.{lines_left}
+use Rattle.usb_trace.specs.Stepwise.{stepwise_text}
 
 -- the steps of a scenario: those that its plan stands for under its rules
 abbrev pub steps_of : Scenario → List Step
@@ -36,20 +41,30 @@ run_text s = lines_text (world_run s.setup (steps_of s))
 abbrev pub alone_text : ℕ → Scenario → List ℕ
 alone_text h s = lines_text (alone s.setup (own s.setup (steps_of s) h) h)
 
+-- all entries, each behind the line of its step in this text
+abbrev pub steps_text : List ℕ → Scenario → List ℕ
+steps_text text s = stepwise_text s.setup s.plan s.rules (step_lines text)
+
+-- what is left behind where the run ends
+abbrev pub left_lines : Scenario → List ℕ
+left_lines s = lines_left (all_left s.setup (world_from s.setup (new_world s.setup) (steps_of s)))
+
 -- some text is appended, or none
 abbrev pub AppendsAny : Option (List ℕ) → Option (List ℕ) → Type 0
 AppendsAny old new = (text : List ℕ) × Appends old new text
 
--- what a task writes of a scenario: all entries, those of one handle alone, how much the scenario says, or a picture, of which no more is said
-abbrev pub Writes : Task → Scenario → Option (List ℕ) → Option (List ℕ) → Type 0
-Writes task.Run s old new = Appends old new (run_text s)
-Writes (task.Alone h) s old new = Appends old new (alone_text h s)
-Writes task.Check s old new = Appends old new (counts_line (counts_of s))
-Writes task.Draw s old new = AppendsAny old new
+-- what a task writes of the scenario of a text: all entries, perhaps behind their lines, those of one handle alone, what is left behind, how much the scenario says, or a picture, of which no more is said
+abbrev pub Writes : Task → List ℕ → Scenario → Option (List ℕ) → Option (List ℕ) → Type 0
+Writes task.Run text s old new = Appends old new (run_text s)
+Writes task.Steps text s old new = Appends old new (steps_text text s)
+Writes (task.Alone h) text s old new = Appends old new (alone_text h s)
+Writes task.Left text s old new = Appends old new (left_lines s)
+Writes task.Check text s old new = Appends old new (counts_line (counts_of s))
+Writes task.Draw text s old new = AppendsAny old new
 
 -- what a task does that ends well: the text is a scenario of the longest length at most, and what the task makes of it is written
 abbrev pub IsDone : Task → List ℕ → Option (List ℕ) → Option (List ℕ) → Type 0
-IsDone t text old new = (s : Scenario) × (scenario_of text ≡ Ok s) × (length text ≤ longest_input) × Writes t s old new
+IsDone t text old new = (s : Scenario) × (scenario_of text ≡ Ok s) × (length text ≤ longest_input) × Writes t text s old new
 
 -- what a check does that finds bad lines: a line with the number of each is written, and then how much the good ones say
 abbrev pub IsReported : List ℕ → Option (List ℕ) → Option (List ℕ) → Type 0
@@ -63,7 +78,7 @@ Performs t text old new (Err (Line line)) = (scenario_of text ≡ Err line) × K
 Performs t text old new (Err Memory) = ⊤
 Performs t text old new (Err InputOutput) = ⊤
 
--- what a task that prints such entries may have written, however it ends: a beginning of their text, and nothing where a line is bad
+-- what a task that prints such lines may have written, however it ends: a beginning of their text, and nothing where a line is bad
 abbrev pub BeginsEntries : (Scenario → List ℕ) → Result Scenario ℕ → Option (List ℕ) → Option (List ℕ) → Type 0
 BeginsEntries said (Ok s) old new = AppendsSome (said s) old new
 BeginsEntries said (Err line) old new = Keeps old new
@@ -76,7 +91,9 @@ BeginsPicture (Err line) old new = Keeps old new
 -- what a task over a text may have written, however it ends: a beginning of what it prints
 abbrev pub Begins : Task → List ℕ → Option (List ℕ) → Option (List ℕ) → Type 0
 Begins task.Run text old new = BeginsEntries run_text (scenario_of text) old new
+Begins task.Steps text old new = BeginsEntries (steps_text text) (scenario_of text) old new
 Begins (task.Alone h) text old new = BeginsEntries (alone_text h) (scenario_of text) old new
+Begins task.Left text old new = BeginsEntries left_lines (scenario_of text) old new
 Begins task.Check text old new = AppendsSomeReport (bad_lines text) (counts_of (good_lines text)) old new
 Begins task.Draw text old new = BeginsPicture (scenario_of text) old new
 

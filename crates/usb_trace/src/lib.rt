@@ -9,5 +9,6 @@ mod devices;
 mod drawing;
 mod printing;
 mod program;
+mod stepwise;
 
 pub use program::trace;

@@ -121,7 +121,7 @@ fn print_own_piece<C: Callback, D: Device, W: Write>(
 }
 
 /// Writes the lines that were gathered, where a run came so far.
-fn write_rest<W: Write>(lines: Lines, out: &mut W, reach: Reach) -> Result<Reach, Fault>
+pub(crate) fn write_rest<W: Write>(lines: Lines, out: &mut W, reach: Reach) -> Result<Reach, Fault>
     ensures reach { IfOk result (λ r. r ≡ reach) }
     ensures written { OnOk result (Appends (W.contents out.old) (W.contents out.new) lines) }
     ensures begun { AppendsSome lines (W.contents out.old) (W.contents out.new) }

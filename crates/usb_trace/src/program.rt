@@ -1,6 +1,6 @@
 //! The program's body, over any reader and writers.
 
-ghost use Rattle.std.specs.Prelude.{◌≡◌, ◌≢◌, ◌≤◌, ◌⊎◌, [], IfSome, IfErr, IfOk, OnOk, length};
+ghost use Rattle.std.specs.Prelude.{◌≡◌, ◌≢◌, ◌≤◌, ◌⊎◌, [], IfSome, IfErr, IfOk, OnOk, length, map};
 ghost use Rattle.std.specs.Io.KnownBytes.{Appends, Keeps};
 ghost use Rattle.usb_text.specs.Findings.{bad_lines};
 ghost use Rattle.usb_text.specs.Runnable.{IsRunnable};
@@ -12,22 +12,28 @@ ghost use Rattle.usb_streams.specs.Faults.{message_of, IsOfRun};
 ghost use Rattle.usb_streams.specs.declared.fault.Fault.{Fault};
 ghost use Rattle.usb_streams.specs.Input.{longest_input};
 ghost use Rattle.usb_streams.specs.Printing.{AppendsSome};
-ghost use Rattle.usb_trace.specs.Program.{alone_text, ending_of, run_text, status_of, AppendsAny, Begins, IsDone, IsSilentAtBad, Performs, TellsWhy};
+ghost use Rattle.usb_trace.specs.Program.{alone_text, left_lines, ending_of, run_text, status_of, AppendsAny, Begins, IsDone, IsSilentAtBad, Performs, TellsWhy};
 ghost use Rattle.usb_command.specs.declared.words.Task.{Task};
-ghost use Rattle.usb_command.specs.declared.words.Task.TheVariants.{Check};
+ghost use Rattle.usb_command.specs.declared.words.Task.TheVariants.{Check, Steps};
+ghost use Rattle.usb_text.specs.StepLines.{numbered};
+ghost use Rattle.usb_trace.specs.Stepwise.{stepwise_text};
 
 use crate::devices::{callbacks_of, devices_of, parts_of};
 use crate::drawing::draw;
 use crate::printing::{Reach, print_alone, print_plan};
+use crate::stepwise::print_stepwise;
 use clap::Error;
 use clap::error::ErrorKind;
 use std::alloc::Global;
 use std::io::{Read, Write};
 use usb_command::{Task, read_words};
+use usb_left::{left_behind, lines_of};
 use usb_model::{Name, Sequence};
 use usb_streams::print::print_findings;
 use usb_streams::{Fault, read_whole, write_bytes};
-use usb_text::{Scenario, ScriptedDevice, check, read_scenario};
+use usb_text::{
+    Lined, NumberedLine, Scenario, ScriptedDevice, check, into_setups, read_lined, read_scenario,
+};
 
 /// The status of a run that ended early, and of a check that found bad lines.
 const FAILED: u8 = 1;
@@ -126,6 +132,8 @@ fn perform<R: Read, W: Write>(
     let text = read_whole(alloc, input)?;
     match task {
         Task::Run => run(alloc, read_scenario(alloc, text.as_slice())?, out),
+        Task::Steps => run_steps(alloc, text.as_slice(), out),
+        Task::Left => print_left(alloc, read_scenario(alloc, text.as_slice())?, out),
         Task::Alone(h) => {
             let Scenario { setup, .. } = read_scenario(alloc, text.as_slice())?;
             let scenario = read_scenario(alloc, text.as_slice())?;
@@ -171,6 +179,52 @@ fn run<W: Write>(alloc: Global, scenario: Scenario, out: &mut W) -> Result<Endin
     let Scenario { setup, plan, rules } = scenario;
     let parts = parts_of(alloc, setup, rules.as_slice())?;
     ending_of(print_plan(alloc, parts, plan.as_slice(), out)?)
+}
+
+/// Prints the entries of a scenario, each behind its line; where memory ran out, those before.
+fn print_steps<W: Write>(
+    alloc: Global,
+    scenario: Scenario,
+    lines: &[NumberedLine<'_>],
+    out: &mut W,
+) -> Result<Ending, Fault>
+    requires runnable { IsRunnable scenario }
+    requires each { length lines.now ≡ length scenario.plan }
+    ensures lines { OnOk result (Appends (W.contents out.old) (W.contents out.new) (stepwise_text scenario.setup scenario.plan scenario.rules (map numbered lines.now))) }
+    ensures begun { AppendsSome (stepwise_text scenario.setup scenario.plan scenario.rules (map numbered lines.now)) (W.contents out.old) (W.contents out.new) }
+    ensures good { IfOk result (λ ending. ending ≡ Ending.Good) }
+    ensures fault { IfErr result (λ fault. IsOfRun fault) }
+{
+    let Scenario { setup, plan, rules } = scenario;
+    let parts = parts_of(alloc, setup, rules.as_slice())?;
+    ending_of(print_stepwise(alloc, parts, plan.as_slice(), lines, out)?)
+}
+
+/// Prints the entries of a text's scenario, each behind the number and the text of its step's line.
+fn run_steps<W: Write>(alloc: Global, text: &[u8], out: &mut W) -> Result<Ending, Fault>
+    requires { length text.now ≤ longest_input }
+    ensures ends { Performs Steps text.now (W.contents out.old) (W.contents out.new) result }
+    ensures silent { IsSilentAtBad text.now (W.contents out.old) (W.contents out.new) }
+    ensures begun { Begins Steps text.now (W.contents out.old) (W.contents out.new) }
+{
+    let Lined { scenario, lines } = read_lined(alloc, text)?;
+    print_steps(alloc, scenario, lines.as_slice(), out)
+}
+
+/// Prints what the run of a scenario leaves behind, as the plain program runs it; nothing where memory ran out.
+fn print_left<W: Write>(alloc: Global, scenario: Scenario, out: &mut W) -> Result<Ending, Fault>
+    ensures lines { OnOk result (Appends (W.contents out.old) (W.contents out.new) (left_lines scenario)) }
+    ensures begun { AppendsSome (left_lines scenario) (W.contents out.old) (W.contents out.new) }
+    ensures good { IfOk result (λ ending. ending ≡ Ending.Good) }
+    ensures fault { IfErr result (λ fault. IsOfRun fault) }
+{
+    let Scenario { setup, plan, rules } = scenario;
+    let setup = into_setups(alloc, setup)?;
+    let left = left_behind(alloc, &setup, plan.as_slice(), rules.as_slice())?;
+    let lines = lines_of(alloc, left.as_slice())?;
+    write_bytes(out, lines.as_slice())?;
+    out.flush()?;
+    Ok(Ending::Good)
 }
 
 /// Prints the entries of a handle alone, as a core of its own runs them; where memory ran out, those before. Takes the

@@ -18,6 +18,7 @@ mod places;
 mod refusals;
 mod requests;
 mod statuses;
+mod steps;
 mod transfers;
 
 use super::fakes::{Input, run};
@@ -114,6 +115,7 @@ fn texts_are_read_or_refused(rt: HostRuntime) {
     let first = first_to_differ(alloc, bad_lines::ROWS, 9)
         .or(first_to_differ(alloc, descriptors::ROWS, 15))
         .or(first_to_differ(alloc, checks::ROWS, 5))
-        .or(first_to_differ(alloc, help::ROWS, 2));
+        .or(first_to_differ(alloc, help::ROWS, 2))
+        .or(first_to_differ(alloc, steps::ROWS, 4));
     assert_eq!(rt; first, None);
 }

@@ -8,7 +8,7 @@ use std::io::ErrorKind;
 static BAD: &str = "\
 === usbtrace
 error: 'usbtrace' requires a subcommand but one was not provided
-  [subcommands: run, alone, check, draw]
+  [subcommands: run, alone, left, check, draw]
 
 Usage: usbtrace <COMMAND>
 
@@ -34,7 +34,7 @@ For more information, try '--help'.
 === usbtrace run 1
 error: unexpected argument '1' found
 
-Usage: usbtrace run
+Usage: usbtrace run [OPTIONS]
 
 For more information, try '--help'.
 === usbtrace alone
@@ -107,6 +107,7 @@ fn help_is_printed_and_no_fault(rt: HostRuntime) {
         "\n\nUsage: usbtrace <COMMAND>\n",
         "\n  run    Runs the scenario and prints its entries\n",
         "\n  alone  Prints the entries of one handle, alone over its own steps\n",
+        "\n  left   Prints what the scenario's run leaves behind, handle by handle\n",
         "\n  check  Prints what is wrong with the scenario, line by line\n",
         "\n  draw   Prints a picture of the scenario's run, an SVG document\n",
         "\n  -h, --help  Print help\n",
