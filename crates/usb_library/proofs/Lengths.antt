@@ -1,5 +1,5 @@
 -- How many receipts and places there are.
-use Rattle.std.proofs.Common.{◌≡◌, ◌+◌, ℕ, suc, List, [], ◌∷◌, ◌++◌, length, take, drop, refl, sym, ap, ◌∙◌}
+use Rattle.std.proofs.Common.{◌≡◌, ◌+◌, ℕ, suc, List, [], ◌∷◌, length, take, drop, refl, sym, ap, ◌∙◌}
 use Rattle.std.proofs.lemmas.List.{length-append, take-append-drop}
 use Rattle.usb_book.specs.declared.place.Place.{Place}
 use Rattle.usb_book.specs.Seen.{receipts_from}

@@ -1,4 +1,4 @@
-use Rattle.std.proofs.Common.{arith, ◌≡◌, ◌+◌, ◌++◌, length, drop, max, ap, refl, ◌∙◌}
+use Rattle.std.proofs.Common.{arith, length, drop, max, ap, refl, ◌∙◌}
 use Rattle.std.proofs.lemmas.List.{length-append}
 use Rattle.usb_library.proofs.Lengths.{grown, receipts_length}
 use Rattle.usb_library.proofs.desk.Desk.tick.Goals as goal

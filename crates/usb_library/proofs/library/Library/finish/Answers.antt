@@ -1,4 +1,4 @@
-use Rattle.std.proofs.Common.{arith, ◌≡◌, length, ap, sym, ◌∙◌}
+use Rattle.std.proofs.Common.{arith, length, ap, sym, ◌∙◌}
 use Rattle.usb_library.proofs.library.Library.finish.Goals as goal
 
 pub returns-clause-found : goal.returns-clause-found
