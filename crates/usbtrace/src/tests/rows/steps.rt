@@ -76,6 +76,6 @@ deliver
 take
 return 1 0
 release 1 0
-close 1 0
+close 1
 --- prints
 ";
