@@ -15,6 +15,7 @@ try:
 test:
 	tools/wrong_bodies.py fit
 	RT_JOBS=$$(nproc) rt ci
+	@test -x crates/usbtrace/out/usbtrace || $(MAKE) --no-print-directory run
 	@tools/pictures.py check
 
 fmt:
