@@ -1,6 +1,6 @@
 //! The journal that is kept in memory.
 
-ghost use Rattle.std.specs.Prelude.{◌≡◌, ◌++◌, ◌+◌, ◌≤◌, IfOk, length, slice_get, vec_capacity, vec_len};
+ghost use Rattle.std.specs.Prelude.{◌≡◌, ◌++◌, ◌+◌, ◌≤◌, ◌==◌, IfOk, length, slice_get, vec_capacity, vec_len};
 
 use crate::kept::{Asked, Kept, Replied, given_by, sent_by};
 use crate::place::Place;
@@ -45,7 +45,9 @@ impl Journal {
     }
 
     /// Whether there is none.
-    pub fn is_empty(&self) -> bool {
+    pub fn is_empty(&self) -> bool
+        ensures { result ≡ (length self.now.places == 0) }
+    {
         self.kept.is_empty()
     }
 

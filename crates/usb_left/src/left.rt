@@ -1,7 +1,6 @@
 //! One thing that is left behind.
 
 ghost use Rattle.std.specs.Prelude.{◌≡◌, Some};
-ghost use Rattle.usb_model.specs.Text.{ok_text};
 ghost use Rattle.usb_left.specs.Left.{callback_left, event_left, left_at, order_left, result_left, thing_of, thing_of_event};
 ghost use Rattle.usb_left.specs.LeftText.{left_text, thing_text};
 
@@ -57,9 +56,7 @@ impl Thing {
             _ => Thing::HasEnded { n },
         }
     }
-}
 
-impl Thing {
     /// An event that waits.
     fn of_event(event: Event) -> Thing
         ensures { result ≡ thing_of_event event }
@@ -142,25 +139,12 @@ impl fmt::Display for Thing {
             Thing::Finished { n } => write!(f, "event finished {n}"),
             Thing::Paused { n } => write!(f, "event paused {n}"),
             Thing::Settled { errand, ok } => {
-                let outcome = Outcome(*ok);
+                let outcome = if *ok { "ok" } else { "fail" };
                 write!(f, "event settled {errand} {outcome}")
             }
             Thing::Result { n, status } => write!(f, "result {n} {status}"),
             Thing::Callback { n } => write!(f, "callback {n}"),
         }
-    }
-}
-
-/// How an order ended.
-#[derive(Clone, Copy)]
-struct Outcome(bool);
-
-/// In a word.
-impl fmt::Display for Outcome {
-    ghost output = { λ outcome. Some (ok_text outcome.0) };
-
-    fn fmt<W: fmt::Write>(&self, f: &mut fmt::Formatter<W>) -> fmt::Result {
-        f.write_str(if self.0 { "ok" } else { "fail" })
     }
 }
 

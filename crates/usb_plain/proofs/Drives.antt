@@ -13,6 +13,7 @@ use Rattle.usb_model.specs.World.{World, Turn, turn, world_from}
 use Rattle.usb_model.specs.World.Journal.{journal_from}
 use Rattle.usb_model.specs.World.Plans.{Stage, stage_after, needs_stop, return_steps, steps_of, noted, rule_for, rules_after, expand_from}
 use Rattle.usb_model.specs.World.Journal.{IsBeginning, run_from}
+use Rattle.usb_lemmas.proofs.Handles.Runs.{run_append, world_append}
 use Rattle.usb_plain.specs.PlanRuns.{Made, kept_with}
 
 -- one step's entry
@@ -36,12 +37,6 @@ pub stage_by_two : (setup : Setup) (s t : Stage) (piece : Plan) (x y : Step) →
     → ((h n : ℕ) → t.book h n ≡ noted s.book (turn setup s.world x).entry (rule_for s.book s.rules piece) h n) → t.rules ≡ rules_after piece s.rules → t ≡ stage_after setup s piece (x ∷ y ∷ [])
 unfolding stage_after world_from
 stage_by_two setup s t piece x y world book rules = λ i. record { world = world i; book = λ h n. book h n i; rules = rules i }
-
--- the entries of two lists of steps, one behind the other
-pub run_append : (setup : Setup) (w : World) (xs ys : List Step) → run_from setup w (xs ++ ys) ≡ run_from setup w xs ++ run_from setup (world_from setup w xs) ys
-unfolding journal_from world_from
-run_append setup w [] ys = refl
-run_append setup w (x ∷ xs) ys = ap (λ l. (turn setup w x).entry ∷ l) (run_append setup (turn setup w x).world xs ys)
 
 -- the world after a piece is where its steps lead
 pub world_after_piece : (setup : Setup) (s : Stage) (piece : Plan) (steps : List Step) → (stage_after setup s piece steps).world ≡ world_from setup s.world steps
@@ -142,12 +137,6 @@ unfolding expand_from
 steps_end setup s plan i None all past so_far = so_far
 steps_end setup s plan i (Some made) all past so_far =
     sym (ap Some (ap (λ l. made ++ expand_from setup s l) (drop_all i plan past) ∙ append-nil made)) ∙ so_far
-
--- where two lists of steps lead, one behind the other
-world_append : (setup : Setup) (w : World) (xs ys : List Step) → world_from setup w (xs ++ ys) ≡ world_from setup (world_from setup w xs) ys
-unfolding world_from
-world_append setup w [] ys = refl
-world_append setup w (x ∷ xs) ys = world_append setup (turn setup w x).world xs ys
 
 -- the world to which the rest of the plan leads
 pub world_further : (setup : Setup) (s t : Stage) (piece : Plan) (plan : List Plan) (i : ℕ) (all : World) → i < length plan → piece ≡ slice_index_or plan i piece

@@ -17,6 +17,7 @@ use Rattle.usb_model.specs.World.Journal.{IsBeginning, journal, journal_from, ru
 use Rattle.usb_model.specs.World.Plans.{Expands, ExpandsFrom, Stage, expand, expand_from, first_stage, is_submission, needs_stop, return_steps, returning, rules_after, stage_after, steps_of, verdict_by}
 use Rattle.usb_lemmas.proofs.Handles.Beginnings.{first_steps}
 use Rattle.usb_lemmas.proofs.Handles.Isolation.{sees_alone}
+use Rattle.usb_lemmas.proofs.Handles.Runs.{run_append, world_append}
 use Rattle.usb_account.proofs.Bound.AskedEnds.{asked_ends}
 use Rattle.usb_account.proofs.Cut.Runs.{cuts_at}
 use Rattle.usb_account.proofs.Places.Runs.{keeps_places}
@@ -32,18 +33,6 @@ use Rattle.usb_purge.proofs.Taking.{Takes, has_one, takes}
 -- what holds of every run
 obeys_all : (setup : Setup) (steps : List Step) → ObeysAll setup steps
 obeys_all setup steps = record { core = record { cut = cuts_at setup steps; places = keeps_places setup steps; ends = asked_ends setup steps }; alone = sees_alone setup steps; once = calls_once setup steps; after = calls_after_number setup steps; order = calls_in_order setup steps }
-
--- the entries of two lists of steps, one behind the other
-pub run_append : (setup : Setup) (w : World) (xs ys : List Step) → run_from setup w (xs ++ ys) ≡ run_from setup w xs ++ run_from setup (world_from setup w xs) ys
-unfolding journal_from world_from
-run_append setup w [] ys = refl
-run_append setup w (x ∷ xs) ys = ap (λ l. (turn setup w x).entry ∷ l) (run_append setup (turn setup w x).world xs ys)
-
--- and where they lead
-pub world_append : (setup : Setup) (w : World) (xs ys : List Step) → world_from setup w (xs ++ ys) ≡ world_from setup (world_from setup w xs) ys
-unfolding world_from
-world_append setup w [] ys = refl
-world_append setup w (x ∷ xs) ys = world_append setup (turn setup w x).world xs ys
 
 -- the stage behind a piece's steps: their world, and the rules that are left
 pub piece_world : (setup : Setup) (s : Stage) (piece : Plan) (steps : List Step) → (stage_after setup s piece steps).world ≡ world_from setup s.world steps

@@ -1,4 +1,4 @@
--- Runs: where one ends each handle's part of the world is its machine after its own steps; the entries as far as it came, and from there on.
+-- Runs: where one ends each handle's part of the world is its machine after its own steps; the entries as far as it came, and from there on; one run behind another.
 use Rattle.std.proofs.Common.{◌≡◌, ℕ, inl, inr, List, [], ◌∷◌, refl, ap, sym, ◌∙◌, ◌+◌, ◌<◌, ◌≤◌, ◌++◌, length, drop, slice_index_or, append-nil, append_assoc}
 use Rattle.usb_model.specs.declared.step.Step.{Step}
 use Rattle.usb_model.specs.Setup.{Setup}
@@ -58,3 +58,15 @@ unfolding journal_from
 run_ends setup w steps i es all past so_far =
     let none : drop i steps ≡ [] = drop_all i steps past in
     sym (append-nil es) ∙ (sym (ap (λ l. es ++ run_from setup w l) none) ∙ so_far)
+
+-- the entries of two lists of steps, one behind the other
+pub run_append : (setup : Setup) (w : World) (xs ys : List Step) → run_from setup w (xs ++ ys) ≡ run_from setup w xs ++ run_from setup (world_from setup w xs) ys
+unfolding journal_from world_from
+run_append setup w [] ys = refl
+run_append setup w (x ∷ xs) ys = ap (λ l. (turn setup w x).entry ∷ l) (run_append setup (turn setup w x).world xs ys)
+
+-- and where they lead
+pub world_append : (setup : Setup) (w : World) (xs ys : List Step) → world_from setup w (xs ++ ys) ≡ world_from setup (world_from setup w xs) ys
+unfolding world_from
+world_append setup w [] ys = refl
+world_append setup w (x ∷ xs) ys = world_append setup (turn setup w x).world xs ys
