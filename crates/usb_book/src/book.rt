@@ -99,7 +99,8 @@ impl<L: Naming, P, D: Device, J: Recorder> Book<L, P, D, J> {
 
     /// What is to be done next, looked for from behind this endpoint on. Takes no memory.
     pub fn pending(&self, after: Option<(DeviceNo, EpAddr)>) -> Pending
-        ensures { IsPending self.now.setup (world_where self.now.setup self.now.journal) after result }
+        ensures pending { IsPending self.now.setup (world_where self.now.setup self.now.journal) after result }
+        ensures run { IsRun self.now.setup self.now.journal }
     {
         self.core.pending(after)
     }

@@ -178,7 +178,8 @@ fn submission(h: Name, request: &Request) -> Asked
 }
 
 impl Asked {
-    /// A step without its bytes.
+    /// A step without its bytes. Inlined where the step is known, so that nothing is left of the match.
+    #[inline(always)]
     pub(crate) fn of(step: &Step) -> Asked
         ensures { step_of result (sent_by step.now) ≡ step.now }
     {
@@ -207,7 +208,8 @@ impl Asked {
 }
 
 impl Replied {
-    /// A reply without its bytes.
+    /// A reply without its bytes. Inlined where the reply is known, as that of a submission is.
+    #[inline(always)]
     pub(crate) fn of(reply: &Reply) -> Replied
         ensures { reply_of result (given_by reply.now) ≡ reply.now }
     {
@@ -246,7 +248,8 @@ impl Replied {
     }
 }
 
-/// The bytes of a step.
+/// The bytes of a step. Inlined where the step is known.
+#[inline(always)]
 pub(crate) fn sent_by(step: &Step) -> &[u8]
     ensures { result.now ≡ sent_by step.now }
 {
@@ -263,7 +266,8 @@ pub(crate) fn sent_by(step: &Step) -> &[u8]
     }
 }
 
-/// The bytes of a reply.
+/// The bytes of a reply. Inlined where the reply is known.
+#[inline(always)]
 pub(crate) fn given_by(reply: &Reply) -> &[u8]
     ensures { result.now ≡ given_by reply.now }
 {

@@ -15,9 +15,8 @@ use crate::receipt::Receipt;
 use crate::recorder::Recorder;
 use std::alloc::{AllocError, Global};
 use std::marker::{Model, PhantomData};
-use std::snapshot::Snapshot;
 use usb_model::{Entry, Step};
-use usb_roll::{Keeper, Roll};
+use usb_roll::{Image, Keeper, Roll};
 
 /// What is kept of the places, how many there are, and the roll with its keeper, on which they all stand.
 #[derive(Drop)]
@@ -147,7 +146,7 @@ impl<L: Naming, J: Recorder> Log<L, J> {
         ensures room { (places : ℕ) → J.has_room self.old.recorder places 0 → J.has_room self.new.recorder (places - 1) 0 }
     {
         let draft = self.recorder.draft(&step);
-        let told = Told::new(Snapshot::of(&step), caller, entry, moment);
+        let told = Told::new(Image::of(&step), caller, entry, moment);
         self.enter_drafted(mark, draft, told, entry)
     }
 

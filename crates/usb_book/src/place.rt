@@ -3,8 +3,8 @@
 ghost use Rattle.std.specs.Prelude.{◌≡◌};
 
 use std::marker::Model;
-use std::snapshot::Snapshot;
 use usb_model::{Entry, Step};
+use usb_roll::Image;
 
 /// A step of the core, as the journal has it.
 #[derive(Drop)]
@@ -22,9 +22,9 @@ pub struct Place {
 /// A place as the roll is told of it. Contracts see the place; nothing of step and entry is copied.
 #[derive(Drop)]
 pub struct Told {
-    step: Snapshot<Step>,
+    step: Image<Step>,
     caller: u32,
-    entry: Snapshot<Entry>,
+    entry: Image<Entry>,
     moment: u64,
 }
 
@@ -38,13 +38,13 @@ impl Model for Told {
 
 impl Told {
     /// What is told of a step with this entry.
-    pub(crate) fn new(step: Snapshot<Step>, caller: u32, entry: &Entry, moment: u64) -> Told
+    pub(crate) fn new(step: Image<Step>, caller: u32, entry: &Entry, moment: u64) -> Told
         ensures { result ≡ record { step = step.value; caller = caller; entry = entry.now; moment = moment } }
     {
         Told {
             step,
             caller,
-            entry: Snapshot::of(entry),
+            entry: Image::of(entry),
             moment,
         }
     }

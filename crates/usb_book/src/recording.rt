@@ -16,10 +16,10 @@ use crate::receipt::Receipt;
 use crate::recorder::Recorder;
 use crate::submitting::enter;
 use crate::timer::stop_if;
-use std::snapshot::Snapshot;
 use usb_core::{Stepped, Taken, Unaccepted};
 use usb_device::Device;
 use usb_model::{Entry, Name, Reply, Step, Verdict};
+use usb_roll::Image;
 
 /// A step that found no memory. Nothing changed, and all that was given comes back.
 #[derive(Drop)]
@@ -200,7 +200,7 @@ impl<L: Naming, P: Drop, D: Device, J: Recorder> Book<L, P, D, J> {
                 payload,
             });
         };
-        let asked = Snapshot::of(&step);
+        let asked = Image::of(&step);
         let ending = ending(&step);
         let Ok(stepped) = core.step(step, payload) else {
             unreachable!()

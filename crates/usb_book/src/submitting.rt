@@ -17,10 +17,10 @@ use crate::recorder::Recorder;
 use crate::recording::NotRecorded;
 use crate::timer::{Timer, start_again_if, start_if};
 use std::alloc::AllocError;
-use std::snapshot::Snapshot;
 use usb_core::Unaccepted;
 use usb_device::Device;
 use usb_model::{Bytes, Entry, Name, Refused, Reply, Request, Step, Verdict};
+use usb_roll::Image;
 
 impl<L: Naming, P, D: Device, J: Recorder> Book<L, P, D, J> {
     /// Submits a transfer (libusb 1.0, `libusb_submit_transfer`), at the next place of the journal: its number, or why it
@@ -52,7 +52,7 @@ impl<L: Naming, P, D: Device, J: Recorder> Book<L, P, D, J> {
         } = self;
         let step = Step::Submit { h, request };
         let prepared = prepare(log, timers, &step);
-        let asked = Snapshot::of(&step);
+        let asked = Image::of(&step);
         let Some(request) = request_in(step) else {
             unreachable!()
         };
@@ -109,7 +109,7 @@ impl<L: Naming, P, D: Device, J: Recorder> Book<L, P, D, J> {
         let Ok(draft) = prepare(log, timers, &step) else {
             return Err(NotRecorded { given: (), payload });
         };
-        let asked = Snapshot::of(&step);
+        let asked = Image::of(&step);
         let answer = match unless_no_memory(core.again(h, n, payload)) {
             Ok(answer) => answer,
             Err(back) => return Err(back),
@@ -153,7 +153,7 @@ impl<L: Naming, P, D: Device, J: Recorder> Book<L, P, D, J> {
             verdict: Verdict::AgainWith(bytes),
         };
         let prepared = prepare(log, timers, &step);
-        let asked = Snapshot::of(&step);
+        let asked = Image::of(&step);
         let Some(bytes) = new_bytes_in(step) else {
             unreachable!()
         };
@@ -195,7 +195,7 @@ pub(crate) fn enter<L: Naming, J: Recorder>(
     log: &mut Log<L, J>,
     mark: &mut Mark<L>,
     draft: J::Draft,
-    asked: Snapshot<Step>,
+    asked: Image<Step>,
     caller: u32,
     entry: &Entry,
     moment: u64,

@@ -8,7 +8,9 @@ use Rattle.usb_model.specs.declared.step.Step.{Step}
 use Rattle.usb_model.specs.Setup.{Setup}
 use Rattle.usb_model.specs.World.Due.{due}
 use Rattle.usb_book.specs.declared.place.Place.{Place}
-use Rattle.usb_book.specs.Booked.{AreMoved, Booked, asked, asks, dated}
+use Rattle.usb_parts.specs.declared.pending.Pending.{Pending}
+use Rattle.usb_parts.specs.Pending.{IsPending}
+use Rattle.usb_book.specs.Booked.{AreMoved, Booked, IsRun, asked, asks, dated, world_where}
 use Rattle.usb_book.specs.Seen.{Receipted, receipts_from}
 
 -- what a library is made of: the name and the parts of its ledger, the roll of its journal, and its devices
@@ -49,6 +51,10 @@ pub record Ticks (setup : Setup) (now : ℕ) (old : Calling) (given : List Recei
   pub mark : AreMoved old.mark given new.mark
   pub own : new.own ≡ old.own ++ places
   pub number : new.number ≡ old.number
+
+-- what was to be done at some moment of a library over these devices: by the world where the run of its steps so far ended
+abbrev pub WasPending : Setup → Pending → Type 0
+WasPending setup pending = (journal : List Place) × (after : Option (ℕ × ℕ)) × IsRun setup journal × IsPending setup (world_where setup journal) after pending
 
 -- why a step was refused
 abbrev pub refusal : Reply → Option Refused

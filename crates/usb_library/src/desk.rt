@@ -6,7 +6,7 @@ ghost use Rattle.usb_model.specs.declared.verdict.Verdict.TheVariants.{Again, Ag
 ghost use Rattle.usb_model.specs.Numbers.{takes_payload};
 ghost use Rattle.usb_state.specs.Calls.{called_entry};
 ghost use Rattle.usb_book.specs.Booked.{answer_entry};
-ghost use Rattle.usb_library.specs.Calling.{Makes, Ticks};
+ghost use Rattle.usb_library.specs.Calling.{Makes, Ticks, WasPending};
 
 use crate::answered::{Answered, Submitted};
 use crate::caller::Caller;
@@ -84,7 +84,9 @@ impl<L: Naming, P: Drop, D: Device, J: Recorder> Desk<L, P, D, J> {
     }
 
     /// What is to be done next, looked for from behind the endpoint that was served last.
-    pub(crate) fn pending(&self) -> Pending {
+    pub(crate) fn pending(&self) -> Pending
+        ensures { WasPending L.setup result }
+    {
         self.book.pending(self.served)
     }
 

@@ -1,5 +1,8 @@
 //! Who is woken when something changed, and when all is at rest.
 
+ghost use Rattle.std.specs.Prelude.{IfSome};
+ghost use Rattle.usb_library.specs.Calling.{WasPending};
+
 use crate::library::Library;
 use crossbeam_utils::sync::Unparker;
 use std::alloc::{AllocError, Global};
@@ -69,7 +72,9 @@ fn is_nothing(pending: &Pending) -> bool {
 
 impl<L: Naming, P: Drop, D: Device, J: Recorder> Library<L, P, D, J> {
     /// What there is to do. Endpoints are looked at in a circle, from behind the one that was served last.
-    pub fn pending<R: Wait>(&self, rt: &R) -> Pending {
+    pub fn pending<R: Wait>(&self, rt: &R) -> Pending
+        ensures { WasPending L.setup result }
+    {
         self.desk.lock(rt).pending()
     }
 
@@ -88,7 +93,9 @@ impl<L: Naming, P: Drop, D: Device, J: Recorder> Library<L, P, D, J> {
 
     /// What there is to do; None where the workers were asked to stop and there is nothing. Whether they were asked is
     /// read first: so a submission before that is seen.
-    pub fn work<R: Wait>(&self, rt: &R) -> Option<Pending> {
+    pub fn work<R: Wait>(&self, rt: &R) -> Option<Pending>
+        ensures { IfSome result (WasPending L.setup) }
+    {
         let stopping = self.watchers.stopping.load(Ordering::SeqCst);
         let pending = self.pending(rt);
         if stopping && is_nothing(&pending) {

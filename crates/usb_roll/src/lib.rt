@@ -4,6 +4,7 @@
 //! have one place; a mark goes on saying how long the list was.
 #![tactic(auto)]
 
+mod image;
 mod roll;
 mod rule;
 mod seats;
@@ -11,5 +12,6 @@ mod seats;
 mod tests;
 mod tokens;
 
+pub use image::Image;
 pub use roll::Roll;
 pub use tokens::{Claim, Keeper, Mark};
