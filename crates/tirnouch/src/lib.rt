@@ -58,6 +58,7 @@
 //!   `Journal` keeps every step, `Unrecorded` none.
 //! - **Callbacks**: `StoredCallback::once` and `StoredCallback::repeat`; a `Verdict` ends the transfer or submits it once more.
 //! - **The workers**: `controller_loop` and `event_loop`, with `Open` as their gate; `Moments` reads a clock for `Library::tick`.
+//! - **All of it in one call**: `live` makes the library, runs both workers and each `Driver` in a thread, joins them, and ends it.
 #![tactic(auto)]
 
 pub use usb_book::{Journal, Naming, NotRecorded, Place, Receipt, Recorder, Unrecorded};
@@ -65,6 +66,7 @@ pub use usb_callback::{Callback, Once, Repeat, StoredCallback};
 pub use usb_core::{Core, Pending, Setup, Taken, Unaccepted, Unadded};
 pub use usb_descriptors::{Config, read_config};
 pub use usb_device::{BoxedDevice, Device, TableDevice};
+pub use usb_live::{Driver, Gates, Lived, live, live_gated};
 pub use usb_library::{Answered, CALLERS, Caller, Ended, Library, Missing, Opening, Submitted};
 pub use usb_model::{
     Body, Bytes, DeviceNo, Entry, EpAddr, Flags, Kind, Name, Refused, Reply, Request, Response,

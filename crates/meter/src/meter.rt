@@ -1,0 +1,110 @@
+//! The meter's two threads: one reads, one tells the library the time.
+
+use crate::reading::{Reading, Readings};
+use std::alloc::AllocError;
+use std::sync::{Arc, Wait};
+use std::thread;
+use std::time::{Clock, Duration};
+use tirnouch::{Caller, Device, Driver, Library, Moments, Naming, Recorder, Refused};
+use usb_stand::Reader;
+
+/// How many bytes a reading has.
+const BYTES: u32 = 8;
+
+/// The timeouts of the readings, in milliseconds: three that the meter answers at once, and one that it doesn't answer.
+const TIMEOUTS: [u32; 4] = [60_000, 60_000, 60_000, 20];
+
+/// How many milliseconds pass from one telling of the time to the next.
+const TICK: u64 = 1;
+
+/// How often the time is told at most: two minutes.
+const TICKS: u64 = 120_000;
+
+/// A thread of the meter.
+#[derive(Drop)]
+pub enum Meter<K> {
+    /// Reads.
+    Reads(Reader),
+    /// Tells the time by a clock, until all readings were called back.
+    Ticks(K),
+}
+
+/// A driver of the meter, with the count that its callbacks keep.
+#[derive(Drop)]
+pub struct Part<K> {
+    /// What it does.
+    pub meter: Meter<K>,
+    /// The readings.
+    pub readings: Arc<Readings>,
+}
+
+/// No memory is a refusal as others are.
+fn no_memory(_error: AllocError) -> Refused {
+    Refused::NoMem
+}
+
+/// Opens the meter, claims its interface, and submits the readings.
+fn read<L: Naming, D: Device, J: Recorder, R: Wait>(
+    rt: &R,
+    library: &Library<L, Reading, D, J>,
+    caller: &mut Caller<L>,
+    reader: Reader,
+    readings: &Arc<Readings>,
+) -> Result<(), Refused> {
+    let Reader { h, dev, i, .. } = reader;
+    library
+        .open(rt, caller, h, dev)
+        .map_err(no_memory)?
+        .granted()?;
+    library
+        .claim(rt, caller, h, i)
+        .map_err(no_memory)?
+        .granted()?;
+    for timeout in TIMEOUTS {
+        let reading = Reading::new(readings).map_err(no_memory)?;
+        let Ok(submitted) = library.submit(rt, caller, h, reader.read(BYTES, timeout), reading)
+        else {
+            return Err(Refused::NoMem);
+        };
+        submitted.number.map_err(|refused| refused.why)?;
+    }
+    Ok(())
+}
+
+/// Tells the time, a millisecond after the other. A clock that can't be read is taken as one that stands still.
+fn tick<L: Naming, D: Device, J: Recorder, K: Clock, R: Wait>(
+    rt: &R,
+    library: &Library<L, Reading, D, J>,
+    caller: &mut Caller<L>,
+    clock: &K,
+    readings: &Readings,
+) -> Result<(), Refused> {
+    let Ok(moments) = Moments::start(clock) else {
+        return Err(Refused::NotSupported);
+    };
+    for _ in 0..TICKS {
+        if readings.called() == TIMEOUTS.len() as u64 {
+            break;
+        }
+        let now = moments.now(clock).unwrap_or(0);
+        library.tick(rt, caller, now).map_err(no_memory)?;
+        thread::sleep(clock, Duration::from_millis(TICK));
+    }
+    Ok(())
+}
+
+impl<K: Clock + Drop> Driver<Reading> for Part<K> {
+    type Left = Result<(), Refused>;
+
+    fn drive<L: Naming, D: Device, J: Recorder, R: Wait>(
+        self,
+        rt: &R,
+        library: &Library<L, Reading, D, J>,
+        caller: &mut Caller<L>,
+    ) -> Result<(), Refused> {
+        match self.meter {
+            Meter::Reads(reader) => read(rt, library, caller, reader, &self.readings),
+            Meter::Ticks(clock) => tick(rt, library, caller, &clock, &self.readings),
+        }
+    }
+}

@@ -1,0 +1,90 @@
+//! A test bench: 16 threads over 4 devices, two for each handle, and a device that is unplugged amid all. Copy it for a program that
+//! has many devices.
+//!
+//! Three files: `report.rt` is the callback with the count that it keeps, `tester.rt` a thread, and this the program. The devices
+//! are simulated ones (`usb_stand`).
+#![tactic(auto)]
+
+mod report;
+mod tester;
+
+use crate::report::Tally;
+use crate::tester::{Role, TRANSFERS, Tester};
+use anyhow::{Result, anyhow};
+use std::alloc::Global;
+use std::sync::Arc;
+use tirnouch::{Journal, TableDevice, live};
+use usb_stand::{Reader, devices};
+
+/// How many devices there are.
+const DEVICES: u8 = 4;
+
+/// How many handles there are: one for each of a device's two interfaces.
+const HANDLES: u8 = 8;
+
+/// The device that is unplugged.
+const UNPLUGGED: u8 = 3;
+
+/// The packets of an endpoint: as many as both threads of its handle ask for.
+const PACKETS: usize = 80;
+
+/// The counts of the handles.
+fn tallies(alloc: Global) -> Result<Vec<Arc<Tally>>> {
+    let mut tallies = Vec::new(alloc);
+    for _ in 0..HANDLES {
+        tallies.push(Arc::new(alloc, Tally::new())?)?;
+    }
+    Ok(tallies)
+}
+
+/// The threads: two for each handle. The second of the last takes its device away.
+fn testers(alloc: Global, tallies: &[Arc<Tally>]) -> Result<Vec<Tester>> {
+    let mut testers = Vec::new(alloc);
+    for (h, tally) in (0..HANDLES).zip(tallies) {
+        let reader = Reader::new(h, h / 2, h % 2)?;
+        let second = if h == HANDLES - 1 {
+            Role::Unplugs
+        } else {
+            Role::Follows
+        };
+        for role in [Role::Opens, second] {
+            let tally = tally.clone()?;
+            testers.push(Tester {
+                reader,
+                role,
+                tally,
+            })?;
+        }
+    }
+    Ok(testers)
+}
+
+/// An error where a handle's accepted transfers weren't each called back, in order; or at a device that stayed, weren't all there.
+fn is_whole(h: u8, tally: &Tally, accepted: u64) -> Result<()> {
+    let (called, completed) = tally.counts();
+    if called != accepted || !tally.is_right() {
+        return Err(anyhow!("handle {h}: {accepted} transfers, {called} callbacks"));
+    }
+    if h / 2 != UNPLUGGED && completed != 2 * TRANSFERS {
+        return Err(anyhow!("handle {h}: {completed} transfers completed"));
+    }
+    Ok(())
+}
+
+fn main(rt: HostRuntime) -> Result<()> {
+    let alloc = rt.alloc();
+    let tallies = tallies(alloc)?;
+    let setup = devices(alloc, DEVICES, 8, &[8; PACKETS])?;
+    let testers = testers(alloc, tallies.as_slice())?;
+    let lived = live::<_, TableDevice, Journal, _, _>(&rt, alloc, setup, testers)?;
+    let mut accepted = Vec::new(alloc);
+    for left in lived.left {
+        accepted.push(left.map_err(|why| anyhow!("refused: {why}"))?)?;
+    }
+    for (h, (tally, pair)) in (0..HANDLES).zip(tallies.iter().zip(accepted.chunks(2))) {
+        is_whole(h, tally, pair.iter().sum())?;
+    }
+    println!(rt; "three devices: 480 transfers, each completed, called back once and in order")?;
+    println!(rt; "the unplugged one: each that was accepted was called back once and in order")?;
+    Ok(())
+}

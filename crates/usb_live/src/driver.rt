@@ -1,0 +1,21 @@
+//! What a driver does in its thread.
+
+use std::sync::Wait;
+use usb_book::{Naming, Recorder};
+use usb_device::Device;
+use usb_library::{Caller, Library};
+
+/// A driver: what one thread does with the library, by calls of its own. The library's workers run beside it. It is not to wait
+/// for ever: all that it left in progress goes on to its end after it.
+pub trait Driver<C> {
+    /// What it leaves.
+    type Left: Drop;
+
+    /// Makes its calls.
+    fn drive<L: Naming, D: Device, J: Recorder, R: Wait>(
+        self,
+        rt: &R,
+        library: &Library<L, C, D, J>,
+        caller: &mut Caller<L>,
+    ) -> Self::Left;
+}

@@ -1,0 +1,48 @@
+//! A driver on its way into a thread, and back.
+
+use crate::driver::Driver;
+use std::alloc::{AllocError, Global};
+use std::sync::Wait;
+use usb_book::{Naming, Recorder};
+use usb_device::Device;
+use usb_library::{Caller, Library};
+
+/// A driver, with the caller of its calls.
+#[derive(Drop)]
+pub(crate) struct Seat<L: Naming, T> {
+    caller: Caller<L>,
+    driver: T,
+}
+
+/// What comes back of it.
+#[derive(Drop)]
+pub(crate) struct Home<L: Naming, X> {
+    pub(crate) caller: Caller<L>,
+    pub(crate) left: X,
+}
+
+/// A caller for each driver, in order. An error where memory is refused, or there are too many.
+pub(crate) fn seated<L: Naming, C: Drop, D: Device, J: Recorder, T: Drop, R: Wait>(
+    rt: &R,
+    alloc: Global,
+    library: &Library<L, C, D, J>,
+    drivers: Vec<T>,
+) -> Result<Vec<Seat<L, T>>, AllocError> {
+    let mut seats = Vec::with_capacity(alloc, drivers.len())?;
+    for driver in drivers {
+        let caller = library.caller(rt).ok_or(AllocError)?;
+        seats.push(Seat { caller, driver })?;
+    }
+    Ok(seats)
+}
+
+/// A driver makes its calls.
+pub(crate) fn drive<L: Naming, C, D: Device, J: Recorder, T: Driver<C>, R: Wait>(
+    rt: &R,
+    library: &Library<L, C, D, J>,
+    seat: Seat<L, T>,
+) -> Home<L, T::Left> {
+    let Seat { mut caller, driver } = seat;
+    let left = driver.drive(rt, library, &mut caller);
+    Home { caller, left }
+}
