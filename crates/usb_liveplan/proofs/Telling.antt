@@ -1,5 +1,6 @@
 -- One place more of a journal, and what its callback was told.
-use Rattle.std.proofs.Common.{◌≡◌, ◌∙◌, List, [], ◌∷◌, ◌++◌, Bool, true, false, filter, map, map-append, ap, sym, if◌then◌else◌}
+use Rattle.std.proofs.Common.{◌≡◌, ◌∙◌, List, [], ◌∷◌, ◌++◌, Bool, true, false, filter, map, ap, sym, if◌then◌else◌}
+use Rattle.std.proofs.lemmas.List.{map-append}
 use Rattle.std.proofs.lemmas.List.Elements.{filter-append}
 use Rattle.usb_model.specs.declared.entry.Entry.{Entry}
 use Rattle.usb_book.specs.declared.place.Place.{Place}
