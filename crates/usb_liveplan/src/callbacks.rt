@@ -1,16 +1,16 @@
 //! What the callbacks were told, out of a journal.
 
-ghost use Rattle.std.specs.Prelude.{◌≡◌, ◌++◌, ◌∷◌, [], IfOk, OnOk, filter, if◌then◌else◌};
+ghost use Rattle.std.specs.Prelude.{◌≡◌, ◌+◌, ◌*◌, ◌^◌, ◌++◌, ◌∷◌, [], IfOk, OnOk, filter, if◌then◌else◌};
 ghost use Rattle.std.specs.List.Sorted.{IsNonDecreasingBy, IsPermutation};
 ghost use Rattle.usb_book.specs.Booked.{entries_of};
 ghost use Rattle.usb_liveplan.specs.Callbacks.{is_callback, rank};
 
 use std::alloc::{AllocError, Global};
 use usb_book::Place;
-use usb_model::{Entry, Reply};
+use usb_model::{Entry, Name, Reply};
 
-/// The bits of a transfer's number.
-const NUMBER_BITS: u32 = 64;
+/// How many numbers a handle's transfers may have.
+const NUMBERS: u128 = 0x1_0000_0000_0000_0000;
 
 /// Whether a callback was called.
 fn is_callback(entry: &Entry) -> bool
@@ -19,14 +19,19 @@ fn is_callback(entry: &Entry) -> bool
     matches!(&entry.reply, Reply::Called(_))
 }
 
-/// Where the line of a callback stands: by its handle, and then by its number.
+/// Where the line of a transfer's callback stands: by its handle, and then by its number.
+fn rank_of(h: Name, n: u64) -> u128
+    ensures { result ≡ h * 2 ^ 64 + n }
+{
+    u128::from(h.number()) * NUMBERS + u128::from(n)
+}
+
+/// The same of an entry; those that tell no callback come first.
 fn rank(entry: &Entry) -> u128
     ensures { result ≡ rank entry.now }
 {
     match &entry.reply {
-        Reply::Called(returned) => {
-            (u128::from(returned.h.number()) << NUMBER_BITS) + u128::from(returned.n)
-        }
+        Reply::Called(returned) => rank_of(returned.h, returned.n),
         _ => 0,
     }
 }
@@ -42,7 +47,6 @@ fn note(lines: &mut Vec<Entry>, place: Place) -> Result<(), AllocError>
 }
 
 /// What the callbacks of a journal were told, in its order.
-#[tactic(auto, using(crate::proofs::Telling::told_more))]
 fn told(alloc: Global, places: Vec<Place>) -> Result<Vec<Entry>, AllocError>
     ensures { IfOk result (λ lines. lines.items ≡ filter is_callback (entries_of places.items)) }
 {

@@ -14,8 +14,16 @@ use usb_book::Journal;
 use usb_callback::Ruled;
 use usb_core::Setup;
 use usb_device::Device;
-use usb_live::live;
+use usb_live::{Lived, live};
 use usb_model::{Entry, Plan, Rule, Sequence};
+
+/// An error where a handle's thread was refused memory.
+fn are_made(left: Vec<Result<(), AllocError>>) -> Result<(), AllocError> {
+    for made in left {
+        made?;
+    }
+    Ok(())
+}
 
 /// Performs a plan over these devices: each handle that has lines has a thread of its own, which makes them in order, beside the two
 /// workers. What the workers do has no place in it and is passed over: packets, orders, events, results and callbacks that return.
@@ -31,9 +39,7 @@ pub fn perform<D: Device + Send, R: Threads + Wait + Sync>(
     ensures { IfOk result (λ lines. (steps : List Step) × AreCallbacks (setup_of setup) steps lines.items) }
 {
     let handles = handles_of(rt, alloc, plan, rules)?;
-    let lived = live::<Ruled, D, Journal, _, R>(rt, alloc, setup, handles)?;
-    for made in lived.left {
-        made?;
-    }
-    callbacks_of(alloc, lived.kept.places(alloc)?)
+    let Lived { kept, left, .. } = live::<Ruled, D, Journal, _, R>(rt, alloc, setup, handles)?;
+    are_made(left)?;
+    callbacks_of(alloc, kept.places(alloc)?)
 }
