@@ -77,7 +77,7 @@ fn tick<L: Naming, D: Device, J: Recorder, K: Clock, R: Wait>(
     library: &Library<L, Reading, D, J>,
     caller: &mut Caller<L>,
     clock: &K,
-    readings: &Readings,
+    readings: &Arc<Readings>,
 ) -> Result<(), Refused> {
     let Ok(moments) = Moments::start(clock) else {
         return Err(Refused::NotSupported);
@@ -102,9 +102,10 @@ impl<K: Clock + Drop> Driver<Reading> for Part<K> {
         library: &Library<L, Reading, D, J>,
         caller: &mut Caller<L>,
     ) -> Result<(), Refused> {
-        match self.meter {
-            Meter::Reads(reader) => read(rt, library, caller, reader, &self.readings),
-            Meter::Ticks(clock) => tick(rt, library, caller, &clock, &self.readings),
+        let Part { meter, readings } = self;
+        match meter {
+            Meter::Reads(reader) => read(rt, library, caller, reader, &readings),
+            Meter::Ticks(clock) => tick(rt, library, caller, &clock, &readings),
         }
     }
 }

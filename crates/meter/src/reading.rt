@@ -32,6 +32,21 @@ impl Readings {
         )
     }
 
+    /// One more, which came to this.
+    fn note(&self, status: Status) {
+        match status {
+            Status::Completed => {
+                self.whole.fetch_add(1, Ordering::SeqCst);
+            }
+            Status::TimedOut => {
+                self.late.fetch_add(1, Ordering::SeqCst);
+            }
+            _ => {
+                self.other.fetch_add(1, Ordering::SeqCst);
+            }
+        }
+    }
+
     /// How many callbacks were called.
     pub fn called(&self) -> u64 {
         let (whole, late, other) = self.counts();
@@ -65,12 +80,7 @@ impl Callback for Reading {
     ghost may_answer = { λ c r v. ⊤ };
 
     fn call(self, returned: Returned) -> (Verdict, Option<Reading>) {
-        let count = match returned.status {
-            Status::Completed => &self.readings.whole,
-            Status::TimedOut => &self.readings.late,
-            _ => &self.readings.other,
-        };
-        count.fetch_add(1, Ordering::SeqCst);
+        self.readings.note(returned.status);
         (Verdict::Stop, Some(self))
     }
 }

@@ -1,6 +1,6 @@
 //! Two threads beside one: what their one lock costs. Each makes all calls of its transfers itself, so that none waits for a worker.
 
-ghost use Rattle.std.specs.Prelude.{◌≡◌};
+ghost use Rattle.std.specs.Prelude.{◌≡◌, ◌≤◌};
 
 use crate::flag::TURNS;
 use anyhow::{Result, anyhow};
@@ -141,7 +141,9 @@ fn of_library<K: Clock, R: Threads + Wait + Sync>(
 }
 
 /// How many transfers one thread makes, or two.
-fn transfers(two: bool) -> u128 {
+fn transfers(two: bool) -> u128
+    ensures { 1 ≤ result }
+{
     let each = u128::from(ROUNDS) * u128::from(EACH);
     if two { 2 * each } else { each }
 }
