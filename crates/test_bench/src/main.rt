@@ -74,7 +74,8 @@ fn is_whole(h: u8, tally: &Tally, accepted: u64) -> Result<()> {
 fn main(rt: HostRuntime) -> Result<()> {
     let alloc = rt.alloc();
     let tallies = tallies(alloc)?;
-    let setup = devices(alloc, DEVICES, 8, &[8; PACKETS])?;
+    let sizes = vec![in alloc; 8_u16; PACKETS]?;
+    let setup = devices(alloc, DEVICES, 8, sizes.as_slice())?;
     let testers = testers(alloc, tallies.as_slice())?;
     let lived = live::<_, TableDevice, Journal, _, _>(&rt, alloc, setup, testers)?;
     let mut accepted = Vec::new(alloc);
