@@ -37,24 +37,30 @@ fn tallies(alloc: Global) -> Result<Vec<Arc<Tally>>> {
     Ok(tallies)
 }
 
-/// The threads: two for each handle. The second of the last takes its device away.
+/// What the second thread of a handle does: that of the last takes its device away.
+fn second_of(h: u8) -> Role {
+    if h == HANDLES - 1 {
+        Role::Unplugs
+    } else {
+        Role::Follows
+    }
+}
+
+/// The threads: two for each handle.
 fn testers(alloc: Global, tallies: &[Arc<Tally>]) -> Result<Vec<Tester>> {
     let mut testers = Vec::new(alloc);
     for (h, tally) in (0..HANDLES).zip(tallies) {
         let reader = Reader::new(h, h / 2, h % 2)?;
-        let second = if h == HANDLES - 1 {
-            Role::Unplugs
-        } else {
-            Role::Follows
-        };
-        for role in [Role::Opens, second] {
-            let tally = tally.clone()?;
-            testers.push(Tester {
-                reader,
-                role,
-                tally,
-            })?;
-        }
+        testers.push(Tester {
+            reader,
+            role: Role::Opens,
+            tally: tally.clone()?,
+        })?;
+        testers.push(Tester {
+            reader,
+            role: second_of(h),
+            tally: tally.clone()?,
+        })?;
     }
     Ok(testers)
 }

@@ -94,6 +94,23 @@ impl Tester {
         }
         Err(Refused::Busy)
     }
+
+    /// Takes the device away, if that is this thread's to do after so many transfers.
+    fn unplug_if<L: Naming, D: Device, J: Recorder, R: Wait>(
+        &self,
+        rt: &R,
+        library: &Library<L, Report, D, J>,
+        caller: &mut Caller<L>,
+        accepted: u64,
+    ) -> Result<(), Refused> {
+        if self.role != Role::Unplugs || accepted != TRANSFERS / 2 {
+            return Ok(());
+        }
+        library
+            .unplug(rt, caller, self.reader.dev)
+            .map_err(no_memory)?;
+        Ok(())
+    }
 }
 
 impl Driver<Report> for Tester {
@@ -108,11 +125,7 @@ impl Driver<Report> for Tester {
     ) -> Result<u64, Refused> {
         self.start(rt, library, caller)?;
         for accepted in 0..TRANSFERS {
-            if self.role == Role::Unplugs && accepted == TRANSFERS / 2 {
-                library
-                    .unplug(rt, caller, self.reader.dev)
-                    .map_err(no_memory)?;
-            }
+            self.unplug_if(rt, library, caller, accepted)?;
             if !self.submit(rt, library, caller)? {
                 return Ok(accepted);
             }
