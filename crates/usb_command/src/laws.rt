@@ -5,9 +5,10 @@ ghost use Rattle.std.specs.Fmt.{decimal};
 ghost use Rattle.usb_command.specs.CommandLine.{AreBad, AskFor, AskForHelp};
 ghost use Rattle.usb_command.specs.declared.words.Task.TheVariants.{Run, Steps, Alone, Left, Check, Draw};
 
-/// Whatever name the program is called by: `run` asks for a run, `alone H` for each of the 64 handles alone, a plus sign
-/// or leading zeros before its number included, `run --steps` for a run step by step, `left` for what is left, `check` for a check, `draw` for a picture, and `-h` for help.
-/// No words, a second word after `run`, `left` or `check`, no handle or the handle 64 after `alone`, and `help` are bad.
+/// Whatever name the program is called by: `run` asks for a run, `alone H` for each of the 64 handles alone, a plus
+/// sign or leading zeros before its number included, `run --steps` for a run step by step, `left` for what is left,
+/// `check` for a check, `draw` for a picture, and `-h` for help. No words, a second word after `run`, `left` or
+/// `check`, no handle or the handle 64 after `alone`, and `help` are bad.
 pub fn words()
     ensures run { (name : List ℕ) → AskFor (name ∷ codes "run" ∷ []) Run }
     ensures steps { (name : List ℕ) → AskFor (name ∷ codes "run" ∷ codes "--steps" ∷ []) Steps }

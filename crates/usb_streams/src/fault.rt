@@ -43,8 +43,8 @@ impl fmt::Display for Fault {
 }
 
 impl Fault {
-    /// Says what ended the run, on standard error. Where writing fails, a beginning of the message is written. No memory
-    /// is taken.
+    /// Says what ended the run, on standard error. Where writing fails, a beginning of the message is written. No
+    /// memory is taken.
     pub fn tell<E: io::Write>(self, err: &mut E) -> Result<(), Fault>
         ensures whole { OnOk result (Appends (E.contents err.old) (E.contents err.new) (message_of self)) }
         ensures begun { AppendsSome (message_of self) (E.contents err.old) (E.contents err.new) }

@@ -1,4 +1,5 @@
-//! What `usbtrace` reads and writes: the whole input, the entries of a run, the findings of a check, and why it ends early.
+//! What `usbtrace` reads and writes: the whole input, the entries of a run, the findings of a check, and why it ends
+//! early.
 //!
 //! The one promise: what is appended to the output is the text of what was to be printed, or a beginning of it where
 //! that fails.

@@ -42,7 +42,7 @@ impl Lines {
     }
 
     /// Puts the line of an entry behind the others. Where they are many, or no memory is had for one more, they are
-    /// written first.
+    /// written first. Behind an error a beginning of them and of the line is written.
     pub fn put<W: Write>(&mut self, out: &mut W, entry: &Entry) -> Result<(), Fault>
         ensures line { OnOk result (AppendsAllBut (self.old ++ line_text entry.now) self.new (W.contents out.old) (W.contents out.new)) }
         ensures begun { OnErr result (AppendsSome (self.old ++ line_text entry.now) (W.contents out.old) (W.contents out.new)) }
@@ -57,7 +57,8 @@ impl Lines {
         }
     }
 
-    /// Puts a text of whole lines behind the others, as `put` does the line of an entry.
+    /// Puts a text of whole lines behind the others. Where they are many, or no memory is had for the text, they are
+    /// written first. Behind an error a beginning of them and of the text is written.
     pub fn put_text<W: Write>(&mut self, out: &mut W, text: &[u8]) -> Result<(), Fault>
         ensures line { OnOk result (AppendsAllBut (self.old ++ text.now) self.new (W.contents out.old) (W.contents out.new)) }
         ensures begun { OnErr result (AppendsSome (self.old ++ text.now) (W.contents out.old) (W.contents out.new)) }
