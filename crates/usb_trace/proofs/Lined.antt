@@ -21,7 +21,8 @@ use Rattle.usb_streams.specs.Printing.{AppendsAllBut, AppendsSome}
 use Rattle.usb_streams.proofs.Beginnings.{gathered_further, kept, some_behind, some_further, some_of_front, whole}
 use Rattle.usb_text.specs.StepLines.{numbered}
 use Rattle.usb_text.specs.declared.lined.NumberedLine.{NumberedLine}
-use Rattle.usb_trace.specs.Stepwise.{BeginsBehind, PrintsBehind, PrintsText, piece_text, stepwise_from}
+use Rattle.usb_trace.specs.Printed.{BeginsPiece, PrintsPiece, PrintsText}
+use Rattle.usb_trace.specs.Stepwise.{piece_text, stepwise_from}
 use Rattle.usb_trace.specs.declared.printing.Reach.{Reach}
 use Rattle.usb_trace.specs.declared.printing.Reach.TheVariants.{End, NoMemory}
 
@@ -129,9 +130,9 @@ module _ {P : Type 0} (rule : P → Rule) (setup : Setup) (plan : List Plan) (to
 
   -- its lines are put
   pub piece_put : (v w : PlanState P) (i : ℕ) (left more : List P) (behind after : List (ℕ × List ℕ)) (lines gathered : List ℕ) (mid new : Option (List ℕ)) (piece : Plan) (callback : Option P) (line : ℕ × List ℕ) → i < length plan → piece ≡ slice_index_or plan i piece
-      → IsStepwise v i left behind lines mid → behind ≡ line ∷ after → TakesNext (is_submission piece) left more callback → PrintsBehind rule End line v piece callback w lines gathered mid new → IsStepwise w (i + 1) more after gathered new
-  piece_put v w i left more behind after lines gathered mid new piece callback line within item p first next (entries, performs, put) =
-      let n = is_next v w i left more behind after lines mid piece callback line entries within item p first next performs in
+      → IsStepwise v i left behind lines mid → behind ≡ line ∷ after → TakesNext (is_submission piece) left more callback → PrintsPiece rule (piece_text line) End v piece callback w lines gathered mid new → IsStepwise w (i + 1) more after gathered new
+  piece_put v w i left more behind after lines gathered mid new piece callback line within item p first next q =
+      let n = is_next v w i left more behind after lines mid piece callback line q.made within item p first next q.makes in
       record {
         stage = stage_after setup p.stage piece n.here;
         shows = n.shows;
@@ -139,19 +140,19 @@ module _ {P : Type 0} (rule : P → Rule) (setup : Setup) (plan : List Plan) (to
         under = n.under;
         enough = n.enough;
         no_verdict = (subst (AllByRecursion (λ q. is_verdict q ≡ false)) (rest_is i piece within item) p.no_verdict).1;
-        done = p.done ++ piece_text line entries;
-        is_whole = all_with p.done (piece_text line entries) (stepwise_from setup (stage_after setup p.stage piece n.here) (drop (i + 1) plan) after) (stepwise_from setup p.stage (drop i plan) behind) p.is_whole n.text;
-        appended = gathered_further p.done lines (piece_text line entries) gathered old mid new p.appended put;
+        done = p.done ++ piece_text line q.made;
+        is_whole = all_with p.done (piece_text line q.made) (stepwise_from setup (stage_after setup p.stage piece n.here) (drop (i + 1) plan) after) (stepwise_from setup p.stage (drop i plan) behind) p.is_whole n.text;
+        appended = gathered_further p.done lines (piece_text line q.made) gathered old mid new p.appended q.put;
       }
 
   -- a beginning of them is written
   pub piece_begun : (v w : PlanState P) (i : ℕ) (left more : List P) (behind after : List (ℕ × List ℕ)) (lines : List ℕ) (mid new : Option (List ℕ)) (piece : Plan) (callback : Option P) (line : ℕ × List ℕ) → i < length plan → piece ≡ slice_index_or plan i piece
-      → IsStepwise v i left behind lines mid → behind ≡ line ∷ after → TakesNext (is_submission piece) left more callback → BeginsBehind rule line v piece callback w lines mid new → AppendsSome total old new
-  piece_begun v w i left more behind after lines mid new piece callback line within item p first next (entries, performs, some) =
-      let n = is_next v w i left more behind after lines mid piece callback line entries within item p first next performs in
+      → IsStepwise v i left behind lines mid → behind ≡ line ∷ after → TakesNext (is_submission piece) left more callback → BeginsPiece rule (piece_text line) v piece callback w lines mid new → AppendsSome total old new
+  piece_begun v w i left more behind after lines mid new piece callback line within item p first next q =
+      let n = is_next v w i left more behind after lines mid piece callback line q.made within item p first next q.makes in
       let rest : List ℕ = stepwise_from setup (stage_after setup p.stage piece n.here) (drop (i + 1) plan) after in
-      some_of_front total (p.done ++ piece_text line entries) rest old new (sym (all_with p.done (piece_text line entries) rest (stepwise_from setup p.stage (drop i plan) behind) p.is_whole n.text))
-      (some_further p.done lines (piece_text line entries) old mid new p.appended some)
+      some_of_front total (p.done ++ piece_text line q.made) rest old new (sym (all_with p.done (piece_text line q.made) rest (stepwise_from setup p.stage (drop i plan) behind) p.is_whole n.text))
+      (some_further p.done lines (piece_text line q.made) old mid new p.appended q.some)
 
   -- of those that were gathered a beginning is written
   pub rest_begun : (v : PlanState P) (i : ℕ) (left : List P) (behind : List (ℕ × List ℕ)) (lines : List ℕ) (mid new : Option (List ℕ)) → IsStepwise v i left behind lines mid → AppendsSome lines mid new → AppendsSome total old new

@@ -23,7 +23,7 @@ use Rattle.usb_purge.proofs.Reached.{Reached}
 use Rattle.usb_streams.specs.Printing.{line_text, AppendsAllBut, AppendsSome}
 use Rattle.usb_streams.proofs.Beginnings.{gathered_further, kept, some_behind, some_further, some_of_front, whole}
 use Rattle.usb_streams.proofs.Printed.{lines_begun}
-use Rattle.usb_trace.specs.Printed.{BeginsOwnPiece, BeginsPiece, PrintsTo, PutsOwnPiece, PutsPiece, StartsBoth, StartsPlan, own_entries, plan_entries}
+use Rattle.usb_trace.specs.Printed.{BeginsOwnPiece, BeginsPiece, PrintsOwnPiece, PrintsPiece, PrintsTo, StartsBoth, StartsPlan, own_entries, plan_entries}
 use Rattle.usb_trace.specs.declared.printing.Reach.{Reach}
 use Rattle.usb_trace.specs.declared.printing.Reach.TheVariants.{End, NoMemory}
 
@@ -68,8 +68,8 @@ module _ {P : Type 0} (x : Performed P) (lines : List ℕ) (old mid new : Option
 
 -- a piece was performed, and a beginning of its lines is written
 pub begins_piece : {P : Type 0} (rule : P → Rule) (run run' : PlanState P) (piece : Plan) (callback : Option P) (x : Performed P) (lines : List ℕ) (old new : Option (List ℕ)) → Performs rule run piece callback (entries_of x) run'
-    → AppendsSome (lines ++ lines_text (entries_of x)) old new → BeginsPiece rule run piece callback run' lines old new
-begins_piece rule run run' piece callback x lines old new performs some = record { entries = entries_of x; performs = performs; some = some }
+    → AppendsSome (lines ++ lines_text (entries_of x)) old new → BeginsPiece rule lines_text run piece callback run' lines old new
+begins_piece rule run run' piece callback x lines old new performs some = record { made = entries_of x; makes = performs; some = some }
 
 -- old: what stood on the output before
 module _ {P : Type 0} (rule : P → Rule) (setup : Setup) (plan : List Plan) (rules : List Rule) (old : Option (List ℕ)) where
@@ -105,11 +105,11 @@ module _ {P : Type 0} (rule : P → Rule) (setup : Setup) (plan : List Plan) (ru
 
   -- and its lines are put
   pub piece_printed : (v w : PlanState P) (i : ℕ) (left more : List P) (lines gathered : List ℕ) (mid new : Option (List ℕ)) (piece : Plan) (callback : Option P) → i < length plan → piece ≡ slice_index_or plan i piece → IsPrinted v i left lines mid
-      → TakesNext (is_submission piece) left more callback → PutsPiece rule v piece callback w lines gathered mid new → IsPrinted w (i + 1) more gathered new
+      → TakesNext (is_submission piece) left more callback → PrintsPiece rule lines_text End v piece callback w lines gathered mid new → IsPrinted w (i + 1) more gathered new
   piece_printed v w i left more lines gathered mid new piece callback within item p next q = record {
-    entries = p.entries ++ q.entries;
-    reached = one_more v w i left more piece callback p.entries q.entries within item p.reached next q.performs;
-    appended = subst (λ text. AppendsAllBut text gathered old new) (sym (lines_append p.entries q.entries)) (gathered_further (lines_text p.entries) lines (lines_text q.entries) gathered old mid new p.appended q.put);
+    entries = p.entries ++ q.made;
+    reached = one_more v w i left more piece callback p.entries q.made within item p.reached next q.makes;
+    appended = subst (λ text. AppendsAllBut text gathered old new) (sym (lines_append p.entries q.made)) (gathered_further (lines_text p.entries) lines (lines_text q.made) gathered old mid new p.appended q.put);
   }
 
   -- what was performed is a beginning of the run
@@ -118,11 +118,11 @@ module _ {P : Type 0} (rule : P → Rule) (setup : Setup) (plan : List Plan) (ru
 
   -- of its lines a beginning is written
   pub piece_begun : (v w : PlanState P) (i : ℕ) (left more : List P) (lines : List ℕ) (mid new : Option (List ℕ)) (piece : Plan) (callback : Option P) → AreFixed rules → i < length plan → piece ≡ slice_index_or plan i piece → IsPrinted v i left lines mid
-      → TakesNext (is_submission piece) left more callback → BeginsPiece rule v piece callback w lines mid new → AppendsSome (lines_text (plan_entries setup plan rules)) old new
+      → TakesNext (is_submission piece) left more callback → BeginsPiece rule lines_text v piece callback w lines mid new → AppendsSome (lines_text (plan_entries setup plan rules)) old new
   piece_begun v w i left more lines mid new piece callback fixed within item p next q =
-      lines_begun (p.entries ++ q.entries) (plan_entries setup plan rules) old new
-      (begins w (i + 1) more (p.entries ++ q.entries) fixed (one_more v w i left more piece callback p.entries q.entries within item p.reached next q.performs))
-      (subst (λ text. AppendsSome text old new) (sym (lines_append p.entries q.entries)) (some_further (lines_text p.entries) lines (lines_text q.entries) old mid new p.appended q.some))
+      lines_begun (p.entries ++ q.made) (plan_entries setup plan rules) old new
+      (begins w (i + 1) more (p.entries ++ q.made) fixed (one_more v w i left more piece callback p.entries q.made within item p.reached next q.makes))
+      (subst (λ text. AppendsSome text old new) (sym (lines_append p.entries q.made)) (some_further (lines_text p.entries) lines (lines_text q.made) old mid new p.appended q.some))
 
   -- of those that were gathered a beginning is written
   pub rest_begun : (v : PlanState P) (i : ℕ) (left : List P) (lines : List ℕ) (mid new : Option (List ℕ)) → AreFixed rules → IsPrinted v i left lines mid → AppendsSome lines mid new → AppendsSome (lines_text (plan_entries setup plan rules)) old new
@@ -175,21 +175,21 @@ module _ {P : Type 0} (rule : P → Rule) (setup : Setup) (plan : List Plan) (ru
 
   -- one more was performed, and its lines are put
   pub own_printed : (v w : TwinState P) (i : ℕ) (lines gathered : List ℕ) (mid new : Option (List ℕ)) (piece : Plan) → i < length plan → piece ≡ slice_index_or plan i piece → IsPrintedAlone v i lines mid
-      → PutsOwnPiece rule h v piece w lines gathered mid new → IsPrintedAlone w (i + 1) gathered new
+      → PrintsOwnPiece rule End h v piece w lines gathered mid new → IsPrintedAlone w (i + 1) gathered new
   own_printed v w i lines gathered mid new piece within item p q = record {
-    shared = p.shared ++ shared_of q.told;
-    entries = p.entries ++ alone_of q.told;
-    beside = both.one_more rule setup plan rules h v w p.shared p.entries i piece q.told within item p.beside q.advances;
-    appended = subst (λ text. AppendsAllBut text gathered old new) (sym (lines_append p.entries (alone_of q.told))) (gathered_further (lines_text p.entries) lines (lines_text (alone_of q.told)) gathered old mid new p.appended q.put);
+    shared = p.shared ++ shared_of q.made;
+    entries = p.entries ++ alone_of q.made;
+    beside = both.one_more rule setup plan rules h v w p.shared p.entries i piece q.made within item p.beside q.makes;
+    appended = subst (λ text. AppendsAllBut text gathered old new) (sym (lines_append p.entries (alone_of q.made))) (gathered_further (lines_text p.entries) lines (lines_text (alone_of q.made)) gathered old mid new p.appended q.put);
   }
 
   -- of its lines a beginning is written
   pub own_begun : (v w : TwinState P) (i : ℕ) (lines : List ℕ) (mid new : Option (List ℕ)) (piece : Plan) → i < length plan → piece ≡ slice_index_or plan i piece → IsPrintedAlone v i lines mid
       → BeginsOwnPiece rule h v piece w lines mid new → AppendsSome (lines_text (own_entries setup plan rules h)) old new
   own_begun v w i lines mid new piece within item p q =
-      lines_begun (p.entries ++ alone_of q.told) (own_entries setup plan rules h) old new
-      (both.begins rule setup plan rules h w (p.shared ++ shared_of q.told) (p.entries ++ alone_of q.told) (i + 1) (both.one_more rule setup plan rules h v w p.shared p.entries i piece q.told within item p.beside q.advances))
-      (subst (λ text. AppendsSome text old new) (sym (lines_append p.entries (alone_of q.told))) (some_further (lines_text p.entries) lines (lines_text (alone_of q.told)) old mid new p.appended q.some))
+      lines_begun (p.entries ++ alone_of q.made) (own_entries setup plan rules h) old new
+      (both.begins rule setup plan rules h w (p.shared ++ shared_of q.made) (p.entries ++ alone_of q.made) (i + 1) (both.one_more rule setup plan rules h v w p.shared p.entries i piece q.made within item p.beside q.makes))
+      (subst (λ text. AppendsSome text old new) (sym (lines_append p.entries (alone_of q.made))) (some_further (lines_text p.entries) lines (lines_text (alone_of q.made)) old mid new p.appended q.some))
 
   -- of those that were gathered a beginning is written
   pub rest_begun_alone : (v : TwinState P) (i : ℕ) (lines : List ℕ) (mid new : Option (List ℕ)) → IsPrintedAlone v i lines mid → AppendsSome lines mid new → AppendsSome (lines_text (own_entries setup plan rules h)) old new
@@ -222,7 +222,7 @@ module _ {P : Type 0} (rule : P → Rule) (plan : List Plan) (first : PlanState 
   from_start lines empty = record { printed = λ setup rules s. none_yet rule setup plan rules old first callbacks lines s.shows s.under s.enough s.no_verdict empty }
 
   pub from_more : (v w : PlanState P) (i : ℕ) (left more : List P) (lines gathered : List ℕ) (mid new : Option (List ℕ)) (piece : Plan) (callback : Option P) → i < length plan → piece ≡ slice_index_or plan i piece → IsPrintedFrom v i left lines mid
-      → TakesNext (is_submission piece) left more callback → PutsPiece rule v piece callback w lines gathered mid new → IsPrintedFrom w (i + 1) more gathered new
+      → TakesNext (is_submission piece) left more callback → PrintsPiece rule lines_text End v piece callback w lines gathered mid new → IsPrintedFrom w (i + 1) more gathered new
   from_more v w i left more lines gathered mid new piece callback within item p next puts = record {
     printed = λ setup rules s. piece_printed rule setup plan rules old v w i left more lines gathered mid new piece callback within item (p.printed setup rules s) next puts;
   }
@@ -231,7 +231,7 @@ module _ {P : Type 0} (rule : P → Rule) (plan : List Plan) (first : PlanState 
   from_same v i left lines gathered mid new p same = subst (λ l. IsPrintedFrom v i left l new) (sym same.0) (subst (λ o. IsPrintedFrom v i left lines o) (sym same.1) p)
 
   pub from_begun : (v w : PlanState P) (i : ℕ) (left more : List P) (lines : List ℕ) (mid new : Option (List ℕ)) (piece : Plan) (callback : Option P) → i < length plan → piece ≡ slice_index_or plan i piece → IsPrintedFrom v i left lines mid
-      → TakesNext (is_submission piece) left more callback → BeginsPiece rule v piece callback w lines mid new
+      → TakesNext (is_submission piece) left more callback → BeginsPiece rule lines_text v piece callback w lines mid new
       → (setup : Setup) (rules : List Rule) → StartsPlan rule setup plan rules first callbacks → AppendsSome (lines_text (plan_entries setup plan rules)) old new
   from_begun v w i left more lines mid new piece callback within item p next begun setup rules s =
       piece_begun rule setup plan rules old v w i left more lines mid new piece callback s.fixed within item (p.printed setup rules s) next begun
@@ -268,7 +268,7 @@ module _ {P : Type 0} (rule : P → Rule) (plan : List Plan) (h : ℕ) (first : 
   both_start lines empty = record { printed = λ setup rules s. none_yet_alone rule setup plan rules h old first lines s empty }
 
   pub both_more : (v w : TwinState P) (i : ℕ) (lines gathered : List ℕ) (mid new : Option (List ℕ)) (piece : Plan) → i < length plan → piece ≡ slice_index_or plan i piece → AreFrom v i lines mid
-      → PutsOwnPiece rule h v piece w lines gathered mid new → AreFrom w (i + 1) gathered new
+      → PrintsOwnPiece rule End h v piece w lines gathered mid new → AreFrom w (i + 1) gathered new
   both_more v w i lines gathered mid new piece within item p puts = record {
     printed = λ setup rules s. own_printed rule setup plan rules h old v w i lines gathered mid new piece within item (p.printed setup rules s) puts;
   }

@@ -1,5 +1,5 @@
 -- What a run has printed, as far as it came.
-use Rattle.std.specs.Prelude.{◌≡◌, ◌≢◌, ◌++◌, ℕ, false, List, length, map, Option}
+use Rattle.std.specs.Prelude.{◌≡◌, ◌≢◌, ◌++◌, ℕ, false, List, [], length, map, Option}
 use Rattle.std.specs.List.{AllByRecursion, count_by}
 use Rattle.std.specs.Io.KnownBytes.{Appends}
 use Rattle.usb_model.specs.declared.entry.Entry.{Entry}
@@ -23,6 +23,11 @@ abbrev pub PrintsTo : Reach → List Entry → Option (List ℕ) → Option (Lis
 PrintsTo End entries old new = Appends old new (lines_text entries)
 PrintsTo NoMemory entries old new = (front : List Entry) × IsBeginning front entries × Appends old new (lines_text front)
 
+-- the same of a run whose text this is: all of it, or a beginning
+abbrev pub PrintsText : Reach → List ℕ → Option (List ℕ) → Option (List ℕ) → Type 0
+PrintsText End text old new = Appends old new text
+PrintsText NoMemory text old new = AppendsSome text old new
+
 -- all entries of a plan under these rules
 abbrev pub plan_entries : Setup → List Plan → List Rule → List Entry
 plan_entries setup plan rules = world_run setup (expand setup plan rules)
@@ -31,39 +36,45 @@ plan_entries setup plan rules = world_run setup (expand setup plan rules)
 abbrev pub own_entries : Setup → List Plan → List Rule → ℕ → List Entry
 own_entries setup plan rules h = alone setup (own setup (expand setup plan rules) h) h
 
--- lines: those that were gathered and aren't written yet
+-- lines: those that were gathered and aren't written yet. A text stands behind them; or there was no memory for it, and nothing was put
+abbrev pub Puts : Reach → (text lines lines' : List ℕ) → (old new : Option (List ℕ)) → Type 0
+Puts End text lines lines' old new = AppendsAllBut (lines ++ text) lines' old new
+Puts NoMemory text lines lines' old new = (lines' ≡ lines) × (new ≡ old)
+
+-- a step makes something, and something made has a text
+module _ {A : Type 0} (Makes : A → Type 0) (text_of : A → List ℕ) where
+  -- the step was made, and its text stands behind the others
+  pub record PutsMade (lines lines' : List ℕ) (old new : Option (List ℕ)) : Type 0 where
+    pub made : A
+    pub makes : Makes made
+    pub put : AppendsAllBut (lines ++ text_of made) lines' old new
+
+  -- it was made, and a beginning of the others and of its text is written
+  pub record BeginsMade (lines : List ℕ) (old new : Option (List ℕ)) : Type 0 where
+    pub made : A
+    pub makes : Makes made
+    pub some : AppendsSome (lines ++ text_of made) old new
+
+  -- it was made and its text put; or it found no memory, and nothing was put
+  abbrev pub PrintsMade : Reach → (lines lines' : List ℕ) → (old new : Option (List ℕ)) → Type 0
+  PrintsMade End lines lines' old new = PutsMade lines lines' old new
+  PrintsMade NoMemory lines lines' old new = Puts NoMemory [] lines lines' old new
+
 module _ {P : Type 0} (rule : P → Rule) where
-  -- a piece of a plan was performed, and its lines stand behind the others
-  pub record PutsPiece (run : PlanState P) (piece : Plan) (callback : Option P) (run' : PlanState P) (lines lines' : List ℕ) (old new : Option (List ℕ)) : Type 0 where
-    pub entries : List Entry
-    pub performs : Performs rule run piece callback entries run'
-    pub put : AppendsAllBut (lines ++ lines_text entries) lines' old new
+  -- a piece of a plan was performed, and its entries are put in these words; or it found no memory
+  abbrev pub PrintsPiece : (List Entry → List ℕ) → Reach → (run : PlanState P) → Plan → Option P → (run' : PlanState P) → (lines lines' : List ℕ) → (old new : Option (List ℕ)) → Type 0
+  PrintsPiece text_of reach run piece callback run' lines lines' old new = PrintsMade (λ (entries : List Entry). Performs rule run piece callback entries run') text_of reach lines lines' old new
 
-  -- it was performed, and a beginning of the others and of its lines is written
-  pub record BeginsPiece (run : PlanState P) (piece : Plan) (callback : Option P) (run' : PlanState P) (lines : List ℕ) (old new : Option (List ℕ)) : Type 0 where
-    pub entries : List Entry
-    pub performs : Performs rule run piece callback entries run'
-    pub some : AppendsSome (lines ++ lines_text entries) old new
+  -- or a beginning of the others and of them is written
+  abbrev pub BeginsPiece : (List Entry → List ℕ) → (run : PlanState P) → Plan → Option P → (run' : PlanState P) → (lines : List ℕ) → (old new : Option (List ℕ)) → Type 0
+  BeginsPiece text_of run piece callback run' lines old new = BeginsMade (λ (entries : List Entry). Performs rule run piece callback entries run') text_of lines old new
 
-  -- the same of a piece that was performed by two runs side by side, and of what is told of the handle's own run
-  pub record PutsOwnPiece (h : ℕ) (twins : TwinState P) (piece : Plan) (twins' : TwinState P) (lines lines' : List ℕ) (old new : Option (List ℕ)) : Type 0 where
-    pub told : Option (Told P)
-    pub advances : AdvancesBoth rule h piece twins twins' told
-    pub put : AppendsAllBut (lines ++ lines_text (alone_of told)) lines' old new
-
-  pub record BeginsOwnPiece (h : ℕ) (twins : TwinState P) (piece : Plan) (twins' : TwinState P) (lines : List ℕ) (old new : Option (List ℕ)) : Type 0 where
-    pub told : Option (Told P)
-    pub advances : AdvancesBoth rule h piece twins twins' told
-    pub some : AppendsSome (lines ++ lines_text (alone_of told)) old new
-
-  -- a piece was performed and its lines put; or it found no memory, and nothing was put
-  abbrev pub PrintsPiece : Reach → (run : PlanState P) → Plan → Option P → (run' : PlanState P) → (lines lines' : List ℕ) → (old new : Option (List ℕ)) → Type 0
-  PrintsPiece End run piece callback run' lines lines' old new = PutsPiece run piece callback run' lines lines' old new
-  PrintsPiece NoMemory run piece callback run' lines lines' old new = (lines' ≡ lines) × (new ≡ old)
-
+  -- the same of a piece that was performed by two runs side by side, and of the lines of what is told of the handle's own run
   abbrev pub PrintsOwnPiece : Reach → ℕ → (twins : TwinState P) → Plan → (twins' : TwinState P) → (lines lines' : List ℕ) → (old new : Option (List ℕ)) → Type 0
-  PrintsOwnPiece End h twins piece twins' lines lines' old new = PutsOwnPiece h twins piece twins' lines lines' old new
-  PrintsOwnPiece NoMemory h twins piece twins' lines lines' old new = (lines' ≡ lines) × (new ≡ old)
+  PrintsOwnPiece reach h twins piece twins' lines lines' old new = PrintsMade (AdvancesBoth rule h piece twins twins') (λ (told : Option (Told P)). lines_text (alone_of told)) reach lines lines' old new
+
+  abbrev pub BeginsOwnPiece : ℕ → (twins : TwinState P) → Plan → (twins' : TwinState P) → (lines : List ℕ) → (old new : Option (List ℕ)) → Type 0
+  BeginsOwnPiece h twins piece twins' lines old new = BeginsMade (AdvancesBoth rule h piece twins twins') (λ (told : Option (Told P)). lines_text (alone_of told)) lines old new
 
   -- a run stands at the beginning of a plan: no piece was performed, and there is a callback for each submission, of these rules
   pub record StartsPlan (setup : Setup) (plan : List Plan) (rules : List Rule) (run : PlanState P) (left : List P) : Type 0 where

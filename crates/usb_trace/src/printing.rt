@@ -82,8 +82,8 @@ fn print_piece<C: Callback, D: Device, W: Write>(
 ) -> Result<Reach, Fault>
     requires submits { is_submission piece.now ≡ true → is_some callback ≡ true }
     requires no_verdict { is_verdict piece.now ≡ false }
-    ensures printed { IfOk result (λ reach. PrintsPiece C.rule reach run.old piece.now callback run.new lines.old lines.new (W.contents out.old) (W.contents out.new)) }
-    ensures begun { OnErr result (BeginsPiece C.rule run.old piece.now callback run.new lines.old (W.contents out.old) (W.contents out.new)) }
+    ensures printed { IfOk result (λ reach. PrintsPiece C.rule lines_text reach run.old piece.now callback run.new lines.old lines.new (W.contents out.old) (W.contents out.new)) }
+    ensures begun { OnErr result (BeginsPiece C.rule lines_text run.old piece.now callback run.new lines.old (W.contents out.old) (W.contents out.new)) }
     ensures fault { IfErr result (λ fault. IsOfRun fault) }
 {
     match run.perform(piece, callback) {
@@ -95,8 +95,8 @@ fn print_piece<C: Callback, D: Device, W: Write>(
     }
 }
 
-/// Performs a piece of a plan by both runs, and puts the lines of what came of it alone behind the others; none where it
-/// isn't the handle's own. Nothing is put where memory is refused.
+/// Performs a piece of a plan by both runs, and puts the lines of what came of it alone behind the others; none where
+/// it isn't the handle's own. Nothing is put where memory is refused.
 fn print_own_piece<C: Callback, D: Device, W: Write>(
     twins: &mut Twins<C, D>,
     h: Name,
@@ -155,8 +155,8 @@ fn print_run<C: Callback, D: Device, W: Write>(
     write_rest(lines, out, Reach::End)
 }
 
-/// Performs the pieces of a plan by two runs that stand at its beginning, and prints the entries of the handle's own run
-/// as far as they come.
+/// Performs the pieces of a plan by two runs that stand at its beginning, and prints the entries of the handle's own
+/// run as far as they come.
 fn print_twins<C: Callback, D: Device, W: Write>(
     alloc: Global,
     twins: &mut Twins<C, D>,
@@ -179,8 +179,8 @@ fn print_twins<C: Callback, D: Device, W: Write>(
     write_rest(lines, out, Reach::End)
 }
 
-/// Prints the entries of a plan as far as its run over the core comes. Each line is gathered as its step is made, and no
-/// entry is kept.
+/// Prints the entries of a plan as far as its run over the core comes. Each line is gathered as its step is made, and
+/// no entry is kept.
 pub(crate) fn print_plan<C: Callback, D: Device, W: Write>(
     alloc: Global,
     parts: Parts<C, D>,
@@ -200,8 +200,8 @@ pub(crate) fn print_plan<C: Callback, D: Device, W: Write>(
     print_run(alloc, &mut run, &mut left, plan, out)
 }
 
-/// Prints a handle's entries alone over its own pieces of a plan, as far as two runs over cores come: one amid the others,
-/// which says what is the handle's own, and that of the handle. Each has parts of its own.
+/// Prints a handle's entries alone over its own pieces of a plan, as far as two runs over cores come: one amid the
+/// others, which says what is the handle's own, and that of the handle. Each has parts of its own.
 pub(crate) fn print_alone<C: Callback, D: Device, W: Write>(
     alloc: Global,
     parts: Parts<C, D>,

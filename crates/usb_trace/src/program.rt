@@ -51,8 +51,8 @@ enum Ending {
 }
 
 /// Runs the program on its words, of which the first is its name, and its input, and answers its status: 0, or 1 where
-/// it ended early or a check found bad lines, or 2 for bad words. However a task ends, what it wrote is a beginning of its
-/// text. Of a fault that ended it, the message stands on standard error, as far as that takes it.
+/// it ended early or a check found bad lines, or 2 for bad words. However a task ends, what it wrote is a beginning of
+/// its text. Of a fault that ended it, the message stands on standard error, as far as that takes it.
 pub fn trace<R: Read, W: Write, E: Write>(
     alloc: Global,
     words: &[&str],

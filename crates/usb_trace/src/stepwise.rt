@@ -9,7 +9,8 @@ ghost use Rattle.usb_purge.specs.PlanRuns.{entries_of, is_verdict};
 ghost use Rattle.usb_streams.specs.Faults.{IsOfRun};
 ghost use Rattle.usb_streams.specs.Printing.{AppendsSome};
 ghost use Rattle.usb_text.specs.StepLines.{numbered};
-ghost use Rattle.usb_trace.specs.Stepwise.{behind_line, piece_text, stepwise_text, BeginsBehind, PrintsBehind, PrintsText, Puts};
+ghost use Rattle.usb_trace.specs.Printed.{BeginsPiece, PrintsPiece, PrintsText, Puts};
+ghost use Rattle.usb_trace.specs.Stepwise.{behind_line, piece_text, stepwise_text};
 
 use crate::printing::{Parts, Reach, write_rest};
 use std::alloc::{AllocError, Global};
@@ -77,8 +78,8 @@ fn put_behind<C, W: Write>(
     Ok(Reach::End)
 }
 
-/// Performs a piece of a plan, and puts its entries behind the others, each behind the piece's line. Nothing is put where
-/// memory is refused.
+/// Performs a piece of a plan, and puts its entries behind the others, each behind the piece's line. Nothing is put
+/// where memory is refused.
 fn print_behind<C: Callback, D: Device, W: Write>(
     alloc: Global,
     run: &mut PlanRun<C, D>,
@@ -91,8 +92,8 @@ fn print_behind<C: Callback, D: Device, W: Write>(
 ) -> Result<Reach, Fault>
     requires submits { is_submission piece.now ≡ true → is_some callback ≡ true }
     requires no_verdict { is_verdict piece.now ≡ false }
-    ensures printed { IfOk result (λ reach. PrintsBehind C.rule reach (number, line.now) run.old piece.now callback run.new lines.old lines.new (W.contents out.old) (W.contents out.new)) }
-    ensures begun { OnErr result (BeginsBehind C.rule (number, line.now) run.old piece.now callback run.new lines.old (W.contents out.old) (W.contents out.new)) }
+    ensures printed { IfOk result (λ reach. PrintsPiece C.rule (piece_text (number, line.now)) reach run.old piece.now callback run.new lines.old lines.new (W.contents out.old) (W.contents out.new)) }
+    ensures begun { OnErr result (BeginsPiece C.rule (piece_text (number, line.now)) run.old piece.now callback run.new lines.old (W.contents out.old) (W.contents out.new)) }
     ensures fault { IfErr result (λ fault. IsOfRun fault) }
 {
     let Ok(performed) = run.perform(piece, callback) else {
@@ -111,8 +112,8 @@ fn line_of<'a>(step_lines: &[NumberedLine<'a>], at: usize) -> (u64, &'a [u8])
     (number, text)
 }
 
-/// Prints the entries of a plan as far as its run over the core comes, each behind its piece's line: there is a line for each
-/// piece, in order.
+/// Prints the entries of a plan as far as its run over the core comes, each behind its piece's line: there is a line
+/// for each piece, in order.
 pub(crate) fn print_stepwise<C: Callback, D: Device, W: Write>(
     alloc: Global,
     parts: Parts<C, D>,

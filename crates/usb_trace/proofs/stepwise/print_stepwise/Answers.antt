@@ -3,7 +3,8 @@ use Rattle.std.proofs.Common.{◌≡◌, ◌+◌, ◌<◌, [], ◌∷◌, inl, l
 use Rattle.std.specs.Vec.Iter.{into_iter_items}
 use Rattle.usb_state.specs.Making.{setup_of}
 use Rattle.usb_text.specs.StepLines.{numbered}
-use Rattle.usb_trace.specs.Stepwise.{PrintsBehind, stepwise_text}
+use Rattle.usb_trace.specs.Printed.{PrintsPiece}
+use Rattle.usb_trace.specs.Stepwise.{piece_text, stepwise_text}
 use Rattle.usb_trace.proofs.Lined.{ended_if, has_callback, line_first, none_yet, piece_begun, piece_put, rest_begun, stopped_begun, stopped_if}
 use Rattle.usb_trace.specs.declared.printing.Reach.TheVariants.{End, NoMemory}
 use Rattle.usb_trace.proofs.stepwise.print_stepwise.Goals as goal
@@ -36,7 +37,7 @@ returns-in-NoMemory-clause-lines g c =
     stopped_if g.C.Callback.rule (setup_of c.args.parts.setup) c.args.plan.now (stepwise_text (setup_of c.args.parts.setup) c.args.plan.now rules (map numbered c.args.step_lines.now)) (g.W.Write.contents c.args.out.now)
     c.write_rest.result c.loop-at.run c.loop-at.at (into_iter_items c.loop-at.left) (drop c.loop-at.at (map numbered c.args.step_lines.now)) c.loop-at.lines c.print_behind.new.lines (g.W.Write.contents c.loop-at.out) (g.W.Write.contents c.print_behind.new.out) (g.W.Write.contents c.write_rest.new.out)
     c.loop-at.invariant
-    (subst (λ reach. PrintsBehind g.C.Callback.rule reach (c.line_of-number.result.0, c.line_of-number.result.1.now) c.loop-at.run c.index-plan-at.result c.next_callback-callback.result c.print_behind.new.run c.loop-at.lines c.print_behind.new.lines (g.W.Write.contents c.loop-at.out) (g.W.Write.contents c.print_behind.new.out)) c.in-NoMemory.is c.in_ok-print_behind.ensures.printed)
+    (subst (λ reach. PrintsPiece g.C.Callback.rule (piece_text (c.line_of-number.result.0, c.line_of-number.result.1.now)) reach c.loop-at.run c.index-plan-at.result c.next_callback-callback.result c.print_behind.new.run c.loop-at.lines c.print_behind.new.lines (g.W.Write.contents c.loop-at.out) (g.W.Write.contents c.print_behind.new.out)) c.in-NoMemory.is c.in_ok-print_behind.ensures.printed)
     c.write_rest.ensures.reach c.write_rest.ensures.written
 
 pub returns-in-NoMemory-clause-begun : goal.returns-in-NoMemory-clause-begun
@@ -45,7 +46,7 @@ returns-in-NoMemory-clause-begun g c =
     stopped_begun g.C.Callback.rule (setup_of c.args.parts.setup) c.args.plan.now (stepwise_text (setup_of c.args.parts.setup) c.args.plan.now rules (map numbered c.args.step_lines.now)) (g.W.Write.contents c.args.out.now)
     c.loop-at.run c.loop-at.at (into_iter_items c.loop-at.left) (drop c.loop-at.at (map numbered c.args.step_lines.now)) c.loop-at.lines c.print_behind.new.lines (g.W.Write.contents c.loop-at.out) (g.W.Write.contents c.print_behind.new.out) (g.W.Write.contents c.write_rest.new.out)
     c.loop-at.invariant
-    (subst (λ reach. PrintsBehind g.C.Callback.rule reach (c.line_of-number.result.0, c.line_of-number.result.1.now) c.loop-at.run c.index-plan-at.result c.next_callback-callback.result c.print_behind.new.run c.loop-at.lines c.print_behind.new.lines (g.W.Write.contents c.loop-at.out) (g.W.Write.contents c.print_behind.new.out)) c.in-NoMemory.is c.in_ok-print_behind.ensures.printed)
+    (subst (λ reach. PrintsPiece g.C.Callback.rule (piece_text (c.line_of-number.result.0, c.line_of-number.result.1.now)) reach c.loop-at.run c.index-plan-at.result c.next_callback-callback.result c.print_behind.new.run c.loop-at.lines c.print_behind.new.lines (g.W.Write.contents c.loop-at.out) (g.W.Write.contents c.print_behind.new.out)) c.in-NoMemory.is c.in_ok-print_behind.ensures.printed)
     c.write_rest.ensures.begun
 
 pub loop-at-preserved : goal.loop-at-preserved
@@ -54,7 +55,7 @@ loop-at-preserved g c =
     piece_put g.C.Callback.rule (setup_of c.args.parts.setup) c.args.plan.now (stepwise_text (setup_of c.args.parts.setup) c.args.plan.now rules (map numbered c.args.step_lines.now)) (g.W.Write.contents c.args.out.now)
     c.loop-at.run c.print_behind.new.run c.loop-at.at (into_iter_items c.loop-at.left) (into_iter_items c.next_callback-callback.new.left) (drop c.loop-at.at (map numbered c.args.step_lines.now)) (drop (c.loop-at.at + 1) (map numbered c.args.step_lines.now))
     c.loop-at.lines c.print_behind.new.lines (g.W.Write.contents c.loop-at.out) (g.W.Write.contents c.print_behind.new.out) c.index-plan-at.result c.next_callback-callback.result (c.line_of-number.result.0, c.line_of-number.result.1.now) c.loop-at-test.true c.index-plan-at.is c.loop-at.invariant
-    (line_first c.args.step_lines.now c.loop-at.at (length c.args.plan.now) (c.line_of-number.result.0, c.line_of-number.result.1.now) c.loop-at-test.true c.requires.each c.line_of-number.ensures) c.next_callback-callback.ensures (subst (λ reach. PrintsBehind g.C.Callback.rule reach (c.line_of-number.result.0, c.line_of-number.result.1.now) c.loop-at.run c.index-plan-at.result c.next_callback-callback.result c.print_behind.new.run c.loop-at.lines c.print_behind.new.lines (g.W.Write.contents c.loop-at.out) (g.W.Write.contents c.print_behind.new.out)) c.in-End.is c.in_ok-print_behind.ensures.printed)
+    (line_first c.args.step_lines.now c.loop-at.at (length c.args.plan.now) (c.line_of-number.result.0, c.line_of-number.result.1.now) c.loop-at-test.true c.requires.each c.line_of-number.ensures) c.next_callback-callback.ensures (subst (λ reach. PrintsPiece g.C.Callback.rule (piece_text (c.line_of-number.result.0, c.line_of-number.result.1.now)) reach c.loop-at.run c.index-plan-at.result c.next_callback-callback.result c.print_behind.new.run c.loop-at.lines c.print_behind.new.lines (g.W.Write.contents c.loop-at.out) (g.W.Write.contents c.print_behind.new.out)) c.in-End.is c.in_ok-print_behind.ensures.printed)
 
 pub returns-clause-lines : goal.returns-clause-lines
 returns-clause-lines g c =
