@@ -93,45 +93,51 @@ has_subcommand_without_fault words e =
     level_wanted (built grammar).top (names_of (built grammar)) nothing_held (argument_words grammar words)
     (is_some (entered (built grammar) stop)) (entered_fault (built grammar) stop) refl refl e
 
--- of five shapes the one that is found is one of them
-found : (test : Shape → Bool) (x y z u v s : Shape) → find test (x ∷ y ∷ z ∷ u ∷ v ∷ []) ≡ Some s
-    → (s ≡ x) ⊎ ((s ≡ y) ⊎ ((s ≡ z) ⊎ ((s ≡ u) ⊎ (s ≡ v))))
-found test x y z u v s e = by_first (test x) refl
+-- of six shapes the one that is found is one of them
+found : (test : Shape → Bool) (x y z u v w s : Shape) → find test (x ∷ y ∷ z ∷ u ∷ v ∷ w ∷ []) ≡ Some s
+    → (s ≡ x) ⊎ ((s ≡ y) ⊎ ((s ≡ z) ⊎ ((s ≡ u) ⊎ ((s ≡ v) ⊎ (s ≡ w)))))
+found test x y z u v w s e = by_first (test x) refl
   where
-    by_fifth : (t : Bool) → test x ≡ false → test y ≡ false → test z ≡ false → test u ≡ false → test v ≡ t → (s ≡ x) ⊎ ((s ≡ y) ⊎ ((s ≡ z) ⊎ ((s ≡ u) ⊎ (s ≡ v))))
-    by_fifth true first second third fourth t = let got : Some v ≡ Some s = rw (first, second, third, fourth, t) at e in inr (inr (inr (inr (grind rules))))
-    by_fifth false first second third fourth t = let got : None ≡ Some s = rw (first, second, third, fourth, t) at e in cc
+    by_sixth : (t : Bool) → test x ≡ false → test y ≡ false → test z ≡ false → test u ≡ false → test v ≡ false → test w ≡ t → (s ≡ x) ⊎ ((s ≡ y) ⊎ ((s ≡ z) ⊎ ((s ≡ u) ⊎ ((s ≡ v) ⊎ (s ≡ w)))))
+    by_sixth true first second third fourth fifth t = let got : Some w ≡ Some s = rw (first, second, third, fourth, fifth, t) at e in inr (inr (inr (inr (inr (grind rules)))))
+    by_sixth false first second third fourth fifth t = let got : None ≡ Some s = rw (first, second, third, fourth, fifth, t) at e in cc
 
-    by_fourth : (t : Bool) → test x ≡ false → test y ≡ false → test z ≡ false → test u ≡ t → (s ≡ x) ⊎ ((s ≡ y) ⊎ ((s ≡ z) ⊎ ((s ≡ u) ⊎ (s ≡ v))))
+    by_fifth : (t : Bool) → test x ≡ false → test y ≡ false → test z ≡ false → test u ≡ false → test v ≡ t → (s ≡ x) ⊎ ((s ≡ y) ⊎ ((s ≡ z) ⊎ ((s ≡ u) ⊎ ((s ≡ v) ⊎ (s ≡ w)))))
+    by_fifth true first second third fourth t = let got : Some v ≡ Some s = rw (first, second, third, fourth, t) at e in inr (inr (inr (inr (inl (grind rules)))))
+    by_fifth false first second third fourth t = by_sixth (test w) first second third fourth t refl
+
+    by_fourth : (t : Bool) → test x ≡ false → test y ≡ false → test z ≡ false → test u ≡ t → (s ≡ x) ⊎ ((s ≡ y) ⊎ ((s ≡ z) ⊎ ((s ≡ u) ⊎ ((s ≡ v) ⊎ (s ≡ w)))))
     by_fourth true first second third t = let got : Some u ≡ Some s = rw (first, second, third, t) at e in inr (inr (inr (inl (grind rules))))
     by_fourth false first second third t = by_fifth (test v) first second third t refl
 
-    by_third : (t : Bool) → test x ≡ false → test y ≡ false → test z ≡ t → (s ≡ x) ⊎ ((s ≡ y) ⊎ ((s ≡ z) ⊎ ((s ≡ u) ⊎ (s ≡ v))))
+    by_third : (t : Bool) → test x ≡ false → test y ≡ false → test z ≡ t → (s ≡ x) ⊎ ((s ≡ y) ⊎ ((s ≡ z) ⊎ ((s ≡ u) ⊎ ((s ≡ v) ⊎ (s ≡ w)))))
     by_third true first second t = let got : Some z ≡ Some s = rw (first, second, t) at e in inr (inr (inl (grind rules)))
     by_third false first second t = by_fourth (test u) first second t refl
 
-    by_second : (t : Bool) → test x ≡ false → test y ≡ t → (s ≡ x) ⊎ ((s ≡ y) ⊎ ((s ≡ z) ⊎ ((s ≡ u) ⊎ (s ≡ v))))
-    by_second true other t = let got : Some y ≡ Some s = rw (other, t) at e in inr (inl (grind rules))
-    by_second false other t = by_third (test z) other t refl
+    by_second : (t : Bool) → test x ≡ false → test y ≡ t → (s ≡ x) ⊎ ((s ≡ y) ⊎ ((s ≡ z) ⊎ ((s ≡ u) ⊎ ((s ≡ v) ⊎ (s ≡ w)))))
+    by_second true first t = let got : Some y ≡ Some s = rw (first, t) at e in inr (inl (grind rules))
+    by_second false first t = by_third (test z) first t refl
 
-    by_first : (t : Bool) → test x ≡ t → (s ≡ x) ⊎ ((s ≡ y) ⊎ ((s ≡ z) ⊎ ((s ≡ u) ⊎ (s ≡ v))))
+    by_first : (t : Bool) → test x ≡ t → (s ≡ x) ⊎ ((s ≡ y) ⊎ ((s ≡ z) ⊎ ((s ≡ u) ⊎ ((s ≡ v) ⊎ (s ≡ w)))))
     by_first true t = let got : Some x ≡ Some s = rw t at e in inl (grind rules)
     by_first false t = by_second (test y) t refl
 
--- a subcommand's name is one of the five
-abbrev pub IsOneOfFive : Text → Type 0
-IsOneOfFive name = (name ≡ codes "run") ⊎ ((name ≡ codes "alone") ⊎ ((name ≡ codes "left") ⊎ ((name ≡ codes "check") ⊎ (name ≡ codes "draw"))))
+-- a subcommand's name is one of the six
+abbrev pub IsOneOfSix : Text → Type 0
+IsOneOfSix name =
+    (name ≡ codes "run") ⊎ ((name ≡ codes "alone") ⊎ ((name ≡ codes "live") ⊎ ((name ≡ codes "left") ⊎ ((name ≡ codes "check") ⊎ (name ≡ codes "draw")))))
 
 -- the subcommand that words name is one of them
-pub one_of_five : (words : List Text) (named : Text × List Row) → subcommand_of grammar words ≡ Some named → IsOneOfFive named.0
-one_of_five words named e = by_stop (walk (built grammar).top.rules (names_of (built grammar)) nothing_held (argument_words grammar words)).stopped e
+pub one_of_six : (words : List Text) (named : Text × List Row) → subcommand_of grammar words ≡ Some named → IsOneOfSix named.0
+one_of_six words named e = by_stop (walk (built grammar).top.rules (names_of (built grammar)) nothing_held (argument_words grammar words)).stopped e
   where
     by_found : (p : Text × List Text) (o : Option Shape) → find (λ s. answers_to p.0 (label_of s)) (built grammar).subs ≡ o
-        → option_map (λ s. rows_at s p.1) o ≡ Some named → IsOneOfFive named.0
+        → option_map (λ s. rows_at s p.1) o ≡ Some named → IsOneOfSix named.0
     by_found p None at same = cc
     by_found p (Some s) at same =
         let name : s.name ≡ named.0 = ap (λ (o : Option (Text × List Row)). unwrap_or (option_map (λ n. n.0) o) []) same in
-        elim (found (λ s. answers_to p.0 (label_of s)) (slice_index_or (built grammar).subs 0 s) (slice_index_or (built grammar).subs 1 s) (slice_index_or (built grammar).subs 2 s) (slice_index_or (built grammar).subs 3 s) (slice_index_or (built grammar).subs 4 s) s at) [
+        let sub : ℕ → Shape = λ i. slice_index_or (built grammar).subs i s in
+        elim (found (λ s. answers_to p.0 (label_of s)) (sub 0) (sub 1) (sub 2) (sub 3) (sub 4) (sub 5) s at) [
           | inl first ↦ inl (sym name ∙ ap (λ (t : Shape). t.name) first)
           | inr others ↦ elim others [
             | inl second ↦ inr (inl (sym name ∙ ap (λ (t : Shape). t.name) second))
@@ -139,13 +145,16 @@ one_of_five words named e = by_stop (walk (built grammar).top.rules (names_of (b
               | inl third ↦ inr (inr (inl (sym name ∙ ap (λ (t : Shape). t.name) third)))
               | inr rest ↦ elim rest [
                 | inl fourth ↦ inr (inr (inr (inl (sym name ∙ ap (λ (t : Shape). t.name) fourth))))
-                | inr fifth ↦ inr (inr (inr (inr (sym name ∙ ap (λ (t : Shape). t.name) fifth))))
+                | inr last ↦ elim last [
+                  | inl fifth ↦ inr (inr (inr (inr (inl (sym name ∙ ap (λ (t : Shape). t.name) fifth)))))
+                  | inr sixth ↦ inr (inr (inr (inr (inr (sym name ∙ ap (λ (t : Shape). t.name) sixth)))))
+                ]
               ]
             ]
           ]
         ]
 
-    by_stop : (o : Option (Text × List Text)) → entered (built grammar) o ≡ Some named → IsOneOfFive named.0
+    by_stop : (o : Option (Text × List Text)) → entered (built grammar) o ≡ Some named → IsOneOfSix named.0
     by_stop None same = cc
     by_stop (Some p) same = by_found p (find (λ s. answers_to p.0 (label_of s)) (built grammar).subs) refl same
 
@@ -189,25 +198,28 @@ asks_for name task says words m same is_name = by_rows (subcommand_rows_of m) re
 
 -- words without fault have one of the subcommands
 pub has_one : (words : List Text) (m : ArgMatches) (task : Task) → subcommand_rows_of m ≡ subcommand_of grammar words
-    → (subcommand_name_of m ≡ Some (codes "alone") → ⊥) → (subcommand_name_of m ≡ Some (codes "left") → ⊥)
+    → (subcommand_name_of m ≡ Some (codes "alone") → ⊥) → (subcommand_name_of m ≡ Some (codes "live") → ⊥) → (subcommand_name_of m ≡ Some (codes "left") → ⊥)
     → (subcommand_name_of m ≡ Some (codes "check") → ⊥) → (subcommand_name_of m ≡ Some (codes "draw") → ⊥) → (subcommand_name_of m ≡ Some (codes "run") → ⊥)
     → fault_of grammar words ≡ [] → task_of (subcommand_of grammar words) ≡ Some task
-has_one words m task same no_alone no_left no_check no_draw no_run clear = by_rows (subcommand_of grammar words) refl (has_subcommand_without_fault words clear)
+has_one words m task same no_alone no_live no_left no_check no_draw no_run clear = by_rows (subcommand_of grammar words) refl (has_subcommand_without_fault words clear)
   where
     name_is : (named : Text × List Row) (name : Text) → subcommand_of grammar words ≡ Some named → named.0 ≡ name → subcommand_name_of m ≡ Some name
     name_is named name at is = sym (name_of_rows (out-ArgMatches m).subcommand) ∙ ap (option_map (λ n. n.0)) (same ∙ at) ∙ ap Some is
 
     by_rows : (o : Option (Text × List Row)) → subcommand_of grammar words ≡ o → is_some o ≡ true → task_of (subcommand_of grammar words) ≡ Some task
     by_rows None at some = cc
-    by_rows (Some named) at some = elim (one_of_five words named at) [
+    by_rows (Some named) at some = elim (one_of_six words named at) [
       | inl run ↦ absurd (no_run (name_is named (codes "run") at run))
       | inr others ↦ elim others [
         | inl alone ↦ absurd (no_alone (name_is named (codes "alone") at alone))
         | inr more ↦ elim more [
-          | inl left ↦ absurd (no_left (name_is named (codes "left") at left))
-          | inr last ↦ elim last [
-            | inl check ↦ absurd (no_check (name_is named (codes "check") at check))
-            | inr draw ↦ absurd (no_draw (name_is named (codes "draw") at draw))
+          | inl live ↦ absurd (no_live (name_is named (codes "live") at live))
+          | inr rest ↦ elim rest [
+            | inl left ↦ absurd (no_left (name_is named (codes "left") at left))
+            | inr last ↦ elim last [
+              | inl check ↦ absurd (no_check (name_is named (codes "check") at check))
+              | inr draw ↦ absurd (no_draw (name_is named (codes "draw") at draw))
+            ]
           ]
         ]
       ]

@@ -10,7 +10,7 @@ use Rattle.clap.specs.declared.error.kind.ErrorKind.TheVariants as kind
 use Rattle.clap.proofs.OnLiterals.{clap_on_literals}
 use Rattle.usb_command.specs.CommandLine.{AreBad, AskFor, AskForHelp, grammar, task_of}
 use Rattle.usb_command.specs.declared.words.Task.{Task}
-use Rattle.usb_command.specs.declared.words.Task.TheVariants.{Run, Steps, Alone, Left, Check, Draw}
+use Rattle.usb_command.specs.declared.words.Task.TheVariants.{Run, Steps, Alone, Live, Left, Check, Draw}
 
 pub run_asks : (name : Text) → AskFor (name ∷ codes "run" ∷ []) Run
 unfolding clap_on_literals
@@ -19,6 +19,10 @@ run_asks name = (refl, refl)
 pub steps_ask : (name : Text) → AskFor (name ∷ codes "run" ∷ codes "--steps" ∷ []) Steps
 unfolding clap_on_literals
 steps_ask name = (refl, refl)
+
+pub live_asks : (name : Text) → AskFor (name ∷ codes "live" ∷ []) Live
+unfolding clap_on_literals
+live_asks name = (refl, refl)
 
 pub left_asks : (name : Text) → AskFor (name ∷ codes "left" ∷ []) Left
 unfolding clap_on_literals
@@ -35,6 +39,10 @@ draw_asks name = (refl, refl)
 pub check_of_a_file_is_bad : (name : Text) → AreBad (name ∷ codes "check" ∷ codes "1" ∷ [])
 unfolding clap_on_literals
 check_of_a_file_is_bad name = (kind.UnknownArgument, inl refl, λ e. cc)
+
+pub live_with_a_word_is_bad : (name : Text) → AreBad (name ∷ codes "live" ∷ codes "1" ∷ [])
+unfolding clap_on_literals
+live_with_a_word_is_bad name = (kind.UnknownArgument, inl refl, λ e. cc)
 
 pub left_with_a_word_is_bad : (name : Text) → AreBad (name ∷ codes "left" ∷ codes "1" ∷ [])
 unfolding clap_on_literals
@@ -88,6 +96,7 @@ abbrev is_alone : ℕ → Option Task → Bool
 is_alone h (Some (Alone k)) = nat_eq k h
 is_alone h (Some Run) = false
 is_alone h (Some Steps) = false
+is_alone h (Some Live) = false
 is_alone h (Some Left) = false
 is_alone h (Some Check) = false
 is_alone h (Some Draw) = false
@@ -97,6 +106,7 @@ is_alone_says : (h : ℕ) (task : Option Task) → is_alone h task ≡ true → 
 is_alone_says h (Some (Alone k)) e = ap (λ (n : ℕ). Some (Alone n)) (eqb-true k h e)
 is_alone_says h (Some Run) e = let bad : false ≡ true = e in cc
 is_alone_says h (Some Steps) e = let bad : false ≡ true = e in cc
+is_alone_says h (Some Live) e = let bad : false ≡ true = e in cc
 is_alone_says h (Some Left) e = let bad : false ≡ true = e in cc
 is_alone_says h (Some Check) e = let bad : false ≡ true = e in cc
 is_alone_says h (Some Draw) e = let bad : false ≡ true = e in cc

@@ -13,7 +13,7 @@ use Rattle.clap.specs.declared.error.kind.ErrorKind.{ErrorKind}
 use Rattle.clap.specs.declared.error.kind.ErrorKind.TheVariants.{DisplayHelp}
 use Rattle.usb_words.specs.Number.{last_handle}
 use Rattle.usb_command.specs.declared.words.Task.{Task}
-use Rattle.usb_command.specs.declared.words.Task.TheVariants.{Run, Steps, Alone, Left, Check, Draw}
+use Rattle.usb_command.specs.declared.words.Task.TheVariants.{Run, Steps, Alone, Live, Left, Check, Draw}
 
 -- the word H: a whole number from 0 to the last name, which has to be there
 abbrev pub handle_word : Rule
@@ -35,6 +35,10 @@ is_stepwise rows = option_map_or (λ text. bytes_eq text (codes "true")) (first_
 abbrev pub alone_words : Shape
 alone_words = record (new_shape (codes "alone")) { rules = handle_word ∷ [] }
 
+-- live
+abbrev pub live_words : Shape
+live_words = new_shape (codes "live")
+
 -- left
 abbrev pub left_words : Shape
 left_words = new_shape (codes "left")
@@ -47,7 +51,7 @@ check_words = new_shape (codes "check")
 abbrev pub draw_words : Shape
 draw_words = new_shape (codes "draw")
 
--- usbtrace, and then one of the five; there is no subcommand for help
+-- usbtrace, and then one of the six; there is no subcommand for help
 abbrev pub first_words : Shape
 first_words = record (new_shape (codes "usbtrace")) { is_leaf = false; disable_help_subcommand = true; subcommand_required = true }
 
@@ -57,11 +61,11 @@ program_alone = record { top = record first_words { is_leaf = true }; subs = [] 
 
 -- the command line with those subcommands alone that print entries
 abbrev pub program_of_runs : App
-program_of_runs = record { top = first_words; subs = run_words ∷ alone_words ∷ left_words ∷ [] }
+program_of_runs = record { top = first_words; subs = run_words ∷ alone_words ∷ live_words ∷ [] }
 
 -- the command line
 abbrev pub grammar : App
-grammar = record { top = first_words; subs = run_words ∷ alone_words ∷ left_words ∷ check_words ∷ draw_words ∷ [] }
+grammar = record { top = first_words; subs = run_words ∷ alone_words ∷ live_words ∷ left_words ∷ check_words ∷ draw_words ∷ [] }
 
 -- the number of the handle, as its word says it
 abbrev pub handle_in : List Row → Option ℕ
@@ -71,10 +75,11 @@ handle_in rows = option_map (λ text. digits_value 10 (without_leading_plus text
 abbrev pub task_named : Text → List Row → Option Task
 task_named name rows =
     if bytes_eq name (codes "alone") then option_map Alone (handle_in rows)
+    else (if bytes_eq name (codes "live") then Some Live
     else (if bytes_eq name (codes "left") then Some Left
     else (if bytes_eq name (codes "check") then Some Check
     else (if bytes_eq name (codes "draw") then Some Draw
-    else (if bytes_eq name (codes "run") then Some (if is_stepwise rows then Steps else Run) else None))))
+    else (if bytes_eq name (codes "run") then Some (if is_stepwise rows then Steps else Run) else None)))))
 
 -- the task of the subcommand that the words name
 abbrev pub task_of : Option (Text × List Row) → Option Task

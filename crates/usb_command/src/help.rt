@@ -44,6 +44,13 @@ pub(crate) const ALONE: &str = help_text!(
     "where a line is bad, memory is wanting or a stream fails"
 );
 
+/// The help of `live`.
+pub(crate) const LIVE: &str = help_text!(
+    "live",
+    "where all that callbacks were told is printed",
+    "where a line is bad, memory or a thread is wanting or a stream fails"
+);
+
 /// The help of `left`.
 pub(crate) const LEFT: &str = help_text!(
     "left",

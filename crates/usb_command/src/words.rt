@@ -9,7 +9,7 @@ ghost use Rattle.clap.specs.Matches.{found_of};
 ghost use Rattle.clap.specs.Simple.{app_of, shape_of};
 ghost use Rattle.clap.specs.declared.builder.command.Command.TheViews.{out-Command as fields_of};
 ghost use Rattle.clap.specs.Walk.{rows_of, rule_of};
-ghost use Rattle.usb_command.specs.CommandLine.{AskFor, alone_words, check_words, draw_words, grammar, handle_in, handle_word, is_stepwise, left_words, program_alone, program_of_runs, run_words, steps_word};
+ghost use Rattle.usb_command.specs.CommandLine.{AskFor, alone_words, check_words, draw_words, grammar, handle_in, handle_word, is_stepwise, left_words, live_words, program_alone, program_of_runs, run_words, steps_word};
 ghost use Rattle.usb_words.specs.Words.{words_of};
 ghost use Rattle.usb_command.specs.declared.words.Task.TheVariants.{Run, Steps};
 
@@ -28,6 +28,8 @@ pub enum Task {
     Steps,
     /// Print the entries of this handle alone.
     Alone(Name),
+    /// Run the scenario in threads, and print what its callbacks were told.
+    Live,
     /// Print what the run of the scenario leaves behind.
     Left,
     /// Print what is wrong with the scenario.
@@ -47,6 +49,9 @@ pub fn read_words(alloc: Global, words: &[&str]) -> Result<Task, Error>
     let matches = command(alloc)?.try_get_matches_from(words)?;
     if let Some(found) = matches.subcommand_matches("alone") {
         return Ok(Task::Alone(handle_of(found)?));
+    }
+    if matches.subcommand_matches("live").is_some() {
+        return Ok(Task::Live);
     }
     if matches.subcommand_matches("left").is_some() {
         return Ok(Task::Left);
@@ -69,6 +74,7 @@ fn command<'a>(alloc: Global) -> Result<Command<'a>, AllocError>
     ensures { IfOk result (λ command. app_of command ≡ grammar) }
 {
     runs(alloc)?
+        .subcommand(left(alloc))?
         .subcommand(check(alloc))?
         .subcommand(draw(alloc))
 }
@@ -80,7 +86,7 @@ fn runs<'a>(alloc: Global) -> Result<Command<'a>, AllocError>
     program(alloc)
         .subcommand(run(alloc)?)?
         .subcommand(alone(alloc)?)?
-        .subcommand(left(alloc))
+        .subcommand(live(alloc))
 }
 
 /// The program's name, with what holds for all its words.
@@ -153,6 +159,16 @@ fn alone<'a>(alloc: Global) -> Result<Command<'a>, AllocError>
         .about("Prints the entries of one handle, alone over its own steps")
         .after_help(help::ALONE)
         .arg(handle(alloc))
+}
+
+/// The words `live`.
+fn live<'a>(alloc: Global) -> Command<'a>
+    ensures words { shape_of result ≡ live_words }
+    ensures local { (fields_of result).has_globals ≡ false }
+{
+    Command::new(alloc, "live")
+        .about("Runs the scenario in threads, and prints what its callbacks were told")
+        .after_help(help::LIVE)
 }
 
 /// The words `left`.

@@ -1,4 +1,4 @@
-use Rattle.usb_command.proofs.WordsRead.{alone_asks, check_asks, check_of_a_file_is_bad, draw_asks, handle_64_is_bad, help_asks, help_is_no_word, leading_zeros_ask, left_with_a_word_is_bad, left_asks, no_handle_is_bad, no_words_are_bad, plus_sign_asks, run_asks, steps_ask, too_many_are_bad}
+use Rattle.usb_command.proofs.WordsRead.{alone_asks, check_asks, check_of_a_file_is_bad, draw_asks, handle_64_is_bad, help_asks, help_is_no_word, leading_zeros_ask, left_asks, left_with_a_word_is_bad, live_asks, live_with_a_word_is_bad, no_handle_is_bad, no_words_are_bad, plus_sign_asks, run_asks, steps_ask, too_many_are_bad}
 use Rattle.usb_command.proofs.laws.words.Goals as goal
 
 pub returns-clause-run : goal.returns-clause-run
@@ -39,6 +39,12 @@ returns-clause-check_of_a_file c = check_of_a_file_is_bad
 
 pub returns-clause-draw : goal.returns-clause-draw
 returns-clause-draw c = draw_asks
+
+pub returns-clause-live : goal.returns-clause-live
+returns-clause-live c = live_asks
+
+pub returns-clause-live_with_a_word : goal.returns-clause-live_with_a_word
+returns-clause-live_with_a_word c = live_with_a_word_is_bad
 
 pub returns-clause-left : goal.returns-clause-left
 returns-clause-left c = left_asks
