@@ -1,14 +1,18 @@
 -- What a task has written, however it ends.
-use Rattle.std.proofs.Common.{◌≡◌, ℕ, List, [], Option, Some, None, Result, Ok, Err, IfSome, refl, sym, subst}
+use Rattle.std.proofs.Common.{◌≡◌, ℕ, List, [], Option, Some, None, Result, Ok, Err, IfSome, refl, sym, subst, arith}
 use Rattle.std.specs.Io.KnownBytes.{Keeps}
+use Rattle.usb_model.specs.World.Journal.{journal, journal_from}
 use Rattle.usb_text.specs.Counts.{counts_of}
 use Rattle.usb_text.specs.Findings.{bad_lines, good_lines}
 use Rattle.usb_text.specs.Scenario.{scenario_of}
 use Rattle.usb_text.specs.declared.scenario.Scenario.{Scenario}
 use Rattle.usb_command.specs.declared.words.Task.{Task}
-use Rattle.usb_command.specs.declared.words.Task.TheVariants.{Run, Steps, Alone, Left, Check, Draw}
+use Rattle.usb_command.specs.declared.words.Task.TheVariants.{Run, Steps, Alone, Live, Left, Check, Draw}
 use Rattle.usb_streams.proofs.Beginnings.{none_yet}
 use Rattle.usb_streams.proofs.Findings.{no_report}
+use Rattle.std.proofs.lemmas.List.Sorted.{IsPermutation-refl}
+use Rattle.usb_liveplan.specs.Callbacks.{AreCallbacks}
+use Rattle.usb_trace.specs.Lived.{lived_of, AppendsSomeCallbacks, BeginsCallbacks}
 use Rattle.usb_trace.specs.Program.{alone_text, left_lines, run_text, steps_text, Begins, BeginsEntries, BeginsPicture}
 
 -- known bytes stay
@@ -26,11 +30,26 @@ no_picture : (said : Result Scenario ℕ) (old : Option (List ℕ)) → BeginsPi
 no_picture (Ok s) old = let none = none_yet [] old in (none.0, none.2)
 no_picture (Err line) old = keeps_same old
 
+-- where no step is made no callback is told anything
+none_told : (s : Scenario) → AreCallbacks s.setup [] []
+unfolding journal journal_from
+none_told s = record { all = IsPermutation-refl []; order = λ i j d low end. absurd (omega (arith, end)) }
+
+-- so nothing is a beginning of what callbacks are told
+pub none_begun : (s : Scenario) (old : Option (List ℕ)) → AppendsSomeCallbacks s old old
+none_begun s old = ([], [], none_told s, none_yet [] old)
+
+-- no callback was told anything, whatever the text says
+pub no_callbacks : (said : Result Scenario ℕ) (old : Option (List ℕ)) → BeginsCallbacks said old old
+no_callbacks (Ok s) old = none_begun s old
+no_callbacks (Err line) old = keeps_same old
+
 -- nothing is written
 nothing_of : (t : Task) (text : List ℕ) (old : Option (List ℕ)) → Begins t text old old
 nothing_of Run text old = no_entries run_text (scenario_of text) old
 nothing_of Steps text old = no_entries (steps_text text) (scenario_of text) old
 nothing_of (Alone h) text old = no_entries (alone_text h) (scenario_of text) old
+nothing_of Live text old = no_callbacks (lived_of text) old
 nothing_of Left text old = no_entries left_lines (scenario_of text) old
 nothing_of Check text old = no_report (bad_lines text) (counts_of (good_lines text)) old
 nothing_of Draw text old = no_picture (scenario_of text) old

@@ -3,3 +3,4 @@ mod Begun
 mod Making
 mod Printed
 mod Lined
+mod Unlived

@@ -19,12 +19,14 @@ use Rattle.usb_streams.specs.Faults.{message_of}
 use Rattle.usb_streams.specs.Input.{longest_input}
 use Rattle.usb_streams.specs.declared.fault.Fault.{Fault}
 use Rattle.usb_streams.specs.declared.fault.Fault.TheVariants.{Line, Memory, InputOutput}
-use Rattle.usb_trace.specs.Program.{status_of, Begins, IsDone, IsReported, Performs, TellsWhy}
+use Rattle.usb_text.specs.declared.scenario.Scenario.{Scenario}
+use Rattle.usb_trace.specs.Lived.{earlier, first_unlived}
+use Rattle.usb_trace.specs.Program.{scenario_for, status_of, Begins, IsDone, IsReported, Performs, TellsWhy}
 use Rattle.usb_trace.specs.declared.program.Ending.{Ending}
 use Rattle.usb_trace.specs.declared.program.Ending.TheVariants.{Good, BadLines}
 use Rattle.usb_trace.proofs.Begun.{keeps_same, nothing_begun}
 use Rattle.usb_command.specs.declared.words.Task.{Task}
-use Rattle.usb_command.specs.declared.words.Task.TheVariants.{Check}
+use Rattle.usb_command.specs.declared.words.Task.TheVariants.{Run, Steps, Alone, Live, Left, Check, Draw}
 use Rattle.usb_text.specs.declared.findings.Counts.{Counts}
 use Rattle.usb_text.specs.declared.findings.Finding.{Finding}
 use Rattle.usb_streams.specs.Printing.{finding_text, counts_line, AppendsReport, AppendsSome}
@@ -53,9 +55,25 @@ all_good text bad counts old new numbers said empty short written =
       subst (λ (c : Counts). Appends old new (counts_line c)) said line,
     )
 
+-- where nothing is unlived, what is read is the scenario
+earlier_good : (o : Option ℕ) (said : Result Scenario ℕ) (s : Scenario) → earlier o said ≡ Ok s → said ≡ Ok s
+earlier_good None said s e = e
+earlier_good (Some at) (Ok other) s e = cc
+earlier_good (Some at) (Err line) s e = cc
+
+-- the scenario that a task reads is that of the text
+said_for : (t : Task) (text : List ℕ) (s : Scenario) → scenario_for t text ≡ Ok s → scenario_of text ≡ Ok s
+said_for Run text s e = e
+said_for Steps text s e = e
+said_for (Alone h) text s e = e
+said_for Live text s e = earlier_good (first_unlived 1 (slice_split (λ b. b == 10) text)) (scenario_of text) s e
+said_for Left text s e = e
+said_for Check text s e = e
+said_for Draw text s e = e
+
 -- a check of a text with a bad line isn't done
 done_is_good : (t : Task) (text : List ℕ) (old new : Option (List ℕ)) → IsDone t text old new → bad_lines text ≡ []
-done_is_good t text old new done = scenario_good 1 nothing_said done.0 (slice_split (λ b. b == 10) text) done.1
+done_is_good t text old new done = scenario_good 1 nothing_said done.0 (slice_split (λ b. b == 10) text) (said_for t text done.0 done.1)
 
 -- a status of 1 isn't 0
 not_zero : (status : ℕ) → status ≡ 1 → status ≢ 0
@@ -82,7 +100,7 @@ reported words (Some text) t old new asks ends = (subst (λ (x : Task). AskFor w
 
 -- a line that ended a run is the text's first bad line
 line_of : (input : Option (List ℕ)) (t : Task) (line : ℕ) (old new : Option (List ℕ)) → IfSome input (λ text. Performs t text old new (Err (Line line)))
-    → IfSome input (λ text. (scenario_of text ≡ Err line) × (t ≢ Check))
+    → IfSome input (λ text. (scenario_for t text ≡ Err line) × (t ≢ Check))
 line_of None t line old new ends = tt
 line_of (Some text) t line old new ends = (ends.0, ends.2)
 

@@ -1,4 +1,5 @@
 pub mod Stepwise
+pub mod Lived
 pub mod Program
 pub mod Printed
 pub use Rattle.usb_command.specs.CommandLine

@@ -28,6 +28,7 @@ use Rattle.usb_text.specs.StepLines.{step_lines}
 use Rattle.usb_left.specs.Left.{all_left}
 use Rattle.usb_left.specs.LeftText.{lines_left}
 use Rattle.usb_trace.specs.Stepwise.{stepwise_text}
+use Rattle.usb_trace.specs.Lived.{lived_of, AppendsCallbacks, BeginsCallbacks}
 
 -- the steps of a scenario: those that its plan stands for under its rules
 abbrev pub steps_of : Scenario → List Step
@@ -53,18 +54,29 @@ left_lines s = lines_left (all_left s.setup (world_from s.setup (new_world s.set
 abbrev pub AppendsAny : Option (List ℕ) → Option (List ℕ) → Type 0
 AppendsAny old new = (text : List ℕ) × Appends old new text
 
--- what a task writes of the scenario of a text: all entries, perhaps behind their lines, those of one handle alone, what is left behind, how much the scenario says, or a picture, of which no more is said
+-- the scenario that a task reads in a text
+abbrev pub scenario_for : Task → List ℕ → Result Scenario ℕ
+scenario_for task.Run text = scenario_of text
+scenario_for task.Steps text = scenario_of text
+scenario_for (task.Alone h) text = scenario_of text
+scenario_for task.Live text = lived_of text
+scenario_for task.Left text = scenario_of text
+scenario_for task.Check text = scenario_of text
+scenario_for task.Draw text = scenario_of text
+
+-- what a task writes of the scenario of a text: all entries, perhaps behind their lines, those of one handle alone, what callbacks were told in threads, what is left behind, how much the scenario says, or a picture, of which no more is said
 abbrev pub Writes : Task → List ℕ → Scenario → Option (List ℕ) → Option (List ℕ) → Type 0
 Writes task.Run text s old new = Appends old new (run_text s)
 Writes task.Steps text s old new = Appends old new (steps_text text s)
 Writes (task.Alone h) text s old new = Appends old new (alone_text h s)
+Writes task.Live text s old new = AppendsCallbacks s old new
 Writes task.Left text s old new = Appends old new (left_lines s)
 Writes task.Check text s old new = Appends old new (counts_line (counts_of s))
 Writes task.Draw text s old new = AppendsAny old new
 
 -- what a task does that ends well: the text is a scenario of the longest length at most, and what the task makes of it is written
 abbrev pub IsDone : Task → List ℕ → Option (List ℕ) → Option (List ℕ) → Type 0
-IsDone t text old new = (s : Scenario) × (scenario_of text ≡ Ok s) × (length text ≤ longest_input) × Writes t text s old new
+IsDone t text old new = (s : Scenario) × (scenario_for t text ≡ Ok s) × (length text ≤ longest_input) × Writes t text s old new
 
 -- what a check does that finds bad lines: a line with the number of each is written, and then how much the good ones say
 abbrev pub IsReported : List ℕ → Option (List ℕ) → Option (List ℕ) → Type 0
@@ -74,7 +86,7 @@ IsReported text old new = (bad_lines text ≢ []) × (length text ≤ longest_in
 abbrev pub Performs : Task → List ℕ → Option (List ℕ) → Option (List ℕ) → Result Ending Fault → Type 0
 Performs t text old new (Ok Good) = IsDone t text old new
 Performs t text old new (Ok BadLines) = (t ≡ task.Check) × IsReported text old new
-Performs t text old new (Err (Line line)) = (scenario_of text ≡ Err line) × Keeps old new × (t ≢ task.Check)
+Performs t text old new (Err (Line line)) = (scenario_for t text ≡ Err line) × Keeps old new × (t ≢ task.Check)
 Performs t text old new (Err Memory) = ⊤
 Performs t text old new (Err InputOutput) = ⊤
 
@@ -93,13 +105,14 @@ abbrev pub Begins : Task → List ℕ → Option (List ℕ) → Option (List ℕ
 Begins task.Run text old new = BeginsEntries run_text (scenario_of text) old new
 Begins task.Steps text old new = BeginsEntries (steps_text text) (scenario_of text) old new
 Begins (task.Alone h) text old new = BeginsEntries (alone_text h) (scenario_of text) old new
+Begins task.Live text old new = BeginsCallbacks (lived_of text) old new
 Begins task.Left text old new = BeginsEntries left_lines (scenario_of text) old new
 Begins task.Check text old new = AppendsSomeReport (bad_lines text) (counts_of (good_lines text)) old new
 Begins task.Draw text old new = BeginsPicture (scenario_of text) old new
 
--- whether this fault may be what ended a run with these words over this input: a line is one where the words ask for entries and it is the text's first bad line; memory and streams may fail always
+-- whether this fault may be what ended a run with these words over this input: a line is one where the words ask for something else than a check and it is the first that is bad for that; memory and streams may fail always
 abbrev pub MayEnd : List Text → Option (List ℕ) → Fault → Type 0
-MayEnd words input (Line line) = (t : Task) × AskFor words t × IfSome input (λ text. (scenario_of text ≡ Err line) × (t ≢ task.Check))
+MayEnd words input (Line line) = (t : Task) × AskFor words t × IfSome input (λ text. (scenario_for t text ≡ Err line) × (t ≢ task.Check))
 MayEnd words input Memory = ⊤
 MayEnd words input InputOutput = ⊤
 

@@ -20,12 +20,15 @@ ghost use Rattle.usb_trace.specs.Stepwise.{stepwise_text};
 
 use crate::devices::{callbacks_of, devices_of, parts_of};
 use crate::drawing::draw;
+use crate::live::live;
 use crate::printing::{Reach, print_alone, print_plan};
 use crate::stepwise::print_stepwise;
 use clap::Error;
 use clap::error::ErrorKind;
 use std::alloc::Global;
 use std::io::{Read, Write};
+use std::sync::Wait;
+use std::thread::Threads;
 use usb_command::{Task, read_words};
 use usb_left::{left_behind, lines_of};
 use usb_model::{Name, Sequence};
@@ -43,7 +46,7 @@ const BAD_WORDS: u8 = 2;
 
 /// How a task ends that no fault ends.
 #[derive(Clone, Copy, PartialEq, Eq, Debug)]
-enum Ending {
+pub(crate) enum Ending {
     /// Each line of the input was taken, and the task is done.
     Good,
     /// A check found bad lines, and told of them.
@@ -52,8 +55,10 @@ enum Ending {
 
 /// Runs the program on its words, of which the first is its name, and its input, and answers its status: 0, or 1 where
 /// it ended early or a check found bad lines, or 2 for bad words. However a task ends, what it wrote is a beginning of
-/// its text. Of a fault that ended it, the message stands on standard error, as far as that takes it.
-pub fn trace<R: Read, W: Write, E: Write>(
+/// its text. Of a fault that ended it, the message stands on standard error, as far as that takes it. The threads of a
+/// run in threads are those of `rt`.
+pub fn trace<T: Threads + Wait + Sync, R: Read, W: Write, E: Write>(
+    rt: &T,
     alloc: Global,
     words: &[&str],
     input: &mut R,
@@ -79,7 +84,7 @@ pub fn trace<R: Read, W: Write, E: Write>(
 {
     match read_words(alloc, words) {
         Ok(task) => {
-            let ended = perform(alloc, task, input, out);
+            let ended = perform(rt, alloc, task, input, out);
             status_of(ended, err)
         }
         Err(error) => answer(&error, out, err),
@@ -119,7 +124,8 @@ fn status_of<E: Write>(ended: Result<Ending, Fault>, err: &mut E) -> u8
 
 /// Reads the input and does the task.
 #[tactic(auto, using(crate::proofs::Begun::nothing_begun))]
-fn perform<R: Read, W: Write>(
+fn perform<T: Threads + Wait + Sync, R: Read, W: Write>(
+    rt: &T,
     alloc: Global,
     task: Task,
     input: &mut R,
@@ -133,12 +139,13 @@ fn perform<R: Read, W: Write>(
     match task {
         Task::Run => run(alloc, read_scenario(alloc, text.as_slice())?, out),
         Task::Steps => run_steps(alloc, text.as_slice(), out),
-        Task::Left => print_left(alloc, read_scenario(alloc, text.as_slice())?, out),
         Task::Alone(h) => {
             let Scenario { setup, .. } = read_scenario(alloc, text.as_slice())?;
             let scenario = read_scenario(alloc, text.as_slice())?;
             run_alone(alloc, scenario, setup, h, out)
         }
+        Task::Live => live(rt, alloc, text.as_slice(), out),
+        Task::Left => print_left(alloc, read_scenario(alloc, text.as_slice())?, out),
         Task::Check => report(alloc, text.as_slice(), out),
         Task::Draw => draw_run(alloc, read_scenario(alloc, text.as_slice())?, out),
     }

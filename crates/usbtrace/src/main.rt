@@ -26,25 +26,32 @@ fn texts<'a>(alloc: Global, words: &'a [String]) -> Result<Vec<&'a str>, AllocEr
     Ok(texts)
 }
 
-/// The status of a run over the process's words and streams.
-fn status(rt: &HostRuntime) -> io::Result<u8> {
-    let alloc = rt.alloc();
-    let words: Vec<String> = env::args(rt)?.collect(alloc)?;
-    let texts = texts(alloc, words.as_slice())?;
-    let (mut input, mut out, mut err) = (rt.stdin(), rt.stdout(), rt.stderr());
-    Ok(trace(alloc, texts.as_slice(), &mut input, &mut out, &mut err))
+/// The process's words.
+fn words(rt: &HostRuntime) -> io::Result<Vec<String>> {
+    Ok(env::args(rt)?.collect(rt.alloc())?)
+}
+
+/// Says why there are no words.
+fn refuse(rt: &HostRuntime, error: &io::Error) -> ExitCode {
+    if error.kind() == io::ErrorKind::OutOfMemory {
+        let _ = eprintln!(rt; "usbtrace: out of memory");
+        return ExitCode::FAILURE;
+    }
+    let _ = eprintln!(rt; "usbtrace: a word isn't UTF-8");
+    ExitCode::from(BAD_WORDS)
 }
 
 fn main(rt: HostRuntime) -> ExitCode {
-    match status(&rt) {
-        Ok(status) => ExitCode::from(status),
-        Err(error) if error.kind() == io::ErrorKind::OutOfMemory => {
-            let _ = eprintln!(rt; "usbtrace: out of memory");
-            ExitCode::FAILURE
-        }
-        Err(_) => {
-            let _ = eprintln!(rt; "usbtrace: a word isn't UTF-8");
-            ExitCode::from(BAD_WORDS)
-        }
-    }
+    let alloc = rt.alloc();
+    let words = match words(&rt) {
+        Ok(words) => words,
+        Err(error) => return refuse(&rt, &error),
+    };
+    let Ok(texts) = texts(alloc, words.as_slice()) else {
+        let _ = eprintln!(rt; "usbtrace: out of memory");
+        return ExitCode::FAILURE;
+    };
+    let (mut input, mut out, mut err) = (rt.stdin(), rt.stdout(), rt.stderr());
+    let status = trace(&rt, alloc, texts.as_slice(), &mut input, &mut out, &mut err);
+    ExitCode::from(status)
 }

@@ -3,6 +3,8 @@
 use super::texts::Part::{Once, Times};
 use super::texts::{End, Part, ends};
 use std::alloc::Global;
+use std::sync::Wait;
+use std::thread::Threads;
 
 const WORDS: &[&str] = &["usbtrace", "run"];
 
@@ -88,22 +90,34 @@ open 1 3
 ";
 
 /// Whether nothing comes of a scenario but this.
-fn only_says(alloc: Global, text: &[Part], said: &'static str) -> bool {
+fn only_says<X: Threads + Wait + Sync>(
+    rt: &X,
+    alloc: Global,
+    text: &[Part],
+    said: &'static str,
+) -> bool {
     let end = End {
         status: 1,
         out: &[],
         err: &[Once(said)],
     };
-    ends(alloc, WORDS, text, 4096, &end)
+    ends(rt, alloc, WORDS, text, 4096, &end)
 }
 
 /// Whether this is said of a line behind four others.
-fn is_said(alloc: Global, before: &'static str, line: &'static str, said: &'static str) -> bool {
-    only_says(alloc, &[Once(before), Once(line), BEHIND], said)
+fn is_said<X: Threads + Wait + Sync>(
+    rt: &X,
+    alloc: Global,
+    before: &'static str,
+    line: &'static str,
+    said: &'static str,
+) -> bool {
+    only_says(rt, alloc, &[Once(before), Once(line), BEHIND], said)
 }
 
 /// The first of these lines, with what is wrong, of which something else is said.
-fn first_to_differ(
+fn first_to_differ<X: Threads + Wait + Sync>(
+    rt: &X,
     alloc: Global,
     before: &'static str,
     lines: &'static str,
@@ -111,7 +125,7 @@ fn first_to_differ(
 ) -> Option<&'static str> {
     for case in lines.lines() {
         let (line, _) = case.split_once(" => ").unwrap_or((case, ""));
-        if !is_said(alloc, before, line, said) {
+        if !is_said(rt, alloc, before, line, said) {
             return Some(case);
         }
     }
@@ -159,24 +173,31 @@ const OTHER_SCRIPTS: &str = "script 0 02 n\nscript 0 83 n";
 #[test]
 fn a_bad_line_is_refused_at_its_number(rt: HostRuntime) {
     let alloc = rt.alloc();
-    let first = first_to_differ(alloc, BEFORE, BAD, LINE_5)
-        .or(first_to_differ(alloc, SETUP, BAD_SETUP, LINE_5))
-        .or(first_to_differ(alloc, OTHER_KINDS, OTHER_SCRIPTS, LINE_5))
-        .or(first_to_differ(alloc, SETUP, "script 0 83 n => a second script", LINE_5));
+    let first = first_to_differ(&rt, alloc, BEFORE, BAD, LINE_5)
+        .or(first_to_differ(&rt, alloc, SETUP, BAD_SETUP, LINE_5))
+        .or(first_to_differ(&rt, alloc, OTHER_KINDS, OTHER_SCRIPTS, LINE_5))
+        .or(first_to_differ(
+            &rt,
+            alloc,
+            SETUP,
+            "script 0 83 n => a second script",
+            LINE_5,
+        ));
     assert_eq!(rt; first, None);
 }
 
 #[test]
 fn a_good_line_is_taken(rt: HostRuntime) {
     let alloc = rt.alloc();
-    let first = first_to_differ(alloc, BEFORE, GOOD, LINE_7)
-        .or(first_to_differ(alloc, SETUP, "script 0 81 n", LINE_7))
-        .or(first_to_differ(alloc, OTHER_KINDS, "open 1 0", LINE_7));
+    let first = first_to_differ(&rt, alloc, BEFORE, GOOD, LINE_7)
+        .or(first_to_differ(&rt, alloc, SETUP, "script 0 81 n", LINE_7))
+        .or(first_to_differ(&rt, alloc, OTHER_KINDS, "open 1 0", LINE_7));
     assert_eq!(rt; first, None);
 }
 
 /// Whether this is said of a line of a part so many times, behind four others.
-fn is_said_of_many(
+fn is_said_of_many<X: Threads + Wait + Sync>(
+    rt: &X,
     alloc: Global,
     front: &'static str,
     count: u32,
@@ -184,14 +205,14 @@ fn is_said_of_many(
     said: &'static str,
 ) -> bool {
     let text = [Once(SETUP), Once(front), Times(count, part), BEHIND];
-    only_says(alloc, &text, said)
+    only_says(rt, alloc, &text, said)
 }
 
 #[test]
 fn a_script_has_4096_answers_and_a_packet_2048_bytes_at_most(rt: HostRuntime) {
     let alloc = rt.alloc();
-    assert!(rt; is_said_of_many(alloc, "script 0 81", 4096, " n", LINE_7));
-    assert!(rt; is_said_of_many(alloc, "script 0 81", 4097, " n", LINE_5));
-    assert!(rt; is_said_of_many(alloc, "script 0 81 d:", 2048, "5a", LINE_7));
-    assert!(rt; is_said_of_many(alloc, "script 0 81 d:", 2049, "5a", LINE_5));
+    assert!(rt; is_said_of_many(&rt, alloc, "script 0 81", 4096, " n", LINE_7));
+    assert!(rt; is_said_of_many(&rt, alloc, "script 0 81", 4097, " n", LINE_5));
+    assert!(rt; is_said_of_many(&rt, alloc, "script 0 81 d:", 2048, "5a", LINE_7));
+    assert!(rt; is_said_of_many(&rt, alloc, "script 0 81 d:", 2049, "5a", LINE_5));
 }

@@ -4,17 +4,25 @@ use super::fakes::{Input, run};
 use super::texts::Part::{Once, Times};
 use super::texts::{End, Part, ends};
 use std::alloc::Global;
+use std::sync::Wait;
+use std::thread::Threads;
 
 const CHECK: &[&str] = &["usbtrace", "check"];
 
 /// Whether a check of a text writes this, and nothing on standard error.
-fn checks_as(alloc: Global, text: &[Part], status: u8, out: &[Part]) -> bool {
+fn checks_as<X: Threads + Wait + Sync>(
+    rt: &X,
+    alloc: Global,
+    text: &[Part],
+    status: u8,
+    out: &[Part],
+) -> bool {
     let end = End {
         status,
         out,
         err: &[],
     };
-    ends(alloc, CHECK, text, 61, &end)
+    ends(rt, alloc, CHECK, text, 61, &end)
 }
 
 /// A device and a script, before the line in question and others.
@@ -34,7 +42,8 @@ open 1 0
 ";
 
 /// Whether this is said of a line before and behind such lines, before and behind such words.
-fn is_said(
+fn is_said<X: Threads + Wait + Sync>(
+    rt: &X,
     alloc: Global,
     line: &'static str,
     lines: [&'static str; 2],
@@ -43,6 +52,7 @@ fn is_said(
 ) -> bool {
     let ([before, behind], [front, back]) = (lines, words);
     checks_as(
+        rt,
         alloc,
         &[Once(before), Once(line), Once(behind)],
         1,
@@ -52,7 +62,8 @@ fn is_said(
 
 /// The first of these lines of which something else is said than stands behind its `=>`. It stands before and behind
 /// such lines, and what is said of it before and behind such words.
-fn first_to_differ(
+fn first_to_differ<X: Threads + Wait + Sync>(
+    rt: &X,
     alloc: Global,
     cases: &'static str,
     lines: [&'static str; 2],
@@ -60,7 +71,7 @@ fn first_to_differ(
 ) -> Option<&'static str> {
     for case in cases.lines() {
         let (line, sentence) = case.split_once(" => ").unwrap_or((case, ""));
-        if !is_said(alloc, line, lines, sentence, words) {
+        if !is_said(rt, alloc, line, lines, sentence, words) {
             return Some(case);
         }
     }
@@ -146,10 +157,10 @@ fn each_bad_line_has_its_sentence(rt: HostRuntime) {
         "line 1: the descriptor is refused: ",
         "\n0 devices, 0 scripts, 0 steps\n",
     ];
-    let first = first_to_differ(alloc, STEPS, step, told)
-        .or(first_to_differ(alloc, FORMS, step, form))
-        .or(first_to_differ(alloc, SETUPS, setup, of_setup))
-        .or(first_to_differ(alloc, DESCRIPTORS, descriptor, refused));
+    let first = first_to_differ(&rt, alloc, STEPS, step, told)
+        .or(first_to_differ(&rt, alloc, FORMS, step, form))
+        .or(first_to_differ(&rt, alloc, SETUPS, setup, of_setup))
+        .or(first_to_differ(&rt, alloc, DESCRIPTORS, descriptor, refused));
     assert_eq!(rt; first, None);
 }
 
@@ -162,12 +173,13 @@ fn a_packet_past_2048_bytes_is_told(rt: HostRuntime) {
         Once("\nscript 0 02 a\n"),
     ];
     let said = [Once("line 5: a packet has at most 2048 bytes\n1 device, 2 scripts, 0 steps\n")];
-    assert!(rt; checks_as(rt.alloc(), &text, 1, &said));
+    assert!(rt; checks_as(&rt, rt.alloc(), &text, 1, &said));
 }
 
 #[test]
 fn a_byte_past_ascii_is_told(rt: HostRuntime) {
     let outcome = run(
+        &rt,
         rt.alloc(),
         CHECK,
         Input::new(b"#\xff\nopen 1 0\xc3\xa9\n", 4),

@@ -21,6 +21,7 @@ return 1 0
 #[test]
 fn a_run_is_drawn_whole_or_not_at_all(rt: HostRuntime) {
     let drawn = run(
+        &rt,
         rt.alloc(),
         &["usbtrace", "draw"],
         Input::new(CANCELLED.as_bytes(), 100),
@@ -30,6 +31,7 @@ fn a_run_is_drawn_whole_or_not_at_all(rt: HostRuntime) {
         assert!(rt; drawn.shows(part), "{part}");
     }
     let bad = run(
+        &rt,
         rt.alloc(),
         &["usbtrace", "draw"],
         Input::new(b"open 1 0\nno line\n", 100),

@@ -3,6 +3,8 @@
 use super::fakes::{Comment, Input, Output, run, run_into};
 use std::alloc::Global;
 use std::io::ErrorKind;
+use std::sync::Wait;
+use std::thread::Threads;
 
 const WORDS: &[&str] = &["usbtrace", "run"];
 
@@ -10,8 +12,8 @@ const WORDS: &[&str] = &["usbtrace", "run"];
 const LONGEST: usize = 67_108_864;
 
 /// Whether a line of this input is refused.
-fn refuses(alloc: Global, input: &[u8], said: &str) -> bool {
-    run(alloc, WORDS, Input::new(input, 4)).only_says(1, said)
+fn refuses<X: Threads + Wait + Sync>(rt: &X, alloc: Global, input: &[u8], said: &str) -> bool {
+    run(rt, alloc, WORDS, Input::new(input, 4)).only_says(1, said)
 }
 
 /// A worked row that is no text, as the others are.
@@ -25,18 +27,25 @@ open 1 0\xe9
 #[test]
 fn bytes_past_ascii_stand_in_comments_alone(rt: HostRuntime) {
     let text = b"# caf\xc3\xa9 \xff\x00\x80\nopen 1 0\n#\xff";
-    let outcome = run(rt.alloc(), WORDS, Input::new(text, 4));
+    let outcome = run(&rt, rt.alloc(), WORDS, Input::new(text, 4));
     assert!(rt; outcome.is(0, "h1 refused 3\n", ""));
     let second = "usbtrace: line 2 refused\n";
-    assert!(rt; refuses(rt.alloc(), b"#\xff\n\xc3\xa9\n", second));
-    assert!(rt; refuses(rt.alloc(), b"#\xff\nopen 1 0\x80\n", second));
+    assert!(rt; refuses(&rt, rt.alloc(), b"#\xff\n\xc3\xa9\n", second));
+    assert!(rt; refuses(&rt, rt.alloc(), b"#\xff\nopen 1 0\x80\n", second));
     let fourth = "usbtrace: line 4 refused\n";
-    assert!(rt; refuses(rt.alloc(), A_BYTE_PAST_ASCII, fourth));
+    assert!(rt; refuses(&rt, rt.alloc(), A_BYTE_PAST_ASCII, fourth));
 }
 
 /// Whether a run over a comment of so many bytes answers this status and says this.
-fn ends_over_a_comment(alloc: Global, bytes: usize, status: u8, said: &str) -> bool {
+fn ends_over_a_comment<X: Threads + Wait + Sync>(
+    rt: &X,
+    alloc: Global,
+    bytes: usize,
+    status: u8,
+    said: &str,
+) -> bool {
     let outcome = run_into(
+        rt,
         alloc,
         WORDS,
         &mut Comment::new(bytes),
@@ -48,7 +57,7 @@ fn ends_over_a_comment(alloc: Global, bytes: usize, status: u8, said: &str) -> b
 
 #[test]
 fn the_longest_input_is_taken_and_none_longer(rt: HostRuntime) {
-    assert!(rt; ends_over_a_comment(rt.alloc(), LONGEST, 0, ""));
+    assert!(rt; ends_over_a_comment(&rt, rt.alloc(), LONGEST, 0, ""));
     let said = "usbtrace: input or output failed\n";
-    assert!(rt; ends_over_a_comment(rt.alloc(), LONGEST + 1, 1, said));
+    assert!(rt; ends_over_a_comment(&rt, rt.alloc(), LONGEST + 1, 1, said));
 }

@@ -3,6 +3,8 @@
 use std::alloc::Global;
 use std::io;
 use std::io::{ErrorKind, Read, Write};
+use std::sync::Wait;
+use std::thread::Threads;
 use usb_trace::trace;
 
 /// Gives bytes a few at a time, and then fails or ends.
@@ -168,8 +170,14 @@ impl Outcome {
 }
 
 /// Runs the program over the streams, each with as much room as there is.
-pub(crate) fn run(alloc: Global, words: &[&str], mut input: Input<'_>) -> Outcome {
+pub(crate) fn run<X: Threads + Wait + Sync>(
+    rt: &X,
+    alloc: Global,
+    words: &[&str],
+    mut input: Input<'_>,
+) -> Outcome {
     run_into(
+        rt,
         alloc,
         words,
         &mut input,
@@ -179,14 +187,15 @@ pub(crate) fn run(alloc: Global, words: &[&str], mut input: Input<'_>) -> Outcom
 }
 
 /// Runs the program over these streams.
-pub(crate) fn run_into<R: Read>(
+pub(crate) fn run_into<X: Threads + Wait + Sync, R: Read>(
+    rt: &X,
     alloc: Global,
     words: &[&str],
     input: &mut R,
     mut out: Output,
     mut err: Output,
 ) -> Outcome {
-    let status = trace(alloc, words, input, &mut out, &mut err);
+    let status = trace(rt, alloc, words, input, &mut out, &mut err);
     Outcome {
         status,
         out: out.taken,
@@ -195,7 +204,8 @@ pub(crate) fn run_into<R: Read>(
 }
 
 /// Runs the program where standard output shows what was flushed, or fails so when it is flushed.
-pub(crate) fn run_until_flushed(
+pub(crate) fn run_until_flushed<X: Threads + Wait + Sync>(
+    rt: &X,
     alloc: Global,
     words: &[&str],
     mut input: Input<'_>,
@@ -207,7 +217,7 @@ pub(crate) fn run_until_flushed(
         error,
     };
     let mut err = Output::new(alloc, usize::MAX, ErrorKind::BrokenPipe);
-    let status = trace(alloc, words, &mut input, &mut out, &mut err);
+    let status = trace(rt, alloc, words, &mut input, &mut out, &mut err);
     Outcome {
         status,
         out: out.world_of,

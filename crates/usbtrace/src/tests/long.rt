@@ -3,6 +3,8 @@
 use super::texts::Part::{Numbered, Once, Packets, Times};
 use super::texts::{End, Part, ends};
 use std::alloc::Global;
+use std::sync::Wait;
+use std::thread::Threads;
 
 const WORDS: &[&str] = &["usbtrace", "run"];
 
@@ -33,13 +35,13 @@ const COMPLETED: &[&str] = &[
 const RETURNED: &str = " ep 81 round 0 COMPLETED 1 data 01\nh1 done\n";
 
 /// Whether a scenario prints these lines.
-fn prints(alloc: Global, text: &[Part], out: &[Part]) -> bool {
+fn prints<X: Threads + Wait + Sync>(rt: &X, alloc: Global, text: &[Part], out: &[Part]) -> bool {
     let end = End {
         status: 0,
         out,
         err: &[],
     };
-    ends(alloc, WORDS, text, 10_007, &end)
+    ends(rt, alloc, WORDS, text, 10_007, &end)
 }
 
 #[test]
@@ -60,7 +62,7 @@ fn the_longest_read_has_512_packets(rt: HostRuntime) {
         Packets(512, ""),
         Once("\n"),
     ];
-    assert!(rt; prints(rt.alloc(), &text, &lines));
+    assert!(rt; prints(&rt, rt.alloc(), &text, &lines));
 }
 
 #[test]
@@ -82,7 +84,7 @@ fn a_long_read_ends_with_a_short_packet(rt: HostRuntime) {
         Packets(128, ""),
         Once("beef\n"),
     ];
-    assert!(rt; prints(rt.alloc(), &text, &lines));
+    assert!(rt; prints(&rt, rt.alloc(), &text, &lines));
 }
 
 #[test]
@@ -105,7 +107,7 @@ fn a_long_write_ends_with_an_empty_packet(rt: HostRuntime) {
             "h1 ended 0 code 1\nh1 finished 0\nh1 called 0 ep 02 round 0 COMPLETED 131072 data -\n",
         ),
     ];
-    assert!(rt; prints(rt.alloc(), &text, &lines));
+    assert!(rt; prints(&rt, rt.alloc(), &text, &lines));
 }
 
 #[test]
@@ -123,7 +125,7 @@ fn two_hundred_transfers_go_one_after_another(rt: HostRuntime) {
         Numbered(200, COMPLETED, RETURNED),
         Once("h1 number 200\nh1 refused 1\n"),
     ];
-    assert!(rt; prints(rt.alloc(), &text, &lines));
+    assert!(rt; prints(&rt, rt.alloc(), &text, &lines));
 }
 
 #[test]
@@ -139,5 +141,5 @@ fn a_scenario_may_have_many_steps(rt: HostRuntime) {
         Once("h1 done\nh1 done\n"),
         Numbered(2_000, COMPLETED, RETURNED),
     ];
-    assert!(rt; prints(rt.alloc(), &text, &lines));
+    assert!(rt; prints(&rt, rt.alloc(), &text, &lines));
 }

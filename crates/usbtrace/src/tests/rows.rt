@@ -14,6 +14,7 @@ mod descriptors;
 mod devices;
 mod handles;
 mod help;
+mod live;
 mod places;
 mod refusals;
 mod requests;
@@ -23,11 +24,13 @@ mod transfers;
 
 use super::fakes::{Input, run};
 use std::alloc::{AllocError, Global};
+use std::sync::Wait;
+use std::thread::Threads;
 use usb_plain::drive;
 use usb_text::{Scenario, into_setups, read_scenario};
 
 /// Whether the program does as a row says, from its words on. Its input is read a few bytes at a time.
-fn does(alloc: Global, row: &str) -> Result<bool, AllocError> {
+fn does<X: Threads + Wait + Sync>(rt: &X, alloc: Global, row: &str) -> Result<bool, AllocError> {
     let (words, rest) = row.split_once('\n').unwrap_or((row, ""));
     let (input, rest) = rest.split_once("--- prints\n").unwrap_or((rest, ""));
     let (status, out, err) = match rest.split_once("--- fails\n") {
@@ -35,7 +38,12 @@ fn does(alloc: Global, row: &str) -> Result<bool, AllocError> {
         None => (0, rest, ""),
     };
     let words: Vec<&str> = words.split(' ').collect(alloc)?;
-    let outcome = run(alloc, words.as_slice(), Input::new(input.as_bytes(), 61));
+    let outcome = run(
+        rt,
+        alloc,
+        words.as_slice(),
+        Input::new(input.as_bytes(), 61),
+    );
     Ok(outcome.is(status, out, err))
 }
 
@@ -67,19 +75,24 @@ fn does_plainly(alloc: Global, row: &str) -> Result<bool, AllocError> {
 }
 
 /// Whether a row holds, from its name on, and by the plain program too; not where memory is wanting.
-fn holds(alloc: Global, row: &str) -> bool {
+fn holds<X: Threads + Wait + Sync>(rt: &X, alloc: Global, row: &str) -> bool {
     let (_, rest) = row.split_once('\n').unwrap_or((row, ""));
-    does(alloc, rest).unwrap_or(false) && does_plainly(alloc, rest).unwrap_or(false)
+    does(rt, alloc, rest).unwrap_or(false) && does_plainly(alloc, rest).unwrap_or(false)
 }
 
 /// The first row that doesn't hold, from its name on; or nothing's, where they aren't so many.
-fn first_to_differ(alloc: Global, rows: &'static str, number: u32) -> Option<&'static str> {
+fn first_to_differ<X: Threads + Wait + Sync>(
+    rt: &X,
+    alloc: Global,
+    rows: &'static str,
+    number: u32,
+) -> Option<&'static str> {
     let mut count: u32 = 0;
     for row in rows.split("=== ") {
         if row.is_empty() {
             continue;
         }
-        if !holds(alloc, row) {
+        if !holds(rt, alloc, row) {
             return Some(row);
         }
         count = count.saturating_add(1);
@@ -90,32 +103,37 @@ fn first_to_differ(alloc: Global, rows: &'static str, number: u32) -> Option<&'s
 #[test]
 fn transfers_print_their_lines(rt: HostRuntime) {
     let alloc = rt.alloc();
-    let first = first_to_differ(alloc, transfers::ROWS, 15)
-        .or(first_to_differ(alloc, cancelling::ROWS, 14))
-        .or(first_to_differ(alloc, answers::ROWS, 6))
-        .or(first_to_differ(alloc, statuses::ROWS, 2))
-        .or(first_to_differ(alloc, places::ROWS, 3));
+    let first = first_to_differ(&rt, alloc, transfers::ROWS, 15)
+        .or(first_to_differ(&rt, alloc, cancelling::ROWS, 14))
+        .or(first_to_differ(&rt, alloc, answers::ROWS, 6))
+        .or(first_to_differ(&rt, alloc, statuses::ROWS, 2))
+        .or(first_to_differ(&rt, alloc, places::ROWS, 3));
     assert_eq!(rt; first, None);
 }
 
 #[test]
 fn handles_print_their_lines(rt: HostRuntime) {
     let alloc = rt.alloc();
-    let first = first_to_differ(alloc, handles::ROWS, 15)
-        .or(first_to_differ(alloc, refusals::ROWS, 4))
-        .or(first_to_differ(alloc, requests::ROWS, 4))
-        .or(first_to_differ(alloc, closing::ROWS, 7))
-        .or(first_to_differ(alloc, devices::ROWS, 6));
+    let first = first_to_differ(&rt, alloc, handles::ROWS, 15)
+        .or(first_to_differ(&rt, alloc, refusals::ROWS, 4))
+        .or(first_to_differ(&rt, alloc, requests::ROWS, 4))
+        .or(first_to_differ(&rt, alloc, closing::ROWS, 7))
+        .or(first_to_differ(&rt, alloc, devices::ROWS, 6));
     assert_eq!(rt; first, None);
 }
 
 #[test]
 fn texts_are_read_or_refused(rt: HostRuntime) {
     let alloc = rt.alloc();
-    let first = first_to_differ(alloc, bad_lines::ROWS, 9)
-        .or(first_to_differ(alloc, descriptors::ROWS, 15))
-        .or(first_to_differ(alloc, checks::ROWS, 5))
-        .or(first_to_differ(alloc, help::ROWS, 2))
-        .or(first_to_differ(alloc, steps::ROWS, 4));
+    let first = first_to_differ(&rt, alloc, bad_lines::ROWS, 9)
+        .or(first_to_differ(&rt, alloc, descriptors::ROWS, 15))
+        .or(first_to_differ(&rt, alloc, checks::ROWS, 5))
+        .or(first_to_differ(&rt, alloc, help::ROWS, 2))
+        .or(first_to_differ(&rt, alloc, steps::ROWS, 4));
     assert_eq!(rt; first, None);
+}
+
+#[test]
+fn threads_print_what_callbacks_were_told(rt: HostRuntime) {
+    assert_eq!(rt; first_to_differ(&rt, rt.alloc(), live::ROWS, 6), None);
 }

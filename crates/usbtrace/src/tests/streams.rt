@@ -3,6 +3,8 @@
 use super::fakes::{Input, Output, run, run_into, run_until_flushed};
 use std::alloc::Global;
 use std::io::ErrorKind;
+use std::sync::Wait;
+use std::thread::Threads;
 
 const WORDS: &[&str] = &["usbtrace", "run"];
 
@@ -23,18 +25,20 @@ const FAILED: &str = "usbtrace: input or output failed\n";
 const NO_MEMORY: &str = "usbtrace: out of memory\n";
 
 /// Whether a read that fails so behind these bytes is all that is told.
-fn tells_of_a_read(
+fn tells_of_a_read<X: Threads + Wait + Sync>(
+    rt: &X,
     alloc: Global,
     words: &[&str],
     bytes: &[u8],
     error: ErrorKind,
     said: &str,
 ) -> bool {
-    run(alloc, words, Input::failing(bytes, 3, error)).only_says(1, said)
+    run(rt, alloc, words, Input::failing(bytes, 3, error)).only_says(1, said)
 }
 
 /// Whether a write that fails so behind this is told, and this is what standard output has.
-fn tells_of_a_write(
+fn tells_of_a_write<X: Threads + Wait + Sync>(
+    rt: &X,
     alloc: Global,
     words: &[&str],
     text: &[u8],
@@ -43,6 +47,7 @@ fn tells_of_a_write(
     said: &str,
 ) -> bool {
     let outcome = run_into(
+        rt,
         alloc,
         words,
         &mut Input::new(text, 4),
@@ -57,7 +62,14 @@ fn a_read_that_fails_in_midstream_ends_the_run(rt: HostRuntime) {
     for count in 0..TEXT.len() {
         let front = &TEXT[..count];
         assert!(rt;
-            tells_of_a_read(rt.alloc(), WORDS, front, ErrorKind::ConnectionReset, FAILED),
+            tells_of_a_read(
+                &rt,
+                rt.alloc(),
+                WORDS,
+                front,
+                ErrorKind::ConnectionReset,
+                FAILED
+            ),
             "{count}"
         );
     }
@@ -66,23 +78,27 @@ fn a_read_that_fails_in_midstream_ends_the_run(rt: HostRuntime) {
 #[test]
 fn a_read_without_memory_is_told_so(rt: HostRuntime) {
     let (alloc, error) = (rt.alloc(), ErrorKind::OutOfMemory);
-    assert!(rt; tells_of_a_read(alloc, WORDS, TEXT, error, NO_MEMORY));
-    assert!(rt; tells_of_a_read(alloc, ALONE, TEXT, error, NO_MEMORY));
-    assert!(rt; tells_of_a_read(alloc, CHECK, b"no line\n", error, NO_MEMORY));
+    assert!(rt; tells_of_a_read(&rt, alloc, WORDS, TEXT, error, NO_MEMORY));
+    assert!(rt; tells_of_a_read(&rt, alloc, ALONE, TEXT, error, NO_MEMORY));
+    assert!(rt; tells_of_a_read(&rt, alloc, CHECK, b"no line\n", error, NO_MEMORY));
 }
 
 #[test]
 fn a_read_that_fails_hides_a_bad_line(rt: HostRuntime) {
     let (alloc, error) = (rt.alloc(), ErrorKind::ConnectionReset);
-    assert!(rt; tells_of_a_read(alloc, WORDS, b"no line\n", error, FAILED));
-    assert!(rt; tells_of_a_read(alloc, CHECK, b"no line\n", error, FAILED));
+    assert!(rt; tells_of_a_read(&rt, alloc, WORDS, b"no line\n", error, FAILED));
+    assert!(rt; tells_of_a_read(&rt, alloc, CHECK, b"no line\n", error, FAILED));
 }
 
 /// The first beginning of its lines behind which a write that fails isn't told on these words.
-fn first_to_differ(alloc: Global, words: &[&str]) -> Option<usize> {
+fn first_to_differ<X: Threads + Wait + Sync>(
+    rt: &X,
+    alloc: Global,
+    words: &[&str],
+) -> Option<usize> {
     for room in 0..LINES.len() {
         let front = LINES.get(..room).unwrap_or("");
-        if !tells_of_a_write(alloc, words, TEXT, ErrorKind::BrokenPipe, front, FAILED) {
+        if !tells_of_a_write(rt, alloc, words, TEXT, ErrorKind::BrokenPipe, front, FAILED) {
             return Some(room);
         }
     }
@@ -92,22 +108,23 @@ fn first_to_differ(alloc: Global, words: &[&str]) -> Option<usize> {
 #[test]
 fn a_write_that_fails_in_midstream_ends_the_run(rt: HostRuntime) {
     let (alloc, error) = (rt.alloc(), ErrorKind::BrokenPipe);
-    let first = first_to_differ(alloc, WORDS).or(first_to_differ(alloc, ALONE));
+    let first = first_to_differ(&rt, alloc, WORDS).or(first_to_differ(&rt, alloc, ALONE));
     assert_eq!(rt; first, None);
-    assert!(rt; tells_of_a_write(alloc, CHECK, b"take 1\n", error, "line 1:", FAILED));
-    assert!(rt; tells_of_a_write(alloc, CHECK, b"take\n", error, "0 devic", FAILED));
-    assert!(rt; tells_of_a_write(alloc, HELP, TEXT, error, "", FAILED));
+    assert!(rt; tells_of_a_write(&rt, alloc, CHECK, b"take 1\n", error, "line 1:", FAILED));
+    assert!(rt; tells_of_a_write(&rt, alloc, CHECK, b"take\n", error, "0 devic", FAILED));
+    assert!(rt; tells_of_a_write(&rt, alloc, HELP, TEXT, error, "", FAILED));
 }
 
 #[test]
 fn a_write_without_memory_is_told_so(rt: HostRuntime) {
     let (alloc, error) = (rt.alloc(), ErrorKind::OutOfMemory);
-    assert!(rt; tells_of_a_write(alloc, WORDS, TEXT, error, "h1 refused 3\n", NO_MEMORY));
-    assert!(rt; tells_of_a_write(alloc, ALONE, TEXT, error, "h1 refused 3\n", NO_MEMORY));
+    assert!(rt; tells_of_a_write(&rt, alloc, WORDS, TEXT, error, "h1 refused 3\n", NO_MEMORY));
+    assert!(rt; tells_of_a_write(&rt, alloc, ALONE, TEXT, error, "h1 refused 3\n", NO_MEMORY));
 }
 
 /// Whether these words end so, where only what is flushed is seen.
-fn flushes(
+fn flushes<X: Threads + Wait + Sync>(
+    rt: &X,
     alloc: Global,
     words: &[&str],
     status: u8,
@@ -115,28 +132,35 @@ fn flushes(
     said: &str,
     error: Option<ErrorKind>,
 ) -> bool {
-    run_until_flushed(alloc, words, Input::new(TEXT, 4), error).is(status, out, said)
+    run_until_flushed(rt, alloc, words, Input::new(TEXT, 4), error).is(status, out, said)
 }
 
 #[test]
 fn what_is_printed_is_flushed(rt: HostRuntime) {
-    assert!(rt; flushes(rt.alloc(), WORDS, 0, LINES, "", None));
-    assert!(rt; flushes(rt.alloc(), ALONE, 0, LINES, "", None));
-    let outcome = run_until_flushed(rt.alloc(), HELP, Input::new(TEXT, 4), None);
+    assert!(rt; flushes(&rt, rt.alloc(), WORDS, 0, LINES, "", None));
+    assert!(rt; flushes(&rt, rt.alloc(), ALONE, 0, LINES, "", None));
+    let outcome = run_until_flushed(&rt, rt.alloc(), HELP, Input::new(TEXT, 4), None);
     assert!(rt; outcome.ends_well() && outcome.shows("Usage: usbtrace"));
 }
 
 #[test]
 fn a_flush_that_fails_is_a_fault(rt: HostRuntime) {
     let error = Some(ErrorKind::BrokenPipe);
-    assert!(rt; flushes(rt.alloc(), WORDS, 1, "", FAILED, error));
-    assert!(rt; flushes(rt.alloc(), ALONE, 1, "", FAILED, error));
-    assert!(rt; flushes(rt.alloc(), HELP, 1, "", FAILED, error));
+    assert!(rt; flushes(&rt, rt.alloc(), WORDS, 1, "", FAILED, error));
+    assert!(rt; flushes(&rt, rt.alloc(), ALONE, 1, "", FAILED, error));
+    assert!(rt; flushes(&rt, rt.alloc(), HELP, 1, "", FAILED, error));
 }
 
 /// Whether these words answer this status, where standard error fails.
-fn answers(alloc: Global, words: &[&str], text: &[u8], status: u8) -> bool {
+fn answers<X: Threads + Wait + Sync>(
+    rt: &X,
+    alloc: Global,
+    words: &[&str],
+    text: &[u8],
+    status: u8,
+) -> bool {
     let outcome = run_into(
+        rt,
         alloc,
         words,
         &mut Input::new(text, 1),
@@ -148,6 +172,6 @@ fn answers(alloc: Global, words: &[&str], text: &[u8], status: u8) -> bool {
 
 #[test]
 fn the_status_is_left_where_standard_error_fails(rt: HostRuntime) {
-    assert!(rt; answers(rt.alloc(), WORDS, b"no line\n", 1));
-    assert!(rt; answers(rt.alloc(), &["usbtrace", "walk"], TEXT, 2));
+    assert!(rt; answers(&rt, rt.alloc(), WORDS, b"no line\n", 1));
+    assert!(rt; answers(&rt, rt.alloc(), &["usbtrace", "walk"], TEXT, 2));
 }

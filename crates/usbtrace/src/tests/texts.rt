@@ -3,6 +3,8 @@
 use super::fakes::{Input, run};
 use std::alloc::{AllocError, Global};
 use std::fmt::Display;
+use std::sync::Wait;
+use std::thread::Threads;
 
 /// A part of a text.
 #[derive(Clone, Copy)]
@@ -85,18 +87,20 @@ pub(crate) struct End<'a> {
 }
 
 /// Whether a run over an input of these parts, read so many bytes at a time, ends so; not where memory is wanting.
-pub(crate) fn ends(
+pub(crate) fn ends<X: Threads + Wait + Sync>(
+    rt: &X,
     alloc: Global,
     words: &[&str],
     parts: &[Part],
     step: usize,
     end: &End<'_>,
 ) -> bool {
-    does_end(alloc, words, parts, step, end).unwrap_or(false)
+    does_end(rt, alloc, words, parts, step, end).unwrap_or(false)
 }
 
 /// The same, or want of memory.
-fn does_end(
+fn does_end<X: Threads + Wait + Sync>(
+    rt: &X,
     alloc: Global,
     words: &[&str],
     parts: &[Part],
@@ -106,6 +110,6 @@ fn does_end(
     let input = spell(alloc, parts)?;
     let out = spell(alloc, end.out)?;
     let err = spell(alloc, end.err)?;
-    let outcome = run(alloc, words, Input::new(input.as_bytes(), step));
+    let outcome = run(rt, alloc, words, Input::new(input.as_bytes(), step));
     Ok(outcome.is(end.status, out.as_str(), err.as_str()))
 }

@@ -3,12 +3,14 @@
 use super::fakes::{Input, run};
 use std::alloc::{AllocError, Global};
 use std::io::ErrorKind;
+use std::sync::Wait;
+use std::thread::Threads;
 
 /// Bad words, each behind `===`, and then what is said of them.
 static BAD: &str = "\
 === usbtrace
 error: 'usbtrace' requires a subcommand but one was not provided
-  [subcommands: run, alone, left, check, draw]
+  [subcommands: run, alone, live, left, check, draw]
 
 Usage: usbtrace <COMMAND>
 
@@ -19,10 +21,10 @@ error: unrecognized subcommand 'walk'
 Usage: usbtrace <COMMAND>
 
 For more information, try '--help'.
-=== usbtrace live
-error: unrecognized subcommand 'live'
+=== usbtrace live 1
+error: unexpected argument '1' found
 
-Usage: usbtrace <COMMAND>
+Usage: usbtrace live
 
 For more information, try '--help'.
 === usbtrace help
@@ -61,23 +63,35 @@ For more information, try '--help'.
 ";
 
 /// Whether bad words are told so, over an input that can't be read and over a bad line.
-fn are_told(alloc: Global, words: &str, said: &str) -> Result<bool, AllocError> {
+fn are_told<X: Threads + Wait + Sync>(
+    rt: &X,
+    alloc: Global,
+    words: &str,
+    said: &str,
+) -> Result<bool, AllocError> {
     let words: Vec<&str> = words.split(' ').collect(alloc)?;
     let words = words.as_slice();
     let unread = Input::failing(b"", 1, ErrorKind::ConnectionReset);
     let bad = Input::new(b"no line\n", 1);
-    Ok(run(alloc, words, unread).only_says(2, said) && run(alloc, words, bad).only_says(2, said))
+    Ok(
+        run(rt, alloc, words, unread).only_says(2, said)
+            && run(rt, alloc, words, bad).only_says(2, said),
+    )
 }
 
 /// The first bad words that aren't told so; or nothing, where there aren't nine of them.
-fn first_to_differ(alloc: Global, cases: &'static str) -> Option<&'static str> {
+fn first_to_differ<X: Threads + Wait + Sync>(
+    rt: &X,
+    alloc: Global,
+    cases: &'static str,
+) -> Option<&'static str> {
     let mut count: u32 = 0;
     for case in cases.split("=== ") {
         if case.is_empty() {
             continue;
         }
         let (words, said) = case.split_once('\n').unwrap_or((case, ""));
-        if !are_told(alloc, words, said).unwrap_or(false) {
+        if !are_told(rt, alloc, words, said).unwrap_or(false) {
             return Some(words);
         }
         count = count.saturating_add(1);
@@ -87,13 +101,13 @@ fn first_to_differ(alloc: Global, cases: &'static str) -> Option<&'static str> {
 
 #[test]
 fn bad_words_are_told_on_standard_error(rt: HostRuntime) {
-    assert_eq!(rt; first_to_differ(rt.alloc(), BAD), None);
+    assert_eq!(rt; first_to_differ(&rt, rt.alloc(), BAD), None);
 }
 
 /// Whether these words end well without the input, and standard output has all of these texts in it.
-fn shows(alloc: Global, words: &[&str], parts: &[&str]) -> bool {
+fn shows<X: Threads + Wait + Sync>(rt: &X, alloc: Global, words: &[&str], parts: &[&str]) -> bool {
     let input = Input::failing(b"", 1, ErrorKind::ConnectionReset);
-    let outcome = run(alloc, words, input);
+    let outcome = run(rt, alloc, words, input);
     let mut all = outcome.ends_well();
     for part in parts {
         all = all && outcome.shows(part);
@@ -107,15 +121,16 @@ fn help_is_printed_and_no_fault(rt: HostRuntime) {
         "\n\nUsage: usbtrace <COMMAND>\n",
         "\n  run    Runs the scenario and prints its entries\n",
         "\n  alone  Prints the entries of one handle, alone over its own steps\n",
+        "\n  live   Runs the scenario in threads, and prints what its callbacks were told\n",
         "\n  left   Prints what the scenario's run leaves behind, handle by handle\n",
         "\n  check  Prints what is wrong with the scenario, line by line\n",
         "\n  draw   Prints a picture of the scenario's run, an SVG document\n",
         "\n  -h, --help  Print help\n",
     ];
-    assert!(rt; shows(rt.alloc(), &["usbtrace", "-h"], &parts));
+    assert!(rt; shows(&rt, rt.alloc(), &["usbtrace", "-h"], &parts));
     let subcommand = ["\n  help "];
     assert!(rt;
-        !shows(rt.alloc(), &["usbtrace", "-h"], &subcommand),
+        !shows(&rt, rt.alloc(), &["usbtrace", "-h"], &subcommand),
         "there is no help subcommand"
     );
 }
@@ -124,8 +139,8 @@ fn help_is_printed_and_no_fault(rt: HostRuntime) {
 fn the_help_of_each_subcommand_has_its_example(rt: HostRuntime) {
     let input = "\nInput: a scenario, ";
     let run = ["| usbtrace run\n\nStatus: 0 ", input];
-    assert!(rt; shows(rt.alloc(), &["usbtrace", "run", "--help"], &run));
+    assert!(rt; shows(&rt, rt.alloc(), &["usbtrace", "run", "--help"], &run));
     let alone = ["| usbtrace alone 1\n\nStatus: 0 ", input];
-    assert!(rt; shows(rt.alloc(), &["usbtrace", "alone", "--help"], &alone));
-    assert!(rt; shows(rt.alloc(), &["usbtrace", "--help"], &run));
+    assert!(rt; shows(&rt, rt.alloc(), &["usbtrace", "alone", "--help"], &alone));
+    assert!(rt; shows(&rt, rt.alloc(), &["usbtrace", "--help"], &run));
 }

@@ -1,5 +1,5 @@
 -- A task over all that the input has.
-use Rattle.usb_command.specs.declared.words.Task.TheVariants.{Check, Steps}
+use Rattle.usb_command.specs.declared.words.Task.TheVariants.{Check, Live, Steps}
 use Rattle.usb_trace.proofs.Begun.{bytes_begun}
 use Rattle.usb_trace.proofs.program.perform.Goals as goal
 
@@ -12,3 +12,8 @@ pub returns-in-Steps-clause-begun : goal.returns-in-Steps-clause-begun
 returns-in-Steps-clause-begun g c =
     bytes_begun (g.R.Read.remaining c.args.input.now) c.args.task Steps c.as_slice-in-Steps.result.now (g.W.Write.contents c.args.out.now) (g.W.Write.contents c.run_steps.new.out)
     c.in-Steps.is (rw c.as_slice-in-Steps.ensures.value c.in_ok-text.ensures.whole) c.run_steps.ensures.begun
+
+pub returns-in-Live-clause-begun : goal.returns-in-Live-clause-begun
+returns-in-Live-clause-begun g c =
+    bytes_begun (g.R.Read.remaining c.args.input.now) c.args.task Live c.as_slice-in-Live.result.now (g.W.Write.contents c.args.out.now) (g.W.Write.contents c.live.new.out)
+    c.in-Live.is (rw c.as_slice-in-Live.ensures.value c.in_ok-text.ensures.whole) c.live.ensures.begun

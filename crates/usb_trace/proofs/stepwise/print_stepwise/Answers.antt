@@ -1,12 +1,12 @@
 -- A piece further each turn, with its line, and then what is left.
-use Rattle.std.proofs.Common.{◌≡◌, ◌+◌, ◌<◌, [], ◌∷◌, inl, length, map, drop, refl, sym, ap, ◌∙◌, subst}
+use Rattle.std.proofs.Common.{◌+◌, inl, length, map, drop, refl, sym, ap, ◌∙◌, subst}
 use Rattle.std.specs.Vec.Iter.{into_iter_items}
 use Rattle.usb_state.specs.Making.{setup_of}
 use Rattle.usb_text.specs.StepLines.{numbered}
 use Rattle.usb_trace.specs.Printed.{PrintsPiece}
 use Rattle.usb_trace.specs.Stepwise.{piece_text, stepwise_text}
 use Rattle.usb_trace.proofs.Lined.{ended_if, has_callback, line_first, none_yet, piece_begun, piece_put, rest_begun, stopped_begun, stopped_if}
-use Rattle.usb_trace.specs.declared.printing.Reach.TheVariants.{End, NoMemory}
+use Rattle.usb_trace.specs.declared.printing.Reach.TheVariants.{End}
 use Rattle.usb_trace.proofs.stepwise.print_stepwise.Goals as goal
 
 pub loop-at-init : goal.loop-at-init

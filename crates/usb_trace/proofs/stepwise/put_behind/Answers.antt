@@ -1,9 +1,7 @@
 -- Of the text a beginning is written.
-use Rattle.std.proofs.Common.{◌≡◌, ◌++◌, ap, sym, ◌∙◌, subst}
-use Rattle.usb_purge.specs.PlanRuns.{entries_of}
+use Rattle.std.proofs.Common.{◌++◌, ◌∙◌, subst}
 use Rattle.usb_streams.specs.Printing.{AppendsSome}
 use Rattle.usb_streams.proofs.Printed.{on_error}
-use Rattle.usb_trace.specs.Stepwise.{piece_text}
 use Rattle.usb_trace.proofs.stepwise.put_behind.Goals as goal
 
 pub returns-in_err-put_text-clause-begun : goal.returns-in_err-put_text-clause-begun

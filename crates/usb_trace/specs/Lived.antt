@@ -1,0 +1,50 @@
+-- What a scenario says that is run in threads, and what is written of it.
+use Rattle.std.specs.Prelude.{ℕ, ◌+◌, ◌==◌, min, Bool, true, false, List, [], ◌∷◌, Option, Some, None, Result, Ok, Err, if◌then◌else◌}
+use Rattle.std.specs.Io.KnownBytes.{Appends, Keeps}
+use Rattle.std.specs.List.{slice_split}
+use Rattle.usb_model.specs.declared.entry.Entry.{Entry}
+use Rattle.usb_model.specs.declared.plan.Plan.TheVariants.{Do}
+use Rattle.usb_model.specs.declared.step.Step.{Step}
+use Rattle.usb_model.specs.declared.step.Step.TheVariants.{Expire, Unplug}
+use Rattle.usb_model.specs.Text.{lines_text}
+use Rattle.usb_line.specs.declared.line.Line.{Line}
+use Rattle.usb_line.specs.declared.line.Line.TheVariants.{Piece}
+use Rattle.usb_line.specs.Line.{line_of_text}
+use Rattle.usb_liveplan.specs.Callbacks.{AreCallbacks}
+use Rattle.usb_streams.specs.Printing.{AppendsSome}
+use Rattle.usb_text.specs.declared.scenario.Scenario.{Scenario}
+use Rattle.usb_text.specs.Scenario.{scenario_of}
+
+-- whether a line asks for what no handle's thread does: the end of a transfer's time, or of a device
+abbrev pub is_unlived : Option Line → Bool
+is_unlived (Some (Piece (Do (Expire h n)))) = true
+is_unlived (Some (Piece (Do (Unplug dev)))) = true
+is_unlived said = false
+
+-- the number of the first such line, where the lines are counted from this one on
+unfoldable pub first_unlived : ℕ → List (List ℕ) → Option ℕ
+first_unlived at [] = None
+first_unlived at (text ∷ texts) = if is_unlived (line_of_text text) then Some at else first_unlived (at + 1) texts
+
+-- of the first such line, and the first that isn't taken, the earlier
+abbrev pub earlier : Option ℕ → Result Scenario ℕ → Result Scenario ℕ
+earlier None said = said
+earlier (Some at) (Ok s) = Err at
+earlier (Some at) (Err line) = Err (min line at)
+
+-- the scenario of a text that is run in threads; or the number of its first line that isn't taken, or asks for what no thread does
+abbrev pub lived_of : List ℕ → Result Scenario ℕ
+lived_of text = earlier (first_unlived 1 (slice_split (λ b. b == 10) text)) (scenario_of text)
+
+-- what is written of a scenario that was run in threads: what its callbacks were told in some run over its devices, by handle and number
+abbrev pub AppendsCallbacks : Scenario → Option (List ℕ) → Option (List ℕ) → Type 0
+AppendsCallbacks s old new = (steps : List Step) × (lines : List Entry) × AreCallbacks s.setup steps lines × Appends old new (lines_text lines)
+
+-- a beginning of that
+abbrev pub AppendsSomeCallbacks : Scenario → Option (List ℕ) → Option (List ℕ) → Type 0
+AppendsSomeCallbacks s old new = (steps : List Step) × (lines : List Entry) × AreCallbacks s.setup steps lines × AppendsSome (lines_text lines) old new
+
+-- what may have been written, however it ends: a beginning of that, and nothing where a line is bad
+abbrev pub BeginsCallbacks : Result Scenario ℕ → Option (List ℕ) → Option (List ℕ) → Type 0
+BeginsCallbacks (Ok s) old new = AppendsSomeCallbacks s old new
+BeginsCallbacks (Err line) old new = Keeps old new

@@ -1,0 +1,57 @@
+//! A scenario that is run in threads.
+
+ghost use Rattle.std.specs.Prelude.{◌≡◌, ◌≤◌, IfErr, IfOk, OnOk, length};
+ghost use Rattle.usb_streams.specs.Faults.{IsOfRun};
+ghost use Rattle.usb_streams.specs.Input.{longest_input};
+ghost use Rattle.usb_text.specs.Runnable.{IsRunnable};
+ghost use Rattle.usb_command.specs.declared.words.Task.TheVariants.{Live};
+ghost use Rattle.usb_trace.specs.Lived.{AppendsCallbacks, AppendsSomeCallbacks, lived_of};
+ghost use Rattle.usb_trace.specs.Program.{Begins, IsSilentAtBad, Performs};
+
+use crate::devices::devices_of;
+use crate::lived::read_lived;
+use crate::program::Ending;
+use std::alloc::Global;
+use std::io::Write;
+use std::sync::Wait;
+use std::thread::Threads;
+use usb_liveplan::perform;
+use usb_streams::Fault;
+use usb_streams::print::print;
+use usb_text::Scenario;
+
+/// Runs a scenario in threads, and prints what its callbacks were told, by handle and number.
+fn live_scenario<T: Threads + Wait + Sync, W: Write>(
+    rt: &T,
+    alloc: Global,
+    scenario: Scenario,
+    out: &mut W,
+) -> Result<Ending, Fault>
+    requires { IsRunnable scenario }
+    ensures lines { OnOk result (AppendsCallbacks scenario (W.contents out.old) (W.contents out.new)) }
+    ensures begun { AppendsSomeCallbacks scenario (W.contents out.old) (W.contents out.new) }
+    ensures good { IfOk result (λ ending. ending ≡ Ending.Good) }
+    ensures fault { IfErr result (λ fault. IsOfRun fault) }
+{
+    let Scenario { setup, plan, rules } = scenario;
+    let devices = devices_of(alloc, setup)?;
+    let lines = perform(rt, alloc, devices, plan, rules.as_slice())?;
+    print(alloc, out, lines.as_slice())?;
+    Ok(Ending::Good)
+}
+
+/// Runs the scenario of a text in threads, and prints what its callbacks were told, by handle and number; nothing where a
+/// line is bad.
+pub(crate) fn live<T: Threads + Wait + Sync, W: Write>(
+    rt: &T,
+    alloc: Global,
+    text: &[u8],
+    out: &mut W,
+) -> Result<Ending, Fault>
+    requires { length text.now ≤ longest_input }
+    ensures ends { Performs Live text.now (W.contents out.old) (W.contents out.new) result }
+    ensures silent { IsSilentAtBad text.now (W.contents out.old) (W.contents out.new) }
+    ensures begun { Begins Live text.now (W.contents out.old) (W.contents out.new) }
+{
+    live_scenario(rt, alloc, read_lived(alloc, text)?, out)
+}
