@@ -12,8 +12,9 @@ use crate::report::Tally;
 use crate::tester::{Role, TRANSFERS, Tester};
 use anyhow::{Result, anyhow};
 use std::alloc::Global;
-use std::sync::Arc;
-use tirnouch::{Journal, TableDevice, live};
+use std::sync::{Arc, Wait};
+use std::thread::Threads;
+use tirnouch::{Journal, Refused, TableDevice, live};
 use usb_stand::{Reader, devices};
 
 /// How many devices there are.
@@ -65,6 +66,36 @@ fn testers(alloc: Global, tallies: &[Arc<Tally>]) -> Result<Vec<Tester>> {
     Ok(testers)
 }
 
+/// The bench is run: what each thread left.
+fn bench<R: Threads + Wait + Sync>(
+    rt: &R,
+    alloc: Global,
+    testers: Vec<Tester>,
+) -> Result<Vec<Result<u64, Refused>>> {
+    let sizes = vec![in alloc; 8_u16; PACKETS]?;
+    let setup = devices(alloc, DEVICES, 8, sizes.as_slice())?;
+    let lived = live::<_, TableDevice, Journal, _, _>(rt, alloc, setup, testers)?;
+    Ok(lived.left)
+}
+
+/// How many transfers of each thread were accepted.
+fn accepted_of(alloc: Global, left: Vec<Result<u64, Refused>>) -> Result<Vec<u64>> {
+    let mut accepted = Vec::new(alloc);
+    for count in left {
+        accepted.push(count.map_err(|why| anyhow!("refused: {why}"))?)?;
+    }
+    Ok(accepted)
+}
+
+/// The sum of what the threads of a handle submitted.
+fn sum(counts: &[u64]) -> u64 {
+    let mut sum = 0_u64;
+    for count in counts {
+        sum = sum.saturating_add(*count);
+    }
+    sum
+}
+
 /// An error where a handle's accepted transfers weren't each called back, in order; or at a device that stayed, weren't all there.
 fn is_whole(h: u8, tally: &Tally, accepted: u64) -> Result<()> {
     let (called, completed) = tally.counts();
@@ -77,20 +108,20 @@ fn is_whole(h: u8, tally: &Tally, accepted: u64) -> Result<()> {
     Ok(())
 }
 
+/// The same of each handle.
+fn are_whole(tallies: &[Arc<Tally>], accepted: &[u64]) -> Result<()> {
+    for (h, (tally, pair)) in (0..HANDLES).zip(tallies.iter().zip(accepted.chunks(2))) {
+        is_whole(h, tally, sum(pair))?;
+    }
+    Ok(())
+}
+
 fn main(rt: HostRuntime) -> Result<()> {
     let alloc = rt.alloc();
     let tallies = tallies(alloc)?;
-    let sizes = vec![in alloc; 8_u16; PACKETS]?;
-    let setup = devices(alloc, DEVICES, 8, sizes.as_slice())?;
-    let testers = testers(alloc, tallies.as_slice())?;
-    let lived = live::<_, TableDevice, Journal, _, _>(&rt, alloc, setup, testers)?;
-    let mut accepted = Vec::new(alloc);
-    for left in lived.left {
-        accepted.push(left.map_err(|why| anyhow!("refused: {why}"))?)?;
-    }
-    for (h, (tally, pair)) in (0..HANDLES).zip(tallies.iter().zip(accepted.chunks(2))) {
-        is_whole(h, tally, pair.iter().sum())?;
-    }
+    let left = bench(&rt, alloc, testers(alloc, tallies.as_slice())?)?;
+    let accepted = accepted_of(alloc, left)?;
+    are_whole(tallies.as_slice(), accepted.as_slice())?;
     println!(rt; "three devices: 480 transfers, each completed, called back once and in order")?;
     println!(rt; "the unplugged one: each that was accepted was called back once and in order")?;
     Ok(())
