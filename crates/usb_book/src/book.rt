@@ -2,7 +2,8 @@
 
 ghost use Rattle.std.specs.Prelude.{◌≡◌, ◌==◌, ℕ, ◌≤◌, All, IfOk, Some, [], count_by, length, slice_get};
 ghost use Rattle.std.specs.Option.{option_map_or};
-ghost use Rattle.usb_parts.specs.Pending.{IsPending};
+ghost use Rattle.usb_model.specs.declared.step.Step.TheVariants.{Command};
+ghost use Rattle.usb_parts.specs.Pending.{IsPending, does_something};
 ghost use Rattle.usb_roll.specs.Tokens.{new_keeper};
 ghost use Rattle.usb_state.specs.Carrying.{Carries, Kept};
 ghost use Rattle.usb_state.specs.Making.{setup_of};
@@ -103,6 +104,13 @@ impl<L: Naming, P, D: Device, J: Recorder> Book<L, P, D, J> {
         ensures run { IsRun self.now.setup self.now.journal }
     {
         self.core.pending(after)
+    }
+
+    /// Whether an order waits for the controller. Takes no memory.
+    pub fn has_order(&self) -> bool
+        ensures { result ≡ does_something self.now.setup (world_where self.now.setup self.now.journal) Command }
+    {
+        self.core.has_order()
     }
 
     /// A mark at the end of the journal, whose bearer has no places yet.

@@ -191,6 +191,7 @@ fn prepare<L: Naming, J: Recorder>(
 }
 
 /// One place more, of a step whose reply has no bytes.
+#[inline(always)]
 pub(crate) fn enter<L: Naming, J: Recorder>(
     log: &mut Log<L, J>,
     mark: &mut Mark<L>,

@@ -2,11 +2,12 @@
 
 ghost use Rattle.std.specs.Prelude.{◌≡◌, ℕ, Some, length, slice_get};
 ghost use Rattle.std.specs.Option.{option_copied, option_map_or};
+ghost use Rattle.usb_model.specs.declared.step.Step.TheVariants.{Command};
 ghost use Rattle.usb_model.specs.Setup.{Setup as ModelSetup};
 ghost use Rattle.usb_model.specs.World.{World, holder};
 ghost use Rattle.usb_state.specs.Making.{setup_of};
 ghost use Rattle.usb_state.specs.State.{ShowsWorld};
-ghost use Rattle.usb_parts.specs.Pending.{IsPending};
+ghost use Rattle.usb_parts.specs.Pending.{IsPending, does_something};
 ghost use Rattle.usb_core.specs.Reads.{IsLeft, would_expire};
 
 use crate::calls::Core;
@@ -44,6 +45,13 @@ impl<P, D: Device> Core<P, D> {
         ensures { (setup : ModelSetup) (w : World) → ShowsWorld setup self.now w → IsPending setup w after result }
     {
         self.parts.pending(after)
+    }
+
+    /// Whether an order waits for the controller. Takes no memory.
+    pub fn has_order(&self) -> bool
+        ensures { (setup : ModelSetup) (w : World) → ShowsWorld setup self.now w → result ≡ does_something setup w Command }
+    {
+        self.parts.has_order()
     }
 
     /// The controller, with its rings and the contexts of its endpoints: for those who look at bytes.

@@ -10,6 +10,7 @@ ghost use Rattle.usb_library.specs.Calling.{Makes};
 use crate::answered::Answered;
 use crate::caller::Caller;
 use crate::library::Library;
+use crate::waking::{of_event, of_packet};
 use std::alloc::AllocError;
 use std::sync::Wait;
 use usb_book::{Naming, Recorder};
@@ -141,7 +142,8 @@ impl<L: Naming, P: Drop, D: Device, J: Recorder> Library<L, P, D, J> {
         ensures refused { OnErr result (caller.new ≡ caller.old) }
     {
         let answered = self.desk.lock(rt).serve(caller, dev, ep)?;
-        self.wake_if(rt, answered.has_changed());
+        let work = of_packet(&answered.entry.reply);
+        self.wake_if(rt, answered.has_changed(), work);
         Ok(answered)
     }
 
@@ -168,8 +170,9 @@ impl<L: Naming, P: Drop, D: Device, J: Recorder> Library<L, P, D, J> {
         ensures entry { IfOk result (λ x. x.entry ≡ x.receipt.entry.entry) }
         ensures refused { OnErr result (caller.new ≡ caller.old) }
     {
-        let answered = self.desk.lock(rt).deliver(caller)?;
-        self.wake_if(rt, answered.has_changed());
+        let (answered, has_order) = self.desk.lock(rt).deliver(caller)?;
+        let work = of_event(&answered.entry.reply, has_order);
+        self.wake_if(rt, answered.has_changed(), work);
         Ok(answered)
     }
 

@@ -1,11 +1,12 @@
 //! What lies under the lock.
 
 ghost use Rattle.std.specs.Prelude.{◌≡◌, ◌+◌, ◌<◌, IfErr, IfNone, IfOk, IfSome, OnErr, Some, [], false, option_map};
-ghost use Rattle.usb_model.specs.declared.step.Step.TheVariants.{Answer, Deliver, Serve, Submit, Take};
+ghost use Rattle.usb_model.specs.declared.step.Step.TheVariants.{Answer, Command, Deliver, Serve, Submit, Take};
 ghost use Rattle.usb_model.specs.declared.verdict.Verdict.TheVariants.{Again, AgainWith, Stop};
 ghost use Rattle.usb_model.specs.Numbers.{takes_payload};
+ghost use Rattle.usb_parts.specs.Pending.{does_something};
 ghost use Rattle.usb_state.specs.Calls.{called_entry};
-ghost use Rattle.usb_book.specs.Booked.{answer_entry};
+ghost use Rattle.usb_book.specs.Booked.{answer_entry, world_where};
 ghost use Rattle.usb_library.specs.Calling.{Makes, Ticks, WasPending};
 
 use crate::answered::{Answered, Submitted};
@@ -131,15 +132,20 @@ impl<L: Naming, P: Drop, D: Device, J: Recorder> Desk<L, P, D, J> {
         Ok(Answered { receipt, entry })
     }
 
-    /// The oldest event is handled, for a caller.
-    pub(crate) fn deliver(&mut self, caller: &mut Caller<L>) -> Result<Answered<L>, AllocError>
-        ensures made { IfOk result (λ x. Makes Deliver caller.old caller.new x.receipt) }
-        ensures entry { IfOk result (λ x. x.entry ≡ x.receipt.entry.entry) }
+    /// The oldest event is handled, for a caller; and whether an order waits then.
+    pub(crate) fn deliver(
+        &mut self,
+        caller: &mut Caller<L>,
+    ) -> Result<(Answered<L>, bool), AllocError>
+        ensures made { IfOk result (λ x. Makes Deliver caller.old caller.new x.0.receipt) }
+        ensures entry { IfOk result (λ x. x.0.entry ≡ x.0.receipt.entry.entry) }
+        ensures order { IfOk result (λ x. x.1 ≡ does_something L.setup (world_where L.setup self.new.book.journal) Command) }
         ensures refused { OnErr result (caller.new ≡ caller.old) }
     {
         let (receipt, entry) = self.book.deliver(caller.number, &mut caller.mark)?;
         self.total.add(&mut caller.share, 1);
-        Ok(Answered { receipt, entry })
+        let answered = Answered { receipt, entry };
+        Ok((answered, self.book.has_order()))
     }
 
     /// Ends the callback of a transfer, for a caller.

@@ -20,3 +20,4 @@ pub use desk::CALLERS;
 pub use finishing::{Ended, Missing};
 pub use library::Library;
 pub use opening::Opening;
+pub use waking::Part;

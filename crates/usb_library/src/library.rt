@@ -8,7 +8,7 @@ use crate::answered::Answered;
 use crate::caller::Caller;
 use crate::desk::Desk;
 use crate::opening::Opening;
-use crate::waking::Watchers;
+use crate::waking::{Watchers, Work};
 use std::alloc::{AllocError, Global};
 use std::sync::{Mutex, Wait};
 use usb_book::{Book, Naming, Recorder};
@@ -73,14 +73,14 @@ impl<L: Naming, P: Drop, D: Device, J: Recorder> Library<L, P, D, J> {
         ensures refused { OnErr result (caller.new ≡ caller.old) }
     {
         let answered = self.desk.lock(rt).call(caller, step)?;
-        self.wake_if(rt, answered.has_changed());
+        self.wake_if(rt, answered.has_changed(), Work::Any);
         Ok(answered)
     }
 
-    /// Wakes the watchers where something changed.
-    pub(crate) fn wake_if<R: Wait>(&self, rt: &R, changed: bool) {
+    /// Where something changed those are woken who wait for that.
+    pub(crate) fn wake_if<R: Wait>(&self, rt: &R, changed: bool, work: Work) {
         if changed {
-            self.watchers.wake(rt);
+            self.watchers.wake(rt, work);
         }
     }
 }

@@ -10,6 +10,7 @@ ghost use Rattle.usb_library.specs.Calling.{Makes, Ticks};
 use crate::answered::{Answered, Submitted};
 use crate::caller::Caller;
 use crate::library::Library;
+use crate::waking::{Part, Work};
 use std::alloc::AllocError;
 use std::sync::Wait;
 use usb_book::{Naming, NotRecorded, Receipt, Recorder};
@@ -36,7 +37,7 @@ impl<L: Naming, P: Drop, D: Device, J: Recorder> Library<L, P, D, J> {
         ensures refused { IfErr result (λ x. (x.given ≡ request) × (x.payload ≡ callback) × (caller.new ≡ caller.old)) }
     {
         let submitted = self.desk.lock(rt).submit(caller, h, request, callback)?;
-        self.wake_if(rt, submitted.number.is_ok());
+        self.wake_if(rt, submitted.number.is_ok(), Work::Of(Part::Controller));
         Ok(submitted)
     }
 
@@ -53,7 +54,7 @@ impl<L: Naming, P: Drop, D: Device, J: Recorder> Library<L, P, D, J> {
         ensures refused { OnErr result (caller.new ≡ caller.old) }
     {
         let (receipt, taken) = self.desk.lock(rt).take(caller)?;
-        self.wake_if(rt, taken.is_some());
+        self.wake_if(rt, taken.is_some(), Work::None);
         Ok((receipt, taken))
     }
 
@@ -71,7 +72,7 @@ impl<L: Naming, P: Drop, D: Device, J: Recorder> Library<L, P, D, J> {
         ensures refused { OnErr result (caller.new ≡ caller.old) }
     {
         let answered = self.desk.lock(rt).stop(caller, h, n)?;
-        self.wake_if(rt, answered.has_changed());
+        self.wake_if(rt, answered.has_changed(), Work::None);
         Ok(answered)
     }
 
@@ -92,7 +93,7 @@ impl<L: Naming, P: Drop, D: Device, J: Recorder> Library<L, P, D, J> {
         ensures refused { IfErr result (λ x. (x.payload ≡ callback) × (caller.new ≡ caller.old)) }
     {
         let submitted = self.desk.lock(rt).again(caller, h, n, callback)?;
-        self.wake_if(rt, submitted.number.is_ok());
+        self.wake_if(rt, submitted.number.is_ok(), Work::Of(Part::Controller));
         Ok(submitted)
     }
 
@@ -115,7 +116,7 @@ impl<L: Naming, P: Drop, D: Device, J: Recorder> Library<L, P, D, J> {
             .desk
             .lock(rt)
             .again_with(caller, h, n, bytes, callback)?;
-        self.wake_if(rt, submitted.number.is_ok());
+        self.wake_if(rt, submitted.number.is_ok(), Work::Of(Part::Controller));
         Ok(submitted)
     }
 
@@ -132,7 +133,7 @@ impl<L: Naming, P: Drop, D: Device, J: Recorder> Library<L, P, D, J> {
         ensures refused { OnErr result (caller.new ≡ caller.old) }
     {
         let receipts = self.desk.lock(rt).tick(caller, now)?;
-        self.wake_if(rt, !receipts.is_empty());
+        self.wake_if(rt, !receipts.is_empty(), Work::Any);
         Ok(receipts)
     }
 }

@@ -11,24 +11,60 @@ use std::sync::{Mutex, Wait};
 use usb_book::{Naming, Recorder};
 use usb_core::Pending;
 use usb_device::Device;
+use usb_model::Reply;
 
-/// Those who wait for a change. Their lock is their own: whoever holds it takes no other.
+/// A worker, by its part of the work.
+#[derive(Clone, Copy, PartialEq, Eq, Debug)]
+pub enum Part {
+    /// Packets and orders.
+    Controller,
+    /// Events, results and their callbacks.
+    Events,
+}
+
+/// For whom a step may have made work that wasn't there before it.
+#[derive(Clone, Copy, PartialEq, Eq, Debug)]
+pub(crate) enum Work {
+    /// For nobody: a packet that ends no transfer, a result that goes out, a callback that ends.
+    None,
+    /// For one of the workers: a submission for the controller's, a transfer that ended for that of events.
+    Of(Part),
+    /// For either: whatever isn't part of each transfer.
+    Any,
+}
+
+/// For whom a packet made work, by what came of it: a transfer that ended has its event.
+pub(crate) fn of_packet(reply: &Reply) -> Work {
+    match reply {
+        Reply::Ended { .. } => Work::Of(Part::Events),
+        _ => Work::None,
+    }
+}
+
+/// For whom an event made work that was handled: there is an order, or an errand ended and its endpoint runs again.
+pub(crate) fn of_event(reply: &Reply, has_order: bool) -> Work {
+    match reply {
+        Reply::Settled { .. } => Work::Of(Part::Controller),
+        _ if has_order => Work::Of(Part::Controller),
+        _ => Work::None,
+    }
+}
+
+/// Threads that wait for the same. Their lock is their own: whoever holds it takes no other.
 ///
-/// As long as nobody watches it isn't taken. Whether somebody does is read after a call's step was made, and is said before
-/// `watch` comes back: so where a call finds nobody, whoever comes to watch looks later than its step, and finds that.
+/// As long as nobody waits it isn't taken. Whether somebody does is read after a call's step was made, and is said before
+/// `watch` comes back: so where a call finds nobody, whoever comes to wait looks later than its step, and finds that.
 #[derive(Drop)]
-pub(crate) struct Watchers {
-    stopping: AtomicBool,
-    watched: AtomicBool,
+struct Waiting {
+    any: AtomicBool,
     unparkers: Mutex<Vec<Unparker>>,
 }
 
-impl Watchers {
-    /// Nobody waits, and no worker is asked to stop.
-    pub(crate) fn new(alloc: Global) -> Watchers {
-        Watchers {
-            stopping: AtomicBool::new(false),
-            watched: AtomicBool::new(false),
+impl Waiting {
+    /// Nobody waits.
+    fn new(alloc: Global) -> Waiting {
+        Waiting {
+            any: AtomicBool::new(false),
             unparkers: Mutex::new(Vec::new(alloc)),
         }
     }
@@ -36,14 +72,14 @@ impl Watchers {
     /// One more.
     fn add<R: Wait>(&self, rt: &R, unparker: Unparker) -> Result<(), AllocError> {
         self.unparkers.lock(rt).push(unparker)?;
-        self.watched.store(true, Ordering::SeqCst);
+        self.any.store(true, Ordering::SeqCst);
         Ok(())
     }
 
     /// All are woken, where there are any.
     #[inline(always)]
-    pub(crate) fn wake<R: Wait>(&self, rt: &R) {
-        if self.watched.load(Ordering::SeqCst) {
+    fn wake<R: Wait>(&self, rt: &R) {
+        if self.any.load(Ordering::SeqCst) {
             self.wake_all(rt);
         }
     }
@@ -55,6 +91,60 @@ impl Watchers {
         for unparker in unparkers.iter() {
             unparker.unpark();
         }
+    }
+}
+
+/// Those who wait: for any change, or for work of their part.
+///
+/// A worker parks where one look showed nothing of its part. From then on its part has work only by a step that says so
+/// (`Work`), and who made that step unparks it afterwards: so it doesn't wait while there is work for it. It waits for
+/// the end too, which any step may bring: once the workers were asked to stop, each change wakes all.
+#[derive(Drop)]
+pub(crate) struct Watchers {
+    stopping: AtomicBool,
+    all: Waiting,
+    controllers: Waiting,
+    events: Waiting,
+}
+
+impl Watchers {
+    /// Nobody waits, and no worker is asked to stop.
+    pub(crate) fn new(alloc: Global) -> Watchers {
+        Watchers {
+            stopping: AtomicBool::new(false),
+            all: Waiting::new(alloc),
+            controllers: Waiting::new(alloc),
+            events: Waiting::new(alloc),
+        }
+    }
+
+    /// Those of one part.
+    fn of(&self, part: Part) -> &Waiting {
+        match part {
+            Part::Controller => &self.controllers,
+            Part::Events => &self.events,
+        }
+    }
+
+    /// Those are woken who wait for what a step did.
+    #[inline(always)]
+    pub(crate) fn wake<R: Wait>(&self, rt: &R, work: Work) {
+        self.all.wake(rt);
+        if self.stopping.load(Ordering::SeqCst) {
+            self.wake_workers(rt);
+            return;
+        }
+        match work {
+            Work::None => {}
+            Work::Of(part) => self.of(part).wake(rt),
+            Work::Any => self.wake_workers(rt),
+        }
+    }
+
+    /// The workers are woken.
+    fn wake_workers<R: Wait>(&self, rt: &R) {
+        self.controllers.wake(rt);
+        self.events.wake(rt);
     }
 }
 
@@ -82,13 +172,24 @@ impl<L: Naming, P: Drop, D: Device, J: Recorder> Library<L, P, D, J> {
     /// thread that looks, finds nothing to do, and parks then misses no change: what comes between is a token that lets
     /// it pass. An error where memory is refused.
     pub fn watch<R: Wait>(&self, rt: &R, unparker: Unparker) -> Result<(), AllocError> {
-        self.watchers.add(rt, unparker)
+        self.watchers.all.add(rt, unparker)
+    }
+
+    /// The same for a worker, who is unparked only after a call that may have made work of its part, and after each
+    /// change since the workers were asked to stop.
+    pub fn watch_part<R: Wait>(
+        &self,
+        rt: &R,
+        part: Part,
+        unparker: Unparker,
+    ) -> Result<(), AllocError> {
+        self.watchers.of(part).add(rt, unparker)
     }
 
     /// Asks the workers to end as soon as there is nothing to do.
     pub fn stop_workers<R: Wait>(&self, rt: &R) {
         self.watchers.stopping.store(true, Ordering::SeqCst);
-        self.watchers.wake(rt);
+        self.watchers.wake(rt, Work::Any);
     }
 
     /// What there is to do; None where the workers were asked to stop and there is nothing. Whether they were asked is

@@ -1,11 +1,12 @@
 //! What is to be done next.
 
 ghost use Rattle.std.specs.Prelude.{◌≡◌, ◌<◌, ◌≤◌, find};
+ghost use Rattle.usb_model.specs.declared.step.Step.TheVariants.{Command};
 ghost use Rattle.usb_model.specs.Setup.{Setup};
 ghost use Rattle.usb_model.specs.World.{World};
 ghost use Rattle.usb_shows.specs.Shows.{Core, Shows};
 ghost use Rattle.usb_state.specs.State.{Keeps};
-ghost use Rattle.usb_parts.specs.Pending.{IsPending, behind, can_answer, end_of, ends_from, serves};
+ghost use Rattle.usb_parts.specs.Pending.{IsPending, behind, can_answer, does_something, end_of, ends_from, serves};
 
 use crate::parts::Parts;
 use usb_device::Device;
@@ -34,11 +35,18 @@ impl<P, D: Device> Parts<P, D> {
     {
         Pending {
             serve: self.first_to_serve(behind(after)),
-            command: self.controller.command_ring().room() < 254,
+            command: self.has_order(),
             deliver: self.controller.event_ring().room() < 4095,
             take: self.flights.first_ended().is_some(),
             out: self.callers.is_any_out(),
         }
+    }
+
+    /// Whether an order waits for the controller. Takes no memory.
+    pub fn has_order(&self) -> bool
+        ensures { (setup : Setup) (w : World) (c : Core) → Keeps setup self.now c → Shows setup w c → result ≡ does_something setup w Command }
+    {
+        self.controller.command_ring().room() < 254
     }
 
     /// The first endpoint where a packet does something, from a place on.

@@ -10,7 +10,7 @@ use std::sync::Wait;
 use usb_book::{Naming, Recorder};
 use usb_core::Pending;
 use usb_device::Device;
-use usb_library::{Caller, Library};
+use usb_library::{Caller, Library, Part};
 
 /// A device answers one packet at the endpoint that the look showed. Want of memory is met by the next look.
 fn serve<L: Naming, P: Drop, D: Device, J: Recorder, G: Gate, R: Wait>(
@@ -76,7 +76,7 @@ pub fn controller_loop<L: Naming, P: Drop, D: Device, J: Recorder, G: Gate, R: W
     ensures works { Works is_controllers caller result }
 {
     let mut caller = caller;
-    let parking = Parking::new(rt, alloc, library);
+    let parking = Parking::new(rt, alloc, library, Part::Controller);
     for _ in rt.forever() {
         let Some(pending) = library.work(rt) else {
             break;

@@ -12,7 +12,7 @@ use usb_book::{Naming, Recorder};
 use usb_callback::Callback;
 use usb_core::{Pending, Taken};
 use usb_device::Device;
-use usb_library::{Caller, Library};
+use usb_library::{Caller, Library, Part};
 
 /// An event is handled, if the look showed one. Want of memory is met by the next look.
 fn deliver<L: Naming, C: Callback, D: Device, J: Recorder, G: Gate, R: Wait>(
@@ -116,7 +116,7 @@ pub fn event_loop<L: Naming, C: Callback, D: Device, J: Recorder, G: Gate, R: Wa
     ensures works { Works is_events caller result }
 {
     let mut caller = caller;
-    let parking = Parking::new(rt, alloc, library);
+    let parking = Parking::new(rt, alloc, library, Part::Events);
     for _ in rt.forever() {
         let Some(pending) = library.work(rt) else {
             break;

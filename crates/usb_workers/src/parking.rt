@@ -5,7 +5,7 @@ use std::alloc::Global;
 use std::sync::Wait;
 use usb_book::{Naming, Recorder};
 use usb_device::Device;
-use usb_library::Library;
+use usb_library::{Library, Part};
 
 /// What a worker waits on while there is nothing to do. Where memory was refused for a parker it doesn't wait, and looks
 /// again and again.
@@ -15,18 +15,19 @@ pub(crate) struct Parking {
 }
 
 impl Parking {
-    /// A parker that the library unparks after each change, if there is memory for one.
+    /// A parker that the library unparks where there may be work of this part, if there is memory for one.
     pub(crate) fn new<L: Naming, P: Drop, D: Device, J: Recorder, R: Wait>(
         rt: &R,
         alloc: Global,
         library: &Library<L, P, D, J>,
+        part: Part,
     ) -> Parking {
         Parking {
-            parker: watched(rt, alloc, library),
+            parker: watched(rt, alloc, library, part),
         }
     }
 
-    /// Waits for a change since the last look; a change that came meanwhile lets it pass at once.
+    /// Waits for work since the last look; what came meanwhile lets it pass at once.
     pub(crate) fn park<R: Wait>(&self, rt: &R) {
         if let Some(parker) = &self.parker {
             parker.park(rt);
@@ -39,9 +40,10 @@ fn watched<L: Naming, P: Drop, D: Device, J: Recorder, R: Wait>(
     rt: &R,
     alloc: Global,
     library: &Library<L, P, D, J>,
+    part: Part,
 ) -> Option<Parker> {
     let parker = Parker::new(alloc).ok()?;
     let unparker = parker.unparker().clone().ok()?;
-    library.watch(rt, unparker).ok()?;
+    library.watch_part(rt, part, unparker).ok()?;
     Some(parker)
 }
