@@ -1,6 +1,6 @@
 //! The devices of a stand.
 
-ghost use Rattle.std.specs.Prelude.{◌≡◌, IfOk, OnOk};
+ghost use Rattle.std.specs.Prelude.{◌≡◌, IfOk, OnOk, length};
 ghost use Rattle.usb_device.specs.Scripts.{Takes};
 ghost use Rattle.usb_state.specs.Making.{setup_of};
 ghost use Rattle.usb_stand.specs.Stand.{Joins};
@@ -67,7 +67,8 @@ fn add_twice(
     scripts: Sequence<Script>,
 ) -> Result<()>
     requires { setup_of one.old ≡ setup_of other.old }
-    ensures { OnOk result (setup_of one.new ≡ setup_of other.new) }
+    ensures joins { OnOk result (Joins descriptor.now scripts (setup_of one.old) (setup_of one.new)) }
+    ensures same { OnOk result (setup_of one.new ≡ setup_of other.new) }
 {
     add(alloc, one, descriptor, scripts.clone()?)?;
     add(alloc, other, descriptor, scripts)
@@ -76,27 +77,32 @@ fn add_twice(
 /// So many devices with packets of at most `packet` bytes. The endpoints 81 and 83 of each answer with packets of these sizes, whose
 /// bytes are numbered from 1 on, 255 followed by 0. An error where memory is refused, or a number is out of range: 4 devices,
 /// 1,024 bytes, 4,096 packets.
-pub fn devices(alloc: Global, count: u8, packet: u16, sizes: &[u16]) -> Result<Setup<TableDevice>> {
+#[tactic(auto, using(crate::proofs::Joining::one_more))]
+pub fn devices(alloc: Global, count: u8, packet: u16, sizes: &[u16]) -> Result<Setup<TableDevice>>
+    ensures { IfOk result (λ setup. length (setup_of setup) ≡ count) }
+{
     let mut setup = Setup::new(alloc)?;
     let descriptor = descriptor(packet);
-    for _ in 0..count {
+    for added in 0..count {
         add(alloc, &mut setup, &descriptor, scripts(alloc, sizes)?)?;
     }
     Ok(setup)
 }
 
 /// The same devices twice.
+#[tactic(auto, using(crate::proofs::Joining::one_more))]
 pub fn twins(
     alloc: Global,
     count: u8,
     packet: u16,
     sizes: &[u16],
 ) -> Result<(Setup<TableDevice>, Setup<TableDevice>)>
-    ensures { IfOk result (λ both. setup_of both.1 ≡ setup_of both.0) }
+    ensures count { IfOk result (λ both. length (setup_of both.0) ≡ count) }
+    ensures same { IfOk result (λ both. setup_of both.1 ≡ setup_of both.0) }
 {
     let (mut one, mut other) = (Setup::new(alloc)?, Setup::new(alloc)?);
     let descriptor = descriptor(packet);
-    for _ in 0..count {
+    for added in 0..count {
         add_twice(
             alloc,
             &mut one,

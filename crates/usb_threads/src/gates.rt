@@ -103,7 +103,7 @@ pub fn close_amid_rounds<R: Threads + Wait + Sync>(rt: &R, alloc: Global) -> Res
     seen.is_told(alloc, ROUNDS)
 }
 
-/// A thread that reads 20 bytes, and cancels when a worker comes to a point, or the callback was called.
+/// A thread that reads 20 bytes, cancels when a worker comes to a point, or the callback was called, and closes once it can.
 fn cancelling(alloc: Global, reader: Reader, halt: &Halt, called: &Halt) -> Result<Vec<Act>> {
     let (h, n) = (reader.h, 0);
     let mut acts = claimed(alloc, reader)?;
@@ -111,6 +111,7 @@ fn cancelling(alloc: Global, reader: Reader, halt: &Halt, called: &Halt) -> Resu
     acts.push(Act::Tell(Signal::AwaitEither(halt.here.again()?, called.here.again()?)))?;
     acts.push(Act::Do(Step::Cancel { h, n }))?;
     acts.push(Act::Tell(Signal::Raise(halt.on.again()?)))?;
+    acts.push(Act::Until(Step::Close { h }))?;
     Ok(acts)
 }
 
@@ -140,7 +141,8 @@ const ENDINGS: [&str; 4] = [
     "h1 called 0 ep 81 round 0 CANCELLED 16 data 0102030405060708090a0b0c0d0e0f10\n",
 ];
 
-/// A transfer is cancelled at each point of the workers: it is called back once, and the bytes are the first of its device's.
+/// A transfer is cancelled at each point of the workers: it is called back once, the bytes are the first of its device's, and the
+/// endpoint is at rest in the end.
 pub fn cancel_points<R: Threads + Wait + Sync>(rt: &R, alloc: Global) -> Result<()> {
     for at in [
         Point::Serve,
@@ -151,6 +153,46 @@ pub fn cancel_points<R: Threads + Wait + Sync>(rt: &R, alloc: Global) -> Result<
         Point::Answer,
     ] {
         cancelled_at(rt, alloc, at)?;
+    }
+    Ok(())
+}
+
+/// How often a thread gives way before it takes a worker to be parked.
+const PARKING_TURNS: u64 = 10_000;
+
+/// What two reads are told of which the first asked for less than its device sent.
+const OVERRUN: &str = "h1 called 0 ep 81 round 0 OVERFLOW 0 data -\n\
+    h1 called 1 ep 81 round 0 COMPLETED 8 data 090a0b0c0d0e0f10\n";
+
+/// A thread that reads less than its device sends, and then all of it; lets an event go on once the other worker has nothing to
+/// do; and closes once it can.
+fn overrunning(alloc: Global, reader: Reader, halt: &Halt) -> Result<Vec<Act>> {
+    let h = reader.h;
+    let mut acts = claimed(alloc, reader)?;
+    acts.push(Act::Submit(h, reader.read(1, 0), Told::stop()))?;
+    acts.push(Act::Submit(h, reader.read(8, 0), Told::stop()))?;
+    acts.push(Act::Tell(Signal::Await(halt.here.again()?)))?;
+    acts.push(Act::Tell(Signal::Yield(PARKING_TURNS)))?;
+    acts.push(Act::Tell(Signal::Raise(halt.on.again()?)))?;
+    acts.push(Act::Until(Step::Close { h }))?;
+    Ok(acts)
+}
+
+/// The same, where the nth event is held.
+fn event_after_rest<R: Threads + Wait + Sync>(rt: &R, alloc: Global, nth: u64) -> Result<()> {
+    let halt = Halt::new(alloc)?;
+    let acts = overrunning(alloc, Reader::new(1, 0, 0)?, &halt)?;
+    let gates = Turnstile::at(Point::Deliver, nth, &halt)?;
+    let seen = play_halted(rt, alloc, Stand::of_one(&[8, 8]), gates, &halt, acts)?;
+    seen.is_answered(alloc, "done\ndone\nnumber 0\nnumber 1\ndone\n")?;
+    seen.is_told(alloc, OVERRUN)
+}
+
+/// A packet that is too long halts its endpoint, and the controller's worker has nothing to do. Then an event is handled, of the
+/// transfer or of one of the two orders that set the endpoint going again: it wakes that worker.
+pub fn events_after_rest<R: Threads + Wait + Sync>(rt: &R, alloc: Global) -> Result<()> {
+    for nth in [1, 2, 3] {
+        event_after_rest(rt, alloc, nth)?;
     }
     Ok(())
 }

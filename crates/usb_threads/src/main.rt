@@ -51,9 +51,13 @@ fn play_gates<R: Threads + Wait + Sync + Print>(rt: &R, alloc: Global) -> Result
     gates::two_loops(rt, alloc)?;
     println!(rt; "two loops: a callback is called while the controller waits")?;
     gates::cancel_points(rt, alloc)?;
-    println!(rt; "cancel points: cancelled at each point, called back once")?;
+    println!(rt; "cancel points: cancelled at each point, called back once, and closed")?;
     gates::close_amid_rounds(rt, alloc)?;
     println!(rt; "close amid rounds: refused while a callback is out, done after the last")?;
+    gates::events_after_rest(rt, alloc)?;
+    println!(rt;
+        "events after rest: each wakes a worker that has parked, and the endpoint goes on"
+    )?;
     Ok(())
 }
 
