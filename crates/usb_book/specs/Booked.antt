@@ -6,16 +6,18 @@ use Rattle.usb_model.specs.declared.refused.Refused.TheVariants.{NoMem}
 use Rattle.usb_model.specs.declared.reply.Reply.TheVariants.{Number, Refused as IsRefused}
 use Rattle.usb_model.specs.declared.request.Request.{Request}
 use Rattle.usb_model.specs.declared.step.Step.{Step}
-use Rattle.usb_model.specs.declared.step.Step.TheVariants.{Answer, Submit}
+use Rattle.usb_model.specs.declared.step.Step.TheVariants.{Answer, Deliver, Submit, Take}
 use Rattle.usb_model.specs.declared.verdict.Verdict.TheVariants.{AgainWith}
 use Rattle.usb_model.specs.Setup.{Setup}
 use Rattle.usb_model.specs.World.{World, new_world, turn, world_from}
 use Rattle.usb_model.specs.World.Due.{Dated}
 use Rattle.usb_model.specs.World.Journal.{world_run}
 use Rattle.usb_parts.specs.declared.submitting.Unaccepted.{Unaccepted}
+use Rattle.usb_parts.specs.Pending.{does_something}
 use Rattle.usb_state.specs.Calls.{Stays}
 use Rattle.usb_state.specs.Carrying.{StillCarries}
 use Rattle.usb_state.specs.State.{ShowsWorld, State}
+use Rattle.usb_book.specs.declared.events.Events.{Events}
 use Rattle.usb_book.specs.declared.place.Place.{Place}
 use Rattle.usb_book.specs.declared.recording.NotRecorded.{NotRecorded}
 use Rattle.usb_book.specs.Seen.{Marked, Receipted}
@@ -36,6 +38,11 @@ entries_of journal = map (λ p. p.entry) journal
 -- the world where the run of a journal's steps ends
 abbrev pub world_where : Setup → List Place → World
 world_where setup journal = world_from setup (new_world setup) (steps_of journal)
+
+-- what there is to do with events where a journal ends
+abbrev pub HasEvents : Setup → List Place → Events → Type 0
+HasEvents setup journal events =
+    (events.deliver ≡ does_something setup (world_where setup journal) Deliver) × (events.take ≡ does_something setup (world_where setup journal) Take)
 
 -- the entry of one step more
 abbrev pub next_entry : Setup → List Place → Step → Entry

@@ -2,14 +2,15 @@
 
 ghost use Rattle.std.specs.Prelude.{◌≡◌, ◌==◌, ℕ, ◌≤◌, All, IfOk, Some, [], count_by, length, slice_get};
 ghost use Rattle.std.specs.Option.{option_map_or};
-ghost use Rattle.usb_model.specs.declared.step.Step.TheVariants.{Command};
+ghost use Rattle.usb_model.specs.declared.step.Step.TheVariants.{Command, Deliver, Take};
 ghost use Rattle.usb_parts.specs.Pending.{IsPending, does_something};
 ghost use Rattle.usb_roll.specs.Tokens.{new_keeper};
 ghost use Rattle.usb_state.specs.Carrying.{Carries, Kept};
 ghost use Rattle.usb_state.specs.Making.{setup_of};
-ghost use Rattle.usb_book.specs.Booked.{IsRun, world_where};
+ghost use Rattle.usb_book.specs.Booked.{HasEvents, IsRun, world_where};
 
 use crate::closed::Closed;
+use crate::events::Events;
 use crate::log::Log;
 use crate::mark::Mark;
 use crate::naming::Naming;
@@ -111,6 +112,31 @@ impl<L: Naming, P, D: Device, J: Recorder> Book<L, P, D, J> {
         ensures { result ≡ does_something self.now.setup (world_where self.now.setup self.now.journal) Command }
     {
         self.core.has_order()
+    }
+
+    /// Whether an event waits to be handled, and whether a result waits to go out. Takes no memory.
+    pub fn events(&self) -> Events
+        ensures events { HasEvents self.now.setup self.now.journal result }
+        ensures run { IsRun self.now.setup self.now.journal }
+    {
+        Events {
+            deliver: self.has_event(),
+            take: self.has_result(),
+        }
+    }
+
+    /// Whether an event waits to be handled.
+    fn has_event(&self) -> bool
+        ensures { result ≡ does_something self.now.setup (world_where self.now.setup self.now.journal) Deliver }
+    {
+        self.core.has_event()
+    }
+
+    /// Whether a result waits to go out.
+    fn has_result(&self) -> bool
+        ensures { result ≡ does_something self.now.setup (world_where self.now.setup self.now.journal) Take }
+    {
+        self.core.has_result()
     }
 
     /// A mark at the end of the journal, whose bearer has no places yet.

@@ -6,6 +6,7 @@
 
 mod book;
 mod closed;
+mod events;
 mod journal;
 mod kept;
 mod log;
@@ -24,6 +25,7 @@ mod timer;
 
 pub use book::Book;
 pub use closed::{Closed, Whole};
+pub use events::Events;
 pub use journal::{Draft, Journal};
 pub use mark::Mark;
 pub use naming::Naming;

@@ -6,7 +6,7 @@ use Rattle.usb_model.specs.declared.item.Ask.TheVariants.{Time}
 use Rattle.usb_model.specs.declared.result.TransferResult.{TransferResult}
 use Rattle.usb_model.specs.declared.shared.Tagged.{Tagged}
 use Rattle.usb_model.specs.declared.step.Step.{Step}
-use Rattle.usb_model.specs.declared.step.Step.TheVariants.{Command, Expire}
+use Rattle.usb_model.specs.declared.step.Step.TheVariants.{Expire}
 use Rattle.usb_model.specs.Setup.{Setup, endpoints_of, interface_of}
 use Rattle.usb_model.specs.World.{World, holder}
 use Rattle.usb_device.specs.Pipe.{pipe_at}
@@ -56,9 +56,9 @@ module _ {P : Type 0} where
   pub pending_shown : (s : State P) (after : Option (ℕ × ℕ)) (p : Pending) → ((setup : Setup) (w : World) (c : Core) → Keeps setup s c → Shows setup w c → IsPending setup w after p) → (setup : Setup) (w : World) → ShowsWorld setup s w → IsPending setup w after p
   pending_shown s after p reads setup w shown = reads setup w shown.0 shown.1 shown.2
 
-  -- an order waits for the core where one does in the world
-  pub order_shown : (s : State P) (waits : Bool) → ((setup : Setup) (w : World) (c : Core) → Keeps setup s c → Shows setup w c → waits ≡ does_something setup w Command) → (setup : Setup) (w : World) → ShowsWorld setup s w → waits ≡ does_something setup w Command
-  order_shown s waits reads setup w shown = reads setup w shown.0 shown.1 shown.2
+  -- a step does something by the core where it does by the world
+  pub work_shown : (s : State P) (step : Step) (waits : Bool) → ((setup : Setup) (w : World) (c : Core) → Keeps setup s c → Shows setup w c → waits ≡ does_something setup w step) → (setup : Setup) (w : World) → ShowsWorld setup s w → waits ≡ does_something setup w step
+  work_shown s step waits reads setup w shown = reads setup w shown.0 shown.1 shown.2
 
 module _ {P : Type 0} where
   -- the device of a held endpoint stands as the world has it

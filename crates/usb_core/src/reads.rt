@@ -2,7 +2,7 @@
 
 ghost use Rattle.std.specs.Prelude.{◌≡◌, ℕ, Some, length, slice_get};
 ghost use Rattle.std.specs.Option.{option_copied, option_map_or};
-ghost use Rattle.usb_model.specs.declared.step.Step.TheVariants.{Command};
+ghost use Rattle.usb_model.specs.declared.step.Step.TheVariants.{Command, Deliver, Take};
 ghost use Rattle.usb_model.specs.Setup.{Setup as ModelSetup};
 ghost use Rattle.usb_model.specs.World.{World, holder};
 ghost use Rattle.usb_state.specs.Making.{setup_of};
@@ -52,6 +52,20 @@ impl<P, D: Device> Core<P, D> {
         ensures { (setup : ModelSetup) (w : World) → ShowsWorld setup self.now w → result ≡ does_something setup w Command }
     {
         self.parts.has_order()
+    }
+
+    /// Whether an event waits to be handled. Takes no memory.
+    pub fn has_event(&self) -> bool
+        ensures { (setup : ModelSetup) (w : World) → ShowsWorld setup self.now w → result ≡ does_something setup w Deliver }
+    {
+        self.parts.has_event()
+    }
+
+    /// Whether a result waits to go out. Takes no memory.
+    pub fn has_result(&self) -> bool
+        ensures { (setup : ModelSetup) (w : World) → ShowsWorld setup self.now w → result ≡ does_something setup w Take }
+    {
+        self.parts.has_result()
     }
 
     /// The controller, with its rings and the contexts of its endpoints: for those who look at bytes.

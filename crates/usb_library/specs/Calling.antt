@@ -7,10 +7,11 @@ use Rattle.usb_model.specs.declared.reply.Reply.TheVariants.{Idle, Refused as Is
 use Rattle.usb_model.specs.declared.step.Step.{Step}
 use Rattle.usb_model.specs.Setup.{Setup}
 use Rattle.usb_model.specs.World.Due.{due}
+use Rattle.usb_book.specs.declared.events.Events.{Events}
 use Rattle.usb_book.specs.declared.place.Place.{Place}
 use Rattle.usb_parts.specs.declared.pending.Pending.{Pending}
 use Rattle.usb_parts.specs.Pending.{IsPending}
-use Rattle.usb_book.specs.Booked.{AreMoved, Booked, IsRun, asked, asks, dated, world_where}
+use Rattle.usb_book.specs.Booked.{AreMoved, Booked, HasEvents, IsRun, asked, asks, dated, world_where}
 use Rattle.usb_book.specs.Seen.{Receipted, receipts_from}
 
 -- what a library is made of: the name and the parts of its ledger, the roll of its journal, and its devices
@@ -55,6 +56,10 @@ pub record Ticks (setup : Setup) (now : ℕ) (old : Calling) (given : List Recei
 -- what was to be done at some moment of a library over these devices: by the world where the run of its steps so far ended
 abbrev pub WasPending : Setup → Pending → Type 0
 WasPending setup pending = (journal : List Place) × (after : Option (ℕ × ℕ)) × IsRun setup journal × IsPending setup (world_where setup journal) after pending
+
+-- what there was to do with events at some moment
+abbrev pub HadEvents : Setup → Events → Type 0
+HadEvents setup events = (journal : List Place) × IsRun setup journal × HasEvents setup journal events
 
 -- why a step was refused
 abbrev pub refusal : Reply → Option Refused

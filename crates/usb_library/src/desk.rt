@@ -7,14 +7,14 @@ ghost use Rattle.usb_model.specs.Numbers.{takes_payload};
 ghost use Rattle.usb_parts.specs.Pending.{does_something};
 ghost use Rattle.usb_state.specs.Calls.{called_entry};
 ghost use Rattle.usb_book.specs.Booked.{answer_entry, world_where};
-ghost use Rattle.usb_library.specs.Calling.{Makes, Ticks, WasPending};
+ghost use Rattle.usb_library.specs.Calling.{HadEvents, Makes, Ticks, WasPending};
 
 use crate::answered::{Answered, Submitted};
 use crate::caller::Caller;
 use std::alloc::AllocError;
 use std::marker::Model;
 use std::sync::ledger::{self, Share};
-use usb_book::{Book, Naming, NotRecorded, Receipt, Recorder};
+use usb_book::{Book, Events, Naming, NotRecorded, Receipt, Recorder};
 use usb_core::{Pending, Taken};
 use usb_device::Device;
 use usb_model::{Bytes, DeviceNo, EpAddr, Name, Request, Step};
@@ -89,6 +89,13 @@ impl<L: Naming, P: Drop, D: Device, J: Recorder> Desk<L, P, D, J> {
         ensures { WasPending L.setup result }
     {
         self.book.pending(self.served)
+    }
+
+    /// What there is to do with events.
+    pub(crate) fn events(&self) -> Events
+        ensures { HadEvents L.setup result }
+    {
+        self.book.events()
     }
 
     /// Makes one step for a caller that takes no payload. At an error memory was refused, and nothing changed.

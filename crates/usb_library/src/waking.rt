@@ -1,14 +1,14 @@
 //! Who is woken when something changed, and when all is at rest.
 
 ghost use Rattle.std.specs.Prelude.{IfSome};
-ghost use Rattle.usb_library.specs.Calling.{WasPending};
+ghost use Rattle.usb_library.specs.Calling.{HadEvents, WasPending};
 
 use crate::library::Library;
 use crossbeam_utils::sync::Unparker;
 use std::alloc::{AllocError, Global};
 use std::sync::atomic::{AtomicBool, Ordering};
 use std::sync::{Mutex, Wait};
-use usb_book::{Naming, Recorder};
+use usb_book::{Events, Naming, Recorder};
 use usb_core::Pending;
 use usb_device::Device;
 use usb_model::Reply;
@@ -203,6 +203,18 @@ impl<L: Naming, P: Drop, D: Device, J: Recorder> Library<L, P, D, J> {
             return None;
         }
         Some(pending)
+    }
+
+    /// What there is to do with events, which is known without a look at the endpoints; None where the workers were asked
+    /// to stop and there is nothing to do at all.
+    pub fn events<R: Wait>(&self, rt: &R) -> Option<Events>
+        ensures { IfSome result (HadEvents L.setup) }
+    {
+        let events = self.desk.lock(rt).events();
+        if events.is_none() && self.watchers.stopping.load(Ordering::SeqCst) && self.rested(rt) {
+            return None;
+        }
+        Some(events)
     }
 
     /// Whether workers were asked to stop, and there is nothing to do.

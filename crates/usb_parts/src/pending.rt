@@ -1,7 +1,7 @@
 //! What is to be done next.
 
 ghost use Rattle.std.specs.Prelude.{◌≡◌, ◌<◌, ◌≤◌, find};
-ghost use Rattle.usb_model.specs.declared.step.Step.TheVariants.{Command};
+ghost use Rattle.usb_model.specs.declared.step.Step.TheVariants.{Command, Deliver, Take};
 ghost use Rattle.usb_model.specs.Setup.{Setup};
 ghost use Rattle.usb_model.specs.World.{World};
 ghost use Rattle.usb_shows.specs.Shows.{Core, Shows};
@@ -36,8 +36,8 @@ impl<P, D: Device> Parts<P, D> {
         Pending {
             serve: self.first_to_serve(behind(after)),
             command: self.has_order(),
-            deliver: self.controller.event_ring().room() < 4095,
-            take: self.flights.first_ended().is_some(),
+            deliver: self.has_event(),
+            take: self.has_result(),
             out: self.callers.is_any_out(),
         }
     }
@@ -47,6 +47,20 @@ impl<P, D: Device> Parts<P, D> {
         ensures { (setup : Setup) (w : World) (c : Core) → Keeps setup self.now c → Shows setup w c → result ≡ does_something setup w Command }
     {
         self.controller.command_ring().room() < 254
+    }
+
+    /// Whether an event waits to be handled. Takes no memory.
+    pub fn has_event(&self) -> bool
+        ensures { (setup : Setup) (w : World) (c : Core) → Keeps setup self.now c → Shows setup w c → result ≡ does_something setup w Deliver }
+    {
+        self.controller.event_ring().room() < 4095
+    }
+
+    /// Whether a result waits to go out. Takes no memory.
+    pub fn has_result(&self) -> bool
+        ensures { (setup : Setup) (w : World) (c : Core) → Keeps setup self.now c → Shows setup w c → result ≡ does_something setup w Take }
+    {
+        self.flights.first_ended().is_some()
     }
 
     /// The first endpoint where a packet does something, from a place on.

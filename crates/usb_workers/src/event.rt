@@ -8,9 +8,9 @@ use crate::gate::{Gate, Point};
 use crate::parking::Parking;
 use std::alloc::Global;
 use std::sync::Wait;
-use usb_book::{Naming, Recorder};
+use usb_book::{Events, Naming, Recorder};
 use usb_callback::Callback;
-use usb_core::{Pending, Taken};
+use usb_core::Taken;
 use usb_device::Device;
 use usb_library::{Caller, Library, Part};
 
@@ -20,11 +20,11 @@ fn deliver<L: Naming, C: Callback, D: Device, J: Recorder, G: Gate, R: Wait>(
     library: &Library<L, C, D, J>,
     gate: &mut G,
     caller: &mut Caller<L>,
-    pending: &Pending,
+    events: &Events,
 )
     ensures { Works is_events caller.old caller.new }
 {
-    if pending.deliver {
+    if events.deliver {
         gate.pass(rt, Point::Deliver);
         let _answered = library.deliver(rt, caller);
     }
@@ -71,11 +71,11 @@ fn take_and_call<L: Naming, C: Callback, D: Device, J: Recorder, G: Gate, R: Wai
     library: &Library<L, C, D, J>,
     gate: &mut G,
     caller: &mut Caller<L>,
-    pending: &Pending,
+    events: &Events,
 )
     ensures { Works is_events caller.old caller.new }
 {
-    if !pending.take {
+    if !events.take {
         return;
     }
     gate.pass(rt, Point::Take);
@@ -91,20 +91,20 @@ fn turn<L: Naming, C: Callback, D: Device, J: Recorder, G: Gate, R: Wait>(
     gate: &mut G,
     caller: &mut Caller<L>,
     parking: &Parking,
-    pending: &Pending,
+    events: &Events,
 )
     ensures { Works is_events caller.old caller.new }
 {
-    if !pending.deliver && !pending.take {
+    if events.is_none() {
         parking.park(rt);
         return;
     }
-    deliver(rt, library, gate, caller, pending);
-    take_and_call(rt, library, gate, caller, pending);
+    deliver(rt, library, gate, caller, events);
+    take_and_call(rt, library, gate, caller, events);
 }
 
 /// Handles events (libusb 1.0, `libusb_handle_events`), takes results out, calls their callbacks with no lock held and tells their
-/// verdicts, until the library is rested: a Deliver or Take only where `pending` showed one, each behind the gate.
+/// verdicts, until the library is rested: a Deliver or Take only where a look showed one, each behind the gate.
 /// With nothing to do it parks. The caller comes back; its steps grew by Deliver, Take and Answer alone.
 pub fn event_loop<L: Naming, C: Callback, D: Device, J: Recorder, G: Gate, R: Wait>(
     rt: &R,
@@ -118,10 +118,10 @@ pub fn event_loop<L: Naming, C: Callback, D: Device, J: Recorder, G: Gate, R: Wa
     let mut caller = caller;
     let parking = Parking::new(rt, alloc, library, Part::Events);
     for _ in rt.forever() {
-        let Some(pending) = library.work(rt) else {
+        let Some(events) = library.events(rt) else {
             break;
         };
-        turn(rt, library, gate, &mut caller, &parking, &pending);
+        turn(rt, library, gate, &mut caller, &parking, &events);
     }
     caller
 }

@@ -1,0 +1,8 @@
+use Rattle.std.proofs.Common.{subst, sym}
+use Rattle.usb_model.specs.declared.step.Step.TheVariants.{Deliver}
+use Rattle.usb_state.specs.State.{ShowsWorld, State}
+use Rattle.usb_core.proofs.Shown.{work_shown}
+use Rattle.usb_core.proofs.calls.Core.has_event.Goals as goal
+
+pub returns : goal.returns
+returns g c = λ setup w shown. work_shown c.self.inside.parts Deliver c.has_event.result c.has_event.ensures setup w (subst (λ (s : State g.row.P.Denot). ShowsWorld setup s w) (sym c.self.view_is) shown)

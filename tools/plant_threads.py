@@ -1,0 +1,64 @@
+#!/usr/bin/env python3
+"""Makes the threads' code wrong where no contract can see it, one patch at a time, and says what a scene says to that:
+tools/plant_threads.py [NAME..]
+
+Each file of tools/plants/threads is a patch of code: a lock held too long, a wake that isn't made, a worker that doesn't
+wait. In a copy of the repository it is applied, and the scenes of usb_threads are tried, unproved: one has to fail, or to
+hang, for which it has two minutes. Some hangs are a matter of how threads happen to run, so it is tried up to three times.
+Status 1 where no scene sees a change. Needs patch; a minute or more each.
+"""
+import pathlib
+import shutil
+import subprocess
+import sys
+import tempfile
+
+ROOT = pathlib.Path(__file__).resolve().parent.parent
+PLANTS = ROOT / "tools" / "plants" / "threads"
+TRIES = 3
+
+
+def played(crate):
+    """Plays the scenes. Returns what shows that something is wrong, or None where all is as it has to be."""
+    try:
+        ran = subprocess.run(["rt", "try"], cwd=crate, capture_output=True, text=True, timeout=240)
+    except subprocess.TimeoutExpired:
+        return "it hangs"
+    expected = (crate / "stdout").read_text().splitlines()
+    lines = ran.stdout.splitlines()
+    seen = [it for it in expected if it in lines]
+    if seen == expected and ran.returncode == 0:
+        return None
+    if "checked:" not in ran.stdout + ran.stderr:
+        return "NOT TRIED: " + (ran.stdout + ran.stderr).strip()[-400:]
+    return f"fails behind '{seen[-1] if seen else 'nothing'}'"
+
+
+def seen(crate):
+    """The same, tried several times."""
+    for _ in range(TRIES):
+        shown = played(crate)
+        if shown:
+            return shown
+    return None
+
+
+def main(names):
+    plants = [it for it in sorted(PLANTS.glob("*.patch")) if not names or it.stem in names]
+    unseen = 0
+    with tempfile.TemporaryDirectory(prefix="plants-") as room:
+        root = pathlib.Path(room) / "tirnouch"
+        shutil.copytree(ROOT, root, ignore=shutil.ignore_patterns(".git", "out"))
+        (root / ".git").mkdir()
+        for plant in plants:
+            patch = ["patch", "-p1", "--quiet", "-d", str(root), "-i", str(plant)]
+            subprocess.run(patch, check=True)
+            shown = seen(root / "crates" / "usb_threads")
+            subprocess.run([*patch, "--reverse"], check=True)
+            print(f"{plant.stem}: {shown or 'NO SCENE SEES IT'}", flush=True)
+            unseen += shown is None or shown.startswith("NOT TRIED")
+    return 1 if unseen else 0
+
+
+if __name__ == "__main__":
+    sys.exit(main(sys.argv[1:]))
