@@ -25,6 +25,15 @@ const EACH: u64 = 1_000;
 /// How many times a transfer takes the lock: once for each of its five calls.
 const CALLS: u64 = 5;
 
+/// How many squares take about as long as a call holds the lock.
+const HOLD: u64 = 120;
+
+/// How many lines of a processor's cache a call writes to, about.
+const LINES: usize = 11;
+
+/// How many numbers such a line has.
+const APART: usize = 8;
+
 /// The oldest result, if one waits.
 fn take<L: Naming, D: Device, R: Wait>(
     rt: &R,
@@ -201,17 +210,40 @@ fn transfers(two: bool) -> u128
     if two { 2 * each } else { each }
 }
 
-/// Takes a lock as often as a thread's transfers do, and does next to nothing under it.
-fn count<R: Wait>(rt: &R, lock: &Mutex<u64>) {
+/// A number of a row of squares, each of which waits for the one before it.
+fn far_from(number: u64) -> u64 {
+    let mut number = number;
+    for _ in 0..HOLD {
+        number = number.wrapping_mul(number).wrapping_add(1);
+    }
+    number
+}
+
+/// Adds a number at each of some places in memory that are apart.
+fn touch(numbers: &mut Vec<u64>, more: u64) {
+    for number in numbers.iter_mut().step_by(APART) {
+        *number = number.wrapping_add(more);
+    }
+}
+
+/// Takes a lock as often as a thread's transfers do, holds it about as long, and writes to as much memory under it.
+fn count<R: Wait>(rt: &R, lock: &Mutex<Vec<u64>>) {
+    let mut last = 0;
     for _ in 0..ROUNDS * EACH * CALLS {
-        let mut number = lock.lock(rt);
-        *number = number.wrapping_add(1);
+        let mut numbers = lock.lock(rt);
+        last = far_from(last);
+        touch(&mut numbers, last);
     }
 }
 
 /// The nanoseconds of five such turns of a lock, of one thread or of two.
-fn of_lock<K: Clock, R: Threads + Wait + Sync>(rt: &R, clock: &K, two: bool) -> Result<u128> {
-    let lock = Mutex::new(0_u64);
+fn of_lock<K: Clock, R: Threads + Wait + Sync>(
+    rt: &R,
+    alloc: Global,
+    clock: &K,
+    two: bool,
+) -> Result<u128> {
+    let lock = Mutex::new(vec![in alloc; 0_u64; LINES * APART]?);
     let shared = &lock;
     let start = Instant::now(clock)?;
     if two {
@@ -232,7 +264,10 @@ pub fn pair<K: Clock, R: Threads + Wait + Sync>(
         of_library(rt, alloc, clock, false)?,
         of_library(rt, alloc, clock, true)?,
     );
-    let (lock_one, lock_two) = (of_lock(rt, clock, false)?, of_lock(rt, clock, true)?);
+    let (lock_one, lock_two) = (
+        of_lock(rt, alloc, clock, false)?,
+        of_lock(rt, alloc, clock, true)?,
+    );
     Ok(format!(in alloc;
         "pair: IN 8 in its own thread, {one} ns, in one of two {two} ns; five turns of a lock, {lock_one} ns, in one of two {lock_two} ns"
     )?)
