@@ -24,7 +24,7 @@ def played(crate):
     ran = subprocess.run(["rt", "try"], cwd=crate, capture_output=True, text=True)
     said = ran.stdout + ran.stderr
     if "did not end within the time limit" in said:
-        return "hangs"
+        return f"hangs, the last line was: {next((it for it in reversed(said.splitlines()) if it.startswith('| ')), 'none')}"
     if "run=ended" not in said:
         return f"{NOT_TRIED}: {said.strip()[-400:]}"
     if ran.stdout == (crate / "stdout").read_text() and ran.returncode == 0:
