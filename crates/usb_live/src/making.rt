@@ -1,5 +1,10 @@
 //! A handle's step, by the call that it is.
 
+ghost use Rattle.std.specs.Prelude.{◌≡◌, IfNone, IfOk, IfSome, OnErr, Some};
+ghost use Rattle.usb_model.specs.Setup.{Setup};
+ghost use Rattle.usb_model.specs.World.{World, owner_of};
+ghost use Rattle.usb_library.specs.Calling.{Makes};
+
 use std::alloc::AllocError;
 use std::sync::Wait;
 use usb_book::{Naming, Recorder};
@@ -7,8 +12,10 @@ use usb_device::Device;
 use usb_library::{Answered, Caller, Library};
 use usb_model::{Name, Step};
 
-/// The handle that makes a step which submits nothing; None of what workers and callbacks do.
-pub fn handle_of(step: &Step) -> Option<Name> {
+/// The handle that makes a step which submits nothing, whose entry is that handle's; None of what workers and callbacks do.
+pub fn handle_of(step: &Step) -> Option<Name>
+    ensures { IfSome result (λ h. (setup : Setup) (w : World) → owner_of setup w step.now ≡ Some h) }
+{
     match step {
         Step::Open { h, .. } | Step::Close { h } | Step::Claim { h, .. } => Some(*h),
         Step::Release { h, .. } | Step::Reset { h } | Step::ClearHalt { h, .. } => Some(*h),
@@ -23,7 +30,12 @@ pub fn make<L: Naming, C: Drop, D: Device, J: Recorder, R: Wait>(
     library: &Library<L, C, D, J>,
     caller: &mut Caller<L>,
     step: Step,
-) -> Result<Option<Answered<L>>, AllocError> {
+) -> Result<Option<Answered<L>>, AllocError>
+    ensures made { IfOk result (λ x. IfSome x (λ a. Makes step caller.old caller.new a.receipt)) }
+    ensures entry { IfOk result (λ x. IfSome x (λ a. a.entry ≡ a.receipt.entry.entry)) }
+    ensures none { IfOk result (λ x. IfNone x (caller.new ≡ caller.old)) }
+    ensures refused { OnErr result (caller.new ≡ caller.old) }
+{
     let answered = match step {
         Step::Open { h, dev } => library.open(rt, caller, h, dev)?,
         Step::Close { h } => library.close(rt, caller, h)?,

@@ -1,10 +1,9 @@
 -- The same device joins two setups.
-use Rattle.std.proofs.Common.{◌≡◌, ◌+◌, ◌∙◌, List, [], ◌∷◌, ◌++◌, ℕ, Result, Ok, length, map, sym, ap, ap₂, rules}
+use Rattle.std.proofs.Common.{◌≡◌, ◌+◌, ◌∙◌, List, [], ◌∷◌, ◌++◌, ℕ, length, map, sym, ap, ap₂, rules}
 use Rattle.std.proofs.lemmas.List.{length-append}
 use Rattle.usb_device.specs.Scripts.{pipes_of}
 use Rattle.usb_model.specs.declared.response.Response.{Response}
 use Rattle.usb_model.specs.declared.setup.Configuration.{Configuration}
-use Rattle.usb_model.specs.declared.setup.DeviceSetup.{DeviceSetup}
 use Rattle.usb_model.specs.Setup.{Setup}
 use Rattle.usb_stand.specs.Stand.{Joins}
 

@@ -5,7 +5,7 @@ ghost use Rattle.usb_streams.specs.Faults.{IsOfRun};
 ghost use Rattle.usb_streams.specs.Input.{longest_input};
 ghost use Rattle.usb_text.specs.Runnable.{IsRunnable};
 ghost use Rattle.usb_command.specs.declared.words.Task.TheVariants.{Live};
-ghost use Rattle.usb_trace.specs.Lived.{AppendsCallbacks, AppendsSomeCallbacks, lived_of};
+ghost use Rattle.usb_trace.specs.Lived.{AppendsCallbacks, AppendsSomeCallbacks};
 ghost use Rattle.usb_trace.specs.Program.{Begins, IsSilentAtBad, Performs};
 
 use crate::devices::devices_of;

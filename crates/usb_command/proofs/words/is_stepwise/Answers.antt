@@ -1,5 +1,5 @@
 -- The flag that was read is that of the rows.
-use Rattle.std.proofs.Common.{ap, ◌∙◌}
+use Rattle.std.proofs.Common.{◌∙◌}
 use Rattle.std.specs.Prelude.{option_map}
 use Rattle.clap.specs.Matches.{found_of}
 use Rattle.usb_command.proofs.CommandLines.{flag_read}

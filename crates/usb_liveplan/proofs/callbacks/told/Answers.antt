@@ -1,4 +1,4 @@
-use Rattle.std.proofs.Common.{◌≡◌, ◌∙◌, List, [], ◌∷◌, ◌++◌, ap, sym, if◌then◌else◌}
+use Rattle.std.proofs.Common.{◌∙◌, List, [], ◌∷◌, ◌++◌, ap, sym, if◌then◌else◌}
 use Rattle.usb_model.specs.declared.entry.Entry.{Entry}
 use Rattle.usb_liveplan.specs.Callbacks.{is_callback}
 use Rattle.usb_liveplan.proofs.Telling.{told_more}
