@@ -23,6 +23,7 @@ fmt:
 
 bench:
 	@cd crates/usb_bench && rt run -- measure
+	@cd crates/usb_threads && for word in latency rate pair; do rt run -- $$word; done
 
 wrong_bodies:
 	tools/wrong_bodies.py try

@@ -120,23 +120,9 @@ impl<L: Naming, P, D: Device, J: Recorder> Book<L, P, D, J> {
         ensures run { IsRun self.now.setup self.now.journal }
     {
         Events {
-            deliver: self.has_event(),
-            take: self.has_result(),
+            deliver: self.core.has_event(),
+            take: self.core.has_result(),
         }
-    }
-
-    /// Whether an event waits to be handled.
-    fn has_event(&self) -> bool
-        ensures { result ≡ does_something self.now.setup (world_where self.now.setup self.now.journal) Deliver }
-    {
-        self.core.has_event()
-    }
-
-    /// Whether a result waits to go out.
-    fn has_result(&self) -> bool
-        ensures { result ≡ does_something self.now.setup (world_where self.now.setup self.now.journal) Take }
-    {
-        self.core.has_result()
     }
 
     /// A mark at the end of the journal, whose bearer has no places yet.
