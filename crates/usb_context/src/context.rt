@@ -88,14 +88,16 @@ impl EndpointContext {
         TrbAt::seen(self.ring.ahead(index + 1))
     }
 
-    /// The first TRB of the transfer at dequeue.
+    /// The first TRB of the transfer at dequeue. Inlined, as `working` is, so that what was read needn't stand in memory.
+    #[inline(always)]
     pub(crate) fn first(&self) -> Option<TrbAt>
         ensures { result ≡ trb_at self.now 0 }
     {
-        TrbAt::seen(self.ring.front())
+        TrbAt::seen(self.ring.ahead(0))
     }
 
     /// The first TRB of the transfer at dequeue, where the endpoint is running.
+    #[inline(always)]
     pub fn working(&self) -> Option<TrbAt>
         ensures { result ≡ working self.now }
     {

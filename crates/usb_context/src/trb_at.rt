@@ -1,9 +1,9 @@
 //! A TRB of a transfer ring.
 
 ghost use Rattle.std.specs.Prelude.{◌≡◌, ◌≤◌};
-ghost use Rattle.usb_context.specs.Reading.{seen, seen_at};
+ghost use Rattle.usb_context.specs.Reading.{placed};
 
-use usb_trb::{Normal, Pointer, Trb, TrbKind};
+use usb_trb::{Normal, Pointer};
 
 /// A Normal TRB of a transfer ring, and its address.
 #[derive(Clone, Copy, PartialEq, Eq, Debug)]
@@ -15,24 +15,13 @@ pub struct TrbAt {
 }
 
 impl TrbAt {
-    /// What was read of a ring, where it is a Normal TRB.
-    pub(crate) fn seen(read: Option<(Pointer, Trb)>) -> Option<TrbAt>
-        ensures { result ≡ seen read }
+    /// What was read of a ring, if it was a Normal TRB.
+    #[inline(always)]
+    pub(crate) fn seen(read: Option<(Pointer, Normal)>) -> Option<TrbAt>
+        ensures { result ≡ placed read }
     {
-        match read {
-            Some((pointer, trb)) => TrbAt::of(pointer, trb.kind),
-            None => None,
-        }
-    }
-
-    /// A TRB at this address, where it is a Normal one.
-    fn of(pointer: Pointer, kind: TrbKind) -> Option<TrbAt>
-        ensures { result ≡ seen_at pointer kind }
-    {
-        match kind {
-            TrbKind::Normal(trb) => Some(TrbAt { pointer, trb }),
-            _ => None,
-        }
+        let (pointer, trb) = read?;
+        Some(TrbAt { pointer, trb })
     }
 
     /// How many bytes it moves.

@@ -114,7 +114,9 @@ impl<const N: usize> Ring<N> {
         index::<N>(at)
     }
 
-    /// Takes the first TRB that waits, with the index of its place; None where none waits.
+    /// Takes the first TRB that waits, with the index of its place; None where none waits. Inlined, so that a TRB is built where
+    /// its fields are used.
+    #[inline(always)]
     pub fn take(&mut self) -> Option<(usize, TrbKind)>
         ensures empty { IsNone result ↔ (self.old.waits ≡ []) }
         ensures first { IfSome result (λ r. (self.old.waits ≡ r.1 ∷ self.new.waits) × (r.0 ≡ index_of N (dequeue_of N self.old))) }

@@ -1,15 +1,15 @@
 //! The memory of a segment.
 
-ghost use Rattle.std.specs.Prelude.{◌≡◌, ◌==◌, ◌+◌, ◌*◌, ◌≤◌, ◌<◌, ◌^◌, suc, IfOk, Ok, slice_get, length};
+ghost use Rattle.std.specs.Prelude.{◌≡◌, ◌==◌, ◌+◌, ◌*◌, ◌≤◌, ◌<◌, ◌^◌, suc, IfOk, IfSome, Ok, Some, slice_get, length};
 ghost use Rattle.usb_trb.specs.Words.{trb_bytes, IsTrb, IsKind};
-ghost use Rattle.usb_trb.specs.Read.{cycle_in, type_in, is_no_op};
+ghost use Rattle.usb_trb.specs.Read.{as_normal, cycle_in, type_in, is_no_op};
 ghost use Rattle.usb_trb.specs.declared.trb.Trb.{Trb};
 ghost use Rattle.usb_segment.specs.Places.{IsWidth};
 
 use crate::place::{cycle, index};
 use std::alloc::{AllocError, Global};
 use std::marker::Model;
-use usb_trb::{Pointer, Trb, TrbKind, Unknown, decode, encode};
+use usb_trb::{Normal, Pointer, Trb, TrbKind, Unknown, decode, decode_normal, encode};
 
 /// The cells of `N` TRBs of 16 bytes, 1 to 4,096, and behind them that of a Link to the first, or none. Contracts see the
 /// base address and the bytes of the cells.
@@ -147,6 +147,16 @@ impl<const N: usize> Segment<N> {
         ensures found { (t : Trb) → IsTrb t → trb_bytes t ≡ cell N self.now place → result ≡ Ok t }
     {
         decode(&self.cells[index::<N>(place)])
+    }
+
+    /// What the Normal TRB at a place says; None where another TRB stands there, or none was written. Inlined, as `read` is.
+    #[inline(always)]
+    pub fn read_normal(&self, place: usize) -> Option<Normal>
+        requires { place < N + N }
+        ensures known { IfSome result (λ n. (t : Trb) × IsTrb t × (trb_bytes t ≡ cell N self.now place) × (as_normal t.kind ≡ Some n)) }
+        ensures found { (t : Trb) → IsTrb t → trb_bytes t ≡ cell N self.now place → result ≡ as_normal t.kind }
+    {
+        decode_normal(&self.cells[index::<N>(place)])
     }
 
     /// The cycle bit of the TRB at a place.

@@ -1,10 +1,13 @@
 //! A TRB as sixteen bytes.
 
-ghost use Rattle.std.specs.Prelude.{◌≡◌, ◌≢◌, ◌==◌, IfOk, IfErr, Ok};
+ghost use borrow.Rule.Slice.PartMut.{mid_of};
+ghost use Rattle.std.specs.Prelude.{◌≡◌, ◌≢◌, ◌==◌, IfOk, IfErr, IfSome, Ok, Some};
+ghost use Rattle.byteorder.specs.Endian.{little_number};
 ghost use Rattle.usb_trb.specs.Words.{trb_bytes, IsTrb};
-ghost use Rattle.usb_trb.specs.Read.{type_in, is_no_op};
+ghost use Rattle.usb_trb.specs.Read.{as_normal, type_in, is_no_op};
 ghost use Rattle.usb_trb.specs.declared.trb.Trb.{Trb};
 
+use crate::kind::Normal;
 use crate::trb::Trb;
 use crate::types;
 use crate::words::Words;
@@ -40,12 +43,32 @@ pub fn decode(bytes: &[u8; 16]) -> Result<Trb, Unknown>
     ensures found { (t : Trb) → IsTrb t → trb_bytes t ≡ bytes.now → result ≡ Ok t }
     ensures unknown { IfErr result (λ _. (t : Trb) → IsTrb t → trb_bytes t ≢ bytes.now) }
 {
-    let words = Words {
+    words_in(bytes).trb()
+}
+
+/// What the Normal TRB that is written as these bytes says; None where another TRB is written so, or none.
+///
+/// Inlined, as `decode` is, and faster where a ring holds little else: no other kind is made.
+#[inline(always)]
+pub fn decode_normal(bytes: &[u8; 16]) -> Option<Normal>
+    ensures known { IfSome result (λ n. (t : Trb) × IsTrb t × (trb_bytes t ≡ bytes.now) × (as_normal t.kind ≡ Some n)) }
+    ensures found { (t : Trb) → IsTrb t → trb_bytes t ≡ bytes.now → result ≡ as_normal t.kind }
+{
+    words_in(bytes).fields()
+}
+
+/// The three numbers that stand in a TRB's bytes. Inlined, as what reads them is.
+#[inline(always)]
+fn words_in(bytes: &[u8; 16]) -> Words
+    ensures parameter { result.parameter ≡ little_number 8 bytes.now }
+    ensures status { result.status ≡ little_number 4 (mid_of 8 8 bytes.now) }
+    ensures control { result.control ≡ little_number 4 (mid_of 12 4 bytes.now) }
+{
+    Words {
         parameter: LittleEndian::read_u64(bytes),
         status: LittleEndian::read_u32(&bytes[8..]),
         control: LittleEndian::read_u32(&bytes[12..]),
-    };
-    words.trb()
+    }
 }
 
 /// Whether a No Op stands in a TRB's bytes. The type alone is read.
@@ -59,14 +82,22 @@ pub fn is_no_op(bytes: &[u8; 16]) -> bool
 #[cfg(test)]
 mod tests {
     use super::*;
-    use crate::{EndpointId, Length, Normal, Pointer, Residual, Slot, TrbKind};
+    use crate::{EndpointId, Length, Pointer, Residual, Slot, TrbKind};
     use std::process::Abort;
     use std::test::Fail;
+
+    fn normal_in(kind: TrbKind) -> Option<Normal> {
+        match kind {
+            TrbKind::Normal(normal) => Some(normal),
+            _ => None,
+        }
+    }
 
     fn is_written(rt: &impl Abort, kind: TrbKind, bytes: [u8; 16]) {
         let trb = Trb { kind, cycle: true };
         assert_eq!(rt; encode(&trb).as_slice(), bytes.as_slice());
         assert_eq!(rt; decode(&bytes), Ok(trb));
+        assert_eq!(rt; decode_normal(&bytes), normal_in(kind));
         assert_eq!(rt; is_no_op(&bytes), kind == TrbKind::NoOp);
     }
 
@@ -171,6 +202,7 @@ mod tests {
             ),
         ] {
             assert_eq!(rt; decode(&bytes), Err(Unknown), "{fault}");
+            assert_eq!(rt; decode_normal(&bytes), None, "{fault}");
         }
     }
 }

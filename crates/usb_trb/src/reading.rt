@@ -1,8 +1,8 @@
 //! The TRB that stands in three numbers.
 
-ghost use Rattle.std.specs.Prelude.{◌≡◌, ◌==◌, ◌/◌, ◌%◌, ◌<◌, Ok, IfOk, nat_lt, if◌then◌else◌};
+ghost use Rattle.std.specs.Prelude.{◌≡◌, ◌==◌, ◌/◌, ◌%◌, ◌<◌, Ok, IfOk, IfSome, nat_lt, if◌then◌else◌};
 ghost use Rattle.usb_trb.specs.Words.{IsInWords};
-ghost use Rattle.usb_trb.specs.Read.{kind_by, kind_at, endpoint_kind, normal_in, completion_in, pointer_in, slot_in, id_in, has};
+ghost use Rattle.usb_trb.specs.Read.{as_normal, normal_trb, kind_by, kind_at, endpoint_kind, normal_in, completion_in, pointer_in, slot_in, id_in, has};
 ghost use Rattle.usb_trb.specs.declared.trb.Trb.{Trb};
 
 use crate::bytes::Unknown;
@@ -33,24 +33,38 @@ impl Words {
         ensures found { (t : Trb) → IsInWords t self.parameter self.status self.control
             → normal_in self.parameter self.status self.control ≡ Ok t.kind → result ≡ Ok t }
     {
+        let cycle = self.cycle();
+        match self.fields() {
+            Some(normal) => Ok(Trb {
+                kind: TrbKind::Normal(normal),
+                cycle,
+            }),
+            None => Err(Unknown),
+        }
+    }
+
+    /// What the Normal TRB that has these numbers says; None where another TRB has them, or none. Inlined for speed: so it is
+    /// read without a `TrbKind`, whose parts would be copied through memory.
+    #[inline(always)]
+    pub fn fields(self) -> Option<Normal>
+        ensures known { IfSome result (λ n. IsInWords (normal_trb n self.control) self.parameter self.status self.control) }
+        ensures found { (t : Trb) → IsInWords t self.parameter self.status self.control → result ≡ as_normal t.kind }
+    {
         let Some(length) = Length::new(self.status % 131072) else {
-            return Err(Unknown);
+            return None;
         };
         let (short, chain, done) = (self.has(4), self.has(16), self.has(32));
-        let (buffer, bytes, cycle) = (whole(self.parameter), length.bytes(), self.cycle());
-        let control = bit_of(cycle) + 1024 + normal_flags(short, chain, done);
+        let (buffer, bytes) = (whole(self.parameter), length.bytes());
+        let control = bit_of(self.cycle()) + 1024 + normal_flags(short, chain, done);
         if control != self.control || bytes != self.status {
-            return Err(Unknown);
+            return None;
         }
-        Ok(Trb {
-            kind: TrbKind::Normal(Normal {
-                buffer,
-                length,
-                short,
-                chain,
-                done,
-            }),
-            cycle,
+        Some(Normal {
+            buffer,
+            length,
+            short,
+            chain,
+            done,
         })
     }
 
