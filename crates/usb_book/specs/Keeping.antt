@@ -21,17 +21,17 @@ step_of (asked.Claim h i) bytes = step.Claim h i
 step_of (asked.Release h i) bytes = step.Release h i
 step_of (asked.Reset h) bytes = step.Reset h
 step_of (asked.ClearHalt h ep) bytes = step.ClearHalt h ep
-step_of (asked.Read length timeout h ep kind flags) bytes = step.Submit h (record { ep = ep; kind = kind; flags = flags; timeout = timeout; body = In length })
-step_of (asked.Write timeout h ep kind flags) bytes = step.Submit h (record { ep = ep; kind = kind; flags = flags; timeout = timeout; body = Out bytes })
-step_of (asked.Cancel n h) bytes = step.Cancel h n
-step_of (asked.Expire n h) bytes = step.Expire h n
+step_of (asked.Read h ep kind flags length timeout) bytes = step.Submit h (record { ep = ep; kind = kind; flags = flags; timeout = timeout; body = In length })
+step_of (asked.Write h ep kind flags timeout) bytes = step.Submit h (record { ep = ep; kind = kind; flags = flags; timeout = timeout; body = Out bytes })
+step_of (asked.Cancel h n) bytes = step.Cancel h n
+step_of (asked.Expire h n) bytes = step.Expire h n
 step_of (asked.Serve dev ep) bytes = step.Serve dev ep
 step_of asked.Command bytes = step.Command
 step_of asked.Deliver bytes = step.Deliver
 step_of asked.Take bytes = step.Take
-step_of (asked.Stop n h) bytes = step.Answer h n verdict.Stop
-step_of (asked.Again n h) bytes = step.Answer h n verdict.Again
-step_of (asked.AgainWith n h) bytes = step.Answer h n (verdict.AgainWith bytes)
+step_of (asked.Stop h n) bytes = step.Answer h n verdict.Stop
+step_of (asked.Again h n) bytes = step.Answer h n verdict.Again
+step_of (asked.AgainWith h n) bytes = step.Answer h n (verdict.AgainWith bytes)
 step_of (asked.Unplug dev) bytes = step.Unplug dev
 
 -- the reply, with these bytes
@@ -41,13 +41,13 @@ reply_of (replied.Number n) bytes = reply.Number n
 reply_of (replied.Refused why) bytes = reply.Refused why
 reply_of replied.Idle bytes = reply.Idle
 reply_of (replied.Nak n) bytes = reply.Nak n
-reply_of (replied.Moved n count) bytes = reply.Moved n count
-reply_of (replied.Ended n code) bytes = reply.Ended n code
+reply_of (replied.Moved count n) bytes = reply.Moved n count
+reply_of (replied.Ended code n) bytes = reply.Ended n code
 reply_of (replied.Ran ep errand ok) bytes = reply.Ran ep errand ok
 reply_of (replied.Finished n) bytes = reply.Finished n
 reply_of (replied.Paused n) bytes = reply.Paused n
 reply_of (replied.Settled ep errand ok) bytes = reply.Settled ep errand ok
-reply_of (replied.Called n round actual h ep status) bytes = reply.Called (record { h = h; n = n; ep = ep; round = round; status = status; actual = actual; bytes = bytes })
+reply_of (replied.Called h ep status actual n round) bytes = reply.Called (record { h = h; n = n; ep = ep; round = round; status = status; actual = actual; bytes = bytes })
 
 -- so many of the bytes, from this one on
 abbrev pub part : List ℕ → (from count : ℕ) → List ℕ

@@ -37,28 +37,28 @@ pub(crate) enum Asked {
     },
     /// A submission of room for so many bytes.
     Read {
-        length: u32,
-        timeout: u32,
         h: Name,
         ep: EpAddr,
         kind: Kind,
         flags: Flags,
+        length: u32,
+        timeout: u32,
     },
     /// A submission of bytes.
     Write {
-        timeout: u32,
         h: Name,
         ep: EpAddr,
         kind: Kind,
         flags: Flags,
+        timeout: u32,
     },
     Cancel {
-        n: u64,
         h: Name,
+        n: u64,
     },
     Expire {
-        n: u64,
         h: Name,
+        n: u64,
     },
     Serve {
         dev: DeviceNo,
@@ -68,16 +68,16 @@ pub(crate) enum Asked {
     Deliver,
     Take,
     Stop {
-        n: u64,
         h: Name,
+        n: u64,
     },
     Again {
-        n: u64,
         h: Name,
+        n: u64,
     },
     AgainWith {
-        n: u64,
         h: Name,
+        n: u64,
     },
     Unplug {
         dev: DeviceNo,
@@ -95,12 +95,12 @@ pub(crate) enum Replied {
         n: u64,
     },
     Moved {
-        n: u64,
         count: u32,
+        n: u64,
     },
     Ended {
-        n: u64,
         code: u8,
+        n: u64,
     },
     Ran {
         ep: EpAddr,
@@ -119,12 +119,12 @@ pub(crate) enum Replied {
         ok: bool,
     },
     Called {
-        n: u64,
-        round: u64,
-        actual: u32,
         h: Name,
         ep: EpAddr,
         status: Status,
+        actual: u32,
+        n: u64,
+        round: u64,
     },
 }
 

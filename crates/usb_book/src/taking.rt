@@ -22,7 +22,9 @@ use usb_model::{Entry, Reply, Step};
 
 impl<L: Naming, P, D: Device, J: Recorder> Book<L, P, D, J> {
     /// The oldest result goes out to its callback (libusb 1.0, `libusb_transfer_cb_fn`), with the payload of its
-    /// transfer; None where none waits. A place is made in any case. Where memory is wanting nothing changed.
+    /// transfer; None where none waits. A place is made in any case. Where memory is wanting nothing changed. Inlined, as `enter`
+    /// is: else the result is copied twice.
+    #[inline(always)]
     pub fn take(
         &mut self,
         caller: u32,
@@ -52,6 +54,7 @@ impl<L: Naming, P, D: Device, J: Recorder> Book<L, P, D, J> {
 }
 
 /// One place more, of a result that goes out, or of none.
+#[inline(always)]
 fn enter<L: Naming, P, J: Recorder>(
     log: &mut Log<L, J>,
     mark: &mut Mark<L>,

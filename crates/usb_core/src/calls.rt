@@ -25,6 +25,9 @@ use usb_parts::{Parts, Setup, Taken, Unaccepted};
 /// (`Carries`) is what goes out with the transfer of that name and number.
 ///
 /// Only `new`, `submit`, `again`, `again_with` and `take` take memory.
+///
+/// The five calls on a transfer's way, `submit`, `serve`, `deliver`, `take` and `stop`, are inlined where they are called, so
+/// that what they tell isn't copied once more.
 #[derive(Drop)]
 pub struct Core<P, D: Device> {
     pub(crate) parts: Parts<P, D>,
@@ -112,6 +115,7 @@ impl<P, D: Device> Core<P, D> {
     /// isn't the name's, the device is gone, the kind is not supported or another's, direction or length is wrong, or
     /// no place or number is left; NoMem, with nothing changed, where memory is refused. Request and payload then come
     /// back.
+    #[inline(always)]
     pub fn submit(
         &mut self,
         h: Name,
@@ -149,6 +153,7 @@ impl<P, D: Device> Core<P, D> {
 
     /// A device answers one packet (USB 2.0, 8.5). Nobody's and Idle where nobody holds the endpoint; Idle where there
     /// is nothing to serve.
+    #[inline(always)]
     pub fn serve(&mut self, dev: DeviceNo, ep: EpAddr) -> Entry
         ensures turned { Turns self.old (Serve dev ep) result self.new }
         ensures carries { StillCarries self.old self.new }
@@ -166,6 +171,7 @@ impl<P, D: Device> Core<P, D> {
 
     /// The oldest event is handled (xHCI 1.2, 4.11.3; libusb 1.0, `libusb_handle_events`): a transfer stands or it
     /// ended, or the errand of an order ended. Nobody's and Idle where none waits.
+    #[inline(always)]
     pub fn deliver(&mut self) -> Entry
         ensures turned { Turns self.old Deliver result self.new }
         ensures carries { StillCarries self.old self.new }
@@ -175,6 +181,7 @@ impl<P, D: Device> Core<P, D> {
 
     /// The oldest result goes out to its callback (libusb 1.0, `libusb_transfer_cb_fn`), with the payload of its
     /// transfer; None where none waits. Nothing changes where memory is refused.
+    #[inline(always)]
     pub fn take(&mut self) -> Result<Option<Taken<P>>, AllocError>
         ensures taken { IfOk result (λ x. Turns self.old Take (called_entry (option_map (λ t. t.returned) x)) self.new) }
         ensures payload { IfOk result (λ x. option_map (λ t. t.payload) x ≡ option_map (λ y. y.transfer.payload) (slice_get self.old.flights.ended 0)) }
@@ -187,6 +194,7 @@ impl<P, D: Device> Core<P, D> {
 
     /// Ends the callback of a transfer, which isn't submitted once more (libusb 1.0, `libusb_transfer_cb_fn`). NotFound
     /// where the name has no such transfer in its callback.
+    #[inline(always)]
     pub fn stop(&mut self, h: Name, n: u64) -> Reply
         ensures turned { Turns self.old (Answer h n Stop) (record { owner = Some h; reply = result }) self.new }
         ensures carries { StillCarries self.old self.new }

@@ -30,6 +30,8 @@ pub struct Desk<L: Naming, P, D: Device, J: Recorder> {
     pub(crate) spare: Share<L>,
     pub(crate) made: u32,
     served: Option<(DeviceNo, EpAddr)>,
+    /// Whether the last look found no packet.
+    idle: bool,
 }
 
 /// Contracts see the book, and how many callers were made.
@@ -61,6 +63,7 @@ impl<L: Naming, P: Drop, D: Device, J: Recorder> Desk<L, P, D, J> {
             spare,
             made: 0,
             served: None,
+            idle: true,
         }
     }
 
@@ -84,11 +87,25 @@ impl<L: Naming, P: Drop, D: Device, J: Recorder> Desk<L, P, D, J> {
         })
     }
 
-    /// What is to be done next, looked for from behind the endpoint that was served last.
-    pub(crate) fn pending(&self) -> Pending
-        ensures { WasPending L.setup result }
+    /// What is to be done next. Endpoints are looked at from behind the one that was served last; from that one on where the
+    /// last look found no packet, since it is the likeliest to have the next.
+    pub(crate) fn pending(&mut self) -> Pending
+        ensures pending { WasPending L.setup result }
+        ensures same { self.new ≡ self.old }
     {
-        self.book.pending(self.served)
+        let pending = self.book.pending(self.after());
+        self.idle = pending.serve.is_none();
+        pending
+    }
+
+    /// Behind which endpoint the next look begins.
+    fn after(&self) -> Option<(DeviceNo, EpAddr)> {
+        let (dev, ep) = self.served?;
+        if self.idle {
+            Some((dev, before(ep)))
+        } else {
+            Some((dev, ep))
+        }
     }
 
     /// What there is to do with events.
@@ -258,5 +275,15 @@ impl<L: Naming, P: Drop, D: Device, J: Recorder> Desk<L, P, D, J> {
         let receipts = self.book.tick(caller.number, &mut caller.mark, now)?;
         self.total.add(&mut caller.share, receipts.len() as u64);
         Ok(receipts)
+    }
+}
+
+/// The endpoint address behind which this one comes, by their endpoint ids (xHCI 1.2, 4.5.1).
+fn before(ep: EpAddr) -> EpAddr {
+    let number = ep.number();
+    if ep.is_in() {
+        EpAddr::new(number)
+    } else {
+        EpAddr::new(127 + number)
     }
 }

@@ -161,7 +161,8 @@ fn is_nothing(pending: &Pending) -> bool {
 }
 
 impl<L: Naming, P: Drop, D: Device, J: Recorder> Library<L, P, D, J> {
-    /// What there is to do. Endpoints are looked at in a circle, from behind the one that was served last.
+    /// What there is to do. Endpoints are looked at in a circle, from behind the one that was served last; from that one on
+    /// where the last look found no packet.
     pub fn pending<R: Wait>(&self, rt: &R) -> Pending
         ensures { WasPending L.setup result }
     {
