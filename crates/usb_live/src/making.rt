@@ -1,9 +1,10 @@
 //! A handle's step, by the call that it is.
 
-ghost use Rattle.std.specs.Prelude.{◌≡◌, IfNone, IfOk, IfSome, OnErr, Some};
+ghost use Rattle.std.specs.Prelude.{◌≡◌, IfNone, IfOk, IfSome, OnErr, Some, is_some};
 ghost use Rattle.usb_model.specs.Setup.{Setup};
 ghost use Rattle.usb_model.specs.World.{World, owner_of};
 ghost use Rattle.usb_library.specs.Calling.{Makes};
+ghost use Rattle.usb_live.specs.Steps.{caller_of};
 
 use std::alloc::AllocError;
 use std::sync::Wait;
@@ -14,7 +15,8 @@ use usb_model::{Name, Step};
 
 /// The handle that makes a step which submits nothing, whose entry is that handle's; None of what workers and callbacks do.
 pub fn handle_of(step: &Step) -> Option<Name>
-    ensures { IfSome result (λ h. (setup : Setup) (w : World) → owner_of setup w step.now ≡ Some h) }
+    ensures caller { result ≡ caller_of step.now }
+    ensures own { IfSome result (λ h. (setup : Setup) (w : World) → owner_of setup w step.now ≡ Some h) }
 {
     match step {
         Step::Open { h, .. } | Step::Close { h } | Step::Claim { h, .. } => Some(*h),
@@ -33,6 +35,7 @@ pub fn make<L: Naming, C: Drop, D: Device, J: Recorder, R: Wait>(
 ) -> Result<Option<Answered<L>>, AllocError>
     ensures made { IfOk result (λ x. IfSome x (λ a. Makes step caller.old caller.new a.receipt)) }
     ensures entry { IfOk result (λ x. IfSome x (λ a. a.entry ≡ a.receipt.entry.entry)) }
+    ensures answers { IfOk result (λ x. is_some x ≡ is_some (caller_of step)) }
     ensures none { IfOk result (λ x. IfNone x (caller.new ≡ caller.old)) }
     ensures refused { OnErr result (caller.new ≡ caller.old) }
 {
