@@ -116,9 +116,9 @@ impl<L: Naming, J: Recorder> Log<L, J> {
         ensures room { (places bytes : ℕ) → J.has_room self.old.recorder places bytes → J.has_room self.new.recorder (places - 1) (bytes - bytes_in entry.now.reply) }
     {
         let place = self.places;
-        let claim = self.roll.enter(&mut self.keeper, &mut mark.mark, &told);
-        self.recorder
-            .keep(draft, told.caller(), entry, told.moment());
+        let (caller, moment) = (told.caller(), told.moment());
+        let claim = self.roll.enter(&mut self.keeper, &mut mark.mark, told);
+        self.recorder.keep(draft, caller, entry, moment);
         self.places = place + 1;
         Receipt {
             place,

@@ -1,15 +1,15 @@
 -- Each step keeps the rule of the roll.
 use Rattle.std.proofs.Common.{◌≡◌, ◌≢◌, ◌==◌, ℕ, zero, suc, ◌+◌, ◌<◌, ◌≤◌, List, [], ◌∷◌, ◌++◌, length, set, Some, Bool, true, false, cond, refl, sym, ap, ◌∙◌, subst, ⊎_elim, arith, length-append, true≢false}
-use Rattle.std.specs.Prelude.{slice_get, if◌then◌else◌}
+use Rattle.std.specs.Prelude.{slice_get, slice_set, if◌then◌else◌}
 use Rattle.std.proofs.lemmas.Bool.Decides.{nat_tests}
 use Rattle.std.proofs.lemmas.Option.{slice_get_within}
-use mathlib.Core.Option.{some, some-ne-none, some-injective}
+use mathlib.Core.Option.{some, none, some-ne-none, some-injective, Option as Maybe}
 use mathlib.Core.Logic.{dite}
 use native.Mathlib.Decide.{ℕ_discrete}
 use lib.ListN.{get_elem?}
 use Rattle.atomic_table.proofs.Lists.{at_set, at_snoc, set_again}
 use Rattle.usb_roll.specs.declared.rule.Known.{Known}
-use Rattle.usb_roll.specs.Rule.{keeper, bearer, claimed, Stand, total, Fits, appended, cut, bare, taken_in, Checked}
+use Rattle.usb_roll.specs.Rule.{Slot, keeper, opener, bearer, claimed, Stand, total, Fits, appended, cut, bare, taken_in, Checked}
 
 -- how much one claim counts at place p
 abbrev unit : ℕ → ℕ → ℕ
@@ -30,10 +30,10 @@ no_keeper e = true≢false (sym e)
 
 module _ {E : Type 0} where
   -- the rule, of the views alone
-  abbrev pub Ruled : List (Known E) → Type 0
-  Ruled views =
+  abbrev pub Ruled : List (Maybe (Slot E)) → List (Known E) → Type 0
+  Ruled homes views =
       (seat : ℕ) × (log : List E)
-      × ((by : ℕ) (v : Known E) → get_elem? views by ≡ some v → Fits seat log by v)
+      × ((by : ℕ) (v : Known E) → get_elem? views by ≡ some v → Fits seat log homes by v)
       × ((p : ℕ) → total (λ v. claimed p v.claims) views ≤ 1)
 
   -- sums over the views
@@ -100,38 +100,63 @@ module _ {E : Type 0} where
   -- views
 
   -- where one view is replaced by one that fits
-  fits_set : (seat : ℕ) (log : List E) (views : List (Known E)) (by : ℕ) (w : Known E)
-      → ((j : ℕ) (u : Known E) → j ≢ by → get_elem? views j ≡ some u → Fits seat log j u) → Fits seat log by w
-      → (j : ℕ) (u : Known E) → get_elem? (set views by w) j ≡ some u → Fits seat log j u
-  fits_set seat log views by w others mine j u e =
+  fits_set : (seat : ℕ) (log : List E) (homes : List (Maybe (Slot E))) (views : List (Known E)) (by : ℕ) (w : Known E)
+      → ((j : ℕ) (u : Known E) → j ≢ by → get_elem? views j ≡ some u → Fits seat log homes j u) → Fits seat log homes by w
+      → (j : ℕ) (u : Known E) → get_elem? (set views by w) j ≡ some u → Fits seat log homes j u
+  fits_set seat log homes views by w others mine j u e =
       ⊎_elim
-      (λ (x : (j ≡ by) × (w ≡ u)). subst (λ (y : ℕ × Known E). Fits seat log y.0 y.1) (λ i. (sym x.0 i, x.1 i)) mine)
+      (λ (x : (j ≡ by) × (w ≡ u)). subst (λ (y : ℕ × Known E). Fits seat log homes y.0 y.1) (λ i. (sym x.0 i, x.1 i)) mine)
       (λ (x : (j ≢ by) × (get_elem? views j ≡ some u)). others j u x.0 x.1)
       (at_set views by j w u e)
 
   -- where one view that fits is added
-  fits_snoc : (seat : ℕ) (log : List E) (views : List (Known E)) (w : Known E)
-      → ((j : ℕ) (u : Known E) → get_elem? views j ≡ some u → Fits seat log j u) → ((j : ℕ) → Fits seat log j w)
-      → (j : ℕ) (u : Known E) → get_elem? (views ++ w ∷ []) j ≡ some u → Fits seat log j u
-  fits_snoc seat log views w others new j u e = ⊎_elim (λ was. others j u was) (λ (same : w ≡ u). subst (Fits seat log j) same (new j)) (at_snoc views w u j e)
+  fits_snoc : (seat : ℕ) (log : List E) (homes : List (Maybe (Slot E))) (views : List (Known E)) (w : Known E)
+      → ((j : ℕ) (u : Known E) → get_elem? views j ≡ some u → Fits seat log homes j u) → ((j : ℕ) → Fits seat log homes j w)
+      → (j : ℕ) (u : Known E) → get_elem? (views ++ w ∷ []) j ≡ some u → Fits seat log homes j u
+  fits_snoc seat log homes views w others new j u e = ⊎_elim (λ was. others j u was) (λ (same : w ≡ u). subst (Fits seat log homes j) same (new j)) (at_snoc views w u j e)
 
   -- a token with claims that stand and a mark within the list fits
-  bears : (seat : ℕ) (log : List E) (claims : List (ℕ × E)) (mark : ℕ) (own : List E) → Stand log claims → mark ≤ length log → (j : ℕ) → Fits seat log j (bearer claims mark own)
-  bears seat log claims mark own s m j = record { whole = λ k. absurd (no_keeper k); claims = s; mark = m }
+  bears : (seat : ℕ) (log : List E) (homes : List (Maybe (Slot E))) (claims : List (ℕ × E)) (mark : ℕ) (own : List E) → Stand log claims → mark ≤ length log → (j : ℕ) → Fits seat log homes j (bearer claims mark own)
+  bears seat log homes claims mark own s m j = record { whole = λ k. absurd (no_keeper k); home = λ k. absurd (no_keeper k); claims = s; mark = m }
 
   -- the moves
 
-  -- the empty list, with one keeper
-  pub begins : Ruled (keeper [] ∷ [])
-  begins = (0, [], first, λ p. omega arith)
+  -- the empty list, with one keeper, and the slot in the table
+  pub begins : (x : Slot E) → Ruled (some x ∷ []) (opener ∷ [])
+  begins x = (0, [], first, λ p. omega arith)
     where
-      first : (by : ℕ) (v : Known E) → get_elem? (keeper [] ∷ []) by ≡ some v → Fits 0 [] by v
-      first zero v e = subst (Fits 0 [] 0) (some-injective _ _ e) (record { whole = λ _. (refl, refl); claims = tt; mark = omega arith })
+      first : (by : ℕ) (v : Known E) → get_elem? (opener ∷ []) by ≡ some v → Fits 0 [] (some x ∷ []) by v
+      first zero v e = subst (Fits 0 [] (some x ∷ []) 0) (some-injective _ _ e) (record { whole = λ _. (refl, refl); home = λ _. (refl, x, refl); claims = tt; mark = omega arith })
       first (suc by) v e = absurd (some-ne-none v (sym e))
 
+  -- the first token takes the slot
+  pub slotted : (homes : List (Maybe (Slot E))) (views : List (Known E)) (by : ℕ) → Ruled homes views → get_elem? views by ≡ some opener
+      → (x : Slot E) × (get_elem? homes 0 ≡ some (some x)) × Ruled (slice_set homes 0 none) (set views by (keeper []))
+  slotted homes views by h at =
+      let mine = h.2 by opener at in
+      let there = mine.home refl in
+      let same : [] ≡ h.1 = (mine.whole refl).1 in
+      let after = slice_set homes 0 none in (
+        there.1,
+        there.2,
+        (
+          h.0,
+          h.1,
+          fits_set h.0 h.1 after views by (keeper [])
+              (λ j u apart e.
+              let f = h.2 j u e in
+              record { whole = f.whole; home = λ k. absurd (apart ((f.home k).0 ∙ sym there.0)); claims = f.claims; mark = f.mark })
+              (record { whole = λ _. (there.0, same); home = λ k. absurd (no_keeper k); claims = tt; mark = omega arith }),
+          λ p.
+              let moved = total_set (λ u. claimed p u.claims) views by opener (keeper []) at in
+              let bound = h.3 p in
+              omega arith,
+        ),
+      )
+
   -- the keeper puts an entry behind the list
-  pub appends : (views : List (Known E)) (by : ℕ) (v : Known E) (x : E) → v.keeps ≡ true → Ruled views → get_elem? views by ≡ some v → Ruled (set views by (appended v x))
-  appends views by v x keeps h at =
+  pub appends : (homes : List (Maybe (Slot E))) (views : List (Known E)) (by : ℕ) (v : Known E) (x : E) → v.keeps ≡ true → Ruled homes views → get_elem? views by ≡ some v → Ruled homes (set views by (appended v x))
+  appends homes views by v x keeps h at =
       let mine = h.2 by v at in
       let seat : by ≡ h.0 = (mine.whole keeps).0 in
       let same : v.log ≡ h.1 = (mine.whole keeps).1 in
@@ -140,13 +165,14 @@ module _ {E : Type 0} where
       let m = mine.mark in (
         h.0,
         log,
-        fits_set h.0 log views by (appended v x)
+        fits_set h.0 log homes views by (appended v x)
             (λ j u apart e.
             let f = h.2 j u e in
             let fm = f.mark in
-            record { whole = λ k. absurd (apart ((f.whole k).0 ∙ sym seat)); claims = stand_more h.1 x u.claims f.claims; mark = omega arith })
+            record { whole = λ k. absurd (apart ((f.whole k).0 ∙ sym seat)); home = f.home; claims = stand_more h.1 x u.claims f.claims; mark = omega arith })
             (record {
               whole = λ _. (seat, ap (λ l. l ++ x ∷ []) same);
+              home = mine.home;
               claims = stand_append log v.claims ((length v.log, x) ∷ []) (stand_more h.1 x v.claims mine.claims) (ap (λ l. slice_get log (length l)) same ∙ get_end h.1 x, tt);
               mark = omega arith;
             }),
@@ -163,14 +189,14 @@ module _ {E : Type 0} where
       )
 
   -- claims go to a token of their own
-  pub cuts : (views : List (Known E)) (by : ℕ) (v : Known E) → Ruled views → get_elem? views by ≡ some v → Ruled (set views by (cut v) ++ bearer v.claims 0 [] ∷ [])
-  cuts views by v h at =
+  pub cuts : (homes : List (Maybe (Slot E))) (views : List (Known E)) (by : ℕ) (v : Known E) → Ruled homes views → get_elem? views by ≡ some v → Ruled homes (set views by (cut v) ++ bearer v.claims 0 [] ∷ [])
+  cuts homes views by v h at =
       let mine = h.2 by v at in (
         h.0,
         h.1,
-        fits_snoc h.0 h.1 (set views by (cut v)) (bearer v.claims 0 [])
-            (fits_set h.0 h.1 views by (cut v) (λ j u apart e. h.2 j u e) (record { whole = mine.whole; claims = tt; mark = mine.mark }))
-            (bears h.0 h.1 v.claims 0 [] mine.claims (omega arith)),
+        fits_snoc h.0 h.1 homes (set views by (cut v)) (bearer v.claims 0 [])
+            (fits_set h.0 h.1 homes views by (cut v) (λ j u apart e. h.2 j u e) (record { whole = mine.whole; home = mine.home; claims = tt; mark = mine.mark }))
+            (bears h.0 h.1 homes v.claims 0 [] mine.claims (omega arith)),
         λ p.
             let moved = total_set (λ u. claimed p u.claims) views by v (cut v) at in
             let more = total_snoc (λ u. claimed p u.claims) (set views by (cut v)) (bearer v.claims 0 []) in
@@ -179,15 +205,15 @@ module _ {E : Type 0} where
       )
 
   -- a mark at the end is made
-  pub marks : (views : List (Known E)) (by : ℕ) (v : Known E) → v.keeps ≡ true → Ruled views → get_elem? views by ≡ some v → Ruled (set views by (bare v) ++ bearer [] (length v.log) v.own ∷ [])
-  marks views by v keeps h at =
+  pub marks : (homes : List (Maybe (Slot E))) (views : List (Known E)) (by : ℕ) (v : Known E) → v.keeps ≡ true → Ruled homes views → get_elem? views by ≡ some v → Ruled homes (set views by (bare v) ++ bearer [] (length v.log) v.own ∷ [])
+  marks homes views by v keeps h at =
       let mine = h.2 by v at in
       let l = ap length (mine.whole keeps).1 in (
         h.0,
         h.1,
-        fits_snoc h.0 h.1 (set views by (bare v)) (bearer [] (length v.log) v.own)
-            (fits_set h.0 h.1 views by (bare v) (λ j u apart e. h.2 j u e) (record { whole = mine.whole; claims = mine.claims; mark = mine.mark }))
-            (bears h.0 h.1 [] (length v.log) v.own tt (omega arith)),
+        fits_snoc h.0 h.1 homes (set views by (bare v)) (bearer [] (length v.log) v.own)
+            (fits_set h.0 h.1 homes views by (bare v) (λ j u apart e. h.2 j u e) (record { whole = mine.whole; home = mine.home; claims = mine.claims; mark = mine.mark }))
+            (bears h.0 h.1 homes [] (length v.log) v.own tt (omega arith)),
         λ p.
             let moved = total_set (λ u. claimed p u.claims) views by v (bare v) at in
             let more = total_snoc (λ u. claimed p u.claims) (set views by (bare v)) (bearer [] (length v.log) v.own) in
@@ -196,17 +222,17 @@ module _ {E : Type 0} where
       )
 
   -- a token takes in what another knows
-  pub takes : (views : List (Known E)) (by : ℕ) (v : Known E) (other : ℕ) (w : Known E) → Ruled views → get_elem? views by ≡ some v → (other ≡ by → ⊥) → get_elem? (set views by (taken_in v w)) other ≡ some w
-      → Ruled (set (set views by (taken_in v w)) other (bearer [] 0 []))
-  takes views by v other w h at apart there =
+  pub takes : (homes : List (Maybe (Slot E))) (views : List (Known E)) (by : ℕ) (v : Known E) (other : ℕ) (w : Known E) → Ruled homes views → get_elem? views by ≡ some v → (other ≡ by → ⊥) → get_elem? (set views by (taken_in v w)) other ≡ some w
+      → Ruled homes (set (set views by (taken_in v w)) other (bearer [] 0 []))
+  takes homes views by v other w h at apart there =
       let mine = h.2 by v at in
       let both = taken_in v w in
-      let theirs : Fits h.0 h.1 other w = ⊎_elim (λ (t : (other ≡ by) × (both ≡ w)). absurd (apart t.0)) (λ (t : (other ≢ by) × (get_elem? views other ≡ some w)). h.2 other w t.1) (at_set views by other both w there) in (
+      let theirs : Fits h.0 h.1 homes other w = ⊎_elim (λ (t : (other ≡ by) × (both ≡ w)). absurd (apart t.0)) (λ (t : (other ≢ by) × (get_elem? views other ≡ some w)). h.2 other w t.1) (at_set views by other both w there) in (
         h.0,
         h.1,
-        fits_set h.0 h.1 (set views by both) other (bearer [] 0 [])
-            (λ j u _ e. fits_set h.0 h.1 views by both (λ i y _ e'. h.2 i y e') (record { whole = mine.whole; claims = stand_append h.1 v.claims w.claims mine.claims theirs.claims; mark = theirs.mark }) j u e)
-            (bears h.0 h.1 [] 0 [] tt (omega arith) other),
+        fits_set h.0 h.1 homes (set views by both) other (bearer [] 0 [])
+            (λ j u _ e. fits_set h.0 h.1 homes views by both (λ i y _ e'. h.2 i y e') (record { whole = mine.whole; home = mine.home; claims = stand_append h.1 v.claims w.claims mine.claims theirs.claims; mark = theirs.mark }) j u e)
+            (bears h.0 h.1 homes [] 0 [] tt (omega arith) other),
         λ p.
             let first = total_set (λ u. claimed p u.claims) views by v both at in
             let second = total_set (λ u. claimed p u.claims) (set views by both) other w (bearer [] 0 []) there in
@@ -216,12 +242,12 @@ module _ {E : Type 0} where
       )
 
   -- nothing changes
-  pub stays : (views : List (Known E)) (by : ℕ) (v : Known E) → Ruled views → get_elem? views by ≡ some v → Ruled (set views by v)
-  stays views by v h at = subst Ruled (sym (set_again views by v at)) h
+  pub stays : (homes : List (Maybe (Slot E))) (views : List (Known E)) (by : ℕ) (v : Known E) → Ruled homes views → get_elem? views by ≡ some v → Ruled homes (set views by v)
+  stays homes views by v h at = subst (Ruled homes) (sym (set_again views by v at)) h
 
   -- what the keeper learns by comparing
-  pub checks : (views : List (Known E)) (by : ℕ) (v : Known E) → v.keeps ≡ true → Ruled views → get_elem? views by ≡ some v → Checked v
-  checks views by v keeps h at =
+  pub checks : (homes : List (Maybe (Slot E))) (views : List (Known E)) (by : ℕ) (v : Known E) → v.keeps ≡ true → Ruled homes views → get_elem? views by ≡ some v → Checked v
+  checks homes views by v keeps h at =
       let mine = h.2 by v at in
       let same : v.log ≡ h.1 = (mine.whole keeps).1 in
       let l = ap length same in

@@ -3,6 +3,7 @@ use Rattle.std.specs.Prelude.{◌≡◌, ℕ, List, [], ◌∷◌, ◌++◌, tru
 use Rattle.atomic_table.specs.Table.{Me}
 use Rattle.atomic_table.specs.Seated.{TableId}
 use Rattle.usb_roll.specs.declared.rule.Known.{Known}
+use Rattle.usb_roll.specs.Rule.{HasSlot, Slot}
 
 module _ (E : Type 0) where
   -- a keeper: its roll, the list, and the claims that it took in
@@ -40,18 +41,18 @@ module _ {E : Type 0} where
   abbrev pub mark_at : TableId → ℕ → List E → Marks E
   mark_at roll places own = record { roll = roll; mark = places; own = own }
 
-  -- a token that knows the list whole, and has nothing of its own
-  pub record IsKeeper (me : Me E (Known E)) : Type 0 where
-    pub slots : me.1 ≡ []
+  -- a token that knows the list whole and has the slot, and has nothing of its own
+  pub record IsKeeper (me : Me (Slot E) (Known E)) : Type 0 where
+    pub slots : HasSlot me.1
     pub keeps : me.0.keeps ≡ true
     pub own : me.0.own ≡ []
 
   -- a token that has claims alone
-  pub record IsClaim (me : Me E (Known E)) : Type 0 where
+  pub record IsClaim (me : Me (Slot E) (Known E)) : Type 0 where
     pub slots : me.1 ≡ []
     pub own : me.0.own ≡ []
 
   -- a token that has no claims
-  pub record IsMark (me : Me E (Known E)) : Type 0 where
+  pub record IsMark (me : Me (Slot E) (Known E)) : Type 0 where
     pub slots : me.1 ≡ []
     pub claims : me.0.claims ≡ []

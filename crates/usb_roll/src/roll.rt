@@ -51,12 +51,14 @@ impl<E> Roll<E> {
     }
 
     /// Puts an entry behind the list for the bearer of the mark, who gets a claim to its place. The mark moves behind it.
-    pub fn enter(&self, keeper: &mut Keeper<E>, mark: &mut Mark<E>, entry: &E) -> Claim<E>
+    pub fn enter(&self, keeper: &mut Keeper<E>, mark: &mut Mark<E>, entry: E) -> Claim<E>
+    where
+        E: Drop,
         requires here { (keeper.old.roll ≡ self.now) × (mark.old.roll ≡ self.now) }
         requires none { keeper.old.taken ≡ [] }
-        ensures appended { keeper.new ≡ with_entry keeper.old entry.now }
-        ensures claim { result ≡ claim_to self.now (length keeper.old.log) entry.now }
-        ensures moved { mark.new ≡ mark_at self.now (length keeper.old.log + 1) (mark.old.own ++ entry.now ∷ []) }
+        ensures appended { keeper.new ≡ with_entry keeper.old entry }
+        ensures claim { result ≡ claim_to self.now (length keeper.old.log) entry }
+        ensures moved { mark.new ≡ mark_at self.now (length keeper.old.log + 1) (mark.old.own ++ entry ∷ []) }
         ensures behind { mark.old.mark ≤ length keeper.old.log }
     {
         Claim {

@@ -1,5 +1,6 @@
 //! The rule of a roll: what its tokens know, and what each step tells them.
 
+use crate::image::Image;
 use atomic_table::{Join, Play, Seat, Split, Table, TableRule};
 use std::alloc::Global;
 use std::collections::LinkedList;
@@ -8,6 +9,8 @@ use std::collections::LinkedList;
 pub struct Known<E> {
     /// Whether it knows the list whole.
     pub keeps: bool,
+    /// Whether it knows that the slot lies in the table.
+    pub home: bool,
     /// The list, where it does.
     pub log: LinkedList<E>,
     /// Places, each with what stands there.
@@ -21,19 +24,27 @@ pub struct Known<E> {
 /// There is one list, which one token knows whole; what all others know of it is so, and no place is claimed twice.
 pub struct Enrolled;
 
-impl<E> TableRule<E, Known<E>, Enrolled> for Enrolled {
-    ghost use Rattle.std.specs.Prelude.{[]};
-    ghost use Rattle.usb_roll.specs.Rule.{keeper, Kept};
+impl<E> TableRule<Slot<E>, Known<E>, Enrolled> for Enrolled {
+    ghost use Rattle.usb_roll.specs.Rule.{Kept, opener};
 
     ghost holds = { λ _. Kept };
 
-    ghost first = { λ _. keeper [] };
+    ghost first = { λ _. opener };
 }
 
-/// An entry is put behind the list, with a claim to its place.
+/// The first token takes the slot.
+pub struct TakesSlot;
+
+impl<E> Play<Slot<E>, Known<E>> for TakesSlot {
+    ghost use Rattle.usb_roll.specs.Rule.{Slotted};
+
+    ghost then = { Slotted };
+}
+
+/// The entry that the slot says is put behind the list, with a claim to its place.
 pub struct Appends;
 
-impl<E> Play<E, Known<E>> for Appends {
+impl<E> Play<Slot<E>, Known<E>> for Appends {
     ghost use Rattle.usb_roll.specs.Rule.{Appended};
 
     ghost then = { Appended };
@@ -42,7 +53,7 @@ impl<E> Play<E, Known<E>> for Appends {
 /// What is known is compared with the list.
 pub struct Checks;
 
-impl<E> Play<E, Known<E>> for Checks {
+impl<E> Play<Slot<E>, Known<E>> for Checks {
     ghost use Rattle.usb_roll.specs.Rule.{Seen};
 
     ghost then = { Seen };
@@ -84,8 +95,11 @@ impl<E> Join<Known<E>> for TakesIn {
     ghost spent = { bearer [] 0 [] };
 }
 
-/// The table that a roll stands on: one word, which stays 0.
-pub type Word<E> = Table<E, Known<E>, Enrolled, Enrolled, Global>;
+/// What the keeper says before it appends: the entry. It has no bytes.
+pub type Slot<E> = Image<Option<E>>;
+
+/// The table that a roll stands on: one word, which stays 0, and one slot, which the keeper has.
+pub type Word<E> = Table<Slot<E>, Known<E>, Enrolled, Enrolled, Global>;
 
 /// What one token is: its knowledge of that table. It has no bytes.
-pub type Token<E> = Seat<E, Known<E>>;
+pub type Token<E> = Seat<Slot<E>, Known<E>>;

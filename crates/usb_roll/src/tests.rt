@@ -32,9 +32,9 @@ fn three_entries(alloc: Global) -> Result<(Keeper<u64>, Mark<u64>), AllocError>
     let mut keeper = crosses(keeper);
     let mut first = crosses(roll.mark(&mut keeper));
     let mut second = roll.mark(&mut keeper);
-    let earlier = crosses(roll.enter(&mut keeper, &mut first, &7));
-    let _other = roll.enter(&mut keeper, &mut second, &8);
-    let later = roll.enter(&mut keeper, &mut first, &9);
+    let earlier = crosses(roll.enter(&mut keeper, &mut first, 7));
+    let _other = roll.enter(&mut keeper, &mut second, 8);
+    let later = roll.enter(&mut keeper, &mut first, 9);
     roll.take_in(&mut keeper, earlier);
     roll.take_in(&mut keeper, later);
     roll.check(&mut keeper);

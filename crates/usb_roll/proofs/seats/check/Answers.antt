@@ -7,5 +7,5 @@ pub load-found-requires : goal.load-found-requires
 load-found-requires g c = (
   c.requires.roll.0,
   search rules,
-  λ s h n at lt. (c.args.token.now.me.0, keeps, tt, stays s.views _ _ h at, (refl, checks s.views _ _ c.requires.keeper h at)),
+  λ s h n at lt. (c.args.token.now.me.0, keeps, tt, stays s.homes s.views _ _ h at, (refl, checks s.homes s.views _ _ c.requires.keeper h at)),
 )
