@@ -85,7 +85,7 @@ impl EndpointContext {
         if at.trb.done {
             return None;
         }
-        TrbAt::seen(self.ring.ahead(index + 1))
+        TrbAt::placed(self.ring.ahead(index + 1))
     }
 
     /// The first TRB of the transfer at dequeue. Inlined, as `working` is, so that what was read needn't stand in memory.
@@ -93,7 +93,7 @@ impl EndpointContext {
     pub(crate) fn first(&self) -> Option<TrbAt>
         ensures { result ≡ trb_at self.now 0 }
     {
-        TrbAt::seen(self.ring.ahead(0))
+        TrbAt::placed(self.ring.ahead(0))
     }
 
     /// The first TRB of the transfer at dequeue, where the endpoint is running.

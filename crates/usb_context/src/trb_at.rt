@@ -15,9 +15,9 @@ pub struct TrbAt {
 }
 
 impl TrbAt {
-    /// What was read of a ring, if it was a Normal TRB.
+    /// A Normal TRB as it was read of a ring, with its address; None where none was.
     #[inline(always)]
-    pub(crate) fn seen(read: Option<(Pointer, Normal)>) -> Option<TrbAt>
+    pub(crate) fn placed(read: Option<(Pointer, Normal)>) -> Option<TrbAt>
         ensures { result ≡ placed read }
     {
         let (pointer, trb) = read?;

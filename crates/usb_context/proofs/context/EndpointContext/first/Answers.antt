@@ -7,6 +7,6 @@ use Rattle.usb_context.proofs.context.EndpointContext.first.Goals as goal
 
 pub returns : goal.returns
 returns c =
-    c.seen.ensures ∙ ap placed c.ahead.ensures.value
+    c.placed.ensures ∙ ap placed c.ahead.ensures.value
     ∙ ap (λ (x : Context). seen (ahead_of x.ring.line 0)) c.self.view_is
     ∙ first-read c.args.self.now.ring.line

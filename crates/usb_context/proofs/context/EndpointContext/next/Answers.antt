@@ -11,7 +11,7 @@ returns-then-at-clause-value c = next-done c.args.self.now.ring.line c.args.inde
 pub returns-clause-value : goal.returns-clause-value
 returns-clause-value c =
     let count : c.args.index + 1 ≡ suc c.args.index = omega arith in
-    c.seen.ensures ∙ ap placed c.ahead.ensures.value
+    c.placed.ensures ∙ ap placed c.ahead.ensures.value
     ∙ ap (λ (x : Context). seen (ahead_of x.ring.line (c.args.index + 1))) c.self.view_is
     ∙ ap (λ (n : ℕ). seen (ahead_of c.args.self.now.ring.line n)) count
     ∙ next-read c.args.self.now.ring.line c.args.index c.args.at.now c.requires.at c.if-at.false

@@ -1,25 +1,20 @@
-use Rattle.std.proofs.Common.{◌≡◌, ◌≤◌, ◌-◌, arith, ap, ◌∙◌, length}
-use Rattle.usb_segment.proofs.Lists.{length-kinds}
-use Rattle.usb_tring.specs.Line.{places, contents, moved}
-use Rattle.usb_tring.specs.View.{Ring, line_in, back}
-use Rattle.usb_tring.proofs.Views.{contents-are, moved-is}
+use Rattle.std.proofs.Common.{◌≤◌, ◌-◌, arith, ap, ◌∙◌, length}
+use Rattle.usb_tring.specs.Line.{contents, moved}
+use Rattle.usb_tring.specs.View.{Ring}
+use Rattle.usb_tring.proofs.Views.{length-contents, moved-is}
 use Rattle.usb_tring.proofs.ring.TransferRing.pass.Goals as goal
 
 pub overflow_sub-self : goal.overflow_sub-self
 overflow_sub-self c =
     let s = c.self.invariant in
-    let n : length (contents (line_in c.self.inside.segment c.self.inside.enqueue c.self.inside.left c.self.inside.held c.self.inside.counts)) ≡ c.self.inside.left =
-    ap length (contents-are c.self.inside.segment c.self.inside.enqueue c.self.inside.left c.self.inside.held c.self.inside.counts s.left_fits s.held_fits s.counted)
-    ∙ length-kinds places c.self.inside.segment (back c.self.inside.enqueue c.self.inside.left) c.self.inside.left in
+    let n = length-contents c.self.inside.segment c.self.inside.enqueue c.self.inside.left c.self.inside.held c.self.inside.counts s.left_fits s.held_fits s.counted in
     let v = ap (λ (r : Ring). length (contents r.line)) c.self.view_is in
     omega (arith, c.requires)
 
 pub returns-clause-line : goal.returns-clause-line
 returns-clause-line c =
     let s = c.self.invariant in
-    let n : length (contents (line_in c.self.inside.segment c.self.inside.enqueue c.self.inside.left c.self.inside.held c.self.inside.counts)) ≡ c.self.inside.left =
-    ap length (contents-are c.self.inside.segment c.self.inside.enqueue c.self.inside.left c.self.inside.held c.self.inside.counts s.left_fits s.held_fits s.counted)
-    ∙ length-kinds places c.self.inside.segment (back c.self.inside.enqueue c.self.inside.left) c.self.inside.left in
+    let n = length-contents c.self.inside.segment c.self.inside.enqueue c.self.inside.left c.self.inside.held c.self.inside.counts s.left_fits s.held_fits s.counted in
     let v = ap (λ (r : Ring). length (contents r.line)) c.self.view_is in
     let few : c.args.count ≤ c.self.inside.left = omega (arith, c.requires) in
     moved-is c.self.inside.segment c.self.inside.enqueue c.self.inside.left c.self.inside.held (c.self.inside.left - c.args.count) c.args.count c.self.inside.counts
