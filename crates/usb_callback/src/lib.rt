@@ -7,8 +7,6 @@
 mod callback;
 mod ruled;
 mod stored;
-#[cfg(test)]
-mod tests;
 
 pub use callback::Callback;
 pub use ruled::Ruled;

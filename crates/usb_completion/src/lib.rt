@@ -8,8 +8,6 @@ mod event;
 pub mod laws;
 mod placed;
 mod status;
-#[cfg(test)]
-mod tests;
 
 pub use event::{Reading, read_event};
 pub use placed::{Placed, PlacedTrb};

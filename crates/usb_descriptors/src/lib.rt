@@ -11,8 +11,6 @@ pub mod laws;
 mod piece;
 mod read;
 mod reader;
-#[cfg(test)]
-mod tests;
 
 pub use config::Config;
 pub use fault::DescFault;

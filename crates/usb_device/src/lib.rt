@@ -7,13 +7,9 @@ mod append;
 mod boxed;
 mod device;
 mod pipe;
-#[cfg(test)]
-mod relay;
 mod scripts;
 mod table;
 mod taken;
-#[cfg(test)]
-mod tests;
 
 pub use boxed::BoxedDevice;
 pub use device::{Act, Device};

@@ -8,8 +8,6 @@ mod image;
 mod roll;
 mod rule;
 mod seats;
-#[cfg(test)]
-mod tests;
 mod tokens;
 
 pub use image::Image;
