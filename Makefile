@@ -1,21 +1,23 @@
-# `make run` proves the program and shows the README's example; `make try` shows it unproved; `make test` is the gate;
-# `make fmt` lays all files out, which the gate asks for; `make bench` prints nanoseconds;
-# `make wrong_bodies` tries those that the gate leaves out, `make plant` makes definitions wrong, and says what refuses that.
+# `make run` builds the program unproved, and shows the README's example; `make build` proves it; `make test` is the gate.
+# `make fmt` lays all files out, which the gate asks for; `make bench` prints nanoseconds; `make wrong_bodies` tries those
+# that the gate leaves out; `make plant` makes definitions wrong, and says what refuses that.
 
-SCENARIO = ../../examples/cancel_amid_transfer.txt
+SCENARIO = examples/cancel_amid_transfer.txt
 
-.PHONY: run try test fmt bench wrong_bodies plant
+.PHONY: run build test fmt bench wrong_bodies plant
 
 run:
-	@cd crates/usbtrace && rt run -- run < $(SCENARIO)
+	@tools/program.py try
+	@tools/program.py state
+	@bin/usbtrace run < $(SCENARIO)
 
-try:
-	@cd crates/usbtrace && rt try -- run < $(SCENARIO)
+build:
+	@tools/program.py build
 
 test:
 	tools/wrong_bodies.py fit
 	RT_JOBS=$$(nproc) rt ci
-	@test -x crates/usbtrace/out/usbtrace || $(MAKE) --no-print-directory run
+	@tools/program.py keep
 	@tools/pictures.py check
 
 fmt:

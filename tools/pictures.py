@@ -9,7 +9,7 @@ import subprocess
 import sys
 
 ROOT = pathlib.Path(__file__).resolve().parent.parent
-PROGRAM = ROOT / "crates" / "usbtrace" / "out" / "usbtrace"
+PROGRAM = ROOT / "bin" / "usbtrace"
 PICTURES = ROOT / "docs" / "pictures"
 
 
