@@ -1,6 +1,3 @@
 pub mod Reports
 mod Begun
-mod Making
-mod Printed
-mod Lined
 mod Unlived

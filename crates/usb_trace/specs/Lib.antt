@@ -1,7 +1,5 @@
-pub mod Stepwise
 pub mod Lived
 pub mod Program
-pub mod Printed
 pub use Rattle.usb_command.specs.CommandLine
 pub use Rattle.usb_streams.specs.Faults
 pub use Rattle.usb_streams.specs.Input

@@ -11,8 +11,8 @@ use Rattle.usb_streams.specs.declared.fault.Fault.{Fault}
 use Rattle.usb_streams.specs.declared.fault.Fault.TheVariants.{Line, Memory, InputOutput}
 use Rattle.usb_trace.specs.declared.program.Ending.{Ending}
 use Rattle.usb_trace.specs.declared.program.Ending.TheVariants.{Good, BadLines}
-use Rattle.usb_trace.specs.declared.printing.Reach.{Reach}
-use Rattle.usb_trace.specs.declared.printing.Reach.TheVariants.{End, NoMemory}
+use Rattle.trace_run.specs.declared.printing.Reach.{Reach}
+use Rattle.trace_run.specs.declared.printing.Reach.TheVariants.{End, NoMemory}
 use Rattle.usb_text.specs.declared.scenario.Scenario.{Scenario}
 use Rattle.clap.specs.Walk.{Text}
 use Rattle.usb_command.specs.CommandLine.{AskFor}
@@ -27,7 +27,7 @@ use Rattle.usb_text.specs.Scenario.{scenario_of}
 use Rattle.usb_text.specs.StepLines.{step_lines}
 use Rattle.usb_left.specs.Left.{all_left}
 use Rattle.usb_left.specs.LeftText.{lines_left}
-use Rattle.usb_trace.specs.Stepwise.{stepwise_text}
+use Rattle.trace_run.specs.Stepwise.{stepwise_text}
 use Rattle.usb_trace.specs.Lived.{lived_of, AppendsCallbacks, BeginsCallbacks}
 
 -- the steps of a scenario: those that its plan stands for under its rules

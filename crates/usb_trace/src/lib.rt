@@ -6,12 +6,8 @@
 //! it where the status isn't 0.
 #![tactic(auto)]
 
-mod devices;
-mod drawing;
 mod live;
 mod lived;
-mod printing;
 mod program;
-mod stepwise;
 
 pub use program::trace;

@@ -8,13 +8,13 @@ ghost use Rattle.usb_command.specs.declared.words.Task.TheVariants.{Live};
 ghost use Rattle.usb_trace.specs.Lived.{AppendsCallbacks, AppendsSomeCallbacks};
 ghost use Rattle.usb_trace.specs.Program.{Begins, IsSilentAtBad, Performs};
 
-use crate::devices::devices_of;
 use crate::lived::read_lived;
 use crate::program::Ending;
 use std::alloc::Global;
 use std::io::Write;
 use std::sync::Wait;
 use std::thread::Threads;
+use trace_run::devices_of;
 use usb_liveplan::perform;
 use usb_streams::Fault;
 use usb_streams::print::print;

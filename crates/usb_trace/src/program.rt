@@ -16,19 +16,18 @@ ghost use Rattle.usb_trace.specs.Program.{alone_text, left_lines, ending_of, run
 ghost use Rattle.usb_command.specs.declared.words.Task.{Task};
 ghost use Rattle.usb_command.specs.declared.words.Task.TheVariants.{Check, Steps};
 ghost use Rattle.usb_text.specs.StepLines.{numbered};
-ghost use Rattle.usb_trace.specs.Stepwise.{stepwise_text};
+ghost use Rattle.trace_run.specs.Stepwise.{stepwise_text};
 
-use crate::devices::{callbacks_of, devices_of, parts_of};
-use crate::drawing::draw;
 use crate::live::live;
-use crate::printing::{Reach, print_alone, print_plan};
-use crate::stepwise::print_stepwise;
 use clap::Error;
 use clap::error::ErrorKind;
 use std::alloc::Global;
 use std::io::{Read, Write};
 use std::sync::Wait;
 use std::thread::Threads;
+use trace_run::{
+    Reach, callbacks_of, devices_of, draw, parts_of, print_alone, print_plan, print_stepwise,
+};
 use usb_command::{Task, read_words};
 use usb_left::{left_behind, lines_of};
 use usb_model::{Name, Sequence};

@@ -1,0 +1,10 @@
+-- Of the text a beginning is written.
+use Rattle.std.proofs.Common.{◌++◌, ◌∙◌, subst}
+use Rattle.usb_streams.specs.Printing.{AppendsSome}
+use Rattle.usb_streams.proofs.Printed.{on_error}
+use Rattle.trace_run.proofs.stepwise.put_behind.Goals as goal
+
+pub returns-in_err-put_text-clause-begun : goal.returns-in_err-put_text-clause-begun
+returns-in_err-put_text-clause-begun g c =
+    on_error c.from_residual.result
+    (subst (λ text. AppendsSome (c.args.lines.now ++ text) (g.W.Write.contents c.args.out.now) (g.W.Write.contents c.put_text.new.out)) (c.as_slice.ensures.value ∙ c.in-Ok.ensures) c.in_err-put_text.ensures.begun)

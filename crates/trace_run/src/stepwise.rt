@@ -1,0 +1,147 @@
+//! The entries of a run, each printed behind the line of its step.
+
+ghost use Rattle.std.specs.Prelude.{◌≡◌, ◌≢◌, ◌<◌, ◌++◌, [], true, false, length, map, is_some, slice_index_or, IfErr, IfOk, OnErr};
+ghost use Rattle.std.specs.List.{AllByRecursion, count_by};
+ghost use Rattle.usb_model.specs.declared.verdict.Rule.TheVariants.{Free};
+ghost use Rattle.usb_model.specs.World.Plans.{is_submission};
+ghost use Rattle.usb_state.specs.Making.{setup_of};
+ghost use Rattle.usb_purge.specs.PlanRuns.{entries_of, is_verdict};
+ghost use Rattle.usb_streams.specs.Faults.{IsOfRun};
+ghost use Rattle.usb_streams.specs.Printing.{AppendsSome};
+ghost use Rattle.usb_text.specs.StepLines.{numbered};
+ghost use Rattle.trace_run.specs.Printed.{BeginsPiece, PrintsPiece, PrintsText, Puts};
+ghost use Rattle.trace_run.specs.Stepwise.{behind_line, piece_text, stepwise_text};
+
+use crate::printing::{Parts, Reach, write_rest};
+use std::alloc::{AllocError, Global};
+use std::io::Write;
+use usb_callback::Callback;
+use usb_device::Device;
+use usb_model::{Entry, Plan};
+use usb_purge::{Performed, PlanRun, next_callback};
+use usb_streams::{Fault, Lines};
+use usb_text::NumberedLine;
+
+/// Puts an entry behind a line, and both behind the text.
+fn add_behind(
+    alloc: Global,
+    text: &mut Vec<u8>,
+    number: u64,
+    line: &[u8],
+    entry: &Entry,
+) -> Result<(), AllocError>
+    ensures { IfOk result (λ _. text.new.items ≡ text.old.items ++ behind_line (number, line.now) entry.now) }
+{
+    let front = format!(in alloc; "{number} ")?;
+    text.extend_from_slice(front.as_bytes())?;
+    text.extend_from_slice(line)?;
+    let back = format!(in alloc; " | {entry}\n")?;
+    text.extend_from_slice(back.as_bytes())?;
+    Ok(())
+}
+
+/// The entries of a piece, each behind the piece's line.
+#[tactic(auto, unfolding(crate::specs::Stepwise::piece_text))]
+fn text_of<C>(
+    alloc: Global,
+    number: u64,
+    line: &[u8],
+    performed: &Performed<C>,
+) -> Result<Vec<u8>, AllocError>
+    ensures { IfOk result (λ text. text.items ≡ piece_text (number, line.now) (entries_of performed.now)) }
+{
+    let mut text = Vec::new(alloc);
+    add_behind(alloc, &mut text, number, line, &performed.entry)?;
+    if let Some(stop) = &performed.stop {
+        add_behind(alloc, &mut text, number, line, stop)?;
+    }
+    Ok(text)
+}
+
+/// Puts the entries of a piece behind the others, each behind the piece's line. Nothing is put where memory is refused.
+fn put_behind<C, W: Write>(
+    alloc: Global,
+    number: u64,
+    line: &[u8],
+    performed: &Performed<C>,
+    lines: &mut Lines,
+    out: &mut W,
+) -> Result<Reach, Fault>
+    ensures put { IfOk result (λ reach. Puts reach (piece_text (number, line.now) (entries_of performed.now)) lines.old lines.new (W.contents out.old) (W.contents out.new)) }
+    ensures begun { OnErr result (AppendsSome (lines.old ++ piece_text (number, line.now) (entries_of performed.now)) (W.contents out.old) (W.contents out.new)) }
+    ensures fault { IfErr result (λ fault. IsOfRun fault) }
+{
+    let Ok(text) = text_of(alloc, number, line, performed) else {
+        return Ok(Reach::NoMemory);
+    };
+    lines.put_text(out, text.as_slice())?;
+    Ok(Reach::End)
+}
+
+/// Performs a piece of a plan, and puts its entries behind the others, each behind the piece's line. Nothing is put
+/// where memory is refused.
+fn print_behind<C: Callback, D: Device, W: Write>(
+    alloc: Global,
+    run: &mut PlanRun<C, D>,
+    piece: &Plan,
+    callback: Option<C>,
+    number: u64,
+    line: &[u8],
+    lines: &mut Lines,
+    out: &mut W,
+) -> Result<Reach, Fault>
+    requires submits { is_submission piece.now ≡ true → is_some callback ≡ true }
+    requires no_verdict { is_verdict piece.now ≡ false }
+    ensures printed { IfOk result (λ reach. PrintsPiece C.rule (piece_text (number, line.now)) reach run.old piece.now callback run.new lines.old lines.new (W.contents out.old) (W.contents out.new)) }
+    ensures begun { OnErr result (BeginsPiece C.rule (piece_text (number, line.now)) run.old piece.now callback run.new lines.old (W.contents out.old) (W.contents out.new)) }
+    ensures fault { IfErr result (λ fault. IsOfRun fault) }
+{
+    let Ok(performed) = run.perform(piece, callback) else {
+        return Ok(Reach::NoMemory);
+    };
+    let reach = put_behind(alloc, number, line, &performed, lines, out)?;
+    Ok(reach)
+}
+
+/// The line at this place, of those that there are: its number and its bytes.
+fn line_of<'a>(step_lines: &[NumberedLine<'a>], at: usize) -> (u64, &'a [u8])
+    requires { at < length step_lines.now }
+    ensures { (result.0, result.1.now) ≡ slice_index_or (map numbered step_lines.now) at (0, []) }
+{
+    let NumberedLine { number, text } = step_lines[at];
+    (number, text)
+}
+
+/// Prints the entries of a plan as far as its run over the core comes, each behind its piece's line: there is a line
+/// for each piece, in order.
+pub fn print_stepwise<C: Callback, D: Device, W: Write>(
+    alloc: Global,
+    parts: Parts<C, D>,
+    plan: &[Plan],
+    step_lines: &[NumberedLine<'_>],
+    out: &mut W,
+) -> Result<Reach, Fault>
+    requires each { length step_lines.now ≡ length plan.now }
+    requires callbacks { length parts.callbacks.items ≡ count_by is_submission plan.now }
+    requires not_free { AllByRecursion (λ rule. rule ≢ Free) (map C.rule parts.callbacks.items) }
+    requires no_verdict { AllByRecursion (λ piece. is_verdict piece ≡ false) plan.now }
+    ensures lines { IfOk result (λ reach. PrintsText reach (stepwise_text (setup_of parts.setup) plan.now (map C.rule parts.callbacks.items) (map numbered step_lines.now)) (W.contents out.old) (W.contents out.new)) }
+    ensures begun { AppendsSome (stepwise_text (setup_of parts.setup) plan.now (map C.rule parts.callbacks.items) (map numbered step_lines.now)) (W.contents out.old) (W.contents out.new) }
+    ensures fault { IfErr result (λ fault. IsOfRun fault) }
+{
+    let Parts { setup, callbacks } = parts;
+    let mut run = PlanRun::new(alloc, setup)?;
+    let mut left = callbacks.into_iter();
+    let mut lines = Lines::new(alloc);
+    for (at, piece) in plan.iter().enumerate() {
+        let (number, text) = line_of(step_lines, at);
+        let callback = next_callback(piece, &mut left);
+        match print_behind(
+            alloc, &mut run, piece, callback, number, text, &mut lines, out,
+        )? {
+            Reach::End => {}
+            Reach::NoMemory => return write_rest(lines, out, Reach::NoMemory),
+        }
+    }
+    write_rest(lines, out, Reach::End)
+}
