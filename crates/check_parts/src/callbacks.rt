@@ -1,0 +1,139 @@
+//! Callbacks that are called: two that repeat and one that is called once, by code that knows no box.
+
+ghost use Rattle.std.specs.Prelude.{IfOk, IfSome, is_some, ◌≡◌};
+ghost use Rattle.usb_callback.specs.Callbacks.{Fits};
+ghost use Rattle.usb_model.specs.declared.status.Status.TheVariants.{Completed};
+ghost use Rattle.usb_model.specs.World.Plans.{verdict_of};
+
+use crate::expect::expect;
+use anyhow::{Result, anyhow};
+use std::alloc::Global;
+use std::sync::Arc;
+use std::sync::atomic::{AtomicU64, Ordering};
+use usb_callback::{Callback, Once, Repeat, StoredCallback};
+use usb_model::{Bytes, EpAddr, Name, Returned, Rule, Status, StatusSet, Verdict};
+
+/// Plays the scenes of callbacks.
+pub fn play<P: Print>(rt: &P, alloc: Global) -> Result<()> {
+    repeating(alloc)?;
+    println!(rt; "a repeating callback: it answers twice, and comes back each time")?;
+    under_no_rule(alloc)?;
+    println!(rt; "a callback under no rule: it stops at the last round")?;
+    called_once(alloc)?;
+    println!(rt; "a callback that is called once: it adds once, and is used up")?;
+    Ok(())
+}
+
+/// Transfer 1 on endpoint 81, completed with no bytes.
+fn completed(alloc: Global, round: u64) -> Result<Returned>
+    ensures { IfOk result (λ r. (r.round ≡ round) × (r.status ≡ Completed)) }
+{
+    Ok(Returned {
+        h: Name::new(0).ok_or_else(|| anyhow!("name 0 is refused"))?,
+        n: 1,
+        ep: EpAddr::new(0x81),
+        round,
+        status: Status::Completed,
+        actual: 0,
+        bytes: Bytes::new(alloc),
+    })
+}
+
+/// Callbacks cross threads.
+fn crosses<T: Send>(value: T) -> T
+    ensures { result ≡ value }
+{
+    value
+}
+
+/// What any callback answers.
+fn answer<C: Callback>(callback: C, returned: Returned) -> (Verdict, Option<C>)
+    ensures fits { Fits (C.rule callback) returned result.0 }
+    ensures back { is_some result.1 ≡ C.repeats callback }
+    ensures same { IfSome result.1 (λ c. c ≡ callback) }
+{
+    callback.call(returned)
+}
+
+/// A callback goes on.
+fn goes_on(verdict: &Verdict) -> Result<()> {
+    expect(
+        matches!(verdict, Verdict::Again),
+        "a callback that goes on",
+        "its verdict is another",
+    )
+}
+
+/// A callback stops.
+fn stops(verdict: &Verdict) -> Result<()> {
+    expect(
+        matches!(verdict, Verdict::Stop),
+        "a callback that stops",
+        "its verdict is another",
+    )
+}
+
+/// A repeating callback comes back.
+fn back<C: Callback>(callback: Option<C>) -> Result<C> {
+    callback.ok_or_else(|| anyhow!("a repeating callback doesn't come back"))
+}
+
+/// A repeating callback answers twice.
+fn repeating(alloc: Global) -> Result<()> {
+    let rule = Rule::Again {
+        on: StatusSet::COMPLETED,
+        rounds: 1,
+    };
+    let code: Repeat = Box::new(
+        alloc,
+        move |returned: &Returned| -> Verdict
+            ensures { result ≡ verdict_of rule returned.now.status returned.now.round }
+        { rule.verdict(returned.status, returned.round) },
+    )?;
+    let callback = crosses(StoredCallback::repeat(rule, code));
+    let (first, again) = answer(callback, completed(alloc, 0)?);
+    goes_on(&first)?;
+    let (second, again) = answer(back(again)?, completed(alloc, 1)?);
+    stops(&second)?;
+    let _callback = back(again)?;
+    Ok(())
+}
+
+/// A callback under no rule stops at the last round.
+fn under_no_rule(alloc: Global) -> Result<()> {
+    let code: Repeat = Box::new(alloc, |returned: &Returned| -> Verdict {
+        if returned.round < 2 {
+            Verdict::Again
+        } else {
+            Verdict::Stop
+        }
+    })?;
+    let callback = StoredCallback::repeat(Rule::Free, code);
+    let (first, again) = answer(callback, completed(alloc, 1)?);
+    goes_on(&first)?;
+    let (second, _) = answer(back(again)?, completed(alloc, 2)?);
+    stops(&second)
+}
+
+/// A callback that is called once adds once, and is used up.
+fn called_once(alloc: Global) -> Result<()> {
+    let calls = Arc::new(alloc, AtomicU64::new(0))?;
+    let counted = calls.clone()?;
+    let code: Once = Box::new(alloc, move |returned: Returned| {
+        let _before = counted.fetch_add(returned.n, Ordering::SeqCst);
+    })?;
+    let callback = crosses(StoredCallback::once(code));
+    let (verdict, again) = answer(callback, completed(alloc, 0)?);
+    stops(&verdict)?;
+    expect(
+        again.is_none(),
+        "a callback that is called once",
+        "it comes back",
+    )?;
+    let count = calls.load(Ordering::SeqCst);
+    expect(
+        count == 1,
+        "a callback that is called once",
+        "it adds another number",
+    )
+}

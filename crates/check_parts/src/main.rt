@@ -1,0 +1,27 @@
+//! Scenes of the low crates: TRBs, descriptors, devices, events, callbacks and the log. A line says what each scene saw; a
+//! scene that isn't as it has to be ends the program with an error.
+#![tactic(auto)]
+
+mod callbacks;
+mod changed;
+mod configurations;
+mod devices;
+mod events;
+mod expect;
+mod faults;
+mod log;
+mod relay;
+mod trbs;
+
+use anyhow::Result;
+
+fn main(rt: HostRuntime) -> Result<()> {
+    let alloc = rt.alloc();
+    trbs::play(&rt)?;
+    configurations::play(&rt)?;
+    faults::play(&rt, alloc)?;
+    devices::play(&rt, alloc)?;
+    events::play(&rt)?;
+    callbacks::play(&rt, alloc)?;
+    log::play(&rt, alloc)
+}

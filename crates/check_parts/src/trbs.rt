@@ -1,0 +1,208 @@
+//! TRBs of each kind, as bytes that are written and read (xHCI 1.2, 6.4).
+
+use crate::expect::expect;
+use anyhow::{Result, anyhow};
+use usb_trb::{
+    EndpointId, Length, Normal, Pointer, Residual, Slot, Trb, TrbKind, Unknown, decode,
+    decode_normal, encode, is_no_op,
+};
+
+/// Bytes that no TRB is written as, and their fault.
+const UNKNOWN: [([u8; 16], &str); 6] = [
+    ([0; 16], "no type"),
+    (
+        [0, 0, 0, 0, 1, 0, 0, 0, 8, 0, 0, 0, 0x65, 4, 0, 0],
+        "a bit that no field has",
+    ),
+    (
+        [0, 0, 0, 0, 1, 0, 0, 0, 1, 0, 1, 0, 0x25, 4, 0, 0],
+        "a length of 65,537",
+    ),
+    (
+        [0, 0, 0, 0, 0, 0, 0, 0, 0, 0, 0, 0, 1, 0x3c, 3, 0],
+        "slot 0",
+    ),
+    (
+        [0, 0, 0, 0, 0, 0, 0, 0, 0, 0, 0, 0, 1, 0x3c, 0, 1],
+        "endpoint id 0",
+    ),
+    (
+        [8, 0x30, 2, 0x10, 0, 0, 0, 0, 0, 0, 0, 0, 3, 0x18, 0, 0],
+        "an address that is no multiple of 16",
+    ),
+];
+
+/// Plays the scenes of TRBs.
+pub fn play<P: Print>(rt: &P) -> Result<()> {
+    transfer_trbs()?;
+    commands()?;
+    events()?;
+    println!(rt; "a TRB of each kind: it is written as its bytes, and read from them")?;
+    unknown_bytes()?;
+    println!(rt; "bytes that no TRB is written as: they are unknown, whatever their fault")?;
+    Ok(())
+}
+
+/// Slot 1.
+fn slot() -> Result<Slot> {
+    Slot::new(1).ok_or_else(|| anyhow!("slot 1 is refused"))
+}
+
+/// Endpoint id 3.
+fn id() -> Result<EndpointId> {
+    EndpointId::new(3).ok_or_else(|| anyhow!("endpoint id 3 is refused"))
+}
+
+/// A length of 8.
+fn length() -> Result<Length> {
+    Length::new(8).ok_or_else(|| anyhow!("a length of 8 is refused"))
+}
+
+/// A residual of 5.
+fn residual() -> Result<Residual> {
+    Residual::new(5).ok_or_else(|| anyhow!("a residual of 5 is refused"))
+}
+
+/// A pointer to an address.
+fn pointer(address: u64) -> Result<Pointer> {
+    Pointer::new(address).ok_or_else(|| anyhow!("a pointer to {address} is refused"))
+}
+
+/// Whether a TRB is written as these bytes.
+fn writes(trb: &Trb, bytes: &[u8; 16]) -> bool {
+    encode(trb).as_slice() == bytes.as_slice()
+}
+
+/// Whether a TRB is read from these bytes.
+fn reads(bytes: &[u8; 16], trb: Trb) -> bool {
+    decode(bytes) == Ok(trb)
+}
+
+/// Whether this is what is read from these bytes as a Normal TRB.
+fn reads_normal(bytes: &[u8; 16], normal: Option<Normal>) -> bool {
+    decode_normal(bytes) == normal
+}
+
+/// Whether these bytes are taken for a No Op TRB just where they are one.
+fn tells_no_op(bytes: &[u8; 16], kind: TrbKind) -> bool {
+    is_no_op(bytes) == (kind == TrbKind::NoOp)
+}
+
+/// What a Normal TRB says; None of another.
+fn normal_in(kind: TrbKind) -> Option<Normal> {
+    match kind {
+        TrbKind::Normal(normal) => Some(normal),
+        _ => None,
+    }
+}
+
+/// A TRB is written as these bytes, and read from them in each way.
+fn is_written(name: &str, kind: TrbKind, bytes: &[u8; 16]) -> Result<()> {
+    let trb = Trb { kind, cycle: true };
+    let normal = normal_in(kind);
+    expect(writes(&trb, bytes), name, "it is written as other bytes")?;
+    expect(reads(bytes, trb), name, "its bytes are read as another")?;
+    expect(
+        reads_normal(bytes, normal),
+        name,
+        "its bytes are read as another Normal TRB",
+    )?;
+    expect(
+        tells_no_op(bytes, kind),
+        name,
+        "whether it is a No Op is told wrong",
+    )
+}
+
+/// The TRBs of a transfer ring.
+fn transfer_trbs() -> Result<()> {
+    is_written(
+        "a Normal TRB",
+        TrbKind::Normal(Normal {
+            buffer: 0x1_0000_0000,
+            length: length()?,
+            short: true,
+            chain: false,
+            done: true,
+        }),
+        &[0, 0, 0, 0, 1, 0, 0, 0, 8, 0, 0, 0, 0x25, 4, 0, 0],
+    )?;
+    is_written(
+        "a Link TRB",
+        TrbKind::Link {
+            segment: pointer(0x1002_3000)?,
+            toggle: true,
+            chain: false,
+        },
+        &[0, 0x30, 2, 0x10, 0, 0, 0, 0, 0, 0, 0, 0, 3, 0x18, 0, 0],
+    )?;
+    is_written(
+        "a No Op TRB",
+        TrbKind::NoOp,
+        &[0, 0, 0, 0, 0, 0, 0, 0, 0, 0, 0, 0, 1, 0x20, 0, 0],
+    )
+}
+
+/// The commands.
+fn commands() -> Result<()> {
+    let (slot, id) = (slot()?, id()?);
+    is_written(
+        "a Reset Endpoint Command TRB",
+        TrbKind::ResetEndpoint { slot, id },
+        &[0, 0, 0, 0, 0, 0, 0, 0, 0, 0, 0, 0, 1, 0x38, 3, 1],
+    )?;
+    is_written(
+        "a Stop Endpoint Command TRB",
+        TrbKind::StopEndpoint { slot, id },
+        &[0, 0, 0, 0, 0, 0, 0, 0, 0, 0, 0, 0, 1, 0x3c, 3, 1],
+    )?;
+    is_written(
+        "a Set TR Dequeue Pointer Command TRB",
+        TrbKind::SetDequeue {
+            pointer: pointer(0x1002_3010)?,
+            state: true,
+            slot,
+            id,
+        },
+        &[0x11, 0x30, 2, 0x10, 0, 0, 0, 0, 0, 0, 0, 0, 1, 0x40, 3, 1],
+    )
+}
+
+/// The events.
+fn events() -> Result<()> {
+    let slot = slot()?;
+    is_written(
+        "a Transfer Event TRB",
+        TrbKind::TransferEvent {
+            pointer: pointer(0x1002_3000)?,
+            residual: residual()?,
+            code: 13,
+            slot,
+            id: id()?,
+        },
+        &[0, 0x30, 2, 0x10, 0, 0, 0, 0, 5, 0, 0, 0x0d, 1, 0x80, 3, 1],
+    )?;
+    is_written(
+        "a Command Completion Event TRB",
+        TrbKind::CommandCompletion {
+            pointer: pointer(0x2000_0000)?,
+            code: 1,
+            slot,
+        },
+        &[0, 0, 0, 0x20, 0, 0, 0, 0, 0, 0, 0, 1, 1, 0x84, 0, 1],
+    )
+}
+
+/// Whether no TRB is read from these bytes.
+fn is_unknown(bytes: &[u8; 16]) -> bool {
+    decode(bytes) == Err(Unknown)
+}
+
+/// Bytes that no TRB is written as are unknown.
+fn unknown_bytes() -> Result<()> {
+    for (bytes, fault) in &UNKNOWN {
+        expect(is_unknown(bytes), fault, "a TRB is read")?;
+        expect(reads_normal(bytes, None), fault, "a Normal TRB is read")?;
+    }
+    Ok(())
+}
