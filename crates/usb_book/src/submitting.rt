@@ -68,8 +68,7 @@ impl<L: Naming, P, D: Device, J: Recorder> Book<L, P, D, J> {
             Err(back) => return Err(back),
         };
         start_if(timers, h, &answer, timeout, *moment);
-        let entry = answer_entry(h, &answer);
-        let receipt = enter(log, mark, draft, asked, caller, &entry, *moment);
+        let receipt = enter_answer(log, mark, draft, asked, caller, h, &answer, *moment);
         Ok((receipt, answer))
     }
 
@@ -115,8 +114,7 @@ impl<L: Naming, P, D: Device, J: Recorder> Book<L, P, D, J> {
             Err(back) => return Err(back),
         };
         start_again_if(timers, h, n, &answer, *moment);
-        let entry = answer_entry(h, &answer);
-        let receipt = enter(log, mark, draft, asked, caller, &entry, *moment);
+        let receipt = enter_answer(log, mark, draft, asked, caller, h, &answer, *moment);
         Ok((receipt, answer))
     }
 
@@ -168,8 +166,7 @@ impl<L: Naming, P, D: Device, J: Recorder> Book<L, P, D, J> {
             Err(back) => return Err(back),
         };
         start_again_if(timers, h, n, &answer, *moment);
-        let entry = answer_entry(h, &answer);
-        let receipt = enter(log, mark, draft, asked, caller, &entry, *moment);
+        let receipt = enter_answer(log, mark, draft, asked, caller, h, &answer, *moment);
         Ok((receipt, answer))
     }
 }
@@ -210,6 +207,28 @@ pub(crate) fn enter<L: Naming, J: Recorder>(
 {
     let told = Told::new(asked, caller, entry, moment);
     log.enter_drafted(mark, draft, told, entry)
+}
+
+/// One place more, of a submission of a name that is answered so.
+#[inline(always)]
+fn enter_answer<L: Naming, J: Recorder, G, P>(
+    log: &mut Log<L, J>,
+    mark: &mut Mark<L>,
+    draft: J::Draft,
+    asked: Image<Step>,
+    caller: u32,
+    h: Name,
+    answer: &Result<u64, Unaccepted<G, P>>,
+    moment: u64,
+) -> Receipt<L>
+    requires room { (length log.old.journal + 1 < 2 ^ 64) × J.has_room log.old.recorder 1 0 }
+    requires draft { J.is_draft log.old.recorder draft asked.value }
+    ensures receipt { result ≡ record { place = length log.old.journal; entry = record { step = asked.value; caller = caller; entry = answer_entry h answer.now; moment = moment } } }
+    ensures journal { log.new.journal ≡ log.old.journal ++ result.entry ∷ [] }
+    ensures mark { IsMoved mark.old result mark.new }
+{
+    let entry = answer_entry(h, answer);
+    enter(log, mark, draft, asked, caller, &entry, moment)
 }
 
 /// The entry of a submission of a name.

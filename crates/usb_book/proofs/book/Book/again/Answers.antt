@@ -25,9 +25,9 @@ invariant_of-self-2 g c =
     let step : Step = Answer c.args.h c.args.n Again in
     let p : Place = record { step = step; caller = c.args.caller; entry = answer_entry c.args.h a; moment = c.self.inside.moment } in
     let turn = answer_turns c.self.inside.core c.again.new.self step c.args.h c.again.result a (sym c.unless_no_memory.ensures ∙ c.in-Ok-unless_no_memory.is) c.again.ensures.accepted c.again.ensures.refused in
-    entered g.L.Naming.setup c.self.inside.log.journal c.prepare.new.log.journal c.self.inside.core c.again.new.self c.enter-receipt.new.log.journal c.self.inside.timers.items c.start_again_if.new.timers.items p c.enter-receipt.result (length c.prepare.new.log.journal)
-    c.prepare.ensures.same c.enter-receipt.ensures.journal
-    (c.enter-receipt.ensures.receipt ∙ ap (λ (x : Place). record { place = length c.prepare.new.log.journal; entry = x }) (same_place _ step c.args.caller _ _ c.self.inside.moment c.of-asked.ensures c.answer_entry-entry.ensures.entry))
+    entered g.L.Naming.setup c.self.inside.log.journal c.prepare.new.log.journal c.self.inside.core c.again.new.self c.enter_answer-receipt.new.log.journal c.self.inside.timers.items c.start_again_if.new.timers.items p c.enter_answer-receipt.result (length c.prepare.new.log.journal)
+    c.prepare.ensures.same c.enter_answer-receipt.ensures.journal
+    (c.enter_answer-receipt.ensures.receipt ∙ ap (λ (x : Place). record { place = length c.prepare.new.log.journal; entry = x }) (same_place _ step c.args.caller _ _ c.self.inside.moment c.of-asked.ensures refl))
     turn
     (c.start_again_if.ensures ∙ (ap (started_again_if c.args.h c.args.n c.self.inside.moment a) c.prepare.ensures.timers ∙ again_timers c.args.h c.args.n c.self.inside.moment a c.self.inside.timers.items))
     c.self.invariant
