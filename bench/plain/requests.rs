@@ -22,7 +22,8 @@ struct Trbs {
     count: usize,
 }
 
-/// The TRBs of a read at an endpoint of this kind.
+/// The TRBs of a read at an endpoint of this kind. It is kept out of line: else nothing is checked of a request that is known.
+#[inline(never)]
 fn trbs(kind: Kind, request: &Request, key: u64) -> Option<Trbs> {
     if matches!(kind, Kind::Control | Kind::Isochronous) || request.kind != kind {
         return None;
