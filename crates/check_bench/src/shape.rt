@@ -2,7 +2,7 @@
 
 use std::alloc::Global;
 use usb_core::Setup;
-use usb_descriptors::{Config, read_config};
+use usb_descriptors::read_config;
 use usb_device::TableDevice;
 use usb_model::{Bytes, DeviceNo, EpAddr, Name, Response, Script, Sequence};
 
@@ -153,20 +153,22 @@ impl Shape {
         Some(scripts)
     }
 
-    /// A device, and its configuration.
-    fn device(&self, alloc: Global) -> Option<(Config, TableDevice)> {
-        let config = read_config(self.descriptor(alloc)?.as_slice()).ok()?;
-        let scripts = self.scripts(alloc)?;
-        let device = TableDevice::new(alloc, &config, scripts).ok()?;
-        Some((config, device))
+    /// Adds a device.
+    fn add(&self, alloc: Global, setup: &mut Setup<TableDevice>) -> Option<()> {
+        let Ok(config) = read_config(self.descriptor(alloc)?.as_slice()) else {
+            return None;
+        };
+        let Ok(device) = TableDevice::new(alloc, &config, self.scripts(alloc)?) else {
+            return None;
+        };
+        setup.add(alloc, config, device).ok()
     }
 
     /// The devices.
     pub fn setup(&self, alloc: Global) -> Option<Setup<TableDevice>> {
         let mut setup = Setup::new(alloc).ok()?;
         for _ in 0..self.devices {
-            let (config, device) = self.device(alloc)?;
-            setup.add(alloc, config, device).ok()?;
+            self.add(alloc, &mut setup)?;
         }
         Some(setup)
     }
