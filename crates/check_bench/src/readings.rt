@@ -1,0 +1,70 @@
+//! Events read against the line of their endpoint.
+
+use arrayvec::ArrayVec;
+use bitflags::Flags as _;
+use usb_completion::{Placed, PlacedTrb, Reading, read_event};
+use usb_model::Flags;
+use usb_trb::{EndpointId, Length, Pointer, Residual, Slot, Trb, TrbKind};
+
+/// The address of the line's only TRB.
+const ADDRESS: u64 = 0x1002_3000;
+
+/// The code Short Packet.
+const SHORT_PACKET: u8 = 13;
+
+/// How many bytes the transfer is to move.
+const LENGTH: u32 = 8;
+
+/// A turn's event, whose residual is over the length at each ninth turn; a No Op where slot and endpoint are none.
+fn event(turn: u64) -> Trb {
+    let kind = match (Slot::new(1), EndpointId::new(3)) {
+        (Some(slot), Some(id)) => TrbKind::TransferEvent {
+            pointer: Pointer::before(ADDRESS),
+            residual: Residual::low((turn % 9) as u32),
+            code: SHORT_PACKET,
+            slot,
+            id,
+        },
+        _ => TrbKind::NoOp,
+    };
+    Trb { kind, cycle: true }
+}
+
+/// A line of one read of 8 bytes.
+#[derive(Drop)]
+pub struct Readings {
+    line: [Placed; 1],
+}
+
+impl Readings {
+    pub fn new() -> Readings {
+        let length = Length::new(LENGTH).unwrap_or_default();
+        let mut trbs = ArrayVec::new();
+        trbs.push(PlacedTrb {
+            address: ADDRESS,
+            length,
+        });
+        let placed = Placed {
+            flags: Flags::from_bits_retain(0),
+            length: LENGTH,
+            ask: None,
+            trbs,
+        };
+        Readings { line: [placed] }
+    }
+
+    pub fn turn(&self, turns: u64) -> u64 {
+        let mut sum: u64 = 0;
+        for turn in 0..turns {
+            if let Reading::Ended {
+                item,
+                status,
+                actual,
+            } = read_event(&event(turn), &self.line)
+            {
+                sum = sum.wrapping_add(item as u64 ^ status as u64 ^ u64::from(actual) ^ turn);
+            }
+        }
+        sum
+    }
+}

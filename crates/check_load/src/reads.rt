@@ -1,0 +1,211 @@
+//! Reads by a thread that makes all five calls of each itself, so that it waits for no worker: one thread, or two.
+
+ghost use Rattle.std.specs.Prelude.{◌≡◌};
+
+use crate::seat::{Seat, TURNS};
+use anyhow::{Result, anyhow};
+use std::alloc::Global;
+use std::marker::Brand;
+use std::sync::Wait;
+use std::thread;
+use std::thread::Threads;
+use std::time::{Clock, Duration, Instant};
+use usb_book::{Journal, Naming, Recorder, Unrecorded};
+use usb_device::{Device, TableDevice};
+use usb_library::{Caller, Library, Opening};
+use usb_model::{Refused, Returned};
+use usb_stand::{Reader, devices};
+
+/// How many answers a device has before it is reset.
+const ANSWERS: u64 = 4_096;
+
+/// How many reads one of a pair makes.
+const EACH: u64 = 100_000;
+
+/// A number that depends on what a callback is given.
+fn weight(returned: &Returned, payload: u64) -> u64 {
+    let bytes = returned.bytes.as_slice();
+    let last = match bytes.last() {
+        Some(last) => u64::from(*last),
+        None => 0,
+    };
+    let ending = u64::from(returned.actual) << 8 | returned.status as u64;
+    payload
+        ^ ending
+        ^ last << 40
+        ^ (bytes.len() as u64).wrapping_mul(3)
+        ^ returned.n.wrapping_mul(5)
+        ^ returned.round
+        ^ u64::from(returned.ep.address())
+        ^ u64::from(returned.h.number())
+}
+
+impl<R: Wait, L: Naming, D: Device, J: Recorder> Seat<'_, R, L, u64, D, J> {
+    /// The oldest event is handled, if there is one; the oldest result goes out, if one waits, and its callback ends.
+    fn end_one(&mut self) -> Result<u64, Refused> {
+        self.deliver()?;
+        let Some(taken) = self.take()? else {
+            return Ok(0);
+        };
+        self.stop(taken.returned.h, taken.returned.n)?;
+        Ok(weight(&taken.returned, taken.payload))
+    }
+
+    /// A read of 8 bytes, from its submission to its end.
+    fn read(&mut self, reader: &Reader, payload: u64) -> Result<u64, Refused> {
+        self.submit(reader.h, reader.read(8, 0), payload)?;
+        self.serve(reader.dev, reader.ep)?;
+        self.end_one()
+    }
+
+    /// Resets the device, once what another thread took of it has ended.
+    fn renew(&mut self, reader: &Reader) -> Result<u64, Refused> {
+        let mut sum: u64 = 0;
+        for _ in 0..TURNS {
+            match self.reset(reader.h) {
+                Err(Refused::Busy) => sum = sum.wrapping_add(self.end_one()?),
+                Err(why) => return Err(why),
+                Ok(()) => return Ok(sum),
+            }
+        }
+        Err(Refused::Busy)
+    }
+
+    /// So many reads.
+    fn reads(&mut self, reader: &Reader, turns: u64) -> Result<u64, Refused> {
+        let mut sum: u64 = 0;
+        for turn in 0..turns {
+            if turn % ANSWERS == ANSWERS - 1 {
+                sum = sum.wrapping_add(self.renew(reader)?);
+            }
+            sum = sum.wrapping_add(self.read(reader, turn.saturating_add(1))?);
+        }
+        Ok(sum)
+    }
+
+    /// The same of a device that is opened, and its interface claimed.
+    fn all(&mut self, reader: &Reader, turns: u64) -> Result<u64, Refused> {
+        self.open(reader.h, reader.dev)?;
+        self.claim(reader.h, reader.i)?;
+        self.reads(reader, turns)
+    }
+}
+
+/// A thread: name 1 reads from device 0, name 2 from device 1.
+fn thread<R: Wait, L: Naming, J: Recorder>(
+    rt: &R,
+    library: &Library<L, u64, TableDevice, J>,
+    caller: Caller<L>,
+    h: u8,
+    turns: u64,
+) -> Result<u64> {
+    let mut caller = caller;
+    let reader = Reader::new(h, h.saturating_sub(1), 0)?;
+    let mut seat = Seat {
+        rt,
+        library,
+        caller: &mut caller,
+    };
+    seat.all(&reader, turns)
+        .map_err(|why| anyhow!("refused: {why}"))
+}
+
+/// One thread's reads, or those of two: what came out.
+fn threads<R: Threads + Wait + Sync, L: Naming + Send + Sync, J: Recorder + Send>(
+    rt: &R,
+    library: &Library<L, u64, TableDevice, J>,
+    two: bool,
+    turns: u64,
+) -> Result<u64>
+where
+    J::Draft: Send,
+{
+    let (Some(one), Some(other)) = (library.caller(rt), library.caller(rt)) else {
+        return Err(anyhow!("no callers"));
+    };
+    if !two {
+        return thread(rt, library, one, 1, turns);
+    }
+    let (left, right) = thread::join(
+        rt,
+        move || thread(rt, library, one, 1, turns),
+        move || thread(rt, library, other, 2, turns),
+    );
+    Ok(left?.wrapping_add(right?))
+}
+
+/// The same by a library that is opened.
+fn timed<L: Naming + Send + Sync, J: Recorder + Send, K: Clock, R: Threads + Wait + Sync>(
+    rt: &R,
+    alloc: Global,
+    clock: &K,
+    opening: Opening<TableDevice>,
+    two: bool,
+    turns: u64,
+) -> Result<(u64, Duration)>
+where
+    J::Draft: Send,
+    requires name { opening.name ≡ L.name }
+    requires parts { (L.parts ≡ 1025) × (opening.parts ≡ L.parts) }
+    requires table { opening.table ≡ L.table }
+    requires setup { opening.setup ≡ L.setup }
+{
+    let library = Library::<L, u64, TableDevice, J>::new(alloc, opening)?;
+    let start = Instant::now(clock)?;
+    let sum = threads(rt, &library, two, turns)?;
+    Ok((sum, start.elapsed(clock)?))
+}
+
+/// What comes out of so many reads, or of twice as many by two threads, and how long they take.
+fn of_library<J: Recorder + Send, K: Clock, R: Threads + Wait + Sync>(
+    rt: &R,
+    alloc: Global,
+    clock: &K,
+    two: bool,
+    turns: u64,
+) -> Result<(u64, Duration)>
+where
+    J::Draft: Send,
+{
+    let sizes = vec![in alloc; 8_u16; ANSWERS as usize]?;
+    let Ok(opening) = Opening::new(alloc, devices(alloc, 2, 8, sizes.as_slice())?) else {
+        return Err(anyhow!("no memory"));
+    };
+    timed::<Brand, J, K, R>(rt, alloc, clock, opening, two, turns)
+}
+
+/// So many reads by one thread, with a journal: the sum of what came out, and the nanoseconds.
+pub fn recorded<K: Clock, R: Threads + Wait + Sync>(
+    rt: &R,
+    alloc: Global,
+    clock: &K,
+    turns: u64,
+) -> Result<String> {
+    let (sum, took) = of_library::<Journal, K, R>(rt, alloc, clock, false, turns)?;
+    let ns = took.as_nanos();
+    Ok(format!(in alloc; "library: {turns} reads, sum {sum}, {ns} ns")?)
+}
+
+/// The same without a journal.
+pub fn unrecorded<K: Clock, R: Threads + Wait + Sync>(
+    rt: &R,
+    alloc: Global,
+    clock: &K,
+    turns: u64,
+) -> Result<String> {
+    let (sum, took) = of_library::<Unrecorded, K, R>(rt, alloc, clock, false, turns)?;
+    let ns = took.as_nanos();
+    Ok(format!(in alloc; "unrecorded: {turns} reads, sum {sum}, {ns} ns")?)
+}
+
+/// One thread and two: the nanoseconds of a transfer, of all that they make together.
+pub fn pair<K: Clock, R: Threads + Wait + Sync>(
+    rt: &R,
+    alloc: Global,
+    clock: &K,
+) -> Result<String> {
+    let (_, one) = of_library::<Unrecorded, K, R>(rt, alloc, clock, false, EACH)?;
+    let (_, two) = of_library::<Unrecorded, K, R>(rt, alloc, clock, true, EACH)?;
+    let (one, two) = (one.as_nanos() / 100_000, two.as_nanos() / 200_000);
+    Ok(format!(in alloc; "pair: {one} ns by one thread, {two} ns by two")?)
+}

@@ -1,0 +1,89 @@
+//! Whether a journal is the run of its steps, and each handle saw what it sees alone.
+
+use crate::load::DEVICES;
+use anyhow::{Result, anyhow};
+use std::alloc::Global;
+use usb_book::Place;
+use usb_core::run;
+use usb_model::{Entry, Name, Reply, Step};
+use usb_purge::alone;
+use usb_stand::{devices, twins};
+
+/// Whether two entries print the same.
+fn is_same(alloc: Global, one: &Entry, other: &Entry) -> Result<bool> {
+    let one = format!(in alloc; "{one}")?;
+    let other = format!(in alloc; "{other}")?;
+    Ok(one.as_str() == other.as_str())
+}
+
+/// An error where two lists of entries aren't the same.
+fn are_same(alloc: Global, some: &[Entry], others: &[Entry]) -> Result<()> {
+    if some.len() != others.len() {
+        return Err(anyhow!("another number of entries"));
+    }
+    for (one, other) in some.iter().zip(others) {
+        if !is_same(alloc, one, other)? {
+            return Err(anyhow!("{one} is {other}"));
+        }
+    }
+    Ok(())
+}
+
+/// How many callbacks these entries tell, where their numbers rise from 0 on.
+fn callbacks_in(entries: &[Entry]) -> Option<u64> {
+    let mut count: u64 = 0;
+    for entry in entries {
+        if let Reply::Called(returned) = &entry.reply {
+            if returned.n != count {
+                return None;
+            }
+            count = count.saturating_add(1);
+        }
+    }
+    Some(count)
+}
+
+/// An error where a handle alone sees something else than beside others, or not so many callbacks in order.
+fn is_alone(alloc: Global, sizes: &[u16], steps: &[Step], h: u8, transfers: u64) -> Result<()> {
+    let Some(name) = Name::new(h) else {
+        return Err(anyhow!("no name {h}"));
+    };
+    let (shared, apart) = twins(alloc, DEVICES, 8, sizes)?;
+    let both = alone(alloc, shared, apart, steps, name)?;
+    are_same(alloc, both.shared.as_slice(), both.alone.as_slice())?;
+    if callbacks_in(both.alone.as_slice()) != Some(transfers) {
+        return Err(anyhow!("handle {h} has other callbacks"));
+    }
+    Ok(())
+}
+
+/// The steps of a journal, and the entries that they were given.
+fn parts(alloc: Global, places: Vec<Place>) -> Result<(Vec<Step>, Vec<Entry>)> {
+    let (mut steps, mut entries) = (Vec::new(alloc), Vec::new(alloc));
+    for place in places {
+        steps.push(place.step)?;
+        entries.push(place.entry)?;
+    }
+    Ok((steps, entries))
+}
+
+/// An error where a journal isn't the run of its steps over devices with these packets, or one of so many handles saw something else
+/// than alone, or not so many callbacks in order.
+pub fn is_replayed(
+    alloc: Global,
+    places: Vec<Place>,
+    sizes: &[u16],
+    handles: u8,
+    transfers: u64,
+) -> Result<()> {
+    let (steps, entries) = parts(alloc, places)?;
+    let fresh = devices(alloc, DEVICES, 8, sizes)?;
+    let Ok(again) = run(alloc, fresh, steps.as_slice()) else {
+        return Err(anyhow!("the run stopped"));
+    };
+    are_same(alloc, again.as_slice(), entries.as_slice())?;
+    for h in 0..handles {
+        is_alone(alloc, sizes, steps.as_slice(), h, transfers)?;
+    }
+    Ok(())
+}

@@ -1,0 +1,151 @@
+//! A thread that streams transfers, whose packets and callbacks are the workers'.
+
+use crate::seat::{Seat, TURNS};
+use std::alloc::AllocError;
+use std::sync::atomic::{AtomicU64, Ordering};
+use std::sync::{Arc, Wait};
+use std::thread;
+use std::time::{Clock, Duration};
+use usb_book::{Naming, Recorder};
+use usb_callback::Callback;
+use usb_device::Device;
+use usb_library::{Caller, Library};
+use usb_live::Driver;
+use usb_model::{Refused, Returned, Verdict};
+use usb_stand::Reader;
+
+/// The callback of a transfer: it counts.
+#[derive(Drop)]
+pub struct Counts {
+    called: Arc<AtomicU64>,
+}
+
+impl Callback for Counts {
+    ghost use Rattle.std.specs.Prelude.{⊤, true};
+    ghost use Rattle.usb_model.specs.declared.verdict.Rule.TheVariants.{Free};
+
+    ghost rule = { λ c. Free };
+
+    ghost repeats = { λ c. true };
+
+    ghost may_answer = { λ c r v. ⊤ };
+
+    fn call(self, _returned: Returned) -> (Verdict, Option<Counts>) {
+        self.called.fetch_add(1, Ordering::SeqCst);
+        (Verdict::Stop, Some(self))
+    }
+}
+
+/// A thread that claims, reads and releases, round after round, and is idle then.
+#[derive(Drop)]
+pub struct Stream<K> {
+    /// Its handle and endpoint.
+    pub reader: Reader,
+    /// How many rounds.
+    pub rounds: u64,
+    /// How many transfers a round has: as many as the device has packets.
+    pub each: u64,
+    /// How many transfers are in line at most.
+    pub window: u64,
+    /// How many callbacks were called.
+    pub called: Arc<AtomicU64>,
+    /// How long it is idle at the end.
+    pub idle: Duration,
+    /// For that.
+    pub clock: K,
+}
+
+/// No memory is a refusal as others are.
+fn no_memory(_error: AllocError) -> Refused {
+    Refused::NoMem
+}
+
+impl<K> Stream<K> {
+    /// A callback that counts here.
+    fn counts(&self) -> Result<Counts, Refused> {
+        let called = self.called.clone().map_err(no_memory)?;
+        Ok(Counts { called })
+    }
+
+    /// Waits until at most so many callbacks are missing.
+    fn wait(&self, submitted: u64, missing: u64) -> Result<(), Refused> {
+        for _ in 0..TURNS {
+            let called = self.called.load(Ordering::SeqCst);
+            if submitted.saturating_sub(called) <= missing {
+                return Ok(());
+            }
+            thread::yield_now();
+        }
+        Err(Refused::Busy)
+    }
+
+    /// Submits one transfer of 8 bytes.
+    fn submit<L: Naming, D: Device, J: Recorder, R: Wait>(
+        &self,
+        seat: &mut Seat<'_, R, L, Counts, D, J>,
+    ) -> Result<(), Refused> {
+        let counts = self.counts()?;
+        seat.submit(self.reader.h, self.reader.read(8, 0), counts)
+    }
+
+    /// Releases the interface, once it is quiet.
+    fn release<L: Naming, D: Device, J: Recorder, R: Wait>(
+        &self,
+        seat: &mut Seat<'_, R, L, Counts, D, J>,
+    ) -> Result<(), Refused> {
+        for _ in 0..TURNS {
+            match seat.release(self.reader.h, self.reader.i) {
+                Err(Refused::Busy) => thread::yield_now(),
+                released => return released,
+            }
+        }
+        Err(Refused::Busy)
+    }
+
+    /// One round, behind so many transfers.
+    fn round<L: Naming, D: Device, J: Recorder, R: Wait>(
+        &self,
+        seat: &mut Seat<'_, R, L, Counts, D, J>,
+        before: u64,
+    ) -> Result<(), Refused> {
+        seat.claim(self.reader.h, self.reader.i)?;
+        for k in 0..self.each {
+            self.wait(before.saturating_add(k), self.window.saturating_sub(1))?;
+            self.submit(seat)?;
+        }
+        self.wait(before.saturating_add(self.each), 0)?;
+        self.release(seat)
+    }
+
+    /// All rounds.
+    fn stream<L: Naming, D: Device, J: Recorder, R: Wait>(
+        &self,
+        seat: &mut Seat<'_, R, L, Counts, D, J>,
+    ) -> Result<(), Refused> {
+        seat.open(self.reader.h, self.reader.dev)?;
+        for round in 0..self.rounds {
+            self.round(seat, self.each.saturating_mul(round))?;
+        }
+        Ok(())
+    }
+}
+
+impl<K: Clock + Drop> Driver<Counts> for Stream<K> {
+    type Left = Result<(), Refused>;
+
+    fn drive<L: Naming, D: Device, J: Recorder, R: Wait>(
+        self,
+        rt: &R,
+        library: &Library<L, Counts, D, J>,
+        caller: &mut Caller<L>,
+    ) -> Result<(), Refused> {
+        let mut seat = Seat {
+            rt,
+            library,
+            caller,
+        };
+        self.stream(&mut seat)?;
+        thread::sleep(&self.clock, self.idle);
+        Ok(())
+    }
+}
