@@ -24,15 +24,16 @@ fn parts<K: Clock + Drop>(
     clock: K,
     readings: &Arc<Readings>,
 ) -> Result<Vec<Part<K>>> {
-    let reads = Part {
+    let mut parts = Vec::new(alloc);
+    parts.push(Part {
         meter: Meter::Reads(Reader::new(1, 0, 1)?),
         readings: readings.clone()?,
-    };
-    let ticks = Part {
+    })?;
+    parts.push(Part {
         meter: Meter::Ticks(clock),
         readings: readings.clone()?,
-    };
-    Ok(Vec::from_array(alloc, [reads, ticks])?)
+    })?;
+    Ok(parts)
 }
 
 /// Runs them: what each leaves.
