@@ -1,12 +1,11 @@
 //! The meter's two threads: one reads, one tells the library the time.
 
 use crate::reading::{Reading, Readings};
-use std::alloc::AllocError;
 use std::sync::{Arc, Wait};
 use std::thread;
 use std::time::{Clock, Duration};
 use tirnouch::{Caller, Device, Driver, Library, Moments, Naming, Recorder, Refused};
-use usb_stand::Reader;
+use usb_stand::{Reader, no_memory, open_and_claim, submit};
 
 /// How many bytes a reading has.
 const BYTES: u32 = 8;
@@ -38,9 +37,19 @@ pub struct Part<K> {
     pub readings: Arc<Readings>,
 }
 
-/// No memory is a refusal as others are.
-fn no_memory(_error: AllocError) -> Refused {
-    Refused::NoMem
+/// Submits a reading with this timeout.
+fn submit_one<L: Naming, D: Device, J: Recorder, R: Wait>(
+    rt: &R,
+    library: &Library<L, Reading, D, J>,
+    caller: &mut Caller<L>,
+    reader: &Reader,
+    readings: &Arc<Readings>,
+    timeout: u32,
+) -> Result<(), Refused> {
+    let reading = Reading::new(readings).map_err(no_memory)?;
+    let request = reader.read(BYTES, timeout);
+    submit(rt, library, caller, reader.h, request, reading)?;
+    Ok(())
 }
 
 /// Opens the meter, claims its interface, and submits the readings.
@@ -48,30 +57,35 @@ fn read<L: Naming, D: Device, J: Recorder, R: Wait>(
     rt: &R,
     library: &Library<L, Reading, D, J>,
     caller: &mut Caller<L>,
-    reader: Reader,
+    reader: &Reader,
     readings: &Arc<Readings>,
 ) -> Result<(), Refused> {
-    let Reader { h, dev, i, .. } = reader;
-    library
-        .open(rt, caller, h, dev)
-        .map_err(no_memory)?
-        .granted()?;
-    library
-        .claim(rt, caller, h, i)
-        .map_err(no_memory)?
-        .granted()?;
+    open_and_claim(rt, library, caller, reader)?;
     for timeout in TIMEOUTS {
-        let reading = Reading::new(readings).map_err(no_memory)?;
-        let Ok(submitted) = library.submit(rt, caller, h, reader.read(BYTES, timeout), reading)
-        else {
-            return Err(Refused::NoMem);
-        };
-        submitted.number.map_err(|refused| refused.why)?;
+        submit_one(rt, library, caller, reader, readings, timeout)?;
     }
     Ok(())
 }
 
-/// Tells the time, a millisecond after the other. A clock that can't be read is taken as one that stands still.
+/// Tells the library that so many milliseconds have passed.
+fn tell<L: Naming, D: Device, J: Recorder, R: Wait>(
+    rt: &R,
+    library: &Library<L, Reading, D, J>,
+    caller: &mut Caller<L>,
+    now: u64,
+) -> Result<(), Refused> {
+    match library.tick(rt, caller, now) {
+        Ok(_) => Ok(()),
+        Err(_) => Err(Refused::NoMem),
+    }
+}
+
+/// How many milliseconds have passed. A clock that can't be read is taken as one that stands still.
+fn passed<K: Clock>(moments: &Moments, clock: &K) -> u64 {
+    moments.now(clock).unwrap_or(0)
+}
+
+/// Tells the time, a millisecond after the other.
 fn tick<L: Naming, D: Device, J: Recorder, K: Clock, R: Wait>(
     rt: &R,
     library: &Library<L, Reading, D, J>,
@@ -86,8 +100,7 @@ fn tick<L: Naming, D: Device, J: Recorder, K: Clock, R: Wait>(
         if readings.called() == TIMEOUTS.len() as u64 {
             break;
         }
-        let now = moments.now(clock).unwrap_or(0);
-        library.tick(rt, caller, now).map_err(no_memory)?;
+        tell(rt, library, caller, passed(&moments, clock))?;
         thread::sleep(clock, Duration::from_millis(TICK));
     }
     Ok(())
@@ -104,7 +117,7 @@ impl<K: Clock + Drop> Driver<Reading> for Part<K> {
     ) -> Result<(), Refused> {
         let Part { meter, readings } = self;
         match meter {
-            Meter::Reads(reader) => read(rt, library, caller, reader, &readings),
+            Meter::Reads(reader) => read(rt, library, caller, &reader, &readings),
             Meter::Ticks(clock) => tick(rt, library, caller, &clock, &readings),
         }
     }

@@ -1,11 +1,10 @@
 //! The scanner's driver.
 
 use crate::strip::{Strip, Tally};
-use std::alloc::AllocError;
 use std::sync::{Arc, Wait};
 use std::thread;
 use tirnouch::{Caller, Device, Driver, Library, Naming, Recorder, Refused};
-use usb_stand::Reader;
+use usb_stand::{Reader, no_memory, open_and_claim, submit};
 
 /// How many bytes a transfer reads.
 const STRIP: u32 = 65_536;
@@ -27,12 +26,20 @@ pub struct Scanner {
     pub moment: u64,
 }
 
-/// No memory is a refusal as others are.
-fn no_memory(_error: AllocError) -> Refused {
-    Refused::NoMem
-}
-
 impl Scanner {
+    /// Submits a transfer, which goes round from its callback on.
+    fn submit<L: Naming, D: Device, J: Recorder, R: Wait>(
+        &self,
+        rt: &R,
+        library: &Library<L, Strip, D, J>,
+        caller: &mut Caller<L>,
+    ) -> Result<(), Refused> {
+        let strip = Strip::new(&self.tally).map_err(no_memory)?;
+        let request = self.reader.read(STRIP, 0);
+        submit(rt, library, caller, self.reader.h, request, strip)?;
+        Ok(())
+    }
+
     /// Opens the device, claims its interface, and submits the transfers that go round.
     fn start<L: Naming, D: Device, J: Recorder, R: Wait>(
         &self,
@@ -40,28 +47,28 @@ impl Scanner {
         library: &Library<L, Strip, D, J>,
         caller: &mut Caller<L>,
     ) -> Result<(), Refused> {
-        let Reader { h, dev, i, .. } = self.reader;
-        library
-            .open(rt, caller, h, dev)
-            .map_err(no_memory)?
-            .granted()?;
-        library
-            .claim(rt, caller, h, i)
-            .map_err(no_memory)?
-            .granted()?;
+        open_and_claim(rt, library, caller, &self.reader)?;
         for _ in 0..IN_LINE {
-            let strip = Strip::new(&self.tally).map_err(no_memory)?;
-            let request = self.reader.read(STRIP, 0);
-            let Ok(submitted) = library.submit(rt, caller, h, request, strip) else {
-                return Err(Refused::NoMem);
-            };
-            submitted.number.map_err(|refused| refused.why)?;
+            self.submit(rt, library, caller)?;
         }
         Ok(())
     }
 
-    /// Asks each transfer to end that may be in progress, until all were called back: whether that came in time. One that has ended
-    /// already isn't found, which is as good.
+    /// Asks a transfer to end. One that has ended already isn't found, which is as good.
+    fn cancel<L: Naming, D: Device, J: Recorder, R: Wait>(
+        &self,
+        rt: &R,
+        library: &Library<L, Strip, D, J>,
+        caller: &mut Caller<L>,
+        n: u64,
+    ) -> Result<(), Refused> {
+        match library.cancel(rt, caller, self.reader.h, n) {
+            Ok(_) => Ok(()),
+            Err(_) => Err(Refused::NoMem),
+        }
+    }
+
+    /// Asks each transfer to end that may be in progress, until all were called back: whether that came in time.
     fn end<L: Naming, D: Device, J: Recorder, R: Wait>(
         &self,
         rt: &R,
@@ -75,9 +82,7 @@ impl Scanner {
                 return Ok(true);
             }
             for n in called..numbered {
-                library
-                    .cancel(rt, caller, self.reader.h, n)
-                    .map_err(no_memory)?;
+                self.cancel(rt, library, caller, n)?;
             }
             thread::yield_now();
         }

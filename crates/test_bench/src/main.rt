@@ -1,8 +1,8 @@
-//! A test bench: 16 threads over 4 devices, two for each handle, and a device that is unplugged amid all. Copy it for a program that
-//! has many devices.
+//! A test bench: 16 threads over 4 devices, two for each handle, and a device that is unplugged amid all. Copy it for a
+//! program that has many devices.
 //!
-//! Three files: `report.rt` is the callback with the count that it keeps, `tester.rt` a thread, and this the program. The devices
-//! are simulated ones (`usb_stand`).
+//! Three files: `report.rt` is the callback with the count that it keeps, `tester.rt` a thread, and this the program.
+//! The devices are simulated ones (`usb_stand`).
 #![tactic(auto)]
 
 mod report;
@@ -14,7 +14,7 @@ use anyhow::{Result, anyhow};
 use std::alloc::Global;
 use std::sync::{Arc, Wait};
 use std::thread::Threads;
-use tirnouch::{Journal, Refused, TableDevice, live};
+use tirnouch::{Journal, Refused, Setup, TableDevice, live};
 use usb_stand::{Reader, devices};
 
 /// How many devices there are.
@@ -66,14 +66,19 @@ fn testers(alloc: Global, tallies: &[Arc<Tally>]) -> Result<Vec<Tester>> {
     Ok(testers)
 }
 
+/// The devices.
+fn setup(alloc: Global) -> Result<Setup<TableDevice>> {
+    let sizes = vec![in alloc; 8_u16; PACKETS]?;
+    devices(alloc, DEVICES, 8, sizes.as_slice())
+}
+
 /// The bench is run: what each thread left.
 fn bench<R: Threads + Wait + Sync>(
     rt: &R,
     alloc: Global,
+    setup: Setup<TableDevice>,
     testers: Vec<Tester>,
 ) -> Result<Vec<Result<u64, Refused>>> {
-    let sizes = vec![in alloc; 8_u16; PACKETS]?;
-    let setup = devices(alloc, DEVICES, 8, sizes.as_slice())?;
     let lived = live::<_, TableDevice, Journal, _, _>(rt, alloc, setup, testers)?;
     Ok(lived.left)
 }
@@ -96,7 +101,8 @@ fn sum(counts: &[u64]) -> u64 {
     sum
 }
 
-/// An error where a handle's accepted transfers weren't each called back, in order; or at a device that stayed, weren't all there.
+/// An error where a handle's accepted transfers weren't each called back, in order; or at a device that stayed, weren't
+/// all there.
 fn is_whole(h: u8, tally: &Tally, accepted: u64) -> Result<()> {
     let (called, completed) = tally.counts();
     if called != accepted || !tally.is_right() {
@@ -119,7 +125,8 @@ fn are_whole(tallies: &[Arc<Tally>], accepted: &[u64]) -> Result<()> {
 fn main(rt: HostRuntime) -> Result<()> {
     let alloc = rt.alloc();
     let tallies = tallies(alloc)?;
-    let left = bench(&rt, alloc, testers(alloc, tallies.as_slice())?)?;
+    let testers = testers(alloc, tallies.as_slice())?;
+    let left = bench(&rt, alloc, setup(alloc)?, testers)?;
     let accepted = accepted_of(alloc, left)?;
     are_whole(tallies.as_slice(), accepted.as_slice())?;
     println!(rt; "three devices: 480 transfers, each completed, called back once and in order")?;

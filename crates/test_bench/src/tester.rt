@@ -1,11 +1,10 @@
 //! A thread of the bench.
 
 use crate::report::{Report, Tally};
-use std::alloc::AllocError;
 use std::sync::{Arc, Wait};
 use std::thread;
 use tirnouch::{Caller, Device, Driver, Library, Naming, Recorder, Refused};
-use usb_stand::Reader;
+use usb_stand::{Reader, no_memory, open_and_claim, submit};
 
 /// How many transfers a thread submits.
 pub const TRANSFERS: u64 = 40;
@@ -38,31 +37,9 @@ pub struct Tester {
     pub tally: Arc<Tally>,
 }
 
-/// No memory is a refusal as others are.
-fn no_memory(_error: AllocError) -> Refused {
-    Refused::NoMem
-}
-
 impl Tester {
-    /// Opens and claims, or waits until that is done.
-    fn start<L: Naming, D: Device, J: Recorder, R: Wait>(
-        &self,
-        rt: &R,
-        library: &Library<L, Report, D, J>,
-        caller: &mut Caller<L>,
-    ) -> Result<(), Refused> {
-        if self.role == Role::Opens {
-            let Reader { h, dev, i, .. } = self.reader;
-            library
-                .open(rt, caller, h, dev)
-                .map_err(no_memory)?
-                .granted()?;
-            library
-                .claim(rt, caller, h, i)
-                .map_err(no_memory)?
-                .granted()?;
-            self.tally.set_ready();
-        }
+    /// Waits until the handle has its device and interface.
+    fn wait(&self) -> Result<(), Refused> {
         for _ in 0..TURNS {
             if self.tally.is_ready() {
                 return Ok(());
@@ -70,6 +47,33 @@ impl Tester {
             thread::yield_now();
         }
         Err(Refused::Busy)
+    }
+
+    /// Opens and claims, or waits until that is done.
+    fn start<L: Naming, D: Device, J: Recorder, R: Wait>(
+        &self,
+        rt: &R,
+        library: &Library<L, Report, D, J>,
+        caller: &mut Caller<L>,
+    ) -> Result<(), Refused> {
+        if self.role != Role::Opens {
+            return self.wait();
+        }
+        open_and_claim(rt, library, caller, &self.reader)?;
+        self.tally.set_ready();
+        Ok(())
+    }
+
+    /// Submits a transfer.
+    fn submit_one<L: Naming, D: Device, J: Recorder, R: Wait>(
+        &self,
+        rt: &R,
+        library: &Library<L, Report, D, J>,
+        caller: &mut Caller<L>,
+    ) -> Result<u64, Refused> {
+        let report = Report::new(&self.tally).map_err(no_memory)?;
+        let request = self.reader.read(BYTES, 0);
+        submit(rt, library, caller, self.reader.h, request, report)
     }
 
     /// Submits a transfer, once the endpoint has a place: whether the device is still there.
@@ -80,12 +84,7 @@ impl Tester {
         caller: &mut Caller<L>,
     ) -> Result<bool, Refused> {
         for _ in 0..TURNS {
-            let report = Report::new(&self.tally).map_err(no_memory)?;
-            let request = self.reader.read(BYTES, 0);
-            let Ok(submitted) = library.submit(rt, caller, self.reader.h, request, report) else {
-                return Err(Refused::NoMem);
-            };
-            match submitted.number.map_err(|refused| refused.why) {
+            match self.submit_one(rt, library, caller) {
                 Ok(_) => return Ok(true),
                 Err(Refused::Busy) => thread::yield_now(),
                 Err(Refused::NoDevice) => return Ok(false),
@@ -95,21 +94,17 @@ impl Tester {
         Err(Refused::Busy)
     }
 
-    /// Takes the device away, if that is this thread's to do after so many transfers.
-    fn unplug_if<L: Naming, D: Device, J: Recorder, R: Wait>(
+    /// Takes the device away.
+    fn unplug<L: Naming, D: Device, J: Recorder, R: Wait>(
         &self,
         rt: &R,
         library: &Library<L, Report, D, J>,
         caller: &mut Caller<L>,
-        accepted: u64,
     ) -> Result<(), Refused> {
-        if self.role != Role::Unplugs || accepted != TRANSFERS / 2 {
-            return Ok(());
+        match library.unplug(rt, caller, self.reader.dev) {
+            Ok(_) => Ok(()),
+            Err(_) => Err(Refused::NoMem),
         }
-        library
-            .unplug(rt, caller, self.reader.dev)
-            .map_err(no_memory)?;
-        Ok(())
     }
 }
 
@@ -125,7 +120,9 @@ impl Driver<Report> for Tester {
     ) -> Result<u64, Refused> {
         self.start(rt, library, caller)?;
         for accepted in 0..TRANSFERS {
-            self.unplug_if(rt, library, caller, accepted)?;
+            if self.role == Role::Unplugs && accepted == TRANSFERS / 2 {
+                self.unplug(rt, library, caller)?;
+            }
             if !self.submit(rt, library, caller)? {
                 return Ok(accepted);
             }

@@ -2,10 +2,9 @@
 
 ghost use Rattle.std.specs.Prelude.{◌≡◌};
 
-use crate::device::opening;
-use crate::ending::{alone, end};
-use crate::reads::Reader;
-use crate::told::Told;
+use crate::call::Call;
+use crate::scene::{Scene, opening};
+use crate::told::add_line;
 use anyhow::{Result, anyhow};
 use crossbeam_utils::sync::Parker;
 use std::alloc::Global;
@@ -13,8 +12,34 @@ use std::marker::Brand;
 use std::sync::Wait;
 use usb_book::{Journal, Naming, Recorder, Unrecorded};
 use usb_device::{Device, TableDevice};
-use usb_library::{Caller, Library, Opening};
-use usb_model::Bytes;
+use usb_library::Opening;
+
+/// The calls of a handle; those that find nothing to do; a transfer that is submitted, and from its callback once more;
+/// and then the device is gone.
+const CALLS: [Call; 22] = [
+    Call::Open,
+    Call::Claim,
+    Call::ClearHalt,
+    Call::Reset,
+    Call::Release,
+    Call::Close,
+    Call::Command,
+    Call::Cancel(0),
+    Call::Take,
+    Call::Open,
+    Call::Claim,
+    Call::Read(0),
+    Call::Serve(0x81),
+    Call::Deliver,
+    Call::Take,
+    Call::AgainWith(0),
+    Call::Again(0),
+    Call::Serve(0x81),
+    Call::Deliver,
+    Call::Take,
+    Call::Stop(1),
+    Call::Unplug,
+];
 
 /// What is told of them, by the rules.
 const TOLD: &str = "h1 done\nh1 done\nh1 done\nh1 done\nh1 done\nh1 done\n\
@@ -24,77 +49,41 @@ const TOLD: &str = "h1 done\nh1 done\nh1 done\nh1 done\nh1 done\nh1 done\n\
     h1 ended 1 code 13\nh1 finished 1\nh1 called 1 ep 81 round 1 COMPLETED 1 data 09\nh1 done\n\
     - done\n";
 
-/// What is kept with each transfer.
-const PAYLOAD: u8 = 77;
-
 /// With a journal and without.
 pub fn run<R: Wait>(rt: &R, alloc: Global) -> Result<()> {
-    live::<Brand, TableDevice, Journal, R>(rt, alloc, opening(alloc, 1, &[8, 1])?)?;
-    live::<Brand, TableDevice, Unrecorded, R>(rt, alloc, opening(alloc, 1, &[8, 1])?)
+    live::<Brand, TableDevice, Journal, R>(rt, alloc, opening(alloc, &[8, 1])?)?;
+    live::<Brand, TableDevice, Unrecorded, R>(rt, alloc, opening(alloc, &[8, 1])?)
 }
 
-/// Opens, claims, clears, resets, releases and closes.
-fn handles<L: Naming, D: Device, J: Recorder, R: Wait>(
-    rt: &R,
-    library: &Library<L, u8, D, J>,
-    caller: &mut Caller<L>,
-    told: &mut Told<L>,
-    reader: Reader,
-) {
-    told.answered(library.open(rt, caller, reader.h, reader.dev));
-    told.answered(library.claim(rt, caller, reader.h, reader.i));
-    told.answered(library.clear_halt(rt, caller, reader.h, reader.ep));
-    told.answered(library.reset(rt, caller, reader.h));
-    told.answered(library.release(rt, caller, reader.h, reader.i));
-    told.answered(library.close(rt, caller, reader.h));
-}
-
-/// What finds nothing to do, and what names no transfer.
-fn nothings<L: Naming, D: Device, J: Recorder, R: Wait>(
-    rt: &R,
-    library: &Library<L, u8, D, J>,
-    caller: &mut Caller<L>,
-    told: &mut Told<L>,
-    reader: Reader,
-) {
-    told.answered(library.command(rt, caller));
-    told.answered(library.cancel(rt, caller, reader.h, 0));
-    told.taken(library.take(rt, caller));
-}
-
-/// A packet, its event, and the result of that.
-fn packet<L: Naming, D: Device, J: Recorder, R: Wait>(
-    rt: &R,
-    library: &Library<L, u8, D, J>,
-    caller: &mut Caller<L>,
-    told: &mut Told<L>,
-    reader: Reader,
-) {
-    told.answered(library.serve(rt, caller, reader.dev, reader.ep));
-    told.answered(library.deliver(rt, caller));
-    told.taken(library.take(rt, caller));
-}
-
-/// A transfer that is submitted, and from its callback once more; then the device is gone.
-fn transfers<L: Naming, D: Device, J: Recorder, R: Wait>(
+/// Makes all calls. An error where they are answered by something else.
+fn play<L: Naming, D: Device, J: Recorder, R: Wait>(
     rt: &R,
     alloc: Global,
-    library: &Library<L, u8, D, J>,
-    caller: &mut Caller<L>,
-    told: &mut Told<L>,
-    reader: Reader,
-) {
-    let h = reader.h;
-    told.answered(library.open(rt, caller, h, reader.dev));
-    told.answered(library.claim(rt, caller, h, reader.i));
-    told.submitted(h, library.submit(rt, caller, h, reader.read(8, 0), PAYLOAD));
-    packet(rt, library, caller, told, reader);
-    let bytes = Bytes::new(alloc);
-    told.submitted(h, library.again_with(rt, caller, h, 0, bytes, PAYLOAD));
-    told.submitted(h, library.again(rt, caller, h, 0, PAYLOAD));
-    packet(rt, library, caller, told, reader);
-    told.answered(library.stop(rt, caller, h, 1));
-    told.answered(library.unplug(rt, caller, reader.dev));
+    scene: &mut Scene<L, D, J>,
+) -> Result<()> {
+    let mut lines = String::new(alloc);
+    for call in CALLS.iter() {
+        if let Some(entry) = scene.call(rt, *call)? {
+            add_line(alloc, &mut lines, &entry)?;
+        }
+    }
+    if lines.as_str() != TOLD {
+        return Err(anyhow!("the calls are answered by something else"));
+    }
+    Ok(())
+}
+
+/// The same, and waits for a change, of which there were many.
+fn play_and_wait<L: Naming, D: Device, J: Recorder, R: Wait>(
+    rt: &R,
+    alloc: Global,
+    scene: &mut Scene<L, D, J>,
+) -> Result<()> {
+    let parker = Parker::new(alloc)?;
+    scene.watch(rt, parker.unparker().clone()?)?;
+    play(rt, alloc, scene)?;
+    parker.park(rt);
+    Ok(())
 }
 
 /// All of them, and the library's end.
@@ -108,25 +97,10 @@ fn live<L: Naming, D: Device, J: Recorder, R: Wait>(
     requires table { opening.table ≡ L.table }
     requires setup { opening.setup ≡ L.setup }
 {
-    let reader = Reader::new(1, 0, 0)?;
-    let parker = Parker::new(alloc)?;
-    let library = Library::<L, u8, D, J>::new(alloc, opening)?;
-    let Some(mut caller) = library.caller(rt) else {
-        return Err(anyhow!("no caller"));
-    };
-    library.watch(rt, parker.unparker().clone()?)?;
-    let mut told = Told::new(alloc);
-    handles(rt, &library, &mut caller, &mut told, reader);
-    nothings(rt, &library, &mut caller, &mut told, reader);
-    transfers(rt, alloc, &library, &mut caller, &mut told, reader);
-    parker.park(rt);
-    if !told.is(TOLD) {
-        return Err(anyhow!("the calls are answered by something else"));
-    }
-    let receipts = told.into_receipts();
-    let calls = receipts.len() as u64;
-    let ended = end(library, alone(alloc, caller)?, receipts)?;
-    if ended.places != calls {
+    let mut scene = Scene::<L, D, J>::new(rt, alloc, opening)?;
+    play_and_wait(rt, alloc, &mut scene)?;
+    let calls = scene.receipts() as u64;
+    if scene.end()?.places != calls {
         return Err(anyhow!("another number of places"));
     }
     Ok(())

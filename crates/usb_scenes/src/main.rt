@@ -1,12 +1,11 @@
-//! Calls of one library: each scene is run, and a line says what it saw; a scene that isn't as it has to be ends the program
-//! with an error.
+//! Calls of one library: each scene is run, and a line says what it saw; a scene that isn't as it has to be ends the
+//! program with an error.
 #![tactic(auto)]
 
+mod call;
 mod calls;
-mod device;
-mod ending;
-mod reads;
 mod refusals;
+mod scene;
 mod ticks;
 mod told;
 

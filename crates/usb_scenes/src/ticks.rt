@@ -2,51 +2,54 @@
 
 ghost use Rattle.std.specs.Prelude.{◌≡◌};
 
-use crate::device::opening;
-use crate::ending::{alone, end_with};
-use crate::reads::Reader;
-use crate::told::Told;
+use crate::call::Call;
+use crate::scene::{Scene, opening};
+use crate::told::lines_of;
 use anyhow::{Result, anyhow};
 use std::alloc::Global;
 use std::marker::Brand;
 use std::sync::Wait;
 use usb_book::{Journal, Naming};
 use usb_device::{Device, TableDevice};
-use usb_library::{Caller, Library, Opening};
+use usb_library::Opening;
+
+/// A call of the scene, and how many receipts there are after it: none is asked to end before the deadline, one at it,
+/// and none after that.
+const CALLS: [(Call, usize); 6] = [
+    (Call::Open, 1),
+    (Call::Claim, 2),
+    (Call::Read(5), 3),
+    (Call::Tick(4), 3),
+    (Call::Tick(5), 4),
+    (Call::Tick(3), 4),
+];
 
 /// What the journal tells: the transfer is asked to end, and that once.
 const TOLD: &str = "h1 done\nh1 done\nh1 number 0\nh1 done\n";
 
 /// One device, whose answers don't matter.
 pub fn run<R: Wait>(rt: &R, alloc: Global) -> Result<()> {
-    live::<Brand, TableDevice, R>(rt, alloc, opening(alloc, 1, &[])?)
+    live::<Brand, TableDevice, R>(rt, alloc, opening(alloc, &[])?)
 }
 
-/// Opens, claims and submits.
-fn submit<L: Naming, D: Device, R: Wait>(
-    rt: &R,
-    library: &Library<L, u8, D, Journal>,
-    caller: &mut Caller<L>,
-    told: &mut Told<L>,
-    reader: Reader,
-) {
-    let h = reader.h;
-    told.answered(library.open(rt, caller, h, reader.dev));
-    told.answered(library.claim(rt, caller, h, reader.i));
-    told.submitted(h, library.submit(rt, caller, h, reader.read(8, 5), 0));
+/// Makes all calls. An error where there is another number of receipts after one.
+fn play<L: Naming, D: Device, R: Wait>(rt: &R, scene: &mut Scene<L, D, Journal>) -> Result<()> {
+    for (call, receipts) in CALLS.iter() {
+        scene.call(rt, *call)?;
+        if scene.receipts() != *receipts {
+            return Err(anyhow!("asked to end at another moment"));
+        }
+    }
+    Ok(())
 }
 
-/// Whether none is asked to end before the deadline, one at it, and none after that.
-fn is_asked_once<L: Naming, D: Device, R: Wait>(
-    rt: &R,
-    library: &Library<L, u8, D, Journal>,
-    caller: &mut Caller<L>,
-    told: &mut Told<L>,
-) -> bool {
-    let early = told.ticked(library.tick(rt, caller, 4));
-    let due = told.ticked(library.tick(rt, caller, 5));
-    let late = told.ticked(library.tick(rt, caller, 3));
-    early == 0 && due == 1 && late == 0
+/// An error where a journal tells something else.
+fn is_told(alloc: Global, journal: &Journal) -> Result<()> {
+    let told = lines_of(alloc, journal.places(alloc)?.as_slice())?;
+    if told.as_str() != TOLD {
+        return Err(anyhow!("another thing is told: {told}"));
+    }
+    Ok(())
 }
 
 /// The moments, and the library's end.
@@ -56,21 +59,7 @@ fn live<L: Naming, D: Device, R: Wait>(rt: &R, alloc: Global, opening: Opening<D
     requires table { opening.table ≡ L.table }
     requires setup { opening.setup ≡ L.setup }
 {
-    let reader = Reader::new(1, 0, 0)?;
-    let library = Library::<L, u8, D, Journal>::new(alloc, opening)?;
-    let Some(mut caller) = library.caller(rt) else {
-        return Err(anyhow!("no caller"));
-    };
-    let mut told = Told::new(alloc);
-    submit(rt, &library, &mut caller, &mut told, reader);
-    if !is_asked_once(rt, &library, &mut caller, &mut told) {
-        return Err(anyhow!("asked to end at another moment"));
-    }
-    end_with(
-        alloc,
-        library,
-        alone(alloc, caller)?,
-        told.into_receipts(),
-        TOLD,
-    )
+    let mut scene = Scene::<L, D, Journal>::new(rt, alloc, opening)?;
+    play(rt, &mut scene)?;
+    is_told(alloc, &scene.end()?.recorder)
 }

@@ -6,8 +6,14 @@ use usb_model::{Response, Script, Sequence};
 /// How many endpoint ids a device has (xHCI 1.2, 4.5.1).
 const IDS: u8 = 32;
 
-/// The ids of the endpoints 81 and 83.
-const READ: [u8; 2] = [3, 7];
+/// The id of the endpoint 81.
+const BULK_IN: u8 = 3;
+
+/// The id of the endpoint 02.
+const BULK_OUT: u8 = 4;
+
+/// The id of the endpoint 83.
+const INTERRUPT_IN: u8 = 7;
 
 /// The packet of so many bytes whose first is behind this number.
 fn packet(alloc: Global, size: u16, number: &mut u8) -> Result<Response, AllocError> {
@@ -29,14 +35,23 @@ fn packets(alloc: Global, sizes: &[u16]) -> Result<Script, AllocError> {
     Ok(script)
 }
 
-/// Such packets at the endpoints 81 and 83, nothing elsewhere.
+/// So many packets that are taken.
+fn taken(alloc: Global, count: usize) -> Result<Script, AllocError> {
+    let mut script = Sequence::new(alloc);
+    for _ in 0..count {
+        script.push(Response::Ack)?;
+    }
+    Ok(script)
+}
+
+/// Such packets at the endpoints 81 and 83, as many taken at 02, and nothing elsewhere.
 pub(crate) fn scripts(alloc: Global, sizes: &[u16]) -> Result<Sequence<Script>, AllocError> {
     let mut scripts = Sequence::new(alloc);
     for id in 0..IDS {
-        let script = if READ.contains(&id) {
-            packets(alloc, sizes)?
-        } else {
-            Sequence::new(alloc)
+        let script = match id {
+            BULK_IN | INTERRUPT_IN => packets(alloc, sizes)?,
+            BULK_OUT => taken(alloc, sizes.len())?,
+            _ => Sequence::new(alloc),
         };
         scripts.push(script)?;
     }

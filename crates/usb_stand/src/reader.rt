@@ -1,8 +1,11 @@
-//! What is read of a stand's devices.
+//! What is asked of a stand's devices.
+
+ghost use Rattle.std.specs.Prelude.{◌≡◌};
+ghost use Rattle.usb_model.specs.declared.request.Body.TheVariants.{In};
 
 use anyhow::{Result, anyhow};
 use bitflags::Flags as _;
-use usb_model::{Body, DeviceNo, EpAddr, Flags, Kind, Name, Request};
+use usb_model::{Body, Bytes, DeviceNo, EpAddr, Flags, Kind, Name, Request};
 
 /// A handle, with the endpoint that it reads from.
 #[derive(Clone, Copy)]
@@ -39,13 +42,26 @@ impl Reader {
     }
 
     /// A read of so many bytes, with this timeout in milliseconds, 0 for none.
-    pub fn read(&self, bytes: u32, timeout: u32) -> Request {
+    pub fn read(&self, bytes: u32, timeout: u32) -> Request
+        ensures asked { (result.body ≡ In bytes) × (result.timeout ≡ timeout) }
+    {
         Request {
             ep: self.ep,
             kind: self.kind,
             flags: Flags::from_bits_retain(0),
             timeout,
             body: Body::In(bytes),
+        }
+    }
+
+    /// A write of these bytes to the endpoint 02, without a timeout.
+    pub fn write(&self, bytes: Bytes) -> Request {
+        Request {
+            ep: EpAddr::new(0x02),
+            kind: Kind::Bulk,
+            flags: Flags::from_bits_retain(0),
+            timeout: 0,
+            body: Body::Out(bytes),
         }
     }
 }

@@ -22,8 +22,9 @@ fn descriptor(packet: u16) -> [u8; 48] {
     ]
 }
 
-/// A device with packets of at most `packet` bytes, whose endpoints 81 and 83 answer with packets of these sizes; and its
-/// configuration. An error where memory is refused, or a number is out of range, as in `devices`.
+/// A device with packets of at most `packet` bytes, whose endpoints 81 and 83 answer with packets of these sizes, and
+/// whose endpoint 02 takes as many; and its configuration. An error where memory is refused, or a number is out of
+/// range, as in `devices`.
 pub fn device(alloc: Global, packet: u16, sizes: &[u16]) -> Result<(Config, TableDevice)>
     ensures { IfOk result (λ made. Takes made.0 (⟦<TableDevice as Device>⟧.pipes made.1)) }
 {
@@ -74,9 +75,9 @@ fn add_twice(
     add(alloc, other, descriptor, scripts)
 }
 
-/// So many devices with packets of at most `packet` bytes. The endpoints 81 and 83 of each answer with packets of these sizes, whose
-/// bytes are numbered from 1 on, 255 followed by 0. An error where memory is refused, or a number is out of range: 4 devices,
-/// 1,024 bytes, 4,096 packets.
+/// So many devices with packets of at most `packet` bytes. The endpoints 81 and 83 of each answer with packets of these
+/// sizes, whose bytes are numbered from 1 on, 255 followed by 0; 02 takes as many packets. An error where memory is
+/// refused, or a number is out of range: 4 devices, 1,024 bytes, 4,096 packets.
 #[tactic(auto, using(crate::proofs::Joining::one_more))]
 pub fn devices(alloc: Global, count: u8, packet: u16, sizes: &[u16]) -> Result<Setup<TableDevice>>
     ensures { IfOk result (λ setup. length (setup_of setup) ≡ count) }

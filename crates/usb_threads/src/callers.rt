@@ -1,8 +1,9 @@
 //! Many callers over one library.
 
+use crate::acts::{Act, Acts};
 use crate::halt::Halt;
-use crate::player::{Act, Played};
-use crate::stage::{Seen, Stand, claimed, play_on};
+use crate::player::Played;
+use crate::stage::{Seen, Stand, play_on};
 use crate::told::Told;
 use crate::turnstile::Turnstile;
 use anyhow::{Result, anyhow};
@@ -11,26 +12,25 @@ use std::sync::Wait;
 use std::thread::Threads;
 use usb_book::Place;
 use usb_core::run;
-use usb_model::{Entry, Name, Reply, Step};
+use usb_model::{Entry, Name, Reply, Sequence, Step};
 use usb_purge::alone;
 use usb_stand::{Reader, devices, twins};
 use usb_workers::Point;
 
 /// How many handles there are, each with a thread, a caller and an interface of its own.
-pub const HANDLES: u8 = 8;
+const HANDLES: u8 = 8;
 
 /// How many transfers each submits.
 const TRANSFERS: u16 = 50;
 
 /// The devices: two handles have an interface each of one.
-pub const DEVICES: u8 = 4;
+const DEVICES: u8 = 4;
 
 /// The thread of a handle.
-fn handle(alloc: Global, h: u8) -> Result<Vec<Act>> {
-    let reader = Reader::new(h, h / 2, h % 2)?;
-    let mut acts = claimed(alloc, reader)?;
+fn handle(alloc: Global, h: u8) -> Result<Acts> {
+    let mut acts = Acts::claimed(alloc, Reader::new(h, h / 2, h % 2)?)?;
     for _ in 0..TRANSFERS {
-        acts.push(Act::Submit(reader.h, reader.read(1, 0), Told::stop()))?;
+        acts.read(1, Told::stop())?;
     }
     Ok(acts)
 }
@@ -94,34 +94,57 @@ fn callbacks_in(entries: &[Entry]) -> Option<u64> {
     Some(count)
 }
 
+/// What a handle sees amid the others, and alone over its own steps.
+fn both(
+    alloc: Global,
+    sizes: &[u16],
+    steps: &[Step],
+    h: Name,
+) -> Result<(Sequence<Entry>, Sequence<Entry>)> {
+    let (shared, apart) = twins(alloc, DEVICES, 8, sizes)?;
+    let both = alone(alloc, shared, apart, steps, h)?;
+    Ok((both.shared, both.alone))
+}
+
 /// An error where a handle alone sees something else than amid the others, or not so many callbacks in order.
 fn is_alone(alloc: Global, sizes: &[u16], steps: &[Step], h: u8, transfers: u64) -> Result<()> {
     let Some(name) = Name::new(h) else {
         return Err(anyhow!("no name {h}"));
     };
-    let (shared, apart) = twins(alloc, DEVICES, 8, sizes)?;
-    let both = alone(alloc, shared, apart, steps, name)?;
-    if !are_same(alloc, both.shared.as_slice(), both.alone.as_slice())? {
+    let (shared, alone) = both(alloc, sizes, steps, name)?;
+    if !are_same(alloc, shared.as_slice(), alone.as_slice())? {
         return Err(anyhow!("handle {h} sees something else alone"));
     }
-    if callbacks_in(both.alone.as_slice()) != Some(transfers) {
+    if callbacks_in(alone.as_slice()) != Some(transfers) {
         return Err(anyhow!("handle {h} has other callbacks"));
     }
     Ok(())
 }
 
-/// An error where a journal isn't the run of its steps over devices with these packets, or a handle alone sees something else than
-/// amid the others, or not so many callbacks in order.
-pub fn is_replayed(alloc: Global, places: Vec<Place>, sizes: &[u16], transfers: u64) -> Result<()> {
+/// The entries of a run of these steps over fresh devices.
+fn entries_of(alloc: Global, sizes: &[u16], steps: &[Step]) -> Result<Sequence<Entry>> {
+    let fresh = devices(alloc, DEVICES, 8, sizes)?;
+    match run(alloc, fresh, steps) {
+        Ok(entries) => Ok(entries),
+        Err(_) => Err(anyhow!("the run stopped")),
+    }
+}
+
+/// The steps of a journal, and their entries.
+fn apart(alloc: Global, places: Vec<Place>) -> Result<(Vec<Step>, Vec<Entry>)> {
     let (mut steps, mut entries) = (Vec::new(alloc), Vec::new(alloc));
     for place in places {
         steps.push(place.step)?;
         entries.push(place.entry)?;
     }
-    let fresh = devices(alloc, DEVICES, 8, sizes)?;
-    let Ok(again) = run(alloc, fresh, steps.as_slice()) else {
-        return Err(anyhow!("the run stopped"));
-    };
+    Ok((steps, entries))
+}
+
+/// An error where a journal isn't the run of its steps over devices with these packets, or a handle alone sees
+/// something else than amid the others, or not so many callbacks in order.
+fn is_replayed(alloc: Global, places: Vec<Place>, sizes: &[u16], transfers: u64) -> Result<()> {
+    let (steps, entries) = apart(alloc, places)?;
+    let again = entries_of(alloc, sizes, steps.as_slice())?;
     if !are_same(alloc, again.as_slice(), entries.as_slice())? {
         return Err(anyhow!("the journal isn't the run of its steps"));
     }
@@ -135,7 +158,7 @@ pub fn is_replayed(alloc: Global, places: Vec<Place>, sizes: &[u16], transfers: 
 fn handles(alloc: Global) -> Result<Vec<Vec<Act>>> {
     let mut threads = Vec::new(alloc);
     for h in 0..HANDLES {
-        threads.push(handle(alloc, h)?)?;
+        threads.push(handle(alloc, h)?.into_list())?;
     }
     Ok(threads)
 }
@@ -151,8 +174,9 @@ fn seen_by_all<R: Threads + Wait + Sync>(rt: &R, alloc: Global, sizes: &[u16]) -
     play_on(rt, alloc, stand, gates, handles(alloc)?)
 }
 
-/// Four devices, eight threads with a handle and an interface each, and fifty transfers of each: each caller has as many places
-/// as receipts, a run of the journal's steps gives its entries, and each handle alone sees what it sees amid the others.
+/// Four devices, eight threads with a handle and an interface each, and fifty transfers of each: each caller has as
+/// many places as receipts, a run of the journal's steps gives its entries, and each handle alone sees what it sees
+/// amid the others.
 pub fn many_callers<R: Threads + Wait + Sync>(rt: &R, alloc: Global) -> Result<()> {
     let sizes = vec![in alloc; 1_u16; usize::from(TRANSFERS)]?;
     let seen = seen_by_all(rt, alloc, sizes.as_slice())?;

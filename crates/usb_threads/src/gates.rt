@@ -1,8 +1,8 @@
 //! Scenes in which a worker or a callback is held.
 
+use crate::acts::{Acts, Signal};
 use crate::halt::Halt;
-use crate::player::{Act, Signal};
-use crate::stage::{Stand, claimed, play_halted};
+use crate::stage::{Stand, play_halted};
 use crate::told::Told;
 use crate::turnstile::Turnstile;
 use anyhow::{Result, anyhow};
@@ -33,12 +33,12 @@ fn held(halt: &Halt) -> Result<Told> {
 }
 
 /// A thread whose first callback is held until its second submission was answered.
-fn holding(alloc: Global, reader: Reader, halt: &Halt) -> Result<Vec<Act>> {
-    let mut acts = claimed(alloc, reader)?;
-    acts.push(Act::Submit(reader.h, reader.read(8, 0), held(halt)?))?;
-    acts.push(Act::Tell(Signal::Await(halt.here.again()?)))?;
-    acts.push(Act::Submit(reader.h, reader.read(8, 0), Told::stop()))?;
-    acts.push(Act::Tell(Signal::Raise(halt.on.again()?)))?;
+fn holding(alloc: Global, reader: Reader, halt: &Halt) -> Result<Acts> {
+    let mut acts = Acts::claimed(alloc, reader)?;
+    acts.read(8, held(halt)?)?;
+    acts.wait(&halt.here)?;
+    acts.read(8, Told::stop())?;
+    acts.raise(&halt.on)?;
     Ok(acts)
 }
 
@@ -60,10 +60,10 @@ fn crossing(alloc: Global, halt: &Halt) -> Result<Gates<Turnstile>> {
 }
 
 /// A thread that reads twice.
-fn reading(alloc: Global, reader: Reader) -> Result<Vec<Act>> {
-    let mut acts = claimed(alloc, reader)?;
-    acts.push(Act::Submit(reader.h, reader.read(8, 0), Told::stop()))?;
-    acts.push(Act::Submit(reader.h, reader.read(8, 0), Told::stop()))?;
+fn reading(alloc: Global, reader: Reader) -> Result<Acts> {
+    let mut acts = Acts::claimed(alloc, reader)?;
+    acts.read(8, Told::stop())?;
+    acts.read(8, Told::stop())?;
     Ok(acts)
 }
 
@@ -76,20 +76,25 @@ pub fn two_loops<R: Threads + Wait + Sync>(rt: &R, alloc: Global) -> Result<()> 
     seen.is_told(alloc, TWO)
 }
 
-/// A thread that closes and releases while a callback's answer is held, and closes once it can.
-fn closing(alloc: Global, reader: Reader, halt: &Halt) -> Result<Vec<Act>> {
-    let (h, i) = (reader.h, reader.i);
+/// A callback that submits its transfer three times more.
+fn three_more() -> Told {
     let rule = Rule::Again {
         on: StatusSet::COMPLETED,
         rounds: 3,
     };
-    let mut acts = claimed(alloc, reader)?;
-    acts.push(Act::Submit(h, reader.read(1, 0), Told { rule, halt: None }))?;
-    acts.push(Act::Tell(Signal::Await(halt.here.again()?)))?;
-    acts.push(Act::Do(Step::Close { h }))?;
-    acts.push(Act::Do(Step::Release { h, i }))?;
-    acts.push(Act::Tell(Signal::Raise(halt.on.again()?)))?;
-    acts.push(Act::Until(Step::Close { h }))?;
+    Told { rule, halt: None }
+}
+
+/// A thread that closes and releases while a callback's answer is held, and closes once it can.
+fn closing(alloc: Global, reader: Reader, halt: &Halt) -> Result<Acts> {
+    let (h, i) = (reader.h, reader.i);
+    let mut acts = Acts::claimed(alloc, reader)?;
+    acts.read(1, three_more())?;
+    acts.wait(&halt.here)?;
+    acts.make(Step::Close { h })?;
+    acts.make(Step::Release { h, i })?;
+    acts.raise(&halt.on)?;
+    acts.close()?;
     Ok(acts)
 }
 
@@ -103,15 +108,15 @@ pub fn close_amid_rounds<R: Threads + Wait + Sync>(rt: &R, alloc: Global) -> Res
     seen.is_told(alloc, ROUNDS)
 }
 
-/// A thread that reads 20 bytes, cancels when a worker comes to a point, or the callback was called, and closes once it can.
-fn cancelling(alloc: Global, reader: Reader, halt: &Halt, called: &Halt) -> Result<Vec<Act>> {
-    let (h, n) = (reader.h, 0);
-    let mut acts = claimed(alloc, reader)?;
-    acts.push(Act::Submit(h, reader.read(20, 0), held(called)?))?;
-    acts.push(Act::Tell(Signal::AwaitEither(halt.here.again()?, called.here.again()?)))?;
-    acts.push(Act::Do(Step::Cancel { h, n }))?;
-    acts.push(Act::Tell(Signal::Raise(halt.on.again()?)))?;
-    acts.push(Act::Until(Step::Close { h }))?;
+/// A thread that reads 20 bytes, cancels when a worker comes to a point, or the callback was called, and closes once it
+/// can.
+fn cancelling(alloc: Global, reader: Reader, halt: &Halt, called: &Halt) -> Result<Acts> {
+    let mut acts = Acts::claimed(alloc, reader)?;
+    acts.read(20, held(called)?)?;
+    acts.wait_either(&halt.here, &called.here)?;
+    acts.cancel(0)?;
+    acts.raise(&halt.on)?;
+    acts.close()?;
     Ok(acts)
 }
 
@@ -141,8 +146,8 @@ const ENDINGS: [&str; 4] = [
     "h1 called 0 ep 81 round 0 CANCELLED 16 data 0102030405060708090a0b0c0d0e0f10\n",
 ];
 
-/// A transfer is cancelled at each point of the workers: it is called back once, the bytes are the first of its device's, and the
-/// endpoint is at rest in the end.
+/// A transfer is cancelled at each point of the workers: it is called back once, the bytes are the first of its
+/// device's, and the endpoint is at rest in the end.
 pub fn cancel_points<R: Threads + Wait + Sync>(rt: &R, alloc: Global) -> Result<()> {
     for at in [
         Point::Serve,
@@ -164,17 +169,16 @@ const PARKING_TURNS: u64 = 10_000;
 const OVERRUN: &str = "h1 called 0 ep 81 round 0 OVERFLOW 0 data -\n\
     h1 called 1 ep 81 round 0 COMPLETED 8 data 090a0b0c0d0e0f10\n";
 
-/// A thread that reads less than its device sends, and then all of it; lets an event go on once the other worker has nothing to
-/// do; and closes once it can.
-fn overrunning(alloc: Global, reader: Reader, halt: &Halt) -> Result<Vec<Act>> {
-    let h = reader.h;
-    let mut acts = claimed(alloc, reader)?;
-    acts.push(Act::Submit(h, reader.read(1, 0), Told::stop()))?;
-    acts.push(Act::Submit(h, reader.read(8, 0), Told::stop()))?;
-    acts.push(Act::Tell(Signal::Await(halt.here.again()?)))?;
-    acts.push(Act::Tell(Signal::Yield(PARKING_TURNS)))?;
-    acts.push(Act::Tell(Signal::Raise(halt.on.again()?)))?;
-    acts.push(Act::Until(Step::Close { h }))?;
+/// A thread that reads less than its device sends, and then all of it; lets an event go on once the other worker has
+/// nothing to do; and closes once it can.
+fn overrunning(alloc: Global, reader: Reader, halt: &Halt) -> Result<Acts> {
+    let mut acts = Acts::claimed(alloc, reader)?;
+    acts.read(1, Told::stop())?;
+    acts.read(8, Told::stop())?;
+    acts.wait(&halt.here)?;
+    acts.tell(Signal::Yield(PARKING_TURNS))?;
+    acts.raise(&halt.on)?;
+    acts.close()?;
     Ok(acts)
 }
 
@@ -188,8 +192,8 @@ fn event_after_rest<R: Threads + Wait + Sync>(rt: &R, alloc: Global, nth: u64) -
     seen.is_told(alloc, OVERRUN)
 }
 
-/// A packet that is too long halts its endpoint, and the controller's worker has nothing to do. Then an event is handled, of the
-/// transfer or of one of the two orders that set the endpoint going again: it wakes that worker.
+/// A packet that is too long halts its endpoint, and the controller's worker has nothing to do. Then an event is
+/// handled, of the transfer or of one of the two orders that set the endpoint going again: it wakes that worker.
 pub fn events_after_rest<R: Threads + Wait + Sync>(rt: &R, alloc: Global) -> Result<()> {
     for nth in [1, 2, 3] {
         event_after_rest(rt, alloc, nth)?;

@@ -7,9 +7,9 @@ use anyhow::{Result, anyhow};
 use std::alloc::Global;
 use std::marker::Brand;
 use std::sync::Wait;
-use usb_book::{Journal, Naming};
+use usb_book::{Journal, Naming, Receipt};
 use usb_device::{Device, TableDevice};
-use usb_library::{Library, Missing, Opening};
+use usb_library::{Caller, Library, Missing, Opening};
 use usb_stand::{Reader, devices};
 
 /// The end is refused while a caller is held back, with all handed back; then it comes.
@@ -28,6 +28,45 @@ fn is_missed<L: Naming, D: Device>(missing: &Missing<L, Told, D, Journal>) -> Re
     Ok(())
 }
 
+/// One call: the receipt for it.
+fn opened<L: Naming, D: Device, R: Wait>(
+    rt: &R,
+    library: &Library<L, Told, D, Journal>,
+    caller: &mut Caller<L>,
+) -> Result<Receipt<L>> {
+    let reader = Reader::new(1, 0, 0)?;
+    Ok(library.open(rt, caller, reader.h, reader.dev)?.receipt)
+}
+
+/// What is handed back where the library ends without a caller of it.
+fn missed<L: Naming, D: Device>(
+    alloc: Global,
+    library: Library<L, Told, D, Journal>,
+    caller: Caller<L>,
+    receipt: Receipt<L>,
+) -> Result<Missing<L, Told, D, Journal>>
+    requires { L.parts ≡ 1025 }
+{
+    let callers = Vec::from_array(alloc, [caller])?;
+    let receipts = Vec::from_array(alloc, [receipt])?;
+    match library.finish(callers, receipts) {
+        Ok(_) => Err(anyhow!("nobody is missed")),
+        Err(missing) => Ok(missing),
+    }
+}
+
+/// An error where the end doesn't come with all that was handed back, and the caller that was missed.
+fn end<L: Naming, D: Device>(missing: Missing<L, Told, D, Journal>, held: Caller<L>) -> Result<()>
+    requires { L.parts ≡ 1025 }
+{
+    let mut callers = missing.callers;
+    callers.push(held)?;
+    match missing.library.finish(callers, missing.receipts) {
+        Ok(ended) if ended.made == 2 && ended.places == 1 => Ok(()),
+        _ => Err(anyhow!("the end doesn't come")),
+    }
+}
+
 /// Two callers; one call, by the first; an end without the second, and one with both.
 fn end_twice<L: Naming, D: Device, R: Wait>(
     rt: &R,
@@ -39,22 +78,12 @@ fn end_twice<L: Naming, D: Device, R: Wait>(
     requires table { opening.table ≡ L.table }
     requires setup { opening.setup ≡ L.setup }
 {
-    let reader = Reader::new(1, 0, 0)?;
     let library = Library::<L, Told, D, Journal>::new(alloc, opening)?;
     let (Some(mut caller), Some(held)) = (library.caller(rt), library.caller(rt)) else {
         return Err(anyhow!("no callers"));
     };
-    let opened = library.open(rt, &mut caller, reader.h, reader.dev)?;
-    let (mut callers, mut receipts) = (Vec::new(alloc), Vec::new(alloc));
-    callers.push(caller)?;
-    receipts.push(opened.receipt)?;
-    let Err(mut missing) = library.finish(callers, receipts) else {
-        return Err(anyhow!("nobody is missed"));
-    };
+    let receipt = opened(rt, &library, &mut caller)?;
+    let missing = missed(alloc, library, caller, receipt)?;
     is_missed(&missing)?;
-    missing.callers.push(held)?;
-    match missing.library.finish(missing.callers, missing.receipts) {
-        Ok(ended) if ended.made == 2 && ended.places == 1 => Ok(()),
-        _ => Err(anyhow!("the end doesn't come")),
-    }
+    end(missing, held)
 }

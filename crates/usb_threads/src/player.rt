@@ -1,51 +1,18 @@
 //! A thread of a scene: what it does, one act after the other.
 
+use crate::acts::{Act, Signal};
 use crate::flag::{Flag, TURNS};
 use crate::told::Told;
-use crossbeam_utils::sync::{Parker, Unparker};
+use crossbeam_utils::sync::Unparker;
 use std::alloc::{AllocError, Global};
 use std::sync::Wait;
 use std::thread;
 use usb_book::{Naming, Recorder};
 use usb_core::Unaccepted;
 use usb_device::Device;
-use usb_library::{Caller, Library, Submitted};
+use usb_library::{Caller, Library};
 use usb_live::{Driver, make};
 use usb_model::{Name, Refused, Reply, Request, Step};
-
-/// What a thread does.
-#[derive(Drop)]
-pub enum Act {
-    /// Makes a step that submits nothing.
-    Do(Step),
-    /// The same, until it isn't refused as busy.
-    Until(Step),
-    /// Submits a transfer, again where that is refused as busy.
-    Submit(Name, Request, Told),
-    /// Waits, or ends the waiting of another thread.
-    Tell(Signal),
-    /// Is woken by changes from here on.
-    Watch(Unparker),
-    /// Looks whether there is something to serve, which there isn't.
-    Look,
-}
-
-/// How threads wait for each other.
-#[derive(Drop)]
-pub enum Signal {
-    /// Raises a flag.
-    Raise(Flag),
-    /// Waits for a flag.
-    Await(Flag),
-    /// Waits for either flag.
-    AwaitEither(Flag, Flag),
-    /// Gives way to other threads so many times.
-    Yield(u64),
-    /// Waits for a change.
-    Park(Parker),
-    /// Waits for the flag that a thread raises that was woken, and else wakes it.
-    Rescue(Flag, Unparker),
-}
 
 /// A thread of a scene.
 #[derive(Drop)]
@@ -102,11 +69,19 @@ fn play<L: Naming, D: Device, J: Recorder, R: Wait>(
         Act::Until(step) => until(rt, library, caller, step, played)?,
         Act::Submit(h, request, told) => submit(rt, library, caller, h, request, told, played)?,
         Act::Watch(unparker) => return library.watch(rt, unparker),
-        Act::Look => return in_time(library.pending(rt).serve.is_none()),
+        Act::Look => return look(rt, library),
         Act::Tell(signal) => return wait(rt, signal),
     };
     played.replies.push(reply)?;
     Ok(())
+}
+
+/// An error where there is something to serve.
+fn look<L: Naming, D: Device, J: Recorder, R: Wait>(
+    rt: &R,
+    library: &Library<L, Told, D, J>,
+) -> Result<(), AllocError> {
+    in_time(library.pending(rt).serve.is_none())
 }
 
 /// Waits, or ends the waiting of others.
@@ -180,6 +155,41 @@ fn until<L: Naming, D: Device, J: Recorder, R: Wait>(
     Err(AllocError)
 }
 
+/// What came of a submission.
+#[derive(Drop)]
+enum Tried {
+    /// It has its place.
+    Answered(Reply),
+    /// The endpoint was busy: what was given is back.
+    Busy(Request, Told),
+}
+
+/// What a submission is answered with this number, or with what wasn't accepted.
+fn came_of(number: Result<u64, Unaccepted<Request, Told>>) -> Tried {
+    match number {
+        Ok(n) => Tried::Answered(Reply::Number(n)),
+        Err(refused) => match refused.why {
+            Refused::Busy => Tried::Busy(refused.given, refused.payload),
+            why => Tried::Answered(Reply::Refused(why)),
+        },
+    }
+}
+
+/// Submits a transfer, once.
+fn try_submit<L: Naming, D: Device, J: Recorder, R: Wait>(
+    rt: &R,
+    library: &Library<L, Told, D, J>,
+    caller: &mut Caller<L>,
+    h: Name,
+    request: Request,
+    told: Told,
+) -> Result<Tried, AllocError> {
+    match library.submit(rt, caller, h, request, told) {
+        Ok(submitted) => Ok(came_of(submitted.number)),
+        Err(_) => Err(AllocError),
+    }
+}
+
 /// What a submission was answered, when it wasn't busy any more.
 fn submit<L: Naming, D: Device, J: Recorder, R: Wait>(
     rt: &R,
@@ -192,23 +202,12 @@ fn submit<L: Naming, D: Device, J: Recorder, R: Wait>(
 ) -> Result<Reply, AllocError> {
     let (mut request, mut told) = (request, told);
     for _ in 0..TURNS {
-        let Ok(submitted) = library.submit(rt, caller, h, request, told) else {
-            return Err(AllocError);
-        };
-        let Submitted { number, .. } = submitted;
+        let tried = try_submit(rt, library, caller, h, request, told)?;
         played.receipts = played.receipts.saturating_add(1);
-        let Unaccepted {
-            why,
-            given,
-            payload,
-        } = match number {
-            Ok(n) => return Ok(Reply::Number(n)),
-            Err(refused) => refused,
-        };
-        if why != Refused::Busy {
-            return Ok(Reply::Refused(why));
+        match tried {
+            Tried::Answered(reply) => return Ok(reply),
+            Tried::Busy(given, payload) => (request, told) = (given, payload),
         }
-        (request, told) = (given, payload);
         thread::yield_now();
     }
     Err(AllocError)

@@ -1,19 +1,21 @@
 //! A scene that is played: a library with some threads, and what it leaves.
 
+use crate::acts::{Act, Acts};
 use crate::halt::Halt;
-use crate::player::{Act, Played, Player};
+use crate::player::{Played, Player};
 use crate::told::Told;
 use crate::turnstile::Turnstile;
 use anyhow::{Result, anyhow};
-use std::alloc::Global;
+use std::alloc::{AllocError, Global};
+use std::result;
 use std::sync::Wait;
 use std::thread::Threads;
 use usb_book::{Journal, Place};
 use usb_core::Setup;
 use usb_device::Device;
 use usb_live::{Gates, live_gated};
-use usb_model::{Entry, Reply, Step};
-use usb_stand::{Reader, devices};
+use usb_model::{Entry, Reply};
+use usb_stand::devices;
 
 /// What a scene saw.
 #[derive(Drop)]
@@ -24,6 +26,38 @@ pub struct Seen {
     pub played: Vec<Played>,
 }
 
+/// The threads that do this.
+fn players(alloc: Global, threads: Vec<Vec<Act>>) -> Result<Vec<Player>> {
+    let mut players = Vec::new(alloc);
+    for acts in threads {
+        players.push(Player { acts, alloc })?;
+    }
+    Ok(players)
+}
+
+/// A library lives over the devices, with these players: its journal, and what each of them left.
+fn lived<D: Device + Send, R: Threads + Wait + Sync>(
+    rt: &R,
+    alloc: Global,
+    setup: Setup<D>,
+    gates: Gates<Turnstile>,
+    players: Vec<Player>,
+) -> Result<(Journal, Vec<result::Result<Played, AllocError>>)> {
+    let lived = live_gated::<Told, D, Journal, Turnstile, Player, R>(
+        rt, alloc, setup, gates, players,
+    )?;
+    Ok((lived.kept, lived.left))
+}
+
+/// What they saw. An error where one waited in vain.
+fn all_played(alloc: Global, left: Vec<result::Result<Played, AllocError>>) -> Result<Vec<Played>> {
+    let mut all = Vec::new(alloc);
+    for played in left {
+        all.push(played.map_err(|_| anyhow!("a thread waited in vain"))?)?;
+    }
+    Ok(all)
+}
+
 /// Plays these threads over the devices, behind these gates. An error where one waited in vain.
 pub fn play<D: Device + Send, R: Threads + Wait + Sync>(
     rt: &R,
@@ -32,20 +66,10 @@ pub fn play<D: Device + Send, R: Threads + Wait + Sync>(
     gates: Gates<Turnstile>,
     threads: Vec<Vec<Act>>,
 ) -> Result<Seen> {
-    let mut players = Vec::new(alloc);
-    for acts in threads {
-        players.push(Player { acts, alloc })?;
-    }
-    let lived = live_gated::<Told, D, Journal, Turnstile, Player, R>(
-        rt, alloc, setup, gates, players,
-    )?;
-    let mut played = Vec::new(alloc);
-    for left in lived.left {
-        played.push(left.map_err(|_| anyhow!("a thread waited in vain"))?)?;
-    }
+    let (journal, left) = lived(rt, alloc, setup, gates, players(alloc, threads)?)?;
     Ok(Seen {
-        places: lived.kept.places(alloc)?,
-        played,
+        places: journal.places(alloc)?,
+        played: all_played(alloc, left)?,
     })
 }
 
@@ -90,7 +114,7 @@ pub fn play_halted<R: Threads + Wait + Sync>(
     stand: Stand<'_>,
     gates: Gates<Turnstile>,
     halt: &Halt,
-    acts: Vec<Act>,
+    acts: Acts,
 ) -> Result<Seen> {
     let seen = play_on(rt, alloc, stand, gates, alone(alloc, acts)?)?;
     if halt.late.is_up() {
@@ -100,19 +124,10 @@ pub fn play_halted<R: Threads + Wait + Sync>(
 }
 
 /// One thread.
-pub fn alone(alloc: Global, acts: Vec<Act>) -> Result<Vec<Vec<Act>>> {
+pub fn alone(alloc: Global, acts: Acts) -> Result<Vec<Vec<Act>>> {
     let mut threads = Vec::new(alloc);
-    threads.push(acts)?;
+    threads.push(acts.into_list())?;
     Ok(threads)
-}
-
-/// A thread that opens and claims.
-pub fn claimed(alloc: Global, reader: Reader) -> Result<Vec<Act>> {
-    let Reader { h, dev, i, .. } = reader;
-    let mut acts = Vec::new(alloc);
-    acts.push(Act::Do(Step::Open { h, dev }))?;
-    acts.push(Act::Do(Step::Claim { h, i }))?;
-    Ok(acts)
 }
 
 /// The line of an entry, behind these.

@@ -1,10 +1,10 @@
 //! Scenes of workers that wait, and are woken.
 
+use crate::acts::{Act, Acts, Signal};
 use crate::counted::Counted;
 use crate::flag::Flag;
 use crate::halt::Halt;
-use crate::player::{Act, Signal};
-use crate::stage::{Stand, alone, claimed, play, play_on};
+use crate::stage::{Stand, alone, play, play_on};
 use crate::told::Told;
 use crate::turnstile::Turnstile;
 use anyhow::{Result, anyhow};
@@ -27,7 +27,8 @@ const IDLE_TURNS: u64 = 1_000_000;
 /// How often workers may look at a device in a scene with two transfers.
 const FEW_LOOKS: u64 = 200;
 
-/// What the two threads of a scene tell each other: that one looked, that the other submitted, that the first was woken.
+/// What the two threads of a scene tell each other: that one looked, that the other submitted, that the first was
+/// woken.
 #[derive(Drop)]
 struct Looking {
     looked: Flag,
@@ -35,50 +36,51 @@ struct Looking {
     woken: Flag,
 }
 
+impl Looking {
+    /// Neither did anything; the last flag lets go on whoever is held at a halt.
+    fn new(alloc: Global, halt: &Halt) -> Result<Looking> {
+        Ok(Looking {
+            looked: Flag::new(alloc)?,
+            submitted: Flag::new(alloc)?,
+            woken: halt.on.again()?,
+        })
+    }
+}
+
 /// A thread that submits once the other has looked, and wakes it where nobody else does.
-fn rescuing(alloc: Global, reader: Reader, looking: &Looking, parker: &Parker) -> Result<Vec<Act>> {
-    let mut acts = Vec::new(alloc);
-    acts.push(Act::Tell(Signal::Await(looking.looked.again()?)))?;
-    acts.push(Act::Submit(reader.h, reader.read(8, 0), Told::stop()))?;
-    acts.push(Act::Tell(Signal::Raise(looking.submitted.again()?)))?;
-    acts.push(Act::Tell(Signal::Rescue(looking.woken.again()?, parker.unparker().clone()?)))?;
+fn rescuing(alloc: Global, reader: Reader, looking: &Looking, parker: &Parker) -> Result<Acts> {
+    let mut acts = Acts::new(alloc, reader);
+    acts.wait(&looking.looked)?;
+    acts.read(8, Told::stop())?;
+    acts.raise(&looking.submitted)?;
+    acts.tell(Signal::Rescue(looking.woken.again()?, parker.unparker().clone()?))?;
     Ok(acts)
 }
 
 /// A thread that looks, waits until the other has submitted, and parks then.
-fn parking(alloc: Global, reader: Reader, looking: Looking, parker: Parker) -> Result<Vec<Act>> {
-    let Looking {
-        looked,
-        submitted,
-        woken,
-    } = looking;
-    let mut acts = claimed(alloc, reader)?;
-    acts.push(Act::Watch(parker.unparker().clone()?))?;
-    acts.push(Act::Look)?;
-    acts.push(Act::Tell(Signal::Raise(looked)))?;
-    acts.push(Act::Tell(Signal::Await(submitted)))?;
-    acts.push(Act::Tell(Signal::Park(parker)))?;
-    acts.push(Act::Tell(Signal::Raise(woken)))?;
+fn parking(alloc: Global, reader: Reader, looking: &Looking, parker: Parker) -> Result<Acts> {
+    let mut acts = Acts::claimed(alloc, reader)?;
+    acts.watch_and_look(parker.unparker().clone()?)?;
+    acts.raise(&looking.looked)?;
+    acts.wait(&looking.submitted)?;
+    acts.tell(Signal::Park(parker))?;
+    acts.raise(&looking.woken)?;
     Ok(acts)
 }
 
 /// Both.
 fn looking_threads(alloc: Global, halt: &Halt) -> Result<Vec<Vec<Act>>> {
     let reader = Reader::new(1, 0, 0)?;
-    let looking = Looking {
-        looked: Flag::new(alloc)?,
-        submitted: Flag::new(alloc)?,
-        woken: halt.on.again()?,
-    };
+    let looking = Looking::new(alloc, halt)?;
     let parker = Parker::new(alloc)?;
     let rescues = rescuing(alloc, reader, &looking, &parker)?;
-    let mut threads = alone(alloc, parking(alloc, reader, looking, parker)?)?;
-    threads.push(rescues)?;
+    let mut threads = alone(alloc, parking(alloc, reader, &looking, parker)?)?;
+    threads.push(rescues.into_list())?;
     Ok(threads)
 }
 
-/// A thread looks and finds nothing to do; then another submits a transfer, and no worker touches it; then the first parks: it is
-/// woken.
+/// A thread looks and finds nothing to do; then another submits a transfer, and no worker touches it; then the first
+/// parks: it is woken.
 pub fn look_then_park<R: Threads + Wait + Sync>(rt: &R, alloc: Global) -> Result<()> {
     let halt = Halt::new(alloc)?;
     let threads = looking_threads(alloc, &halt)?;
@@ -90,31 +92,35 @@ pub fn look_then_park<R: Threads + Wait + Sync>(rt: &R, alloc: Global) -> Result
     )
 }
 
-/// A callback that raises a flag, and a wait for that.
-fn round(alloc: Global, acts: &mut Vec<Act>, reader: &Reader) -> Result<()> {
-    let halt = Halt::new(alloc)?;
-    let called = halt.here.again()?;
+/// A callback that comes to this halt, and isn't held there.
+fn passing(halt: Halt) -> Told {
     halt.on.raise();
-    let told = Told {
+    Told {
         rule: Rule::once_only(),
         halt: Some(halt),
-    };
-    acts.push(Act::Submit(reader.h, reader.read(1, 0), told))?;
-    acts.push(Act::Tell(Signal::Await(called)))?;
+    }
+}
+
+/// A callback that raises a flag, and a wait for that.
+fn round(alloc: Global, acts: &mut Acts) -> Result<()> {
+    let halt = Halt::new(alloc)?;
+    let called = halt.here.again()?;
+    acts.read(1, passing(halt))?;
+    acts.wait(&called)?;
     Ok(())
 }
 
 /// A thread that submits a thousand transfers, each once the one before was called back.
-fn rounds(alloc: Global) -> Result<Vec<Act>> {
-    let reader = Reader::new(1, 0, 0)?;
-    let mut acts = claimed(alloc, reader)?;
+fn rounds(alloc: Global) -> Result<Acts> {
+    let mut acts = Acts::claimed(alloc, Reader::new(1, 0, 0)?)?;
     for _ in 0..ROUNDS {
-        round(alloc, &mut acts, &reader)?;
+        round(alloc, &mut acts)?;
     }
     Ok(acts)
 }
 
-/// A thousand transfers, each submitted once the one before was called back: as the workers come to rest, or while they do.
+/// A thousand transfers, each submitted once the one before was called back: as the workers come to rest, or while they
+/// do.
 pub fn each_wakes<R: Threads + Wait + Sync>(rt: &R, alloc: Global) -> Result<()> {
     let sizes = vec![in alloc; 1_u16; usize::from(ROUNDS)]?;
     let threads = alone(alloc, rounds(alloc)?)?;
@@ -128,12 +134,11 @@ pub fn each_wakes<R: Threads + Wait + Sync>(rt: &R, alloc: Global) -> Result<()>
 }
 
 /// A thread whose second transfer waits for a device that isn't ready.
-fn waiting(alloc: Global) -> Result<Vec<Act>> {
-    let reader = Reader::new(1, 0, 0)?;
-    let mut acts = claimed(alloc, reader)?;
-    round(alloc, &mut acts, &reader)?;
-    acts.push(Act::Submit(reader.h, reader.read(1, 0), Told::stop()))?;
-    acts.push(Act::Tell(Signal::Yield(IDLE_TURNS)))?;
+fn waiting(alloc: Global) -> Result<Acts> {
+    let mut acts = Acts::claimed(alloc, Reader::new(1, 0, 0)?)?;
+    round(alloc, &mut acts)?;
+    acts.read(1, Told::stop())?;
+    acts.tell(Signal::Yield(IDLE_TURNS))?;
     Ok(acts)
 }
 

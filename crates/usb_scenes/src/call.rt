@@ -1,0 +1,42 @@
+//! A call of a scene.
+
+/// A call of the library. Transfers are named by number, endpoints by address.
+#[derive(Clone, Copy)]
+pub enum Call {
+    /// Opens the device.
+    Open,
+    /// Claims the interface.
+    Claim,
+    /// Ends a halt.
+    ClearHalt,
+    /// Resets the device.
+    Reset,
+    /// Releases the interface.
+    Release,
+    /// Closes the device.
+    Close,
+    /// Submits a read of 8 bytes with this timeout in milliseconds, 0 for none.
+    Read(u32),
+    /// Submits a write of 3 bytes.
+    Write,
+    /// Cancels a transfer.
+    Cancel(u64),
+    /// The device answers one packet at an endpoint.
+    Serve(u8),
+    /// The controller carries out an order.
+    Command,
+    /// An event is handled.
+    Deliver,
+    /// A result goes out to its callback.
+    Take,
+    /// Submits the transfer of a callback once more.
+    Again(u64),
+    /// The same with another byte to be sent.
+    AgainWith(u64),
+    /// Ends the callback of a transfer.
+    Stop(u64),
+    /// It is so many milliseconds after the beginning.
+    Tick(u64),
+    /// The device is gone.
+    Unplug,
+}
