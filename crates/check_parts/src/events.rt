@@ -34,24 +34,21 @@ fn in_8(address: u64) -> Result<Placed> {
     })
 }
 
-/// The event of a TRB with this address, a residual and a code.
-fn event(pointer: u64, residual: u32, code: u8) -> Result<Trb> {
-    let slot = present(Slot::new(1), "slot 1")?;
-    let id = present(EndpointId::new(3), "endpoint id 3")?;
-    let kind = TrbKind::TransferEvent {
-        pointer: Pointer::before(pointer),
-        residual: Residual::low(residual),
-        code,
-        slot,
-        id,
-    };
-    Ok(Trb { kind, cycle: true })
-}
-
 /// What the event of a TRB with this address, a residual and a code tells of a line of one read of 8 bytes.
 fn told(pointer: u64, residual: u32, code: u8) -> Result<Reading> {
-    let event = event(pointer, residual, code)?;
     let line = [in_8(0x1002_3000)?];
+    let slot = present(Slot::new(1), "slot 1")?;
+    let id = present(EndpointId::new(3), "endpoint id 3")?;
+    let event = Trb {
+        kind: TrbKind::TransferEvent {
+            pointer: Pointer::before(pointer),
+            residual: Residual::low(residual),
+            code,
+            slot,
+            id,
+        },
+        cycle: true,
+    };
     Ok(read_event(&event, &line))
 }
 
