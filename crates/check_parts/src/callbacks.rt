@@ -5,8 +5,8 @@ ghost use Rattle.usb_callback.specs.Callbacks.{Fits};
 ghost use Rattle.usb_model.specs.declared.status.Status.TheVariants.{Completed};
 ghost use Rattle.usb_model.specs.World.Plans.{verdict_of};
 
-use crate::expect::expect;
-use anyhow::{Result, anyhow};
+use crate::expect::{expect, present};
+use anyhow::Result;
 use std::alloc::Global;
 use std::sync::Arc;
 use std::sync::atomic::{AtomicU64, Ordering};
@@ -29,7 +29,7 @@ fn completed(alloc: Global, round: u64) -> Result<Returned>
     ensures { IfOk result (λ r. (r.round ≡ round) × (r.status ≡ Completed)) }
 {
     Ok(Returned {
-        h: Name::new(0).ok_or_else(|| anyhow!("name 0 is refused"))?,
+        h: present(Name::new(0), "name 0")?,
         n: 1,
         ep: EpAddr::new(0x81),
         round,
@@ -73,12 +73,21 @@ fn stops(verdict: &Verdict) -> Result<()> {
     )
 }
 
-/// A repeating callback comes back.
-fn back<C: Callback>(callback: Option<C>) -> Result<C> {
-    callback.ok_or_else(|| anyhow!("a repeating callback doesn't come back"))
+/// A repeating callback goes on at the first of these rounds, stops at the second, and comes back each time.
+fn goes_on_once<C: Callback>(alloc: Global, callback: C, rounds: [u64; 2]) -> Result<()> {
+    let [earlier, later] = rounds;
+    let (first, again) = answer(callback, completed(alloc, earlier)?);
+    goes_on(&first)?;
+    let (second, again) = answer(
+        present(again, "callback that comes back")?,
+        completed(alloc, later)?,
+    );
+    stops(&second)?;
+    present(again, "callback that comes back")?;
+    Ok(())
 }
 
-/// A repeating callback answers twice.
+/// A repeating callback answers twice, as its rule says.
 fn repeating(alloc: Global) -> Result<()> {
     let rule = Rule::Again {
         on: StatusSet::COMPLETED,
@@ -91,12 +100,7 @@ fn repeating(alloc: Global) -> Result<()> {
         { rule.verdict(returned.status, returned.round) },
     )?;
     let callback = crosses(StoredCallback::repeat(rule, code));
-    let (first, again) = answer(callback, completed(alloc, 0)?);
-    goes_on(&first)?;
-    let (second, again) = answer(back(again)?, completed(alloc, 1)?);
-    stops(&second)?;
-    let _callback = back(again)?;
-    Ok(())
+    goes_on_once(alloc, callback, [0, 1])
 }
 
 /// A callback under no rule stops at the last round.
@@ -109,10 +113,7 @@ fn under_no_rule(alloc: Global) -> Result<()> {
         }
     })?;
     let callback = StoredCallback::repeat(Rule::Free, code);
-    let (first, again) = answer(callback, completed(alloc, 1)?);
-    goes_on(&first)?;
-    let (second, _) = answer(back(again)?, completed(alloc, 2)?);
-    stops(&second)
+    goes_on_once(alloc, callback, [1, 2])
 }
 
 /// A callback that is called once adds once, and is used up.

@@ -30,30 +30,50 @@ pub fn play<P: Print>(rt: &P, alloc: Global) -> Result<()> {
     Ok(())
 }
 
-/// Endpoint 81 (id 3) sends a packet of three bytes, and stalls.
-fn scripts(alloc: Global) -> Result<Sequence<Script>, AllocError> {
-    let packet = Response::Data(Bytes::from_vec(Vec::from_slice(alloc, &[1, 2, 3])?));
-    let mut scripts = Vec::new(alloc);
-    for _ in 0..3_usize {
-        scripts.push(Sequence::new(alloc))?;
+/// A packet of three bytes.
+fn packet(alloc: Global) -> Result<Response, AllocError> {
+    Ok(Response::Data(Bytes::from_vec(Vec::from_slice(alloc, &[1, 2, 3])?)))
+}
+
+/// The script of an endpoint id: 81, whose id is 3, sends a packet, and stalls.
+fn script(alloc: Global, id: u8) -> Result<Script, AllocError> {
+    let mut script = Sequence::new(alloc);
+    if id == 3 {
+        script.push(packet(alloc)?)?;
+        script.push(Response::Stall)?;
     }
-    let answers = vec![in alloc; packet, Response::Stall]?;
-    scripts.push(Sequence::from_vec(answers))?;
-    Ok(Sequence::from_vec(scripts))
+    Ok(script)
+}
+
+/// The script of each endpoint id.
+fn scripts(alloc: Global) -> Result<Sequence<Script>, AllocError> {
+    let mut scripts = Sequence::new(alloc);
+    for id in 0..4_u8 {
+        scripts.push(script(alloc, id)?)?;
+    }
+    Ok(scripts)
 }
 
 /// A device that answers by these scripts.
 fn table(alloc: Global) -> Result<TableDevice> {
     let config = read_config(&ONE_ENDPOINT)?;
-    let made = TableDevice::new(alloc, &config, scripts(alloc)?);
-    made.map_err(|_| anyhow!("the device isn't made"))
+    let Ok(device) = TableDevice::new(alloc, &config, scripts(alloc)?) else {
+        return Err(anyhow!("the device isn't made"));
+    };
+    Ok(device)
+}
+
+/// One byte, with room for eight more.
+fn byte_with_room(alloc: Global) -> Result<Vec<u8>, AllocError> {
+    let mut bytes = Vec::with_capacity(alloc, 9)?;
+    bytes.push(7)?;
+    Ok(bytes)
 }
 
 /// What a device appends to a byte at 81, where there is room for eight more.
 fn append<D: Device>(alloc: Global, device: &mut D) -> Result<(Act, Vec<u8>)> {
-    let mut bytes = Vec::with_capacity(alloc, 9)?;
-    bytes.push(7)?;
-    if bytes.capacity() < 9 {
+    let mut bytes = byte_with_room(alloc)?;
+    if bytes.capacity() < 9 || bytes.len() > 1 {
         return Err(anyhow!("there is no room"));
     }
     let act = device.answer_in(EpAddr::new(0x81), 8, &mut bytes);

@@ -1,7 +1,7 @@
 //! What events tell of the transfers of a line (xHCI 1.2, 4.11.3).
 
-use crate::expect::expect;
-use anyhow::{Result, anyhow};
+use crate::expect::{expect, present};
+use anyhow::Result;
 use arrayvec::ArrayVec;
 use bitflags::Flags as _;
 use usb_completion::{Placed, PlacedTrb, Reading, read_event, result};
@@ -23,7 +23,7 @@ pub fn play<P: Print>(rt: &P) -> Result<()> {
 
 /// A read of 8 bytes, whose TRB has this address.
 fn in_8(address: u64) -> Result<Placed> {
-    let length = Length::new(8).ok_or_else(|| anyhow!("a length of 8 is refused"))?;
+    let length = present(Length::new(8), "length of 8")?;
     let mut trbs = ArrayVec::new();
     trbs.push(PlacedTrb { address, length });
     Ok(Placed {
@@ -34,24 +34,22 @@ fn in_8(address: u64) -> Result<Placed> {
     })
 }
 
-/// The event of a TRB with this address, a residual and a code.
-fn event(pointer: u64, residual: u32, code: u8) -> Result<Trb> {
-    let slot = Slot::new(1).ok_or_else(|| anyhow!("slot 1 is refused"))?;
-    let id = EndpointId::new(3).ok_or_else(|| anyhow!("endpoint id 3 is refused"))?;
-    let kind = TrbKind::TransferEvent {
-        pointer: Pointer::before(pointer),
-        residual: Residual::low(residual),
-        code,
-        slot,
-        id,
-    };
-    Ok(Trb { kind, cycle: true })
-}
-
-/// What an event tells of a line of one read of 8 bytes.
-fn told(event: &Trb) -> Result<Reading> {
+/// What the event of a TRB with this address, a residual and a code tells of a line of one read of 8 bytes.
+fn told(pointer: u64, residual: u32, code: u8) -> Result<Reading> {
     let line = [in_8(0x1002_3000)?];
-    Ok(read_event(event, &line))
+    let slot = present(Slot::new(1), "slot 1")?;
+    let id = present(EndpointId::new(3), "endpoint id 3")?;
+    let event = Trb {
+        kind: TrbKind::TransferEvent {
+            pointer: Pointer::before(pointer),
+            residual: Residual::low(residual),
+            code,
+            slot,
+            id,
+        },
+        cycle: true,
+    };
+    Ok(read_event(&event, &line))
 }
 
 /// A residual of 5 with code 13 completes with 3 bytes.
@@ -61,17 +59,17 @@ fn short_packet() -> Result<()> {
         status: Status::Completed,
         actual: 3,
     };
-    let found = told(&event(0x1002_3000, 5, 13)?)?;
+    let found = told(0x1002_3000, 5, 13)?;
     expect(
         found == wanted,
-        "a residual of 5",
+        "residual of 5",
         "the event tells something else",
     )
 }
 
 /// An event of this pointer and residual is stray.
 fn is_stray(pointer: u64, residual: u32) -> Result<()> {
-    let found = told(&event(pointer, residual, 13)?)?;
+    let found = told(pointer, residual, 13)?;
     expect(
         found == Reading::Stray,
         "a stray event",

@@ -1,7 +1,7 @@
 //! TRBs of each kind, as bytes that are written and read (xHCI 1.2, 6.4).
 
-use crate::expect::expect;
-use anyhow::{Result, anyhow};
+use crate::expect::{expect, present};
+use anyhow::Result;
 use usb_trb::{
     EndpointId, Length, Normal, Pointer, Residual, Slot, Trb, TrbKind, Unknown, decode,
     decode_normal, encode, is_no_op,
@@ -45,27 +45,27 @@ pub fn play<P: Print>(rt: &P) -> Result<()> {
 
 /// Slot 1.
 fn slot() -> Result<Slot> {
-    Slot::new(1).ok_or_else(|| anyhow!("slot 1 is refused"))
+    present(Slot::new(1), "slot 1")
 }
 
 /// Endpoint id 3.
 fn id() -> Result<EndpointId> {
-    EndpointId::new(3).ok_or_else(|| anyhow!("endpoint id 3 is refused"))
+    present(EndpointId::new(3), "endpoint id 3")
 }
 
 /// A length of 8.
 fn length() -> Result<Length> {
-    Length::new(8).ok_or_else(|| anyhow!("a length of 8 is refused"))
+    present(Length::new(8), "length of 8")
 }
 
 /// A residual of 5.
 fn residual() -> Result<Residual> {
-    Residual::new(5).ok_or_else(|| anyhow!("a residual of 5 is refused"))
+    present(Residual::new(5), "residual of 5")
 }
 
 /// A pointer to an address.
 fn pointer(address: u64) -> Result<Pointer> {
-    Pointer::new(address).ok_or_else(|| anyhow!("a pointer to {address} is refused"))
+    present(Pointer::new(address), "pointer to this multiple of 16")
 }
 
 /// Whether a TRB is written as these bytes.
@@ -74,8 +74,8 @@ fn writes(trb: &Trb, bytes: &[u8; 16]) -> bool {
 }
 
 /// Whether a TRB is read from these bytes.
-fn reads(bytes: &[u8; 16], trb: Trb) -> bool {
-    decode(bytes) == Ok(trb)
+fn reads(bytes: &[u8; 16], trb: &Trb) -> bool {
+    decode(bytes) == Ok(*trb)
 }
 
 /// Whether this is what is read from these bytes as a Normal TRB.
@@ -84,14 +84,14 @@ fn reads_normal(bytes: &[u8; 16], normal: Option<Normal>) -> bool {
 }
 
 /// Whether these bytes are taken for a No Op TRB just where they are one.
-fn tells_no_op(bytes: &[u8; 16], kind: TrbKind) -> bool {
-    is_no_op(bytes) == (kind == TrbKind::NoOp)
+fn tells_no_op(bytes: &[u8; 16], kind: &TrbKind) -> bool {
+    is_no_op(bytes) == (*kind == TrbKind::NoOp)
 }
 
 /// What a Normal TRB says; None of another.
-fn normal_in(kind: TrbKind) -> Option<Normal> {
+fn normal_in(kind: &TrbKind) -> Option<Normal> {
     match kind {
-        TrbKind::Normal(normal) => Some(normal),
+        TrbKind::Normal(normal) => Some(*normal),
         _ => None,
     }
 }
@@ -99,16 +99,16 @@ fn normal_in(kind: TrbKind) -> Option<Normal> {
 /// A TRB is written as these bytes, and read from them in each way.
 fn is_written(name: &str, kind: TrbKind, bytes: &[u8; 16]) -> Result<()> {
     let trb = Trb { kind, cycle: true };
-    let normal = normal_in(kind);
+    let normal = normal_in(&trb.kind);
     expect(writes(&trb, bytes), name, "it is written as other bytes")?;
-    expect(reads(bytes, trb), name, "its bytes are read as another")?;
+    expect(reads(bytes, &trb), name, "its bytes are read as another")?;
     expect(
         reads_normal(bytes, normal),
         name,
         "its bytes are read as another Normal TRB",
     )?;
     expect(
-        tells_no_op(bytes, kind),
+        tells_no_op(bytes, &trb.kind),
         name,
         "whether it is a No Op is told wrong",
     )
