@@ -12,7 +12,7 @@ use Rattle.usb_model.specs.Setup.{Setup}
 use Rattle.usb_model.specs.Text.{lines_text}
 use Rattle.usb_model.specs.World.Journal.{IsBeginning}
 use Rattle.usb_model.specs.World.Plans.{first_stage, is_submission}
-use Rattle.usb_purge.specs.Alone.{AreLeft, Begins, TwinState, alone_of, shared_of}
+use Rattle.usb_purge.specs.Alone.{AreLeft, StartsBoth, TwinState, alone_of, shared_of}
 use Rattle.usb_purge.specs.Driving.{TakesNext}
 use Rattle.usb_purge.specs.PlanRuns.{Performs, PlanState, ShowsStage, entries_of, is_verdict, of_option}
 use Rattle.usb_purge.specs.declared.plan_run.Performed.{Performed}
@@ -23,7 +23,7 @@ use Rattle.usb_purge.proofs.Reached.{Reached}
 use Rattle.usb_streams.specs.Printing.{line_text, AppendsAllBut, AppendsSome}
 use Rattle.usb_streams.proofs.Beginnings.{gathered_further, kept, some_behind, some_further, some_of_front, whole}
 use Rattle.usb_streams.proofs.Printed.{lines_begun}
-use Rattle.trace_run.specs.Printed.{BeginsOwnPiece, BeginsPiece, PrintsOwnPiece, PrintsPiece, PrintsTo, StartsBoth, StartsPlan, own_entries, plan_entries}
+use Rattle.trace_run.specs.Printed.{BeginsOwnPiece, BeginsPiece, PrintsOwnPiece, PrintsPiece, PrintsTo, StartsPlan, own_entries, plan_entries}
 use Rattle.trace_run.specs.declared.printing.Reach.{Reach}
 use Rattle.trace_run.specs.declared.printing.Reach.TheVariants.{End, NoMemory}
 
@@ -309,18 +309,6 @@ starts_plan rule setup plan callbacks left v shows same enough fixed none = reco
   shows = shows;
   under = ap (map rule) (sym same);
   enough = ap length same ∙ enough;
-  fixed = fixed;
-  no_verdict = none;
-}
-
--- and so do two, side by side
-pub starts_both : {P : Type 0} (rule : P → Rule) (setup other : Setup) (plan : List Plan) (callbacks others : List P) (v : TwinState P) → Begins rule setup other callbacks others v → other ≡ setup → map rule others ≡ map rule callbacks
-    → length callbacks ≡ count_by is_submission plan → AreFixed (map rule callbacks) → AllByRecursion (λ piece. is_verdict piece ≡ false) plan → StartsBoth rule setup plan (map rule callbacks) v
-starts_both rule setup other plan callbacks others v b same again enough fixed none = record {
-  begins = record { run = b.run; own = subst (λ s. (rs : List Rule) → ShowsStage rule s v.own (first_stage s rs)) same b.own; left = refl; its = refl };
-  under = ap (map rule) (sym b.left);
-  again = ap (map rule) b.its ∙ (again ∙ ap (map rule) (sym b.left));
-  enough = ap length b.left ∙ enough;
   fixed = fixed;
   no_verdict = none;
 }

@@ -11,7 +11,7 @@ use Rattle.usb_model.specs.Machine.Turns.{alone}
 use Rattle.usb_model.specs.Setup.{Setup}
 use Rattle.usb_model.specs.World.Journal.{IsBeginning, own, world_run}
 use Rattle.usb_model.specs.World.Plans.{expand, first_stage, is_submission}
-use Rattle.usb_purge.specs.Alone.{AdvancesBoth, Begins, TwinState, alone_of}
+use Rattle.usb_purge.specs.Alone.{AdvancesBoth, StartsBoth, TwinState, alone_of}
 use Rattle.usb_purge.specs.PlanRuns.{Performs, PlanState, ShowsStage, is_verdict}
 use Rattle.usb_purge.specs.declared.twins.Told.{Told}
 use Rattle.usb_streams.specs.Printing.{AppendsAllBut, AppendsSome}
@@ -84,15 +84,6 @@ module _ {P : Type 0} (rule : P → Rule) where
     pub fixed : AllByRecursion (λ rule. rule ≢ Free) rules
     pub no_verdict : AllByRecursion (λ piece. is_verdict piece ≡ false) plan
 
-  -- two runs side by side stand there, over the same devices and with callbacks of the same rules
-  pub record StartsBoth (setup : Setup) (plan : List Plan) (rules : List Rule) (twins : TwinState P) : Type 0 where
-    pub begins : Begins rule setup setup twins.left twins.its twins
-    pub under : rules ≡ map rule twins.left
-    pub again : map rule twins.its ≡ map rule twins.left
-    pub enough : length twins.left ≡ count_by is_submission plan
-    pub fixed : AllByRecursion (λ rule. rule ≢ Free) rules
-    pub no_verdict : AllByRecursion (λ piece. is_verdict piece ≡ false) plan
-
   -- a run stands at the beginning of a plan, over some devices and under some rules
   abbrev pub CanStart : List Plan → (run : PlanState P) → (left : List P) → Type 0
   CanStart plan run left = (setup : Setup) × (rules : List Rule) × StartsPlan setup plan rules run left
@@ -106,11 +97,8 @@ module _ {P : Type 0} (rule : P → Rule) where
   BeginsFrom plan run left old new = (setup : Setup) (rules : List Rule) → StartsPlan setup plan rules run left → AppendsSome (lines_text (plan_entries setup plan rules)) old new
 
   -- the same of two runs side by side, and of the handle's own entries
-  abbrev pub CanStartBoth : List Plan → (twins : TwinState P) → Type 0
-  CanStartBoth plan twins = (setup : Setup) × (rules : List Rule) × StartsBoth setup plan rules twins
-
   abbrev pub PrintsOwn : Reach → List Plan → ℕ → (twins : TwinState P) → (old new : Option (List ℕ)) → Type 0
-  PrintsOwn reach plan h twins old new = (setup : Setup) (rules : List Rule) → StartsBoth setup plan rules twins → PrintsTo reach (own_entries setup plan rules h) old new
+  PrintsOwn reach plan h twins old new = (setup : Setup) (rules : List Rule) → StartsBoth rule setup plan rules twins → PrintsTo reach (own_entries setup plan rules h) old new
 
   abbrev pub BeginsOwn : List Plan → ℕ → (twins : TwinState P) → (old new : Option (List ℕ)) → Type 0
-  BeginsOwn plan h twins old new = (setup : Setup) (rules : List Rule) → StartsBoth setup plan rules twins → AppendsSome (lines_text (own_entries setup plan rules h)) old new
+  BeginsOwn plan h twins old new = (setup : Setup) (rules : List Rule) → StartsBoth rule setup plan rules twins → AppendsSome (lines_text (own_entries setup plan rules h)) old new

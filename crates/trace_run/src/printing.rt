@@ -8,11 +8,11 @@ ghost use Rattle.usb_model.specs.declared.verdict.Rule.TheVariants.{Free};
 ghost use Rattle.usb_model.specs.Text.{lines_text};
 ghost use Rattle.usb_model.specs.World.Plans.{is_submission};
 ghost use Rattle.usb_state.specs.Making.{setup_of};
-ghost use Rattle.usb_purge.specs.Alone.{AreLeft, Begins};
+ghost use Rattle.usb_purge.specs.Alone.{AreLeft, Begins, CanStartBoth};
 ghost use Rattle.usb_purge.specs.PlanRuns.{entries_of, is_verdict};
 ghost use Rattle.usb_streams.specs.Faults.{IsOfRun};
 ghost use Rattle.usb_streams.specs.Printing.{AppendsAllBut, AppendsSome};
-ghost use Rattle.trace_run.specs.Printed.{BeginsFrom, BeginsOwn, BeginsOwnPiece, BeginsPiece, CanStart, CanStartBoth, PrintsFrom, PrintsOwn, PrintsOwnPiece, PrintsPiece, PrintsTo, own_entries, plan_entries};
+ghost use Rattle.trace_run.specs.Printed.{BeginsFrom, BeginsOwn, BeginsOwnPiece, BeginsPiece, CanStart, PrintsFrom, PrintsOwn, PrintsOwnPiece, PrintsPiece, PrintsTo, own_entries, plan_entries};
 
 use std::alloc::{AllocError, Global};
 use std::io::Write;

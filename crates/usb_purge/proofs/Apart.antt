@@ -12,7 +12,8 @@ use Rattle.usb_lemmas.proofs.Handles.Alone.{OnlyOf, only_new, runs_alone, turn_a
 use Rattle.usb_state.specs.State.{ShowsWorld, State}
 use Rattle.usb_state.specs.Steps.{Turns}
 use Rattle.usb_purge.specs.declared.comparison.Comparison.{Comparison}
-use Rattle.usb_purge.specs.Alone.{AreCalledInOrder, AreCalledOnce, StepsAlone, StepsBoth, place_of}
+use Rattle.usb_purge.specs.Alone.{AreCalledInOrder, AreCalledOnce, StepsAlone, StepsBoth, TellsBeside, TellsBoth, place_of}
+use Rattle.std.specs.Prelude.{IfOk, Result, Ok, Err}
 use Rattle.usb_purge.proofs.Calls.{calls_once}
 use Rattle.usb_purge.proofs.Order.{calls_in_order}
 
@@ -144,3 +145,17 @@ module _ {P : Type 0} (setup : Setup) (steps : List Step) (h : ℕ) where
   pub all_told : (s u : State P) (es apart : List Entry) (i : ℕ) → length steps ≤ i → Beside s u es apart i → es ≡ entries setup steps h
   unfolding journal_from
   all_told s u es apart i past b = sym (append-nil es) ∙ (sym (ap (λ l. es ++ entries_from setup h b.world l) (drop_all i steps past)) ∙ b.told)
+
+-- what is told by two cores is told beside one that shows the new world
+pub told_beside : {P : Type 0} {E : Type 0} (answer : Result Comparison E) (setup : Setup) (steps : List Step) (h : ℕ) (core own : State P) → ShowsWorld setup own (new_world setup)
+    → IfOk answer (λ told. TellsBoth steps h core own told) → IfOk answer (λ told. TellsBeside setup steps h core told)
+told_beside (Ok told) setup steps h core own shows all = λ its. all setup its shows
+told_beside (Err e) setup steps h core own shows all = all
+
+-- what follows from what is told beside a core that shows the new world, of the same devices
+pub on_told : {P : Type 0} {E : Type 0} (Holds : Comparison → Type 0) (answer : Result Comparison E) (apart setup : Setup) (steps : List Step) (h : ℕ) (core : State P) → apart ≡ setup → ShowsWorld setup core (new_world setup)
+    → IfOk answer (λ told. TellsBeside apart steps h core told) → ((told : Comparison) → told.shared ≡ entries setup steps h → told.alone ≡ told.shared → Holds told) → IfOk answer Holds
+on_told Holds (Ok told) apart setup steps h core same shows told_so follows =
+    let both = subst (λ d. TellsBeside d steps h core told) same told_so shows in
+    follows told both.0 both.1
+on_told Holds (Err e) apart setup steps h core same shows told_so follows = told_so

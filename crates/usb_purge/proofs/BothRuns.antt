@@ -12,7 +12,7 @@ use Rattle.usb_model.specs.World.Journal.{IsBeginning, entries, own, world_run}
 use Rattle.usb_model.specs.World.Plans.{expand, first_stage, is_submission}
 use Rattle.usb_lemmas.proofs.Handles.Alone.{runs_alone}
 use Rattle.usb_lemmas.proofs.Handles.Isolation.{sees_alone}
-use Rattle.usb_purge.specs.Alone.{AdvancesBoth, AreLeft, Begins, Compares, PerformsTwice, TellsPlan, TwinState, alone_of, is_own_by, shared_of}
+use Rattle.usb_purge.specs.Alone.{AdvancesBoth, AreLeft, Begins, Compares, PerformsTwice, StartsBoth, TellsOfBoth, TellsPlan, TwinState, alone_of, is_own_by, shared_of}
 use Rattle.usb_purge.specs.declared.comparison.Comparison.{Comparison}
 use Rattle.usb_purge.specs.declared.twins.Told.{Told}
 use Rattle.usb_purge.specs.Driving.{TakesNext}
@@ -118,3 +118,21 @@ module _ {P : Type 0} (rule : P → Rule) (setup : Setup) (plan : List Plan) (ru
   -- of which are the entries of the handle alone
   pub all_alone : (v : TwinState P) (shared apart : List Entry) (i : ℕ) → length plan ≤ i → AreBeside v shared apart i → apart ≡ alone setup (own setup (expand setup plan rules) h) h
   all_alone v shared apart i past b = (all_told v (record { shared = shared; alone = apart }) i past b).machine
+
+-- and so do two, side by side
+pub starts_both : {P : Type 0} (rule : P → Rule) (setup other : Setup) (plan : List Plan) (callbacks others : List P) (v : TwinState P) → Begins rule setup other callbacks others v → other ≡ setup → map rule others ≡ map rule callbacks
+    → length callbacks ≡ count_by is_submission plan → AreFixed (map rule callbacks) → AllByRecursion (λ piece. is_verdict piece ≡ false) plan → StartsBoth rule setup plan (map rule callbacks) v
+starts_both rule setup other plan callbacks others v b same again enough fixed none = record {
+  begins = record { run = b.run; own = subst (λ s. (rs : List Rule) → ShowsStage rule s v.own (first_stage s rs)) same b.own; left = refl; its = refl };
+  under = ap (map rule) (sym b.left);
+  again = ap (map rule) b.its ∙ (again ∙ ap (map rule) (sym b.left));
+  enough = ap length b.left ∙ enough;
+  fixed = fixed;
+  no_verdict = none;
+}
+
+-- what is told of both, where they stood at the beginning of this plan
+pub told_of_both : {P : Type 0} {E : Type 0} (rule : P → Rule) (answer : Result Comparison E) (setup : Setup) (plan : List Plan) (rules : List Rule) (h : ℕ) (v : TwinState P) → StartsBoth rule setup plan rules v
+    → IfOk answer (λ told. TellsOfBoth rule plan h v told) → IfOk answer (λ told. TellsPlan setup plan rules h told)
+told_of_both rule (Ok told) setup plan rules h v starts so = so setup rules starts
+told_of_both rule (Err e) setup plan rules h v starts so = so

@@ -1,25 +1,28 @@
 -- A handle's own part of a run, and what holds of its callbacks.
-use Rattle.std.specs.Prelude.{◌≡◌, ℕ, ◌<◌, ◌≤◌, ◌==◌, Bool, true, false, List, [], ◌∷◌, ◌++◌, length, Option, Some, None}
+use Rattle.std.specs.Prelude.{◌≡◌, ◌≢◌, ℕ, ◌<◌, ◌≤◌, ◌==◌, Bool, true, false, List, [], ◌∷◌, ◌++◌, length, map, Option, Some, None}
+use Rattle.std.specs.List.{AllByRecursion, count_by}
 use Rattle.std.specs.List.Sorted.{IsStrictlyIncreasing}
 use Rattle.usb_model.specs.declared.entry.Entry.{Entry}
 use Rattle.usb_model.specs.declared.plan.Plan.{Plan}
 use Rattle.usb_model.specs.declared.plan.Plan.TheVariants.{Do, Return}
 use Rattle.usb_model.specs.declared.step.Step.{Step}
 use Rattle.usb_model.specs.declared.verdict.Rule.{Rule}
+use Rattle.usb_model.specs.declared.verdict.Rule.TheVariants.{Free}
 use Rattle.usb_model.specs.Setup.{Setup}
 use Rattle.usb_model.specs.Machine.Turns.{alone}
 use Rattle.usb_model.specs.World.Journal.{Place, entries, is_own, own, world_run}
 use Rattle.usb_model.specs.World.Plans.{expand, first_stage, is_submission, own_plan, own_rules}
 use Rattle.usb_model.specs.Laws.Cut.{times}
 use Rattle.usb_model.specs.Laws.Places.{calls, numbers_called}
-use Rattle.usb_state.specs.State.{State}
+use Rattle.usb_state.specs.State.{ShowsWorld, State}
+use Rattle.usb_model.specs.World.{new_world}
 use Rattle.usb_state.specs.Steps.{Turns}
 use Rattle.usb_purge.specs.declared.comparison.Comparison.{Comparison}
 use Rattle.usb_purge.specs.declared.plan_run.Performed.{Performed}
 use Rattle.usb_purge.specs.declared.twins.Told.{Told}
 use Rattle.usb_purge.specs.Driving.{TakesNext}
 use Rattle.usb_purge.specs.Laws.{uncut_numbers}
-use Rattle.usb_purge.specs.PlanRuns.{PlanState, Performs, ShowsStage, entries_of}
+use Rattle.usb_purge.specs.PlanRuns.{PlanState, Performs, ShowsStage, entries_of, is_verdict}
 
 -- a step and its entry
 abbrev pub place_of : Step → Entry → Place
@@ -38,6 +41,14 @@ StepsAlone false step entry own own' told told' = (own' ≡ own) × (told'.share
 -- a step was made amid the others, and where it is the handle's own, alone
 abbrev pub StepsBoth : {P : Type 0} → ℕ → Step → (core core' own own' : State P) → (told told' : Comparison) → Type 0
 StepsBoth h step core core' own own' told told' = (entry : Entry) × Turns core step entry core' × StepsAlone (is_own h (place_of step entry)) step entry own own' told told'
+
+-- steps were made by two cores over the same devices in which no name has a device open, all by the one and the handle's own by the other too: what is told of both are the handle's entries
+abbrev pub TellsBoth : {P : Type 0} → List Step → ℕ → (core own : State P) → Comparison → Type 0
+TellsBoth steps h core own told = (setup : Setup) → ShowsWorld setup core (new_world setup) → ShowsWorld setup own (new_world setup) → (told.shared ≡ entries setup steps h) × (told.alone ≡ told.shared)
+
+-- the same where the handle's own were made by a core that is new, over these devices
+abbrev pub TellsBeside : {P : Type 0} → Setup → List Step → ℕ → (core : State P) → Comparison → Type 0
+TellsBeside setup steps h core told = ShowsWorld setup core (new_world setup) → (told.shared ≡ entries setup steps h) × (told.alone ≡ told.shared)
 
 -- two runs side by side: that of a plan, and that of a handle's own pieces; and the callbacks that are left to each
 pub record TwinState (P : Type 0) : Type 0 where
@@ -96,6 +107,19 @@ module _ {P : Type 0} (rule : P → Rule) where
     pub left : v.left ≡ callbacks
     pub its : v.its ≡ others
 
+  -- both stand at the beginning of a plan: no piece was performed, and there is a callback for each submission, over the same devices and with callbacks of the same rules
+  pub record StartsBoth (setup : Setup) (plan : List Plan) (rules : List Rule) (twins : TwinState P) : Type 0 where
+    pub begins : Begins setup setup twins.left twins.its twins
+    pub under : rules ≡ map rule twins.left
+    pub again : map rule twins.its ≡ map rule twins.left
+    pub enough : length twins.left ≡ count_by is_submission plan
+    pub fixed : AllByRecursion (λ rule. rule ≢ Free) rules
+    pub no_verdict : AllByRecursion (λ piece. is_verdict piece ≡ false) plan
+
+  -- over some devices and under some rules
+  abbrev pub CanStartBoth : List Plan → (twins : TwinState P) → Type 0
+  CanStartBoth plan twins = (setup : Setup) × (rules : List Rule) × StartsBoth setup plan rules twins
+
 -- each callback stands among these entries at most once
 abbrev pub AreCalledOnce : List Entry → Type 0
 AreCalledOnce entries = (n : ℕ) → times n (numbers_called entries) ≤ 1
@@ -115,3 +139,7 @@ pub record TellsPlan (setup : Setup) (plan : List Plan) (rules : List Rule) (h :
   pub same : told.shared ≡ told.alone
   pub once : AreCalledOnce told.shared
   pub order : AreCalledInOrder told.shared
+
+-- what is told of a plan by two runs that stood at its beginning, over whichever devices and under whichever rules
+abbrev pub TellsOfBoth : {P : Type 0} → (P → Rule) → List Plan → ℕ → (twins : TwinState P) → Comparison → Type 0
+TellsOfBoth rule plan h twins told = (setup : Setup) (rules : List Rule) → StartsBoth rule setup plan rules twins → TellsPlan setup plan rules h told

@@ -5,7 +5,7 @@ ghost use Rattle.usb_model.specs.Machine.Turns.{alone};
 ghost use Rattle.usb_model.specs.World.Journal.{entries, own, world_run};
 ghost use Rattle.usb_state.specs.Making.{setup_of};
 ghost use Rattle.usb_state.specs.Steps.{Turns};
-ghost use Rattle.usb_purge.specs.Alone.{AreCalledInOrder, AreCalledOnce, StepsBoth};
+ghost use Rattle.usb_purge.specs.Alone.{AreCalledInOrder, AreCalledOnce, StepsBoth, TellsBeside, TellsBoth};
 
 use std::alloc::{AllocError, Global};
 use usb_core::{Core, Setup};
@@ -52,6 +52,41 @@ fn advance<D: Device>(
     Ok(())
 }
 
+/// Makes steps by two cores in which no name has a device open: all of them by the one, the handle's own by the other too.
+/// The cores are lent, since each way out of their owner drops them, which is dear to prove.
+fn compare<D: Device>(
+    alloc: Global,
+    core: &mut Core<(), D>,
+    own_core: &mut Core<(), D>,
+    steps: &[Step],
+    h: Name,
+) -> Result<Comparison, AllocError>
+    ensures { IfOk result (λ told. TellsBoth steps.now h core.old own_core.old told) }
+{
+    let mut told = Comparison {
+        shared: Sequence::new(alloc),
+        alone: Sequence::new(alloc),
+    };
+    for step in steps {
+        advance(core, own_core, h, step, &mut told)?;
+    }
+    Ok(told)
+}
+
+/// The same by a core that is lent and one over a setup of its own.
+fn beside<D: Device>(
+    alloc: Global,
+    core: &mut Core<(), D>,
+    apart: Setup<D>,
+    steps: &[Step],
+    h: Name,
+) -> Result<Comparison, AllocError>
+    ensures { IfOk result (λ told. TellsBeside (setup_of apart) steps.now h core.old told) }
+{
+    let mut own_core = Core::new(alloc, apart)?;
+    compare(alloc, core, &mut own_core, steps, h)
+}
+
 /// A handle's entries amid the others, and alone over its own steps, each by a core: two setups of the same devices, one
 /// for each. A step is the handle's own where its entry is the handle's and doesn't say that another held an interface;
 /// an Unplug is each handle's own. Both lists are the same, and those of the definitions' machine of this one handle.
@@ -71,13 +106,5 @@ pub fn alone<D: Device>(
     ensures order { IfOk result (λ c. AreCalledInOrder c.shared) }
 {
     let mut core = Core::new(alloc, shared)?;
-    let mut own_core = Core::new(alloc, apart)?;
-    let mut told = Comparison {
-        shared: Sequence::new(alloc),
-        alone: Sequence::new(alloc),
-    };
-    for step in steps {
-        advance(&mut core, &mut own_core, h, step, &mut told)?;
-    }
-    Ok(told)
+    beside(alloc, &mut core, apart, steps, h)
 }

@@ -5,7 +5,7 @@ ghost use Rattle.std.specs.List.{AllByRecursion, count_by};
 ghost use Rattle.usb_model.specs.declared.verdict.Rule.TheVariants.{Free};
 ghost use Rattle.usb_model.specs.World.Plans.{is_submission};
 ghost use Rattle.usb_state.specs.Making.{setup_of};
-ghost use Rattle.usb_purge.specs.Alone.{AdvancesBoth, AreLeft, Begins, Compares, PerformsTwice, TellsPlan, is_own_by};
+ghost use Rattle.usb_purge.specs.Alone.{AdvancesBoth, AreLeft, Begins, CanStartBoth, Compares, PerformsTwice, TellsOfBoth, TellsPlan, is_own_by};
 ghost use Rattle.usb_purge.specs.PlanRuns.{entries_of, is_verdict};
 
 use crate::comparison::Comparison;
@@ -152,6 +152,27 @@ fn compare<C: Callback, D: Device>(
     Ok(())
 }
 
+/// All pieces of a plan, by two runs that stand at its beginning. They are lent, since each way out of their owner drops
+/// both cores, which is dear to prove.
+fn compare_all<C: Callback, D: Device>(
+    alloc: Global,
+    twins: &mut Twins<C, D>,
+    plan: &[Plan],
+    h: Name,
+) -> Result<Comparison, AllocError>
+    requires { CanStartBoth C.rule plan.now twins.old }
+    ensures { IfOk result (λ told. TellsOfBoth C.rule plan.now h twins.old told) }
+{
+    let mut told = Comparison {
+        shared: Sequence::new(alloc),
+        alone: Sequence::new(alloc),
+    };
+    for piece in plan {
+        compare(twins, h, piece, &mut told)?;
+    }
+    Ok(told)
+}
+
 /// A handle's entries of a plan amid the others, and alone over its own pieces of the plan, each by a core and with
 /// callbacks of its own: two setups of the same devices, and two lists of callbacks of the same rules, of which none is
 /// Free; each has one for each submission of the whole plan, in order. A step is the handle's own where its entry is the
@@ -176,12 +197,5 @@ pub fn drive_alone<C: Callback, D: Device>(
     ensures { IfOk result (λ told. TellsPlan (setup_of setup) plan.now (map C.rule callbacks.items) h told) }
 {
     let mut twins = Twins::new(alloc, setup, other_setup, callbacks, other_callbacks)?;
-    let mut told = Comparison {
-        shared: Sequence::new(alloc),
-        alone: Sequence::new(alloc),
-    };
-    for piece in plan {
-        compare(&mut twins, h, piece, &mut told)?;
-    }
-    Ok(told)
+    compare_all(alloc, &mut twins, plan, h)
 }

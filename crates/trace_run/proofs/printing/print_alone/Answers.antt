@@ -1,7 +1,8 @@
 -- The runs were made for the plan.
 use Rattle.std.specs.Prelude.{map}
 use Rattle.usb_state.specs.Making.{setup_of}
-use Rattle.trace_run.proofs.Printed.{of_both, starts_both}
+use Rattle.usb_purge.proofs.BothRuns.{starts_both}
+use Rattle.trace_run.proofs.Printed.{of_both}
 use Rattle.trace_run.proofs.printing.print_alone.Goals as goal
 
 pub print_twins-requires : goal.print_twins-requires

@@ -1,35 +1,43 @@
--- A step further each turn.
-use Rattle.std.proofs.Common.{sym, ◌∙◌, subst}
-use Rattle.usb_model.specs.World.{new_world}
+-- Both runs begin over the same devices.
+use Rattle.std.proofs.Common.{◌≡◌, sym, ◌∙◌}
+use Rattle.usb_model.specs.Machine.Turns.{alone}
+use Rattle.usb_model.specs.World.Journal.{entries, own, world_run}
 use Rattle.usb_state.specs.Making.{setup_of}
-use Rattle.usb_state.specs.State.{ShowsWorld}
 use Rattle.usb_lemmas.proofs.Handles.Alone.{runs_alone}
 use Rattle.usb_lemmas.proofs.Handles.Isolation.{sees_alone}
-use Rattle.usb_purge.proofs.Apart.{all_told, entries_in_order, entries_once, none_yet, one_more}
+use Rattle.usb_purge.specs.Alone.{AreCalledInOrder, AreCalledOnce}
+use Rattle.usb_purge.proofs.Apart.{entries_in_order, entries_once, on_told}
 use Rattle.usb_purge.proofs.comparison.alone.Goals as goal
 
-pub loop-step-init : goal.loop-step-init
-loop-step-init g c = rw (c.new-3.ensures, c.new-4.ensures)
-    (none_yet (setup_of c.args.shared) c.args.steps.now c.args.h c.in_ok-core.core c.in_ok-own_core.own_core c.in_ok-core.ensures.shows
-    (subst (λ setup. ShowsWorld setup c.in_ok-own_core.own_core (new_world setup)) c.requires c.in_ok-own_core.ensures.shows))
-
-pub loop-step-preserved : goal.loop-step-preserved
-loop-step-preserved g c = one_more (setup_of c.args.shared) c.args.steps.now c.args.h c.loop-step.core c.advance.new.core c.loop-step.own_core c.advance.new.own_core c.loop-step.told c.advance.new.told c.loop-step.step-index c.step-item.result c.loop-step-test.true c.step-item.is c.loop-step.invariant c.in_ok-advance.ensures
-
 pub returns-clause-shared : goal.returns-clause-shared
-returns-clause-shared g c = all_told (setup_of c.args.shared) c.args.steps.now c.args.h c.loop-step.core c.loop-step.own_core c.loop-step.told.shared c.loop-step.told.alone c.loop-step.step-index c.loop-step-test.false c.loop-step.invariant
+returns-clause-shared g c =
+    let setup = setup_of c.args.shared in
+    on_told (λ told. told.shared ≡ entries setup c.args.steps.now c.args.h) c.beside.result (setup_of c.args.apart) setup c.args.steps.now c.args.h c.in_ok-core.core c.requires c.in_ok-core.ensures.shows c.beside.ensures
+    (λ told shared same. shared)
 
 pub returns-clause-same : goal.returns-clause-same
-returns-clause-same g c = sym c.loop-step.invariant.same
+returns-clause-same g c =
+    on_told (λ told. told.shared ≡ told.alone) c.beside.result (setup_of c.args.apart) (setup_of c.args.shared) c.args.steps.now c.args.h c.in_ok-core.core c.requires c.in_ok-core.ensures.shows c.beside.ensures
+    (λ told shared same. sym same)
 
 pub returns-clause-alone : goal.returns-clause-alone
-returns-clause-alone g c = c.loop-step.invariant.same ∙ (returns-clause-shared g c ∙ sees_alone (setup_of c.args.shared) c.args.steps.now c.args.h)
+returns-clause-alone g c =
+    let setup = setup_of c.args.shared in
+    on_told (λ told. told.alone ≡ alone setup (own setup c.args.steps.now c.args.h) c.args.h) c.beside.result (setup_of c.args.apart) setup c.args.steps.now c.args.h c.in_ok-core.core c.requires c.in_ok-core.ensures.shows c.beside.ensures
+    (λ told shared same. same ∙ (shared ∙ sees_alone setup c.args.steps.now c.args.h))
 
 pub returns-clause-runs : goal.returns-clause-runs
-returns-clause-runs g c = c.loop-step.invariant.same ∙ (returns-clause-shared g c ∙ sym (runs_alone (setup_of c.args.shared) c.args.steps.now c.args.h))
+returns-clause-runs g c =
+    let setup = setup_of c.args.shared in
+    on_told (λ told. told.alone ≡ world_run setup (own setup c.args.steps.now c.args.h)) c.beside.result (setup_of c.args.apart) setup c.args.steps.now c.args.h c.in_ok-core.core c.requires c.in_ok-core.ensures.shows c.beside.ensures
+    (λ told shared same. same ∙ (shared ∙ sym (runs_alone setup c.args.steps.now c.args.h)))
 
 pub returns-clause-once : goal.returns-clause-once
-returns-clause-once g c = entries_once (setup_of c.args.shared) c.args.steps.now c.args.h c.loop-step.told.shared (returns-clause-shared g c)
+returns-clause-once g c =
+    on_told (λ told. AreCalledOnce told.shared) c.beside.result (setup_of c.args.apart) (setup_of c.args.shared) c.args.steps.now c.args.h c.in_ok-core.core c.requires c.in_ok-core.ensures.shows c.beside.ensures
+    (λ told shared same. entries_once (setup_of c.args.shared) c.args.steps.now c.args.h told.shared shared)
 
 pub returns-clause-order : goal.returns-clause-order
-returns-clause-order g c = entries_in_order (setup_of c.args.shared) c.args.steps.now c.args.h c.loop-step.told.shared (returns-clause-shared g c)
+returns-clause-order g c =
+    on_told (λ told. AreCalledInOrder told.shared) c.beside.result (setup_of c.args.apart) (setup_of c.args.shared) c.args.steps.now c.args.h c.in_ok-core.core c.requires c.in_ok-core.ensures.shows c.beside.ensures
+    (λ told shared same. entries_in_order (setup_of c.args.shared) c.args.steps.now c.args.h told.shared shared)
