@@ -21,8 +21,8 @@ use Rattle.usb_streams.specs.Printing.{AppendsAllBut, AppendsSome}
 use Rattle.usb_streams.proofs.Beginnings.{gathered_further, kept, some_behind, some_further, some_of_front, whole}
 use Rattle.usb_text.specs.StepLines.{numbered}
 use Rattle.usb_text.specs.declared.lined.NumberedLine.{NumberedLine}
-use Rattle.trace_run.specs.Printed.{BeginsPiece, PrintsPiece, PrintsText}
-use Rattle.trace_run.specs.Stepwise.{piece_text, stepwise_from}
+use Rattle.trace_run.specs.Printed.{BeginsPiece, PrintsPiece, PrintsText, StartsPlan}
+use Rattle.trace_run.specs.Stepwise.{PrintsSteps, piece_text, stepwise_from, stepwise_text}
 use Rattle.trace_run.specs.declared.printing.Reach.{Reach}
 use Rattle.trace_run.specs.declared.printing.Reach.TheVariants.{End, NoMemory}
 
@@ -196,3 +196,14 @@ module _ {P : Type 0} (rule : P → Rule) (setup : Setup) (plan : List Plan) (to
 pub line_first : (lines : List NumberedLine) (i n : ℕ) (line : ℕ × List ℕ) → i < n → length lines ≡ n → line ≡ slice_index_or (map numbered lines) i (0, []) → drop i (map numbered lines) ≡ line ∷ drop (i + 1) (map numbered lines)
 line_first lines i n line within each is =
     drop_more (map numbered lines) i (0, []) (subst (λ k. i < k) (sym (length-map lines numbered ∙ each)) within) ∙ ap (λ x. x ∷ drop (i + 1) (map numbered lines)) (sym is)
+
+module _ {P : Type 0} {E : Type 0} (rule : P → Rule) (plan : List Plan) (lines : List (ℕ × List ℕ)) (run : PlanState P) (left : List P) (old new : Option (List ℕ)) where
+  -- what is printed over each setup and under all rules for which the run stands at the plan's beginning
+  pub each_start : (result : Result Reach E) → ((setup : Setup) (rules : List Rule) → StartsPlan rule setup plan rules run left → IfOk result (λ r. PrintsText r (stepwise_text setup plan rules lines) old new)) → IfOk result (λ r. PrintsSteps rule r plan lines run left old new)
+  each_start (Ok r) each = each
+  each_start (Err e) each = tt
+
+  -- and so for these
+  pub of_start : (result : Result Reach E) (setup : Setup) (rules : List Rule) → StartsPlan rule setup plan rules run left → IfOk result (λ r. PrintsSteps rule r plan lines run left old new) → IfOk result (λ r. PrintsText r (stepwise_text setup plan rules lines) old new)
+  of_start (Ok r) setup rules starts said = said setup rules starts
+  of_start (Err e) setup rules starts said = tt

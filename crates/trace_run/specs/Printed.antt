@@ -84,6 +84,10 @@ module _ {P : Type 0} (rule : P → Rule) where
     pub fixed : AllByRecursion (λ rule. rule ≢ Free) rules
     pub no_verdict : AllByRecursion (λ piece. is_verdict piece ≡ false) plan
 
+  -- of a run no piece was performed: it shows the first stage of some devices
+  abbrev pub IsNew : (run : PlanState P) → Type 0
+  IsNew run = (setup : Setup) × ((rules : List Rule) → ShowsStage rule setup run (first_stage setup rules))
+
   -- a run stands at the beginning of a plan, over some devices and under some rules
   abbrev pub CanStart : List Plan → (run : PlanState P) → (left : List P) → Type 0
   CanStart plan run left = (setup : Setup) × (rules : List Rule) × StartsPlan setup plan rules run left

@@ -1,5 +1,5 @@
 -- What a run prints step by step: each entry behind the line of its step.
-use Rattle.std.specs.Prelude.{◌++◌, ℕ, List, [], ◌∷◌, codes}
+use Rattle.std.specs.Prelude.{◌++◌, ℕ, List, [], ◌∷◌, Option, codes}
 use Rattle.std.specs.Fmt.{decimal}
 use Rattle.std.specs.List.{flat_map}
 use Rattle.usb_model.specs.declared.entry.Entry.{Entry}
@@ -9,6 +9,10 @@ use Rattle.usb_model.specs.Text.{entry_text}
 use Rattle.usb_model.specs.Setup.{Setup}
 use Rattle.usb_model.specs.World.Journal.{run_from}
 use Rattle.usb_model.specs.World.Plans.{Stage, first_stage, stage_after, steps_of}
+use Rattle.usb_purge.specs.PlanRuns.{PlanState}
+use Rattle.usb_streams.specs.Printing.{AppendsSome}
+use Rattle.trace_run.specs.Printed.{PrintsText, StartsPlan}
+use Rattle.trace_run.specs.declared.printing.Reach.{Reach}
 
 -- an entry behind a line: the line's number, the line, and the entry
 abbrev pub behind_line : ℕ × List ℕ → Entry → List ℕ
@@ -28,3 +32,12 @@ stepwise_from setup s (piece ∷ plan) (line ∷ lines) =
 -- the entries of a plan under these rules, each behind the line of its piece
 abbrev pub stepwise_text : Setup → List Plan → List Rule → List (ℕ × List ℕ) → List ℕ
 stepwise_text setup plan rules lines = stepwise_from setup (first_stage setup rules) plan lines
+
+-- a run stands at the beginning of a plan, over whichever devices and under whichever rules: what is printed of it is this text as far as the run came
+module _ {P : Type 0} (rule : P → Rule) where
+  abbrev pub PrintsSteps : Reach → List Plan → List (ℕ × List ℕ) → (run : PlanState P) → (left : List P) → (old new : Option (List ℕ)) → Type 0
+  PrintsSteps reach plan lines run left old new = (setup : Setup) (rules : List Rule) → StartsPlan rule setup plan rules run left → PrintsText reach (stepwise_text setup plan rules lines) old new
+
+  -- or a beginning of it
+  abbrev pub BeginsSteps : List Plan → List (ℕ × List ℕ) → (run : PlanState P) → (left : List P) → (old new : Option (List ℕ)) → Type 0
+  BeginsSteps plan lines run left old new = (setup : Setup) (rules : List Rule) → StartsPlan rule setup plan rules run left → AppendsSome (stepwise_text setup plan rules lines) old new

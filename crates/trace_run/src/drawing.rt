@@ -2,10 +2,13 @@
 
 ghost use Rattle.std.specs.Prelude.{◌≡◌, false, length};
 ghost use Rattle.std.specs.List.{AllByRecursion, count_by};
+ghost use Rattle.std.specs.Vec.Iter.{into_iter_items};
 ghost use Rattle.usb_model.specs.World.Plans.{is_submission};
 ghost use Rattle.usb_purge.specs.PlanRuns.{is_verdict};
+ghost use Rattle.trace_run.specs.Printed.{IsNew};
 
 use std::alloc::{AllocError, Global};
+use std::vec::IntoIter;
 use usb_callback::Callback;
 use usb_core::Setup;
 use usb_device::Device;
@@ -33,6 +36,26 @@ fn tell<C>(
     }
 }
 
+/// Performs the pieces of a plan that stands at its beginning, and draws them. The run is lent, since each way out of its
+/// owner drops the core, which is dear to prove.
+fn draw_all<C: Callback, D: Device>(
+    run: &mut PlanRun<C, D>,
+    left: &mut IntoIter<C>,
+    plan: &[Plan],
+    drawing: &mut Drawing,
+) -> Result<(), AllocError>
+    requires new { IsNew C.rule run.old }
+    requires callbacks { length (into_iter_items left.old) ≡ count_by is_submission plan.now }
+    requires no_verdict { AllByRecursion (λ piece. is_verdict piece ≡ false) plan.now }
+{
+    for piece in plan {
+        let callback = next_callback(piece, left);
+        let performed = run.perform(piece, callback)?;
+        tell(drawing, piece, &performed)?;
+    }
+    Ok(())
+}
+
 /// The drawing of a plan's run over the core. An error where memory is refused.
 pub fn draw<C: Callback, D: Device>(
     alloc: Global,
@@ -46,10 +69,6 @@ pub fn draw<C: Callback, D: Device>(
     let mut run = PlanRun::new(alloc, setup)?;
     let mut left = callbacks.into_iter();
     let mut drawing = Drawing::new(alloc);
-    for piece in plan {
-        let callback = next_callback(piece, &mut left);
-        let performed = run.perform(piece, callback)?;
-        tell(&mut drawing, piece, &performed)?;
-    }
+    draw_all(&mut run, &mut left, plan, &mut drawing)?;
     Ok(drawing)
 }

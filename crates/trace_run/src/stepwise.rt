@@ -2,6 +2,7 @@
 
 ghost use Rattle.std.specs.Prelude.{◌≡◌, ◌≢◌, ◌<◌, ◌++◌, [], true, false, length, map, is_some, slice_index_or, IfErr, IfOk, OnErr};
 ghost use Rattle.std.specs.List.{AllByRecursion, count_by};
+ghost use Rattle.std.specs.Vec.Iter.{into_iter_items};
 ghost use Rattle.usb_model.specs.declared.verdict.Rule.TheVariants.{Free};
 ghost use Rattle.usb_model.specs.World.Plans.{is_submission};
 ghost use Rattle.usb_state.specs.Making.{setup_of};
@@ -9,12 +10,13 @@ ghost use Rattle.usb_purge.specs.PlanRuns.{entries_of, is_verdict};
 ghost use Rattle.usb_streams.specs.Faults.{IsOfRun};
 ghost use Rattle.usb_streams.specs.Printing.{AppendsSome};
 ghost use Rattle.usb_text.specs.StepLines.{numbered};
-ghost use Rattle.trace_run.specs.Printed.{BeginsPiece, PrintsPiece, PrintsText, Puts};
-ghost use Rattle.trace_run.specs.Stepwise.{behind_line, piece_text, stepwise_text};
+ghost use Rattle.trace_run.specs.Printed.{BeginsPiece, CanStart, PrintsPiece, PrintsText, Puts};
+ghost use Rattle.trace_run.specs.Stepwise.{behind_line, piece_text, stepwise_text, BeginsSteps, PrintsSteps};
 
 use crate::printing::{Parts, Reach, write_rest};
 use std::alloc::{AllocError, Global};
 use std::io::Write;
+use std::vec::IntoIter;
 use usb_callback::Callback;
 use usb_device::Device;
 use usb_model::{Entry, Plan};
@@ -112,6 +114,34 @@ fn line_of<'a>(step_lines: &[NumberedLine<'a>], at: usize) -> (u64, &'a [u8])
     (number, text)
 }
 
+/// Performs the pieces of a plan that stands at its beginning, and prints their entries as far as the run comes, each behind
+/// its piece's line. The run is lent, since each way out of its owner drops the core, which is dear to prove.
+fn print_steps<C: Callback, D: Device, W: Write>(
+    alloc: Global,
+    run: &mut PlanRun<C, D>,
+    left: &mut IntoIter<C>,
+    plan: &[Plan],
+    step_lines: &[NumberedLine<'_>],
+    out: &mut W,
+) -> Result<Reach, Fault>
+    requires each { length step_lines.now ≡ length plan.now }
+    requires start { CanStart C.rule plan.now run.old (into_iter_items left.old) }
+    ensures lines { IfOk result (λ reach. PrintsSteps C.rule reach plan.now (map numbered step_lines.now) run.old (into_iter_items left.old) (W.contents out.old) (W.contents out.new)) }
+    ensures begun { BeginsSteps C.rule plan.now (map numbered step_lines.now) run.old (into_iter_items left.old) (W.contents out.old) (W.contents out.new) }
+    ensures fault { IfErr result (λ fault. IsOfRun fault) }
+{
+    let mut lines = Lines::new(alloc);
+    for (at, piece) in plan.iter().enumerate() {
+        let (number, text) = line_of(step_lines, at);
+        let callback = next_callback(piece, left);
+        match print_behind(alloc, run, piece, callback, number, text, &mut lines, out)? {
+            Reach::End => {}
+            Reach::NoMemory => return write_rest(lines, out, Reach::NoMemory),
+        }
+    }
+    write_rest(lines, out, Reach::End)
+}
+
 /// Prints the entries of a plan as far as its run over the core comes, each behind its piece's line: there is a line
 /// for each piece, in order.
 pub fn print_stepwise<C: Callback, D: Device, W: Write>(
@@ -132,16 +162,5 @@ pub fn print_stepwise<C: Callback, D: Device, W: Write>(
     let Parts { setup, callbacks } = parts;
     let mut run = PlanRun::new(alloc, setup)?;
     let mut left = callbacks.into_iter();
-    let mut lines = Lines::new(alloc);
-    for (at, piece) in plan.iter().enumerate() {
-        let (number, text) = line_of(step_lines, at);
-        let callback = next_callback(piece, &mut left);
-        match print_behind(
-            alloc, &mut run, piece, callback, number, text, &mut lines, out,
-        )? {
-            Reach::End => {}
-            Reach::NoMemory => return write_rest(lines, out, Reach::NoMemory),
-        }
-    }
-    write_rest(lines, out, Reach::End)
+    print_steps(alloc, &mut run, &mut left, plan, step_lines, out)
 }
