@@ -1,7 +1,7 @@
 # `make run` builds the program unproved, and shows the README's example; `make build` proves it; `make test` is the gate.
 # `make fmt` lays all files out, which the gate asks for; `make bench` prints nanoseconds, `make bench_threads` those of
-# threads; `make wrong_bodies` tries those
-# that the gate leaves out; `make plant` makes definitions wrong, and says what refuses that.
+# threads; `make wrong_bodies` tries those that the gate leaves out; `make plant` makes definitions wrong, and says what
+# refuses that.
 
 SCENARIO = examples/cancel_amid_transfer.txt
 
@@ -27,20 +27,18 @@ fmt:
 	@for crate in crates/*; do (cd $$crate && rt fmt); done
 	@rustfmt --edition 2021 bench/main.rs
 
-bench: bench/out/bench
-	@bench/out/bench
+bench: bin/bench
+	@bin/bench
 
-bench_threads: bench/out/bench
-	@bench/out/bench threads
+bench_threads: bin/bench
+	@bin/bench threads
 
-# The kit proves and builds the library's side, and its C part gives that memory; rustc builds the harness and the plain
-# forms, for the same processor.
-bench/out/bench: always
-	@cd crates/check_bench && rt lib
-	@cd crates/check_load && rt run
-	@mkdir -p bench/out
-	rustc -O --edition 2021 -C target-cpu=x86-64-v2 bench/main.rs -o $@ \
-		-L native=crates/check_bench/out -l static=check_bench -L native=$(KIT)/c -l static=libc_c
+# The library's side is proved and built as the gate does; rustc builds the harness and the plain forms, for the same processor.
+# The kit's C part gives both sides their memory.
+bin/bench: always
+	@tools/program.py build check_bench check_load
+	@rustc -O --edition 2021 -C target-cpu=x86-64-v2 bench/main.rs -o $@ \
+		-L native=bin -l static=check_bench -L native=$(KIT)/c -l static=libc_c
 
 wrong_bodies:
 	tools/wrong_bodies.py try

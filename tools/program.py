@@ -1,10 +1,11 @@
 #!/usr/bin/env python3
-"""The program usbtrace as bin/usbtrace, so that each scenario takes milliseconds.
+"""Crates that people use, built into bin/: the program usbtrace as bin/usbtrace, so that each scenario takes milliseconds.
 
-    tools/program.py try      builds it unproved, in one build, where its files changed: a minute or two
-    tools/program.py build    builds it proved, as the gate does, crate beside crate: what isn't kept on this machine is proved
-    tools/program.py keep     takes the one that the gate has just proved and built
-    tools/program.py state    says which build stands there, on standard error
+    tools/program.py try              builds usbtrace unproved, in one build, where its files changed: a minute or two
+    tools/program.py build            builds it proved, as the gate does, crate beside crate: what isn't kept on this machine is proved
+    tools/program.py build NAME ..    the same of other crates: a program as bin/NAME, a static library as bin/libNAME.a
+    tools/program.py keep             takes the usbtrace that the gate has just proved and built
+    tools/program.py state            says which usbtrace stands there, on standard error
 
 An unproved build has the same code with checks: it stops at an index out of bounds or an overflow."""
 import hashlib
@@ -19,10 +20,10 @@ import threading
 import time
 
 ROOT = pathlib.Path(__file__).resolve().parent.parent
+BIN = ROOT / "bin"
 CRATE = ROOT / "crates" / "usbtrace"
-PROGRAM = ROOT / "bin" / "usbtrace"
-# How PROGRAM was built: a word, and the sum of its files.
-STATE = ROOT / "bin" / "usbtrace.state"
+# The kit: the folder above that of `rt`.
+KIT = pathlib.Path(shutil.which("rt") or "rt").resolve().parent.parent
 # How often, in seconds, the folder of an unproved build is looked at for the program: it is gone when the build ends.
 LOOK = 0.002
 
@@ -48,34 +49,47 @@ def below(name, known):
     return found
 
 
-def sum_of_files():
-    """A sum of all that the program is made of."""
+def sum_of_files(name):
+    """A sum of all that a crate is made of."""
     known, made = uses(), hashlib.sha256()
-    for name in sorted(below("usbtrace", known)):
-        made.update(known[name][0].encode())
+    for it in sorted(below(name, known)):
+        made.update(known[it][0].encode())
         for part in ("src", "specs", "proofs"):
-            for path in sorted((ROOT / "crates" / name / part).rglob("*")):
+            for path in sorted((ROOT / "crates" / it / part).rglob("*")):
                 if path.is_file():
                     made.update(str(path.relative_to(ROOT)).encode() + b"\0" + path.read_bytes())
     return made.hexdigest()
 
 
-def state():
-    """How the program that stands there was built, if it is that of today's files."""
-    if not PROGRAM.is_file() or not STATE.is_file():
+def is_static(name, known):
+    """Whether a crate is a static library."""
+    return "staticlib" in known[name][0].partition(":")[0].split()
+
+
+def place(name):
+    """Where a crate's build goes, and where it is noted how it was built: a word, and the sum of its files."""
+    built = BIN / (f"lib{name}.a" if is_static(name, uses()) else name)
+    return built, BIN / f"{built.name}.state"
+
+
+def state(name):
+    """How the build that stands there was made, if it is that of today's files."""
+    built, noted = place(name)
+    if not built.is_file() or not noted.is_file():
         return None
-    how, _, made_of = STATE.read_text().partition(" ")
-    return how if made_of.strip() == sum_of_files() else None
+    how, _, made_of = noted.read_text().partition(" ")
+    return how if made_of.strip() == sum_of_files(name) else None
 
 
-def keep(program, how, made_of):
-    """Puts a program in its place, whole or not at all."""
-    PROGRAM.parent.mkdir(exist_ok=True)
-    new = PROGRAM.with_suffix(".new")
-    shutil.copyfile(program, new)
+def keep(name, file, how, made_of):
+    """Puts a build in its place, whole or not at all."""
+    built, noted = place(name)
+    BIN.mkdir(exist_ok=True)
+    new = BIN / f"{built.name}.new"
+    shutil.copyfile(file, new)
     new.chmod(0o755)
-    new.replace(PROGRAM)
-    STATE.write_text(f"{how} {made_of}\n")
+    new.replace(built)
+    noted.write_text(f"{how} {made_of}\n")
 
 
 class Watch(threading.Thread):
@@ -104,9 +118,9 @@ class Watch(threading.Thread):
 
 def build_unproved():
     """The unproved program, where another isn't there already."""
-    if state():
+    if state("usbtrace"):
         return 0
-    made_of = sum_of_files()
+    made_of = sum_of_files("usbtrace")
     with tempfile.TemporaryDirectory(prefix="usbtrace-") as folder:
         watch = Watch(folder)
         watch.start()
@@ -120,53 +134,73 @@ def build_unproved():
             sys.stderr.write(ran.stdout + ran.stderr)
             print("usbtrace isn't built: see above", file=sys.stderr)
             return 1
-        keep(watch.found, "unproved", made_of)
+        keep("usbtrace", watch.found, "unproved", made_of)
     return 0
 
 
-def copy_below(folder):
-    """Copies the program's crates, without wrong bodies and tests, into a repository of their own."""
+def copy_below(name, folder, leaves_out):
+    """Copies a crate and those that it stands on, without wrong bodies and tests, into a repository of their own."""
     known = uses()
-    names = below("usbtrace", known)
-    for name in names:
-        leave = shutil.ignore_patterns("out", "must-fail", *(["tests", "tests.rt"] if name == "usbtrace" else []))
-        shutil.copytree(ROOT / "crates" / name, folder / "crates" / name, ignore=leave)
-    main = folder / "crates" / "usbtrace" / "src" / "main.rt"
-    main.write_text(re.sub(r"#\[cfg\(test\)\]\nmod tests;\n\n?", "", main.read_text()))
-    (folder / "crates.txt").write_text("".join(line + "\n" for name, (line, _) in known.items() if name in names))
+    names = below(name, known) - leaves_out
+    for it in names:
+        leave = shutil.ignore_patterns("out", "must-fail", *(["tests", "tests.rt"] if it == "usbtrace" else []))
+        shutil.copytree(ROOT / "crates" / it, folder / "crates" / it, ignore=leave)
+        main = folder / "crates" / it / "src" / "main.rt"
+        if main.is_file():
+            main.write_text(re.sub(r"#\[cfg\(test\)\]\nmod tests;\n\n?", "", main.read_text()))
+    (folder / "crates.txt").write_text("".join(line + "\n" for it, (line, _) in known.items() if it in names))
     shutil.copyfile(ROOT / "HANDLES", folder / "HANDLES")
     (folder / ".git").mkdir()
 
 
-def build():
-    """The proved program."""
-    if state() == "proved":
+def prove_static(name, folder):
+    """Proves and builds a static library over the libraries that were built below a folder: 0, or the prover's status."""
+    known = uses()
+    used, all_below = known[name][1], below(name, known) - {name}
+    library = lambda it: folder / "crates" / it / "out" / "rlib" / f"{it}.rlib"
+    words = [KIT / "bin" / "rattle", "build", "--crate-name", name, "--crate-type", "staticlib", "src/lib.rt"]
+    for it in ["std", *(it for it in used if it not in known)]:
+        words += ["--extern", f"{it}={KIT}/rlibs/{it}.rlib"]
+    for it in used:
+        words += ["--extern", f"{it}={library(it)}"] * (it in known)
+    for it in [KIT / "rlibs", *(library(it).parent for it in sorted(all_below))]:
+        words += ["-L", f"dependency={it}"]
+    words += ["--antt-project", KIT / "rattle" / "logic" / "antt-project.json", "--logic-built", KIT / "logic_built"]
+    words += ["--links", f"{name}=", "--jobs", "1", "--toolchain", KIT / "toolchain", "-o", folder / f"lib{name}.a"]
+    return subprocess.run(words, cwd=ROOT / "crates" / name, stdout=sys.stderr).returncode
+
+
+def build(name):
+    """A proved crate, where it isn't there already."""
+    if state(name) == "proved":
         return 0
-    made_of = sum_of_files()
-    with tempfile.TemporaryDirectory(prefix="usbtrace-") as folder:
+    made_of, static = sum_of_files(name), is_static(name, uses())
+    with tempfile.TemporaryDirectory(prefix=f"{name}-") as folder:
         folder = pathlib.Path(folder)
-        copy_below(folder)
+        copy_below(name, folder, {name} if static else set())
         env = {**os.environ, "RT_JOBS": str(os.cpu_count())}
-        ran = subprocess.run(["rt", "ci"], cwd=folder, env=env)
-        if ran.returncode:
-            return ran.returncode
-        keep(folder / "crates" / "usbtrace" / "out" / "usbtrace", "proved", made_of)
-    print("bin/usbtrace is proved", file=sys.stderr)
+        status = subprocess.run(["rt", "ci"], cwd=folder, env=env, stdout=sys.stderr).returncode
+        if static:
+            status = status or prove_static(name, folder)
+        if status:
+            return status
+        keep(name, folder / f"lib{name}.a" if static else folder / "crates" / name / "out" / name, "proved", made_of)
+    print(f"{place(name)[0].relative_to(ROOT)} is proved", file=sys.stderr)
     return 0
 
 
 def take_from_gate():
-    """The program that the gate has just built."""
+    """The usbtrace that the gate has just built."""
     built = CRATE / "out" / "usbtrace"
     if not built.is_file():
         print("there is no crates/usbtrace/out/usbtrace: the gate builds it", file=sys.stderr)
         return 1
-    keep(built, "proved", sum_of_files())
+    keep("usbtrace", built, "proved", sum_of_files("usbtrace"))
     return 0
 
 
 def tell():
-    how = state()
+    how = state("usbtrace")
     if how == "unproved":
         print("bin/usbtrace is an unproved build; `make build` proves it", file=sys.stderr)
     elif how is None:
@@ -174,14 +208,19 @@ def tell():
     return 0
 
 
-WORDS = {"try": build_unproved, "build": build, "keep": take_from_gate, "state": tell}
-
-
 def main(words):
-    if len(words) != 1 or words[0] not in WORDS:
-        print(__doc__)
-        return 2
-    return WORDS[words[0]]()
+    plain = {"try": build_unproved, "keep": take_from_gate, "state": tell}
+    if len(words) == 1 and words[0] in plain:
+        return plain[words[0]]()
+    if words[:1] == ["build"]:
+        names = words[1:] or ["usbtrace"]
+        strange = [it for it in names if it not in uses()]
+        if strange:
+            print(f"crates.txt has no {strange[0]}", file=sys.stderr)
+            return 2
+        return next((status for it in names if (status := build(it))), 0)
+    print(__doc__)
+    return 2
 
 
 sys.exit(main(sys.argv[1:]))
