@@ -4,8 +4,9 @@ must-fail/NAME.edit.
 
     tools/wrong_bodies.py fit             says which of them fit their files no more; seconds, and the gate asks it
     tools/wrong_bodies.py try [CRATE ..]  has the prover refuse each, in a copy of the repository beside it: half a minute
-                                          each, and that of the crates below first, where they aren't built
+                                          each; and first proves the crates, where this machine's gate hasn't
 """
+import os
 import pathlib
 import shutil
 import subprocess
@@ -49,13 +50,20 @@ def try_all(crates):
     wanted = crates or sorted(it.name for it in KEPT.iterdir() if it.is_dir())
     with tempfile.TemporaryDirectory(prefix="wrong-bodies-") as room:
         copy = pathlib.Path(room) / "copy"
-        shutil.copytree(ROOT, copy, ignore=shutil.ignore_patterns(".git"))
+        leave = shutil.ignore_patterns(".git", "out", "bin", "must-fail")
+        shutil.copytree(ROOT, copy, ignore=leave)
         (copy / ".git").mkdir()
         for crate in wanted:
-            into = copy / "crates" / crate / "must-fail"
-            shutil.rmtree(into, ignore_errors=True)
-            shutil.copytree(KEPT / crate, into)
-        return subprocess.run(["rt", "must-fail", *wanted], cwd=copy).returncode
+            shutil.copytree(KEPT / crate, copy / "crates" / crate / "must-fail")
+        env = {**os.environ, "RT_JOBS": str(os.cpu_count())}
+        # (rt ci takes what this machine has proved before, which rt must-fail doesn't)
+        ran = subprocess.Popen(["rt", "ci", *wanted], cwd=copy, env=env, stdout=subprocess.PIPE, text=True, errors="replace")
+        bad = 0
+        for line in ran.stdout:
+            bad += "BAD EDIT" in line
+            if line.startswith(("must-fail ", "rt: ")) or "passed, " in line:
+                print(line, end="", flush=True)
+        return ran.wait() or min(bad, 1)
 
 
 def main(words):
