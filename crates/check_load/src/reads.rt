@@ -11,6 +11,7 @@ use std::thread;
 use std::thread::Threads;
 use std::time::{Clock, Duration, Instant};
 use usb_book::{Journal, Naming, Recorder, Unrecorded};
+use usb_core::Taken;
 use usb_device::{Device, TableDevice};
 use usb_library::{Caller, Library, Opening};
 use usb_model::{Refused, Returned};
@@ -44,9 +45,14 @@ impl<R: Wait, L: Naming, D: Device, J: Recorder> Seat<'_, R, L, u64, D, J> {
     /// The oldest event is handled, if there is one; the oldest result goes out, if one waits, and its callback ends.
     fn end_one(&mut self) -> Result<u64, Refused> {
         self.deliver()?;
-        let Some(taken) = self.take()? else {
-            return Ok(0);
-        };
+        match self.take()? {
+            Some(taken) => self.end(&taken),
+            None => Ok(0),
+        }
+    }
+
+    /// The callback of a result ends.
+    fn end(&mut self, taken: &Taken<u64>) -> Result<u64, Refused> {
         self.stop(taken.returned.h, taken.returned.n)?;
         Ok(weight(&taken.returned, taken.payload))
     }

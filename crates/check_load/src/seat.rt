@@ -7,6 +7,7 @@ use usb_core::Taken;
 use usb_device::Device;
 use usb_library::{Answered, Caller, Library};
 use usb_model::{DeviceNo, EpAddr, Name, Refused, Request};
+use usb_stand::submit;
 
 /// How often a thread looks whether something came about, before it gives up.
 pub const TURNS: u64 = 100_000_000;
@@ -54,16 +55,8 @@ impl<R: Wait, L: Naming, P: Drop, D: Device, J: Recorder> Seat<'_, R, L, P, D, J
     /// Submits a transfer.
     #[inline(never)]
     pub fn submit(&mut self, h: Name, request: Request, payload: P) -> Result<(), Refused> {
-        match self
-            .library
-            .submit(self.rt, self.caller, h, request, payload)
-        {
-            Ok(submitted) => match submitted.number {
-                Ok(_) => Ok(()),
-                Err(refused) => Err(refused.why),
-            },
-            Err(_) => Err(Refused::NoMem),
-        }
+        submit(self.rt, self.library, self.caller, h, request, payload)?;
+        Ok(())
     }
 
     /// The device answers one packet.

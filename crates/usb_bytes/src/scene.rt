@@ -34,8 +34,13 @@ pub struct Scene {
 /// Plays a scene. An error where another thing is told or found than it says, or where memory is refused.
 pub fn play(alloc: Global, scene: &Scene) -> Result<()> {
     let mut host = Host::new(alloc, scene.size, scene.answers)?;
-    for block in scene.blocks {
-        play_block(alloc, &mut host, block)?;
+    play_blocks(alloc, &mut host, scene.blocks)
+}
+
+/// Plays the lines of some blocks.
+fn play_blocks(alloc: Global, host: &mut Host, blocks: &[Block]) -> Result<()> {
+    for block in blocks {
+        play_block(alloc, host, block)?;
     }
     Ok(())
 }
