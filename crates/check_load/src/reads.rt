@@ -81,7 +81,7 @@ impl<R: Wait, L: Naming, D: Device, J: Recorder> Seat<'_, R, L, u64, D, J> {
     fn reads(&mut self, reader: &Reader, turns: u64) -> Result<u64, Refused> {
         let mut sum: u64 = 0;
         for turn in 0..turns {
-            if turn % ANSWERS == ANSWERS - 1 {
+            if turn > 0 && turn % ANSWERS == 0 {
                 sum = sum.wrapping_add(self.renew(reader)?);
             }
             sum = sum.wrapping_add(self.read(reader, turn.saturating_add(1))?);
