@@ -1,5 +1,8 @@
+mod AskedForDues
 mod CutPackets
 mod EndedShares
+mod ListedNumbers
+mod LivesInLines
 mod NothingChanges
 mod ReadShares
 mod SentShares

@@ -1,3 +1,4 @@
+pub mod Dues
 pub mod Nothing
 pub mod Outcomes
 pub mod Packets

@@ -1,5 +1,9 @@
 //! Small laws that show what the definitions mean. Each is the contract of a function with an empty body.
 
+ghost use Rattle.std.specs.Prelude.{ℕ, List};
+ghost use Rattle.usb_model.specs.Setup.{Setup};
+ghost use Rattle.usb_model.specs.World.Due.{Dated};
+ghost use Rattle.usb_meaning.specs.Dues.{AsksForDue};
 ghost use Rattle.usb_meaning.specs.Nothing.{NobodyChangesNothing, RefusedChangesNothing};
 ghost use Rattle.usb_meaning.specs.Outcomes.{EndsForGood, TellsOutcomes};
 ghost use Rattle.usb_meaning.specs.Packets.{CutsIntoPackets};
@@ -26,4 +30,10 @@ pub fn statuses()
 pub fn idle_and_refused()
     ensures nobody { NobodyChangesNothing }
     ensures refused { RefusedChangesNothing }
+{}
+
+/// The passing of time asks for one Expire of each transfer that is due, and for nothing else, by name and number
+/// (libusb_transfer, timeout).
+pub fn dues()
+    ensures { (setup : Setup) (book : List Dated) (moment : ℕ) → AsksForDue setup book moment }
 {}

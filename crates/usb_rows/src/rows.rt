@@ -1,7 +1,7 @@
 //! Worked rows: the definitions compute what the standards' and the library's users expect. Each is a law
 //! over definitions, the contract of a function with an empty body.
 
-ghost use Rattle.usb_rows.specs.Rows.{Prints, PrintsAlone, StepsPrint};
+ghost use Rattle.usb_rows.specs.Rows.{FallDue, Prints, PrintsAlone, StepsPrint};
 ghost use Rattle.usb_rows.specs.Rows.Transfers.{empty_scenario, bulk_in_eight_bytes, short_third_packet, short_is_not_ok, zero_length_in, zero_length_in_babble, two_transfers_in_order, seventeen_submissions, read_over_the_limit, out_with_zero_packet};
 ghost use Rattle.usb_rows.specs.Rows.Halting.{babble_then_recovery, three_babbles, stall_and_clear_halt, cancel_loses_to_stall, stall_beside_cancel};
 ghost use Rattle.usb_rows.specs.Rows.Cancelling.{cancel_amid_transfer, cancel_after_served, cancel_in_the_middle, pause_before_the_zero_packet, expire_without_timeout, cancel_then_expire, expire_then_cancel, cancel_amid_move, second_cancel_repeats_nothing, cancel_at_its_bound};
@@ -17,6 +17,7 @@ ghost use Rattle.usb_rows.specs.Rows.Devices.{two_devices_one_unplugged, four_de
 ghost use Rattle.usb_rows.specs.Rows.Answers.{broken_at_first, broken_amid_packets, broken_behind_a_cancel, stall_amid_out, stall_and_babble_amid_reads, cancel_behind_a_stall};
 ghost use Rattle.usb_rows.specs.Rows.Statuses.{every_status, every_flag};
 ghost use Rattle.usb_rows.specs.Rows.Steps.{again_with_other_bytes, again_with_bytes_for_in, write_over_the_limit, requests_of_unsupported_kinds, last_number_is_given_to_none};
+ghost use Rattle.usb_rows.specs.Rows.Dues.{two_names_at_two_devices, no_timeout_is_never_due, no_deadline_is_later, submitted_again_begins_anew, asked_already, ended_already};
 
 /// Transfers by themselves.
 pub fn transfers()
@@ -155,4 +156,14 @@ pub fn steps()
     ensures write_over_the_limit { StepsPrint write_over_the_limit }
     ensures requests_of_unsupported_kinds { StepsPrint requests_of_unsupported_kinds }
     ensures last_number_is_given_to_none { StepsPrint last_number_is_given_to_none }
+{}
+
+/// Whose time is over, at some moments (libusb_transfer, timeout).
+pub fn dues()
+    ensures two_names_at_two_devices { FallDue two_names_at_two_devices }
+    ensures no_timeout_is_never_due { FallDue no_timeout_is_never_due }
+    ensures no_deadline_is_later { FallDue no_deadline_is_later }
+    ensures submitted_again_begins_anew { FallDue submitted_again_begins_anew }
+    ensures asked_already { FallDue asked_already }
+    ensures ended_already { FallDue ended_already }
 {}
