@@ -1,12 +1,12 @@
 //! What events tell of the transfers of a line (xHCI 1.2, 4.11.3).
 
 use crate::expect::{expect, present};
-use anyhow::Result;
+use anyhow::{Result, anyhow};
 use arrayvec::ArrayVec;
 use bitflags::Flags as _;
 use usb_completion::{Placed, PlacedTrb, Reading, read_event, result};
 use usb_model::{Ask, Flags, Status};
-use usb_trb::{EndpointId, Length, Pointer, Residual, Slot, Trb, TrbKind};
+use usb_trb::{Length, TrbKind, decode};
 
 /// Plays the scenes of events.
 pub fn play<P: Print>(rt: &P) -> Result<()> {
@@ -34,21 +34,23 @@ fn in_8(address: u64) -> Result<Placed> {
     })
 }
 
-/// What the event of a TRB with this address, a residual and a code tells of a line of one read of 8 bytes.
-fn told(pointer: u64, residual: u32, code: u8) -> Result<Reading> {
+/// A Transfer Event of slot 1, endpoint id 3, with code 13 and the cycle bit set, of the first TRB of the line below: it left
+/// 5 bytes of that TRB.
+const SHORT: [u8; 16] = [0, 0x30, 2, 0x10, 0, 0, 0, 0, 5, 0, 0, 13, 1, 0x80, 3, 1];
+
+/// The same with a residual of 9, which is over the TRB's length.
+const OVER: [u8; 16] = [0, 0x30, 2, 0x10, 0, 0, 0, 0, 9, 0, 0, 13, 1, 0x80, 3, 1];
+
+/// The first again, but of the TRB one on, which isn't in the line.
+const ONE_ON: [u8; 16] = [0x10, 0x30, 2, 0x10, 0, 0, 0, 0, 5, 0, 0, 13, 1, 0x80, 3, 1];
+
+/// What an event tells of a line of one read of 8 bytes.
+fn told(bytes: &[u8; 16]) -> Result<Reading> {
+    let event = decode(bytes)?;
+    if !matches!(event.kind, TrbKind::TransferEvent { .. }) {
+        return Err(anyhow!("no Transfer Event"));
+    }
     let line = [in_8(0x1002_3000)?];
-    let slot = present(Slot::new(1), "slot 1")?;
-    let id = present(EndpointId::new(3), "endpoint id 3")?;
-    let event = Trb {
-        kind: TrbKind::TransferEvent {
-            pointer: Pointer::before(pointer),
-            residual: Residual::low(residual),
-            code,
-            slot,
-            id,
-        },
-        cycle: true,
-    };
     Ok(read_event(&event, &line))
 }
 
@@ -59,7 +61,7 @@ fn short_packet() -> Result<()> {
         status: Status::Completed,
         actual: 3,
     };
-    let found = told(0x1002_3000, 5, 13)?;
+    let found = told(&SHORT)?;
     expect(
         found == wanted,
         "residual of 5",
@@ -67,9 +69,9 @@ fn short_packet() -> Result<()> {
     )
 }
 
-/// An event of this pointer and residual is stray.
-fn is_stray(pointer: u64, residual: u32) -> Result<()> {
-    let found = told(pointer, residual, 13)?;
+/// An event is stray.
+fn is_stray(bytes: &[u8; 16]) -> Result<()> {
+    let found = told(bytes)?;
     expect(
         found == Reading::Stray,
         "a stray event",
@@ -79,8 +81,8 @@ fn is_stray(pointer: u64, residual: u32) -> Result<()> {
 
 /// A residual over the length is stray, and so is a pointer one TRB on.
 fn strays() -> Result<()> {
-    is_stray(0x1002_3000, 9)?;
-    is_stray(0x1002_3010, 5)
+    is_stray(&OVER)?;
+    is_stray(&ONE_ON)
 }
 
 /// The status of a read of 8 bytes of which 3 moved, and in which a short packet is an error.

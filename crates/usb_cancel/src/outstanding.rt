@@ -1,7 +1,7 @@
 //! The errands that are outstanding at each endpoint of each device.
 
-ghost use Rattle.std.specs.Prelude.{◌≡◌, ℕ, ◌<◌, IfOk, IfSome, None, length, position, slice_set};
-ghost use Rattle.usb_cancel.specs.Outstanding.{cells_of, has_index, lane, sent_at};
+ghost use Rattle.std.specs.Prelude.{◌≡◌, ℕ, ◌<◌, IfOk, None, length, slice_set};
+ghost use Rattle.usb_cancel.specs.Outstanding.{lane, sent_at};
 
 use std::alloc::{AllocError, Global};
 use std::marker::Model;
@@ -34,30 +34,12 @@ impl Model for Outstanding {
     ghost invariant = { λ t. length t.cells.items ≡ 128 };
 }
 
-/// Whether this is an errand whose order has this index.
-fn has_index(cell: Option<Sent>, index: usize) -> bool
-    ensures { result ≡ has_index index cell }
-{
-    match cell {
-        Some(sent) => sent.index == index,
-        None => false,
-    }
-}
-
 /// Where the errand of a device's endpoint stands.
 fn lane(dev: DeviceNo, ep: EpAddr) -> usize
     ensures value { result ≡ lane dev ep }
     ensures within { result < 128 }
 {
     32 * usize::from(dev.number()) + usize::from(ep.id())
-}
-
-/// The place of the first errand whose order has this index.
-fn first_with(cells: &[Option<Sent>], index: usize) -> Option<usize>
-    ensures value { result ≡ position (has_index index) cells.now }
-    ensures within { IfSome result (λ id. id < length cells.now) }
-{
-    cells.iter().position(|cell| has_index(*cell, index))
 }
 
 impl Outstanding {
@@ -87,16 +69,5 @@ impl Outstanding {
         ensures whole { length self.new ≡ 128 }
     {
         self.cells[lane(dev, ep)] = sent;
-    }
-
-    /// The id, 0 to 31, of the endpoint of a device whose errand has the order of this index: the least, where there are more.
-    pub fn with_index(&self, dev: DeviceNo, index: usize) -> Option<u8>
-        ensures value { result ≡ position (has_index index) (cells_of self.now dev) }
-        ensures below { IfSome result (λ id. id < 32) }
-        ensures whole { length self.now ≡ 128 }
-    {
-        let first = 32 * usize::from(dev.number());
-        let cells = &self.cells[first..first + 32];
-        Some(first_with(cells, index)? as u8)
     }
 }

@@ -5,7 +5,7 @@ use Rattle.std.specs.Option.{option_and_then, option_map}
 use Rattle.std.specs.List.{AllByRecursion}
 use Rattle.std.proofs.lemmas.Bool.{eq-eqb, eqb-true, le-leb, leb-true, lt-ltb, ltb-true}
 use Rattle.usb_model.specs.Completion.{stopped}
-use Rattle.usb_model.specs.Endpoint.Status.{status_of}
+use Rattle.usb_model.specs.Endpoint.Status.{status_of, told_status}
 use Rattle.usb_model.specs.Requests.{is_short_not_ok, length_of}
 use Rattle.usb_kept.specs.Kept.{KeptTransfer}
 use Rattle.usb_kept.specs.Stands.{length_at, read_off}
@@ -13,9 +13,9 @@ use Rattle.usb_kept.specs.Handling.{covers, find_at, read_at}
 use Rattle.usb_kept.specs.Handling as kept
 use Rattle.usb_completion.specs.declared.placed.Placed.{Placed}
 use Rattle.usb_completion.specs.declared.placed.PlacedTrb.{PlacedTrb}
-use Rattle.usb_completion.specs.declared.event.Reading.{Reading}
-use Rattle.usb_completion.specs.declared.event.Reading.TheVariants.{Ended, Paused, Stray}
-use Rattle.usb_completion.specs.Events.{item_at, moved_at, moved_by, reading, reading_at, reading_by, told, told_by, trb_at}
+use Rattle.usb_completion.specs.declared.target.Reading.{Reading}
+use Rattle.usb_completion.specs.declared.target.Reading.TheVariants.{Ended, Paused, Stray}
+use Rattle.usb_completion.specs.Events.{item_at, lengths, read_at as read_there, reading, reading_at, reading_by, target_at, target_of, trb_at}
 use Rattle.usb_completion.specs.Lines.{AllPlaced, IsApart, IsPlaced, ReadsAsKept, told_of, trbs_from}
 use Rattle.usb_completion.specs.Statuses.{is_short_an_error}
 use Rattle.usb_completion.proofs.Positions.{position_step}
@@ -79,6 +79,37 @@ same_lengths : (address : ℕ → ℕ) (q : ℕ) (ls : List ℕ) → map (λ t. 
 same_lengths address q [] = refl
 same_lengths address q (l ∷ ls) = ap (λ k. l ∷ k) (same_lengths address (suc q) ls)
 
+-- the bytes that moved, by the residual of one of its TRBs; None where this is over the TRB's length
+abbrev moved_at : Placed → ℕ → ℕ → Option ℕ
+moved_at x j r = if nat_lt (length_at (lengths x) j) r then None else Some (read_off (lengths x) j r)
+
+-- the same, by an event's pointer and residual
+abbrev moved_by : ℕ → ℕ → Placed → Option ℕ
+moved_by pointer r x = option_and_then (λ j. moved_at x j r) (trb_at pointer x)
+
+-- a transfer ended with this code, or stands
+abbrev told : ℕ → Placed → ℕ → ℕ → Reading
+told i x code actual = if code == stopped then Paused i actual else Ended i (status_of code x.ask (is_short_an_error x.flags) x.length actual) actual
+
+abbrev told_by : ℕ → Placed → ℕ → Option ℕ → Reading
+told_by i x code None = Stray
+told_by i x code (Some actual) = told i x code actual
+
+-- what an event that points at a transfer tells is told by the bytes that moved
+told_there : (i pointer r code : ℕ) (x : Placed) → read_there (target_at i pointer x) r code ≡ told_by i x code (moved_by pointer r x)
+unfolding told_status
+told_there i pointer r code x = by_trb (trb_at pointer x)
+  where
+    by_test : (j : ℕ) (t : Bool)
+        → (if t then Stray else if code == stopped then Paused i (read_off (lengths x) j r) else Ended i (status_of code x.ask (is_short_an_error x.flags) x.length (read_off (lengths x) j r)) (read_off (lengths x) j r))
+        ≡ told_by i x code (if t then None else Some (read_off (lengths x) j r))
+    by_test j true = refl
+    by_test j false = refl
+
+    by_trb : (o : Option ℕ) → read_there (option_map (target_of i x) o) r code ≡ told_by i x code (option_and_then (λ j. moved_at x j r) o)
+    by_trb None = refl
+    by_trb (Some j) = by_test j (nat_lt (length_at (lengths x) j) r)
+
 actual_of : kept.Reading → ℕ
 actual_of f = f.actual
 
@@ -120,14 +151,14 @@ reading_step pointer r code x xs = ap (reading_by (x ∷ xs) pointer r code) (po
   where
     by_found : (i : ℕ) (o : Option Placed) → reading_at (suc i) pointer r code o ≡ shift (reading_at i pointer r code o)
     by_found i None = refl
-    by_found i (Some z) = shift_told i z code (moved_by pointer r z)
+    by_found i (Some z) = told_there (suc i) pointer r code z ∙ shift_told i z code (moved_by pointer r z) ∙ ap shift (sym (told_there i pointer r code z))
 
     by_rest : (o : Option ℕ) → reading_by (x ∷ xs) pointer r code (option_map (λ i. suc i) o) ≡ shift (reading_by xs pointer r code o)
     by_rest None = refl
     by_rest (Some i) = by_found i (slice_get xs i)
 
     by_test : (t : Bool) → reading_by (x ∷ xs) pointer r code (if t then Some 0 else option_map (λ i. suc i) (item_at pointer xs)) ≡ (if t then told_by 0 x code (moved_by pointer r x) else shift (reading_by xs pointer r code (item_at pointer xs)))
-    by_test true = refl
+    by_test true = told_there 0 pointer r code x
     by_test false = by_rest (item_at pointer xs)
 
 -- a transfer is told as the core's

@@ -1,15 +1,27 @@
 -- An event is read: its transfer is found by the TRB that its pointer names, and the bytes that moved are read off the residual.
-use Rattle.std.specs.Prelude.{ℕ, ◌==◌, nat_lt, List, map, is_some, position, slice_get, Option, Some, None, if◌then◌else◌}
-use Rattle.std.specs.Option.{option_and_then}
+use Rattle.std.specs.Prelude.{ℕ, ◌+◌, ◌-◌, ◌==◌, nat_lt, false, List, map, is_some, position, slice_get, take, Option, Some, None, if◌then◌else◌}
+use Rattle.std.specs.Option.{option_map}
 use Rattle.usb_model.specs.Completion.{stopped}
-use Rattle.usb_model.specs.Endpoint.Status.{status_of}
-use Rattle.usb_kept.specs.Stands.{length_at, read_off}
+use Rattle.usb_model.specs.Endpoint.Status.{told_status}
+use Rattle.usb_kept.specs.Stands.{length_at, total}
 use Rattle.usb_trb.specs.declared.kind.TrbKind.{TrbKind}
 use Rattle.usb_trb.specs.declared.kind.TrbKind.TheVariants.{TransferEvent}
 use Rattle.usb_completion.specs.declared.placed.Placed.{Placed}
-use Rattle.usb_completion.specs.declared.event.Reading.{Reading}
-use Rattle.usb_completion.specs.declared.event.Reading.TheVariants.{Ended, Paused, Stray}
+use Rattle.usb_completion.specs.declared.target.Target.{Target}
+use Rattle.usb_completion.specs.declared.target.Reading.{Reading}
+use Rattle.usb_completion.specs.declared.target.Reading.TheVariants.{Ended, Paused, Stray}
 use Rattle.usb_completion.specs.Statuses.{is_short_an_error}
+
+-- the transfer ended with this code, or stands; actual: how many of its bytes moved
+abbrev pub told_of_target : Target → (code actual : ℕ) → Reading
+told_of_target t code actual =
+    if code == stopped then Paused t.item actual
+    else Ended t.item (told_status t.gone code t.ask (is_short_an_error t.flags) t.length actual) actual
+
+-- the bytes that moved are those of the TRBs before the one that the event points at, and that one's without the residual;
+-- stray where the residual is over that TRB's length
+abbrev pub read_target : Target → (residual code : ℕ) → Reading
+read_target t r code = if nat_lt t.here r then Stray else told_of_target t code (t.before + (t.here - r))
 
 -- which of a transfer's TRBs has this address
 abbrev pub trb_at : ℕ → Placed → Option ℕ
@@ -23,25 +35,30 @@ item_at pointer line = position (λ x. is_some (trb_at pointer x)) line
 abbrev pub lengths : Placed → List ℕ
 lengths x = map (λ t. t.length) x.trbs.items
 
--- the bytes that moved, by the residual of one of its TRBs; None where this is over the TRB's length
-abbrev pub moved_at : Placed → ℕ → ℕ → Option ℕ
-moved_at x j r = if nat_lt (length_at (lengths x) j) r then None else Some (read_off (lengths x) j r)
+-- a transfer of this number, and its TRB of number j
+abbrev pub target_of : ℕ → Placed → ℕ → Target
+target_of i x j = record {
+  item = i;
+  gone = false;
+  flags = x.flags;
+  length = x.length;
+  ask = x.ask;
+  before = total (take j (lengths x));
+  here = length_at (lengths x) j;
+}
 
--- the same, by an event's pointer and residual
-abbrev pub moved_by : ℕ → ℕ → Placed → Option ℕ
-moved_by pointer r x = option_and_then (λ j. moved_at x j r) (trb_at pointer x)
+-- and its TRB that has this address
+abbrev pub target_at : ℕ → ℕ → Placed → Option Target
+target_at i pointer x = option_map (target_of i x) (trb_at pointer x)
 
--- a transfer ended with this code, or stands
-abbrev pub told : ℕ → Placed → ℕ → ℕ → Reading
-told i x code actual = if code == stopped then Paused i actual else Ended i (status_of code x.ask (is_short_an_error x.flags) x.length actual) actual
-
-abbrev pub told_by : ℕ → Placed → ℕ → Option ℕ → Reading
-told_by i x code None = Stray
-told_by i x code (Some actual) = told i x code actual
+-- what an event that points there tells
+abbrev pub read_at : Option Target → (residual code : ℕ) → Reading
+read_at None r code = Stray
+read_at (Some t) r code = read_target t r code
 
 abbrev pub reading_at : ℕ → ℕ → ℕ → ℕ → Option Placed → Reading
 reading_at i pointer r code None = Stray
-reading_at i pointer r code (Some x) = told_by i x code (moved_by pointer r x)
+reading_at i pointer r code (Some x) = read_at (target_at i pointer x) r code
 
 abbrev pub reading_by : List Placed → ℕ → ℕ → ℕ → Option ℕ → Reading
 reading_by line pointer r code None = Stray

@@ -8,8 +8,8 @@ use Rattle.usb_kept.specs.Kept.{KeptTransfer}
 use Rattle.usb_kept.specs.Handling as kept
 use Rattle.usb_completion.specs.declared.placed.Placed.{Placed}
 use Rattle.usb_completion.specs.declared.placed.PlacedTrb.{PlacedTrb}
-use Rattle.usb_completion.specs.declared.event.Reading.{Reading}
-use Rattle.usb_completion.specs.declared.event.Reading.TheVariants.{Ended, Paused, Stray}
+use Rattle.usb_completion.specs.declared.target.Reading.{Reading}
+use Rattle.usb_completion.specs.declared.target.Reading.TheVariants.{Ended, Paused, Stray}
 use Rattle.usb_completion.specs.Events.{reading}
 
 -- TRBs of these lengths from a place on; address: that of each place

@@ -1,42 +1,15 @@
-//! Reading an event.
+//! Reading an event against a line.
 
 ghost use Rattle.std.specs.Prelude.{◌≡◌, ◌<◌, IfSome, length};
-ghost use Rattle.usb_completion.specs.Events.{item_at, reading, reading_of, told};
+ghost use Rattle.usb_completion.specs.Events.{item_at, reading, reading_of};
 
 use crate::placed::Placed;
-use crate::status::result;
-use usb_model::Status;
-use usb_model::completion::STOPPED;
+use crate::target::Reading;
 use usb_trb::{Residual, Trb, TrbKind};
 
-/// What an event tells of the transfers of a line.
-#[derive(Clone, Copy, PartialEq, Eq, Debug)]
-pub enum Reading {
-    /// A transfer ended.
-    Ended {
-        /// Which of the line, from 0.
-        item: usize,
-        /// What came of it.
-        status: Status,
-        /// How many of its bytes moved.
-        actual: u32,
-    },
-    /// A transfer stands, since its endpoint was stopped amid it (Stopped; xHCI 1.2, 4.6.9).
-    Paused {
-        /// Which of the line, from 0.
-        item: usize,
-        /// How many of its bytes moved until then.
-        actual: u32,
-    },
-    /// The event tells of no transfer of the line: it is no Transfer Event, or its pointer names none of the line's TRBs,
-    /// or its residual is over that TRB's length.
-    Stray,
-}
-
-/// Reads an event against the transfers of its endpoint's line.
-///
-/// The bytes that moved are those of the transfer's TRBs before the one that the pointer names, and that one's without the
-/// residual (xHCI 1.2, 4.11.3.1).
+/// Reads an event against the transfers of its endpoint's line: what it tells of the one of which its pointer names a TRB.
+/// Stray where it is no Transfer Event, where the pointer names no TRB of the line, and where the residual is over that
+/// TRB's length. That the device is gone isn't seen here: who knows of it reads by `Target`.
 pub fn read_event(trb: &Trb, line: &[Placed]) -> Reading
     ensures { result ≡ reading_of trb.now.kind line.now }
 {
@@ -59,11 +32,10 @@ fn read(line: &[Placed], pointer: u64, residual: Residual, code: u8) -> Reading
     let Some(item) = item_at(line, pointer) else {
         return Reading::Stray;
     };
-    let placed = &line[item];
-    let Some(actual) = placed.moved_by(pointer, residual) else {
-        return Reading::Stray;
-    };
-    told(item, placed, code, actual)
+    match line[item].target(item, pointer) {
+        Some(target) => target.read(residual, code),
+        None => Reading::Stray,
+    }
 }
 
 /// Which transfer of the line has a TRB with this address.
@@ -73,18 +45,4 @@ fn item_at(line: &[Placed], pointer: u64) -> Option<usize>
 {
     line.iter()
         .position(|placed| placed.trb_at(pointer).is_some())
-}
-
-/// What an event with this code tells of a transfer, of which so many bytes moved.
-fn told(item: usize, placed: &Placed, code: u8, actual: u32) -> Reading
-    ensures { result ≡ told item placed.now code actual }
-{
-    if code == STOPPED {
-        return Reading::Paused { item, actual };
-    }
-    Reading::Ended {
-        item,
-        status: result(code, placed.ask, placed.flags, placed.length, actual),
-        actual,
-    }
 }

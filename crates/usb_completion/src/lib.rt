@@ -8,7 +8,9 @@ mod event;
 pub mod laws;
 mod placed;
 mod status;
+mod target;
 
-pub use event::{Reading, read_event};
+pub use event::read_event;
 pub use placed::{Placed, PlacedTrb};
 pub use status::result;
+pub use target::{Reading, Target};

@@ -1,12 +1,13 @@
 //! A transfer of a line, as events are read against it.
 
-ghost use Rattle.std.specs.Prelude.{◌≡◌, ◌<◌, ◌≤◌, ◌*◌, IfSome, length, map};
+ghost use Rattle.std.specs.Prelude.{◌≡◌, ◌<◌, ◌≤◌, ◌*◌, ◌+◌, ◌^◌, IfSome, length, map};
 ghost use Rattle.usb_kept.specs.Stands.{total};
-ghost use Rattle.usb_completion.specs.Events.{moved_at, moved_by, trb_at};
+ghost use Rattle.usb_completion.specs.Events.{target_at, target_of, trb_at};
 
+use crate::target::Target;
 use arrayvec::ArrayVec;
 use usb_model::{Ask, Flags};
-use usb_trb::{Length, Residual};
+use usb_trb::Length;
 
 /// A TRB of a transfer.
 #[derive(Clone, Copy, PartialEq, Eq, Debug, Default)]
@@ -39,27 +40,31 @@ impl Placed {
         self.trbs.iter().position(|trb| trb.address == pointer)
     }
 
-    /// How many of its bytes moved, where an event has this pointer and residual; None where the pointer names none of its
-    /// TRBs, or the residual is over the TRB's length.
-    pub(crate) fn moved_by(&self, pointer: u64, residual: Residual) -> Option<u32>
-        ensures { result ≡ moved_by pointer residual self.now }
+    /// It and its TRB that has this address, as an event that points there is read; None where it has no such TRB.
+    pub(crate) fn target(&self, item: usize, pointer: u64) -> Option<Target>
+        ensures value { result ≡ target_at item pointer self.now }
+        ensures small { IfSome result (λ t. t.before + t.here < 2 ^ 32) }
     {
         let trb = self.trb_at(pointer)?;
-        self.moved_at(trb, residual)
+        Some(self.at(item, trb))
     }
 
-    /// The same, where the event names this one of its TRBs.
-    fn moved_at(&self, trb: usize, residual: Residual) -> Option<u32>
+    /// The same, where that is this one of its TRBs.
+    fn at(&self, item: usize, trb: usize) -> Target
         requires { trb < length self.now.trbs.items }
-        ensures { result ≡ moved_at self.now trb residual }
+        ensures value { result ≡ target_of item self.now trb }
+        ensures small { result.before + result.here < 2 ^ 32 }
     {
         let trbs = self.trbs.as_slice();
-        let here = trbs[trb].length.bytes();
-        let rest = residual.bytes();
-        if here < rest {
-            return None;
+        Target {
+            item,
+            gone: false,
+            flags: self.flags,
+            length: self.length,
+            ask: self.ask,
+            before: total(&trbs[..trb]),
+            here: trbs[trb].length.bytes(),
         }
-        Some(total(&trbs[..trb]) + (here - rest))
     }
 }
 

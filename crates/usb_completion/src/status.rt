@@ -11,7 +11,7 @@ use usb_model::{Ask, Flags, Status};
 
 /// The status of a transfer that ended with this completion code (xHCI 1.2, 6.4.5), by the ask that it end, its flags, its
 /// length and how many of its bytes moved. A code that isn't used gives Error. That the device is gone isn't seen here.
-pub fn result(code: u8, ask: Option<Ask>, flags: Flags, length: u32, moved: u32) -> Status
+pub fn result(code: u8, ask: Option<Ask>, flags: Flags, length: usize, moved: u32) -> Status
     ensures value { result ≡ status_of code ask (is_short_an_error flags) length moved }
     ensures exact { (status : Status) → (result ≡ status) ↔ IsToldAs status code ask (is_short_an_error flags) length moved }
 {
@@ -19,7 +19,7 @@ pub fn result(code: u8, ask: Option<Ask>, flags: Flags, length: u32, moved: u32)
         code,
         ask,
         flags.contains(Flags::SHORT_NOT_OK),
-        length as usize,
+        length,
         moved,
     )
 }

@@ -8,3 +8,4 @@ mod Waits
 mod Called
 mod Callbacks
 mod Carried
+mod Readings

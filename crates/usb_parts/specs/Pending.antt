@@ -1,13 +1,12 @@
 -- What is to be done next, by the world alone.
-use Rattle.std.specs.Prelude.{◌≡◌, ◌↔◌, ℕ, zero, suc, ◌+◌, ◌-◌, ◌*◌, ◌/◌, ◌%◌, nat_lt, Bool, true, false, ◌||◌, ◌&&◌, List, [], ◌∷◌, length, find, is_some, slice_get, Option, Some, None}
+use Rattle.std.specs.Prelude.{◌≡◌, ◌↔◌, ℕ, zero, suc, ◌+◌, ◌*◌, ◌/◌, ◌%◌, nat_lt, Bool, true, false, ◌||◌, ◌&&◌, List, [], ◌∷◌, length, find, is_some, slice_get, Option, Some, None, if◌then◌else◌}
 use Rattle.std.specs.Option.{option_map_or}
 use Rattle.usb_model.specs.declared.reply.Reply.{Reply}
 use Rattle.usb_model.specs.declared.reply.Reply.TheVariants.{Idle, Nak}
 use Rattle.usb_model.specs.declared.step.Step.{Step}
 use Rattle.usb_model.specs.declared.step.Step.TheVariants.{Command, Deliver, Serve, Take}
-use Rattle.usb_model.specs.Setup.{Setup, endpoint_id}
+use Rattle.usb_model.specs.Setup.{Setup, is_in}
 use Rattle.usb_model.specs.World.{World, turn}
-use Rattle.usb_claims.specs.Tables.{address_of_id}
 use Rattle.usb_context.specs.Serving.{working}
 use Rattle.usb_device.specs.Pipe.{is_ready, pipe_at}
 use Rattle.usb_xhc.specs.Controller.{Controller}
@@ -32,14 +31,14 @@ serves setup w dev ep = tells_work (has_answers w dev ep) (turn setup w (Serve d
 abbrev pub does_something : Setup → World → Step → Bool
 does_something setup w step = tells_work false (turn setup w step).entry.reply
 
--- the endpoint of a place, 0 to 119: of each device in turn numbers 1 to 15, OUT before IN (USB 2.0, 9.6.6)
+-- the endpoint of a place, 0 to 119: of each device in turn by address, which is 1 to 15 for OUT and 129 to 143 for IN (USB 2.0, 9.6.6)
 abbrev pub end_of : ℕ → ℕ × ℕ
-end_of place = (place / 30, address_of_id (place % 30 + 2))
+end_of place = (place / 30, place % 30 + (if nat_lt (place % 30) 15 then 1 else 114))
 
 -- the place behind an endpoint; the first where there is none
 abbrev pub behind : Option (ℕ × ℕ) → ℕ
 behind None = 0
-behind (Some x) = 30 * x.0 + (endpoint_id x.1 - 1)
+behind (Some x) = 30 * x.0 + x.1 % 16 + (if is_in x.1 then 15 else 0)
 
 -- so many endpoints from a place on, in a circle
 unfoldable pub ends_from : (count place : ℕ) → List (ℕ × ℕ)

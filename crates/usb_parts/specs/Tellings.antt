@@ -1,19 +1,47 @@
 -- What an event tells of a transfer, as the code answers it.
-use Rattle.std.specs.Prelude.{◌≡◌, ℕ, Option, Some, None}
+use Rattle.std.specs.Prelude.{◌≡◌, ℕ, ◌==◌, Bool, take, Option, Some, None, if◌then◌else◌}
+use Rattle.usb_model.specs.Completion.{stopped}
+use Rattle.usb_model.specs.Requests.{length_of}
 use Rattle.usb_model.specs.Setup.{Setup}
+use Rattle.usb_model.specs.declared.reply.Reply.{Reply}
+use Rattle.usb_kept.specs.Handling.{kept_result}
+use Rattle.usb_kept.specs.Kept.{KeptTransfer}
+use Rattle.usb_kept.specs.Stands.{length_at, total}
+use Rattle.usb_completion.specs.declared.target.Reading.{Reading}
+use Rattle.usb_completion.specs.declared.target.Reading.TheVariants.{Ended, Paused}
+use Rattle.usb_completion.specs.declared.target.Target.{Target}
+use Rattle.usb_transfer.specs.declared.transfer.Transfer.{Transfer}
+use Rattle.usb_transfer.specs.Tds.{lengths, tds_of}
 use Rattle.usb_shows.specs.Shows.{Core}
-use Rattle.usb_state.specs.Delivering.{Tells, ending_of}
+use Rattle.usb_shows.specs.Stepping.{deliver_core}
+use Rattle.usb_state.specs.Delivering.{Tells}
 use Rattle.usb_state.specs.State.{State}
 use Rattle.usb_state.specs.Steps.{Is}
-use Rattle.usb_shows.specs.Stepping.{deliver_core}
-use Rattle.usb_model.specs.declared.reply.Reply.{Reply}
 use Rattle.usb_parts.specs.declared.telling.Told.{Told}
 
+-- a transfer of a line, and its TRB of number trb, as an event that points there is read
+abbrev pub target_of : {P : Type 0} → Bool → (size item trb : ℕ) → Transfer P → Target
+target_of gone size item trb t = record {
+  item = item;
+  gone = gone;
+  flags = t.request.flags;
+  length = length_of t.request.body;
+  ask = t.ask;
+  before = total (take trb (lengths (tds_of size t.request)));
+  here = length_at (lengths (tds_of size t.request)) trb;
+}
+
+-- a kept transfer ended with this code, or stands; actual: how many of its bytes moved
+abbrev pub told_of : Bool → KeptTransfer → (item code actual : ℕ) → Reading
+told_of gone y item code actual = if code == stopped then Paused item actual else Ended item (kept_result gone code y actual).status actual
+
 module _ {P : Type 0} where
-  -- an event of this code tells of this transfer, and what came of it if it ended
+  -- an event of this code tells of this transfer, and says this of it
   pub record IsTold (setup : Setup) (s : State P) (c : Core) (code : ℕ) (x : Told) : Type 0 where
-    pub tells : Tells setup s c x.name x.dev x.ep x.item x.n x.ending.actual code
-    pub ending : x.ending ≡ ending_of c x.dev tells.kept x.ending.actual code
+    pub item : ℕ
+    pub actual : ℕ
+    pub tells : Tells setup s c x.at.name x.at.dev x.at.ep item x.n actual code
+    pub reading : x.reading ≡ told_of (c.gone x.at.dev) tells.kept item code actual
 
   -- no event is stray
   abbrev pub ToldIs : Setup → State P → Core → ℕ → Option Told → Type 0
@@ -26,4 +54,4 @@ module _ {P : Type 0} where
 
   -- an event that tells of a transfer is handled as the core handles it
   abbrev pub Handles : State P → ℕ → Told → Reply → State P → Type 0
-  Handles old code x reply new = (setup : Setup) (c : Core) → IsTold setup old c code x → Is setup (deliver_core setup c) (record { owner = Some x.name; reply = reply }) new
+  Handles old code x reply new = (setup : Setup) (c : Core) → IsTold setup old c code x → Is setup (deliver_core setup c) (record { owner = Some x.at.name; reply = reply }) new

@@ -1,6 +1,8 @@
 //! The oldest event is handled (xHCI 1.2, 4.11.3; libusb 1.0, `libusb_handle_events`).
 
-ghost use Rattle.std.specs.Prelude.{◌≡◌, ◌==◌, false, true};
+ghost use Rattle.std.specs.Prelude.{◌≡◌};
+ghost use Rattle.usb_model.specs.Completion.{stopped};
+ghost use Rattle.usb_completion.specs.declared.target.Reading.TheVariants.{Ended, Paused};
 ghost use Rattle.usb_trb.specs.declared.kind.TrbKind.TheVariants.{CommandCompletion, TransferEvent};
 ghost use Rattle.usb_model.specs.declared.step.Step.TheVariants.{Deliver};
 ghost use Rattle.usb_state.specs.Carrying.{StillCarries};
@@ -12,8 +14,10 @@ ghost use Rattle.usb_parts.specs.Tellings.{Handles, SomeTold};
 use crate::parts::Parts;
 use crate::telling::Told;
 use usb_cancel::next_order;
+use usb_claims::HeldEndpoint;
+use usb_completion::Reading;
 use usb_device::Device;
-use usb_model::completion::STOPPED;
+use usb_flight::Ending;
 use usb_model::{Entry, Reply};
 use usb_trb::{EndpointId, Pointer, Residual, Slot, TrbKind};
 
@@ -86,37 +90,43 @@ impl<P, D: Device> Parts<P, D> {
         let Some(told) = self.told(pointer, residual, code, slot, id) else {
             unreachable!()
         };
-        let owner = Some(told.name);
-        let reply = if code == STOPPED {
-            self.transfer_stands(told, code)
-        } else {
-            self.transfer_ended(told, code)
+        let Told { at, reading, .. } = told;
+        let owner = Some(at.name);
+        let reply = match reading {
+            Reading::Paused { item, actual } => self.transfer_stands(told, item, actual),
+            Reading::Ended {
+                item,
+                status,
+                actual,
+            } => self.transfer_ended(told, item, Ending { status, actual }, code),
+            Reading::Stray => unreachable!(),
         };
         Entry { owner, reply }
     }
 
     /// A transfer stands: how much of it moved is kept.
-    fn transfer_stands(&mut self, told: Told, code: u8) -> Reply
-        requires told { SomeTold self.old code told }
-        requires stands { (code == 26) ≡ true }
-        ensures done { Handles self.old code told result self.new }
+    fn transfer_stands(&mut self, told: Told, item: usize, actual: u32) -> Reply
+        requires told { SomeTold self.old stopped told }
+        requires stands { told.reading ≡ Paused item actual }
+        ensures done { Handles self.old stopped told result self.new }
         ensures carries { StillCarries self.old self.new }
     {
-        self.flights
-            .pause(told.dev, told.ep, told.item, told.ending.actual);
-        Reply::Paused { n: told.n }
+        let Told { at, n, .. } = told;
+        self.flights.pause(at.dev, at.ep, item, actual);
+        Reply::Paused { n }
     }
 
     /// A transfer ended. Where its code halted the endpoint, and no errand is outstanding there, Reset is ordered (xHCI
     /// 1.2, 4.8.3).
-    fn transfer_ended(&mut self, told: Told, code: u8) -> Reply
+    fn transfer_ended(&mut self, told: Told, item: usize, ending: Ending, code: u8) -> Reply
         requires told { SomeTold self.old code told }
-        requires ended { (code == 26) ≡ false }
+        requires ended { told.reading ≡ Ended item ending.status ending.actual }
         ensures done { Handles self.old code told result self.new }
         ensures carries { StillCarries self.old self.new }
     {
-        let Told { dev, ep, n, .. } = told;
-        self.finish(told, code);
+        let Told { at, n, .. } = told;
+        let HeldEndpoint { dev, ep, .. } = at;
+        self.finish(at, item, ending, code);
         if let Some(errand) = next_order(self.errand(dev, ep), code) {
             self.post(dev, ep, errand);
         }

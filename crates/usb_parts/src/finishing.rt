@@ -6,23 +6,24 @@ ghost use Rattle.usb_state.specs.Delivering.{CanFinish, leaving};
 ghost use Rattle.usb_state.specs.Works.{Finishes};
 
 use crate::parts::Parts;
-use crate::telling::Told;
+use usb_claims::HeldEndpoint;
 use usb_device::Device;
+use usb_flight::Ending;
 use usb_model::completion::halts;
 use usb_model::{DeviceNo, EpAddr};
 
 impl<P, D: Device> Parts<P, D> {
     /// A transfer ended with this code: its result is made, and it leaves the line with the blanks before it, and with
     /// those behind it where the endpoint goes on.
-    pub(crate) fn finish(&mut self, told: Told, code: u8)
-        requires { CanFinish self.old told.name told.dev told.ep told.item (leaving self.old told.dev told.ep told.item code) }
-        ensures done { Finishes self.old self.new told.name told.dev told.ep told.item told.ending (leaving self.old told.dev told.ep told.item code) }
+    pub(crate) fn finish(&mut self, at: HeldEndpoint, item: usize, ending: Ending, code: u8)
+        requires { CanFinish self.old at.name at.dev at.ep item (leaving self.old at.dev at.ep item code) }
+        ensures done { Finishes self.old self.new at.name at.dev at.ep item ending (leaving self.old at.dev at.ep item code) }
         ensures carries { StillCarries self.old self.new }
     {
-        let Told { dev, ep, item, .. } = told;
+        let HeldEndpoint { dev, ep, name } = at;
         let count = self.leaving(dev, ep, item, code);
-        self.flights.end(dev, ep, item, told.ending);
-        self.callers.result_made(told.name, ep);
+        self.flights.end(dev, ep, item, ending);
+        self.callers.result_made(name, ep);
         self.flights.leave(dev, ep, count);
         self.controller.drop_front(dev, ep, count);
     }

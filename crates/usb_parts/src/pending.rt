@@ -28,8 +28,8 @@ pub struct Pending {
 }
 
 impl<P, D: Device> Parts<P, D> {
-    /// What is to be done next. Endpoints are looked at from behind this one on, in a circle; from the first one on
-    /// where there is none. Takes no memory.
+    /// What is to be done next. Endpoints are looked at by device and address from behind this one on, in a circle; from the
+    /// first one on where there is none. Takes no memory.
     pub fn pending(&self, after: Option<(DeviceNo, EpAddr)>) -> Pending
         ensures { (setup : Setup) (w : World) (c : Core) → Keeps setup self.now c → Shows setup w c → IsPending setup w after result }
     {
@@ -108,7 +108,8 @@ fn behind(after: Option<(DeviceNo, EpAddr)>) -> usize
 {
     match after {
         Some((dev, ep)) => {
-            30 * usize::from(dev.number()) + usize::from(ep.id()).saturating_sub(1)
+            let inward = if ep.is_in() { 15 } else { 0 };
+            30 * usize::from(dev.number()) + usize::from(ep.number()) + inward
         }
         None => 0,
     }
@@ -122,6 +123,7 @@ fn end_of(place: usize) -> (DeviceNo, EpAddr)
     let Some(dev) = DeviceNo::new((place / 30) as u8) else {
         unreachable!();
     };
-    let id = (place % 30 + 2) as u8;
-    (dev, EpAddr::new(id / 2 + 128 * (id % 2)))
+    let rank = (place % 30) as u8;
+    let address = rank + if rank < 15 { 1 } else { 114 };
+    (dev, EpAddr::new(address))
 }

@@ -27,9 +27,10 @@ impl<P, D: Device> Parts<P, D> {
                 reply: Reply::Idle,
             };
         };
+        let owner = Some(name);
         let Some(item) = self.front(dev, ep) else {
             return Entry {
-                owner: Some(name),
+                owner,
                 reply: Reply::Idle,
             };
         };
@@ -37,7 +38,7 @@ impl<P, D: Device> Parts<P, D> {
             unreachable!();
         };
         Entry {
-            owner: Some(name),
+            owner,
             reply: reply_of(served.0, served.1),
         }
     }

@@ -12,9 +12,10 @@ ghost use Rattle.usb_state.specs.Works.{Leaves, Posts, Resumes, Withdraws};
 use crate::parts::Parts;
 use usb_cancel::settle;
 use usb_claims::HeldEndpoint;
+use usb_completion::result;
 use usb_device::Device;
 use usb_flight::Ending;
-use usb_model::completion::{STOPPED, SUCCESS, told_status};
+use usb_model::completion::{STOPPED, SUCCESS};
 use usb_model::{DeviceNo, EpAddr, Errand, Name, Reply};
 
 impl<P, D: Device> Parts<P, D> {
@@ -73,6 +74,7 @@ impl<P, D: Device> Parts<P, D> {
     }
 
     /// What comes of the transfer of an item that is withdrawn; None where it wasn't asked to end.
+    #[tactic(auto, unfolding(usb_model::specs::Endpoint::Status::told_status))]
     fn withdrawal(&self, dev: DeviceNo, ep: EpAddr, item: usize) -> Option<Ending>
         ensures { result ≡ asked_ending (item_at self.now.flights dev ep item) }
     {
@@ -82,11 +84,10 @@ impl<P, D: Device> Parts<P, D> {
         }
         let request = &transfer.request;
         let actual = transfer.moved;
-        let status = told_status(
-            false,
+        let status = result(
             STOPPED,
             transfer.ask,
-            request.is_short_not_ok(),
+            request.flags,
             request.body.length(),
             actual,
         );

@@ -10,11 +10,13 @@ ghost use Rattle.usb_parts.specs.Packets.{taken_in};
 use crate::reads::taken_of;
 use arrayvec::ArrayVec;
 use std::alloc::{AllocError, Global};
+use std::fmt;
 use std::marker::Model;
+use thiserror::Error;
 use usb_descriptors::Config;
 use usb_device::Device;
 use usb_model::{DeviceNo, EpAddr, Refused};
-use usb_xhc::Controller;
+use usb_xhc::{Controller, DeviceSlot};
 
 /// At most 4 devices, each with its configuration, at the slots of a controller. Contracts see a record of the
 /// configurations and the controller; `setup_of` is what the definitions read of them: a device's scripts, wherever it
@@ -36,7 +38,8 @@ impl<D: Device> Model for Setup<D> {
 }
 
 /// A device that wasn't added, and why: InvalidParam where there are four, NoMem where memory was refused.
-#[derive(Drop)]
+#[derive(Drop, Error)]
+#[error("{why}")]
 pub struct Unadded<D: Device> {
     /// Why.
     pub why: Refused,
@@ -44,6 +47,13 @@ pub struct Unadded<D: Device> {
     pub config: Config,
     /// The device.
     pub device: D,
+}
+
+/// Shows why: what comes back may have no form that can be shown.
+impl<D: Device> fmt::Debug for Unadded<D> {
+    fn fmt<W: fmt::Write>(&self, f: &mut fmt::Formatter<W>) -> fmt::Result {
+        write!(f, "Unadded({:?})", self.why)
+    }
 }
 
 impl<D: Device> Setup<D> {
@@ -95,5 +105,13 @@ impl<D: Device> Setup<D> {
         ensures { option_copied result ≡ taken_in self.now.controller dev ep i }
     {
         taken_of(&self.controller, dev, ep, i)
+    }
+
+    /// The slots of the devices, in order: each device is as it stands (`DeviceSlot::into_device`), with what it took and
+    /// its place in its scripts. Takes no memory.
+    pub fn into_slots(self) -> Vec<DeviceSlot<D>>
+        ensures { result.items ≡ self.controller.slots }
+    {
+        self.controller.into_slots()
     }
 }

@@ -18,13 +18,16 @@ ghost use Rattle.usb_state.specs.Works.{Starts};
 ghost use Rattle.usb_parts.specs.Submitting.{PlaceIs};
 
 use crate::parts::Parts;
+use std::fmt;
+use thiserror::Error;
 use usb_device::Device;
 use usb_model::limits::{LAST_NUMBER, MOST_PLACES};
 use usb_model::{DeviceNo, Name, Refused, Request};
 use usb_transfer::{Tds, Transfer, Unmade, check};
 
-/// What isn't accepted: all that was given comes back.
-#[derive(Drop)]
+/// What isn't accepted: all that was given comes back. As an error it says why.
+#[derive(Drop, Error)]
+#[error("{why}")]
 pub struct Unaccepted<G, P> {
     /// Why.
     pub why: Refused,
@@ -32,6 +35,13 @@ pub struct Unaccepted<G, P> {
     pub given: G,
     /// What the caller keeps with it.
     pub payload: P,
+}
+
+/// Shows why: what comes back may have no form that can be shown.
+impl<G, P> fmt::Debug for Unaccepted<G, P> {
+    fn fmt<W: fmt::Write>(&self, f: &mut fmt::Formatter<W>) -> fmt::Result {
+        write!(f, "Unaccepted({:?})", self.why)
+    }
 }
 
 /// Where a transfer is to join a line.

@@ -14,6 +14,6 @@ mod trbs;
 
 pub use refusal::{check, check_at};
 pub use store::Store;
-pub use tds::Tds;
+pub use tds::{Span, Tds};
 pub use transfer::{Transfer, Unmade};
 pub use trbs::Trbs;

@@ -1,17 +1,26 @@
 //! The TDs of a transfer, by their lengths.
 
-ghost use Rattle.std.specs.Prelude.{◌≡◌, ◌≤◌, ◌<◌, length};
+ghost use Rattle.std.specs.Prelude.{◌≡◌, ◌≤◌, ◌<◌, ◌+◌, length, take};
 ghost use Rattle.usb_model.specs.Limits.{most_bytes};
 ghost use Rattle.usb_model.specs.Requests.{length_of};
 ghost use Rattle.usb_transfer.specs.Tds.{tds_of, lengths};
 ghost use Rattle.usb_kept.specs.Kept.{is_extra, trbs_of};
-ghost use Rattle.usb_kept.specs.Stands.{length_at, read_off};
+ghost use Rattle.usb_kept.specs.Stands.{length_at, total};
 
 use std::marker::Model;
 use usb_model::{Body, Request};
 
 /// The most bytes that a TRB moves (xHCI 1.2, 6.4.1.1).
 pub(crate) const PIECE: u32 = 65536;
+
+/// A TRB of a transfer: which of its bytes it moves.
+#[derive(Clone, Copy, PartialEq, Eq, Debug)]
+pub struct Span {
+    /// How many bytes the TRBs before it move, at most 262,144.
+    pub before: u32,
+    /// How many it moves, at most 65,536.
+    pub length: u32,
+}
 
 /// What a transfer moves, as its TDs (xHCI 1.2, 4.11.3): at most 262,144 bytes in one TD of 1 to 4 TRBs, and behind whole
 /// packets, where the request says so, an empty packet in a TD of its own (`LIBUSB_TRANSFER_ADD_ZERO_PACKET`).
@@ -66,17 +75,19 @@ impl Tds {
         whole as usize + 1 + usize::from(self.extra)
     }
 
-    /// How many bytes of the transfer moved where an event at its TRB of this number, from 0 on, has this residual, which is
-    /// how many bytes of that TRB did not move (xHCI 1.2, 6.4.2.1): those of the TRBs before it, and that TRB's without the
-    /// residual.
-    pub fn moved(self, trb: usize, residual: u32) -> u32
-        requires trb { trb < length (lengths self) }
-        requires residual { residual ≤ length_at (lengths self) trb }
-        ensures value { result ≡ read_off (lengths self) trb residual }
-        ensures most { result ≤ self.length }
+    /// Its TRB of this number, from 0 on.
+    pub fn span(self, trb: usize) -> Span
+        requires { trb < length (lengths self) }
+        ensures value { result ≡ record { before = total (take trb (lengths self)); length = length_at (lengths self) trb } }
+        ensures within { result.before + result.length ≤ self.length }
     {
-        let end = (trb as u32 + 1) * PIECE;
-        end.min(self.length) - residual
+        let first = trb as u32;
+        let before = self.length.min(first * PIECE);
+        let end = self.length.min((first + 1) * PIECE);
+        Span {
+            before,
+            length: end - before,
+        }
     }
 }
 

@@ -6,30 +6,36 @@ use Rattle.usb_state.proofs.Delivering.{ends_event}
 use Rattle.usb_state.proofs.Finishing.{can_finish, can_post_end, outstanding_is}
 use Rattle.usb_state.proofs.Carrying.{still_on}
 use Rattle.usb_state.specs.Carrying.{StillCarries}
+use Rattle.usb_parts.proofs.Readings.{ends_at}
 use Rattle.usb_parts.proofs.parts.Parts.transfer_ended.Goals.{in-Some, in_default}
 use Rattle.usb_parts.proofs.parts.Parts.transfer_ended.Goals as goal
 
 pub finish-requires : goal.finish-requires
-finish-requires g c = can_finish c.requires.told.0 c.args.self.now c.requires.told.1 c.args.told.name c.args.told.dev c.args.told.ep c.args.told.item c.args.told.n c.args.told.ending.actual c.args.code c.requires.told.2.tells c.requires.ended
+finish-requires g c =
+    let told = c.requires.told in
+    let end = ends_at told.0 c.args.self.now told.1 c.args.told c.args.item c.args.ending c.args.code told.2 c.requires.ended in
+    can_finish told.0 c.args.self.now told.1 c.args.told.at.name c.args.told.at.dev c.args.told.at.ep c.args.item c.args.told.n c.args.ending.actual c.args.code end.tells end.other
 
 pub post-requires : goal.post-requires
 post-requires g c =
-    let told = c.requires.told.2 in
-    can_post_end c.requires.told.0 c.args.self.now c.finish.new.self c.requires.told.1 c.args.told.name c.args.told.dev c.args.told.ep c.args.told.item c.args.told.n c.args.told.ending.actual c.args.code told.tells
-    (subst (λ x. Finishes c.args.self.now c.finish.new.self c.args.told.name c.args.told.dev c.args.told.ep c.args.told.item x (leaving c.args.self.now c.args.told.dev c.args.told.ep c.args.told.item c.args.code)) told.ending c.finish.ensures.done)
+    let told = c.requires.told in
+    let end = ends_at told.0 c.args.self.now told.1 c.args.told c.args.item c.args.ending c.args.code told.2 c.requires.ended in
+    can_post_end told.0 c.args.self.now c.finish.new.self told.1 c.args.told.at.name c.args.told.at.dev c.args.told.at.ep c.args.item c.args.told.n c.args.ending.actual c.args.code end.tells
+    (subst (λ x. Finishes c.args.self.now c.finish.new.self c.args.told.at.name c.args.told.at.dev c.args.told.at.ep c.args.item x (leaving c.args.self.now c.args.told.at.dev c.args.told.at.ep c.args.item c.args.code)) end.told c.finish.ensures.done)
 
 pub returns-clause-done : goal.returns-clause-done
 returns-clause-done g c = λ setup core told.
-    let finished = subst (λ x. Finishes c.args.self.now c.finish.new.self c.args.told.name c.args.told.dev c.args.told.ep c.args.told.item x (leaving c.args.self.now c.args.told.dev c.args.told.ep c.args.told.item c.args.code)) told.ending c.finish.ensures.done in
-    let outstanding = outstanding_is setup c.args.self.now c.finish.new.self core c.args.told.name c.args.told.dev c.args.told.ep c.args.told.item c.args.told.n c.args.told.ending.actual c.args.code told.tells finished ∙ sym c.errand.ensures in
-    ends_event setup c.args.self.now c.finish.new.self _ core c.args.told.name c.args.told.dev c.args.told.ep c.args.told.item c.args.told.n c.args.told.ending.actual c.args.code c.next_order.result told.tells c.requires.ended finished
-    (λ gone next p found. c.next_order.ensures.endpoint gone next p (core.endpoints c.args.told.dev c.args.told.ep) found outstanding)
+    let end = ends_at setup c.args.self.now core c.args.told c.args.item c.args.ending c.args.code told c.requires.ended in
+    let finished = subst (λ x. Finishes c.args.self.now c.finish.new.self c.args.told.at.name c.args.told.at.dev c.args.told.at.ep c.args.item x (leaving c.args.self.now c.args.told.at.dev c.args.told.at.ep c.args.item c.args.code)) end.told c.finish.ensures.done in
+    let outstanding = outstanding_is setup c.args.self.now c.finish.new.self core c.args.told.at.name c.args.told.at.dev c.args.told.at.ep c.args.item c.args.told.n c.args.ending.actual c.args.code end.tells finished ∙ sym c.errand.ensures in
+    ends_event setup c.args.self.now c.finish.new.self _ core c.args.told.at.name c.args.told.at.dev c.args.told.at.ep c.args.item c.args.told.n c.args.ending.actual c.args.code c.next_order.result end.tells end.other finished
+    (λ gone next p found. c.next_order.ensures.endpoint gone next p (core.endpoints c.args.told.at.dev c.args.told.at.ep) found outstanding)
     (λ none. elim c.match-next_order.branch [
       | in-Some w ↦ absurd (cc (none, w.in-Some.is))
       | in_default w ↦ w.self-is
     ])
     (λ errand some. elim c.match-next_order.branch [
-      | in-Some w ↦ subst₂ (λ o s. Posts c.finish.new.self s c.args.told.name c.args.told.dev c.args.told.ep o) (same_Some w.in-Some.errand errand (sym w.in-Some.is ∙ some)) (sym w.self-is) (w.post.ensures.done c.args.told.name)
+      | in-Some w ↦ subst₂ (λ o s. Posts c.finish.new.self s c.args.told.at.name c.args.told.at.dev c.args.told.at.ep o) (same_Some w.in-Some.errand errand (sym w.in-Some.is ∙ some)) (sym w.self-is) (w.post.ensures.done c.args.told.at.name)
       | in_default w ↦ absurd (cc (some, w.in_default.is))
     ])
 
