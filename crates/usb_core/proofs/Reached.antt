@@ -12,12 +12,25 @@ use Rattle.usb_account.proofs.Cut.Runs.{cuts_at}
 use Rattle.usb_account.proofs.Places.Runs.{keeps_places}
 use Rattle.usb_state.specs.State.{ShowsWorld, State}
 use Rattle.usb_state.specs.Steps.{Turns}
-use Rattle.usb_core.specs.Running.{ObeysLaws}
+use Rattle.usb_shows.specs.Lively.{IsFine}
+use Rattle.usb_core.specs.Running.{IsLawfulRun, ObeysLaws}
 use Rattle.usb_core.specs.Stepping.{Advances}
+use Rattle.usb_core.proofs.CallsBack.{calls_back_in_order, calls_back_once}
+use Rattle.usb_core.proofs.Unsized.{cut_anywhere}
 
 -- every run obeys the laws
 pub obeys_laws : (setup : Setup) (steps : List Step) → ObeysLaws setup steps
 obeys_laws setup steps = record { cut = cuts_at setup steps; places = keeps_places setup steps; ends = asked_ends setup steps }
+
+-- that of a core has nothing more to ask of its setup
+lawful_run : (setup : Setup) (steps : List Step) → IsFine setup → IsLawfulRun setup steps
+lawful_run setup steps fine = record {
+  cut = cut_anywhere setup steps fine;
+  places = keeps_places setup steps;
+  ends = asked_ends setup steps;
+  once = calls_back_once setup steps;
+  order = calls_back_in_order setup steps;
+}
 
 -- no entries are those of no steps
 pub none_stopped : (setup : Setup) (steps : List Step) (es : List Entry) → es ≡ [] → es ≡ world_run setup (take (length es) steps)
@@ -56,3 +69,7 @@ module _ {P : Type 0} (setup : Setup) (steps : List Step) where
   -- at the end they are the run's
   pub all : (s : State P) (es : List Entry) (i : ℕ) → length steps ≤ i → Reached s es i → es ≡ world_run setup steps
   all s es i past (w, shows, so_far) = run_ends setup w steps i es (world_run setup steps) past so_far
+
+  -- whatever steps are made by such a core, their run is lawful
+  pub lawful : (s : State P) (es : List Entry) (i : ℕ) → Reached s es i → (made : List Step) → IsLawfulRun setup made
+  lawful s es i (w, shows, so_far) made = lawful_run setup made shows.1.fine

@@ -39,8 +39,8 @@ impl<P, D: Device> Core<P, D> {
         self.parts.taken(dev, ep, i)
     }
 
-    /// What is to be done next. Endpoints are looked at from behind this one on, in a circle; from the first one on
-    /// where there is none. Takes no memory.
+    /// What is to be done next. Endpoints are looked at by device and address from behind this one on, in a circle; from the
+    /// first one on where there is none. Takes no memory.
     pub fn pending(&self, after: Option<(DeviceNo, EpAddr)>) -> Pending
         ensures { (setup : ModelSetup) (w : World) → ShowsWorld setup self.now w → IsPending setup w after result }
     {

@@ -3,17 +3,19 @@
 ghost use Rattle.std.specs.Prelude.{◌≡◌, ◌<◌, ◌⊎◌, [], IfErr, IfOk, OnErr, length, take};
 ghost use Rattle.usb_model.specs.World.Journal.{IsBeginning, world_run};
 ghost use Rattle.usb_state.specs.Making.{setup_of};
-ghost use Rattle.usb_core.specs.Running.{ObeysLaws};
+ghost use Rattle.usb_core.specs.Running.{IsLawfulRun, ObeysLaws};
 ghost use Rattle.usb_core.specs.Stepping.{Advances};
 
 use crate::calls::Core;
 use std::alloc::{AllocError, Global};
+use thiserror::Error;
 use usb_device::Device;
 use usb_model::{Entry, Sequence, Step};
 use usb_parts::Setup;
 
 /// A run that found no memory: the entries before the step that found none.
-#[derive(Debug, Drop)]
+#[derive(Debug, Drop, Error)]
+#[error("there is no memory")]
 pub struct Stopped {
     /// The entries so far.
     pub entries: Sequence<Entry>,
@@ -47,6 +49,8 @@ pub fn run<D: Device>(
     ensures stopped { IfErr result (λ stopped. stopped.entries ≡ world_run (setup_of setup) (take (length stopped.entries) steps.now)) }
     ensures left { IfErr result (λ stopped. (stopped.entries ≡ []) ⊎ (length stopped.entries < length steps.now)) }
     ensures laws { ObeysLaws (setup_of setup) steps.now }
+    ensures lawful { IfOk result (λ _. IsLawfulRun (setup_of setup) steps.now) }
+    ensures lawful_so_far { IfErr result (λ stopped. (stopped.entries ≡ []) ⊎ IsLawfulRun (setup_of setup) (take (length stopped.entries) steps.now)) }
 {
     let mut entries = Sequence::new(alloc);
     let Ok(mut core) = Core::new(alloc, setup) else {

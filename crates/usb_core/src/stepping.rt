@@ -9,6 +9,8 @@ ghost use Rattle.usb_state.specs.Steps.{Turns};
 ghost use Rattle.usb_core.specs.Stepping.{GoesOut, answered, first_payload, handed_out, kept_after, left_over, takes_memory};
 
 use crate::calls::Core;
+use std::fmt;
+use thiserror::Error;
 use usb_device::Device;
 use usb_model::{Entry, Name, Refused, Reply, Step, Verdict};
 use usb_parts::{Taken, Unaccepted};
@@ -25,10 +27,18 @@ pub struct Stepped<P> {
 }
 
 /// A step that found no memory. Nothing changed.
-#[derive(Drop)]
+#[derive(Drop, Error)]
+#[error("there is no memory")]
 pub struct NoMemory<P> {
     /// The payload that was given with the step.
     pub payload: Option<P>,
+}
+
+/// Shows no payload, which may have no form that can be shown.
+impl<P> fmt::Debug for NoMemory<P> {
+    fn fmt<W: fmt::Write>(&self, f: &mut fmt::Formatter<W>) -> fmt::Result {
+        f.write_str("NoMemory")
+    }
 }
 
 /// The entry of a name's step.

@@ -1,7 +1,7 @@
 -- A step further each turn.
-use Rattle.std.proofs.Common.{inr}
+use Rattle.std.proofs.Common.{inl, inr, length, take}
 use Rattle.usb_state.specs.Making.{setup_of}
-use Rattle.usb_core.proofs.Reached.{all, left, none_stopped, none_yet, obeys_laws, one_more, stopped}
+use Rattle.usb_core.proofs.Reached.{all, lawful, left, none_stopped, none_yet, obeys_laws, one_more, stopped}
 use Rattle.usb_core.proofs.running.run.Goals as goal
 
 pub returns-in_default-clause-laws : goal.returns-in_default-clause-laws
@@ -30,3 +30,13 @@ returns-in_default-advance-clause-left g c = inr (rw c.in_default-advance.ensure
 
 pub returns-clause-entries : goal.returns-clause-entries
 returns-clause-entries g c = all (setup_of c.args.setup) c.args.steps.now c.loop-step.core c.loop-step.entries c.loop-step.step-index c.loop-step-test.false c.loop-step.invariant
+
+pub returns-clause-lawful : goal.returns-clause-lawful
+returns-clause-lawful g c = lawful (setup_of c.args.setup) c.args.steps.now c.loop-step.core c.loop-step.entries c.loop-step.step-index c.loop-step.invariant c.args.steps.now
+
+pub returns-in_default-clause-lawful_so_far : goal.returns-in_default-clause-lawful_so_far
+returns-in_default-clause-lawful_so_far g c = inl c.new-entries.ensures
+
+pub returns-in_default-advance-clause-lawful_so_far : goal.returns-in_default-advance-clause-lawful_so_far
+returns-in_default-advance-clause-lawful_so_far g c =
+    inr (lawful (setup_of c.args.setup) c.args.steps.now c.loop-step.core c.loop-step.entries c.loop-step.step-index c.loop-step.invariant (take (length c.advance.new.entries) c.args.steps.now))
