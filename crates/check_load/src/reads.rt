@@ -126,9 +126,8 @@ fn threads<R: Threads + Wait + Sync, L: Naming + Send + Sync, J: Recorder + Send
 where
     J::Draft: Send,
 {
-    let (Some(one), Some(other)) = (library.caller(rt), library.caller(rt)) else {
-        return Err(anyhow!("no callers"));
-    };
+    let one = library.caller(rt)?;
+    let other = library.caller(rt)?;
     if !two {
         return thread(rt, library, one, 1, turns);
     }

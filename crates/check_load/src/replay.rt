@@ -7,7 +7,7 @@ use usb_book::Place;
 use usb_core::run;
 use usb_model::{Entry, Name, Reply, Step};
 use usb_purge::alone;
-use usb_stand::{devices, twins};
+use usb_stand::devices;
 
 /// Whether two entries print the same.
 fn is_same(alloc: Global, one: &Entry, other: &Entry) -> Result<bool> {
@@ -48,8 +48,8 @@ fn is_alone(alloc: Global, sizes: &[u16], steps: &[Step], h: u8, transfers: u64)
     let Some(name) = Name::new(h) else {
         return Err(anyhow!("no name {h}"));
     };
-    let (shared, apart) = twins(alloc, DEVICES, 8, sizes)?;
-    let both = alone(alloc, shared, apart, steps, name)?;
+    let setup = devices(alloc, DEVICES, 8, sizes)?;
+    let both = alone(alloc, setup, steps, name)?;
     are_same(alloc, both.shared.as_slice(), both.alone.as_slice())?;
     if callbacks_in(both.alone.as_slice()) != Some(transfers) {
         return Err(anyhow!("handle {h} has other callbacks"));

@@ -1,6 +1,7 @@
 -- What is told of a callback's verdict, and which stage of a plan a return leads to.
 use Rattle.std.proofs.Common.{◌≡◌, ℕ, Bool, true, false, ◌⊎◌, inl, inr, List, [], ◌∷◌, Option, Some, None, refl, ap, sym, ◌∙◌, subst}
 use Rattle.std.specs.Prelude.{Result, Ok, Err, IfOk, IfSome, if◌then◌else◌, is_some}
+use Rattle.std.proofs.lemmas.Option.{same_Some}
 use Rattle.usb_model.specs.declared.effect.Effect.{Effect}
 use Rattle.usb_model.specs.declared.endpoint.Endpoint.{Endpoint}
 use Rattle.usb_model.specs.declared.entry.Entry.{Entry}
@@ -10,6 +11,7 @@ use Rattle.usb_model.specs.declared.refused.Refused.{Refused}
 use Rattle.usb_model.specs.declared.refused.Refused.TheVariants as refused
 use Rattle.usb_model.specs.declared.reply.Reply.{Reply}
 use Rattle.usb_model.specs.declared.reply.Reply.TheVariants as reply
+use Rattle.usb_model.specs.declared.reply.Returned.{Returned}
 use Rattle.usb_model.specs.declared.request.Request.{Request}
 use Rattle.usb_model.specs.declared.result.InCallback.{InCallback}
 use Rattle.usb_model.specs.declared.step.Step.{Step}
@@ -24,11 +26,11 @@ use Rattle.usb_model.specs.Numbers.{is_stop, takes_payload}
 use Rattle.usb_model.specs.Setup.{Setup}
 use Rattle.usb_model.specs.World.{World, machine_of, turn, world_from}
 use Rattle.usb_model.specs.World.Journal.{journal_from, run_from}
-use Rattle.usb_model.specs.World.Plans.{Book, FitsReturn, FitsRule, Stage, is_other_refusal, is_submit, needs_stop, noted_by, returning, rule_for, rules_after, stage_after}
+use Rattle.usb_model.specs.World.Plans.{Book, FitsReturn, FitsRule, Stage, is_other_refusal, is_submit, needs_stop, noted_by, return_steps, returning, rule_for, rules_after, stage_after}
 use Rattle.usb_callback.specs.Callbacks.{Fits}
 use Rattle.usb_parts.specs.declared.taking.Taken.{Taken}
 use Rattle.usb_purge.specs.declared.plan_run.Performed.{Performed}
-use Rattle.usb_purge.specs.PlanRuns.{entries_of, of_option, IsUnder, MakesAnswer, MakesStep, Performs, PlanState, Returns, running_at, ShowsBut, ShowsStage, stage_behind, still_called}
+use Rattle.usb_purge.specs.PlanRuns.{CallsThere, GivesVerdict, IsUnder, MakesAnswer, MakesStep, Performs, PlanState, Returns, ReturnsBy, RunBehindReturn, ShowsBut, ShowsStage, entries_of, of_option, running_at, stage_behind, still_called}
 use Rattle.usb_purge.specs.Returning.{AnswerEnds, IsReached, IsTold, callback_at, ends_callback, is_answer, is_there}
 use Rattle.usb_purge.proofs.Homes.{homed}
 use Rattle.usb_purge.proofs.Returning.{keeps_callbacks}
@@ -154,12 +156,16 @@ module _ {P : Type 0} (rule : P → Rule) where
   back_under taken None r same under = tt
   back_under taken (Some c) r same under = ap rule same ∙ under
 
-  -- a return of one verdict
-  pub returns_once : (old : PlanState P) (h n : ℕ) (taken : Taken P) (v : Verdict) (again : Option P) (entry : Entry) (new : PlanState P) → Fits (rule taken.payload) taken.returned v → IfSome again (λ c. c ≡ taken.payload)
-      → MakesAnswer rule old h n (Answer h n v) again entry new → needs_stop v entry.reply ≡ false → Returns rule old h n taken (entry ∷ []) new
-  returns_once old h n taken v again entry new fits same makes once setup s x shown there told under = (
-    Answer h n v ∷ [],
-    (v, fits_return s h n taken v x fits there told under, sym (rw once_there refl)),
+  -- what a return with this verdict is at each stage at which its callback was called
+  abbrev ReturnsAt : PlanState P → (h n : ℕ) → Taken P → Verdict → List Entry → PlanState P → Type 0
+  ReturnsAt old h n taken v entries new = (setup : Setup) (s : Stage) (x : InCallback) → ShowsBut rule setup (is_there h n) old s → returning s h n ≡ Some x → IsTold taken.returned x → rule taken.payload ≡ s.book h n
+      → ReturnsBy rule setup s h n v (return_steps setup s.world h n v) entries new
+
+  -- a return of one verdict, at a stage
+  once_at : (old : PlanState P) (h n : ℕ) (taken : Taken P) (v : Verdict) (again : Option P) (entry : Entry) (new : PlanState P) → Fits (rule taken.payload) taken.returned v → IfSome again (λ c. c ≡ taken.payload)
+      → MakesAnswer rule old h n (Answer h n v) again entry new → needs_stop v entry.reply ≡ false → ReturnsAt old h n taken v (entry ∷ []) new
+  once_at old h n taken v again entry new fits same makes once setup s x shown there told under = subst (λ l. ReturnsBy rule setup s h n v l (entry ∷ []) new) (sym is) (
+    fits_return s h n taken v x fits there told under,
     ap (λ e. e ∷ []) now.0 ∙ sym (one_entry setup s.world (Answer h n v)),
     subst (ShowsStage rule setup new) (behind_one setup s h n v) (subst (λ b. ShowsBut rule setup (still_called b h n) new behind) ends now.1),
   )
@@ -173,6 +179,9 @@ module _ {P : Type 0} (rule : P → Rule) where
       once_there : needs_stop v (turn setup s.world (Answer h n v)).entry.reply ≡ false
       once_there = subst (λ (e : Entry). needs_stop v e.reply ≡ false) now.0 once
 
+      is : return_steps setup s.world h n v ≡ Answer h n v ∷ []
+      is = rw once_there refl
+
       by_verdict : (k : Verdict) → v ≡ k → EndsOrNot (turn setup s.world (Answer h n v)).entry.reply → needs_stop k (turn setup s.world (Answer h n v)).entry.reply ≡ false → ends_callback (turn setup s.world (Answer h n v)).entry.reply ≡ true
       by_verdict verdict.Stop is told no_stop = ap (λ k. ends_callback (turn setup s.world (Answer h n k)).entry.reply) is ∙ ap ends_callback (stop_done setup s.world h n x there)
       by_verdict _ is (inl ends) no_stop = ends
@@ -182,12 +191,11 @@ module _ {P : Type 0} (rule : P → Rule) where
       ends = ap (λ (e : Entry). ends_callback e.reply) now.0 ∙ by_verdict v refl (answer_ends_or_not setup s.world (reached setup old.core s.world shown.world) h n v x there) once_there
 
   -- and of two
-  pub returns_twice : (old : PlanState P) (h n : ℕ) (taken : Taken P) (v : Verdict) (again : Option P) (entry : Entry) (mid : PlanState P) (stop : Entry) (new : PlanState P) → Fits (rule taken.payload) taken.returned v
+  twice_at : (old : PlanState P) (h n : ℕ) (taken : Taken P) (v : Verdict) (again : Option P) (entry : Entry) (mid : PlanState P) (stop : Entry) (new : PlanState P) → Fits (rule taken.payload) taken.returned v
       → IfSome again (λ c. c ≡ taken.payload) → MakesAnswer rule old h n (Answer h n v) again entry mid → needs_stop v entry.reply ≡ true → MakesAnswer rule mid h n (Answer h n verdict.Stop) None stop new
-      → Returns rule old h n taken (entry ∷ stop ∷ []) new
-  returns_twice old h n taken v again entry mid stop new fits same makes twice makes_stop setup s x shown there told under = (
-    Answer h n v ∷ Answer h n verdict.Stop ∷ [],
-    (v, fits_return s h n taken v x fits there told under, sym (rw twice_there refl)),
+      → ReturnsAt old h n taken v (entry ∷ stop ∷ []) new
+  twice_at old h n taken v again entry mid stop new fits same makes twice makes_stop setup s x shown there told under = subst (λ l. ReturnsBy rule setup s h n v l (entry ∷ stop ∷ []) new) (sym is) (
+    fits_return s h n taken v x fits there told under,
     ap (λ e. e ∷ stop ∷ []) now.0 ∙ (ap (λ e. (turn setup s.world (Answer h n v)).entry ∷ e ∷ []) then.0 ∙ sym (two_entries setup s.world (Answer h n v) (Answer h n verdict.Stop))),
     subst (ShowsStage rule setup new) (behind_two setup s behind h n v verdict.Stop refl done) (subst (λ b. ShowsBut rule setup (still_called b h n) new (stage_behind setup behind (Answer h n verdict.Stop) (s.book h n) s.rules)) ends then.1),
   )
@@ -200,6 +208,9 @@ module _ {P : Type 0} (rule : P → Rule) where
 
       twice_there : needs_stop v (turn setup s.world (Answer h n v)).entry.reply ≡ true
       twice_there = subst (λ (e : Entry). needs_stop v e.reply ≡ true) now.0 twice
+
+      is : return_steps setup s.world h n v ≡ Answer h n v ∷ Answer h n verdict.Stop ∷ []
+      is = rw twice_there refl
 
       goes_on : ends_callback entry.reply ≡ false
       goes_on = refusal_goes_on entry.reply (needs_refused v entry.reply twice)
@@ -248,12 +259,39 @@ module _ {P : Type 0} (rule : P → Rule) where
       still : AnswerEnds false h n s.world behind.world
       still = subst (λ b. AnswerEnds b h n s.world behind.world) (sym (ap (λ (e : Entry). ends_callback e.reply) now.0) ∙ goes_on) ((keeps_callbacks setup s.world (reached setup old.core s.world shown.world)).answers h n verdict.Stop)
 
-  -- a return of one that is
-  pub returns_some : (old mid new : PlanState P) (h n : ℕ) (callback : Option P) (taken : Taken P) (entries : List Entry) → mid.core ≡ old.core → ((g m : ℕ) → running_at mid.running g m ≡ (if is_there h n g m then None else running_at old.running g m))
-      → running_at old.running h n ≡ Some taken → Returns rule mid h n taken entries new → Performs rule old (Return h n) callback entries new
-  returns_some old mid new h n callback taken entries same out runs returns setup s shown under =
-      let d = due rule setup old s h n taken shown runs in
-      returns setup s d.its (taken_out rule setup old mid s h n shown same out) d.there d.told d.under
+  -- may: the verdicts that a callback's code may give
+  module _ (may : P → Returned → Verdict → Type 0) where
+    -- a callback that was called returned with one verdict
+    pub returns_once : (old : PlanState P) (h n : ℕ) (taken : Taken P) (v : Verdict) (again : Option P) (entry : Entry) (new : PlanState P) → may taken.payload taken.returned v → Fits (rule taken.payload) taken.returned v → IfSome again (λ c. c ≡ taken.payload)
+        → MakesAnswer rule old h n (Answer h n v) again entry new → new.running ≡ old.running → needs_stop v entry.reply ≡ false → Returns rule may old h n taken (entry ∷ []) new
+    returns_once old h n taken v again entry new answers fits same makes stay once = (v, answers, stay, once_at old h n taken v again entry new fits same makes once)
+
+    -- or with two
+    pub returns_twice : (old : PlanState P) (h n : ℕ) (taken : Taken P) (v : Verdict) (again : Option P) (entry : Entry) (mid : PlanState P) (stop : Entry) (new : PlanState P) → may taken.payload taken.returned v → Fits (rule taken.payload) taken.returned v
+        → IfSome again (λ c. c ≡ taken.payload) → MakesAnswer rule old h n (Answer h n v) again entry mid → mid.running ≡ old.running → needs_stop v entry.reply ≡ true → MakesAnswer rule mid h n (Answer h n verdict.Stop) None stop new → new.running ≡ mid.running
+        → Returns rule may old h n taken (entry ∷ stop ∷ []) new
+    returns_twice old h n taken v again entry mid stop new answers fits same makes stay twice makes_stop stay_too = (v, answers, stay_too ∙ stay, twice_at old h n taken v again entry mid stop new fits same makes twice makes_stop)
+
+    -- the callback was taken out of those that run
+    module _ (old mid new : PlanState P) (h n : ℕ) (taken : Taken P) (entries : List Entry) (same : mid.core ≡ old.core) (out : (g m : ℕ) → running_at mid.running g m ≡ (if is_there h n g m then None else running_at old.running g m)) where
+      -- then its return performs a piece of a plan
+      returns_some : (callback : Option P) → running_at old.running h n ≡ Some taken → Returns rule may mid h n taken entries new → Performs rule old (Return h n) callback entries new
+      returns_some callback runs (v, answers, stay, returns) setup s shown under =
+          let d = due rule setup old s h n taken shown runs in
+          let r = returns setup s d.its (taken_out rule setup old mid s h n shown same out) d.there d.told d.under in
+          (return_steps setup s.world h n v, (v, r.0, refl), r.1, r.2)
+
+      -- and it is the one that was called
+      calls_some : running_at old.running h n ≡ Some taken → Returns rule may mid h n taken entries new → CallsThere rule may old h n entries
+      calls_some runs (v, answers, stay, returns) t is = subst (λ k. GivesVerdict rule may old h n k entries) (same_Some taken t (sym runs ∙ is)) (
+        v,
+        answers,
+        λ setup s shown. let d = due rule setup old s h n taken shown runs in (returns setup s d.its (taken_out rule setup old mid s h n shown same out) d.there d.told d.under).1,
+      )
+
+      -- the others run on
+      runs_some : Returns rule may mid h n taken entries new → RunBehindReturn h n old new
+      runs_some (v, answers, stay, returns) g m = ap (λ k. running_at k g m) stay ∙ out g m
 
   -- a step, as a piece of a plan
   pub performs_step : (old new : PlanState P) (step : Step) (callback : Option P) (entry : Entry) → is_answer step ≡ false → MakesStep rule old step callback entry new → Performs rule old (Do step) callback (entry ∷ []) new
@@ -264,12 +302,27 @@ module _ {P : Type 0} (rule : P → Rule) where
 
   module _ {E : Type 0} where
     -- where it found memory
-    pub return_result : (old mid new : PlanState P) (h n : ℕ) (callback : Option P) (taken : Taken P) (r : Result (Performed P) E) → mid.core ≡ old.core → ((g m : ℕ) → running_at mid.running g m ≡ (if is_there h n g m then None else running_at old.running g m))
-        → running_at old.running h n ≡ Some taken → IfOk r (λ x. Returns rule mid h n taken (entries_of x) new) → IfOk r (λ x. Performs rule old (Return h n) callback (entries_of x) new)
-    return_result old mid new h n callback taken (Ok x) same out runs returns = returns_some old mid new h n callback taken (entries_of x) same out runs returns
-    return_result old mid new h n callback taken (Err e) same out runs returns = tt
+    pub return_result : (may : P → Returned → Verdict → Type 0) (old mid new : PlanState P) (h n : ℕ) (callback : Option P) (taken : Taken P) (r : Result (Performed P) E) → mid.core ≡ old.core → ((g m : ℕ) → running_at mid.running g m ≡ (if is_there h n g m then None else running_at old.running g m))
+        → running_at old.running h n ≡ Some taken → IfOk r (λ x. Returns rule may mid h n taken (entries_of x) new) → IfOk r (λ x. Performs rule old (Return h n) callback (entries_of x) new)
+    return_result may old mid new h n callback taken (Ok x) same out runs returns = returns_some may old mid new h n taken (entries_of x) same out callback runs returns
+    return_result may old mid new h n callback taken (Err e) same out runs returns = tt
+
+    pub call_result : (may : P → Returned → Verdict → Type 0) (old mid new : PlanState P) (h n : ℕ) (taken : Taken P) (r : Result (Performed P) E) → mid.core ≡ old.core → ((g m : ℕ) → running_at mid.running g m ≡ (if is_there h n g m then None else running_at old.running g m))
+        → running_at old.running h n ≡ Some taken → IfOk r (λ x. Returns rule may mid h n taken (entries_of x) new) → IfOk r (λ x. CallsThere rule may old h n (entries_of x))
+    call_result may old mid new h n taken (Ok x) same out runs returns = calls_some may old mid new h n taken (entries_of x) same out runs returns
+    call_result may old mid new h n taken (Err e) same out runs returns = tt
+
+    pub run_result : (may : P → Returned → Verdict → Type 0) (old mid new : PlanState P) (h n : ℕ) (taken : Taken P) (r : Result (Performed P) E) → mid.core ≡ old.core → ((g m : ℕ) → running_at mid.running g m ≡ (if is_there h n g m then None else running_at old.running g m))
+        → IfOk r (λ x. Returns rule may mid h n taken (entries_of x) new) → IfOk r (λ x. RunBehindReturn h n old new)
+    run_result may old mid new h n taken (Ok x) same out returns = runs_some may old mid new h n taken (entries_of x) same out returns
+    run_result may old mid new h n taken (Err e) same out returns = tt
 
     pub step_result : (old new : PlanState P) (step : Step) (callback : Option P) (r : Result (Performed P) E) → is_answer step ≡ false → IfOk r (λ x. MakesStep rule old step callback x.entry new) → IfOk r (λ x. x.stop ≡ None)
         → IfOk r (λ x. Performs rule old (Do step) callback (entries_of x) new)
     step_result old new step callback (Ok x) plain makes once = subst (λ l. Performs rule old (Do step) callback l new) (ap (λ o. x.entry ∷ of_option o) (sym once)) (performs_step old new step callback x.entry plain makes)
     step_result old new step callback (Err e) plain makes once = tt
+
+-- a step calls no callback
+pub calls_none : {P E : Type 0} (r : Result (Performed P) E) → IfOk r (λ x. Unit {0})
+calls_none (Ok x) = tt
+calls_none (Err e) = tt

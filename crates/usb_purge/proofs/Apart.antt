@@ -1,28 +1,25 @@
--- A run of all steps beside one of a handle's own.
-use Rattle.std.proofs.Common.{◌≡◌, ℕ, ◌+◌, ◌<◌, ◌≤◌, Bool, true, false, inl, inr, List, [], ◌∷◌, ◌++◌, drop, length, slice_index_or, refl, ap, sym, ◌∙◌, subst, append-nil, append_assoc}
+-- A run of all steps, and one of a handle's own.
+use Rattle.std.proofs.Common.{◌≡◌, ℕ, ◌+◌, ◌<◌, ◌≤◌, Bool, true, false, List, [], ◌∷◌, ◌++◌, drop, length, slice_index_or, refl, ap, sym, ◌∙◌, subst, append-nil, append_assoc}
+use Rattle.std.specs.Prelude.{IfOk, Result, Ok, Err, if◌then◌else◌}
 use Rattle.std.proofs.lemmas.List.{drop_all, drop_more}
 use Rattle.usb_model.specs.declared.entry.Entry.{Entry}
 use Rattle.usb_model.specs.declared.step.Step.{Step}
 use Rattle.usb_model.specs.Setup.{Setup}
 use Rattle.usb_model.specs.Machine.Turns.{alone}
-use Rattle.usb_model.specs.World.{World, machine_of, new_world, turn}
-use Rattle.usb_model.specs.World.Journal.{entries, is_own, journal, journal_from, own, world_run}
-use Rattle.usb_lemmas.proofs.Handles.Isolation.{IsEither, entries_from, entries_less, entries_more, sees_alone, turn_to}
-use Rattle.usb_lemmas.proofs.Handles.Alone.{OnlyOf, only_new, runs_alone, turn_again}
+use Rattle.usb_model.specs.World.{World, new_world, turn}
+use Rattle.usb_model.specs.World.Journal.{entries, is_own, journal, journal_from, own, run_from, world_run}
+use Rattle.usb_lemmas.proofs.Handles.Isolation.{entries_from, entries_less, entries_more, own_from, own_less, own_more, sees_alone}
+use Rattle.usb_lemmas.proofs.Handles.Alone.{runs_alone}
 use Rattle.usb_state.specs.State.{ShowsWorld, State}
 use Rattle.usb_state.specs.Steps.{Turns}
 use Rattle.usb_purge.specs.declared.comparison.Comparison.{Comparison}
-use Rattle.usb_purge.specs.Alone.{AreCalledInOrder, AreCalledOnce, StepsAlone, StepsBoth, TellsBeside, TellsBoth, place_of}
-use Rattle.std.specs.Prelude.{IfOk, Result, Ok, Err}
+use Rattle.usb_purge.specs.declared.comparison.Part.{Part}
+use Rattle.usb_purge.specs.Alone.{AreCalledInOrder, AreCalledOnce, IsNext, IsPart, MakesOwn, RunsPicked, Shares, ShowsSome, picked, place_of, with_own}
 use Rattle.usb_purge.proofs.Calls.{calls_once}
 use Rattle.usb_purge.proofs.Order.{calls_in_order}
 
--- a test doesn't come out both ways
-not_both : (b : Bool) → b ≡ true → b ≡ false → ⊥
-not_both b is isnt = cc
-
 -- a run of its own steps gives what the handle's machine says alone
-pub runs_as_alone : (setup : Setup) (steps : List Step) (h : ℕ) → world_run setup (own setup steps h) ≡ alone setup (own setup steps h) h
+runs_as_alone : (setup : Setup) (steps : List Step) (h : ℕ) → world_run setup (own setup steps h) ≡ alone setup (own setup steps h) h
 runs_as_alone setup steps h = runs_alone setup steps h ∙ sees_alone setup steps h
 
 module _ (setup : Setup) (steps : List Step) (h : ℕ) where
@@ -34,128 +31,208 @@ module _ (setup : Setup) (steps : List Step) (h : ℕ) where
   pub entries_in_order : (es : List Entry) → es ≡ entries setup steps h → AreCalledInOrder es
   entries_in_order es are = subst AreCalledInOrder (sym are) (calls_in_order setup steps h)
 
-module _ {P : Type 0} (h : ℕ) (step : Step) where
-  -- a step of another was made amid the others alone
-  pub steps_one : (core core' own : State P) (entry : Entry) (told : Comparison) (mine : Bool) → Turns core step entry core' → mine ≡ is_own h (place_of step entry) → mine ≡ false → StepsBoth h step core core' own own told told
-  steps_one core core' own entry told mine turned tested others = (entry, turned, subst (λ b. StepsAlone b step entry own own told told) (sym others ∙ tested) (refl, refl, refl))
+-- with one in front, where it is marked
+abbrev pub with_first : {A : Type 0} → Bool → A → List A → List A
+with_first mine x xs = if mine then x ∷ xs else xs
 
-  -- one of its own was made by both
-  pub steps_two : (core core' own own' : State P) (entry again : Entry) (told : Comparison) (shared alone : List Entry) (mine : Bool) → Turns core step entry core' → Turns own step again own' → mine ≡ is_own h (place_of step entry) → mine ≡ true
-      → shared ≡ told.shared ++ entry ∷ [] → alone ≡ told.alone ++ again ∷ [] → StepsBoth h step core core' own own' told (record { shared = shared; alone = alone })
-  steps_two core core' own own' entry again told shared alone mine turned turned_again tested owned pushed pushed_again =
-      (entry, turned, subst (λ b. StepsAlone b step entry own own' told (record { shared = shared; alone = alone })) (sym owned ∙ tested) (again, turned_again, pushed, pushed_again))
+module _ {A : Type 0} where
+  -- of the first and the rest
+  pub picked_first : (mine : Bool) (marks : List Bool) (x : A) (xs : List A) → picked (mine ∷ marks) (x ∷ xs) ≡ with_first mine x (picked marks xs)
+  unfolding picked
+  picked_first mine marks x xs = refl
+
+  -- with no marks none is picked
+  pub picked_unmarked : (xs : List A) → picked [] xs ≡ []
+  unfolding picked
+  picked_unmarked xs = refl
+
+  -- nor of none
+  pub picked_none : (marks : List Bool) → ◌≡◌ {A = List A} (picked marks []) []
+  unfolding picked
+  picked_none [] = refl
+  picked_none (mine ∷ marks) = refl
+
+  -- by the next mark
+  pub picked_next : (left more : List Bool) (mine : Bool) (x : A) (xs : List A) → IsNext left more mine → picked left (x ∷ xs) ≡ with_first mine x (picked more xs)
+  unfolding picked
+  picked_next [] more mine x xs (none, rest) = rw (none, rest) refl
+  picked_next (mark ∷ marks) more mine x xs (is, rest) = rw (is, rest) refl
+
+module _ {P : Type 0} (h : ℕ) (step : Step) (core core' : State P) (entry : Entry) (part : Part) (marks : List Bool) (mine : Bool) where
+  -- a step of another was made
+  pub shares_others : Turns core step entry core' → mine ≡ is_own h (place_of step entry) → mine ≡ false → marks ≡ part.own ++ mine ∷ [] → Shares h step core core' part (record { entries = part.entries; own = marks })
+  shares_others turned tested others marked = (
+    entry,
+    turned,
+    marked ∙ ap (λ b. part.own ++ b ∷ []) tested,
+    sym (ap (λ b. with_own b (entry ∷ []) part.entries) (sym tested ∙ others)),
+  )
+
+  -- one of its own was
+  pub shares_own : (es : List Entry) → Turns core step entry core' → mine ≡ is_own h (place_of step entry) → mine ≡ true → marks ≡ part.own ++ mine ∷ [] → es ≡ part.entries ++ entry ∷ [] → Shares h step core core' part (record { entries = es; own = marks })
+  shares_own es turned tested owned marked pushed = (
+    entry,
+    turned,
+    marked ∙ ap (λ b. part.own ++ b ∷ []) tested,
+    pushed ∙ sym (ap (λ b. with_own b (entry ∷ []) part.entries) (sym tested ∙ owned)),
+  )
 
 -- what is left at a step
 rest_is : (steps : List Step) (i : ℕ) (x : Step) → i < length steps → x ≡ slice_index_or steps i x → drop i steps ≡ x ∷ drop (i + 1) steps
 rest_is steps i x within item = drop_more steps i x within ∙ ap (λ y. y ∷ drop (i + 1) steps) (sym item)
 
 module _ {P : Type 0} (setup : Setup) (steps : List Step) (h : ℕ) where
-  -- so many steps were made, and of the handle's own the same beside: to the handle both worlds are one, and it was told the same
-  pub record Beside (s u : State P) (shared apart : List Entry) (i : ℕ) : Type 0 where
+  -- so many steps were made, and this is the handle's part of them
+  pub record Amid (s : State P) (part : Part) (i : ℕ) : Type 0 where
     pub world : World
-    pub its : World
     pub shows : ShowsWorld setup s world
-    pub shows_its : ShowsWorld setup u its
-    pub machine : machine_of setup h world ≡ machine_of setup h its
-    pub only : OnlyOf h its
-    pub told : shared ++ entries_from setup h world (drop i steps) ≡ entries setup steps h
-    pub same : apart ≡ shared
+    pub told : part.entries ++ entries_from setup h world (drop i steps) ≡ entries setup steps h
+    pub joins : (more : List Bool) → picked more (drop i steps) ≡ own_from setup h world (drop i steps) → picked (part.own ++ more) steps ≡ own setup steps h
 
   -- none was
-  pub none_yet : (s u : State P) → ShowsWorld setup s (new_world setup) → ShowsWorld setup u (new_world setup) → Beside s u [] [] 0
+  pub none_yet : (s : State P) → ShowsWorld setup s (new_world setup) → Amid s (record { entries = []; own = [] }) 0
   unfolding journal
-  none_yet s u shows its = record { world = new_world setup; its = new_world setup; shows = shows; shows_its = its; machine = refl; only = only_new setup h; told = refl; same = refl }
+  none_yet s shows = record { world = new_world setup; shows = shows; told = refl; joins = λ more is. is }
 
-  -- one of its own more, by both
-  pub own_step : (s s' u u' : State P) (es fs apart apart' : List Entry) (i : ℕ) (x : Step) (entry again : Entry) → i < length steps → x ≡ slice_index_or steps i x → Beside s u es apart i
-      → Turns s x entry s' → Turns u x again u' → is_own h (place_of x entry) ≡ true → fs ≡ es ++ entry ∷ [] → apart' ≡ apart ++ again ∷ [] → Beside s' u' fs apart' (i + 1)
-  own_step s s' u u' es fs apart apart' i x entry again within item b turned turned_again mine more more_apart = by_turn (turn_to setup h b.world x)
+  -- one more
+  pub one_more : (s s' : State P) (part part' : Part) (i : ℕ) (x : Step) → i < length steps → x ≡ slice_index_or steps i x → Amid s part i → Shares h x s s' part part' → Amid s' part' (i + 1)
+  one_more s s' part part' i x within item a (entry, turned, marked, pushed) = record {
+    world = (turn setup w x).world;
+    shows = made.1;
+    told = told_by (is_own h (place_of x entry)) refl pushed;
+    joins = λ more is. ap (λ l. picked (l ++ more) steps) marked ∙ (ap (λ l. picked l steps) (append_assoc part.own (is_own h (place_of x entry) ∷ []) more) ∙ a.joins (is_own h (place_of x entry) ∷ more) (picks more (is_own h (place_of x entry)) refl is));
+  }
     where
       w : World
-      w = b.world
+      w = a.world
 
       made : (entry ≡ (turn setup w x).entry) × ShowsWorld setup s' (turn setup w x).world
-      made = turned setup w b.shows
+      made = turned setup w a.shows
 
-      made_again : (again ≡ (turn setup b.its x).entry) × ShowsWorld setup u' (turn setup b.its x).world
-      made_again = turned_again setup b.its b.shows_its
+      rest : List Step
+      rest = drop (i + 1) steps
 
-      mine_here : is_own h (place_of x (turn setup w x).entry) ≡ true
-      mine_here = sym (ap (λ e. is_own h (place_of x e)) made.0) ∙ mine
+      left_is : drop i steps ≡ x ∷ rest
+      left_is = rest_is steps i x within item
 
-      split : entries_from setup h w (drop i steps) ≡ entry ∷ entries_from setup h (turn setup w x).world (drop (i + 1) steps)
-      split = ap (entries_from setup h w) (rest_is steps i x within item) ∙ (entries_more setup h w x (drop (i + 1) steps) mine_here ∙ ap (λ e. e ∷ entries_from setup h (turn setup w x).world (drop (i + 1) steps)) (sym made.0))
+      here : (mine : Bool) → is_own h (place_of x entry) ≡ mine → is_own h (place_of x (turn setup w x).entry) ≡ mine
+      here mine e = sym (ap (λ k. is_own h (place_of x k)) made.0) ∙ e
 
-      by_turn : IsEither setup h w x (turn setup w x) → Beside s' u' fs apart' (i + 1)
-      by_turn (inr n) = absurd (not_both (is_own h (place_of x (turn setup w x).entry)) mine_here n.0)
-      by_turn (inl o) =
-          let t = turn_again setup h w b.its x b.machine b.only o in
-          record {
-            world = (turn setup w x).world;
-            its = (turn setup b.its x).world;
-            shows = made.1;
-            shows_its = made_again.1;
-            machine = t.1;
-            only = t.2;
-            told = ap (λ l. l ++ entries_from setup h (turn setup w x).world (drop (i + 1) steps)) more ∙ (append_assoc es (entry ∷ []) (entries_from setup h (turn setup w x).world (drop (i + 1) steps)) ∙ (sym (ap (λ l. es ++ l) split) ∙ b.told));
-            same = more_apart ∙ (ap (λ l. l ++ again ∷ []) b.same ∙ (ap (λ e. es ++ e ∷ []) (made_again.0 ∙ (t.0 ∙ sym made.0)) ∙ sym more));
-          }
+      later : List Entry
+      later = entries_from setup h (turn setup w x).world rest
 
-  -- one of another's more
-  pub others_step : (s s' u : State P) (es apart : List Entry) (i : ℕ) (x : Step) (entry : Entry) → i < length steps → x ≡ slice_index_or steps i x → Beside s u es apart i
-      → Turns s x entry s' → is_own h (place_of x entry) ≡ false → Beside s' u es apart (i + 1)
-  others_step s s' u es apart i x entry within item b turned others = by_turn (turn_to setup h b.world x)
+      more_told : is_own h (place_of x entry) ≡ true → entries_from setup h w (drop i steps) ≡ entry ∷ later
+      more_told e = ap (entries_from setup h w) left_is ∙ (entries_more setup h w x rest (here true e) ∙ ap (λ k. k ∷ later) (sym made.0))
+
+      none_told : is_own h (place_of x entry) ≡ false → entries_from setup h w (drop i steps) ≡ later
+      none_told e = ap (entries_from setup h w) left_is ∙ entries_less setup h w x rest (here false e)
+
+      told_by : (mine : Bool) → is_own h (place_of x entry) ≡ mine → part'.entries ≡ with_own mine (entry ∷ []) part.entries → part'.entries ++ later ≡ entries setup steps h
+      told_by true e is = ap (λ l. l ++ later) is ∙ (append_assoc part.entries (entry ∷ []) later ∙ (sym (ap (λ l. part.entries ++ l) (more_told e)) ∙ a.told))
+      told_by false e is = ap (λ l. l ++ later) is ∙ (sym (ap (λ l. part.entries ++ l) (none_told e)) ∙ a.told)
+
+      own_here : (mine : Bool) → is_own h (place_of x entry) ≡ mine → own_from setup h w (x ∷ rest) ≡ with_first mine x (own_from setup h (turn setup w x).world rest)
+      own_here true e = own_more setup h w x rest (here true e)
+      own_here false e = own_less setup h w x rest (here false e)
+
+      picks : (more : List Bool) (mine : Bool) → is_own h (place_of x entry) ≡ mine → picked more rest ≡ own_from setup h (turn setup w x).world rest → picked (mine ∷ more) (drop i steps) ≡ own_from setup h w (drop i steps)
+      picks more mine e is =
+          ap (λ l. picked (mine ∷ more) l) left_is
+          ∙ (picked_first mine more x rest
+          ∙ (ap (λ l. with_first mine x l) is
+          ∙ (sym (own_here mine e)
+          ∙ sym (ap (own_from setup h w) left_is))))
+
+  -- at the end it is the handle's part of all
+  pub all_told : (s : State P) (part : Part) (i : ℕ) → length steps ≤ i → Amid s part i → IsPart setup steps h part × ShowsSome setup s
+  unfolding journal_from
+  all_told s part i past a = (
+    record {
+      told = sym (append-nil part.entries) ∙ (sym (ap (λ l. part.entries ++ entries_from setup h a.world l) none) ∙ a.told);
+      steps_are = sym (ap (λ l. picked l steps) (append-nil part.own)) ∙ a.joins [] (picked_unmarked (drop i steps) ∙ sym (ap (own_from setup h a.world) none));
+    },
+    (a.world, a.shows),
+  )
+    where
+      none : drop i steps ≡ []
+      none = drop_all i steps past
+
+-- the entries from a step on
+run_more : (setup : Setup) (w : World) (x : Step) (xs : List Step) → run_from setup w (x ∷ xs) ≡ (turn setup w x).entry ∷ run_from setup (turn setup w x).world xs
+unfolding journal_from
+run_more setup w x xs = refl
+
+module _ {P : Type 0} (setup : Setup) (steps : List Step) (marks : List Bool) where
+  -- so many steps were gone through, and those that are marked were made, with these entries
+  pub record Again (s : State P) (told : List Entry) (i : ℕ) (left : List Bool) : Type 0 where
+    pub world : World
+    pub shows : ShowsWorld setup s world
+    pub run : told ++ run_from setup world (picked left (drop i steps)) ≡ world_run setup (picked marks steps)
+
+  -- none was
+  pub none_again : (s : State P) → ShowsWorld setup s (new_world setup) → Again s [] 0 marks
+  unfolding journal
+  none_again s shows = record { world = new_world setup; shows = shows; run = refl }
+
+  -- one more
+  pub one_again : (s s' : State P) (es fs : List Entry) (i : ℕ) (left more : List Bool) (mine : Bool) (x : Step) → i < length steps → x ≡ slice_index_or steps i x → Again s es i left → IsNext left more mine → MakesOwn mine x s s' es fs → Again s' fs (i + 1) more
+  one_again s s' es fs i left more mine x within item a next makes = by_mine mine (ap (λ l. picked left l) (rest_is steps i x within item) ∙ picked_next left more mine x (drop (i + 1) steps) next) makes
     where
       w : World
-      w = b.world
+      w = a.world
 
-      made : (entry ≡ (turn setup w x).entry) × ShowsWorld setup s' (turn setup w x).world
-      made = turned setup w b.shows
+      rest : List Step
+      rest = picked more (drop (i + 1) steps)
 
-      others_here : is_own h (place_of x (turn setup w x).entry) ≡ false
-      others_here = sym (ap (λ e. is_own h (place_of x e)) made.0) ∙ others
+      by_mine : (b : Bool) → picked left (drop i steps) ≡ with_first b x rest → MakesOwn b x s s' es fs → Again s' fs (i + 1) more
+      by_mine true is (entry, turned, pushed) = record { world = (turn setup w x).world; shows = made.1; run = ap (λ l. l ++ later) pushed ∙ (append_assoc es (entry ∷ []) later ∙ (sym (ap (λ l. es ++ l) split) ∙ a.run)) }
+        where
+          made : (entry ≡ (turn setup w x).entry) × ShowsWorld setup s' (turn setup w x).world
+          made = turned setup w a.shows
 
-      split : entries_from setup h w (drop i steps) ≡ entries_from setup h (turn setup w x).world (drop (i + 1) steps)
-      split = ap (entries_from setup h w) (rest_is steps i x within item) ∙ entries_less setup h w x (drop (i + 1) steps) others_here
+          later : List Entry
+          later = run_from setup (turn setup w x).world rest
 
-      by_turn : IsEither setup h w x (turn setup w x) → Beside s' u es apart (i + 1)
-      by_turn (inl o) = absurd (not_both (is_own h (place_of x (turn setup w x).entry)) o.2 others_here)
-      by_turn (inr n) = record {
-        world = (turn setup w x).world;
-        its = b.its;
-        shows = made.1;
-        shows_its = b.shows_its;
-        machine = n.1 ∙ b.machine;
-        only = b.only;
-        told = sym (ap (λ l. es ++ l) split) ∙ b.told;
-        same = b.same;
+          split : run_from setup w (picked left (drop i steps)) ≡ entry ∷ later
+          split = ap (run_from setup w) is ∙ (run_more setup w x rest ∙ ap (λ k. k ∷ later) (sym made.0))
+      by_mine false is (stays, same) = record {
+        world = w;
+        shows = subst (λ u. ShowsWorld setup u w) (sym stays) a.shows;
+        run = ap (λ l. l ++ run_from setup w rest) same ∙ (sym (ap (λ l. es ++ run_from setup w l) is) ∙ a.run);
       }
 
-  -- one step more, whichever it is
-  pub one_more : (s s' u u' : State P) (told told' : Comparison) (i : ℕ) (x : Step) → i < length steps → x ≡ slice_index_or steps i x → Beside s u told.shared told.alone i → StepsBoth h x s s' u u' told told' → Beside s' u' told'.shared told'.alone (i + 1)
-  one_more s s' u u' told told' i x within item b (entry, turned, rest) = by_test (is_own h (place_of x entry)) refl rest
-    where
-      by_test : (mine : Bool) → is_own h (place_of x entry) ≡ mine → StepsAlone mine x entry u u' told told' → Beside s' u' told'.shared told'.alone (i + 1)
-      by_test true e (again, turned_again, pushed, pushed_again) = own_step s s' u u' told.shared told'.shared told.alone told'.alone i x entry again within item b turned turned_again e pushed pushed_again
-      by_test false e (stays, shared, alone) =
-          subst (λ v. Beside s' v told'.shared told'.alone (i + 1)) (sym stays)
-          (subst (λ l. Beside s' u l told'.alone (i + 1)) (sym shared) (subst (λ l. Beside s' u told.shared l (i + 1)) (sym alone) (others_step s s' u told.shared told.alone i x entry within item b turned e)))
-
-  -- at the end it was told all
-  pub all_told : (s u : State P) (es apart : List Entry) (i : ℕ) → length steps ≤ i → Beside s u es apart i → es ≡ entries setup steps h
+  -- at the end these are all
+  pub all_again : (s : State P) (es : List Entry) (i : ℕ) (left : List Bool) → length steps ≤ i → Again s es i left → es ≡ world_run setup (picked marks steps)
   unfolding journal_from
-  all_told s u es apart i past b = sym (append-nil es) ∙ (sym (ap (λ l. es ++ entries_from setup h b.world l) (drop_all i steps past)) ∙ b.told)
+  all_again s es i left past a = sym (append-nil es) ∙ (sym (ap (λ l. es ++ run_from setup a.world l) none) ∙ a.run)
+    where
+      none : picked left (drop i steps) ≡ []
+      none = ap (λ l. picked left l) (drop_all i steps past) ∙ picked_none left
 
--- what is told by two cores is told beside one that shows the new world
-pub told_beside : {P : Type 0} {E : Type 0} (answer : Result Comparison E) (setup : Setup) (steps : List Step) (h : ℕ) (core own : State P) → ShowsWorld setup own (new_world setup)
-    → IfOk answer (λ told. TellsBoth steps h core own told) → IfOk answer (λ told. TellsBeside setup steps h core told)
-told_beside (Ok told) setup steps h core own shows all = λ its. all setup its shows
-told_beside (Err e) setup steps h core own shows all = all
+-- what a core that shows the new world of these devices was told to run
+pub ran : {P E : Type 0} (r : Result (List Entry) E) (setup : Setup) (steps : List Step) (marks : List Bool) (core : State P) → ShowsWorld setup core (new_world setup) → IfOk r (λ told. RunsPicked steps marks core told) → IfOk r (λ told. told ≡ world_run setup (picked marks steps))
+ran (Ok told) setup steps marks core shows runs = runs setup shows
+ran (Err e) setup steps marks core shows runs = tt
 
--- what follows from what is told beside a core that shows the new world, of the same devices
-pub on_told : {P : Type 0} {E : Type 0} (Holds : Comparison → Type 0) (answer : Result Comparison E) (apart setup : Setup) (steps : List Step) (h : ℕ) (core : State P) → apart ≡ setup → ShowsWorld setup core (new_world setup)
-    → IfOk answer (λ told. TellsBeside apart steps h core told) → ((told : Comparison) → told.shared ≡ entries setup steps h → told.alone ≡ told.shared → Holds told) → IfOk answer Holds
-on_told Holds (Ok told) apart setup steps h core same shows told_so follows =
-    let both = subst (λ d. TellsBeside d steps h core told) same told_so shows in
-    follows told both.0 both.1
-on_told Holds (Err e) apart setup steps h core same shows told_so follows = told_so
+-- what holds of a handle's entries in both runs
+pub record IsCompared (setup : Setup) (steps : List Step) (h : ℕ) (told : Comparison) : Type 0 where
+  pub shared : told.shared ≡ entries setup steps h
+  pub machine : told.alone ≡ alone setup (own setup steps h) h
+  pub runs : told.alone ≡ world_run setup (own setup steps h)
+  pub same : told.shared ≡ told.alone
+  pub once : AreCalledOnce told.shared
+  pub order : AreCalledInOrder told.shared
+
+-- it holds of the handle's part of a run, and of a run of just these steps over devices that were handed back
+pub compared : (setup back : Setup) (steps : List Step) (h : ℕ) (part : Part) (es : List Entry) → IsPart setup steps h part → back ≡ setup → es ≡ world_run back (picked part.own steps) → IsCompared setup steps h (record { shared = part.entries; alone = es })
+compared setup back steps h part es its same_devices run = record {
+  shared = its.told;
+  machine = runs ∙ runs_as_alone setup steps h;
+  runs = runs;
+  same = its.told ∙ (sym (runs_alone setup steps h) ∙ sym runs);
+  once = entries_once setup steps h part.entries its.told;
+  order = entries_in_order setup steps h part.entries its.told;
+}
+  where
+    runs : es ≡ world_run setup (own setup steps h)
+    runs = run ∙ (ap (λ d. world_run d (picked part.own steps)) same_devices ∙ ap (world_run setup) its.steps_are)

@@ -35,7 +35,7 @@ shown_ruled : {P : Type 0} (rule : P → Rule) (setup : Setup) (v : PlanState P)
 shown_ruled rule setup v s rules x = record { world = x.world; kept = x.kept; carries = x.carries; under = x.under; running = x.running; its = x.its }
 
 -- a piece's first entry tells whether it is the handle's own
-own_by_first : (setup : Setup) (h : ℕ) (s : Stage) (piece : Plan) (here : List Step) (first : Entry) (more : List Entry) → here ≡ steps_of setup s piece → first ∷ more ≡ run_from setup s.world here → is_own_piece setup h s piece ≡ is_own_by h piece first
+pub own_by_first : (setup : Setup) (h : ℕ) (s : Stage) (piece : Plan) (here : List Step) (first : Entry) (more : List Entry) → here ≡ steps_of setup s piece → first ∷ more ≡ run_from setup s.world here → is_own_piece setup h s piece ≡ is_own_by h piece first
 unfolding journal_from
 own_by_first setup h s (Do step) here first more is told = ap (λ e. is_own h (place_of step e)) (sym (first_is first more (turn setup s.world step).entry [] (told ∙ ap (run_from setup s.world) is)))
   where

@@ -12,7 +12,7 @@ use Rattle.usb_model.specs.World.Journal.{IsBeginning, entries, own, world_run}
 use Rattle.usb_model.specs.World.Plans.{expand, first_stage, is_submission}
 use Rattle.usb_lemmas.proofs.Handles.Alone.{runs_alone}
 use Rattle.usb_lemmas.proofs.Handles.Isolation.{sees_alone}
-use Rattle.usb_purge.specs.Alone.{AdvancesBoth, AreLeft, Begins, Compares, PerformsTwice, StartsBoth, TellsOfBoth, TellsPlan, TwinState, alone_of, is_own_by, shared_of}
+use Rattle.usb_purge.specs.Alone.{AdvancesBoth, AreLeft, Begins, PerformsTwice, StartsBoth, TellsPlan, TwinState, alone_of, is_own_by, shared_of}
 use Rattle.usb_purge.specs.declared.comparison.Comparison.{Comparison}
 use Rattle.usb_purge.specs.declared.twins.Told.{Told}
 use Rattle.usb_purge.specs.Driving.{TakesNext}
@@ -82,11 +82,6 @@ module _ {P : Type 0} (rule : P → Rule) (setup : Setup) (plan : List Plan) (ru
   one_more v w shared apart i piece told within item b a =
       plans.one_more rule setup plan rules h v.run w.run v.own w.own shared apart i v.left v.its w.left w.its piece a.callback a.mine told within item b a.takes a.takes_its a.both
 
-  -- and both lists have what is told of it
-  pub compares : (v w : TwinState P) (before after : Comparison) (i : ℕ) (piece : Plan) → i < length plan → piece ≡ slice_index_or plan i piece → AreBeside v before.shared before.alone i → Compares rule h piece v w before after
-      → AreBeside w after.shared after.alone (i + 1)
-  compares v w before after i piece within item b c = rw (c.shared, c.alone) (one_more v w before.shared before.alone i piece c.told within item b c.advances)
-
   -- what was told of the run alone is a beginning of the handle's entries alone
   pub begins : (v : TwinState P) (shared apart : List Entry) (i : ℕ) → AreBeside v shared apart i → IsBeginning apart (alone setup (own setup (expand setup plan rules) h) h)
   begins v shared apart i b = subst (IsBeginning apart) (sees_alone setup (expand setup plan rules) h) (plans.begins rule setup plan rules h v.run v.own shared apart i v.left v.its b)
@@ -130,9 +125,3 @@ starts_both rule setup other plan callbacks others v b same again enough fixed n
   fixed = fixed;
   no_verdict = none;
 }
-
--- what is told of both, where they stood at the beginning of this plan
-pub told_of_both : {P : Type 0} {E : Type 0} (rule : P → Rule) (answer : Result Comparison E) (setup : Setup) (plan : List Plan) (rules : List Rule) (h : ℕ) (v : TwinState P) → StartsBoth rule setup plan rules v
-    → IfOk answer (λ told. TellsOfBoth rule plan h v told) → IfOk answer (λ told. TellsPlan setup plan rules h told)
-told_of_both rule (Ok told) setup plan rules h v starts so = so setup rules starts
-told_of_both rule (Err e) setup plan rules h v starts so = so

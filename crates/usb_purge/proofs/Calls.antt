@@ -3,19 +3,16 @@ use Rattle.std.proofs.Common.{◌≡◌, ℕ, ◌+◌, ◌≤◌, ◌==◌, Bool
 use Rattle.std.proofs.lemmas.Bool.{eqb-true, eqb-false}
 use Rattle.std.proofs.lemmas.List.{map-append}
 use Rattle.usb_model.specs.declared.reply.Reply.{Reply}
-use Rattle.usb_model.specs.declared.reply.Returned.{Returned}
 use Rattle.usb_model.specs.declared.step.Step.{Step}
 use Rattle.usb_model.specs.Setup.{Setup}
 use Rattle.usb_model.specs.Machine.{Machine, new_machine}
-use Rattle.usb_model.specs.Machine.Turns.{effect, machine_after, alone_from, alone}
-use Rattle.usb_model.specs.World.Journal.{own}
+use Rattle.usb_model.specs.Machine.Turns.{effect, machine_after}
 use Rattle.usb_model.specs.Laws.Cut.{times}
-use Rattle.usb_model.specs.Laws.Places.{call_of, calls, numbers_called}
-use Rattle.usb_lemmas.proofs.Handles.Isolation.{sees_alone}
+use Rattle.usb_model.specs.Laws.Places.{call_of}
 use Rattle.usb_lemmas.proofs.Lists.Times.{times-cons, times-append, times_one, times_none}
 use Rattle.usb_lemmas.proofs.Work.Lines.{result_numbers}
 use Rattle.usb_lemmas.proofs.Work.Moves.{lives_at, DoesWork, Submits, Takes, Moves, work_less}
-use Rattle.usb_lemmas.proofs.Work.StepMoves.{moves}
+use Rattle.usb_core.proofs.CallsBack.{calls_back_once}
 use Rattle.usb_purge.specs.Laws.{CallsOnce}
 
 -- how often the number is called by this reply
@@ -145,32 +142,6 @@ next_machine setup h m step = machine_after setup m step (effect setup h m step)
 abbrev pub reply_to : Setup → ℕ → Machine → Step → Reply
 reply_to setup h m step = (effect setup h m step).reply
 
--- how often the number is called from here on
-abbrev called_from : ℕ → Setup → ℕ → Machine → List Step → ℕ
-called_from n setup h m steps = times n (numbers_called (alone_from setup h m steps))
-
--- no step calls none
-called_none : (n : ℕ) (setup : Setup) (h : ℕ) (m : Machine) → called_from n setup h m [] ≡ 0
-unfolding alone_from calls
-called_none n setup h m = refl
-
--- the first step's calls, and the others'
-called_more : (n : ℕ) (setup : Setup) (h : ℕ) (m : Machine) (step : Step) (steps : List Step)
-    → called_from n setup h m (step ∷ steps) ≡ called_now n (reply_to setup h m step) + called_from n setup h (next_machine setup h m step) steps
-unfolding alone_from calls
-called_more n setup h m step steps =
-    let rest : List Returned = calls (alone_from setup h (next_machine setup h m step) steps) in
-    ap (times n) (map-append (λ r. r.n) (call_of (reply_to setup h m step)) rest)
-    ∙ times-append n (map (λ r. r.n) (call_of (reply_to setup h m step))) (map (λ r. r.n) rest)
-
--- so over a run it is called at most once
-once_from : (n called : ℕ) (setup : Setup) (h : ℕ) (m : Machine) (steps : List Step) → IsOnce n called m → called + called_from n setup h m steps ≤ 1
-once_from n called setup h m [] o = omega (arith, o.at_most, called_none n setup h m)
-once_from n called setup h m (step ∷ steps) o =
-    let now : ℕ = called_now n (reply_to setup h m step) in
-    let rest = once_from n (called + now) setup h (next_machine setup h m step) steps (once_kept n called h m (next_machine setup h m step) (reply_to setup h m step) o (moves setup h m step)) in
-    omega (arith, rest, called_more n setup h m step steps)
-
 -- at first each number is still to come
 pub once_new : (n : ℕ) → IsOnce n 0 new_machine
 unfolding new_machine
@@ -178,7 +149,4 @@ once_new n = record { home = 0; at_most = omega arith; no_other = λ at far. ref
 
 -- each transfer is called back at most once
 pub calls_once : (setup : Setup) (steps : List Step) (h : ℕ) → CallsOnce setup steps h
-unfolding alone
-calls_once setup steps h n =
-    let most : 0 + called_from n setup h new_machine (own setup steps h) ≤ 1 = once_from n 0 setup h new_machine (own setup steps h) (once_new n) in
-    subst (λ es. times n (numbers_called es) ≤ 1) (sym (sees_alone setup steps h)) (omega (arith, most))
+calls_once = calls_back_once

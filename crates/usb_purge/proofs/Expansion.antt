@@ -164,7 +164,7 @@ others_piece setup h s (Do step) others = by_turn (turn_to setup h s.world step)
 others_piece setup h s (Return g n) others = others_return setup h s g n others
 
 -- a piece of the handle's own has the same rule where the handle is alone, and leaves the rules of what is to come
-abbrev with_first_rule : Bool → List Rule → List Rule → List Rule
+abbrev pub with_first_rule : Bool → List Rule → List Rule → List Rule
 with_first_rule b rules rest = if b then first_rule rules ∷ rest else rest
 
 -- it has the same rule
@@ -178,7 +178,7 @@ rule_same setup h s t (Do step) rest same mine rules = rw rules (by_test (is_sub
 rule_same setup h s t (Return g n) rest same mine rules = subst (λ k. s.book k n ≡ t.book k n) (sym (eqb-true g h mine)) (same.book n)
 
 -- and leaves the rest
-rules_left : (piece : Plan) (rules rest : List Rule) → rules_after piece (with_first_rule (is_submission piece) rules rest) ≡ rest
+pub rules_left : (piece : Plan) (rules rest : List Rule) → rules_after piece (with_first_rule (is_submission piece) rules rest) ≡ rest
 rules_left (Do step) rules rest = by_test (is_submit step)
   where
     by_test : (b : Bool) → rules_past b (with_first_rule b rules rest) ≡ rest

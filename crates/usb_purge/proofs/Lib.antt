@@ -1,4 +1,3 @@
-mod Rises
 mod Calls
 mod Given
 mod Order
@@ -12,6 +11,7 @@ mod Endpoints
 mod Held
 mod Owners
 mod Returning
+mod Takes
 mod NoneRuns
 mod Stages
 mod Homes
@@ -20,3 +20,4 @@ pub mod Reached
 mod Apart
 mod ApartPlans
 pub mod BothRuns
+mod OwnPlans

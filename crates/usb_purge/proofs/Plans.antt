@@ -70,7 +70,7 @@ fixed_noted book (Some h) (Number n) r all fixed g k = fixed_if ((h == g) && (n 
 fixed_noted book _ _ r all fixed g k = all g k
 
 -- the first of such rules
-fixed_first : (rules : List Rule) → AreFixed rules → IsFixed (first_rule rules)
+pub fixed_first : (rules : List Rule) → AreFixed rules → IsFixed (first_rule rules)
 fixed_first [] all = fixed_once
 fixed_first (r ∷ rules) all = all.0
 
@@ -86,7 +86,7 @@ fixed_past true (r ∷ rules) all = all.1
 fixed_past false rules all = all
 
 -- those that a piece leaves
-fixed_left : (piece : Plan) (rules : List Rule) → AreFixed rules → AreFixed (rules_after piece rules)
+pub fixed_left : (piece : Plan) (rules : List Rule) → AreFixed rules → AreFixed (rules_after piece rules)
 fixed_left (Do step) rules all = fixed_past (is_submit step) rules all
 fixed_left (Return h n) rules all = all
 

@@ -94,7 +94,7 @@ unfolding machine_of
 machine_callbacks setup h n w = refl
 
 -- what is known of a name's machine in a world that a run leads to
-kept : (setup : Setup) (w : World) (r : IsReached setup w) (h : ℕ) → IsKept setup (machine_of setup h w) (numbers_called (entries setup r.0 h))
+pub kept : (setup : Setup) (w : World) (r : IsReached setup w) (h : ℕ) → IsKept setup (machine_of setup h w) (numbers_called (entries setup r.0 h))
 kept setup w (steps, is) h = subst (λ u. IsKept setup (machine_of setup h u) (numbers_called (entries setup steps h))) (sym is) (kept_at setup h steps)
 
 -- a step that is neither a Take nor a verdict leaves the callbacks

@@ -16,6 +16,7 @@ use Rattle.usb_model.specs.Numbers.{takes_payload}
 use Rattle.usb_model.specs.Setup.{Setup}
 use Rattle.usb_model.specs.Machine.Calls.{callback_of}
 use Rattle.usb_model.specs.World.{World, new_world, turn, turn_of_nobody}
+use Rattle.usb_model.specs.Laws.Places.{call_of}
 use Rattle.usb_model.specs.World.Plans.{Book, Stage, first_stage, noted, noted_by, returning}
 use Rattle.usb_parts.specs.declared.taking.Taken.{Taken}
 use Rattle.usb_state.specs.Carrying.{Carries, Kept}
@@ -24,9 +25,10 @@ use Rattle.usb_flight.specs.Flights.{EndedOf}
 use Rattle.usb_state.specs.State.{ShowsWorld, State, result_of}
 use Rattle.usb_state.specs.Steps.{Turns}
 use Rattle.usb_core.specs.Stepping.{GoesOut, first_payload, handed_out, kept_after, kept_by}
-use Rattle.usb_purge.specs.PlanRuns.{IsRunning, IsRunningBut, IsUnder, MakesAnswer, MakesStep, PlanState, RunsToo, ShowsBut, ShowsStage, nowhere, running_at, still_called}
+use Rattle.usb_purge.specs.PlanRuns.{IsRunning, IsRunningBut, IsUnder, MakesAnswer, MakesStep, PlanState, RunBehindStep, RunsToo, ShowsBut, ShowsStage, nowhere, running_at, still_called}
 use Rattle.usb_purge.specs.Returning.{AnswerEnds, CallsBack, IsReached, IsTold, KeepsCallbacks, SameCallbacks, TakeCalls, callback_at, ends_callback, is_answer, is_of_callback, is_there}
 use Rattle.usb_purge.proofs.Returning.{keeps_callbacks}
+use Rattle.usb_purge.proofs.Takes.{is_take, no_call}
 
 -- a world that is shown is one that a run leads to
 pub reached : {P : Type 0} (setup : Setup) (core : State P) (w : World) → ShowsWorld setup core w → IsReached setup w
@@ -284,6 +286,36 @@ module _ {P : Type 0} (rule : P → Rule) where
 
       behind : RunBehind s.world after old.running new.running (kept_after shown.kept step entry callback)
       behind = by_take step refl apart
+
+-- the callbacks that run behind a step: where it says that one was called, one came out
+pub comes_out : {P : Type 0} (old new : PlanState P) (step : Step) (out : Option P) (entry : Entry) (core : State P) → Turns old.core step entry core → out ≡ handed_out old.core step → ((kept : Kept P) → Carries kept old.core → GoesOut kept out entry.reply)
+    → RunsToo entry.reply out old.running new.running → RunBehindStep entry.reply old new
+comes_out {P = P} old new step out entry core turned out_is goes runs = by_reply entry.reply out refl out_is goes runs
+  where
+    -- in a world that is shown none is called where none is handed out
+    not_without : (r : Returned) → entry.reply ≡ reply.Called r → None ≡ handed_out old.core step → (setup : Setup) (w : World) → ShowsWorld setup old.core w → ⊥
+    not_without r is none setup w shown = by_step step refl none
+      where
+        replied : (turn setup w step).entry.reply ≡ reply.Called r
+        replied = sym (ap (λ e. e.reply) (turned setup w shown).0) ∙ is
+
+        calls : call_of (turn setup w step).entry.reply ≡ r ∷ []
+        calls = ap call_of replied
+
+        by_step : (x : Step) → step ≡ x → None ≡ handed_out old.core x → ⊥
+        by_step Take same nothing =
+            let idle : (turn setup w Take).entry.reply ≡ reply.Idle = idle_take setup w (none_ended old.core setup w shown (sym nothing)) in
+            let called : (turn setup w Take).entry.reply ≡ reply.Called r = subst (λ x. (turn setup w x).entry.reply ≡ reply.Called r) same replied in
+            absurd (cc (idle, called))
+        by_step _ same nothing =
+            let silent : call_of (turn setup w step).entry.reply ≡ [] = no_call setup w (reached setup old.core w shown) step (ap is_take same) in
+            absurd (cc (silent, calls))
+
+    by_reply : (r : Reply) (o : Option P) → entry.reply ≡ r → o ≡ handed_out old.core step → ((kept : Kept P) → Carries kept old.core → GoesOut kept o r) → RunsToo r o old.running new.running → RunBehindStep r old new
+    by_reply (reply.Called r) (Some c) is handed gone more = λ setup w shown. record { callback = c; its = gone; runs = more }
+    by_reply (reply.Called r) None is handed gone more = λ setup w shown. absurd (not_without r is handed setup w shown)
+    by_reply _ None is handed gone more = more
+    by_reply _ (Some c) is handed gone more = more
 
 module _ {P : Type 0} (rule : P → Rule) where
   -- before the first step

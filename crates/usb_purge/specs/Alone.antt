@@ -1,5 +1,5 @@
 -- A handle's own part of a run, and what holds of its callbacks.
-use Rattle.std.specs.Prelude.{◌≡◌, ◌≢◌, ℕ, ◌<◌, ◌≤◌, ◌==◌, Bool, true, false, List, [], ◌∷◌, ◌++◌, length, map, Option, Some, None}
+use Rattle.std.specs.Prelude.{◌≡◌, ◌≢◌, ℕ, ◌<◌, ◌≤◌, ◌==◌, Bool, true, false, ◌&&◌, List, [], ◌∷◌, ◌++◌, length, map, Option, Some, None, if◌then◌else◌}
 use Rattle.std.specs.List.{AllByRecursion, count_by}
 use Rattle.std.specs.List.Sorted.{IsStrictlyIncreasing}
 use Rattle.usb_model.specs.declared.entry.Entry.{Entry}
@@ -11,13 +11,14 @@ use Rattle.usb_model.specs.declared.verdict.Rule.TheVariants.{Free}
 use Rattle.usb_model.specs.Setup.{Setup}
 use Rattle.usb_model.specs.Machine.Turns.{alone}
 use Rattle.usb_model.specs.World.Journal.{Place, entries, is_own, own, world_run}
-use Rattle.usb_model.specs.World.Plans.{expand, first_stage, is_submission, own_plan, own_rules}
+use Rattle.usb_model.specs.World.Plans.{Stage, expand, first_rule, first_stage, is_submission, own_plan, own_rules, rules_after}
 use Rattle.usb_model.specs.Laws.Cut.{times}
 use Rattle.usb_model.specs.Laws.Places.{calls, numbers_called}
 use Rattle.usb_state.specs.State.{ShowsWorld, State}
-use Rattle.usb_model.specs.World.{new_world}
+use Rattle.usb_model.specs.World.{World, new_world}
 use Rattle.usb_state.specs.Steps.{Turns}
 use Rattle.usb_purge.specs.declared.comparison.Comparison.{Comparison}
+use Rattle.usb_purge.specs.declared.comparison.Part.{Part}
 use Rattle.usb_purge.specs.declared.plan_run.Performed.{Performed}
 use Rattle.usb_purge.specs.declared.twins.Told.{Told}
 use Rattle.usb_purge.specs.Driving.{TakesNext}
@@ -33,22 +34,56 @@ abbrev pub is_own_by : ℕ → Plan → Entry → Bool
 is_own_by h (Do step) entry = is_own h (place_of step entry)
 is_own_by h (Return g n) entry = g == h
 
--- what a step that is the handle's own, or isn't, does to the core of the handle alone, and to what is told
-abbrev pub StepsAlone : {P : Type 0} → (is_own : Bool) → Step → Entry → (own own' : State P) → (told told' : Comparison) → Type 0
-StepsAlone true step entry own own' told told' = (again : Entry) × Turns own step again own' × (told'.shared ≡ told.shared ++ entry ∷ []) × (told'.alone ≡ told.alone ++ again ∷ [])
-StepsAlone false step entry own own' told told' = (own' ≡ own) × (told'.shared ≡ told.shared) × (told'.alone ≡ told.alone)
+-- entries with these behind them, if the step or piece that gave them is the handle's own
+abbrev pub with_own : (is_own : Bool) → (more entries : List Entry) → List Entry
+with_own true more entries = entries ++ more
+with_own false more entries = entries
 
--- a step was made amid the others, and where it is the handle's own, alone
-abbrev pub StepsBoth : {P : Type 0} → ℕ → Step → (core core' own own' : State P) → (told told' : Comparison) → Type 0
-StepsBoth h step core core' own own' told told' = (entry : Entry) × Turns core step entry core' × StepsAlone (is_own h (place_of step entry)) step entry own own' told told'
+-- of these, those that are marked as the handle's own
+unfoldable pub picked : {A : Type 0} → List Bool → List A → List A
+picked [] xs = []
+picked (mine ∷ marks) [] = []
+picked (mine ∷ marks) (x ∷ xs) = if mine then x ∷ picked marks xs else picked marks xs
 
--- steps were made by two cores over the same devices in which no name has a device open, all by the one and the handle's own by the other too: what is told of both are the handle's entries
-abbrev pub TellsBoth : {P : Type 0} → List Step → ℕ → (core own : State P) → Comparison → Type 0
-TellsBoth steps h core own told = (setup : Setup) → ShowsWorld setup core (new_world setup) → ShowsWorld setup own (new_world setup) → (told.shared ≡ entries setup steps h) × (told.alone ≡ told.shared)
+-- of the rules of a plan's submissions, those of the pieces that are marked
+unfoldable pub picked_rules : List Bool → List Plan → List Rule → List Rule
+picked_rules [] plan rules = []
+picked_rules (mine ∷ marks) [] rules = []
+picked_rules (mine ∷ marks) (piece ∷ plan) rules =
+    let rest : List Rule = picked_rules marks plan (rules_after piece rules) in
+    if mine && is_submission piece then first_rule rules ∷ rest else rest
 
--- the same where the handle's own were made by a core that is new, over these devices
-abbrev pub TellsBeside : {P : Type 0} → Setup → List Step → ℕ → (core : State P) → Comparison → Type 0
-TellsBeside setup steps h core told = ShowsWorld setup core (new_world setup) → (told.shared ≡ entries setup steps h) × (told.alone ≡ told.shared)
+-- the first mark and those behind it; none is no mark
+abbrev pub IsNext : (old new : List Bool) → Bool → Type 0
+IsNext [] new mine = (mine ≡ false) × (new ≡ [])
+IsNext (mark ∷ marks) new mine = (mine ≡ mark) × (new ≡ marks)
+
+-- a step was made amid the others; whether it is the handle's own stands behind the rest, and so does its entry, if it is
+abbrev pub Shares : {P : Type 0} → ℕ → Step → (core core' : State P) → (part part' : Part) → Type 0
+Shares h step core core' part part' = (entry : Entry) × Turns core step entry core' × (part'.own ≡ part.own ++ is_own h (place_of step entry) ∷ [])
+    × (part'.entries ≡ with_own (is_own h (place_of step entry)) (entry ∷ []) part.entries)
+
+-- a handle's part of a run of these steps: its entries, and which steps are its own
+pub record IsPart (setup : Setup) (steps : List Step) (h : ℕ) (part : Part) : Type 0 where
+  pub told : part.entries ≡ entries setup steps h
+  pub steps_are : picked part.own steps ≡ own setup steps h
+
+-- a core shows some world of these devices
+abbrev pub ShowsSome : {P : Type 0} → Setup → State P → Type 0
+ShowsSome setup core = (w : World) × ShowsWorld setup core w
+
+-- steps were made by a core in which no name had a device open: what is told is the handle's part, over whichever devices; and the core still shows a world of these
+abbrev pub TellsPart : {P : Type 0} → List Step → ℕ → (core core' : State P) → Part → Type 0
+TellsPart steps h core core' part = (setup : Setup) → ShowsWorld setup core (new_world setup) → IsPart setup steps h part × ShowsSome setup core'
+
+-- a step that is marked was made, and its entry stands behind the others
+abbrev pub MakesOwn : {P : Type 0} → (mine : Bool) → Step → (core core' : State P) → (before after : List Entry) → Type 0
+MakesOwn true step core core' before after = (entry : Entry) × Turns core step entry core' × (after ≡ before ++ entry ∷ [])
+MakesOwn false step core core' before after = (core' ≡ core) × (after ≡ before)
+
+-- the steps that are marked were made by a core in which no name had a device open: their entries, over whichever devices
+abbrev pub RunsPicked : {P : Type 0} → List Step → List Bool → (core : State P) → List Entry → Type 0
+RunsPicked steps marks core told = (setup : Setup) → ShowsWorld setup core (new_world setup) → told ≡ world_run setup (picked marks steps)
 
 -- two runs side by side: that of a plan, and that of a handle's own pieces; and the callbacks that are left to each
 pub record TwinState (P : Type 0) : Type 0 where
@@ -93,13 +128,6 @@ module _ {P : Type 0} (rule : P → Rule) where
     pub takes_its : TakesNext (is_submission piece) old.its new.its mine
     pub both : PerformsBoth h piece callback mine old.run new.run old.own new.own told
 
-  -- and what is told of it stands behind the rest
-  pub record Compares (h : ℕ) (piece : Plan) (old new : TwinState P) (before after : Comparison) : Type 0 where
-    pub told : Option (Told P)
-    pub advances : AdvancesBoth h piece old new told
-    pub shared : after.shared ≡ before.shared ++ shared_of told
-    pub alone : after.alone ≡ before.alone ++ alone_of told
-
   -- no piece was performed: each run shows the first stage of its own devices, and has these callbacks
   pub record Begins (setup other : Setup) (callbacks others : List P) (v : TwinState P) : Type 0 where
     pub run : (rules : List Rule) → ShowsStage rule setup v.run (first_stage setup rules)
@@ -140,6 +168,37 @@ pub record TellsPlan (setup : Setup) (plan : List Plan) (rules : List Rule) (h :
   pub once : AreCalledOnce told.shared
   pub order : AreCalledInOrder told.shared
 
--- what is told of a plan by two runs that stood at its beginning, over whichever devices and under whichever rules
-abbrev pub TellsOfBoth : {P : Type 0} → (P → Rule) → List Plan → ℕ → (twins : TwinState P) → Comparison → Type 0
-TellsOfBoth rule plan h twins told = (setup : Setup) (rules : List Rule) → StartsBoth rule setup plan rules twins → TellsPlan setup plan rules h told
+-- a handle's part of a run of a plan: its entries, which pieces are its own, and which rules are those of its submissions
+pub record IsPlanPart (setup : Setup) (plan : List Plan) (rules : List Rule) (h : ℕ) (part : Part) : Type 0 where
+  pub told : part.entries ≡ entries setup (expand setup plan rules) h
+  pub pieces_are : picked part.own plan ≡ own_plan setup plan rules h
+  pub rules_are : picked_rules part.own plan rules ≡ own_rules setup plan rules h
+
+module _ {P : Type 0} (rule : P → Rule) where
+  -- a piece was performed amid the others; whether it is the handle's own stands behind the rest, and so does what is told of it, if it is
+  abbrev pub SharesPiece : ℕ → Plan → (callback : Option P) → (run run' : PlanState P) → (part part' : Part) → Type 0
+  SharesPiece h piece callback run run' part part' = (x : Performed P) × Performs rule run piece callback (entries_of x) run' × (part'.own ≡ part.own ++ is_own_by h piece x.entry ∷ [])
+      × (part'.entries ≡ with_own (is_own_by h piece x.entry) (entries_of x) part.entries)
+
+  -- a piece that is marked was performed, and what is told of it stands behind the others
+  abbrev pub PerformsOwn : (mine : Bool) → Plan → (callback : Option P) → (run run' : PlanState P) → (before after : List Entry) → Type 0
+  PerformsOwn true piece callback run run' before after = (x : Performed P) × Performs rule run piece callback (entries_of x) run' × (after ≡ before ++ entries_of x)
+  PerformsOwn false piece callback run run' before after = (run' ≡ run) × (after ≡ before)
+
+  -- a run stands at the beginning of a plan, with these callbacks for its submissions: no piece was performed, and no rule is Free
+  pub record Starts (setup : Setup) (rules : List Rule) (callbacks : List P) (run : PlanState P) : Type 0 where
+    pub shows : (rs : List Rule) → ShowsStage rule setup run (first_stage setup rs)
+    pub under : rules ≡ map rule callbacks
+    pub fixed : AllByRecursion (λ rule. rule ≢ Free) rules
+
+  -- a run shows some stage over these devices
+  abbrev pub ShowsSomeStage : Setup → PlanState P → Type 0
+  ShowsSomeStage setup run = (s : Stage) × ShowsStage rule setup run s
+
+  -- a plan was performed by a run that stood at its beginning: what is told is the handle's part, over whichever devices; and the run still shows a stage over these
+  abbrev pub TellsPlanPart : List Plan → ℕ → (callbacks : List P) → (run run' : PlanState P) → Part → Type 0
+  TellsPlanPart plan h callbacks run run' part = (setup : Setup) (rules : List Rule) → Starts setup rules callbacks run → IsPlanPart setup plan rules h part × ShowsSomeStage setup run'
+
+  -- the pieces that are marked were performed by a run that stood at their beginning: their entries, over whichever devices
+  abbrev pub DrivesPicked : List Plan → List Bool → (callbacks : List P) → (run : PlanState P) → List Entry → Type 0
+  DrivesPicked plan marks callbacks run told = (setup : Setup) (rules : List Rule) → Starts setup rules callbacks run → told ≡ world_run setup (expand setup (picked marks plan) (picked_rules marks plan rules))

@@ -6,13 +6,14 @@ use Rattle.usb_model.specs.declared.plan.Plan.{Plan}
 use Rattle.usb_model.specs.declared.plan.Plan.TheVariants.{Do, Return}
 use Rattle.usb_model.specs.declared.reply.Reply.{Reply}
 use Rattle.usb_model.specs.declared.reply.Reply.TheVariants.{Called}
+use Rattle.usb_model.specs.declared.reply.Returned.{Returned}
 use Rattle.usb_model.specs.declared.result.InCallback.{InCallback}
 use Rattle.usb_model.specs.declared.step.Step.{Step}
 use Rattle.usb_model.specs.declared.verdict.Rule.{Rule}
 use Rattle.usb_model.specs.declared.verdict.Verdict.{Verdict}
 use Rattle.usb_model.specs.Numbers.{takes_payload}
 use Rattle.usb_model.specs.Setup.{Setup}
-use Rattle.usb_model.specs.World.{turn}
+use Rattle.usb_model.specs.World.{World, turn}
 use Rattle.usb_model.specs.World.Journal.{run_from}
 use Rattle.usb_model.specs.World.Plans.{FitsReturn, Stage, first_rule, is_submission, noted, return_steps, returning, stage_after}
 use Rattle.usb_parts.specs.declared.taking.Taken.{Taken}
@@ -72,6 +73,26 @@ module _ {P : Type 0} where
   RunsToo (Called r) (Some c) old new = (h n : ℕ) → running_at new h n ≡ (if is_there r.h r.n h n then Some (record { returned = r; payload = c }) else running_at old h n)
   RunsToo reply out old new = (h n : ℕ) → running_at new h n ≡ running_at old h n
 
+  -- the callback that came out with this result runs too: it is the very one that was kept with the result's transfer, and it is told this result as it is
+  pub record ComesOut (r : Returned) (old new : PlanState P) : Type 0 where
+    pub callback : P
+    pub its : (kept : Kept P) → Carries kept old.core → kept r.h r.n ≡ Some callback
+    pub runs : (h n : ℕ) → running_at new.running h n ≡ (if is_there r.h r.n h n then Some (record { returned = r; payload = callback }) else running_at old.running h n)
+
+  -- the callbacks that run behind a step with this reply: those that ran; and where it is that one was called, this one
+  abbrev pub RunBehindStep : Reply → (old new : PlanState P) → Type 0
+  RunBehindStep (Called r) old new = (setup : Setup) (w : World) → ShowsWorld setup old.core w → ComesOut r old new
+  RunBehindStep reply old new = (h n : ℕ) → running_at new.running h n ≡ running_at old.running h n
+
+  -- and behind a return: those that ran, but for the one that returned
+  abbrev pub RunBehindReturn : (h n : ℕ) → (old new : PlanState P) → Type 0
+  RunBehindReturn h n old new = (g m : ℕ) → running_at new.running g m ≡ (if is_there h n g m then None else running_at old.running g m)
+
+  -- and behind a piece of a plan whose first entry has this reply
+  abbrev pub RunBehind : Plan → Reply → (old new : PlanState P) → Type 0
+  RunBehind (Do step) reply old new = RunBehindStep reply old new
+  RunBehind (Return h n) reply old new = RunBehindReturn h n old new
+
   -- a callback runs just where its transfer is in it, and is told what became of the transfer
   abbrev pub IsRunning : Option (Taken P) → Option InCallback → Type 0
   IsRunning None None = Unit {0}
@@ -119,7 +140,26 @@ module _ {P : Type 0} where
     Performs old piece callback entries new = (setup : Setup) (s : Stage) → ShowsStage setup old s → (is_submission piece ≡ true → IsUnder (first_rule s.rules) callback)
         → (steps : List Step) × StandsFor setup s piece steps × (entries ≡ run_from setup s.world steps) × ShowsStage setup new (stage_after setup s piece steps)
 
-    -- a callback that was called returned, as a piece of a plan: taken is what it was told, and it
-    abbrev pub Returns : PlanState P → (h n : ℕ) → Taken P → List Entry → PlanState P → Type 0
-    Returns old h n taken entries new = (setup : Setup) (s : Stage) (x : InCallback) → ShowsBut setup (is_there h n) old s → returning s h n ≡ Some x → IsTold taken.returned x → rule taken.payload ≡ s.book h n
-        → (steps : List Step) × StandsFor setup s (Return h n) steps × (entries ≡ run_from setup s.world steps) × ShowsStage setup new (stage_after setup s (Return h n) steps)
+    -- at a stage a callback returned with this verdict: it fits, the entries are those of these steps, and the stage behind them is shown
+    abbrev pub ReturnsBy : Setup → Stage → (h n : ℕ) → Verdict → (steps : List Step) → List Entry → PlanState P → Type 0
+    ReturnsBy setup s h n v steps entries new = FitsReturn (returning s h n) (s.book h n) v × (entries ≡ run_from setup s.world steps) × ShowsStage setup new (stage_after setup s (Return h n) steps)
+
+    -- may: the verdicts that a callback's code may give when it is told this
+    module _ (may : P → Returned → Verdict → Type 0) where
+      -- this callback was called with what it is told, and gave a verdict that its code may give: the entries are those of a return with just this verdict
+      abbrev pub GivesVerdict : PlanState P → (h n : ℕ) → Taken P → List Entry → Type 0
+      GivesVerdict old h n taken entries = (v : Verdict) × may taken.payload taken.returned v × ((setup : Setup) (s : Stage) → ShowsStage setup old s → entries ≡ run_from setup s.world (return_steps setup s.world h n v))
+
+      -- where a callback runs under a name and a number, it is this one that was called
+      abbrev pub CallsThere : PlanState P → (h n : ℕ) → List Entry → Type 0
+      CallsThere old h n entries = (t : Taken P) → running_at old.running h n ≡ Some t → GivesVerdict old h n t entries
+
+      -- so it is where a piece of a plan is a return
+      abbrev pub Calls : PlanState P → Plan → List Entry → Type 0
+      Calls old (Do step) entries = Unit {0}
+      Calls old (Return h n) entries = CallsThere old h n entries
+
+      -- a callback that was taken out was called and returned, as a piece of a plan: taken is what it was told, and it. No other came or went
+      abbrev pub Returns : PlanState P → (h n : ℕ) → Taken P → List Entry → PlanState P → Type 0
+      Returns old h n taken entries new = (v : Verdict) × may taken.payload taken.returned v × (new.running ≡ old.running)
+          × ((setup : Setup) (s : Stage) (x : InCallback) → ShowsBut setup (is_there h n) old s → returning s h n ≡ Some x → IsTold taken.returned x → rule taken.payload ≡ s.book h n → ReturnsBy setup s h n v (return_steps setup s.world h n v) entries new)

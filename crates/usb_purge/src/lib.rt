@@ -7,6 +7,7 @@
 mod comparison;
 mod driving;
 pub mod laws;
+mod own_plan;
 mod plan_run;
 mod reads;
 mod running;
@@ -14,5 +15,6 @@ mod twins;
 
 pub use comparison::{Comparison, alone};
 pub use driving::{drive, next_callback};
+pub use own_plan::drive_alone;
 pub use plan_run::{Performed, PlanRun};
-pub use twins::{Told, Twins, drive_alone};
+pub use twins::{Told, Twins};

@@ -9,7 +9,7 @@ ghost use Rattle.usb_model.specs.Numbers.{takes_payload};
 ghost use Rattle.usb_model.specs.World.Plans.{first_stage, is_submission};
 ghost use Rattle.usb_state.specs.Making.{setup_of};
 ghost use Rattle.usb_purge.specs.Returning.{is_answer};
-ghost use Rattle.usb_purge.specs.PlanRuns.{MakesAnswer, MakesStep, Performs, Returns, RunsToo, ShowsStage, entries_of, is_verdict};
+ghost use Rattle.usb_purge.specs.PlanRuns.{Calls, CallsThere, MakesAnswer, MakesStep, Performs, Returns, RunBehind, RunBehindReturn, RunBehindStep, RunsToo, ShowsStage, entries_of, is_verdict};
 
 use crate::running::RunningCallbacks;
 use std::alloc::{AllocError, Global};
@@ -83,12 +83,15 @@ impl<C: Callback, D: Device> PlanRun<C, D> {
     }
 
     /// Performs a piece of a plan. A step is made: with its callback, where it submits. A return calls the very callback
-    /// that came out with its transfer, and makes the Answer of its verdict; where a resubmission is refused its callback
-    /// ends by a Stop, with an entry of its own, and is dropped. A return of a number that isn't out is refused NotFound.
+    /// that came out with its transfer, with the result that came out, and makes the Answer of the verdict that it gives;
+    /// where a resubmission is refused its callback ends by a Stop, with an entry of its own, and is dropped. A return of a
+    /// number that isn't out is refused NotFound.
     pub fn perform(&mut self, piece: &Plan, callback: Option<C>) -> Result<Performed<C>, AllocError>
         requires submits { is_submission piece.now ≡ true → is_some callback ≡ true }
         requires no_verdict { is_verdict piece.now ≡ false }
-        ensures { IfOk result (λ x. Performs C.rule self.old piece.now callback (entries_of x) self.new) }
+        ensures performs { IfOk result (λ x. Performs C.rule self.old piece.now callback (entries_of x) self.new) }
+        ensures called { IfOk result (λ x. Calls C.rule C.may_answer self.old piece.now (entries_of x)) }
+        ensures out { IfOk result (λ x. RunBehind piece.now x.entry.reply self.old self.new) }
     {
         match piece {
             Plan::Do(step) => self.make(step.clone()?, callback),
@@ -102,6 +105,7 @@ impl<C: Callback, D: Device> PlanRun<C, D> {
         requires no_verdict { is_answer step ≡ false }
         ensures made { IfOk result (λ x. MakesStep C.rule self.old step callback x.entry self.new) }
         ensures once { IfOk result (λ x. x.stop ≡ None) }
+        ensures out { IfOk result (λ x. RunBehindStep x.entry.reply self.old self.new) }
     {
         let Ok(Stepped { entry, out, back }) = self.core.step(step, callback) else {
             return Err(AllocError);
@@ -143,7 +147,8 @@ impl<C: Callback, D: Device> PlanRun<C, D> {
         callback: Option<C>,
     ) -> Result<Entry, AllocError>
         requires { takes_payload (Answer h n verdict) ≡ true → is_some callback ≡ true }
-        ensures { IfOk result (λ entry. MakesAnswer C.rule self.old h n (Answer h n verdict) callback entry self.new) }
+        ensures made { IfOk result (λ entry. MakesAnswer C.rule self.old h n (Answer h n verdict) callback entry self.new) }
+        ensures same { IfOk result (λ _. self.new.running ≡ self.old.running) }
     {
         match self.core.step(Step::Answer { h, n, verdict }, callback) {
             Ok(stepped) => Ok(stepped.entry),
@@ -158,7 +163,9 @@ impl<C: Callback, D: Device> PlanRun<C, D> {
         n: u64,
         callback: Option<C>,
     ) -> Result<Performed<C>, AllocError>
-        ensures { IfOk result (λ x. Performs C.rule self.old (Return h n) callback (entries_of x) self.new) }
+        ensures performs { IfOk result (λ x. Performs C.rule self.old (Return h n) callback (entries_of x) self.new) }
+        ensures called { IfOk result (λ x. CallsThere C.rule C.may_answer self.old h n (entries_of x)) }
+        ensures out { IfOk result (λ _. RunBehindReturn h n self.old self.new) }
     {
         match self.running.remove(h, n) {
             None => Ok(Performed {
@@ -178,7 +185,7 @@ impl<C: Callback, D: Device> PlanRun<C, D> {
         taken: Taken<C>,
         callback: Option<C>,
     ) -> Result<Performed<C>, AllocError>
-        ensures { IfOk result (λ x. Returns C.rule self.old h n taken (entries_of x) self.new) }
+        ensures { IfOk result (λ x. Returns C.rule C.may_answer self.old h n taken (entries_of x) self.new) }
     {
         let (verdict, again) = taken.payload.call(taken.returned);
         let stops = verdict.is_stop();

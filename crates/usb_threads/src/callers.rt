@@ -14,7 +14,7 @@ use usb_book::Place;
 use usb_core::run;
 use usb_model::{Entry, Name, Reply, Sequence, Step};
 use usb_purge::alone;
-use usb_stand::{Reader, devices, twins};
+use usb_stand::{Reader, devices};
 use usb_workers::Point;
 
 /// How many handles there are, each with a thread, a caller and an interface of its own.
@@ -101,8 +101,8 @@ fn both(
     steps: &[Step],
     h: Name,
 ) -> Result<(Sequence<Entry>, Sequence<Entry>)> {
-    let (shared, apart) = twins(alloc, DEVICES, 8, sizes)?;
-    let both = alone(alloc, shared, apart, steps, h)?;
+    let setup = devices(alloc, DEVICES, 8, sizes)?;
+    let both = alone(alloc, setup, steps, h)?;
     Ok((both.shared, both.alone))
 }
 

@@ -79,9 +79,8 @@ fn end_twice<L: Naming, D: Device, R: Wait>(
     requires setup { opening.setup ≡ L.setup }
 {
     let library = Library::<L, Told, D, Journal>::new(alloc, opening)?;
-    let (Some(mut caller), Some(held)) = (library.caller(rt), library.caller(rt)) else {
-        return Err(anyhow!("no callers"));
-    };
+    let mut caller = library.caller(rt)?;
+    let held = library.caller(rt)?;
     let receipt = opened(rt, &library, &mut caller)?;
     let missing = missed(alloc, library, caller, receipt)?;
     is_missed(&missing)?;

@@ -29,5 +29,5 @@ loop-piece-preserved g c =
       c.loop-piece.invariant.1 ++ entries,
       one_more g.C.Callback.rule c.loop-piece.invariant.0 c.args.plan.now (map g.C.Callback.rule (into_iter_items c.args.left.now)) c.loop-piece.run c.perform.new.self c.loop-piece.invariant.1 (c.loop-piece.invariant.1 ++ entries)
           c.loop-piece.piece-index (into_iter_items c.loop-piece.left) (into_iter_items c.next_callback-callback.new.left) c.piece-item.result c.next_callback-callback.result c.loop-piece-test.true c.piece-item.is
-          c.loop-piece.invariant.2 c.next_callback-callback.ensures (entries, c.in_ok-performed.ensures, refl),
+          c.loop-piece.invariant.2 c.next_callback-callback.ensures (entries, c.in_ok-performed.ensures.performs, refl),
     )

@@ -1,43 +1,22 @@
--- Both runs begin over the same devices.
-use Rattle.std.proofs.Common.{◌≡◌, sym, ◌∙◌}
-use Rattle.usb_model.specs.Machine.Turns.{alone}
-use Rattle.usb_model.specs.World.Journal.{entries, own, world_run}
+-- The handle's part of a run, and a run of just these steps.
 use Rattle.usb_state.specs.Making.{setup_of}
-use Rattle.usb_lemmas.proofs.Handles.Alone.{runs_alone}
-use Rattle.usb_lemmas.proofs.Handles.Isolation.{sees_alone}
-use Rattle.usb_purge.specs.Alone.{AreCalledInOrder, AreCalledOnce}
-use Rattle.usb_purge.proofs.Apart.{entries_in_order, entries_once, on_told}
+use Rattle.usb_purge.proofs.Apart.{compared}
 use Rattle.usb_purge.proofs.comparison.alone.Goals as goal
 
 pub returns-clause-shared : goal.returns-clause-shared
-returns-clause-shared g c =
-    let setup = setup_of c.args.shared in
-    on_told (λ told. told.shared ≡ entries setup c.args.steps.now c.args.h) c.beside.result (setup_of c.args.apart) setup c.args.steps.now c.args.h c.in_ok-core.core c.requires c.in_ok-core.ensures.shows c.beside.ensures
-    (λ told shared same. shared)
-
-pub returns-clause-same : goal.returns-clause-same
-returns-clause-same g c =
-    on_told (λ told. told.shared ≡ told.alone) c.beside.result (setup_of c.args.apart) (setup_of c.args.shared) c.args.steps.now c.args.h c.in_ok-core.core c.requires c.in_ok-core.ensures.shows c.beside.ensures
-    (λ told shared same. sym same)
+returns-clause-shared g c = (compared (setup_of c.args.setup) (setup_of c.in_ok-part.back) c.args.steps.now c.args.h c.in_ok-part.part c.in_ok-alone.alone c.in_ok-part.ensures.part c.in_ok-part.ensures.back c.in_ok-alone.ensures).shared
 
 pub returns-clause-alone : goal.returns-clause-alone
-returns-clause-alone g c =
-    let setup = setup_of c.args.shared in
-    on_told (λ told. told.alone ≡ alone setup (own setup c.args.steps.now c.args.h) c.args.h) c.beside.result (setup_of c.args.apart) setup c.args.steps.now c.args.h c.in_ok-core.core c.requires c.in_ok-core.ensures.shows c.beside.ensures
-    (λ told shared same. same ∙ (shared ∙ sees_alone setup c.args.steps.now c.args.h))
+returns-clause-alone g c = (compared (setup_of c.args.setup) (setup_of c.in_ok-part.back) c.args.steps.now c.args.h c.in_ok-part.part c.in_ok-alone.alone c.in_ok-part.ensures.part c.in_ok-part.ensures.back c.in_ok-alone.ensures).machine
 
 pub returns-clause-runs : goal.returns-clause-runs
-returns-clause-runs g c =
-    let setup = setup_of c.args.shared in
-    on_told (λ told. told.alone ≡ world_run setup (own setup c.args.steps.now c.args.h)) c.beside.result (setup_of c.args.apart) setup c.args.steps.now c.args.h c.in_ok-core.core c.requires c.in_ok-core.ensures.shows c.beside.ensures
-    (λ told shared same. same ∙ (shared ∙ sym (runs_alone setup c.args.steps.now c.args.h)))
+returns-clause-runs g c = (compared (setup_of c.args.setup) (setup_of c.in_ok-part.back) c.args.steps.now c.args.h c.in_ok-part.part c.in_ok-alone.alone c.in_ok-part.ensures.part c.in_ok-part.ensures.back c.in_ok-alone.ensures).runs
+
+pub returns-clause-same : goal.returns-clause-same
+returns-clause-same g c = (compared (setup_of c.args.setup) (setup_of c.in_ok-part.back) c.args.steps.now c.args.h c.in_ok-part.part c.in_ok-alone.alone c.in_ok-part.ensures.part c.in_ok-part.ensures.back c.in_ok-alone.ensures).same
 
 pub returns-clause-once : goal.returns-clause-once
-returns-clause-once g c =
-    on_told (λ told. AreCalledOnce told.shared) c.beside.result (setup_of c.args.apart) (setup_of c.args.shared) c.args.steps.now c.args.h c.in_ok-core.core c.requires c.in_ok-core.ensures.shows c.beside.ensures
-    (λ told shared same. entries_once (setup_of c.args.shared) c.args.steps.now c.args.h told.shared shared)
+returns-clause-once g c = (compared (setup_of c.args.setup) (setup_of c.in_ok-part.back) c.args.steps.now c.args.h c.in_ok-part.part c.in_ok-alone.alone c.in_ok-part.ensures.part c.in_ok-part.ensures.back c.in_ok-alone.ensures).once
 
 pub returns-clause-order : goal.returns-clause-order
-returns-clause-order g c =
-    on_told (λ told. AreCalledInOrder told.shared) c.beside.result (setup_of c.args.apart) (setup_of c.args.shared) c.args.steps.now c.args.h c.in_ok-core.core c.requires c.in_ok-core.ensures.shows c.beside.ensures
-    (λ told shared same. entries_in_order (setup_of c.args.shared) c.args.steps.now c.args.h told.shared shared)
+returns-clause-order g c = (compared (setup_of c.args.setup) (setup_of c.in_ok-part.back) c.args.steps.now c.args.h c.in_ok-part.part c.in_ok-alone.alone c.in_ok-part.ensures.part c.in_ok-part.ensures.back c.in_ok-alone.ensures).order

@@ -4,4 +4,4 @@ use Rattle.usb_purge.specs.PlanRuns.{entries_of}
 use Rattle.usb_purge.proofs.driving.advance.Goals as goal
 
 pub returns-clause-advanced : goal.returns-clause-advanced
-returns-clause-advanced g c = (entries_of c.in_ok-performed.performed, c.in_ok-performed.ensures, c.tell.ensures ∙ ap (λ l. l ++ entries_of c.in_ok-performed.performed) c.reserve.ensures.items)
+returns-clause-advanced g c = (entries_of c.in_ok-performed.performed, c.in_ok-performed.ensures.performs, c.tell.ensures ∙ ap (λ l. l ++ entries_of c.in_ok-performed.performed) c.reserve.ensures.items)

@@ -2,7 +2,7 @@ use Rattle.std.proofs.Common.{sym, subst}
 use Rattle.usb_state.specs.Carrying.{Carries}
 use Rattle.usb_state.specs.Steps.{Turns}
 use Rattle.usb_core.specs.Stepping.{kept_after}
-use Rattle.usb_purge.proofs.Stages.{made}
+use Rattle.usb_purge.proofs.Stages.{comes_out, made}
 use Rattle.usb_purge.proofs.plan_run.PlanRun.make.Goals as goal
 
 pub returns-clause-made : goal.returns-clause-made
@@ -11,3 +11,7 @@ returns-clause-made g c = rw (← c.self.view_is)
     (subst (λ k. Turns c.self.inside.core c.args.step c.in-Ok.field-0.entry k) (sym c.in_ok-keep.ensures.core) c.in-Ok.ensures.turned)
     (λ kept carried. subst (λ k. Carries (kept_after kept c.args.step c.in-Ok.field-0.entry c.args.callback) k) (sym c.in_ok-keep.ensures.core) (c.in-Ok.ensures.carries kept carried))
     c.requires.submits c.in-Ok.ensures.out c.in-Ok.ensures.goes_out c.in_ok-keep.ensures.runs)
+
+pub returns-clause-out : goal.returns-clause-out
+returns-clause-out g c = rw (← c.self.view_is)
+    (comes_out (record { core = c.self.inside.core; running = c.self.inside.running }) c.keep.new.self c.args.step c.in-Ok.field-0.out c.in-Ok.field-0.entry c.step.new.self c.in-Ok.ensures.turned c.in-Ok.ensures.out c.in-Ok.ensures.goes_out c.in_ok-keep.ensures.runs)

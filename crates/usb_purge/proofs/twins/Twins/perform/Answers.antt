@@ -9,4 +9,4 @@ returns g c = rw (← c.self.view_is)
     (performs_two g.C.Callback.rule c.args.h c.args.piece.now c.args.callback c.args.its
     (record { run = c.self.inside.run; own = c.self.inside.own; left = into_iter_items c.self.inside.left; its = into_iter_items c.self.inside.its })
     (record { run = c.perform.new.self; own = c.perform-2.new.self; left = into_iter_items c.self.inside.left; its = into_iter_items c.self.inside.its })
-    (record { shared = c.in_ok-shared.shared; alone = c.in_ok-alone.alone }) c.is_own.result c.in_ok-shared.ensures c.is_own.ensures c.if-not-is_own.false c.in_ok-alone.ensures refl refl)
+    (record { shared = c.in_ok-shared.shared; alone = c.in_ok-alone.alone }) c.is_own.result c.in_ok-shared.ensures.performs c.is_own.ensures c.if-not-is_own.false c.in_ok-alone.ensures.performs refl refl)
