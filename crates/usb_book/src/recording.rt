@@ -16,18 +16,28 @@ use crate::receipt::Receipt;
 use crate::recorder::Recorder;
 use crate::submitting::enter;
 use crate::timer::stop_if;
+use std::fmt;
+use thiserror::Error;
 use usb_core::{Stepped, Taken, Unaccepted};
 use usb_device::Device;
 use usb_model::{Entry, Name, Reply, Step, Verdict};
 use usb_roll::Image;
 
 /// A step that found no memory. Nothing changed, and all that was given comes back.
-#[derive(Drop)]
+#[derive(Drop, Error)]
+#[error("there is no memory")]
 pub struct NotRecorded<G, P> {
     /// What was to be done: a step, or what was to be sent.
     pub given: G,
     /// The payload that was given with it.
     pub payload: P,
+}
+
+/// Shows nothing of what comes back, which may have no form that can be shown.
+impl<G, P> fmt::Debug for NotRecorded<G, P> {
+    fn fmt<W: fmt::Write>(&self, f: &mut fmt::Formatter<W>) -> fmt::Result {
+        f.write_str("NotRecorded")
+    }
 }
 
 impl<L: Naming, P: Drop, D: Device, J: Recorder> Book<L, P, D, J> {

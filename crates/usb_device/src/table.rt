@@ -14,6 +14,7 @@ use crate::taken::TakenPackets;
 use std::alloc::{AllocError, Global};
 use std::marker::Model;
 use std::vec::IntoIter;
+use thiserror::Error;
 use usb_descriptors::Config;
 use usb_model::{EpAddr, Refused, Response, Script, Sequence};
 
@@ -38,7 +39,8 @@ impl Model for TableDevice {
 }
 
 /// Why no device was made, with the scripts as they were.
-#[derive(Debug, Drop)]
+#[derive(Debug, Drop, Error)]
+#[error("{why}")]
 pub struct Unmade {
     /// InvalidParam or NoMem.
     pub why: Refused,

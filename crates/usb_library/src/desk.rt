@@ -1,6 +1,7 @@
 //! What lies under the lock.
 
-ghost use Rattle.std.specs.Prelude.{◌≡◌, ◌+◌, ◌<◌, IfErr, IfNone, IfOk, IfSome, OnErr, Some, [], false, option_map};
+ghost use Rattle.std.specs.Prelude.{◌≡◌, ◌+◌, ◌<◌, IfErr, IfOk, OnErr, Some, [], false, option_map};
+ghost use Rattle.usb_model.specs.declared.refused.Refused.TheVariants.{Busy};
 ghost use Rattle.usb_model.specs.declared.step.Step.TheVariants.{Answer, Command, Deliver, Serve, Submit, Take};
 ghost use Rattle.usb_model.specs.declared.verdict.Verdict.TheVariants.{Again, AgainWith, Stop};
 ghost use Rattle.usb_model.specs.Numbers.{takes_payload};
@@ -17,7 +18,7 @@ use std::sync::ledger::{self, Share};
 use usb_book::{Book, Events, Naming, NotRecorded, Receipt, Recorder};
 use usb_core::{Pending, Taken};
 use usb_device::Device;
-use usb_model::{Bytes, DeviceNo, EpAddr, Name, Request, Step};
+use usb_model::{Bytes, DeviceNo, EpAddr, Name, Refused, Request, Step};
 
 /// At most so many callers are made.
 pub const CALLERS: u32 = 1024;
@@ -67,20 +68,20 @@ impl<L: Naming, P: Drop, D: Device, J: Recorder> Desk<L, P, D, J> {
         }
     }
 
-    /// One more caller, or none where there are 1,024.
-    pub(crate) fn caller(&mut self) -> Option<Caller<L>>
-        ensures some { IfSome result (λ c. (c.number ≡ self.old.made) × (c.own ≡ []) × (self.new.made ≡ self.old.made + 1)) }
-        ensures none { IfNone result ((self.old.made ≡ CALLERS) × (self.new ≡ self.old)) }
+    /// One more caller. Busy where there are 1,024.
+    pub(crate) fn caller(&mut self) -> Result<Caller<L>, Refused>
+        ensures made { IfOk result (λ c. (c.number ≡ self.old.made) × (c.own ≡ []) × (self.new.made ≡ self.old.made + 1)) }
+        ensures refused { IfErr result (λ why. (why ≡ Busy) × (self.old.made ≡ CALLERS) × (self.new ≡ self.old)) }
         ensures book { self.new.book ≡ self.old.book }
     {
         if self.made == CALLERS {
-            return None;
+            return Err(Refused::Busy);
         }
         let number = self.made;
         let mark = self.book.mark();
         let share = self.spare.split_off(1, 0);
         self.made = number + 1;
-        Some(Caller {
+        Ok(Caller {
             number,
             mark,
             share,
@@ -278,12 +279,7 @@ impl<L: Naming, P: Drop, D: Device, J: Recorder> Desk<L, P, D, J> {
     }
 }
 
-/// The endpoint address behind which this one comes, by their endpoint ids (xHCI 1.2, 4.5.1).
+/// The endpoint address behind which this one comes.
 fn before(ep: EpAddr) -> EpAddr {
-    let number = ep.number();
-    if ep.is_in() {
-        EpAddr::new(number)
-    } else {
-        EpAddr::new(127 + number)
-    }
+    EpAddr::new(ep.address().saturating_sub(1))
 }

@@ -2,16 +2,22 @@
 
 ghost use Rattle.std.specs.Prelude.{◌≡◌, ◌==◌, ℕ, ◌+◌, ◌<◌, ◌≤◌, All, IfErr, IfOk, Some, count_by, length, slice_get, vec_len};
 ghost use Rattle.std.specs.List.{sum_by};
+ghost use Rattle.usb_model.specs.Setup.{Setup as ModelSetup};
+ghost use Rattle.usb_model.specs.World.{World, holder};
+ghost use Rattle.usb_state.specs.Making.{setup_of};
+ghost use Rattle.usb_state.specs.State.{ShowsWorld};
+ghost use Rattle.usb_core.specs.Reads.{IsLeft};
 ghost use Rattle.usb_book.specs.Booked.{IsRun};
 
 use crate::caller::Caller;
 use crate::desk::Desk;
 use crate::library::Library;
 use crate::waking::Watchers;
+use std::alloc::{AllocError, Global};
 use std::sync::Mutex;
 use std::sync::ledger::Share;
-use usb_book::{Closed, Naming, Receipt, Recorder, Whole};
-use usb_core::Core;
+use usb_book::{Closed, Journal, Naming, Place, Receipt, Recorder, Whole};
+use usb_core::{Core, Setup};
 use usb_device::Device;
 
 /// What a library leaves.
@@ -91,6 +97,27 @@ impl<L: Naming, P: Drop, D: Device, J: Recorder> Library<L, P, D, J> {
             made,
             all: spare,
         })
+    }
+}
+
+impl<L: Naming, P: Drop, D: Device, J: Drop> Ended<L, P, D, J> {
+    /// The devices as the calls left them, with their configurations and scripts: what they took can be read, and a library
+    /// that is made of them begins anew. What callers keep with transfers is dropped. Takes no memory.
+    pub fn into_setup(self) -> Setup<D>
+        ensures setup { (setup : ModelSetup) (w : World) → ShowsWorld setup self.core w → setup_of result ≡ setup }
+        ensures devices { (setup : ModelSetup) (w : World) (d e h : ℕ) → ShowsWorld setup self.core w → holder setup w.claims d e ≡ Some h → IsLeft result.controller d e (w.endpoints d e) }
+    {
+        let Ended { core, .. } = self;
+        core.into_setup()
+    }
+}
+
+impl<L: Naming, P, D: Device> Ended<L, P, D, Journal> {
+    /// Copies of all places of the journal, in order. An error where memory is refused.
+    pub fn to_places(&self, alloc: Global) -> Result<Vec<Place>, AllocError>
+        ensures { IfOk result (λ places. places.items ≡ self.now.recorder.places) }
+    {
+        self.recorder.places(alloc)
     }
 }
 

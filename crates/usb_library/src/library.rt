@@ -1,6 +1,7 @@
 //! The library as threads share it.
 
-ghost use Rattle.std.specs.Prelude.{◌≡◌, [], IfOk, IfSome, OnErr, false};
+ghost use Rattle.std.specs.Prelude.{◌≡◌, [], IfErr, IfOk, OnErr, false};
+ghost use Rattle.usb_model.specs.declared.refused.Refused.TheVariants.{Busy};
 ghost use Rattle.usb_model.specs.Numbers.{takes_payload};
 ghost use Rattle.usb_library.specs.Calling.{Makes};
 
@@ -13,7 +14,7 @@ use std::alloc::{AllocError, Global};
 use std::sync::{Mutex, Wait};
 use usb_book::{Book, Naming, Recorder};
 use usb_device::Device;
-use usb_model::Step;
+use usb_model::{Refused, Step};
 
 /// A core under a lock, with what callers keep with their transfers (`P`), devices (`D`), and a recorder that keeps the
 /// journal, or nothing of it (`J`).
@@ -53,9 +54,11 @@ impl<L: Naming, P: Drop, D: Device, J: Recorder> Library<L, P, D, J> {
         })
     }
 
-    /// One more caller; None where there are 1,024. It has no places yet.
-    pub fn caller<R: Wait>(&self, rt: &R) -> Option<Caller<L>>
-        ensures { IfSome result (λ c. c.own ≡ []) }
+    /// One more caller. It has no places yet. Busy where there are 1,024: a library has no more, since each is counted at its
+    /// end.
+    pub fn caller<R: Wait>(&self, rt: &R) -> Result<Caller<L>, Refused>
+        ensures made { IfOk result (λ c. c.own ≡ []) }
+        ensures refused { IfErr result (λ why. why ≡ Busy) }
     {
         self.desk.lock(rt).caller()
     }

@@ -6,7 +6,7 @@ ghost use Rattle.usb_live.specs.Living.{KeepsRun};
 
 use crate::driver::Driver;
 use crate::gates::Gates;
-use crate::seat::seated;
+use crate::seat::{caller_of, seated};
 use crate::threads::{Back, Post, run_all};
 use std::alloc::{AllocError, Global};
 use std::marker::Brand;
@@ -107,11 +107,11 @@ where
 {
     let library = Library::<L, C, D, J>::new(alloc, opening)?;
     let controller = Post {
-        caller: library.caller(rt).ok_or(AllocError)?,
+        caller: caller_of(rt, &library)?,
         gate: gates.controller,
     };
     let events = Post {
-        caller: library.caller(rt).ok_or(AllocError)?,
+        caller: caller_of(rt, &library)?,
         gate: gates.events,
     };
     let seats = seated(rt, alloc, &library, drivers)?;

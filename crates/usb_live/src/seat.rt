@@ -21,6 +21,17 @@ pub(crate) struct Home<L: Naming, X> {
     pub(crate) left: X,
 }
 
+/// One more caller. An error where the library has as many as it may.
+pub(crate) fn caller_of<L: Naming, C: Drop, D: Device, J: Recorder, R: Wait>(
+    rt: &R,
+    library: &Library<L, C, D, J>,
+) -> Result<Caller<L>, AllocError> {
+    match library.caller(rt) {
+        Ok(caller) => Ok(caller),
+        Err(_) => Err(AllocError),
+    }
+}
+
 /// A caller for each driver, in order. An error where memory is refused, or there are too many.
 pub(crate) fn seated<L: Naming, C: Drop, D: Device, J: Recorder, T: Drop, R: Wait>(
     rt: &R,
@@ -30,7 +41,7 @@ pub(crate) fn seated<L: Naming, C: Drop, D: Device, J: Recorder, T: Drop, R: Wai
 ) -> Result<Vec<Seat<L, T>>, AllocError> {
     let mut seats = Vec::with_capacity(alloc, drivers.len())?;
     for driver in drivers {
-        let caller = library.caller(rt).ok_or(AllocError)?;
+        let caller = caller_of(rt, library)?;
         seats.push(Seat { caller, driver })?;
     }
     Ok(seats)

@@ -66,9 +66,7 @@ impl<L: Naming, D: Device, J: Recorder> Scene<L, D, J> {
         let reader = Reader::new(1, 0, 0)?;
         let receipts = Vec::with_capacity(alloc, RECEIPTS)?;
         let library = Library::new(alloc, opening)?;
-        let Some(caller) = library.caller(rt) else {
-            return Err(anyhow!("no caller"));
-        };
+        let caller = library.caller(rt)?;
         Ok(Scene {
             alloc,
             library,

@@ -9,7 +9,7 @@ use anyhow::{Result, anyhow};
 use std::alloc::Global;
 use std::marker::Brand;
 use std::sync::Wait;
-use usb_book::{Journal, Naming};
+use usb_book::{Journal, Naming, Place};
 use usb_device::{Device, TableDevice};
 use usb_library::Opening;
 
@@ -43,9 +43,9 @@ fn play<L: Naming, D: Device, R: Wait>(rt: &R, scene: &mut Scene<L, D, Journal>)
     Ok(())
 }
 
-/// An error where a journal tells something else.
-fn is_told(alloc: Global, journal: &Journal) -> Result<()> {
-    let told = lines_of(alloc, journal.places(alloc)?.as_slice())?;
+/// An error where the places of a journal tell something else.
+fn is_told(alloc: Global, places: &[Place]) -> Result<()> {
+    let told = lines_of(alloc, places)?;
     if told.as_str() != TOLD {
         return Err(anyhow!("another thing is told: {told}"));
     }
@@ -61,5 +61,6 @@ fn live<L: Naming, D: Device, R: Wait>(rt: &R, alloc: Global, opening: Opening<D
 {
     let mut scene = Scene::<L, D, Journal>::new(rt, alloc, opening)?;
     play(rt, &mut scene)?;
-    is_told(alloc, &scene.end()?.recorder)
+    let places = scene.end()?.to_places(alloc)?;
+    is_told(alloc, places.as_slice())
 }
