@@ -36,28 +36,41 @@ fn bytes_past_ascii_stand_in_comments_alone(rt: HostRuntime) {
     assert!(rt; refuses(&rt, rt.alloc(), A_BYTE_PAST_ASCII, fourth));
 }
 
-/// Whether a run over a comment of so many bytes answers this status and says this.
-fn ends_over_a_comment<X: Threads + Wait + Sync>(
+/// How often a run reads a comment that answers this status and says this; 0 where it does something else.
+fn reads_of<X: Threads + Wait + Sync>(
     rt: &X,
     alloc: Global,
-    bytes: usize,
+    mut comment: Comment,
     status: u8,
     said: &str,
-) -> bool {
+) -> u64 {
     let outcome = run_into(
         rt,
         alloc,
         WORDS,
-        &mut Comment::new(bytes),
+        &mut comment,
         Output::new(alloc, usize::MAX, ErrorKind::BrokenPipe),
         Output::new(alloc, usize::MAX, ErrorKind::BrokenPipe),
     );
-    outcome.only_says(status, said)
+    if outcome.only_says(status, said) {
+        comment.reads()
+    } else {
+        0
+    }
 }
 
 #[test]
 fn the_longest_input_is_taken_and_none_longer(rt: HostRuntime) {
-    assert!(rt; ends_over_a_comment(&rt, rt.alloc(), LONGEST, 0, ""));
+    assert!(rt; reads_of(&rt, rt.alloc(), Comment::new(LONGEST, LONGEST), 0, "") > 0);
     let said = "usbtrace: input or output failed\n";
-    assert!(rt; ends_over_a_comment(&rt, rt.alloc(), LONGEST + 1, 1, said));
+    assert!(rt; reads_of(&rt, rt.alloc(), Comment::new(LONGEST + 1, LONGEST), 1, said) > 0);
+}
+
+/// One read a byte, and one at the end; and where there are more bytes, none behind the first that is too many.
+#[test]
+fn an_input_is_read_67_108_865_times_at_most(rt: HostRuntime) {
+    let most = 67_108_865;
+    assert!(rt; reads_of(&rt, rt.alloc(), Comment::new(LONGEST, 1), 0, "") == most);
+    let said = "usbtrace: input or output failed\n";
+    assert!(rt; reads_of(&rt, rt.alloc(), Comment::new(LONGEST + 1, 1), 1, said) == most);
 }

@@ -50,23 +50,35 @@ impl Read for Input<'_> {
     }
 }
 
-/// Gives one comment: so many times `#`, as many at a time as are asked for.
+/// Gives one comment, which is so many times `#`, and counts how often it is read.
 #[derive(Drop)]
 pub(crate) struct Comment {
     left: usize,
+    step: usize,
+    reads: u64,
 }
 
 impl Comment {
-    /// A comment of so many bytes.
-    pub(crate) fn new(left: usize) -> Comment {
-        Comment { left }
+    /// A comment of so many bytes, at most so many of them at a time.
+    pub(crate) fn new(left: usize, step: usize) -> Comment {
+        Comment {
+            left,
+            step,
+            reads: 0,
+        }
+    }
+
+    /// How often it was read.
+    pub(crate) fn reads(&self) -> u64 {
+        self.reads
     }
 }
 
 impl Read for Comment {
     fn read(&mut self, buf: &mut [u8]) -> io::Result<usize> {
-        let count = buf.len().min(self.left);
+        let count = buf.len().min(self.left).min(self.step);
         buf[..count].fill(b'#');
+        self.reads = self.reads.saturating_add(1);
         self.left -= count;
         Ok(count)
     }

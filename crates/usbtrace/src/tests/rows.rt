@@ -26,7 +26,8 @@ use super::fakes::{Input, run};
 use std::alloc::{AllocError, Global};
 use std::sync::Wait;
 use std::thread::Threads;
-use usb_plain::drive;
+use usb_model::{Entry, Name, Sequence};
+use usb_plain::{drive, drive_alone};
 use usb_text::{Scenario, into_setups, read_scenario};
 
 /// Whether the program does as a row says, from its words on. Its input is read a few bytes at a time.
@@ -47,31 +48,52 @@ fn does<X: Threads + Wait + Sync>(rt: &X, alloc: Global, row: &str) -> Result<bo
     Ok(outcome.is(status, out, err))
 }
 
-/// What the plain program's entries of a scenario print; nothing where its text isn't read.
-fn plain_lines(alloc: Global, input: &str) -> Result<String, AllocError> {
+/// Of whom a row's words ask: of all, or of one handle alone. None where they ask for another thing than a run.
+fn whose(words: &str) -> Option<Option<Name>> {
+    if words == "usbtrace run" {
+        return Some(None);
+    }
+    let number: u8 = words.strip_prefix("usbtrace alone ")?.parse().ok()?;
+    Some(Some(Name::new(number)?))
+}
+
+/// The plain program's entries of a scenario, all or one handle's alone. An error where memory is refused.
+fn plain_entries(
+    alloc: Global,
+    scenario: Scenario,
+    h: Option<Name>,
+) -> Result<Sequence<Entry>, AllocError> {
+    let Scenario { setup, plan, rules } = scenario;
+    let setup = into_setups(alloc, setup)?;
+    let (plan, rules) = (plan.as_slice(), rules.as_slice());
+    match h {
+        Some(h) => Ok(drive_alone(alloc, &setup, plan, rules, h)?.alone),
+        None => drive(alloc, &setup, plan, rules).map_err(|_| AllocError),
+    }
+}
+
+/// What they print; nothing where the scenario's text isn't read.
+fn plain_lines(alloc: Global, input: &str, h: Option<Name>) -> Result<String, AllocError> {
     let mut lines = String::new(alloc);
-    let Ok(Scenario { setup, plan, rules }) = read_scenario(alloc, input.as_bytes()) else {
+    let Ok(scenario) = read_scenario(alloc, input.as_bytes()) else {
         return Ok(lines);
     };
-    let setup = into_setups(alloc, setup)?;
-    let Ok(entries) = drive(alloc, &setup, plan.as_slice(), rules.as_slice()) else {
-        return Err(AllocError);
-    };
-    for entry in entries.as_slice() {
+    for entry in plain_entries(alloc, scenario, h)?.as_slice() {
         lines.push_str(entry.to_string(alloc)?.as_str())?;
         lines.push('\n')?;
     }
     Ok(lines)
 }
 
-/// Whether the plain program prints the same as a row that runs its scenario whole.
+/// Whether the plain program prints the same as a row that runs its scenario, whole or alone.
 fn does_plainly(alloc: Global, row: &str) -> Result<bool, AllocError> {
-    let Some(rest) = row.strip_prefix("usbtrace run\n") else {
+    let (words, rest) = row.split_once('\n').unwrap_or((row, ""));
+    let Some(h) = whose(words) else {
         return Ok(true);
     };
     let (input, rest) = rest.split_once("--- prints\n").unwrap_or((rest, ""));
     let (out, _) = rest.split_once("--- fails\n").unwrap_or((rest, ""));
-    Ok(plain_lines(alloc, input)?.as_str() == out)
+    Ok(plain_lines(alloc, input, h)?.as_str() == out)
 }
 
 /// Whether a row holds, from its name on, and by the plain program too; not where memory is wanting.

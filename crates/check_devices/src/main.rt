@@ -1,0 +1,26 @@
+//! Scenes over two kinds of device in one setup, with stored closures: a line says what each scene saw; a scene that
+//! isn't as it has to be ends the program with an error.
+#![tactic(auto)]
+
+mod alike;
+mod bench;
+mod booked;
+mod boxes;
+mod kinds;
+mod packets;
+mod plans;
+mod stand;
+mod told;
+mod unplugged;
+
+use anyhow::Result;
+
+fn main(rt: HostRuntime) -> Result<()> {
+    let alloc = rt.alloc();
+    plans::play(&rt, alloc)?;
+    packets::play(&rt, alloc)?;
+    alike::play(&rt, alloc)?;
+    boxes::play(&rt, alloc)?;
+    booked::play(&rt, alloc)?;
+    unplugged::play(&rt, alloc)
+}
