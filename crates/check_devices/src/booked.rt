@@ -72,27 +72,24 @@ fn record<L: Naming, D: Device>(
 }
 
 /// The steps of the scene.
-fn steps(alloc: Global) -> Result<Vec<Step>> {
-    let reader = Reader::new(1, 0, 0)?;
-    let Reader { h, dev, ep, .. } = reader;
-    let again = Step::Answer {
-        h,
-        n: 0,
-        verdict: Verdict::Again,
-    };
-    let request = reader.read(8, 0);
-    Ok(Vec::from_array(
-        alloc,
-        [
-            Step::Open { h, dev },
-            Step::Claim { h, i: reader.i },
-            Step::Submit { h, request },
-            Step::Serve { dev, ep },
-            Step::Deliver,
-            Step::Take,
-            again,
-        ],
-    )?)
+fn steps(reader: &Reader) -> [Step; 7] {
+    let Reader { h, dev, i, ep, .. } = *reader;
+    [
+        Step::Open { h, dev },
+        Step::Claim { h, i },
+        Step::Submit {
+            h,
+            request: reader.read(8, 0),
+        },
+        Step::Serve { dev, ep },
+        Step::Deliver,
+        Step::Take,
+        Step::Answer {
+            h,
+            n: 0,
+            verdict: Verdict::Again,
+        },
+    ]
 }
 
 /// Makes all steps. The payload of the transfer comes out with its result, and with nothing else.
@@ -101,8 +98,9 @@ fn record_all<L: Naming, D: Device>(
     book: &mut Book<L, u8, D, Journal>,
     receipts: &mut Vec<Receipt<L>>,
 ) -> Result<()> {
+    let steps = steps(&Reader::new(1, 0, 0)?);
     let mut mark = book.mark();
-    for step in steps(alloc)? {
+    for step in Vec::from_array(alloc, steps)? {
         let wanted = match step {
             Step::Take => Some(PAYLOAD),
             _ => None,

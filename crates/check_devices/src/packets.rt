@@ -8,7 +8,7 @@ use anyhow::Result;
 use std::alloc::{AllocError, Global};
 use usb_callback::{Callback, Repeat, StoredCallback};
 use usb_core::{Core, Setup};
-use usb_model::{Bytes, EpAddr, Flags, Request, Returned, Rule, Sequence, Step, Verdict};
+use usb_model::{Bytes, EpAddr, Flags, Request, Returned, Rule, Step, Verdict};
 use usb_stand::Reader;
 
 /// What is told of a write whose callback sends other bytes, by the rules: the second is a transfer of its own.
@@ -132,11 +132,7 @@ fn serve(reader: &Reader) -> Step {
 
 /// So many bytes, numbered from 0 on.
 fn numbered(alloc: Global, count: u8) -> Result<Bytes, AllocError> {
-    let mut bytes = Sequence::new(alloc);
-    for byte in 0..count {
-        bytes.push(byte)?;
-    }
-    Ok(bytes)
+    Ok(Bytes::from_vec((0..count).collect(alloc)?))
 }
 
 /// A write of so many bytes, with an empty packet behind whole ones.

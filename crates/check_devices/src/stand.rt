@@ -20,11 +20,8 @@ const ACKS: usize = 5;
 
 /// A packet of 8 bytes, numbered from this one on.
 fn packet(alloc: Global, first: u8) -> Result<Response, AllocError> {
-    let mut bytes = Sequence::new(alloc);
-    for byte in 0..8_u8 {
-        bytes.push(first.wrapping_add(byte))?;
-    }
-    Ok(Response::Data(bytes))
+    let bytes = (0..8_u8).map(|byte| first.wrapping_add(byte));
+    Ok(Response::Data(Sequence::from_vec(bytes.collect(alloc)?)))
 }
 
 /// Two packets, whose bytes are numbered from 1 to 16.
