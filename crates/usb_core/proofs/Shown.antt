@@ -8,7 +8,7 @@ use Rattle.usb_model.specs.declared.shared.Tagged.{Tagged}
 use Rattle.usb_model.specs.declared.step.Step.{Step}
 use Rattle.usb_model.specs.declared.step.Step.TheVariants.{Expire}
 use Rattle.usb_model.specs.Setup.{Setup, endpoints_of, interface_of}
-use Rattle.usb_model.specs.World.{World, holder}
+use Rattle.usb_model.specs.World.{World}
 use Rattle.usb_device.specs.Pipe.{pipe_at}
 use Rattle.usb_xhc.specs.Slots.{DeviceSlot}
 use Rattle.usb_match.specs.Endpoint.{IsPipe}
@@ -61,33 +61,25 @@ module _ {P : Type 0} where
   work_shown s step waits reads setup w shown = reads setup w shown.0 shown.1 shown.2
 
 module _ {P : Type 0} where
-  -- the device of a held endpoint stands as the world has it
-  pub left_shown : (s : State P) (setup : Setup) (w : World) (d e h : ℕ) → ShowsWorld setup s w → holder setup w.claims d e ≡ Some h → IsLeft s.controller d e (w.endpoints d e)
-  left_shown s setup w d e h shown held = let end = shown.2.endpoints h d e held in record {
+  -- a device's endpoint, held or not, stands as the world has it
+  pub left_shown : (s : State P) (setup : Setup) (w : World) (d e k : ℕ) → ShowsWorld setup s w → interface_of setup d e ≡ Some k → IsLeft s.controller d e (w.endpoints d e)
+  left_shown s setup w d e k shown its = let device = shown.2.devices d e in record {
     slot = slot.0;
     there = slot.1;
-    left = pipe.left ∙ end.script_left;
-    halted = pipe.halted ∙ end.device_halted;
-    taken = pipe.taken ∙ end.packets_received;
+    left = pipe.left ∙ device.script_left;
+    halted = pipe.halted ∙ device.device_halted;
+    taken = pipe.taken ∙ device.packets_received;
   }
     where
-      -- the interface of an endpoint that is held
-      interface : (m : Option ℕ) → interface_of setup d e ≡ m → option_and_then (λ (k : ℕ). w.claims d k) m ≡ Some h → (k : ℕ) × (interface_of setup d e ≡ Some k)
-      interface None none at = absurd cc
-      interface (Some k) some at = (k, some)
-
-      its : (k : ℕ) × (interface_of setup d e ≡ Some k)
-      its = interface (interface_of setup d e) refl held
-
       slot : (x : DeviceSlot) × (slice_get s.controller.slots d ≡ Some x)
-      slot = get_within s.controller.slots d (subst (λ (n : ℕ). d < n) (sym shown.1.held.slots) (has_device setup d e its.0 its.1))
+      slot = get_within s.controller.slots d (subst (λ (n : ℕ). d < n) (sym shown.1.held.slots) (has_device setup d e k its))
 
       pipe : IsPipe (pipe_at slot.0.pipes e) (shown.0.endpoints d e)
-      pipe = ((shown.1.held.each d slot.0 slot.1).ends e its.0 its.1).pipe
+      pipe = ((shown.1.held.each d slot.0 slot.1).ends e k its).pipe
 
-  -- the packets that a held endpoint took are the world's
-  pub taken_shown : (s : State P) (d e i : ℕ) (o : Option (List ℕ)) → o ≡ taken_in s.controller d e i → (setup : Setup) (w : World) (h : ℕ) → ShowsWorld setup s w → holder setup w.claims d e ≡ Some h → o ≡ slice_get (w.endpoints d e).packets_received i
-  taken_shown s d e i o is setup w h shown held =
-      let left = left_shown s setup w d e h shown held in
+  -- the packets that it took are the world's
+  pub taken_shown : (s : State P) (d e i : ℕ) (o : Option (List ℕ)) → o ≡ taken_in s.controller d e i → (setup : Setup) (w : World) (k : ℕ) → ShowsWorld setup s w → interface_of setup d e ≡ Some k → o ≡ slice_get (w.endpoints d e).packets_received i
+  taken_shown s d e i o is setup w k shown its =
+      let left = left_shown s setup w d e k shown its in
       is ∙ ap (λ (m : Option DeviceSlot). option_and_then (λ (x : DeviceSlot). slice_get (pipe_at x.pipes e).taken i) m) left.there
       ∙ ap (λ (l : List (List ℕ)). slice_get l i) left.taken

@@ -3,8 +3,8 @@
 ghost use Rattle.std.specs.Prelude.{◌≡◌, ℕ, Some, length, slice_get};
 ghost use Rattle.std.specs.Option.{option_copied, option_map_or};
 ghost use Rattle.usb_model.specs.declared.step.Step.TheVariants.{Command, Deliver, Take};
-ghost use Rattle.usb_model.specs.Setup.{Setup as ModelSetup};
-ghost use Rattle.usb_model.specs.World.{World, holder};
+ghost use Rattle.usb_model.specs.Setup.{Setup as ModelSetup, interface_of};
+ghost use Rattle.usb_model.specs.World.{World};
 ghost use Rattle.usb_state.specs.Making.{setup_of};
 ghost use Rattle.usb_state.specs.State.{ShowsWorld};
 ghost use Rattle.usb_parts.specs.Pending.{IsPending, does_something};
@@ -31,10 +31,10 @@ impl<P, D: Device> Core<P, D> {
         self.parts.expires(h, n)
     }
 
-    /// The packet of index `i`, from 0 on, of those that the device took at an endpoint that somebody holds, since it was
-    /// made new; None past the last.
+    /// The packet of index `i`, from 0 on, of those that a device took at one of its endpoints, held or not, since it
+    /// was made new; None past the last.
     pub fn taken(&self, dev: DeviceNo, ep: EpAddr, i: usize) -> Option<&[u8]>
-        ensures { (setup : ModelSetup) (w : World) (h : ℕ) → ShowsWorld setup self.now w → holder setup w.claims dev ep ≡ Some h → option_copied result ≡ slice_get (w.endpoints dev ep).packets_received i }
+        ensures { (setup : ModelSetup) (w : World) (k : ℕ) → ShowsWorld setup self.now w → interface_of setup dev ep ≡ Some k → option_copied result ≡ slice_get (w.endpoints dev ep).packets_received i }
     {
         self.parts.taken(dev, ep, i)
     }
@@ -81,7 +81,7 @@ impl<P: Drop, D: Device> Core<P, D> {
     /// that is made of them begins anew. What callers keep with transfers is dropped. Takes no memory.
     pub fn into_setup(self) -> Setup<D>
         ensures setup { (setup : ModelSetup) (w : World) → ShowsWorld setup self w → setup_of result ≡ setup }
-        ensures devices { (setup : ModelSetup) (w : World) (d e h : ℕ) → ShowsWorld setup self w → holder setup w.claims d e ≡ Some h → IsLeft result.controller d e (w.endpoints d e) }
+        ensures devices { (setup : ModelSetup) (w : World) (d e k : ℕ) → ShowsWorld setup self w → interface_of setup d e ≡ Some k → IsLeft result.controller d e (w.endpoints d e) }
     {
         let Core { parts } = self;
         parts.into_setup()

@@ -2,8 +2,8 @@
 
 ghost use Rattle.std.specs.Prelude.{◌≡◌, ◌==◌, ℕ, ◌+◌, ◌<◌, ◌≤◌, All, IfErr, IfOk, Some, count_by, length, slice_get, vec_len};
 ghost use Rattle.std.specs.List.{sum_by};
-ghost use Rattle.usb_model.specs.Setup.{Setup as ModelSetup};
-ghost use Rattle.usb_model.specs.World.{World, holder};
+ghost use Rattle.usb_model.specs.Setup.{Setup as ModelSetup, interface_of};
+ghost use Rattle.usb_model.specs.World.{World};
 ghost use Rattle.usb_state.specs.Making.{setup_of};
 ghost use Rattle.usb_state.specs.State.{ShowsWorld};
 ghost use Rattle.usb_core.specs.Reads.{IsLeft};
@@ -105,7 +105,7 @@ impl<L: Naming, P: Drop, D: Device, J: Drop> Ended<L, P, D, J> {
     /// that is made of them begins anew. What callers keep with transfers is dropped. Takes no memory.
     pub fn into_setup(self) -> Setup<D>
         ensures setup { (setup : ModelSetup) (w : World) → ShowsWorld setup self.core w → setup_of result ≡ setup }
-        ensures devices { (setup : ModelSetup) (w : World) (d e h : ℕ) → ShowsWorld setup self.core w → holder setup w.claims d e ≡ Some h → IsLeft result.controller d e (w.endpoints d e) }
+        ensures devices { (setup : ModelSetup) (w : World) (d e k : ℕ) → ShowsWorld setup self.core w → interface_of setup d e ≡ Some k → IsLeft result.controller d e (w.endpoints d e) }
     {
         let Ended { core, .. } = self;
         core.into_setup()

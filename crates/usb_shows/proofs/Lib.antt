@@ -12,6 +12,7 @@ pub mod Packets
 pub mod Tells
 pub mod Budget
 pub mod Renewed
+pub mod Devices
 pub mod InRun
 pub mod Orderly
 pub mod Sizes

@@ -8,6 +8,7 @@ use Rattle.usb_model.specs.World.{World, new_world, turn, world_from}
 use Rattle.usb_lemmas.proofs.Handles.Runs.{one_step}
 use Rattle.usb_shows.specs.Shows.{Core, Shows, Steps}
 use Rattle.usb_shows.specs.Stepping.{new_core}
+use Rattle.usb_shows.proofs.Devices.{device_renewed}
 use Rattle.usb_shows.proofs.Renewed.{fresh_shows, new_near}
 
 pub new_shows : (setup : Setup) → Shows setup (new_world setup) (new_core setup)
@@ -32,6 +33,7 @@ new_shows setup = record {
   few = λ d e. tt;
   near = λ h d e holds. new_near (script_of setup d e);
   endpoints = λ h d e holds. fresh_shows (packet_size_of setup d e) setup d e;
+  devices = λ d e. device_renewed setup d e;
 }
 
 -- a core's steps, one behind another: the entries, and the core at the end

@@ -26,6 +26,7 @@ use Rattle.usb_shows.specs.Showing.{AllFew, ShowsEnd, StandsNear}
 use Rattle.usb_shows.specs.Lively.{IsFine}
 use Rattle.usb_shows.specs.Shows.{AllHeld, At, Core, Shows, at, errands, events, here, tellings}
 use Rattle.usb_shows.specs.Stepping.{kept_endpoint_after, rested, StepsTo}
+use Rattle.usb_shows.proofs.Devices.{devices_rested}
 use Rattle.usb_shows.proofs.Linking.{all_sound, has_device, its_lists, machine_parts}
 use Rattle.usb_shows.proofs.Placing.{is_here}
 use Rattle.usb_shows.proofs.Renewed.{fresh_shows, new_near}
@@ -308,6 +309,7 @@ rest_steps setup w c fine s h step done owned no_order no_news own is rest clear
       few = few_after setup h c done.change s.few;
       near = nears;
       endpoints = ends;
+      devices = devices_rested setup w c s h (machine_of setup h w) step done rest;
     }
 
 -- another name is in the way: nothing changes
@@ -344,5 +346,6 @@ unplug_steps setup w c s dev = (
     few = s.few;
     near = s.near;
     endpoints = s.endpoints;
+    devices = s.devices;
   },
 )

@@ -25,6 +25,7 @@ use Rattle.usb_shows.specs.Shows.{At, Core, InRun, Report, Shows, at, errands, e
 use Rattle.usb_shows.specs.Stepping.{Work, posted_by, worked}
 use Rattle.usb_shows.proofs.Ahead.{fresh_near}
 use Rattle.usb_shows.proofs.Counts.{NoEnds, as_many, errands_added, events_reported, reports, tellings_reported}
+use Rattle.usb_shows.proofs.Devices.{device_shown, devices_worked}
 use Rattle.usb_shows.proofs.Placing.{at_here, at_other, held_past, held_put, is_first_at, past-map, past_other, put}
 
 -- a run with one step more
@@ -216,4 +217,5 @@ work_shows setup w c s h dev ep step handle d k works = (
       few = λ a e. fews ((dev == a) && (ep == e)) a e;
       near = λ g a e holds. nears g a e ((dev == a) && (ep == e)) refl holds;
       endpoints = λ g a e holds. each g a e ((dev == a) && (ep == e)) refl holds;
+      devices = devices_worked setup w.claims w.endpoints c.endpoints h dev ep d.endpoint k.endpoint works.holds (device_shown works.shows) s.devices;
     }

@@ -138,6 +138,12 @@ pub record ShowsEnd (size : ℕ) (e : Endpoint) (os : List Errand) (ns : List Ev
   pub paused : FirstPaused e.line tail
   pub known : e.state ≡ Stopped → has_pause tail ≡ false → FrontKnown size e.line b.line
 
+-- what the device itself keeps of it: how far it is in its script, its halt, and the packets that it took
+pub record ShowsDevice (e : Endpoint) (b : KeptEndpoint) : Type 0 where
+  pub script_left : b.script_left ≡ e.script_left
+  pub device_halted : b.device_halted ≡ e.device_halted
+  pub packets_received : b.packets_received ≡ e.packets_received
+
 -- each waiting transfer took nothing yet
 abbrev pub new_by : ItemState → Item → Type 0 → Type 0
 new_by Waiting x rest = (x.share ≡ []) × rest

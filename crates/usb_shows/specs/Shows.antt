@@ -12,7 +12,7 @@ use Rattle.usb_model.specs.declared.result.TransferResult.{TransferResult}
 use Rattle.usb_model.specs.declared.shared.Tagged.{Tagged}
 use Rattle.usb_model.specs.Setup.{Setup, packet_size_of}
 use Rattle.usb_model.specs.World.{World, Claims, holder, turn, new_world, world_from}
-use Rattle.usb_shows.specs.Showing.{AllFew, ShowsEnd, StandsNear}
+use Rattle.usb_shows.specs.Showing.{AllFew, ShowsDevice, ShowsEnd, StandsNear}
 use Rattle.usb_kept.specs.Kept.{Telling, Transfer, Completion, SentErrand, KeptEndpoint}
 
 -- an order as the command ring has it: its endpoint, and the place where it stands, counted without end
@@ -127,6 +127,8 @@ pub record Shows (setup : Setup) (w : World) (c : Core) : Type 0 where
   pub near : (h d e : ℕ) → holder setup w.claims d e ≡ Some h → StandsNear (c.endpoints d e) (tellings (at d e news))
   pub endpoints : (h d e : ℕ) → holder setup w.claims d e ≡ Some h
       → ShowsEnd (packet_size_of setup d e) (w.endpoints d e) (errands (at d e orders)) (events (at d e news)) (c.endpoints d e) (at d e orders) (tellings (at d e news))
+  -- what devices keep of their endpoints, held or not
+  pub devices : (d e : ℕ) → ShowsDevice (w.endpoints d e) (c.endpoints d e)
 
 -- a step of a core: for each world that the core shows, its entry is that of the world's turn, and the core then shows the next world
 abbrev pub Steps : Setup → Core → Step → Entry → Core → Type 0

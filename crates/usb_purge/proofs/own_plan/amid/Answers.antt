@@ -18,4 +18,4 @@ pub returns-clause-back : goal.returns-clause-back
 returns-clause-back g c =
     let start = starts g.C.Callback.rule (setup_of c.args.setup) c.args.callbacks.items (into_iter_items c.into_iter-left.result) c.in_ok-run.run' c.in_ok-run.ensures c.into_iter-left.ensures.rest c.requires.not_free in
     let shown = (c.in_ok-part.ensures (setup_of c.args.setup) (map g.C.Callback.rule c.args.callbacks.items) start).1 in
-    c.into_setup.ensures (setup_of c.args.setup) shown.0 shown.1
+    c.into_setup.ensures.setup (setup_of c.args.setup) shown.0 shown.1

@@ -10,6 +10,6 @@ pub returns-clause-setup : goal.returns-clause-setup
 returns-clause-setup g c = λ setup w shown. c.into_setup.ensures.setup setup w (subst (λ (s : State g.row.P.Denot). ShowsWorld setup s w) (sym c.self.view_is) shown)
 
 pub returns-clause-devices : goal.returns-clause-devices
-returns-clause-devices g c = λ setup w d e h shown held.
+returns-clause-devices g c = λ setup w d e k shown its.
     subst (λ (k : Controller). IsLeft k d e (w.endpoints d e)) (sym c.into_setup.ensures.controller)
-    (left_shown c.self.inside.parts setup w d e h (subst (λ (s : State g.row.P.Denot). ShowsWorld setup s w) (sym c.self.view_is) shown) held)
+    (left_shown c.self.inside.parts setup w d e k (subst (λ (s : State g.row.P.Denot). ShowsWorld setup s w) (sym c.self.view_is) shown) its)
