@@ -6,7 +6,25 @@ use std::alloc::Global;
 use usb_callback::Callback;
 use usb_core::{Core, Setup, Stepped};
 use usb_device::Device;
-use usb_model::{DeviceNo, EpAddr, Reply, Step};
+use usb_model::{DeviceNo, EpAddr, Reply, Step, Verdict};
+use usb_stand::Reader;
+
+/// The steps of a read of 8 bytes, from the opening of the device to the verdict of its callback.
+pub fn read_steps(reader: &Reader, verdict: Verdict) -> [Step; 7] {
+    let Reader { h, dev, i, ep, .. } = *reader;
+    [
+        Step::Open { h, dev },
+        Step::Claim { h, i },
+        Step::Submit {
+            h,
+            request: reader.read(8, 0),
+        },
+        Step::Serve { dev, ep },
+        Step::Deliver,
+        Step::Take,
+        Step::Answer { h, n: 0, verdict },
+    ]
+}
 
 /// Makes a step, whose line stands behind the others: the reply, and what was kept with a transfer that went out.
 fn make<C: Drop, D: Device>(

@@ -5,6 +5,7 @@ ghost use Rattle.std.specs.Prelude.{◌≡◌};
 ghost use Rattle.usb_roll.specs.Tokens.{new_keeper};
 ghost use Rattle.usb_state.specs.Making.{setup_of};
 
+use crate::bench::read_steps;
 use crate::kinds::EitherDevice;
 use crate::stand::both_kinds;
 use crate::told::{add_line, expect, is_told};
@@ -71,34 +72,13 @@ fn record<L: Naming, D: Device>(
     Ok(out)
 }
 
-/// The steps of the scene.
-fn steps(reader: &Reader) -> [Step; 7] {
-    let Reader { h, dev, i, ep, .. } = *reader;
-    [
-        Step::Open { h, dev },
-        Step::Claim { h, i },
-        Step::Submit {
-            h,
-            request: reader.read(8, 0),
-        },
-        Step::Serve { dev, ep },
-        Step::Deliver,
-        Step::Take,
-        Step::Answer {
-            h,
-            n: 0,
-            verdict: Verdict::Again,
-        },
-    ]
-}
-
 /// Makes all steps. The payload of the transfer comes out with its result, and with nothing else.
 fn record_all<L: Naming, D: Device>(
     alloc: Global,
     book: &mut Book<L, u8, D, Journal>,
     receipts: &mut Vec<Receipt<L>>,
 ) -> Result<()> {
-    let steps = steps(&Reader::new(1, 0, 0)?);
+    let steps = read_steps(&Reader::new(1, 0, 0)?, Verdict::Again);
     let mut mark = book.mark();
     for step in Vec::from_array(alloc, steps)? {
         let wanted = match step {

@@ -2,6 +2,7 @@
 
 ghost use Rattle.usb_device.specs.Scripts.{Takes};
 
+use crate::bench::read_steps;
 use crate::kinds::Counter;
 use crate::told::{are_told, expect};
 use anyhow::{Result, anyhow};
@@ -29,31 +30,10 @@ pub fn play<P: Print>(rt: &P, alloc: Global) -> Result<()> {
     Ok(())
 }
 
-/// The steps of a read of 8 bytes, from the opening of the device to the end of its callback.
-fn steps(reader: &Reader) -> [Step; 7] {
-    let Reader { h, dev, i, ep, .. } = *reader;
-    [
-        Step::Open { h, dev },
-        Step::Claim { h, i },
-        Step::Submit {
-            h,
-            request: reader.read(8, 0),
-        },
-        Step::Serve { dev, ep },
-        Step::Deliver,
-        Step::Take,
-        Step::Answer {
-            h,
-            n: 0,
-            verdict: Verdict::Stop,
-        },
-    ]
-}
-
 /// Those of a read from either device.
 fn both_steps(alloc: Global) -> Result<Vec<Step>> {
-    let mut all = Vec::from_array(alloc, steps(&Reader::new(1, 0, 0)?))?;
-    let mut others = Vec::from_array(alloc, steps(&Reader::new(2, 1, 1)?))?;
+    let mut all = Vec::from_array(alloc, read_steps(&Reader::new(1, 0, 0)?, Verdict::Stop))?;
+    let mut others = Vec::from_array(alloc, read_steps(&Reader::new(2, 1, 1)?, Verdict::Stop))?;
     all.append(&mut others)?;
     Ok(all)
 }

@@ -11,4 +11,4 @@ mod scripted;
 
 pub use calls::{no_memory, open_and_claim, submit};
 pub use reader::Reader;
-pub use scripted::{device, devices, twins};
+pub use scripted::{device, devices};
