@@ -2,15 +2,7 @@
 use Rattle.std.specs.Prelude.{◌≡◌, ℕ, ◌+◌, ◌==◌, List, [], ◌∷◌, Option, Some, None, is_some, slice_index_or, slice_set, if◌then◌else◌}
 use Rattle.usb_transfer.specs.Store.{Slots, count, transfer_at}
 use Rattle.usb_flight.specs.declared.ending.Waiting.{Waiting}
-use Rattle.usb_flight.specs.Flights.{EndedOf, Flights, lane_at}
-
--- the keys of an endpoint's line
-abbrev pub keys_at : List (List (Option ℕ)) → ℕ → ℕ → List (Option ℕ)
-keys_at lanes d e = slice_index_or lanes (lane_at d e) []
-
--- with another line of keys at an endpoint
-abbrev pub with_keys : List (List (Option ℕ)) → ℕ → ℕ → List (Option ℕ) → List (List (Option ℕ))
-with_keys lanes d e l = slice_set lanes (lane_at d e) l
+use Rattle.usb_flight.specs.Flights.{EndedOf, Flights}
 
 module _ {T : Type 0} where
   -- the transfer with a line's key; none where the line has a blank
@@ -40,7 +32,7 @@ module _ {T : Type 0} where
 
   -- what a caller sees
   abbrev pub seen_flights : Slots T → List (List (Option ℕ)) → List Waiting → Flights T
-  seen_flights s lanes waits = record { lines = seen_lines s lanes; ended = seen_ended s waits; next_key = s.vacant_key }
+  seen_flights s lanes waits = record { lines = seen_lines s lanes; keys = lanes; ended = seen_ended s waits; next_key = s.vacant_key }
 
 -- what an item counts, where each key counts so much
 abbrev pub weight : (ℕ → ℕ) → Option ℕ → ℕ

@@ -5,7 +5,7 @@ ghost use Rattle.std.specs.List.{prefix_len};
 ghost use Rattle.std.specs.VecDeque.{deque_capacity};
 ghost use Rattle.usb_transfer.specs.Store.{count};
 ghost use Rattle.usb_xhc.specs.Controller.{served_at, told_at};
-ghost use Rattle.usb_flight.specs.Flights.{ended_of, is_number, item_at, line_at, mark_in, with_item, with_line};
+ghost use Rattle.usb_flight.specs.Flights.{blanked_at, ended_of, is_number, item_at, left_at, line_at, mark_in, with_item, with_last};
 ghost use Rattle.usb_flight.specs.Serving.{CanServe, Serves, out_of};
 
 use crate::ending::{Ended, Ending, Waiting};
@@ -51,7 +51,7 @@ impl<P> Flights<P> {
 
     /// No item at any endpoint, and no transfer that ended. The first transfer has key 0.
     pub fn new(alloc: Global) -> Result<Flights<P>, AllocError>
-        ensures { IfOk result (λ f. f ≡ record { lines = replicate 128 []; ended = []; next_key = 0 }) }
+        ensures { IfOk result (λ f. f ≡ record { lines = replicate 128 []; keys = replicate 128 []; ended = []; next_key = 0 }) }
     {
         Ok(Flights {
             lanes: Lanes::new(alloc)?,
@@ -124,7 +124,8 @@ impl<P> Flights<P> {
     ) -> Result<usize, Transfer<P>>
         requires { length (line_at self.old dev ep) < 16 }
         ensures key { IfOk result (λ key. key ≡ self.old.next_key) }
-        ensures lines { IfOk result (λ _. self.new.lines ≡ (with_line self.old dev ep (line_at self.old dev ep ++ Some transfer ∷ [])).lines) }
+        ensures lines { IfOk result (λ key. self.new.lines ≡ (with_last self.old dev ep key transfer).lines) }
+        ensures keys { IfOk result (λ key. self.new.keys ≡ (with_last self.old dev ep key transfer).keys) }
         ensures ended { IfOk result (λ _. self.new.ended ≡ self.old.ended) }
         ensures back { IfErr result (λ t. t ≡ transfer) }
         ensures kept { OnErr result (self.new ≡ self.old) }
@@ -141,7 +142,7 @@ impl<P> Flights<P> {
     /// place is a blank. Takes no memory.
     pub fn end(&mut self, dev: DeviceNo, ep: EpAddr, item: usize, ending: Ending)
         requires { IsSome (item_at self.old dev ep item) }
-        ensures { (t : InFlight P) → item_at self.old dev ep item ≡ Some t → self.new ≡ record (with_item self.old dev ep item None) { ended = self.old.ended ++ record { transfer = t; ending = ending } ∷ [] } }
+        ensures { (t : InFlight P) → item_at self.old dev ep item ≡ Some t → self.new ≡ record (blanked_at self.old dev ep item) { ended = self.old.ended ++ record { transfer = t; ending = ending } ∷ [] } }
     {
         if let Some(key) = self.lanes.blank(dev, ep, item) {
             self.ended.push_back_reserved(Waiting { key, ending });
@@ -152,7 +153,7 @@ impl<P> Flights<P> {
     pub fn leave(&mut self, dev: DeviceNo, ep: EpAddr, count: usize)
         requires within { count ≤ length (line_at self.old dev ep) }
         requires blank { (item : ℕ) → item < count → item_at self.old dev ep item ≡ None }
-        ensures { self.new ≡ with_line self.old dev ep (drop count (line_at self.old dev ep)) }
+        ensures { self.new ≡ left_at self.old dev ep count }
     {
         self.lanes.leave(dev, ep, count);
     }
@@ -221,6 +222,7 @@ impl<P> Flights<P> {
     pub fn take(&mut self) -> Option<Ended<P>>
         ensures value { option_map ended_of result ≡ slice_get self.old.ended 0 }
         ensures lines { self.new.lines ≡ self.old.lines }
+        ensures keys { self.new.keys ≡ self.old.keys }
         ensures ended { self.new.ended ≡ drop 1 self.old.ended }
         ensures none { IfNone result (self.new ≡ self.old) }
     {

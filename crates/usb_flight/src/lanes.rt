@@ -1,8 +1,7 @@
 //! The lines of all endpoints.
 
 ghost use Rattle.std.specs.Prelude.{◌≡◌, ◌<◌, ◌≤◌, ◌++◌, ◌∷◌, [], Some, None, IfOk, length, drop, replicate, slice_index_or, slice_set};
-ghost use Rattle.usb_flight.specs.Flights.{lane_at};
-ghost use Rattle.usb_flight.specs.Places.{keys_at, with_keys};
+ghost use Rattle.usb_flight.specs.Flights.{keys_at, lane_at, with_keys};
 
 use crate::line::Line;
 use std::alloc::{AllocError, Global};

@@ -9,7 +9,7 @@ use Rattle.usb_context.specs.Posting.{posted_one}
 use Rattle.usb_context.specs.Serving.{working}
 use Rattle.usb_context.specs.declared.packet.Packet.{Packet as Told}
 use Rattle.usb_context.specs.declared.trb_at.TrbAt.{TrbAt}
-use Rattle.usb_flight.specs.Flights.{Flights, item_at, lane_at, line_at, with_item, with_line}
+use Rattle.usb_flight.specs.Flights.{Flights, blanked_at, item_at, lane_at, left_at, line_at, with_item, with_last}
 use Rattle.usb_flight.specs.Serving.{Serves}
 use Rattle.usb_flight.specs.declared.ending.Ending.{Ending}
 use Rattle.usb_kept.specs.Kept.{trbs_of}
@@ -44,15 +44,15 @@ module _ (P : Type 0) where
 
   -- blanks that leave a line leave the core's
   abbrev pub LeavesBlanks : Type 0
-  LeavesBlanks = (old : State P) (k : Controller) (f : Flights (InFlight P)) (h d e count : ℕ) → count ≤ length (line_at old.flights d e) → f ≡ with_line old.flights d e (drop count (line_at old.flights d e)) → k ≡ slot_changed old.controller d (λ s. changed s (endpoint_id e) (λ x. with_ring x (without_first x.ring count))) → Leaves old (record old { controller = k; flights = f }) h d e count
+  LeavesBlanks = (old : State P) (k : Controller) (f : Flights (InFlight P)) (h d e count : ℕ) → count ≤ length (line_at old.flights d e) → f ≡ left_at old.flights d e count → k ≡ slot_changed old.controller d (λ s. changed s (endpoint_id e) (λ x. with_ring x (without_first x.ring count))) → Leaves old (record old { controller = k; flights = f }) h d e count
 
   -- a transfer that is withdrawn is withdrawn in the core, and its result is made
   abbrev pub WithdrawsTransfers : Type 0
-  WithdrawsTransfers = (old : State P) (k : Controller) (f : Flights (InFlight P)) (callers : List Caller) (h d e item : ℕ) (x : Ending) → ((t : InFlight P) → item_at old.flights d e item ≡ Some t → f ≡ record (with_item old.flights d e item None) { ended = old.flights.ended ++ record { transfer = t; ending = x } ∷ [] }) → ((g id : ℕ) → results_at callers g id ≡ (if is_there h (endpoint_id e) g id then results_at old.callers g id + 1 else results_at old.callers g id)) → SameNumbers old.callers callers → SameCallbacks old.callers callers → SameCounts old.callers callers → k ≡ slot_changed old.controller d (λ s. changed s (endpoint_id e) (λ v. with_ring v (with_blank v.ring item))) → Withdraws old (record old { controller = k; flights = f; callers = callers }) h d e item x
+  WithdrawsTransfers = (old : State P) (k : Controller) (f : Flights (InFlight P)) (callers : List Caller) (h d e item : ℕ) (x : Ending) → ((t : InFlight P) → item_at old.flights d e item ≡ Some t → f ≡ record (blanked_at old.flights d e item) { ended = old.flights.ended ++ record { transfer = t; ending = x } ∷ [] }) → ((g id : ℕ) → results_at callers g id ≡ (if is_there h (endpoint_id e) g id then results_at old.callers g id + 1 else results_at old.callers g id)) → SameNumbers old.callers callers → SameCallbacks old.callers callers → SameCounts old.callers callers → k ≡ slot_changed old.controller d (λ s. changed s (endpoint_id e) (λ v. with_ring v (with_blank v.ring item))) → Withdraws old (record old { controller = k; flights = f; callers = callers }) h d e item x
 
   -- a transfer that ended leaves the core's line, and its result is made
   abbrev pub FinishesTransfers : Type 0
-  FinishesTransfers = (old : State P) (k : Controller) (f g : Flights (InFlight P)) (callers : List Caller) (h d e item count : ℕ) (x : Ending) → ((t : InFlight P) → item_at old.flights d e item ≡ Some t → f ≡ record (with_item old.flights d e item None) { ended = old.flights.ended ++ record { transfer = t; ending = x } ∷ [] }) → item < count → count ≤ length (line_at old.flights d e) → g ≡ with_line f d e (drop count (line_at f d e)) → ((g id : ℕ) → results_at callers g id ≡ (if is_there h (endpoint_id e) g id then results_at old.callers g id + 1 else results_at old.callers g id)) → SameNumbers old.callers callers → SameCallbacks old.callers callers → SameCounts old.callers callers → k ≡ slot_changed old.controller d (λ s. changed s (endpoint_id e) (λ v. with_ring v (without_first v.ring count))) → Finishes old (record old { controller = k; flights = g; callers = callers }) h d e item x count
+  FinishesTransfers = (old : State P) (k : Controller) (f g : Flights (InFlight P)) (callers : List Caller) (h d e item count : ℕ) (x : Ending) → ((t : InFlight P) → item_at old.flights d e item ≡ Some t → f ≡ record (blanked_at old.flights d e item) { ended = old.flights.ended ++ record { transfer = t; ending = x } ∷ [] }) → item < count → count ≤ length (line_at old.flights d e) → g ≡ left_at f d e count → ((g id : ℕ) → results_at callers g id ≡ (if is_there h (endpoint_id e) g id then results_at old.callers g id + 1 else results_at old.callers g id)) → SameNumbers old.callers callers → SameCallbacks old.callers callers → SameCounts old.callers callers → k ≡ slot_changed old.controller d (λ s. changed s (endpoint_id e) (λ v. with_ring v (without_first v.ring count))) → Finishes old (record old { controller = k; flights = g; callers = callers }) h d e item x count
 
   -- what is told of a pause is told in the core
   abbrev pub PausesTransfers : Type 0
@@ -64,7 +64,7 @@ module _ (P : Type 0) where
 
   -- a transfer that is accepted joins the core's line
   abbrev pub StartsTransfers : Type 0
-  StartsTransfers = (old : State P) (k : Controller) (f : Flights (InFlight P)) (callers : List Caller) (h d e : ℕ) (x : Context) (t : InFlight P) (key : ℕ) (request : Request) (round : ℕ) → context_in old.controller d e ≡ Some x → used x.ring.line + length (trbs_of x.size request) ≤ capacity → request.ep ≡ e → IsUnstarted h t (number_of old.callers h) request round → f.lines ≡ (with_line old.flights d e (line_at old.flights d e ++ Some t ∷ [])).lines → f.ended ≡ old.flights.ended → k ≡ slot_changed old.controller d (λ s. changed s (endpoint_id e) (λ c. with_ring c (with_pushed c.ring (normals (normals_of key (tds_of x.size request)))))) → ((g : ℕ) → number_of callers g ≡ (if h == g then number_of old.callers g + 1 else number_of old.callers g)) → SameCallbacks old.callers callers → SameResults old.callers callers → SameCounts old.callers callers → Starts old (record old { controller = k; flights = f; callers = callers }) h d e request round
+  StartsTransfers = (old : State P) (k : Controller) (f : Flights (InFlight P)) (callers : List Caller) (h d e : ℕ) (x : Context) (t : InFlight P) (key : ℕ) (request : Request) (round : ℕ) → context_in old.controller d e ≡ Some x → used x.ring.line + length (trbs_of x.size request) ≤ capacity → request.ep ≡ e → IsUnstarted h t (number_of old.callers h) request round → f.lines ≡ (with_last old.flights d e key t).lines → f.keys ≡ (with_last old.flights d e key t).keys → f.ended ≡ old.flights.ended → k ≡ slot_changed old.controller d (λ s. changed s (endpoint_id e) (λ c. with_ring c (with_pushed c.ring (normals (normals_of key (tds_of x.size request)))))) → ((g : ℕ) → number_of callers g ≡ (if h == g then number_of old.callers g + 1 else number_of old.callers g)) → SameCallbacks old.callers callers → SameResults old.callers callers → SameCounts old.callers callers → Starts old (record old { controller = k; flights = f; callers = callers }) h d e request round
 
   -- of the item where the controller works one packet can be served: there is room for it, or there are bytes
   abbrev pub ServesSafely : Type 0

@@ -15,11 +15,16 @@ use Rattle.usb_claims.specs.Holding.{Holding, IsSetup, device_of, owner_of}
 use Rattle.usb_claims.specs.Tables.{is_plain}
 use Rattle.usb_kept.specs.Kept.{KeptEndpoint, KeptTransfer, SentErrand}
 use Rattle.usb_transfer.specs.declared.transfer.Transfer.{Transfer as InFlight}
-use Rattle.usb_transfer.specs.Tds.{room_of}
+use Rattle.usb_transfer.specs.Tds.{room_of, tds_of}
+use Rattle.usb_transfer.specs.Trbs.{normals_of}
+use Rattle.usb_trb.specs.declared.kind.TrbKind.{TrbKind}
+use Rattle.usb_tring.specs.Line.{normals}
+use Rattle.usb_context.specs.Context.{Context}
 use Rattle.usb_cancel.specs.declared.outstanding.Sent.{Sent}
 use Rattle.usb_cancel.specs.Outstanding.{sent_at}
 use Rattle.usb_xhc.specs.Controller.{Controller}
-use Rattle.usb_flight.specs.Flights.{EndedOf, Flights, line_at}
+use Rattle.usb_xhc.specs.Slots.{DeviceSlot, context_of}
+use Rattle.usb_flight.specs.Flights.{EndedOf, Flights, keys_at, line_at}
 use Rattle.usb_callers.specs.Caller.{Kept as Caller}
 use Rattle.usb_callers.specs.Callers.{callback_at, callbacks_at, number_of, results_at}
 use Rattle.usb_shows.specs.Lively.{IsFine, ends_of}
@@ -54,6 +59,18 @@ module _ {P : Type 0} where
   AllItems name e (x ∷ xs) (y ∷ ys) = IsItem name e x y × AllItems name e xs ys
   AllItems name e _ _ = ⊥
 
+  -- the TRBs of an item are those of its transfer, whose buffer is that of its own key (xHCI 1.2, 6.4.1.1); size: of the endpoint's packets
+  abbrev pub NamesBuffer : ℕ → Option ℕ → Option (InFlight P) → List TrbKind → Type 0
+  NamesBuffer size (Some key) (Some t) ks = ks ≡ normals (normals_of key (tds_of size t.request))
+  NamesBuffer size None None ks = Unit {0}
+  NamesBuffer size _ _ ks = ⊥
+
+  -- a line, item by item: keys, transfers, TRBs
+  abbrev pub AllNameBuffers : ℕ → List (Option ℕ) → List (Option (InFlight P)) → List (List TrbKind) → Type 0
+  AllNameBuffers size [] [] [] = Unit {0}
+  AllNameBuffers size (key ∷ keys) (x ∷ xs) (ks ∷ kss) = NamesBuffer size key x ks × AllNameBuffers size keys xs kss
+  AllNameBuffers size _ _ _ = ⊥
+
   -- a transfer that ended, as a result that waits for its callback
   abbrev pub result_of : EndedOf (InFlight P) → Tagged TransferResult
   result_of x = record {
@@ -72,6 +89,11 @@ pub record State (P : Type 0) : Type 0 where
   pub flights : Flights (InFlight P)
   pub callers : List Caller
   pub outstanding : List (Option Sent)
+
+-- of each endpoint that has a ring
+abbrev pub NameBuffers : {P : Type 0} → State P → Type 0
+NameBuffers {P} s = (d e : ℕ) (v : DeviceSlot) (x : Context) → slice_get s.controller.slots d ≡ Some v → context_of v e ≡ Some x
+    → AllNameBuffers x.size (keys_at s.flights.keys d e) (line_at s.flights d e) x.ring.line.items
 
 -- the line and the errand of an endpoint; name: who holds it
 pub record KeepsEnd {P : Type 0} (s : State P) (name : Option ℕ) (d e : ℕ) (b : KeptEndpoint) : Type 0 where
@@ -97,6 +119,7 @@ pub record Keeps {P : Type 0} (setup : Setup) (s : State P) (c : Core) : Type 0 
   pub bounded : length (ends_of setup) ≤ 120
   pub lanes : length s.flights.lines ≡ 128
   pub cells : length s.outstanding ≡ 128
+  pub buffers : NameBuffers s
   pub held : HoldsCore setup s.controller c
   pub claimed : (d i : ℕ) → c.claims d i ≡ owner_of s.claims d i
   pub named : (h : ℕ) → KeepsName s h (c.names h) (pieces_of h c.results)
