@@ -3,8 +3,8 @@ use Rattle.std.proofs.Common.{◌≡◌, ℕ, ◌+◌, ◌<◌, List, [], ◌∷
 use Rattle.std.proofs.lemmas.List.{set-set, set-get_or, get_or-set_same, get_or-set_other}
 use Rattle.usb_transfer.specs.Store.{Slots, transfer_at, Updates, with_transfer}
 use Rattle.usb_flight.specs.declared.ending.Waiting.{Waiting}
-use Rattle.usb_flight.specs.Flights.{Flights, lane_at, line_at, item_at, with_line, with_item}
-use Rattle.usb_flight.specs.Places.{Stands, keys_at, with_keys, seen, seen_line, seen_lines, seen_ended, seen_flights, lines_weight, ended_weight, one_at}
+use Rattle.usb_flight.specs.Flights.{Flights, blanked_at, keys_at, lane_at, left_at, line_at, item_at, with_item, with_keys, with_last}
+use Rattle.usb_flight.specs.Places.{Stands, seen, seen_line, seen_lines, seen_ended, seen_flights, lines_weight, ended_weight, one_at}
 use Rattle.usb_flight.proofs.Kept.{KeptBut, lines-kept, ended-kept}
 use Rattle.usb_flight.proofs.Seen.{line-length, line-at, line-append, line-put, line-rest, lines-at, lines-put, lines-empty, ended-append, ended-none}
 use Rattle.usb_flight.proofs.Standing.{blank-none, first-none}
@@ -21,17 +21,17 @@ module _ {T : Type 0} (s : Slots T) (lanes : List (List (Option ℕ))) (waits : 
 
   -- blanks leave
   pub leave-shown : (n : ℕ) → seen_flights s (with_keys lanes d e (drop n (keys_at lanes d e))) waits
-      ≡ with_line (seen_flights s lanes waits) d e (drop n (line_at (seen_flights s lanes waits) d e))
+      ≡ left_at (seen_flights s lanes waits) d e n
   leave-shown n =
       let put : seen_lines s (slice_set lanes (lane_at d e) (drop n (keys_at lanes d e))) ≡ slice_set (seen_lines s lanes) (lane_at d e) (drop n (slice_index_or (seen_lines s lanes) (lane_at d e) []))
       = lines-put s lanes (lane_at d e) (drop n (keys_at lanes d e))
       ∙ ap (λ l. slice_set (seen_lines s lanes) (lane_at d e) l) (line-rest s (keys_at lanes d e) n ∙ ap (λ l. drop n l) (sym (lines-at s lanes (lane_at d e)))) in
-      ap (λ ls. record { lines = ls; ended = seen_ended s waits; next_key = s.vacant_key }) put
+      ap (λ ls. record { lines = ls; keys = with_keys lanes d e (drop n (keys_at lanes d e)); ended = seen_ended s waits; next_key = s.vacant_key }) put
 
   -- a transfer ends
   pub end-shown : (i : ℕ) (w : Waiting) (t : T) → slice_index_or (keys_at lanes d e) i None ≡ Some w.key → item_at (seen_flights s lanes waits) d e i ≡ Some t
       → seen_flights s (with_keys lanes d e (slice_set (keys_at lanes d e) i None)) (waits ++ w ∷ [])
-      ≡ record (with_item (seen_flights s lanes waits) d e i None) { ended = seen_ended s waits ++ record { transfer = t; ending = w.ending } ∷ [] }
+      ≡ record (blanked_at (seen_flights s lanes waits) d e i) { ended = seen_ended s waits ++ record { transfer = t; ending = w.ending } ∷ [] }
   end-shown i w t at there =
       let put : seen_lines s (slice_set lanes (lane_at d e) (slice_set (keys_at lanes d e) i None))
       ≡ slice_set (seen_lines s lanes) (lane_at d e) (slice_set (slice_index_or (seen_lines s lanes) (lane_at d e) []) i None)
@@ -50,7 +50,7 @@ module _ {T : Type 0} (s : Slots T) (lanes : List (List (Option ℕ))) (waits : 
     -- a transfer joins a line
     pub push-shown : lines_weight (one_at key) lanes + ended_weight (one_at key) waits ≡ 0 → Updates s r key (Some t)
         → seen_lines r (with_keys lanes d e (keys_at lanes d e ++ Some key ∷ []))
-        ≡ (with_line (seen_flights s lanes waits) d e (line_at (seen_flights s lanes waits) d e ++ Some t ∷ [])).lines
+        ≡ (with_last (seen_flights s lanes waits) d e key t).lines
     push-shown none updates =
         let kept : seen_lines r lanes ≡ seen_lines s lanes = lines-kept s r key updates.others lanes (omega arith) in
         let line : seen_line r (keys_at lanes d e) ≡ slice_index_or (seen_lines s lanes) (lane_at d e) []
@@ -125,7 +125,7 @@ change-shown s lanes waits v d e i key is stands within at f was t live there =
 
 -- nothing is seen at first
 pub new-shown : {T : Type 0} (s : Slots T) (lanes : List (List (Option ℕ))) (waits : List Waiting) → s ≡ record { slots = []; vacant_key = 0 } → lanes ≡ replicate 128 [] → waits ≡ []
-    → seen_flights s lanes waits ≡ record { lines = replicate 128 []; ended = []; next_key = 0 }
+    → seen_flights s lanes waits ≡ record { lines = replicate 128 []; keys = replicate 128 []; ended = []; next_key = 0 }
 new-shown s lanes waits p q r =
     let lines : seen_lines s lanes ≡ replicate 128 [] = ap (seen_lines s) q ∙ lines-empty s 128 in
     let ended : seen_ended s waits ≡ [] = ap (seen_ended s) r ∙ ended-none s in

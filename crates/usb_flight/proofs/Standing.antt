@@ -6,8 +6,8 @@ use Rattle.std.proofs.lemmas.List.{get_or-set_same, get_or-set_other}
 use Rattle.std.proofs.lemmas.List.Sums.{sum_by-cons}
 use Rattle.usb_transfer.specs.Store.{Slots, count, transfer_at, Updates, with_transfer}
 use Rattle.usb_flight.specs.declared.ending.Waiting.{Waiting}
-use Rattle.usb_flight.specs.Flights.{lane_at}
-use Rattle.usb_flight.specs.Places.{Stands, keys_at, with_keys, lines_weight, ended_weight, one_at, one_each, seen}
+use Rattle.usb_flight.specs.Flights.{keys_at, lane_at, with_keys}
+use Rattle.usb_flight.specs.Places.{Stands, lines_weight, ended_weight, one_at, one_each, seen}
 use Rattle.usb_flight.proofs.Kept.{one-same}
 use Rattle.usb_flight.proofs.Weights.{all-pushed, all-blanked, all-left, ended-push, ended-first, ended-length, item-within, lines-none}
 

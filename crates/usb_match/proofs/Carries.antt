@@ -208,4 +208,4 @@ pub carries : (c : Context) (b : KeptEndpoint) (index : ℕ) (o : Errand) (k : T
 unfolding carried
 carries c b index errand.Stop k is fresh e = subst (λ (x : TrbKind). CarriesAs c b index (carried x c) (kept.carry index b errand.Stop b.state)) (sym e) (stops c b index is fresh)
 carries c b index errand.Reset k is fresh e = subst (λ (x : TrbKind). CarriesAs c b index (carried x c) (kept.carry index b errand.Reset b.state)) (sym e) (resets c b index is)
-carries c b index errand.Move k is fresh e = subst (λ (x : TrbKind). CarriesAs c b index (carried x c) (kept.carry index b errand.Move b.state)) (sym e.1) (moves c b index is)
+carries c b index errand.Move k is fresh e = subst (λ (x : TrbKind). CarriesAs c b index (carried x c) (kept.carry index b errand.Move b.state)) (sym e) (moves c b index is)

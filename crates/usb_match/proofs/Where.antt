@@ -1,9 +1,9 @@
 -- Where a line's transfers stand in the ring.
-use Rattle.std.proofs.Common.{◌≡◌, ℕ, zero, suc, ◌+◌, ◌-◌, ◌*◌, ◌%◌, ◌≤◌, refl, ap, sym, ◌∙◌, arith, List, [], ◌∷◌, length, take, drop, Some}
+use Rattle.std.proofs.Common.{◌≡◌, ℕ, zero, suc, ◌+◌, ◌-◌, ◌*◌, ◌%◌, ◌≤◌, nat_lt, refl, ap, sym, ◌∙◌, arith, List, [], ◌∷◌, length, take, drop, Some}
 use Rattle.std.specs.Prelude.{get_or, slice_get}
 use Rattle.std.proofs.lemmas.Option.{slice_get_within}
 use Rattle.usb_trb.specs.declared.kind.TrbKind.{TrbKind}
-use Rattle.usb_segment.specs.Places.{address_of}
+use Rattle.usb_segment.specs.Places.{address_of, cycle_of}
 use Rattle.usb_kept.specs.Kept.{KeptEndpoint, KeptTransfer, first_place}
 use Rattle.usb_kept.specs.Handling.{find_at}
 use Rattle.usb_tring.specs.Line.{IsAt, Line, all_of, place_of, places}
@@ -18,6 +18,10 @@ use Rattle.usb_match.proofs.Lines.{Found, finds}
 -- a place of the ring has the same address as without end
 pub same_address : (base p : ℕ) → address_of places base (in_ring p) ≡ address_of places base p
 same_address base p = let same : p % 254 % 127 ≡ p % 127 = omega arith in ap (λ n. base + 16 * n) same
+
+-- and the same cycle
+pub same_cycle : (p : ℕ) → cycle_of places (in_ring p) ≡ cycle_of places p
+same_cycle p = let same : p % 254 % 254 ≡ p % 254 = omega arith in ap (λ n. nat_lt n 127) same
 
 -- so many behind such a place
 pub same_address_on : (base p q n : ℕ) → q ≡ in_ring p → address_of places base (q + n) ≡ address_of places base (p + n)
@@ -56,6 +60,14 @@ address c b i is le =
     ∙ (same_address l.base (first_place b.line b.end + length (all_of (take i l.items)))
     ∙ ap (address_of places l.base) (sym (first_drop c.size b.line l.items b.end i is.ring.items is.ring.row)))
 
+-- its cycle
+pub cycle : (c : Context) (b : KeptEndpoint) (i : ℕ) → IsContext c b → i ≤ length b.line → cycle_of places (place_of c.ring.line i) ≡ cycle_of places (first_place (drop i b.line) b.end)
+cycle c b i is le =
+    let l : Line = c.ring.line in
+    ap (cycle_of places) (place_behind_is c.size l b.line b.end b.dequeue (length (all_of (take i l.items))) is.ring)
+    ∙ (same_cycle (first_place b.line b.end + length (all_of (take i l.items)))
+    ∙ ap (cycle_of places) (sym (first_drop c.size b.line l.items b.end i is.ring.items is.ring.row)))
+
 -- as many items as transfers
 pub count : (size : ℕ) (ys : List KeptTransfer) (kss : List (List TrbKind)) → AllItems size ys kss → length kss ≡ length ys
 count size [] [] items = refl
@@ -67,6 +79,7 @@ pub all : FindsKept
 all = record {
   item = item;
   address = address;
+  cycle = cycle;
   used = λ c b is. in_use c.size c.ring.line b.line b.end b.dequeue is.ring;
   items = λ c b is. count c.size b.line c.ring.line.items is.ring.items;
 }

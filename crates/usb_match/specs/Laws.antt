@@ -13,7 +13,7 @@ use Rattle.usb_model.specs.Requests.{length_of}
 use Rattle.usb_trb.specs.declared.kind.Normal.{Normal as NormalTrb}
 use Rattle.usb_trb.specs.declared.kind.TrbKind.{TrbKind}
 use Rattle.usb_trb.specs.declared.kind.TrbKind.TheVariants.{StopEndpoint, ResetEndpoint, SetDequeue, CommandCompletion}
-use Rattle.usb_segment.specs.Places.{address_of}
+use Rattle.usb_segment.specs.Places.{address_of, cycle_of}
 use Rattle.usb_kept.specs.Kept.{KeptEndpoint, KeptTransfer, code_of, first_place, new_kept_endpoint, trbs_of}
 use Rattle.usb_kept.specs.Handling.{find_at, past_kept_blanks}
 use Rattle.usb_kept.specs.Serving.{Answered, answer_now, got, packet_now, sent_before, serve_kept}
@@ -69,11 +69,15 @@ ServedAs c p b gone (Some first) a = ServesAs c p b gone first (served_here gone
 abbrev pub ServesKept : Type 0
 ServesKept = (c : Context) (p : Pipe) (b : KeptEndpoint) (gone : Bool) → IsContext c b → IsPipe p b → (b.state ≡ Running → IsFresh b) → ServedAs c p b gone (working c) (serve_kept c.size gone b)
 
--- the order of an errand, as it stands in the command ring (xHCI 1.2, 6.4.3)
+-- where an endpoint goes on behind the blanks that lead its line: at the first transfer in progress, or at the line's end
+abbrev pub start_of : KeptEndpoint → ℕ
+start_of b = first_place (past_kept_blanks b.line) b.end
+
+-- the order of an errand, as it stands in the command ring: the new dequeue pointer with the cycle of its place (xHCI 1.2, 6.4.3, 6.4.3.9)
 abbrev pub IsOrder : Context → KeptEndpoint → Errand → TrbKind → Type 0
 IsOrder c b errand.Stop k = k ≡ StopEndpoint c.slot c.id
 IsOrder c b errand.Reset k = k ≡ ResetEndpoint c.slot c.id
-IsOrder c b errand.Move k = (cycle : Bool) × (k ≡ SetDequeue (address_of places c.ring.line.base (first_place (past_kept_blanks b.line) b.end)) cycle c.slot c.id)
+IsOrder c b errand.Move k = k ≡ SetDequeue (address_of places c.ring.line.base (start_of b)) (cycle_of places (start_of b)) c.slot c.id
 
 -- an order that the controller carries out at an endpoint is the kept endpoint's
 pub record CarriesAs (c : Context) (b : KeptEndpoint) (index : ℕ) (r : Carried) (a : kept.Carried) : Type 0 where
@@ -133,6 +137,8 @@ pub record FindsKept : Type 0 where
   -- the address of an item, or of enqueue
   pub address : (c : Context) (b : KeptEndpoint) (i : ℕ) → IsContext c b → i ≤ length b.line
       → address_of places c.ring.line.base (place_of c.ring.line i) ≡ address_of places c.ring.line.base (first_place (drop i b.line) b.end)
+  -- its cycle
+  pub cycle : (c : Context) (b : KeptEndpoint) (i : ℕ) → IsContext c b → i ≤ length b.line → cycle_of places (place_of c.ring.line i) ≡ cycle_of places (first_place (drop i b.line) b.end)
   -- the places in use
   pub used : (c : Context) (b : KeptEndpoint) → IsContext c b → used c.ring.line + min b.dequeue (first_place b.line b.end) ≡ b.end
   -- as many items as transfers

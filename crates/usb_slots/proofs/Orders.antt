@@ -10,27 +10,23 @@ use Rattle.usb_model.specs.Endpoint.Status.{halts}
 use Rattle.usb_model.specs.Setup.{endpoint_id}
 use Rattle.usb_trb.specs.declared.kind.TrbKind.{TrbKind}
 use Rattle.usb_trb.specs.declared.kind.TrbKind.TheVariants.{SetDequeue}
-use Rattle.usb_segment.specs.Places.{address_of}
+use Rattle.usb_segment.specs.Places.{address_of, cycle_of}
 use Rattle.usb_kept.specs.Kept.{KeptEndpoint, KeptTransfer, first_place}
 use Rattle.usb_kept.specs.Handling.{find_at, past_at, past_kept_blanks}
 use Rattle.usb_kept.specs.Serving.{Packet, answer_now, answered_by, answered_gone, endpoint_with, gave, got, packet_now, put_at, sent_before, serve_at, serve_kept}
 use Rattle.usb_kept.specs.Commanding as kept
 use Rattle.usb_tring.specs.Line.{places}
-use Rattle.usb_match.specs.Laws.{HaveTrbsOf}
+use Rattle.usb_match.specs.Laws.{HaveTrbsOf, start_of}
 use Rattle.usb_match.proofs.Goes.{put_same}
 use Rattle.usb_shows.specs.Shows.{RingOrder}
 use Rattle.usb_slots.specs.Holds.{AllPosted, IsPosted, ring_at, with_end}
 use Rattle.usb_shows.specs.Known.{NoMove}
 
--- where an endpoint goes on behind its blanks
-abbrev pub start_of : KeptEndpoint → ℕ
-start_of b = first_place (past_kept_blanks b.line) b.end
-
 -- an order is one of any endpoint that goes on there
 pub posted_kept : (b after : KeptEndpoint) (d e : ℕ) (o : Errand) (t : TrbKind) → start_of after ≡ start_of b → IsPosted b d e o t → IsPosted after d e o t
 posted_kept b after d e errand.Stop t same is = is
 posted_kept b after d e errand.Reset t same is = is
-posted_kept b after d e errand.Move t same is = (is.0, is.1 ∙ ap (λ (n : ℕ). SetDequeue (address_of places (ring_at d e) n) is.0 (suc d) (endpoint_id e)) (sym same))
+posted_kept b after d e errand.Move t same is = is ∙ ap (λ (n : ℕ). SetDequeue (address_of places (ring_at d e) n) (cycle_of places n) (suc d) (endpoint_id e)) (sym same)
 
 -- where no order to go on there waits, it doesn't matter
 posted_else : (b after : KeptEndpoint) (d e : ℕ) (o : Errand) (t : TrbKind) → (o ≡ errand.Move → ⊥) → IsPosted b d e o t → IsPosted after d e o t

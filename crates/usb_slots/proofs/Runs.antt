@@ -9,9 +9,9 @@ use Rattle.usb_model.specs.declared.errand.Errand.TheVariants as errand
 use Rattle.usb_model.specs.Setup.{Setup, endpoint_id}
 use Rattle.usb_trb.specs.declared.kind.TrbKind.{TrbKind}
 use Rattle.usb_trb.specs.declared.kind.TrbKind.TheVariants.{CommandCompletion, SetDequeue, StopEndpoint, ResetEndpoint}
-use Rattle.usb_segment.specs.Places.{address_of}
-use Rattle.usb_kept.specs.Kept.{KeptEndpoint, first_place}
-use Rattle.usb_kept.specs.Handling.{errand_of, past_kept_blanks}
+use Rattle.usb_segment.specs.Places.{address_of, cycle_of}
+use Rattle.usb_kept.specs.Kept.{KeptEndpoint}
+use Rattle.usb_kept.specs.Handling.{errand_of}
 use Rattle.usb_kept.specs.Commanding as kept
 use Rattle.usb_device.specs.Pipe.{Pipe, pipe_at}
 use Rattle.usb_tring.specs.Line.{places}
@@ -20,7 +20,7 @@ use Rattle.usb_context.specs.Context.{Context}
 use Rattle.usb_context.specs.Posting.{posted_all}
 use Rattle.usb_xhc.specs.Controller.{Controller, carried_at, code_for, endpoint_in, order_address, run_at, run_of, slot_in}
 use Rattle.usb_xhc.specs.Slots.{DeviceSlot, changed, context_of, order_code, order_events}
-use Rattle.usb_match.specs.Laws.{CarriesAs, IsOrder}
+use Rattle.usb_match.specs.Laws.{CarriesAs, IsOrder, start_of}
 use Rattle.usb_match.proofs.Carries.{carries}
 use Rattle.usb_shows.specs.Shows.{RingOrder, event_at}
 use Rattle.usb_slots.specs.Holds.{AllPosted, HasRing, IsEnd, IsPosted, RingIs, event_trb, ring_at, with_end}
@@ -63,19 +63,16 @@ such : (b : KeptEndpoint) (d e : ℕ) (o : Errand) (k : TrbKind) → IsPosted b 
 unfolding carried
 such b d e errand.Stop k is = subst (λ (x : TrbKind). IsSuch d e x) (sym is) (record { target = refl; same = λ c. same_stop c c.state })
 such b d e errand.Reset k is = subst (λ (x : TrbKind). IsSuch d e x) (sym is) (record { target = refl; same = λ c. same_reset c c.state })
-such b d e errand.Move k is = subst (λ (x : TrbKind). IsSuch d e x) (sym is.1)
-    (record { target = refl; same = λ c. same_move c (address_of places (ring_at d e) (first_place (past_kept_blanks b.line) b.end)) c.state })
+such b d e errand.Move k is = subst (λ (x : TrbKind). IsSuch d e x) (sym is) (record { target = refl; same = λ c. same_move c (address_of places (ring_at d e) (start_of b)) c.state })
 
 -- the order as its endpoint has it
 order_is : (setup : Setup) (d e : ℕ) (p : Pipe) (b : KeptEndpoint) (c : Context) (o : Errand) (k : TrbKind) → HasRing setup d e p b c → IsPosted b d e o k → IsOrder c b o k
 order_is setup d e p b c errand.Stop k r is = is ∙ ap₂ (λ (m n : ℕ). StopEndpoint m n) (sym r.slot) (sym r.id)
 order_is setup d e p b c errand.Reset k r is = is ∙ ap₂ (λ (m n : ℕ). ResetEndpoint m n) (sym r.slot) (sym r.id)
 order_is setup d e p b c errand.Move k r is =
-    let start : ℕ = first_place (past_kept_blanks b.line) b.end in (
-      is.0,
-      is.1 ∙ (ap (λ (base : ℕ). SetDequeue (address_of places base start) is.0 (suc d) (endpoint_id e)) (sym r.base)
-          ∙ ap₂ (λ (m n : ℕ). SetDequeue (address_of places c.ring.line.base start) is.0 m n) (sym r.slot) (sym r.id)),
-    )
+    let start : ℕ = start_of b in
+    is ∙ (ap (λ (base : ℕ). SetDequeue (address_of places base start) (cycle_of places start) (suc d) (endpoint_id e)) (sym r.base)
+    ∙ ap₂ (λ (m n : ℕ). SetDequeue (address_of places c.ring.line.base start) (cycle_of places start) m n) (sym r.slot) (sym r.id))
 
 -- an endpoint with an errand has a ring
 has_ring : (setup : Setup) (d e : ℕ) (s : DeviceSlot) (b : KeptEndpoint) (o : Errand) → IsEnd setup s d e b → errand_of b.errand ≡ Some o → (c : Context) × (context_of s e ≡ Some c) × HasRing setup d e (pipe_at s.pipes e) b c

@@ -7,9 +7,8 @@ use Rattle.usb_model.specs.Requests.{is_unsupported}
 use Rattle.usb_model.specs.Setup.{Setup, endpoint_id, interface_of, kind_of, packet_size_of, script_of}
 use Rattle.usb_trb.specs.declared.kind.TrbKind.{TrbKind}
 use Rattle.usb_trb.specs.declared.kind.TrbKind.TheVariants.{CommandCompletion, ResetEndpoint, SetDequeue, StopEndpoint}
-use Rattle.usb_segment.specs.Places.{address_of}
-use Rattle.usb_kept.specs.Kept.{KeptEndpoint, Transfer, first_place}
-use Rattle.usb_kept.specs.Handling.{past_kept_blanks}
+use Rattle.usb_segment.specs.Places.{address_of, cycle_of}
+use Rattle.usb_kept.specs.Kept.{KeptEndpoint, Transfer}
 use Rattle.usb_device.specs.Pipe.{Pipe, pipe_at, rewound}
 use Rattle.usb_tring.specs.Line.{places}
 use Rattle.usb_context.specs.Context.{Context}
@@ -17,6 +16,7 @@ use Rattle.usb_xhc.specs.Controller.{Controller}
 use Rattle.usb_xhc.specs.Making.{ring_base}
 use Rattle.usb_xhc.specs.Slots.{DeviceSlot, context_of}
 use Rattle.usb_match.specs.Endpoint.{IsContext, IsPipe}
+use Rattle.usb_match.specs.Laws.{start_of}
 use Rattle.usb_match.specs.Told.{event_in}
 use Rattle.usb_shows.specs.Shows.{Completes, Core, RingEvent, RingOrder, Transfers}
 
@@ -63,7 +63,7 @@ pub record IsSlot (setup : Setup) (d : ℕ) (s : DeviceSlot) (gone : ℕ → Boo
 abbrev pub IsPosted : KeptEndpoint → ℕ → ℕ → Errand → TrbKind → Type 0
 IsPosted b d e errand.Stop k = k ≡ StopEndpoint (suc d) (endpoint_id e)
 IsPosted b d e errand.Reset k = k ≡ ResetEndpoint (suc d) (endpoint_id e)
-IsPosted b d e errand.Move k = (cycle : Bool) × (k ≡ SetDequeue (address_of places (ring_at d e) (first_place (past_kept_blanks b.line) b.end)) cycle (suc d) (endpoint_id e))
+IsPosted b d e errand.Move k = k ≡ SetDequeue (address_of places (ring_at d e) (start_of b)) (cycle_of places (start_of b)) (suc d) (endpoint_id e)
 
 abbrev pub AllPosted : (ℕ → ℕ → KeptEndpoint) → List RingOrder → List TrbKind → Type 0
 AllPosted endpoints [] [] = Unit {0}

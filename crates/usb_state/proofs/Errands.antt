@@ -1,5 +1,5 @@
 -- An errand is ordered, or the endpoint goes on.
-use Rattle.std.proofs.Common.{◌≡◌, ℕ, suc, ◌-◌, ◌%◌, ◌<◌, ◌≤◌, refl, ap, ap₂, sym, subst, ◌∙◌, arith, List, [], ◌∷◌, ◌++◌, length, Option, Some, None}
+use Rattle.std.proofs.Common.{◌≡◌, ℕ, suc, ◌-◌, ◌%◌, ◌<◌, ◌≤◌, refl, ap, ap₂, sym, subst, ◌∙◌, arith, List, [], ◌∷◌, ◌++◌, length, Bool, Option, Some, None}
 use Rattle.std.specs.Prelude.{slice_get, slice_set, is_none}
 use Rattle.std.proofs.lemmas.List.Sums.{prefix_len-le-length}
 use Rattle.std.specs.Option.{option_and_then, option_map}
@@ -14,7 +14,7 @@ use Rattle.usb_device.specs.Pipe.{pipe_at}
 use Rattle.usb_segment.specs.Places.{address_of, cycle_of, index_of}
 use Rattle.usb_tring.specs.Line.{place_of, places}
 use Rattle.usb_kept.specs.Kept.{KeptEndpoint, KeptTransfer, SentErrand, first_place}
-use Rattle.usb_kept.specs.Handling.{past_kept_blanks}
+use Rattle.usb_match.specs.Laws.{start_of}
 use Rattle.usb_transfer.specs.declared.transfer.Transfer.{Transfer as InFlight}
 use Rattle.usb_cancel.specs.declared.outstanding.Sent.{Sent}
 use Rattle.usb_cancel.specs.Outstanding.{sent_at}
@@ -24,7 +24,7 @@ use Rattle.usb_context.specs.Posting.{posted_one}
 use Rattle.usb_xhc.specs.Controller.{Controller, slot_changed}
 use Rattle.usb_xhc.specs.Slots.{DeviceSlot, changed, context_of}
 use Rattle.usb_flight.specs.Flights.{lane_at, line_at}
-use Rattle.usb_match.proofs.Where.{address}
+use Rattle.usb_match.proofs.Where.{address, cycle}
 use Rattle.usb_shows.specs.Shows.{Core, order_at}
 use Rattle.usb_slots.specs.Holds.{HasRing, Holds, HoldsCore, IsPosted, ring_at, with_end}
 use Rattle.usb_slots.proofs.Ends.{here}
@@ -64,18 +64,20 @@ module _ {P : Type 0} where
           let within : blanks ≤ length (line_at s.flights d e) = prefix_len-le-length is_none (line_at s.flights d e) in
           omega (arith, all, within)
 
-      goes_to : address_of places x.ring.line.base (place_of x.ring.line blanks) ≡ address_of places (ring_at d e) (first_place (past_kept_blanks b.line) b.end)
+      goes_to : address_of places x.ring.line.base (place_of x.ring.line blanks) ≡ address_of places (ring_at d e) (start_of b)
       goes_to = address x b blanks is.context few
           ∙ ap₂ (λ (base : ℕ) (ys : List KeptTransfer). address_of places base (first_place ys b.end)) is.base (sym (past_blanks (holder setup c.claims d e) e (line_at s.flights d e) b.line end.line))
+
+      turns_to : cycle_of places (place_of x.ring.line blanks) ≡ cycle_of places (start_of b)
+      turns_to = cycle x b blanks is.context few
+          ∙ ap (λ (ys : List KeptTransfer). cycle_of places (first_place ys b.end)) (sym (past_blanks (holder setup c.claims d e) e (line_at s.flights d e) b.line end.line))
 
       by_errand : (o : Errand) → IsPosted b d e o (order_by x blanks o)
       by_errand errand.Stop = ap₂ StopEndpoint is.slot is.id
       by_errand errand.Reset = ap₂ ResetEndpoint is.slot is.id
-      by_errand errand.Move = (
-        cycle_of places (place_of x.ring.line blanks),
-        ap₂ (λ (slot id : ℕ). SetDequeue (address_of places x.ring.line.base (place_of x.ring.line blanks)) (cycle_of places (place_of x.ring.line blanks)) slot id) is.slot is.id
-            ∙ ap (λ (a : ℕ). SetDequeue a (cycle_of places (place_of x.ring.line blanks)) (suc d) (endpoint_id e)) goes_to,
-      )
+      by_errand errand.Move =
+          ap₂ (λ (slot id : ℕ). SetDequeue (address_of places x.ring.line.base (place_of x.ring.line blanks)) (cycle_of places (place_of x.ring.line blanks)) slot id) is.slot is.id
+          ∙ ap₂ (λ (a : ℕ) (t : Bool). SetDequeue a t (suc d) (endpoint_id e)) goes_to turns_to
 
   -- an endpoint as it was, with another errand
   with_errand : (s t : State P) (name : Option ℕ) (d e : ℕ) (b : KeptEndpoint) (sent : Option SentErrand) → line_at t.flights d e ≡ line_at s.flights d e → sent_at t.outstanding d e ≡ option_map in_ring sent

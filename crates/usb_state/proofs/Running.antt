@@ -56,7 +56,7 @@ carry_line index b errand.Move Halted = (refl, refl)
 order_said : (b : KeptEndpoint) (d e : ℕ) (o : Errand) (k : TrbKind) → IsPosted b d e o k → order_in k ≡ Some (suc d, endpoint_id e, o)
 order_said b d e errand.Stop k is = ap order_in is
 order_said b d e errand.Reset k is = ap order_in is
-order_said b d e errand.Move k is = ap order_in is.1
+order_said b d e errand.Move k is = ap order_in is
 
 -- whether an order went well is told by its code
 ok_by_code : (ok : Bool) → ok ≡ (code_of ok == 1)

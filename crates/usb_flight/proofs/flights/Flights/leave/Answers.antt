@@ -2,8 +2,7 @@
 use Rattle.std.proofs.Common.{◌≡◌, length, sym, ap, ◌∙◌, arith}
 use Rattle.usb_flight.proofs.Shown.{len-shown, item-shown, leave-shown}
 use Rattle.usb_flight.proofs.Standing.{blank-there, leave-stands}
-use Rattle.usb_flight.specs.Places.{keys_at}
-use Rattle.usb_flight.specs.Flights.{line_at, item_at}
+use Rattle.usb_flight.specs.Flights.{keys_at, line_at, item_at}
 use Rattle.usb_flight.proofs.flights.Flights.leave.Goals as goal
 
 pub leave-requires : goal.leave-requires

@@ -1,8 +1,7 @@
 -- A transfer joins its line under a key of its own.
-use Rattle.std.proofs.Common.{◌≡◌, ◌≤◌, ◌+◌, length, sym, ◌∙◌, arith}
+use Rattle.std.proofs.Common.{◌≡◌, ◌≤◌, ◌+◌, length, refl, sym, ◌∙◌, arith}
 use Rattle.usb_transfer.specs.Store.{count}
-use Rattle.usb_flight.specs.Flights.{line_at}
-use Rattle.usb_flight.specs.Places.{keys_at}
+use Rattle.usb_flight.specs.Flights.{keys_at, line_at}
 use Rattle.usb_flight.proofs.Kept.{ended-kept}
 use Rattle.std.specs.VecDeque.{deque_capacity}
 use Rattle.usb_flight.proofs.Plain.{ok-there}
@@ -31,6 +30,9 @@ pub returns-clause-lines : goal.returns-clause-lines
 returns-clause-lines g c =
     rw (← c.self.view_is, c.push.ensures.value) (push-shown c.self.inside.store c.self.inside.lanes c.self.inside.ended.items c.args.dev c.args.ep c.insert.new.self c.in_ok-key.key c.args.transfer c.self.invariant.0 c.push.ensures.lane
     (vacant-none c.self.inside.store c.self.inside.lanes c.self.inside.ended.items c.self.invariant.0 c.in_ok-key.key c.in_ok-key.ensures.was_vacant) c.in_ok-key.ensures.updates)
+
+pub returns-clause-keys : goal.returns-clause-keys
+returns-clause-keys g c = rw (← c.self.view_is, c.push.ensures.value) refl
 
 pub returns-clause-ended : goal.returns-clause-ended
 returns-clause-ended g c =

@@ -45,6 +45,9 @@ returns-clause-lines g c =
     let shown = take-shown c.self.inside.store c.remove.new.self c.self.inside.lanes c.pop_front.new.self.items c.in_ok-first.first stands c.in_ok-transfer.ensures.updates in
     rw (← c.self.view_is) shown.0
 
+pub returns-clause-keys : goal.returns-clause-keys
+returns-clause-keys g c = rw (← c.self.view_is) refl
+
 pub returns-clause-ended : goal.returns-clause-ended
 returns-clause-ended g c =
     let stands : Stands c.self.inside.store c.self.inside.lanes (c.in_ok-first.first ∷ c.pop_front.new.self.items) = rw (← c.in_ok-first.ensures.items) c.self.invariant.0 in
