@@ -108,7 +108,7 @@ const LONG_WRITE: Scene = Scene {
             lines: "zeros 1 02 131072: h1 number 0\n\
                 transfer 02 0: 00000000 01000000 00000100 11040000\n\
                 transfer 02 1: 00000100 01000000 00000100 01040000\n\
-                transfer 02 2: ???????? ???????? 00000000 21040000",
+                transfer 02 2: 00000200 01000000 00000000 21040000",
         },
         Block {
             from: 0,
@@ -147,9 +147,9 @@ const LINK_WITHIN_TRANSFER: Scene = Scene {
             from: 0,
             to: 1,
             lines: "submit 1 81 bulk 65540: h1 number 126\n\
-                transfer 81 126: ???????? ???????? 00000100 15040000\n\
+                transfer 81 126: 00000000 01000000 00000100 15040000\n\
                 transfer 81 127: 00300210 00000000 00000000 13180000\n\
-                transfer 81 0: ???????? ???????? 04000000 24040000\n\
+                transfer 81 0: 00000100 01000000 04000000 24040000\n\
                 enqueue 81: 1 cycle 0",
         },
     ],

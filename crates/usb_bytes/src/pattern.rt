@@ -14,20 +14,10 @@ pub fn numbered(alloc: Global, text: &str, number: &str) -> Result<String, Alloc
     Ok(whole)
 }
 
-/// Whether a text is what a pattern says, in which `?` stands for any byte, and `*` at its end for any that are left.
+/// Whether a text is what a pattern says, in which `*` at its end stands for any that are left.
 pub fn fits(text: &[u8], pattern: &[u8]) -> bool {
     match pattern {
-        [begin @ .., b'*'] => text.len() >= begin.len() && begins(text, begin),
-        _ => text.len() == pattern.len() && begins(text, pattern),
+        [begin @ .., b'*'] => text.starts_with(begin),
+        _ => text == pattern,
     }
-}
-
-/// Whether a text begins as a pattern says.
-fn begins(text: &[u8], pattern: &[u8]) -> bool {
-    for (byte, wanted) in text.iter().zip(pattern.iter()) {
-        if *wanted != b'?' && byte != wanted {
-            return false;
-        }
-    }
-    true
 }

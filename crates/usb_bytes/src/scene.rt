@@ -13,8 +13,8 @@ pub struct Block {
     pub from: u64,
     /// The number behind the last.
     pub to: u64,
-    /// What is done, a colon and a space, and what is told of it; `#` stands for the number. Of what is told `?` leaves a byte
-    /// open, and `*` at its end all that follows.
+    /// What is done, a colon and a space, and what is told of it; `#` stands for the number. `*` at the end of what is told
+    /// leaves open all that follows.
     pub lines: &'static str,
 }
 

@@ -6,6 +6,7 @@ use crate::scene::{Block, Scene};
 /// All of them.
 pub const SCENES: &[Scene] = &[
     TRANSFER_RING_BYTES,
+    BUFFERS,
     ERRAND_BYTES,
     STALL_BESIDE_CANCEL,
     EVENT_RING_TURNS,
@@ -70,9 +71,9 @@ const TRANSFER_RING_BYTES: Scene = Scene {
         Block {
             from: 0,
             to: 1,
-            lines: "transfer 81 126: ???????? ???????? 08000000 25040000\n\
+            lines: "transfer 81 126: 00000000 01000000 08000000 25040000\n\
                 transfer 81 127: 00300210 00000000 00000000 03180000\n\
-                transfer 81 0: ???????? ???????? 08000000 25040000\n\
+                transfer 81 0: 00000000 01000000 08000000 25040000\n\
                 enqueue 81: 0 cycle 0",
         },
         Block {
@@ -83,8 +84,8 @@ const TRANSFER_RING_BYTES: Scene = Scene {
         Block {
             from: 0,
             to: 1,
-            lines: "transfer 81 0: ???????? ???????? 08000000 24040000\n\
-                transfer 81 1: ???????? ???????? 08000000 25040000",
+            lines: "transfer 81 0: 00000000 01000000 08000000 24040000\n\
+                transfer 81 1: 00000000 01000000 08000000 25040000",
         },
         Block {
             from: 128,
@@ -94,9 +95,41 @@ const TRANSFER_RING_BYTES: Scene = Scene {
         Block {
             from: 0,
             to: 1,
-            lines: "transfer 81 0: ???????? ???????? 08000000 24040000\n\
+            lines: "transfer 81 0: 00000000 01000000 08000000 24040000\n\
                 transfer 81 127: 00300210 00000000 00000000 03180000\n\
                 enqueue 81: 73 cycle 0",
+        },
+    ],
+};
+
+/// Three reads. The buffer of a transfer begins 262,144 bytes behind that of the one before, from 4 GiB on, and one that is
+/// taken leaves its buffer to the next.
+const BUFFERS: Scene = Scene {
+    title: "a read behind another and one behind both: each TRB has the buffer of its own transfer",
+    size: 8,
+    answers: &[Answers {
+        ep: 0x81,
+        count: 3,
+        answer: Answer::Zeros(1),
+    }],
+    blocks: &[
+        HOLD,
+        Block {
+            from: 0,
+            to: 1,
+            lines: "submit 1 81 bulk 8: h1 number 0\n\
+                submit 1 81 bulk 8: h1 number 1\n\
+                transfer 81 0: 00000000 01000000 08000000 25040000\n\
+                transfer 81 1: 00000400 01000000 08000000 25040000\n\
+                serve 0 81: h1 ended 0 code 13\n\
+                deliver: h1 finished 0\n\
+                submit 1 81 bulk 8: h1 number 2\n\
+                transfer 81 2: 00000800 01000000 08000000 25040000\n\
+                take: h1 called 0 ep 81 round 0 COMPLETED 1 data 00\n\
+                return 1 0: h1 done\n\
+                submit 1 81 bulk 8: h1 number 3\n\
+                transfer 81 3: 00000000 01000000 08000000 25040000\n\
+                transfer 81 1: 00000400 01000000 08000000 25040000",
         },
     ],
 };
