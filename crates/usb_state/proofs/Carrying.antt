@@ -7,7 +7,7 @@ use Rattle.usb_model.specs.declared.item.Ask.{Ask}
 use Rattle.usb_callers.specs.Callers.{SameNumbers, number_of}
 use Rattle.usb_transfer.specs.declared.transfer.Transfer.{Transfer as InFlight}
 use Rattle.usb_flight.specs.declared.ending.Ending.{Ending}
-use Rattle.usb_flight.specs.Flights.{EndedOf, Flights, item_at, lane_at, line_at, with_item, with_line}
+use Rattle.usb_flight.specs.Flights.{EndedOf, Flights, blanked_at, item_at, lane_at, left_at, line_at, with_item, with_line}
 use Rattle.usb_flight.specs.Serving.{Serves}
 use Rattle.usb_xhc.specs.Controller.{Controller}
 use Rattle.usb_lemmas.proofs.Lists.Pieces.{same_name}
@@ -80,7 +80,7 @@ module _ {P : Type 0} (R : ℕ → ℕ → P → Type 0) where
   has_pushed f g d e t lines ended has each = each_by f g d e (line_at f d e ++ Some t ∷ []) f.ended lines ended each (at_end ItemHas (line_at f d e) (Some t) None none_has (it_has t has) (each.in_line d e)) each.ended
 
   -- items leave
-  pub has_left : (f g : Flights (InFlight P)) (d e count : ℕ) → g ≡ with_line f d e (drop count (line_at f d e)) → EachHas R f → EachHas R g
+  pub has_left : (f g : Flights (InFlight P)) (d e count : ℕ) → g ≡ left_at f d e count → EachHas R f → EachHas R g
   has_left f g d e count is each = each_by f g d e (drop count (line_at f d e)) f.ended (ap (λ (v : Flights (InFlight P)). v.lines) is) (ap (λ (v : Flights (InFlight P)). v.ended) is) each
       (at_drop ItemHas count (line_at f d e) None none_has (each.in_line d e)) each.ended
 
@@ -90,7 +90,7 @@ module _ {P : Type 0} (R : ℕ → ℕ → P → Type 0) where
       (λ j. at_set ItemHas (line_at f d e) item j (Some t) None (it_has t has) (each.in_line d e j)) each.ended
 
   -- a transfer ends: an item is a blank
-  pub has_ended : (f g : Flights (InFlight P)) (d e item : ℕ) (t : InFlight P) (x : Ending) → item_at f d e item ≡ Some t → g ≡ record (with_item f d e item None) { ended = f.ended ++ record { transfer = t; ending = x } ∷ [] } → EachHas R f → EachHas R g
+  pub has_ended : (f g : Flights (InFlight P)) (d e item : ℕ) (t : InFlight P) (x : Ending) → item_at f d e item ≡ Some t → g ≡ record (blanked_at f d e item) { ended = f.ended ++ record { transfer = t; ending = x } ∷ [] } → EachHas R f → EachHas R g
   has_ended f g d e item t x there is each = each_by f g d e (slice_set (line_at f d e) item None) (f.ended ++ record { transfer = t; ending = x } ∷ []) (ap (λ (v : Flights (InFlight P)). v.lines) is) (ap (λ (v : Flights (InFlight P)). v.ended) is) each
       (λ j. at_set ItemHas (line_at f d e) item j None None none_has (each.in_line d e j))
       (got_end (λ (y : EndedOf (InFlight P)). R y.transfer.name y.transfer.n y.transfer.payload) f.ended (record { transfer = t; ending = x }) (each.in_line d e item t there) each.ended)
@@ -139,7 +139,7 @@ module _ {P : Type 0} where
 
   -- a transfer that is there ends
   pub follows_end : (f g : Flights (InFlight P)) (d e item : ℕ) (x : Ending) → IsSome (item_at f d e item)
-      → ((t : InFlight P) → item_at f d e item ≡ Some t → g ≡ record (with_item f d e item None) { ended = f.ended ++ record { transfer = t; ending = x } ∷ [] }) → Follows f g
+      → ((t : InFlight P) → item_at f d e item ≡ Some t → g ≡ record (blanked_at f d e item) { ended = f.ended ++ record { transfer = t; ending = x } ∷ [] }) → Follows f g
   follows_end f g d e item x live is R each = by_item (item_at f d e item) refl live
     where
       by_item : (o : Option (InFlight P)) → item_at f d e item ≡ o → IsSome o → EachHas R g
@@ -175,7 +175,7 @@ module _ {P : Type 0} where
       by_item (Some t) at some = has_changed R f g d e item (serves t at).served (serves t at).put (one_has R t (serves t at).served (one t (serves t at)) (each.in_line d e item t at)) each
 
   -- items leave
-  pub follows_leave : (f g : Flights (InFlight P)) (d e count : ℕ) → g ≡ with_line f d e (drop count (line_at f d e)) → Follows f g
+  pub follows_leave : (f g : Flights (InFlight P)) (d e count : ℕ) → g ≡ left_at f d e count → Follows f g
   follows_leave f g d e count is R = has_left R f g d e count is
 
   -- the one that ended first is taken

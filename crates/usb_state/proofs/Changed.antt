@@ -16,7 +16,7 @@ use Rattle.usb_callers.specs.Callers.{callback_at, callbacks_at, number_of, resu
 use Rattle.usb_flight.specs.Flights.{lane_at, line_at}
 use Rattle.usb_shows.specs.Shows.{Core}
 use Rattle.usb_slots.specs.Holds.{HoldsCore}
-use Rattle.usb_state.specs.State.{AllItems, Keeps, KeepsEnd, KeepsName, State, result_of}
+use Rattle.usb_state.specs.State.{AllItems, Keeps, KeepsEnd, KeepsName, NameBuffers, State, result_of}
 use Rattle.usb_state.specs.Works.{IsAt}
 use Rattle.usb_state.proofs.Lanes.{lanes_apart}
 
@@ -53,6 +53,7 @@ module _ {P : Type 0} where
     pub same : after.claims ≡ c.claims
     pub others : (dev ep : ℕ) → ((d ≡ dev) × (e ≡ ep) → ⊥) → after.endpoints dev ep ≡ c.endpoints dev ep
     pub mine : KeepsEnd new (Some h) d e (after.endpoints d e)
+    pub buffers : NameBuffers new
     pub held : HoldsCore setup new.controller after
     pub named : (g : ℕ) → KeepsName new g (after.names g) (pieces_of g after.results)
     pub ended : after.results ≡ map result_of new.flights.ended
@@ -69,6 +70,7 @@ module _ {P : Type 0} where
     bounded = at.keeps.bounded;
     lanes = but.lanes;
     cells = but.cells;
+    buffers = with.buffers;
     held = with.held;
     claimed = λ dev i. ap (λ (f : Claims). f dev i) with.same ∙ at.keeps.claimed dev i ∙ ap (λ x. owner_of x dev i) (sym but.claims);
     named = with.named;

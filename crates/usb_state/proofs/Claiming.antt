@@ -28,8 +28,9 @@ use Rattle.usb_state.proofs.Freed.{named_still}
 use Rattle.usb_state.proofs.Gone.{gone_is, interfaces_are}
 use Rattle.usb_state.proofs.Moves.{still_nobody}
 use Rattle.usb_state.proofs.Refusing.{accepted_is, refused_is}
-use Rattle.usb_state.proofs.Renewing.{IsRenewable, renews_all}
-use Rattle.usb_state.proofs.Rested.{keeps_rested}
+use Rattle.usb_state.proofs.Renewing.{IsRenewable, renews_all, rings_renewed_by}
+use Rattle.usb_state.proofs.Rested.{bare_left, keeps_rested}
+use Rattle.usb_state.proofs.Ringed.{SameRings, rings_as}
 use Rattle.usb_state.proofs.Same.{holds_as}
 
 -- the tests of the core
@@ -103,7 +104,7 @@ module _ {P : Type 0} where
       (claim_first setup w s c h i d keeps shows device still ∙ accepted) (
         refl,
         subst (λ (b : Bool). Keeps setup (record s { claims = v }) (rested setup h (c.names h) (Claim h i) (if b then Stays else Gains (calling.device_of c h) i) c)) (sym holding)
-            (keeps_rested setup s v s.controller c (rested setup h (c.names h) (Claim h i) Stays c) keeps (record {
+            (keeps_rested setup s v s.controller c (rested setup h (c.names h) (Claim h i) Stays c) (λ x id. refl) keeps (record {
               configs = configs;
               held = keeps.held;
               claimed = λ x k. keeps.claimed x k ∙ by_test x k ((d == x) && (i == k)) refl ∙ sym (owners x k);
@@ -142,7 +143,7 @@ module _ {P : Type 0} where
       (claim_first setup w s c h i d keeps shows device still ∙ accepted) (
         refl,
         subst (λ (b : Bool). Keeps setup (record s { claims = v; controller = k }) (rested setup h (c.names h) (Claim h i) (if b then Stays else Gains (calling.device_of c h) i) c)) (sym holding)
-            (keeps_rested setup s v k c after keeps (record {
+            (keeps_rested setup s v k c after rings keeps (record {
               configs = configs;
               held = held;
               claimed = λ x j.
@@ -184,6 +185,11 @@ module _ {P : Type 0} where
           by_device true is = ap (λ (n : ℕ). if (d == x) && is_of_interface setup n i e then new_kept_endpoint (script_of setup x e) else c.endpoints x e) (eqb-true d x is)
           by_device false is = ap (λ (b : Bool). if b && is_of_interface setup d i e then new_kept_endpoint (script_of setup x e) else c.endpoints x e) is
               ∙ sym (ap (λ (b : Bool). if b && is_of_interface setup x i e then new_kept_endpoint (script_of setup x e) else c.endpoints x e) is)
+
+      rings : SameRings s.controller k
+      rings = rings_as s.controller (renewed_by s.controller d (is_of_interface setup d i) (endpoints_of setup d)) k
+          (rings_renewed_by s.controller d (is_of_interface setup d i) (λ e its. let there = of_this (interface_of setup d e) i its in bare_left setup s c d e i keeps there (keeps.free d e i there (nobody e there)).0)
+          (endpoints_of setup d) s.controller (λ x id. refl)) (renewed setup (keeps.set ∙ sym configs))
 
       held : HoldsCore setup k after
       held = subst (λ (z : Controller). HoldsCore setup z after) (sym (renewed setup (keeps.set ∙ sym configs)))

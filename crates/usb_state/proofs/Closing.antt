@@ -57,7 +57,7 @@ module _ {P : Type 0} where
   closes_now s h d v device quiet devices owners configs setup w c keeps shows =
       accepted_is setup (record s { claims = v }) c h (close_tests setup c h) (rests setup c h (record (c.names h) { device = None }) (Close h) Frees) (says h Done) (close_first setup s c h (Some d) true keeps device all) (
         refl,
-        keeps_rested setup s v s.controller c after keeps (record {
+        keeps_rested setup s v s.controller c after (λ x id. refl) keeps (record {
           configs = configs;
           held = keeps.held;
           claimed = λ x k. ap (λ (o : Option ℕ). if is_its h o then None else o) (keeps.claimed x k) ∙ sym (owners x k);
@@ -126,7 +126,7 @@ module _ {P : Type 0} where
   releases_now s h i d v device its quiet devices owners configs setup w c keeps shows =
       accepted_is setup (record s { claims = v }) c h (release_tests setup c h i) (rests setup c h (c.names h) (Release h i) (Drops (calling.device_of c h) i)) (says h Done) (release_first setup s c h i d true true keeps device its all) (
         refl,
-        keeps_rested setup s v s.controller c after keeps (record {
+        keeps_rested setup s v s.controller c after (λ x id. refl) keeps (record {
           configs = configs;
           held = keeps.held;
           claimed = λ x k.

@@ -32,9 +32,11 @@ use Rattle.usb_slots.proofs.Events.{posts as post}
 use Rattle.usb_slots.proofs.Renews.{hosts}
 use Rattle.usb_state.specs.State.{AllItems, KeepsEnd, State, in_ring}
 use Rattle.usb_state.specs.Works.{IsAt, Posts, Resumes, context_in, leading, order_by, with_kept}
+use Rattle.usb_state.proofs.Buffers.{buffers_same}
 use Rattle.usb_state.proofs.Changed.{keeps_with, name_still}
 use Rattle.usb_state.proofs.Lanes.{has_lane, same_trbs, sent_here, sent_other, with_other}
 use Rattle.usb_state.proofs.Lines.{as_many, past_blanks, set_length}
+use Rattle.usb_state.proofs.Ringed.{rings_as, rings_changed, same_changed}
 use Rattle.usb_state.proofs.Rings.{ring_of}
 use Rattle.usb_state.proofs.Same.{holds_as, put_same, put_twice}
 
@@ -102,6 +104,7 @@ module _ {P : Type 0} where
         others = λ dev ep other. with_other c.endpoints d e b dev ep other;
         mine = subst (λ (y : KeptEndpoint). KeepsEnd new (Some h) d e y) (sym (here c.endpoints d e b))
             (with_errand old new (Some h) d e (c.endpoints d e) (Some ordered) refl is_sent end);
+        buffers = buffers_same old new refl refl (rings_as old.controller waiting k (λ dev id. refl) is_k) at.keeps.buffers;
         held = subst (λ (v : Controller). HoldsCore setup v after) (sym is_k) held;
         named = λ g. name_still old new g (c.names g) (pieces_of g c.results) refl refl (at.keeps.named g);
         ended = at.keeps.ended;
@@ -165,6 +168,7 @@ module _ {P : Type 0} where
         others = λ dev ep other. with_other c.endpoints d e b dev ep other;
         mine = subst (λ (y : KeptEndpoint). KeepsEnd new (Some h) d e y) (sym (here c.endpoints d e b))
             (record { line = end.line; errand = ap (λ (v : List (Option Sent)). sent_at v d e) is_o ∙ sent_here old.outstanding d e None at.keeps.cells lane });
+        buffers = buffers_same old new refl refl (rings_as old.controller (slot_changed old.controller (x.slot - 1) (λ s. changed s x.id rung)) k (rings_changed old.controller (x.slot - 1) (λ s. changed s x.id rung) (λ s in_slots. same_changed s x.id rung (λ y is. refl))) is_k) at.keeps.buffers;
         held = subst (λ (v : Controller). HoldsCore setup v after) (sym (is_k ∙ rung_here)) held;
         named = λ g. name_still old new g (c.names g) (pieces_of g c.results) refl refl (at.keeps.named g);
         ended = at.keeps.ended;

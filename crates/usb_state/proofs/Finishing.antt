@@ -25,7 +25,7 @@ use Rattle.usb_state.proofs.Leaving.{finishes}
 use Rattle.usb_context.specs.Context.{Context}
 use Rattle.usb_device.specs.Pipe.{pipe_at}
 use Rattle.usb_xhc.specs.Slots.{DeviceSlot, changed, context_of}
-use Rattle.usb_flight.specs.Flights.{Flights, item_at, lane_at, line_at, with_item, with_line}
+use Rattle.usb_flight.specs.Flights.{Flights, blanked_at, item_at, lane_at, left_at, line_at}
 use Rattle.usb_flight.specs.declared.ending.Ending.{Ending}
 use Rattle.usb_match.specs.Endpoint.{IsContext}
 use Rattle.usb_shows.specs.Shows.{Core}
@@ -152,7 +152,7 @@ module _ {P : Type 0} where
 
   -- where the transfer of an item ended, its line is as long as before
   ended_line : (s : State P) (h d e item count : ℕ) (x : Ending) (f : Flights (InFlight P)) → CanFinish s h d e item count
-      → ((t : InFlight P) → item_at s.flights d e item ≡ Some t → f ≡ record (with_item s.flights d e item None) { ended = s.flights.ended ++ record { transfer = t; ending = x } ∷ [] })
+      → ((t : InFlight P) → item_at s.flights d e item ≡ Some t → f ≡ record (blanked_at s.flights d e item) { ended = s.flights.ended ++ record { transfer = t; ending = x } ∷ [] })
       → line_at f d e ≡ slice_set (line_at s.flights d e) item None
   ended_line s h d e item count x f can ended = by_item (item_at s.flights d e item) refl can.live
     where
@@ -163,13 +163,13 @@ module _ {P : Type 0} where
 
   -- so many items can leave then
   pub leave_within : (s : State P) (h d e item count : ℕ) (x : Ending) (f : Flights (InFlight P)) → CanFinish s h d e item count
-      → ((t : InFlight P) → item_at s.flights d e item ≡ Some t → f ≡ record (with_item s.flights d e item None) { ended = s.flights.ended ++ record { transfer = t; ending = x } ∷ [] })
+      → ((t : InFlight P) → item_at s.flights d e item ≡ Some t → f ≡ record (blanked_at s.flights d e item) { ended = s.flights.ended ++ record { transfer = t; ending = x } ∷ [] })
       → count ≤ length (line_at f d e)
   leave_within s h d e item count x f can ended = omega (arith, ap length (ended_line s h d e item count x f can ended), set_length (line_at s.flights d e) item None, can.within)
 
   -- and they are blanks
   pub leave_blank : (s : State P) (h d e item count : ℕ) (x : Ending) (f : Flights (InFlight P)) → CanFinish s h d e item count
-      → ((t : InFlight P) → item_at s.flights d e item ≡ Some t → f ≡ record (with_item s.flights d e item None) { ended = s.flights.ended ++ record { transfer = t; ending = x } ∷ [] })
+      → ((t : InFlight P) → item_at s.flights d e item ≡ Some t → f ≡ record (blanked_at s.flights d e item) { ended = s.flights.ended ++ record { transfer = t; ending = x } ∷ [] })
       → (i : ℕ) → i < count → item_at f d e i ≡ None
   leave_blank s h d e item count x f can ended i lt = ap (λ (l : List (Option (InFlight P))). slice_index_or l i None) (ended_line s h d e item count x f can ended) ∙ by_place (cases_eq i item)
     where
@@ -218,7 +218,7 @@ module _ {P : Type 0} where
 
   -- the same of parts as a function finds them, v, by how many items it counted
   module _ (s v : State P) (same : v ≡ s) (h d e item n count : ℕ) (counted : count ≡ n) (x : Ending) (f : Flights (InFlight P)) (can : CanFinish s h d e item n)
-      (ended : (t : InFlight P) → item_at v.flights d e item ≡ Some t → f ≡ record (with_item v.flights d e item None) { ended = v.flights.ended ++ record { transfer = t; ending = x } ∷ [] }) where
+      (ended : (t : InFlight P) → item_at v.flights d e item ≡ Some t → f ≡ record (blanked_at v.flights d e item) { ended = v.flights.ended ++ record { transfer = t; ending = x } ∷ [] }) where
     seen : CanFinish v h d e item count
     seen = subst₂ (λ (u : State P) m. CanFinish u h d e item m) (sym same) (sym counted) can
 
@@ -228,7 +228,7 @@ module _ {P : Type 0} where
     pub leaves_blank : (i : ℕ) → i < count → item_at f d e i ≡ None
     leaves_blank = leave_blank v h d e item count x f seen ended
 
-    pub finishes_by : (k : Controller) (g : Flights (InFlight P)) (callers : List Caller) → g ≡ with_line f d e (drop count (line_at f d e))
+    pub finishes_by : (k : Controller) (g : Flights (InFlight P)) (callers : List Caller) → g ≡ left_at f d e count
         → ((name id : ℕ) → results_at callers name id ≡ (if is_there h (endpoint_id e) name id then results_at v.callers name id + 1 else results_at v.callers name id))
         → SameNumbers v.callers callers → SameCallbacks v.callers callers → SameCounts v.callers callers
         → k ≡ slot_changed v.controller d (λ a. changed a (endpoint_id e) (λ b. with_ring b (without_first b.ring count)))

@@ -25,6 +25,7 @@ use Rattle.usb_state.specs.State.{Keeps, KeepsEnd, State}
 use Rattle.usb_state.specs.Steps.{Does, Is, amid}
 use Rattle.usb_state.specs.Works.{IsAt, IsHolder, with_kept}
 use Rattle.usb_state.proofs.Amid.{keeps_as, rests_amid}
+use Rattle.usb_state.proofs.Buffers.{buffers_same}
 use Rattle.usb_state.proofs.Changed.{keeps_with, name_still}
 use Rattle.usb_state.proofs.Freed.{its_is}
 use Rattle.usb_state.proofs.Gone.{gone_is}
@@ -32,6 +33,7 @@ use Rattle.usb_state.proofs.Held.{holder_is, is_at}
 use Rattle.usb_state.proofs.Lanes.{with_other}
 use Rattle.usb_state.proofs.Lines.{as_many}
 use Rattle.usb_state.proofs.Refusing.{accepted_is, refused_is}
+use Rattle.usb_state.proofs.Ringed.{rings_changed}
 use Rattle.usb_state.proofs.Transfers.{end_at}
 
 -- the controller behind it
@@ -114,6 +116,7 @@ module _ {P : Type 0} where
         same = refl;
         others = λ dev ep other. with_other c.endpoints d e b dev ep other;
         mine = subst (λ (x : KeptEndpoint). KeepsEnd new (Some h) d e x) (sym (here c.endpoints d e b)) (record { line = end.line; errand = end.errand });
+        buffers = buffers_same s new refl refl (rings_changed s.controller d (λ v. record v { pipes = slice_set v.pipes (endpoint_id e) (cleared (pipe_at v.pipes e)) }) (λ v there id. refl)) at.keeps.buffers;
         held = (hosts setup s.controller c.gone c.endpoints c.orders c.events c.posted d e at.interface at.keeps.plain at.keeps.held at.there).clears;
         named = λ g. name_still s new g (c.names g) (pieces_of g c.results) refl refl (at.keeps.named g);
         ended = at.keeps.ended;

@@ -1,6 +1,6 @@
 -- Transfers that end, and items that leave a line.
 use Rattle.std.proofs.Common.{◌≡◌, ℕ, zero, suc, ◌+◌, ◌<◌, ◌≤◌, refl, ap, ap₂, sym, subst, ◌∙◌, arith, List, [], ◌∷◌, ◌++◌, length, drop, map, Option, Some, None, true}
-use Rattle.std.specs.Prelude.{slice_set, if◌then◌else◌}
+use Rattle.std.specs.Prelude.{get_or, if◌then◌else◌, replicate, slice_set}
 use Rattle.std.specs.List.{AllByRecursion}
 use Rattle.std.proofs.lemmas.List.{map-append}
 use Rattle.std.proofs.lemmas.Option.{same_Some}
@@ -10,6 +10,7 @@ use Rattle.usb_model.specs.declared.shared.Tagged.{Tagged}
 use Rattle.usb_model.specs.Setup.{Setup, endpoint_id}
 use Rattle.usb_model.specs.World.Shared.{pieces_of, tagged}
 use Rattle.usb_claims.specs.Tables.{is_plain}
+use Rattle.usb_trb.specs.declared.kind.TrbKind.TheVariants.{NoOp}
 use Rattle.usb_kept.specs.Kept.{KeptEndpoint, KeptTransfer}
 use Rattle.usb_transfer.specs.declared.transfer.Transfer.{Transfer as InFlight}
 use Rattle.usb_context.specs.Hosting.{with_blank, with_ring, without_first}
@@ -18,13 +19,14 @@ use Rattle.usb_xhc.specs.Slots.{changed}
 use Rattle.usb_callers.specs.Caller.{Kept as Caller}
 use Rattle.usb_callers.specs.Callers.{SameCallbacks, SameCounts, SameNumbers, is_there, results_at}
 use Rattle.usb_flight.specs.declared.ending.Ending.{Ending}
-use Rattle.usb_flight.specs.Flights.{Flights, item_at, lane_at, line_at, with_item, with_line}
+use Rattle.usb_flight.specs.Flights.{Flights, blanked_at, item_at, keys_at, lane_at, left_at, line_at, with_keys, with_line}
 use Rattle.usb_shows.specs.Shows.{Core}
 use Rattle.usb_slots.specs.Holds.{HoldsCore}
 use Rattle.usb_slots.proofs.Ends.{here}
 use Rattle.usb_slots.proofs.Renews.{hosts}
-use Rattle.usb_state.specs.State.{AllItems, IsFlight, Keeps, KeepsEnd, State, result_of}
+use Rattle.usb_state.specs.State.{AllItems, IsFlight, Keeps, KeepsEnd, NameBuffers, State, result_of}
 use Rattle.usb_state.specs.Works.{Finishes, IsAt, Leaves, Withdraws, result_by, with_kept}
+use Rattle.usb_state.proofs.Buffers.{blank_named, buffers_put, drop_named, keys_here, none_dropped, none_set}
 use Rattle.usb_state.proofs.Changed.{keeps_with, name_still}
 use Rattle.usb_state.proofs.Counts.{name_made}
 use Rattle.usb_state.proofs.Lanes.{has_lane, line_here, with_other}
@@ -51,7 +53,7 @@ all_more p (y ∷ ys) x all is = (all.0, all_more p ys x all.1 is)
 
 module _ {P : Type 0} where
   -- the first items, which are blanks, leave
-  pub leaves : (old : State P) (k : Controller) (f : Flights (InFlight P)) (h d e count : ℕ) → count ≤ length (line_at old.flights d e) → f ≡ with_line old.flights d e (drop count (line_at old.flights d e))
+  pub leaves : (old : State P) (k : Controller) (f : Flights (InFlight P)) (h d e count : ℕ) → count ≤ length (line_at old.flights d e) → f ≡ left_at old.flights d e count
       → k ≡ slot_changed old.controller d (λ s. changed s (endpoint_id e) (λ x. with_ring x (without_first x.ring count))) → Leaves old (record old { controller = k; flights = f }) h d e count
   leaves old k f h d e count within is_f is_k setup c at still = keeps_with setup old new c after h d e at
       (but_line old new d e line at.keeps.lanes at.keeps.cells refl refl lines)
@@ -60,6 +62,9 @@ module _ {P : Type 0} where
         others = λ dev ep other. with_other c.endpoints d e b dev ep other;
         mine = subst (λ (x : KeptEndpoint). KeepsEnd new (Some h) d e x) (sym (here c.endpoints d e b))
             (record { line = subst (λ (l : List (Option (InFlight P))). AllItems (Some h) e l b.line) (sym (line_is setup old new c h d e line at lines)) (drop_items (Some h) e count (line_at old.flights d e) (c.endpoints d e).line end.line); errand = end.errand });
+        buffers = buffers_put old new d e line keys (λ x. with_ring x (without_first x.ring count)) lines (line_is setup old new c h d e line at lines) (ap (λ (v : Flights (InFlight P)). v.keys) is_f)
+            (ap (λ (v : Flights (InFlight P)). keys_at v.keys d e) is_f ∙ keys_here old.flights.keys d e keys (none_dropped count (keys_at old.flights.keys d e))) is_k
+            (λ x there all. drop_named x.size count (keys_at old.flights.keys d e) (line_at old.flights d e) x.ring.line.items all) at.keeps.buffers;
         held = subst (λ (v : Controller). HoldsCore setup v after) (sym is_k) ((hosts setup old.controller c.gone c.endpoints c.orders c.events c.posted d e at.interface at.keeps.plain at.keeps.held at.there).drops count few still);
         named = λ g. name_still old new g (c.names g) (pieces_of g c.results) refl refl (at.keeps.named g);
         ended = at.keeps.ended ∙ ap (λ (v : Flights (InFlight P)). map result_of v.ended) (sym is_f);
@@ -77,6 +82,9 @@ module _ {P : Type 0} where
 
       line : List (Option (InFlight P))
       line = drop count (line_at old.flights d e)
+
+      keys : List (Option ℕ)
+      keys = drop count (keys_at old.flights.keys d e)
 
       lines : f.lines ≡ (with_line old.flights d e line).lines
       lines = ap (λ (v : Flights (InFlight P)). v.lines) is_f
@@ -102,15 +110,16 @@ module _ {P : Type 0} where
       → (is : IsLiveAt old h d e item y) → f.lines ≡ (with_line old.flights d e l).lines → f.ended ≡ old.flights.ended ++ record { transfer = is.t; ending = x } ∷ [] → AllItems (Some h) e l ys
       → ((g id : ℕ) → results_at callers g id ≡ (if is_there h (endpoint_id e) g id then results_at old.callers g id + 1 else results_at old.callers g id))
       → SameNumbers old.callers callers → SameCallbacks old.callers callers → SameCounts old.callers callers
-      → HoldsCore setup k (with_kept d e (record (c.endpoints d e) { line = ys }) c)
+      → NameBuffers (record old { controller = k; flights = f; callers = callers }) → HoldsCore setup k (with_kept d e (record (c.endpoints d e) { line = ys }) c)
       → Keeps setup (record old { controller = k; flights = f; callers = callers }) (record (with_kept d e (record (c.endpoints d e) { line = ys }) c) { results = c.results ++ tagged h (result_by y x ∷ []) })
-  ends_with setup old k f callers c h d e item x y l ys at is lines ended all made numbers callbacks counts held = keeps_with setup old new c after h d e at
+  ends_with setup old k f callers c h d e item x y l ys at is lines ended all made numbers callbacks counts buffers held = keeps_with setup old new c after h d e at
       (but_line old new d e l at.keeps.lanes at.keeps.cells refl refl lines)
       (record {
         same = refl;
         others = λ dev ep other. with_other c.endpoints d e b dev ep other;
         mine = subst (λ (z : KeptEndpoint). KeepsEnd new (Some h) d e z) (sym (here c.endpoints d e b))
             (record { line = subst (λ (m : List (Option (InFlight P))). AllItems (Some h) e m ys) (sym (line_is setup old new c h d e l at lines)) all; errand = end.errand });
+        buffers = buffers;
         held = held;
         named = λ g. name_made old new h e g (c.names g) c.results (result_by y x) plain is.same.at refl made numbers callbacks counts (at.keeps.named g);
         ended = ap₂ (λ (rs : List (Tagged TransferResult)) (r : Tagged TransferResult). rs ++ r ∷ []) at.keeps.ended (sym (result_is h e is.t y x is.same))
@@ -135,7 +144,7 @@ module _ {P : Type 0} where
 
   -- a transfer in progress is withdrawn
   pub withdraws : (old : State P) (k : Controller) (f : Flights (InFlight P)) (callers : List Caller) (h d e item : ℕ) (x : Ending)
-      → ((t : InFlight P) → item_at old.flights d e item ≡ Some t → f ≡ record (with_item old.flights d e item None) { ended = old.flights.ended ++ record { transfer = t; ending = x } ∷ [] })
+      → ((t : InFlight P) → item_at old.flights d e item ≡ Some t → f ≡ record (blanked_at old.flights d e item) { ended = old.flights.ended ++ record { transfer = t; ending = x } ∷ [] })
       → ((g id : ℕ) → results_at callers g id ≡ (if is_there h (endpoint_id e) g id then results_at old.callers g id + 1 else results_at old.callers g id))
       → SameNumbers old.callers callers → SameCallbacks old.callers callers → SameCounts old.callers callers
       → k ≡ slot_changed old.controller d (λ s. changed s (endpoint_id e) (λ v. with_ring v (with_blank v.ring item)))
@@ -147,13 +156,18 @@ module _ {P : Type 0} where
       (ap (λ (v : Flights (InFlight P)). v.lines) is_f) (ap (λ (v : Flights (InFlight P)). v.ended) is_f)
       (set_item (Some h) e (line_at old.flights d e) (c.endpoints d e).line item None (record y { blank = true }) (end_at setup old c h d e at).line refl)
       made numbers callbacks counts
+      (buffers_put old (record old { controller = k; flights = f; callers = callers }) d e (slice_set (line_at old.flights d e) item None) (slice_set (keys_at old.flights.keys d e) item None) (λ v. with_ring v (with_blank v.ring item))
+      (ap (λ (v : Flights (InFlight P)). v.lines) is_f) (line_is setup old (record old { controller = k; flights = f; callers = callers }) c h d e (slice_set (line_at old.flights d e) item None) at (ap (λ (v : Flights (InFlight P)). v.lines) is_f))
+      (ap (λ (v : Flights (InFlight P)). v.keys) is_f)
+      (ap (λ (v : Flights (InFlight P)). keys_at v.keys d e) is_f ∙ keys_here old.flights.keys d e (slice_set (keys_at old.flights.keys d e) item None) (none_set (keys_at old.flights.keys d e) item None)) is_k
+      (λ v found all. blank_named v.size (keys_at old.flights.keys d e) (line_at old.flights d e) v.ring.line.items item (replicate (length (get_or v.ring.line.items item [])) NoOp) all) at.keeps.buffers)
       (subst (λ (v : Controller). HoldsCore setup v (with_kept d e (record (c.endpoints d e) { line = slice_set (c.endpoints d e).line item (record y { blank = true }) }) c)) (sym is_k)
       ((hosts setup old.controller c.gone c.endpoints c.orders c.events c.posted d e at.interface at.keeps.plain at.keeps.held at.there).blanks item y there still))
 
   -- a transfer in progress ended, and leaves with what stands before it and with what stands behind
   pub finishes : (old : State P) (k : Controller) (f g : Flights (InFlight P)) (callers : List Caller) (h d e item count : ℕ) (x : Ending)
-      → ((t : InFlight P) → item_at old.flights d e item ≡ Some t → f ≡ record (with_item old.flights d e item None) { ended = old.flights.ended ++ record { transfer = t; ending = x } ∷ [] })
-      → item < count → count ≤ length (line_at old.flights d e) → g ≡ with_line f d e (drop count (line_at f d e))
+      → ((t : InFlight P) → item_at old.flights d e item ≡ Some t → f ≡ record (blanked_at old.flights d e item) { ended = old.flights.ended ++ record { transfer = t; ending = x } ∷ [] })
+      → item < count → count ≤ length (line_at old.flights d e) → g ≡ left_at f d e count
       → ((g id : ℕ) → results_at callers g id ≡ (if is_there h (endpoint_id e) g id then results_at old.callers g id + 1 else results_at old.callers g id))
       → SameNumbers old.callers callers → SameCallbacks old.callers callers → SameCounts old.callers callers
       → k ≡ slot_changed old.controller d (λ s. changed s (endpoint_id e) (λ v. with_ring v (without_first v.ring count)))
@@ -163,13 +177,17 @@ module _ {P : Type 0} where
       (ap (λ (v : Flights (InFlight P)). v.ended) is_g ∙ ap (λ (v : Flights (InFlight P)). v.ended) is_f)
       (drop_items (Some h) e count (line_at old.flights d e) (c.endpoints d e).line (end_at setup old c h d e at).line)
       made numbers callbacks counts
+      (buffers_put old (record old { controller = k; flights = g; callers = callers }) d e (drop count (line_at old.flights d e)) (drop count (keys_at old.flights.keys d e)) (λ v. with_ring v (without_first v.ring count))
+      lines (line_is setup old (record old { controller = k; flights = g; callers = callers }) c h d e (drop count (line_at old.flights d e)) at lines) keys
+      (ap (λ (v : List (List (Option ℕ))). keys_at v d e) keys ∙ keys_here old.flights.keys d e (drop count (keys_at old.flights.keys d e)) (none_dropped count (keys_at old.flights.keys d e))) is_k
+      (λ v found all. drop_named v.size count (keys_at old.flights.keys d e) (line_at old.flights d e) v.ring.line.items all) at.keeps.buffers)
       (subst (λ (v : Controller). HoldsCore setup v (with_kept d e (record (c.endpoints d e) { line = drop count (c.endpoints d e).line }) c)) (sym is_k)
       ((hosts setup old.controller c.gone c.endpoints c.orders c.events c.posted d e at.interface at.keeps.plain at.keeps.held at.there).drops count few still))
     where
       is : IsLiveAt old h d e item y
       is = live_at setup old c h d e item y at there live
 
-      is_f : f ≡ record (with_item old.flights d e item None) { ended = old.flights.ended ++ record { transfer = is.t; ending = x } ∷ [] }
+      is_f : f ≡ record (blanked_at old.flights d e item) { ended = old.flights.ended ++ record { transfer = is.t; ending = x } ∷ [] }
       is_f = ended is.t is.found
 
       few : count ≤ length (c.endpoints d e).line
@@ -185,3 +203,12 @@ module _ {P : Type 0} where
           ∙ ap₂ (λ (v : List (List (Option (InFlight P)))) (m : List (Option (InFlight P))). slice_set v (lane_at d e) (drop count m)) (ap (λ (v : Flights (InFlight P)). v.lines) is_f) here_f
           ∙ set_twice old.flights.lines (lane_at d e) (slice_set (line_at old.flights d e) item None) (drop count (slice_set (line_at old.flights d e) item None))
           ∙ ap (λ (m : List (Option (InFlight P))). slice_set old.flights.lines (lane_at d e) m) (drop_set (line_at old.flights d e) item count None before)
+
+      keys_f : keys_at f.keys d e ≡ slice_set (keys_at old.flights.keys d e) item None
+      keys_f = ap (λ (v : Flights (InFlight P)). keys_at v.keys d e) is_f ∙ keys_here old.flights.keys d e (slice_set (keys_at old.flights.keys d e) item None) (none_set (keys_at old.flights.keys d e) item None)
+
+      keys : g.keys ≡ with_keys old.flights.keys d e (drop count (keys_at old.flights.keys d e))
+      keys = ap (λ (v : Flights (InFlight P)). v.keys) is_g
+          ∙ ap₂ (λ (v : List (List (Option ℕ))) (m : List (Option ℕ)). slice_set v (lane_at d e) (drop count m)) (ap (λ (v : Flights (InFlight P)). v.keys) is_f) keys_f
+          ∙ set_twice old.flights.keys (lane_at d e) (slice_set (keys_at old.flights.keys d e) item None) (drop count (slice_set (keys_at old.flights.keys d e) item None))
+          ∙ ap (λ (m : List (Option ℕ)). slice_set old.flights.keys (lane_at d e) m) (drop_set (keys_at old.flights.keys d e) item count None before)

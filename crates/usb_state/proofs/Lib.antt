@@ -1,5 +1,7 @@
 pub mod Lines
 pub mod Lanes
+pub mod Ringed
+pub mod Buffers
 pub mod Same
 pub mod Changed
 pub mod Rings

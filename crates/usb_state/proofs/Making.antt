@@ -2,9 +2,11 @@
 use Rattle.std.proofs.Common.{◌++◌, ◌+◌, zero, ◌≡◌, ℕ, suc, ◌*◌, ◌≤◌, ◌<◌, ◌⊎◌, inl, inr, refl, ap, sym, subst, subst₂, ◌∙◌, arith, List, [], ◌∷◌, length, map, Option, Some, None, length-append, replicate, slice_index_or}
 use Rattle.std.specs.Prelude.{slice_get}
 use Rattle.std.proofs.lemmas.List.{length-map, length-replicate}
-use Rattle.usb_flight.specs.Flights.{Flights, lane_at, line_at}
+use Rattle.usb_flight.specs.Flights.{Flights, keys_at, lane_at, line_at}
 use Rattle.std.proofs.lemmas.Option.{same_Some, slice_get-map, slice_get_within}
 use Rattle.std.specs.Prelude.{option_map}
+use Rattle.std.specs.Option.{option_and_then}
+use Rattle.usb_context.specs.Context.{Context}
 use Rattle.usb_descriptors.specs.Table.{IsTable}
 use Rattle.usb_device.specs.Pipe.{Pipe, rewound}
 use Rattle.usb_device.specs.Scripts.{Takes}
@@ -17,7 +19,7 @@ use Rattle.usb_model.specs.Setup.{Setup, endpoint_id}
 use Rattle.usb_model.specs.World.{holder, new_world}
 use Rattle.usb_transfer.specs.declared.transfer.Transfer.{Transfer as InFlight}
 use Rattle.usb_xhc.specs.Controller.{AreLawfulAll, Controller, all_renewed}
-use Rattle.usb_xhc.specs.Slots.{DeviceSlot, slot_renewed}
+use Rattle.usb_xhc.specs.Slots.{DeviceSlot, as_made, context_by, slot_renewed}
 use Rattle.usb_shows.specs.Lively.{IsFine, ends_from}
 use Rattle.usb_shows.specs.Shows.{Core}
 use Rattle.usb_shows.specs.Stepping.{new_core}
@@ -28,7 +30,9 @@ use Rattle.usb_slots.specs.Laws.{HasNumbers, HasPlain}
 use Rattle.usb_slots.proofs.Fine.{fine, lawful_scripts}
 use Rattle.usb_slots.proofs.Made.{added, is_of, made}
 use Rattle.usb_state.specs.Making.{AreReady, AreUnused, Devices, setup_from, setup_of}
-use Rattle.usb_state.specs.State.{AllItems, Keeps, ShowsWorld, State, result_of}
+use Rattle.usb_state.specs.State.{AllItems, Keeps, NameBuffers, ShowsWorld, State, result_of}
+use Rattle.usb_state.proofs.Buffers.{NamesIn, buffers_by}
+use Rattle.usb_state.proofs.Ringed.{ring_in, ringed, ringed_in}
 
 -- as many devices as configurations
 setup_length : (cs : List Configuration) (ss : List DeviceSlot) → length cs ≡ length ss → length (setup_from cs ss) ≡ length cs
@@ -137,11 +141,34 @@ all_read x ready laws d v there = by_slot (slice_get x.controller.slots d) refl
           lawful = subst AreLawful (scripts_rewound s.pipes ∙ sym (ready.each d v s there at).scripts) (lawful_scripts (map rewound s.pipes) (laws d (slot_renewed s) made));
         }
 
+-- what stands in a list of which each was made new
+index_made : (xs : List (Option Context)) (i : ℕ) → slice_index_or (map (option_map as_made) xs) i None ≡ option_map as_made (slice_index_or xs i None)
+index_made [] i = refl
+index_made (x ∷ xs) zero = refl
+index_made (x ∷ xs) (suc i) = index_made xs i
+
 module _ {P : Type 0} where
+  -- where all is new no ring has an item
+  none_buffers : (s : State P) (k : Controller) → s.controller ≡ all_renewed k → ((d e : ℕ) → line_at s.flights d e ≡ []) → ((d e : ℕ) → keys_at s.flights.keys d e ≡ []) → NameBuffers s
+  none_buffers s k is lines keys = buffers_by s (λ d e.
+      subst₂ (λ (ks : List (Option ℕ)) (xs : List (Option (InFlight P))). NamesIn ks xs (ringed_in s.controller d (endpoint_id e))) (sym (keys d e)) (sym (lines d e))
+      (subst (λ (o : Option Context). NamesIn {P = P} [] [] (option_map ringed o)) (sym (ap (λ (v : Controller). ring_in v d (endpoint_id e)) is ∙ made_in d (endpoint_id e))) (none (ring_in k d (endpoint_id e)))))
+    where
+      made_in : (d id : ℕ) → ring_in (all_renewed k) d id ≡ option_map as_made (ring_in k d id)
+      made_in d id = ap (option_and_then (λ v. context_by v id)) (slice_get-map slot_renewed k.slots d) ∙ by_slot (slice_get k.slots d)
+        where
+          by_slot : (o : Option DeviceSlot) → option_and_then (λ v. context_by v id) (option_map slot_renewed o) ≡ option_map as_made (option_and_then (λ v. context_by v id) o)
+          by_slot None = refl
+          by_slot (Some v) = index_made v.contexts id
+
+      none : (o : Option Context) → NamesIn {P = P} [] [] (option_map ringed (option_map as_made o))
+      none None = tt
+      none (Some x) = tt
+
   -- parts that are unused keep a new core
-  pub keeps_new : (s : State P) (x : Devices) → AreReady x → AreUnused s x → Keeps (setup_of x) s (new_core (setup_of x))
+  pub keeps_new : (s : State P) (x : Devices) → AreReady x → AreUnused s x → ((d e : ℕ) → keys_at s.flights.keys d e ≡ []) → Keeps (setup_of x) s (new_core (setup_of x))
   unfolding callback_of
-  keeps_new s x ready unused = record {
+  keeps_new s x ready unused keys = record {
     set = setup_configs x.configs x.controller.slots ready.as_many ∙ sym unused.configs;
     plain = fined.0;
     fine = fined.2;
@@ -150,6 +177,7 @@ module _ {P : Type 0} where
     bounded = omega (arith, few_ends 0 (setup_of x) ready.tables, ready.few, setup_length x.configs x.controller.slots ready.as_many);
     lanes = unused.lanes;
     cells = unused.cells;
+    buffers = none_buffers s x.controller unused.controller unused.lines keys;
     held = subst (λ (k : Controller). HoldsCore (setup_of x) k (new_core (setup_of x))) (sym unused.controller)
         (made (setup_of x) x.controller fined.0 (record {
           slots = sym ready.as_many ∙ sym (setup_length x.configs x.controller.slots ready.as_many);
@@ -183,8 +211,8 @@ module _ {P : Type 0} where
       fined = fine (setup_of x) read
 
   -- they show the new world of these devices
-  pub shows_new : (s : State P) (x : Devices) → AreReady x → AreUnused s x → ShowsWorld (setup_of x) s (new_world (setup_of x))
-  shows_new s x ready unused = (new_core (setup_of x), keeps_new s x ready unused, new_shows (setup_of x))
+  pub shows_new : (s : State P) (x : Devices) → AreReady x → AreUnused s x → ((d e : ℕ) → keys_at s.flights.keys d e ≡ []) → ShowsWorld (setup_of x) s (new_world (setup_of x))
+  shows_new s x ready unused keys = (new_core (setup_of x), keeps_new s x ready unused keys, new_shows (setup_of x))
 
   -- parts that keep a core have the devices of its setup
   pub ready_again : (setup : Setup) (s : State P) (c : Core) → Keeps setup s c → AreReady (record { configs = s.claims.configs; controller = s.controller }) × (setup_of (record { configs = s.claims.configs; controller = s.controller }) ≡ setup)
@@ -208,19 +236,21 @@ module _ {P : Type 0} where
 pub record HasNoLines {T : Type 0} (f : Flights T) : Type 0 where
   pub lanes : length f.lines ≡ 128
   pub lines : (d e : ℕ) → line_at f d e ≡ []
+  pub keys : (d e : ℕ) → keys_at f.keys d e ≡ []
   pub ended : f.ended ≡ []
 
-pub no_lines : {T : Type 0} (f : Flights T) → f ≡ record { lines = replicate 128 []; ended = []; next_key = 0 } → HasNoLines f
+pub no_lines : {T : Type 0} (f : Flights T) → f ≡ record { lines = replicate 128 []; keys = replicate 128 []; ended = []; next_key = 0 } → HasNoLines f
 no_lines {T} f is = record {
   lanes = ap (λ (v : Flights T). length v.lines) is ∙ length-replicate 128 nothing;
   lines = λ d e. ap (λ (v : Flights T). line_at v d e) is ∙ none 128 (lane_at d e);
+  keys = λ d e. ap (λ (v : Flights T). keys_at v.keys d e) is ∙ none 128 (lane_at d e);
   ended = ap (λ (v : Flights T). v.ended) is;
 }
   where
     nothing : List (Option T)
     nothing = []
 
-    none : (n k : ℕ) → slice_index_or (replicate n nothing) k nothing ≡ nothing
+    none : {A : Type 0} (n k : ℕ) → ◌≡◌ {A = List A} (slice_index_or (replicate n []) k []) []
     none zero k = refl
     none (suc n) zero = refl
     none (suc n) (suc k) = none n k

@@ -1,5 +1,5 @@
 -- Parts of which only what is kept of names changed, and the results that wait.
-use Rattle.std.proofs.Common.{◌≡◌, ℕ, ap, sym, subst, ◌∙◌, List, length, map, Option, true}
+use Rattle.std.proofs.Common.{◌≡◌, ℕ, refl, ap, sym, subst, ◌∙◌, List, length, map, Option, true}
 use Rattle.std.specs.List.{AllByRecursion}
 use Rattle.usb_model.specs.declared.handle.Handle.{Handle}
 use Rattle.usb_model.specs.declared.result.TransferResult.{TransferResult}
@@ -19,15 +19,17 @@ use Rattle.usb_shows.specs.Shows.{Core}
 use Rattle.usb_slots.specs.Holds.{HoldsCore}
 use Rattle.usb_state.specs.Calls.{Stays}
 use Rattle.usb_state.specs.State.{Keeps, KeepsName, State, result_of}
+use Rattle.usb_state.proofs.Buffers.{buffers_same}
 use Rattle.usb_state.proofs.Changed.{end_still}
+use Rattle.usb_state.proofs.Ringed.{rings_as}
 
 module _ {P : Type 0} where
   -- they keep the core with these names and results
   pub keeps_named : (setup : Setup) (old new : State P) (c : Core) (names : ℕ → Handle) (results : List (Tagged TransferResult)) → Keeps setup old c
-      → new.claims ≡ old.claims → new.controller ≡ old.controller → new.flights.lines ≡ old.flights.lines → new.outstanding ≡ old.outstanding
+      → new.claims ≡ old.claims → new.controller ≡ old.controller → new.flights.lines ≡ old.flights.lines → new.flights.keys ≡ old.flights.keys → new.outstanding ≡ old.outstanding
       → ((g : ℕ) → KeepsName new g (names g) (pieces_of g results)) → results ≡ map result_of new.flights.ended → AllByRecursion (λ x. is_plain x.piece.request.ep ≡ true) results
       → Keeps setup new (record c { names = names; results = results })
-  keeps_named setup old new c names results keeps claims controller lines outstanding named ended plain = record {
+  keeps_named setup old new c names results keeps claims controller lines keys outstanding named ended plain = record {
     set = keeps.set ∙ ap (λ (v : Holding). v.configs) (sym claims);
     plain = keeps.plain;
     fine = keeps.fine;
@@ -36,6 +38,7 @@ module _ {P : Type 0} where
     bounded = keeps.bounded;
     lanes = ap length lines ∙ keeps.lanes;
     cells = ap length outstanding ∙ keeps.cells;
+    buffers = buffers_same old new lines keys (rings_as old.controller old.controller new.controller (λ d id. refl) controller) keeps.buffers;
     held = subst (λ (v : Controller). HoldsCore setup v c) (sym controller) keeps.held;
     claimed = λ d i. keeps.claimed d i ∙ ap (λ (v : Holding). owner_of v d i) (sym claims);
     named = named;
@@ -62,6 +65,6 @@ module _ {P : Type 0} where
   pub stays : (old new : State P) → new.claims ≡ old.claims → new.controller ≡ old.controller → new.flights ≡ old.flights → new.outstanding ≡ old.outstanding
       → SameNumbers old.callers new.callers → SameCallbacks old.callers new.callers → SameResults old.callers new.callers → SameCounts old.callers new.callers → Stays old new
   stays old new claims controller flights outstanding numbers callbacks waiting counts setup c keeps =
-      keeps_named setup old new c c.names c.results keeps claims controller (ap (λ (f : Flights (InFlight P)). f.lines) flights) outstanding
+      keeps_named setup old new c c.names c.results keeps claims controller (ap (λ (f : Flights (InFlight P)). f.lines) flights) (ap (λ (f : Flights (InFlight P)). f.keys) flights) outstanding
       (λ g. name_same old new g (c.names g) (pieces_of g c.results) claims numbers callbacks waiting counts (keeps.named g))
       (keeps.ended ∙ ap (λ (f : Flights (InFlight P)). map result_of f.ended) (sym flights)) keeps.ended_plain

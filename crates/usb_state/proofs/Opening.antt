@@ -53,7 +53,7 @@ module _ {P : Type 0} where
   opens_now s h dev v still accepted devices owners configs setup w c keeps shows =
       accepted_is setup (record s { claims = v }) c h (open_tests setup c h dev) (rests setup c h (record (c.names h) { device = Some dev }) (Open h dev) Frees) (says h Done) (open_first setup w s c h dev still keeps shows ∙ accepted) (
         refl,
-        keeps_rested setup s v s.controller c after keeps (record {
+        keeps_rested setup s v s.controller c after (λ x id. refl) keeps (record {
           configs = configs;
           held = keeps.held;
           claimed = λ d i. ap (λ (o : Option ℕ). if is_its h o then None else o) (keeps.claimed d i) ∙ sym (owners d i);

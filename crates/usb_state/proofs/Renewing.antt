@@ -5,13 +5,14 @@ use Rattle.std.specs.List.{find, list_any}
 use Rattle.std.specs.Option.{option_map, option_map_or}
 use Rattle.std.proofs.lemmas.Bool.{eqb-true}
 use Rattle.usb_model.specs.declared.setup.EndpointInfo.{EndpointInfo}
-use Rattle.usb_model.specs.Setup.{Setup, endpoints_of, info_of, interface_of, script_of}
+use Rattle.usb_model.specs.Setup.{Setup, endpoint_id, endpoints_of, info_of, interface_of, script_of}
 use Rattle.std.proofs.lemmas.List.{take_all}
 use Rattle.std.proofs.lemmas.List.Sums.{fold_more}
 use Rattle.usb_model.specs.declared.setup.Configuration.{Configuration}
 use Rattle.usb_descriptors.specs.Table.{info_at}
 use Rattle.usb_claims.specs.Holding.{Holding, IsSetup}
 use Rattle.usb_state.proofs.Gone.{endpoints_are}
+use Rattle.usb_state.proofs.Ringed.{IsBare, SameRings, rings_renewed}
 use Rattle.usb_kept.specs.Kept.{KeptEndpoint, new_kept_endpoint}
 use Rattle.usb_xhc.specs.Controller.{Controller, slot_changed}
 use Rattle.usb_xhc.specs.Slots.{renewed}
@@ -150,3 +151,12 @@ of_interface v setup d i e config set there =
     by_info : (o : Option EndpointInfo) → option_map_or (λ x. x.interface == i) o false ≡ option_map_or (λ k. k == i) (option_map (λ x. x.interface) o) false
     by_info None = refl
     by_info (Some x) = refl
+
+-- rings in which no item is are as they were
+pub rings_renewed_by : (base : Controller) (d : ℕ) (test : ℕ → Bool) → ((e : ℕ) → test e ≡ true → IsBare base d (endpoint_id e)) → (xs : List EndpointInfo) (k : Controller) → SameRings base k → SameRings base (renewed_by k d test xs)
+rings_renewed_by base d test bare [] k same = same
+rings_renewed_by base d test bare (x ∷ xs) k same = rings_renewed_by base d test bare xs (if test x.address then slot_changed k d (λ s. renewed s x.address) else k) (by_test (test x.address) refl)
+  where
+    by_test : (b : Bool) → test x.address ≡ b → SameRings base (if b then slot_changed k d (λ s. renewed s x.address) else k)
+    by_test true passes = λ dev id. rings_renewed k d x.address (λ r is. bare x.address passes r (sym (same d (endpoint_id x.address)) ∙ is)) dev id ∙ same dev id
+    by_test false passes = same

@@ -9,7 +9,7 @@ use Rattle.usb_model.specs.declared.refused.Refused.{Refused as Why}
 use Rattle.usb_model.specs.declared.refused.Refused.TheVariants.{Busy, HeldElsewhere, NoDevice, NotFound}
 use Rattle.usb_model.specs.declared.reply.Reply.TheVariants.{Done, Refused}
 use Rattle.usb_model.specs.declared.step.Step.TheVariants.{Reset}
-use Rattle.usb_model.specs.Setup.{Setup, endpoints_of, interface_of, interfaces_of, script_of}
+use Rattle.usb_model.specs.Setup.{Setup, endpoint_id, endpoints_of, interface_of, interfaces_of, script_of}
 use Rattle.usb_model.specs.World.{Claims, World, holder, is_its, is_others}
 use Rattle.usb_claims.specs.Holding.{device_of, others_hold, owner_of}
 use Rattle.usb_kept.specs.Kept.{KeptEndpoint, new_kept_endpoint}
@@ -28,8 +28,9 @@ use Rattle.usb_state.proofs.Gone.{gone_is, interfaces_are}
 use Rattle.usb_state.proofs.Moves.{still_idle}
 use Rattle.usb_state.proofs.Quiet.{all_left}
 use Rattle.usb_state.proofs.Refusing.{accepted_is, refused_is}
-use Rattle.usb_state.proofs.Renewing.{IsRenewable, renews_all}
-use Rattle.usb_state.proofs.Rested.{keeps_rested}
+use Rattle.usb_state.proofs.Renewing.{IsRenewable, renews_all, rings_renewed_by}
+use Rattle.usb_state.proofs.Rested.{bare_left, keeps_rested}
+use Rattle.usb_state.proofs.Ringed.{IsBare, SameRings, rings_as}
 use Rattle.usb_state.proofs.Same.{holds_as}
 
 -- the tests of the core
@@ -97,7 +98,7 @@ module _ {P : Type 0} where
       accepted_is setup (record s { controller = k }) c h (reset_tests setup c h) (rests setup c h (c.names h) (Reset h) (Renews (calling.device_of c h))) (says h Done)
       (reset_first setup w s c h d false true keeps shows device still all ∙ ap (λ (b : Bool). if b then Some HeldElsewhere else None) none) (
         refl,
-        keeps_rested setup s s.claims k c after keeps (record {
+        keeps_rested setup s s.claims k c after rings keeps (record {
           configs = refl;
           held = held;
           claimed = keeps.claimed;
@@ -146,6 +147,16 @@ module _ {P : Type 0} where
               let other : true ≡ false = sym (eq-eqb d x (of_device its)) ∙ here in
               absurd cc
           by_tests false here false its = refl
+
+      bare : (e : ℕ) → is_held_by setup s.claims h d e ≡ true → IsBare s.controller d (endpoint_id e)
+      bare e its =
+          let holds : holder setup c.claims d e ≡ Some h = its_is h (holder setup c.claims d e) (sym (holders d e) ∙ its) in
+          let there = held_interface setup c.claims h d e holds in
+          bare_left setup s c d e there.0 keeps there.1 (left d e there.0 there.1 holds).line
+
+      rings : SameRings s.controller k
+      rings = rings_as s.controller (renewed_by s.controller d (is_held_by setup s.claims h d) (endpoints_of setup d)) k
+          (rings_renewed_by s.controller d (is_held_by setup s.claims h d) bare (endpoints_of setup d) s.controller (λ x id. refl)) (renewed setup keeps.set)
 
       held : HoldsCore setup k after
       held = subst (λ (z : Controller). HoldsCore setup z after) (sym (renewed setup keeps.set))

@@ -8,21 +8,24 @@ use Rattle.usb_model.specs.declared.result.TransferResult.{TransferResult}
 use Rattle.usb_model.specs.declared.shared.Tagged.{Tagged}
 use Rattle.usb_model.specs.Machine.{is_callback_at}
 use Rattle.usb_model.specs.Machine.Calls.{callback_of}
-use Rattle.usb_model.specs.Setup.{Setup, interface_of}
+use Rattle.usb_model.specs.Setup.{Setup, endpoint_id, interface_of}
 use Rattle.usb_model.specs.World.{holder}
 use Rattle.usb_model.specs.World.Shared.{pieces_of}
 use Rattle.usb_claims.specs.Holding.{Holding}
 use Rattle.usb_claims.specs.Tables.{is_plain}
+use Rattle.usb_trb.specs.declared.kind.TrbKind.{TrbKind}
 use Rattle.usb_kept.specs.Kept.{KeptEndpoint, KeptTransfer, SentErrand}
 use Rattle.usb_transfer.specs.declared.transfer.Transfer.{Transfer as InFlight}
 use Rattle.usb_cancel.specs.declared.outstanding.Sent.{Sent}
 use Rattle.usb_cancel.specs.Outstanding.{sent_at}
 use Rattle.usb_xhc.specs.Controller.{Controller}
-use Rattle.usb_flight.specs.Flights.{line_at}
+use Rattle.usb_flight.specs.Flights.{keys_at, line_at}
 use Rattle.usb_shows.specs.Shows.{Core}
 use Rattle.std.specs.Option.{option_map}
 use Rattle.usb_state.specs.Handles.{IsLeft, NameRests, RestsTo, StaysHeld, StaysLeft}
 use Rattle.usb_state.specs.State.{AllItems, Keeps, KeepsEnd, KeepsName, State, in_ring}
+use Rattle.usb_state.proofs.Buffers.{NamesIn, buffers_same, named_at, none_named}
+use Rattle.usb_state.proofs.Ringed.{IsBare, SameRings}
 
 module _ {P : Type 0} where
   -- an empty line is empty in flight
@@ -52,8 +55,8 @@ module _ {P : Type 0} where
   }
 
   -- the parts keep the core after the call
-  pub keeps_rested : (setup : Setup) (old : State P) (v : Holding) (k : Controller) (c after : Core) → Keeps setup old c → RestsTo setup old v k c after → Keeps setup (record old { claims = v; controller = k }) after
-  keeps_rested setup old v k c after keeps rests = record {
+  pub keeps_rested : (setup : Setup) (old : State P) (v : Holding) (k : Controller) (c after : Core) → SameRings old.controller k → Keeps setup old c → RestsTo setup old v k c after → Keeps setup (record old { claims = v; controller = k }) after
+  keeps_rested setup old v k c after rings keeps rests = record {
     set = keeps.set ∙ sym rests.configs;
     plain = keeps.plain;
     fine = keeps.fine;
@@ -62,6 +65,7 @@ module _ {P : Type 0} where
     bounded = keeps.bounded;
     lanes = keeps.lanes;
     cells = keeps.cells;
+    buffers = buffers_same old (record old { claims = v; controller = k }) refl refl rings keeps.buffers;
     held = rests.held;
     claimed = rests.claimed;
     named = λ g. subst (λ (l : List (Tagged TransferResult)). KeepsName new g (after.names g) (pieces_of g l)) (sym rests.results) (name_rests old v k g (c.names g) (after.names g) (pieces_of g c.results) (rests.named g) (keeps.named g));
@@ -83,3 +87,15 @@ module _ {P : Type 0} where
       by_free : (d e i : ℕ) → interface_of setup d e ≡ Some i → holder setup after.claims d e ≡ None → StaysHeld setup c after d e ⊎ StaysLeft c after d e → ((after.endpoints d e).line ≡ []) × ((after.endpoints d e).errand ≡ None)
       by_free d e i there nobody (inl stays) = subst (λ (b : KeptEndpoint). (b.line ≡ []) × (b.errand ≡ None)) (sym stays.endpoint) (keeps.free d e i there (sym stays.holder ∙ nobody))
       by_free d e i there nobody (inr left) = (left.is.line, left.is.errand)
+
+  -- where nothing is left of a line no item is in its ring
+  pub bare_left : (setup : Setup) (s : State P) (c : Core) (d e i : ℕ) → Keeps setup s c → interface_of setup d e ≡ Some i → (c.endpoints d e).line ≡ [] → IsBare s.controller d (endpoint_id e)
+  bare_left setup s c d e i keeps there none r is =
+      none_named r.0 (keys_at s.flights.keys d e) (line_at s.flights d e) r.1
+      (subst (λ (o : Option (ℕ × List (List TrbKind))). NamesIn (keys_at s.flights.keys d e) (line_at s.flights d e) o) is (named_at s d e keeps.buffers)) nothing
+    where
+      name : Option ℕ
+      name = holder setup c.claims d e
+
+      nothing : line_at s.flights d e ≡ []
+      nothing = no_items name e (line_at s.flights d e) (subst (λ (ys : List KeptTransfer). AllItems name e (line_at s.flights d e) ys) none (keeps.ends d e i there).line)

@@ -33,10 +33,12 @@ use Rattle.usb_state.specs.State.{AllItems, Keeps, KeepsEnd, State, in_ring}
 use Rattle.usb_state.specs.Steps.{Is, IsRun, order_in}
 use Rattle.usb_state.specs.Works.{IsAt, with_kept}
 use Rattle.usb_state.proofs.Amid.{core_as, own_name}
+use Rattle.usb_state.proofs.Buffers.{buffers_same}
 use Rattle.usb_state.proofs.Changed.{keeps_with, name_still}
 use Rattle.usb_state.proofs.Held.{held_interface}
 use Rattle.usb_state.proofs.Lanes.{with_other}
 use Rattle.usb_state.proofs.Posting.{as_many_orders}
+use Rattle.usb_state.proofs.Ringed.{rings_run}
 use Rattle.usb_state.proofs.Transfers.{end_at}
 
 -- what an order leaves of an endpoint's line and its errand
@@ -145,6 +147,7 @@ module _ {P : Type 0} where
                   line = subst (λ (l : List KeptTransfer). AllItems (Some h) e (line_at s.flights d e) l) (sym (carry_line o.place b o.errand b.state).0) (end_at setup s c h d e at).line;
                   errand = (end_at setup s c h d e at).errand ∙ ap (λ (x : Option SentErrand). option_map in_ring x) (sym (carry_line o.place b o.errand b.state).1);
                 });
+            buffers = buffers_same s new refl refl (rings_run s.controller s.controller.commands.waits run.0 run.1) keeps.buffers;
             held = run.4;
             named = λ g. name_still s new g (c.names g) (pieces_of g c.results) refl refl (keeps.named g);
             ended = keeps.ended;

@@ -23,7 +23,7 @@ use Rattle.usb_context.specs.Serving.{packet_room, working}
 use Rattle.usb_xhc.specs.Controller.{Controller, served_at, told_at}
 use Rattle.usb_device.specs.Pipe.{answer_of, bytes_after, pipe_at}
 use Rattle.usb_xhc.specs.Slots.{DeviceSlot, context_of, read_after}
-use Rattle.usb_flight.specs.Flights.{Flights, item_at, line_at, with_line}
+use Rattle.usb_flight.specs.Flights.{Flights, item_at, keys_at, line_at, with_line}
 use Rattle.usb_flight.specs.Serving.{IsServed, Serves, bytes_for}
 use Rattle.usb_flight.specs.Serving as flight
 use Rattle.usb_match.specs.Told.{reply_of}
@@ -37,11 +37,13 @@ use Rattle.usb_slots.proofs.Lookups.{set_same}
 use Rattle.usb_slots.proofs.Serves.{serves}
 use Rattle.usb_state.specs.State.{AllItems, IsFlight, KeepsEnd, State, in_ring, result_of}
 use Rattle.usb_state.specs.Works.{MovesPacket, behind_packet, context_in, packet_of}
+use Rattle.usb_state.proofs.Buffers.{buffers_line, set_named}
 use Rattle.usb_state.proofs.Changed.{keeps_with, name_still}
 use Rattle.usb_state.proofs.Finding.{found_at}
 use Rattle.usb_state.proofs.Fronts.{IsAtWork, at_work, working_runs}
 use Rattle.usb_state.proofs.Lanes.{with_other}
 use Rattle.usb_state.proofs.Lines.{set_item}
+use Rattle.usb_state.proofs.Ringed.{rings_as, rings_served}
 use Rattle.usb_state.proofs.Transfers.{but_line, end_at, line_is}
 
 -- what a packet leaves of an endpoint's line and errand: the bytes that came join those of the transfer; none come of a gone device
@@ -139,6 +141,9 @@ module _ {P : Type 0} where
                     (subst (λ (ys : List KeptTransfer). AllItems (Some h) e line ys) (sym left.line) (set_item (Some h) e (line_at old.flights d e) b.line item (Some served.served) (record it.y { bytes = left.bytes }) end.line flies));
                 errand = end.errand ∙ ap (λ (v : Option SentErrand). option_map in_ring v) (sym left.errand);
               });
+          buffers = buffers_line old new d e line lines (line_is setup old new c h d e line at lines) (ap (λ (v : Flights (InFlight P)). v.keys) served.put)
+              (rings_as old.controller (served_at old.controller d e (flight.out_of e t.request.body)) k (rings_served old.controller d e (flight.out_of e t.request.body)) (is_k t it.is.found))
+              (λ size kss all. set_named size (keys_at old.flights.keys d e) (line_at old.flights d e) kss item t served.served all it.is.there (ap (λ (v : InFlight P). v.request) served.behind.rest)) at.keeps.buffers;
           held = subst (λ (v : Controller). HoldsCore setup v after) (sym kept_k) packet.holds;
           named = λ g. name_still old new g (c.names g) (pieces_of g c.results) refl refl (at.keeps.named g);
           ended = at.keeps.ended ∙ ap (map result_of) (sym ended);

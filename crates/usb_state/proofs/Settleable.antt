@@ -25,7 +25,7 @@ use Rattle.usb_cancel.specs.declared.ended.Settlement.{Settlement}
 use Rattle.usb_transfer.specs.declared.transfer.Transfer.{Transfer as InFlight}
 use Rattle.usb_callers.specs.Callers.{SameCallbacks, SameCounts, SameNumbers, is_there, results_at}
 use Rattle.usb_flight.specs.declared.ending.Ending.{Ending}
-use Rattle.usb_flight.specs.Flights.{Flights, item_at, lane_at, line_at, mark_in, with_item, with_line}
+use Rattle.usb_flight.specs.Flights.{Flights, blanked_at, item_at, lane_at, left_at, line_at, mark_in}
 use Rattle.usb_context.specs.Context.{Context}
 use Rattle.usb_device.specs.Pipe.{pipe_at}
 use Rattle.usb_xhc.specs.Slots.{DeviceSlot, changed, context_of}
@@ -190,13 +190,13 @@ module _ {P : Type 0} where
 
   -- the pieces, of parts as a function finds them
   module _ (s v : State P) (same : v ≡ s) (d e : ℕ) where
-    pub leaves_by : (count : ℕ) (k : Controller) (f : Flights (InFlight P)) → CanLeave s d e count → f ≡ with_line v.flights d e (drop count (line_at v.flights d e)) → k ≡ slot_changed v.controller d (λ a. changed a (endpoint_id e) (λ b. with_ring b (without_first b.ring count)))
+    pub leaves_by : (count : ℕ) (k : Controller) (f : Flights (InFlight P)) → CanLeave s d e count → f ≡ left_at v.flights d e count → k ≡ slot_changed v.controller d (λ a. changed a (endpoint_id e) (λ b. with_ring b (without_first b.ring count)))
         → (h : ℕ) → Leaves s (record v { controller = k; flights = f }) h d e count
     leaves_by count k f can is_f is_k h = subst (λ (u : State P). Leaves u (record v { controller = k; flights = f }) h d e count) same
         (leaves v k f h d e count (subst (λ (u : State P). CanLeave u d e count) (sym same) can).within is_f is_k)
 
     pub withdraws_by : (h item : ℕ) (x : Ending) (k : Controller) (f : Flights (InFlight P)) (callers : List Caller)
-        → ((t : InFlight P) → item_at v.flights d e item ≡ Some t → f ≡ record (with_item v.flights d e item None) { ended = v.flights.ended ++ record { transfer = t; ending = x } ∷ [] })
+        → ((t : InFlight P) → item_at v.flights d e item ≡ Some t → f ≡ record (blanked_at v.flights d e item) { ended = v.flights.ended ++ record { transfer = t; ending = x } ∷ [] })
         → ((g id : ℕ) → results_at callers g id ≡ (if is_there h (endpoint_id e) g id then results_at v.callers g id + 1 else results_at v.callers g id))
         → SameNumbers v.callers callers → SameCallbacks v.callers callers → SameCounts v.callers callers
         → k ≡ slot_changed v.controller d (λ a. changed a (endpoint_id e) (λ b. with_ring b (with_blank b.ring item)))

@@ -1,7 +1,8 @@
 -- A transfer joins a line.
-use Rattle.std.proofs.Common.{◌≡◌, ℕ, ◌+◌, ◌≤◌, ◌==◌, refl, ap, sym, subst, ◌∙◌, arith, List, [], ◌∷◌, ◌++◌, length, map, Option, Some, Bool, true, false, eqb-true}
+use Rattle.std.proofs.Common.{◌≡◌, ℕ, ◌+◌, ◌<◌, ◌≤◌, ◌==◌, refl, ap, ap₂, sym, subst, ◌∙◌, arith, List, [], ◌∷◌, ◌++◌, length, map, Option, Some, Bool, true, false, eqb-true}
 use Rattle.std.specs.Prelude.{count_by, slice_get, if◌then◌else◌}
 use Rattle.std.specs.List.{AllByRecursion}
+use Rattle.std.proofs.lemmas.Option.{same_Some}
 use Rattle.usb_model.specs.declared.handle.Handle.{Handle}
 use Rattle.usb_model.specs.declared.request.Request.{Request}
 use Rattle.usb_model.specs.declared.result.TransferResult.{TransferResult}
@@ -24,16 +25,17 @@ use Rattle.usb_xhc.specs.Controller.{Controller, slot_changed}
 use Rattle.usb_xhc.specs.Slots.{DeviceSlot, changed, context_of}
 use Rattle.usb_callers.specs.Caller.{Kept as Caller}
 use Rattle.usb_callers.specs.Callers.{SameCallbacks, SameCounts, SameResults, number_of}
-use Rattle.usb_flight.specs.Flights.{Flights, line_at, with_line}
+use Rattle.usb_flight.specs.Flights.{Flights, keys_at, lane_at, line_at, with_last}
 use Rattle.usb_shows.specs.Shows.{Core}
 use Rattle.usb_slots.specs.Holds.{HasRing, HoldsCore}
 use Rattle.usb_slots.proofs.Ends.{here}
 use Rattle.usb_slots.proofs.Renews.{hosts}
-use Rattle.usb_state.specs.State.{AllItems, IsFlight, KeepsEnd, KeepsName, State, result_of}
+use Rattle.usb_state.specs.State.{AllItems, AllNameBuffers, IsFlight, KeepsEnd, KeepsName, State, result_of}
 use Rattle.usb_state.specs.Works.{IsUnstarted, Starts, context_in, with_kept}
+use Rattle.usb_state.proofs.Buffers.{buffers_put, join_named}
 use Rattle.usb_state.proofs.Changed.{keeps_with}
 use Rattle.usb_state.proofs.Lanes.{with_other}
-use Rattle.usb_state.proofs.Lines.{join_item}
+use Rattle.usb_state.proofs.Lines.{index_set, join_item}
 use Rattle.usb_state.proofs.Rings.{ring_of}
 use Rattle.usb_state.proofs.Transfers.{but_line, end_at, line_is}
 
@@ -82,17 +84,19 @@ module _ {P : Type 0} where
   -- a transfer joins the line under the name's next number
   pub starts : (old : State P) (k : Controller) (f : Flights (InFlight P)) (callers : List Caller) (h d e : ℕ) (x : Context) (t : InFlight P) (key : ℕ) (request : Request) (round : ℕ) → context_in old.controller d e ≡ Some x
       → used x.ring.line + length (trbs_of x.size request) ≤ capacity → request.ep ≡ e → IsUnstarted h t (number_of old.callers h) request round
-      → f.lines ≡ (with_line old.flights d e (line_at old.flights d e ++ Some t ∷ [])).lines → f.ended ≡ old.flights.ended
+      → f.lines ≡ (with_last old.flights d e key t).lines → f.keys ≡ (with_last old.flights d e key t).keys → lane_at d e < length old.flights.keys → f.ended ≡ old.flights.ended
       → k ≡ slot_changed old.controller d (λ s. changed s (endpoint_id e) (λ c. with_ring c (with_pushed c.ring (normals (normals_of key (tds_of x.size request))))))
       → ((g : ℕ) → number_of callers g ≡ (if h == g then number_of old.callers g + 1 else number_of old.callers g)) → SameCallbacks old.callers callers → SameResults old.callers callers → SameCounts old.callers callers
       → Starts old (record old { controller = k; flights = f; callers = callers }) h d e request round
-  starts old k f callers h d e x t key request round there fits is_at is lines ended is_k numbers callbacks made counts setup c at few = keeps_with setup old new c after h d e at
+  starts old k f callers h d e x t key request round there fits is_at is lines keyed lane ended is_k numbers callbacks made counts setup c at few = keeps_with setup old new c after h d e at
       (but_line old new d e line at.keeps.lanes at.keeps.cells refl refl lines)
       (record {
         same = refl;
         others = λ dev ep other. with_other c.endpoints d e b dev ep other;
         mine = subst (λ (y : KeptEndpoint). KeepsEnd new (Some h) d e y) (sym (here c.endpoints d e b))
             (record { line = subst (λ (l : List (Option (InFlight P))). AllItems (Some h) e l b.line) (sym (line_is setup old new c h d e line at lines)) all; errand = end.errand });
+        buffers = buffers_put old new d e line keys (λ v. with_ring v (with_pushed v.ring (normals (normals_of key (tds_of x.size request))))) lines (line_is setup old new c h d e line at lines) keyed
+            (ap (λ (v : List (List (Option ℕ))). keys_at v d e) keyed ∙ index_set old.flights.keys (lane_at d e) [] keys lane) is_k joins at.keeps.buffers;
         held = subst (λ (v : Controller). HoldsCore setup v after) (sym (is_k ∙ ap (λ (n : ℕ). slot_changed old.controller d (λ s. changed s (endpoint_id e) (λ v. with_ring v (with_pushed v.ring (normals (normals_of key (tds_of n request))))))) ring.size))
             ((hosts setup old.controller c.gone c.endpoints c.orders c.events c.posted d e at.interface at.keeps.plain at.keeps.held at.there).pushes found.0 x key n request round found.1 found.2 few
             (subst (λ (v : ℕ). used x.ring.line + length (trbs_of v request) ≤ capacity) ring.size fits));
@@ -115,6 +119,16 @@ module _ {P : Type 0} where
 
       line : List (Option (InFlight P))
       line = line_at old.flights d e ++ Some t ∷ []
+
+      keys : List (Option ℕ)
+      keys = keys_at old.flights.keys d e ++ Some key ∷ []
+
+      joins : (v : Context) → context_in old.controller d e ≡ Some v → AllNameBuffers v.size (keys_at old.flights.keys d e) (line_at old.flights d e) v.ring.line.items
+          → AllNameBuffers v.size keys line (v.ring.line.items ++ normals (normals_of key (tds_of x.size request)) ∷ [])
+      joins v found all =
+          let one : x ≡ v = same_Some x v (sym there ∙ found) in
+          join_named v.size (keys_at old.flights.keys d e) (line_at old.flights d e) v.ring.line.items (Some key) (Some t) (normals (normals_of key (tds_of x.size request))) all
+          (ap₂ (λ (y : Context) (r : Request). normals (normals_of key (tds_of y.size r))) one (sym is.asks_for))
 
       end : KeepsEnd old (Some h) d e (c.endpoints d e)
       end = end_at setup old c h d e at

@@ -96,7 +96,7 @@ module _ {P : Type 0} where
   pub keeps_ended : (setup : Setup) (w : World) (old new : State P) (c : Core) (h n : ℕ) → new.claims ≡ old.claims → new.controller ≡ old.controller → new.flights ≡ old.flights → new.outstanding ≡ old.outstanding → Ended old.callers new.callers h n
       → Keeps setup old c → Shows setup w c → Keeps setup new (record c { names = λ g. if h == g then called_back c h n else c.names g })
   keeps_ended setup w old new c h n claims controller flights outstanding ended keeps shows =
-      keeps_named setup old new c (λ g. if h == g then called_back c h n else c.names g) c.results keeps claims controller (ap (λ f. f.lines) flights) outstanding
+      keeps_named setup old new c (λ g. if h == g then called_back c h n else c.names g) c.results keeps claims controller (ap (λ f. f.lines) flights) (ap (λ f. f.keys) flights) outstanding
       (λ g. name_ended old new g h n (c.names g) (c.names h) (pieces_of g c.results) claims ended (once_called setup w c shows h n) (λ same. ap c.names (eqb-true h g same)) (keeps.named g))
       (keeps.ended ∙ ap (λ f. map result_of f.ended) (sym flights)) keeps.ended_plain
 

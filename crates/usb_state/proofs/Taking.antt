@@ -172,11 +172,11 @@ module _ {P : Type 0} where
       (omega (arith, count, (keeps.named h).waiting e plain.0), sym ((keeps.named h).callback x.transfer.n) ∙ not_yet_called setup is.1 c is.2.2 (result_of x) (map result_of (drop 1 s.flights.ended)) results)
 
   -- the oldest one goes out, with the bytes that were read
-  pub takes_first : (old new : State P) (x : EndedOf (InFlight P)) (h : ℕ) (bytes : List ℕ) → slice_get old.flights.ended 0 ≡ Some x → h ≡ x.transfer.name → bytes ≡ x.transfer.bytes.items → new.claims ≡ old.claims → new.controller ≡ old.controller → new.flights.lines ≡ old.flights.lines → new.outstanding ≡ old.outstanding
+  pub takes_first : (old new : State P) (x : EndedOf (InFlight P)) (h : ℕ) (bytes : List ℕ) → slice_get old.flights.ended 0 ≡ Some x → h ≡ x.transfer.name → bytes ≡ x.transfer.bytes.items → new.claims ≡ old.claims → new.controller ≡ old.controller → new.flights.lines ≡ old.flights.lines → new.flights.keys ≡ old.flights.keys → new.outstanding ≡ old.outstanding
       → new.flights.ended ≡ drop 1 old.flights.ended → Calls old.callers new.callers h (called_of (result_of x).piece)
       → Does old Take (called_entry (Some (record (returned_of (result_of x)) { h = h; bytes = bytes }))) new
   unfolding step_core take_core take_first
-  takes_first old new x h bytes first whose read claims controller lines outstanding ended calls setup w c keeps shows = (
+  takes_first old new x h bytes first whose read claims controller lines keys outstanding ended calls setup w c keeps shows = (
     ap₂ (λ (n : ℕ) (b : List ℕ). called_entry (Some (record (returned_of t) { h = n; bytes = b }))) whose read ∙ ap (λ (v : Stepped). v.entry) (sym stepped),
     subst (λ (t : Stepped). Keeps setup new t.core) (sym stepped) (subst (λ (l : List (Tagged TransferResult)). Keeps setup new (record c { names = names; results = l })) (sym (ap (past_first true) results)) kept),
   )
@@ -204,4 +204,4 @@ module _ {P : Type 0} where
           (subst (λ (l : List (Tagged TransferResult)). KeepsName old g (c.names g) (pieces_of g l)) results (keeps.named g))
 
       kept : Keeps setup new (record c { names = names; results = ts })
-      kept = keeps_named setup old new c names ts keeps claims controller lines outstanding named (ap (map result_of) (sym ended)) plain.1
+      kept = keeps_named setup old new c names ts keeps claims controller lines keys outstanding named (ap (map result_of) (sym ended)) plain.1

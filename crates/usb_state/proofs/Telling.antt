@@ -48,9 +48,11 @@ use Rattle.usb_model.specs.Endpoint.Status.{told_status}
 use Rattle.usb_state.specs.State.{IsFlight, Keeps, State}
 use Rattle.usb_state.specs.Steps.{Is}
 use Rattle.usb_state.specs.Works.{IsAt, context_in}
+use Rattle.usb_state.proofs.Buffers.{buffers_same}
 use Rattle.usb_state.proofs.Changed.{end_still, name_still}
 use Rattle.usb_state.proofs.Finding.{IsFoundAt, found_somewhere}
 use Rattle.usb_state.proofs.Held.{held_interface, holder_same}
+use Rattle.usb_state.proofs.Ringed.{SameRings, rings_as}
 use Rattle.usb_state.proofs.Rings.{IsSlotOf, slot_of}
 use Rattle.usb_state.proofs.Transfers.{IsLiveAt, live_at}
 
@@ -77,8 +79,8 @@ FindsPlace l p o = (i j : ℕ) → IsInRing l p i j → o ≡ Some (i, j)
 
 module _ {P : Type 0} where
   -- the core's events are others
-  events_left : (setup : Setup) (old : State P) (k : Controller) (c : Core) (es : List RingEvent) → Keeps setup old c → HoldsCore setup k (record c { events = es }) → Keeps setup (record old { controller = k }) (record c { events = es })
-  events_left setup old k c es keeps held = record {
+  events_left : (setup : Setup) (old : State P) (k : Controller) (c : Core) (es : List RingEvent) → SameRings old.controller k → Keeps setup old c → HoldsCore setup k (record c { events = es }) → Keeps setup (record old { controller = k }) (record c { events = es })
+  events_left setup old k c es rings keeps held = record {
     set = keeps.set;
     plain = keeps.plain;
     fine = keeps.fine;
@@ -87,6 +89,7 @@ module _ {P : Type 0} where
     bounded = keeps.bounded;
     lanes = keeps.lanes;
     cells = keeps.cells;
+    buffers = buffers_same old (record old { controller = k }) refl refl rings keeps.buffers;
     held = held;
     claimed = keeps.claimed;
     named = λ h. name_still old (record old { controller = k }) h (c.names h) (pieces_of h c.results) refl refl (keeps.named h);
@@ -116,7 +119,7 @@ module _ {P : Type 0} where
             rest = ys;
             first = first;
             told = sym told ∙ ap (λ (v : Controller). event_trb v.commands.memory.base y) (sym is);
-            keeps = events_left setup old k c ys keeps
+            keeps = events_left setup old k c ys (rings_as old.controller (without_event old.controller) k (λ d id. refl) is) keeps
                 (subst (λ (v : Controller). HoldsCore setup v (record c { events = ys })) (sym is)
                 (subst (λ (l : List RingEvent). HoldsCore setup (without_event old.controller) (record c { events = l })) (ap (drop 1) first) (takes setup old.controller c.gone c.endpoints c.orders c.events c.posted keeps.held)));
           }

@@ -9,13 +9,14 @@ use Rattle.usb_transfer.specs.declared.transfer.Transfer.{Transfer as InFlight}
 use Rattle.usb_cancel.specs.declared.outstanding.Sent.{Sent}
 use Rattle.usb_cancel.specs.Outstanding.{sent_at}
 use Rattle.usb_xhc.specs.Slots.{DeviceSlot, context_of}
-use Rattle.usb_flight.specs.Flights.{Flights, item_at, lane_at, line_at, with_item, with_line}
+use Rattle.usb_flight.specs.Flights.{Flights, item_at, keys_at, lane_at, line_at, with_item, with_line}
 use Rattle.usb_match.specs.Laws.{HaveTrbsOf}
 use Rattle.usb_shows.specs.Shows.{Core}
 use Rattle.usb_slots.proofs.Ends.{here}
 use Rattle.usb_slots.proofs.Renews.{hosts}
 use Rattle.usb_state.specs.State.{AllItems, IsFlight, IsItem, Keeps, KeepsEnd, State, result_of}
 use Rattle.usb_state.specs.Works.{Asks, IsAt, Pauses, with_kept}
+use Rattle.usb_state.proofs.Buffers.{buffers_line, set_named}
 use Rattle.usb_state.proofs.Changed.{IsBut, keeps_with, name_still}
 use Rattle.usb_state.proofs.Lanes.{has_lane, line_here, line_other, same_trbs, with_other}
 use Rattle.usb_state.proofs.Rings.{no_ring_errand}
@@ -76,6 +77,8 @@ module _ {P : Type 0} where
         others = λ dev ep other. with_other c.endpoints d e b dev ep other;
         mine = subst (λ (x : KeptEndpoint). KeepsEnd new (Some h) d e x) (sym (here c.endpoints d e b))
             (record { line = subst (λ (l : List (Option (InFlight P))). AllItems (Some h) e l b.line) (sym (line_is setup old new c h d e line at lines)) (set_item (Some h) e (line_at old.flights d e) (c.endpoints d e).line item (Some t) z end.line is); errand = end.errand });
+        buffers = buffers_line old new d e line lines (line_is setup old new c h d e line at lines) (ap (λ (v : Flights (InFlight P)). v.keys) put) (λ dev id. refl)
+            (λ size kss all. set_named size (keys_at old.flights.keys d e) (line_at old.flights d e) kss item was.t t all was.there (is.asks_for ∙ request ∙ sym was.same.asks_for)) at.keeps.buffers;
         held = (hosts setup old.controller c.gone c.endpoints c.orders c.events c.posted d e at.interface at.keeps.plain at.keeps.held at.there).keeps b
             (trbs_set (c.endpoints d e).line item there) refl refl refl refl refl refl refl no_errand;
         named = λ g. name_still old new g (c.names g) (pieces_of g c.results) refl refl (at.keeps.named g);
@@ -100,6 +103,9 @@ module _ {P : Type 0} where
 
       end : KeepsEnd old (Some h) d e (c.endpoints d e)
       end = end_at setup old c h d e at
+
+      was : IsLiveAt old h d e item y
+      was = live_at setup old c h d e item y at there (sym blank ∙ is.live)
 
       trbs_set : (ys : List KeptTransfer) (i : ℕ) → slice_get ys i ≡ Some y → HaveTrbsOf ys (slice_set ys i z)
       trbs_set [] i it = tt

@@ -18,6 +18,7 @@ use Rattle.usb_state.specs.Steps.{Does}
 use Rattle.usb_state.proofs.Amid.{keeps_as}
 use Rattle.usb_state.proofs.Gone.{device_is, gone_is}
 use Rattle.usb_state.proofs.Rested.{keeps_rested}
+use Rattle.usb_state.proofs.Ringed.{rings_changed}
 
 -- a device that isn't there, or is gone, stays as it is
 stays_gone : (setup : Setup) (gone : ℕ → Bool) (dev d : ℕ) → (is_device setup dev ≡ true → gone dev ≡ true) → gone_after setup gone (Unplug dev) d ≡ gone d
@@ -76,7 +77,7 @@ module _ {P : Type 0} where
       let device : is_device setup dev ≡ true = sym (device_is s.claims setup dev keeps.set) ∙ there in
       let gone : c.gone dev ≡ false = sym (gone_is setup w s c dev keeps shows) ∙ still in (
         rw (device, gone) refl,
-        keeps_rested setup s s.claims (slot_changed s.controller dev (λ x. record x { gone = true })) c after keeps (record {
+        keeps_rested setup s s.claims (slot_changed s.controller dev (λ x. record x { gone = true })) c after (rings_changed s.controller dev (λ x. record x { gone = true }) (λ x at id. refl)) keeps (record {
           configs = refl;
           held = unplugs setup s.controller c.gone after.gone c.endpoints c.orders c.events c.posted dev keeps.held (rw (gone, eq-eqb dev dev refl, device) refl) others;
           claimed = keeps.claimed;
