@@ -25,6 +25,7 @@ module _ {P : Type 0} where
   pub record IsBut (old new : State P) (d e : ℕ) : Type 0 where
     pub claims : new.claims ≡ old.claims
     pub lanes : length new.flights.lines ≡ 128
+    pub keyed : length new.flights.keys ≡ 128
     pub cells : length new.outstanding ≡ 128
     pub lines : (dev ep : ℕ) → (lane_at dev ep ≡ lane_at d e → ⊥) → line_at new.flights dev ep ≡ line_at old.flights dev ep
     pub sent : (dev ep : ℕ) → (lane_at dev ep ≡ lane_at d e → ⊥) → sent_at new.outstanding dev ep ≡ sent_at old.outstanding dev ep
@@ -69,6 +70,7 @@ module _ {P : Type 0} where
     few = at.keeps.few;
     bounded = at.keeps.bounded;
     lanes = but.lanes;
+    keyed = but.keyed;
     cells = but.cells;
     buffers = with.buffers;
     held = with.held;

@@ -95,6 +95,7 @@ module _ {P : Type 0} where
       (record {
         claims = refl;
         lanes = at.keeps.lanes;
+        keyed = at.keeps.keyed;
         cells = ap length is_o ∙ set_length old.outstanding (lane_at d e) sent ∙ at.keeps.cells;
         lines = λ dev ep other. refl;
         sent = λ dev ep other. ap (λ (v : List (Option Sent)). sent_at v dev ep) is_o ∙ sent_other old.outstanding d e dev ep sent other;
@@ -159,6 +160,7 @@ module _ {P : Type 0} where
       (record {
         claims = refl;
         lanes = at.keeps.lanes;
+        keyed = at.keeps.keyed;
         cells = ap length is_o ∙ set_length old.outstanding (lane_at d e) None ∙ at.keeps.cells;
         lines = λ dev ep other. refl;
         sent = λ dev ep other. ap (λ (v : List (Option Sent)). sent_at v dev ep) is_o ∙ sent_other old.outstanding d e dev ep None other;

@@ -111,7 +111,7 @@ module _ {P : Type 0} where
         results = sym (append-nil c.results);
       })
       (keeps_with setup s new c after h d e at
-      (record { claims = refl; lanes = at.keeps.lanes; cells = at.keeps.cells; lines = λ dev ep other. refl; sent = λ dev ep other. refl })
+      (record { claims = refl; lanes = at.keeps.lanes; keyed = at.keeps.keyed; cells = at.keeps.cells; lines = λ dev ep other. refl; sent = λ dev ep other. refl })
       (record {
         same = refl;
         others = λ dev ep other. with_other c.endpoints d e b dev ep other;

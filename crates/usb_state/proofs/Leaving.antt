@@ -30,7 +30,7 @@ use Rattle.usb_state.proofs.Buffers.{blank_named, buffers_put, drop_named, keys_
 use Rattle.usb_state.proofs.Changed.{keeps_with, name_still}
 use Rattle.usb_state.proofs.Counts.{name_made}
 use Rattle.usb_state.proofs.Lanes.{has_lane, line_here, with_other}
-use Rattle.usb_state.proofs.Lines.{as_many, drop_items, set_item}
+use Rattle.usb_state.proofs.Lines.{as_many, drop_items, set_item, set_length}
 use Rattle.usb_state.proofs.Transfers.{IsLiveAt, but_line, end_at, line_is, live_at}
 
 -- what is set among the first items is gone where these leave
@@ -56,7 +56,7 @@ module _ {P : Type 0} where
   pub leaves : (old : State P) (k : Controller) (f : Flights (InFlight P)) (h d e count : ℕ) → count ≤ length (line_at old.flights d e) → f ≡ left_at old.flights d e count
       → k ≡ slot_changed old.controller d (λ s. changed s (endpoint_id e) (λ x. with_ring x (without_first x.ring count))) → Leaves old (record old { controller = k; flights = f }) h d e count
   leaves old k f h d e count within is_f is_k setup c at still = keeps_with setup old new c after h d e at
-      (but_line old new d e line at.keeps.lanes at.keeps.cells refl refl lines)
+      (but_line old new d e line at.keeps.lanes (ap (λ (v : Flights (InFlight P)). length v.keys) is_f ∙ set_length old.flights.keys (lane_at d e) keys ∙ at.keeps.keyed) at.keeps.cells refl refl lines)
       (record {
         same = refl;
         others = λ dev ep other. with_other c.endpoints d e b dev ep other;
@@ -110,10 +110,10 @@ module _ {P : Type 0} where
       → (is : IsLiveAt old h d e item y) → f.lines ≡ (with_line old.flights d e l).lines → f.ended ≡ old.flights.ended ++ record { transfer = is.t; ending = x } ∷ [] → AllItems (Some h) e l ys
       → ((g id : ℕ) → results_at callers g id ≡ (if is_there h (endpoint_id e) g id then results_at old.callers g id + 1 else results_at old.callers g id))
       → SameNumbers old.callers callers → SameCallbacks old.callers callers → SameCounts old.callers callers
-      → NameBuffers (record old { controller = k; flights = f; callers = callers }) → HoldsCore setup k (with_kept d e (record (c.endpoints d e) { line = ys }) c)
+      → length f.keys ≡ 128 → NameBuffers (record old { controller = k; flights = f; callers = callers }) → HoldsCore setup k (with_kept d e (record (c.endpoints d e) { line = ys }) c)
       → Keeps setup (record old { controller = k; flights = f; callers = callers }) (record (with_kept d e (record (c.endpoints d e) { line = ys }) c) { results = c.results ++ tagged h (result_by y x ∷ []) })
-  ends_with setup old k f callers c h d e item x y l ys at is lines ended all made numbers callbacks counts buffers held = keeps_with setup old new c after h d e at
-      (but_line old new d e l at.keeps.lanes at.keeps.cells refl refl lines)
+  ends_with setup old k f callers c h d e item x y l ys at is lines ended all made numbers callbacks counts keyed buffers held = keeps_with setup old new c after h d e at
+      (but_line old new d e l at.keeps.lanes keyed at.keeps.cells refl refl lines)
       (record {
         same = refl;
         others = λ dev ep other. with_other c.endpoints d e b dev ep other;
@@ -156,6 +156,7 @@ module _ {P : Type 0} where
       (ap (λ (v : Flights (InFlight P)). v.lines) is_f) (ap (λ (v : Flights (InFlight P)). v.ended) is_f)
       (set_item (Some h) e (line_at old.flights d e) (c.endpoints d e).line item None (record y { blank = true }) (end_at setup old c h d e at).line refl)
       made numbers callbacks counts
+      (ap (λ (v : Flights (InFlight P)). length v.keys) is_f ∙ set_length old.flights.keys (lane_at d e) (slice_set (keys_at old.flights.keys d e) item None) ∙ at.keeps.keyed)
       (buffers_put old (record old { controller = k; flights = f; callers = callers }) d e (slice_set (line_at old.flights d e) item None) (slice_set (keys_at old.flights.keys d e) item None) (λ v. with_ring v (with_blank v.ring item))
       (ap (λ (v : Flights (InFlight P)). v.lines) is_f) (line_is setup old (record old { controller = k; flights = f; callers = callers }) c h d e (slice_set (line_at old.flights d e) item None) at (ap (λ (v : Flights (InFlight P)). v.lines) is_f))
       (ap (λ (v : Flights (InFlight P)). v.keys) is_f)
@@ -177,6 +178,7 @@ module _ {P : Type 0} where
       (ap (λ (v : Flights (InFlight P)). v.ended) is_g ∙ ap (λ (v : Flights (InFlight P)). v.ended) is_f)
       (drop_items (Some h) e count (line_at old.flights d e) (c.endpoints d e).line (end_at setup old c h d e at).line)
       made numbers callbacks counts
+      (ap length keys ∙ set_length old.flights.keys (lane_at d e) (drop count (keys_at old.flights.keys d e)) ∙ at.keeps.keyed)
       (buffers_put old (record old { controller = k; flights = g; callers = callers }) d e (drop count (line_at old.flights d e)) (drop count (keys_at old.flights.keys d e)) (λ v. with_ring v (without_first v.ring count))
       lines (line_is setup old (record old { controller = k; flights = g; callers = callers }) c h d e (drop count (line_at old.flights d e)) at lines) keys
       (ap (λ (v : List (List (Option ℕ))). keys_at v d e) keys ∙ keys_here old.flights.keys d e (drop count (keys_at old.flights.keys d e)) (none_dropped count (keys_at old.flights.keys d e))) is_k

@@ -166,9 +166,9 @@ module _ {P : Type 0} where
       none (Some x) = tt
 
   -- parts that are unused keep a new core
-  pub keeps_new : (s : State P) (x : Devices) → AreReady x → AreUnused s x → ((d e : ℕ) → keys_at s.flights.keys d e ≡ []) → Keeps (setup_of x) s (new_core (setup_of x))
+  pub keeps_new : (s : State P) (x : Devices) → AreReady x → AreUnused s x → Keeps (setup_of x) s (new_core (setup_of x))
   unfolding callback_of
-  keeps_new s x ready unused keys = record {
+  keeps_new s x ready unused = record {
     set = setup_configs x.configs x.controller.slots ready.as_many ∙ sym unused.configs;
     plain = fined.0;
     fine = fined.2;
@@ -176,8 +176,9 @@ module _ {P : Type 0} where
     few = omega (arith, ready.few, setup_length x.configs x.controller.slots ready.as_many);
     bounded = omega (arith, few_ends 0 (setup_of x) ready.tables, ready.few, setup_length x.configs x.controller.slots ready.as_many);
     lanes = unused.lanes;
+    keyed = unused.keyed;
     cells = unused.cells;
-    buffers = none_buffers s x.controller unused.controller unused.lines keys;
+    buffers = none_buffers s x.controller unused.controller unused.lines unused.keys;
     held = subst (λ (k : Controller). HoldsCore (setup_of x) k (new_core (setup_of x))) (sym unused.controller)
         (made (setup_of x) x.controller fined.0 (record {
           slots = sym ready.as_many ∙ sym (setup_length x.configs x.controller.slots ready.as_many);
@@ -211,8 +212,8 @@ module _ {P : Type 0} where
       fined = fine (setup_of x) read
 
   -- they show the new world of these devices
-  pub shows_new : (s : State P) (x : Devices) → AreReady x → AreUnused s x → ((d e : ℕ) → keys_at s.flights.keys d e ≡ []) → ShowsWorld (setup_of x) s (new_world (setup_of x))
-  shows_new s x ready unused keys = (new_core (setup_of x), keeps_new s x ready unused keys, new_shows (setup_of x))
+  pub shows_new : (s : State P) (x : Devices) → AreReady x → AreUnused s x → ShowsWorld (setup_of x) s (new_world (setup_of x))
+  shows_new s x ready unused = (new_core (setup_of x), keeps_new s x ready unused, new_shows (setup_of x))
 
   -- parts that keep a core have the devices of its setup
   pub ready_again : (setup : Setup) (s : State P) (c : Core) → Keeps setup s c → AreReady (record { configs = s.claims.configs; controller = s.controller }) × (setup_of (record { configs = s.claims.configs; controller = s.controller }) ≡ setup)
@@ -236,6 +237,7 @@ module _ {P : Type 0} where
 pub record HasNoLines {T : Type 0} (f : Flights T) : Type 0 where
   pub lanes : length f.lines ≡ 128
   pub lines : (d e : ℕ) → line_at f d e ≡ []
+  pub keyed : length f.keys ≡ 128
   pub keys : (d e : ℕ) → keys_at f.keys d e ≡ []
   pub ended : f.ended ≡ []
 
@@ -243,12 +245,16 @@ pub no_lines : {T : Type 0} (f : Flights T) → f ≡ record { lines = replicate
 no_lines {T} f is = record {
   lanes = ap (λ (v : Flights T). length v.lines) is ∙ length-replicate 128 nothing;
   lines = λ d e. ap (λ (v : Flights T). line_at v d e) is ∙ none 128 (lane_at d e);
+  keyed = ap (λ (v : Flights T). length v.keys) is ∙ length-replicate 128 no_keys;
   keys = λ d e. ap (λ (v : Flights T). keys_at v.keys d e) is ∙ none 128 (lane_at d e);
   ended = ap (λ (v : Flights T). v.ended) is;
 }
   where
     nothing : List (Option T)
     nothing = []
+
+    no_keys : List (Option ℕ)
+    no_keys = []
 
     none : {A : Type 0} (n k : ℕ) → ◌≡◌ {A = List A} (slice_index_or (replicate n []) k []) []
     none zero k = refl

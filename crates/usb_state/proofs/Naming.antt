@@ -37,6 +37,7 @@ module _ {P : Type 0} where
     few = keeps.few;
     bounded = keeps.bounded;
     lanes = ap length lines ∙ keeps.lanes;
+    keyed = ap length keys ∙ keeps.keyed;
     cells = ap length outstanding ∙ keeps.cells;
     buffers = buffers_same old new lines keys (rings_as old.controller old.controller new.controller (λ d id. refl) controller) keeps.buffers;
     held = subst (λ (v : Controller). HoldsCore setup v c) (sym controller) keeps.held;

@@ -64,6 +64,7 @@ module _ {P : Type 0} where
     few = keeps.few;
     bounded = keeps.bounded;
     lanes = keeps.lanes;
+    keyed = keeps.keyed;
     cells = keeps.cells;
     buffers = buffers_same old (record old { claims = v; controller = k }) refl refl rings keeps.buffers;
     held = rests.held;

@@ -138,7 +138,7 @@ module _ {P : Type 0} where
 
       kept : Keeps setup new after
       kept = keeps_with setup s new c after h d e at
-          (record { claims = refl; lanes = keeps.lanes; cells = keeps.cells; lines = λ dev ep other. refl; sent = λ dev ep other. refl })
+          (record { claims = refl; lanes = keeps.lanes; keyed = keeps.keyed; cells = keeps.cells; lines = λ dev ep other. refl; sent = λ dev ep other. refl })
           (record {
             same = refl;
             others = λ dev ep other. with_other c.endpoints d e a.endpoint dev ep other;

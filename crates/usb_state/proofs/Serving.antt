@@ -1,5 +1,5 @@
 -- A packet of the item where the controller works.
-use Rattle.std.proofs.Common.{◌≡◌, ℕ, refl, ap, ap₂, sym, subst, ◌∙◌, arith, List, [], ◌∷◌, ◌++◌, map, Option, Some, None, true, false, Bool}
+use Rattle.std.proofs.Common.{◌≡◌, ℕ, refl, ap, ap₂, sym, subst, ◌∙◌, arith, List, [], ◌∷◌, ◌++◌, length, map, Option, Some, None, true, false, Bool}
 use Rattle.std.specs.Prelude.{slice_get, slice_set, is_some, not, ◌&&◌, option_map, if◌then◌else◌}
 use Rattle.std.specs.Option.{option_and_then, option_map_or}
 use Rattle.std.proofs.lemmas.Option.{same_Some}
@@ -131,7 +131,7 @@ module _ {P : Type 0} where
   moves old k f h d e item n told x first there work is_told number is_k is_f ended setup w c at shows front = (
     reply,
     keeps_with setup old new c after h d e at
-        (but_line old new d e line at.keeps.lanes at.keeps.cells refl refl lines)
+        (but_line old new d e line at.keeps.lanes (ap (λ (v : Flights (InFlight P)). length v.keys) served.put ∙ at.keeps.keyed) at.keeps.cells refl refl lines)
         (record {
           same = refl;
           others = λ dev ep other. with_other c.endpoints d e a.endpoint dev ep other;

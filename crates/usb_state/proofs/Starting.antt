@@ -34,8 +34,8 @@ use Rattle.usb_state.specs.State.{AllItems, AllNameBuffers, IsFlight, KeepsEnd, 
 use Rattle.usb_state.specs.Works.{IsUnstarted, Starts, context_in, with_kept}
 use Rattle.usb_state.proofs.Buffers.{buffers_put, join_named}
 use Rattle.usb_state.proofs.Changed.{keeps_with}
-use Rattle.usb_state.proofs.Lanes.{with_other}
-use Rattle.usb_state.proofs.Lines.{index_set, join_item}
+use Rattle.usb_state.proofs.Lanes.{has_lane, with_other}
+use Rattle.usb_state.proofs.Lines.{index_set, join_item, set_length}
 use Rattle.usb_state.proofs.Rings.{ring_of}
 use Rattle.usb_state.proofs.Transfers.{but_line, end_at, line_is}
 
@@ -84,12 +84,12 @@ module _ {P : Type 0} where
   -- a transfer joins the line under the name's next number
   pub starts : (old : State P) (k : Controller) (f : Flights (InFlight P)) (callers : List Caller) (h d e : ℕ) (x : Context) (t : InFlight P) (key : ℕ) (request : Request) (round : ℕ) → context_in old.controller d e ≡ Some x
       → used x.ring.line + length (trbs_of x.size request) ≤ capacity → request.ep ≡ e → IsUnstarted h t (number_of old.callers h) request round
-      → f.lines ≡ (with_last old.flights d e key t).lines → f.keys ≡ (with_last old.flights d e key t).keys → lane_at d e < length old.flights.keys → f.ended ≡ old.flights.ended
+      → f.lines ≡ (with_last old.flights d e key t).lines → f.keys ≡ (with_last old.flights d e key t).keys → f.ended ≡ old.flights.ended
       → k ≡ slot_changed old.controller d (λ s. changed s (endpoint_id e) (λ c. with_ring c (with_pushed c.ring (normals (normals_of key (tds_of x.size request))))))
       → ((g : ℕ) → number_of callers g ≡ (if h == g then number_of old.callers g + 1 else number_of old.callers g)) → SameCallbacks old.callers callers → SameResults old.callers callers → SameCounts old.callers callers
       → Starts old (record old { controller = k; flights = f; callers = callers }) h d e request round
-  starts old k f callers h d e x t key request round there fits is_at is lines keyed lane ended is_k numbers callbacks made counts setup c at few = keeps_with setup old new c after h d e at
-      (but_line old new d e line at.keeps.lanes at.keeps.cells refl refl lines)
+  starts old k f callers h d e x t key request round there fits is_at is lines keyed ended is_k numbers callbacks made counts setup c at few = keeps_with setup old new c after h d e at
+      (but_line old new d e line at.keeps.lanes (ap length keyed ∙ set_length old.flights.keys (lane_at d e) keys ∙ at.keeps.keyed) at.keeps.cells refl refl lines)
       (record {
         same = refl;
         others = λ dev ep other. with_other c.endpoints d e b dev ep other;
@@ -119,6 +119,9 @@ module _ {P : Type 0} where
 
       line : List (Option (InFlight P))
       line = line_at old.flights d e ++ Some t ∷ []
+
+      lane : lane_at d e < length old.flights.keys
+      lane = omega (arith, has_lane setup d e at.interface at.keeps.few at.there, at.keeps.keyed)
 
       keys : List (Option ℕ)
       keys = keys_at old.flights.keys d e ++ Some key ∷ []

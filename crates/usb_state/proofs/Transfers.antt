@@ -47,11 +47,12 @@ module _ {P : Type 0} where
       by_item (Some t) in_line is = record { t = t; found = index_get (line_at s.flights d e) item None (Some t) in_line; there = in_line; same = is }
 
   -- parts of which one line of transfers in flight is another
-  pub but_line : (old new : State P) (d e : ℕ) (l : List (Option (InFlight P))) → length old.flights.lines ≡ 128 → length old.outstanding ≡ 128 → new.claims ≡ old.claims → new.outstanding ≡ old.outstanding
+  pub but_line : (old new : State P) (d e : ℕ) (l : List (Option (InFlight P))) → length old.flights.lines ≡ 128 → length new.flights.keys ≡ 128 → length old.outstanding ≡ 128 → new.claims ≡ old.claims → new.outstanding ≡ old.outstanding
       → new.flights.lines ≡ (with_line old.flights d e l).lines → IsBut old new d e
-  but_line old new d e l lanes cells claims outstanding lines = record {
+  but_line old new d e l lanes keyed cells claims outstanding lines = record {
     claims = claims;
     lanes = ap length lines ∙ set_length old.flights.lines (lane_at d e) l ∙ lanes;
+    keyed = keyed;
     cells = ap length outstanding ∙ cells;
     lines = λ dev ep other. at_lines dev ep ∙ line_other old.flights d e dev ep l other;
     sent = λ dev ep other. ap (λ (v : List (Option Sent)). sent_at v dev ep) outstanding;
@@ -71,7 +72,7 @@ module _ {P : Type 0} where
       → f ≡ with_item old.flights d e item (Some t) → IsFlight (Some h) e t z → z.place ≡ y.place → z.lengths ≡ y.lengths → z.blank ≡ y.blank → z.request ≡ y.request
       → Keeps setup (record old { flights = f }) (with_kept d e (record (c.endpoints d e) { line = slice_set (c.endpoints d e).line item z }) c)
   item_changes setup old f c h d e item y z t at there put is place lengths blank request = keeps_with setup old new c after h d e at
-      (but_line old new d e line at.keeps.lanes at.keeps.cells refl refl lines)
+      (but_line old new d e line at.keeps.lanes (ap (λ (v : Flights (InFlight P)). length v.keys) put ∙ at.keeps.keyed) at.keeps.cells refl refl lines)
       (record {
         same = refl;
         others = λ dev ep other. with_other c.endpoints d e b dev ep other;

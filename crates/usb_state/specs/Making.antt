@@ -8,7 +8,7 @@ use Rattle.usb_claims.specs.Holding.{device_of, owner_of}
 use Rattle.usb_cancel.specs.Outstanding.{sent_at}
 use Rattle.usb_xhc.specs.Controller.{AreLawfulAll, Controller, all_renewed}
 use Rattle.usb_xhc.specs.Slots.{DeviceSlot}
-use Rattle.usb_flight.specs.Flights.{line_at}
+use Rattle.usb_flight.specs.Flights.{keys_at, line_at}
 use Rattle.usb_callers.specs.Callers.{callback_at, callbacks_at, number_of, results_at}
 use Rattle.usb_slots.specs.Made.{IsSlotOf}
 use Rattle.usb_state.specs.State.{State}
@@ -43,6 +43,8 @@ pub record AreUnused {P : Type 0} (s : State P) (x : Devices) : Type 0 where
   pub laws : AreLawfulAll s.controller.slots
   pub lanes : length s.flights.lines ≡ 128
   pub lines : (d e : ℕ) → line_at s.flights d e ≡ []
+  pub keyed : length s.flights.keys ≡ 128
+  pub keys : (d e : ℕ) → keys_at s.flights.keys d e ≡ []
   pub ended : s.flights.ended ≡ []
   pub numbers : (h : ℕ) → number_of s.callers h ≡ 0
   pub callbacks : (h n : ℕ) → callback_at s.callers h n ≡ None

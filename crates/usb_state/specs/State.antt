@@ -118,6 +118,7 @@ pub record Keeps {P : Type 0} (setup : Setup) (s : State P) (c : Core) : Type 0 
   pub few : length setup ≤ 4
   pub bounded : length (ends_of setup) ≤ 120
   pub lanes : length s.flights.lines ≡ 128
+  pub keyed : length s.flights.keys ≡ 128
   pub cells : length s.outstanding ≡ 128
   pub buffers : NameBuffers s
   pub held : HoldsCore setup s.controller c
