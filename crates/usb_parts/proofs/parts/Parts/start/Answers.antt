@@ -37,7 +37,7 @@ returns-clause-started g c =
     let trbs = c.as_slice.ensures.value ∙ c.trbs-trbs.ensures.value ∙ ap (normals_of c.in-Ok.key) can.split in
     subst (λ (s : State g.row.P.Denot). Starts s new c.args.h c.args.place.dev c.args.request.ep c.args.request c.args.round) c.self.view_is
     (starts old c.push-2.new.self c.push.new.self c.count_up.new.self c.args.h c.args.place.dev c.args.request.ep can.context c.in_ok-transfer.transfer c.in-Ok.key c.args.request c.args.round can.there can.fits refl is
-    c.in-Ok.ensures.lines c.in-Ok.ensures.ended
+    c.in-Ok.ensures.lines c.in-Ok.ensures.keys c.in-Ok.ensures.ended
     (c.push-2.ensures ∙ ap (λ (l : List NormalTrb). slot_changed old.controller c.args.place.dev (λ s. changed s (endpoint_id c.args.request.ep) (λ v. with_ring v (with_pushed v.ring (normals l))))) trbs)
     c.count_up.ensures.numbers c.count_up.ensures.callbacks c.count_up.ensures.results c.count_up.ensures.counts)
 
