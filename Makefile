@@ -19,6 +19,7 @@ build:
 
 test:
 	tools/wrong_bodies.py fit
+	tools/rows.py check
 	RT_JOBS=$$(nproc) rt ci
 	@tools/program.py keep
 	@tools/pictures.py check

@@ -1,5 +1,5 @@
-//! What no clause says: whole runs over worked rows, streams that fail, the words, and those public
-//! functions of `usb_model` and `usb_plain` that the program doesn't call, once each where memory is there.
+//! What no clause says: long runs, lines of every form, streams that fail, the words, and those public functions of
+//! `usb_model` and `usb_plain` that the program doesn't call, once each where memory is there.
 
 mod bad_lines;
 mod check;
@@ -8,7 +8,6 @@ mod edges;
 mod fakes;
 mod long;
 mod model;
-mod rows;
 mod runs;
 mod streams;
 mod texts;

@@ -16,14 +16,6 @@ fn refuses<X: Threads + Wait + Sync>(rt: &X, alloc: Global, input: &[u8], said: 
     run(rt, alloc, WORDS, Input::new(input, 4)).only_says(1, said)
 }
 
-/// A worked row that is no text, as the others are.
-const A_BYTE_PAST_ASCII: &[u8] = b"\
-# a comment
-
-device 0 0902300002010080320904000002ff00000007058102080000070502020800000904010001ff0000000705830308000a
-open 1 0\xe9
-";
-
 #[test]
 fn bytes_past_ascii_stand_in_comments_alone(rt: HostRuntime) {
     let text = b"# caf\xc3\xa9 \xff\x00\x80\nopen 1 0\n#\xff";
@@ -32,8 +24,6 @@ fn bytes_past_ascii_stand_in_comments_alone(rt: HostRuntime) {
     let second = "usbtrace: line 2 refused\n";
     assert!(rt; refuses(&rt, rt.alloc(), b"#\xff\n\xc3\xa9\n", second));
     assert!(rt; refuses(&rt, rt.alloc(), b"#\xff\nopen 1 0\x80\n", second));
-    let fourth = "usbtrace: line 4 refused\n";
-    assert!(rt; refuses(&rt, rt.alloc(), A_BYTE_PAST_ASCII, fourth));
 }
 
 /// How often a run reads a comment that answers this status and says this; 0 where it does something else.

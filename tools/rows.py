@@ -1,0 +1,128 @@
+#!/usr/bin/env python3
+"""The worked rows of rows/ (rows/README.md), as the gate runs them: all in one text, which the program check_rows reads.
+
+    tools/rows.py write         writes crates/check_rows/stdin and stdout anew from rows/
+    tools/rows.py check         says whether they are those of rows/; the gate asks it
+    tools/rows.py run [NAME ..] runs all rows, or these, by the built program over its own streams, and says which differ
+
+What check_rows is to print comes from the list of the rows, and never from a program."""
+import pathlib
+import re
+import subprocess
+import sys
+
+ROOT = pathlib.Path(__file__).resolve().parent.parent
+ROWS = ROOT / "rows"
+CRATE = ROOT / "crates" / "check_rows"
+PROGRAM = ROOT / "bin" / "usbtrace"
+# What stands in a row's text before its name, its output, and its status and errors.
+NAME, PRINTS, FAILS = b"=== ", b"--- prints\n", b"--- fails "
+
+
+class BadRow(Exception):
+    """A row that isn't as rows/README.md has it."""
+
+
+class Row:
+    """A row, read from its files: those of standard error and of the status are left out where they say nothing."""
+
+    def __init__(self, name):
+        self.name = name
+        self.words = self.read("cmd", None).decode()
+        self.input, self.output = self.read("in", None), self.read("out", None)
+        self.errors, self.status = self.read("err", b""), int(self.read("status", b"0"))
+        self.judge()
+
+    def read(self, kind, missing):
+        path = ROWS / f"{self.name}.{kind}"
+        if path.is_file():
+            return path.read_bytes()
+        if missing is None:
+            raise BadRow(f"there is no {path.relative_to(ROOT)}")
+        return missing
+
+    def judge(self):
+        if not re.fullmatch("[a-z0-9_]+", self.name):
+            raise BadRow(f"{self.name}: a name has small letters, digits and _")
+        if not re.fullmatch(r"\S+( \S+)*\n", self.words):
+            raise BadRow(f"{self.name}.cmd: words between single spaces, and a line feed")
+        if (ROWS / f"{self.name}.status").is_file() and not 0 < self.status < 256:
+            raise BadRow(f"{self.name}.status: a status from 1 to 255; none where it is 0")
+        if self.errors and not self.status:
+            raise BadRow(f"{self.name}.err: without a status, nothing is said there")
+        if any(mark in text for mark in (NAME, PRINTS, FAILS) for text in (self.input, self.output, self.errors)):
+            raise BadRow(f"{self.name}: `===`, `--- prints` and `--- fails` stand between rows, and can't stand in one")
+
+    def text(self):
+        """The row, as check_rows reads it."""
+        text = NAME + f"{self.name}\nusbtrace {self.words}".encode() + self.input + PRINTS + self.output
+        return text + FAILS + f"{self.status}\n".encode() + self.errors if self.status else text
+
+    def verdict(self):
+        """What check_rows is to print of it: the plain program runs what is run to its end."""
+        is_run = re.fullmatch(r"run|alone \d+", self.words.strip()) and not self.status
+        return f"{self.name}: as written{' by both programs' if is_run else ''}\n"
+
+    def differs(self):
+        """Whether the built program does otherwise."""
+        ran = subprocess.run([PROGRAM, *self.words.split()], input=self.input, capture_output=True, timeout=60)
+        return (ran.returncode, ran.stdout, ran.stderr) != (self.status, self.output, self.errors)
+
+
+def all_rows():
+    """The rows by their names. None of the files may belong to no row."""
+    names = sorted(path.stem for path in ROWS.glob("*.cmd"))
+    for path in sorted(ROWS.iterdir()):
+        if path.name != "README.md" and (path.suffix[1:] not in ("cmd", "in", "out", "err", "status") or path.stem not in names):
+            raise BadRow(f"{path.relative_to(ROOT)} is no row's")
+    return [Row(name) for name in names]
+
+
+def files(rows):
+    """The files of check_rows, and what has to stand in them."""
+    verdicts = "".join(row.verdict() for row in rows) + f"{len(rows)} rows, all as written\n"
+    return {CRATE / "stdin": b"".join(row.text() for row in rows), CRATE / "stdout": verdicts.encode()}
+
+
+def write(rows):
+    for path, text in files(rows).items():
+        path.write_bytes(text)
+    return 0
+
+
+def check(rows):
+    others = [path for path, text in files(rows).items() if not path.is_file() or path.read_bytes() != text]
+    for path in others:
+        print(f"{path.relative_to(ROOT)} isn't that of rows/: tools/rows.py write")
+    if not others:
+        print(f"{len(rows)} worked rows stand in check_rows")
+    return 1 if others else 0
+
+
+def run(rows):
+    if not PROGRAM.is_file():
+        print(f"there is no {PROGRAM.relative_to(ROOT)}: make run builds it")
+        return 1
+    others = [row.name for row in rows if row.differs()]
+    for name in others:
+        print(f"{name}: differs")
+    print(f"{len(rows) - len(others)} rows as written, {len(others)} differ")
+    return 1 if others else 0
+
+
+def main(words):
+    try:
+        if words == ["write"]:
+            return write(all_rows())
+        if words == ["check"]:
+            return check(all_rows())
+        if words[:1] == ["run"]:
+            return run([Row(name) for name in words[1:]] or all_rows())
+    except BadRow as bad:
+        print(bad)
+        return 1
+    print(__doc__)
+    return 2
+
+
+sys.exit(main(sys.argv[1:]))
