@@ -1,8 +1,11 @@
 pub mod Printed
 pub mod Stepwise
+pub mod Tasks
 pub use Rattle.usb_model.specs.World.Journal
 pub use Rattle.usb_model.specs.World.Plans
 pub use Rattle.usb_model.specs.Text
 pub use Rattle.usb_model.specs.Machine.Turns
 pub use Rattle.usb_streams.specs.Printing
 pub use Rattle.usb_text.specs.StepLines
+pub use Rattle.usb_left.specs.Left
+pub use Rattle.usb_left.specs.LeftText

@@ -8,8 +8,8 @@ mod devices;
 mod drawing;
 mod printing;
 mod stepwise;
+mod tasks;
 
-pub use devices::{callbacks_of, devices_of, parts_of};
-pub use drawing::draw;
-pub use printing::{Parts, Reach, print_alone, print_plan, write_rest};
-pub use stepwise::print_stepwise;
+pub use devices::devices_of;
+pub use printing::write_rest;
+pub use tasks::{Ending, draw_run, print_left, print_steps, run, run_alone};

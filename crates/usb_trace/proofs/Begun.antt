@@ -13,7 +13,8 @@ use Rattle.usb_streams.proofs.Findings.{no_report}
 use Rattle.std.proofs.lemmas.List.Sorted.{IsPermutation-refl}
 use Rattle.usb_liveplan.specs.Callbacks.{AreCallbacks}
 use Rattle.usb_trace.specs.Lived.{lived_of, AppendsSomeCallbacks, BeginsCallbacks}
-use Rattle.usb_trace.specs.Program.{alone_text, left_lines, run_text, steps_text, Begins, BeginsEntries, BeginsPicture}
+use Rattle.trace_run.specs.Tasks.{alone_text, left_lines, run_text, steps_text}
+use Rattle.usb_trace.specs.Program.{Begins, BeginsEntries, BeginsPicture}
 
 -- known bytes stay
 pub keeps_same : (old : Option (List ℕ)) → Keeps old old

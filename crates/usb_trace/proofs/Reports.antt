@@ -22,8 +22,8 @@ use Rattle.usb_streams.specs.declared.fault.Fault.TheVariants.{Line, Memory, Inp
 use Rattle.usb_text.specs.declared.scenario.Scenario.{Scenario}
 use Rattle.usb_trace.specs.Lived.{earlier, first_unlived}
 use Rattle.usb_trace.specs.Program.{scenario_for, status_of, Begins, IsDone, IsReported, Performs, TellsWhy}
-use Rattle.usb_trace.specs.declared.program.Ending.{Ending}
-use Rattle.usb_trace.specs.declared.program.Ending.TheVariants.{Good, BadLines}
+use Rattle.trace_run.specs.declared.tasks.Ending.{Ending}
+use Rattle.trace_run.specs.declared.tasks.Ending.TheVariants.{Good, BadLines}
 use Rattle.usb_trace.proofs.Begun.{keeps_same, nothing_begun}
 use Rattle.usb_command.specs.declared.words.Task.{Task}
 use Rattle.usb_command.specs.declared.words.Task.TheVariants.{Run, Steps, Alone, Live, Left, Check, Draw}

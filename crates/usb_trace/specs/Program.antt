@@ -1,18 +1,11 @@
 -- What the program does.
 use Rattle.std.specs.Prelude.{◌≡◌, ◌≢◌, ◌≤◌, ◌⊎◌, ℕ, length, ⊤, IfSome, List, [], Option, Result, Ok, Err}
 use Rattle.std.specs.Io.KnownBytes.{Appends, Keeps}
-use Rattle.usb_model.specs.declared.step.Step.{Step}
-use Rattle.usb_model.specs.Text.{lines_text}
-use Rattle.usb_model.specs.World.{new_world, world_from}
-use Rattle.usb_model.specs.World.Plans.{expand}
-use Rattle.usb_model.specs.World.Journal.{world_run, own}
-use Rattle.usb_model.specs.Machine.Turns.{alone}
 use Rattle.usb_streams.specs.declared.fault.Fault.{Fault}
 use Rattle.usb_streams.specs.declared.fault.Fault.TheVariants.{Line, Memory, InputOutput}
-use Rattle.usb_trace.specs.declared.program.Ending.{Ending}
-use Rattle.usb_trace.specs.declared.program.Ending.TheVariants.{Good, BadLines}
-use Rattle.trace_run.specs.declared.printing.Reach.{Reach}
-use Rattle.trace_run.specs.declared.printing.Reach.TheVariants.{End, NoMemory}
+use Rattle.trace_run.specs.declared.tasks.Ending.{Ending}
+use Rattle.trace_run.specs.declared.tasks.Ending.TheVariants.{Good, BadLines}
+use Rattle.trace_run.specs.Tasks.{AppendsAny, alone_text, left_lines, run_text, steps_text}
 use Rattle.usb_text.specs.declared.scenario.Scenario.{Scenario}
 use Rattle.clap.specs.Walk.{Text}
 use Rattle.usb_command.specs.CommandLine.{AskFor}
@@ -24,35 +17,7 @@ use Rattle.usb_streams.specs.Printing.{counts_line, AppendsReport, AppendsSome, 
 use Rattle.usb_text.specs.Counts.{counts_of}
 use Rattle.usb_text.specs.Findings.{bad_lines, good_lines}
 use Rattle.usb_text.specs.Scenario.{scenario_of}
-use Rattle.usb_text.specs.StepLines.{step_lines}
-use Rattle.usb_left.specs.Left.{all_left}
-use Rattle.usb_left.specs.LeftText.{lines_left}
-use Rattle.trace_run.specs.Stepwise.{stepwise_text}
 use Rattle.usb_trace.specs.Lived.{lived_of, AppendsCallbacks, BeginsCallbacks}
-
--- the steps of a scenario: those that its plan stands for under its rules
-abbrev pub steps_of : Scenario → List Step
-steps_of s = expand s.setup s.plan s.rules
-
--- all entries
-abbrev pub run_text : Scenario → List ℕ
-run_text s = lines_text (world_run s.setup (steps_of s))
-
--- the entries of one handle, alone over its own steps
-abbrev pub alone_text : ℕ → Scenario → List ℕ
-alone_text h s = lines_text (alone s.setup (own s.setup (steps_of s) h) h)
-
--- all entries, each behind the line of its step in this text
-abbrev pub steps_text : List ℕ → Scenario → List ℕ
-steps_text text s = stepwise_text s.setup s.plan s.rules (step_lines text)
-
--- what is left behind where the run ends
-abbrev pub left_lines : Scenario → List ℕ
-left_lines s = lines_left (all_left s.setup (world_from s.setup (new_world s.setup) (steps_of s)))
-
--- some text is appended, or none
-abbrev pub AppendsAny : Option (List ℕ) → Option (List ℕ) → Type 0
-AppendsAny old new = (text : List ℕ) × Appends old new text
 
 -- the scenario that a task reads in a text
 abbrev pub scenario_for : Task → List ℕ → Result Scenario ℕ
@@ -127,11 +92,6 @@ abbrev pub status_of : Result Ending Fault → ℕ
 status_of (Ok Good) = 0
 status_of (Ok BadLines) = 1
 status_of (Err fault) = 1
-
--- how a task ends whose run came so far
-abbrev pub ending_of : Reach → Result Ending Fault
-ending_of End = Ok Good
-ending_of NoMemory = Err Memory
 
 -- nothing is written where a line of the text is bad
 abbrev pub IsSilentAtBad : List ℕ → Option (List ℕ) → Option (List ℕ) → Type 0

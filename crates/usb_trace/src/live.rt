@@ -9,12 +9,11 @@ ghost use Rattle.usb_trace.specs.Lived.{AppendsCallbacks, AppendsSomeCallbacks};
 ghost use Rattle.usb_trace.specs.Program.{Begins, IsSilentAtBad, Performs};
 
 use crate::lived::read_lived;
-use crate::program::Ending;
 use std::alloc::Global;
 use std::io::Write;
 use std::sync::Wait;
 use std::thread::Threads;
-use trace_run::devices_of;
+use trace_run::{Ending, devices_of};
 use usb_liveplan::perform;
 use usb_streams::Fault;
 use usb_streams::print::print;

@@ -1,9 +1,8 @@
 //! The program's body, over any reader and writers.
 
-ghost use Rattle.std.specs.Prelude.{◌≡◌, ◌≢◌, ◌≤◌, ◌⊎◌, [], IfSome, IfErr, IfOk, OnOk, length, map};
-ghost use Rattle.std.specs.Io.KnownBytes.{Appends, Keeps};
+ghost use Rattle.std.specs.Prelude.{◌≡◌, ◌≢◌, ◌≤◌, ◌⊎◌, [], IfSome, IfErr, IfOk, OnOk, length};
+ghost use Rattle.std.specs.Io.KnownBytes.{Keeps};
 ghost use Rattle.usb_text.specs.Findings.{bad_lines};
-ghost use Rattle.usb_text.specs.Runnable.{IsRunnable};
 ghost use Rattle.usb_words.specs.Words.{words_of};
 ghost use Rattle.usb_command.specs.CommandLine.{AreBad, AskFor, AskForHelp};
 ghost use Rattle.clap.specs.Values.{kind_of};
@@ -12,11 +11,9 @@ ghost use Rattle.usb_streams.specs.Faults.{message_of, IsOfRun};
 ghost use Rattle.usb_streams.specs.declared.fault.Fault.{Fault};
 ghost use Rattle.usb_streams.specs.Input.{longest_input};
 ghost use Rattle.usb_streams.specs.Printing.{AppendsSome};
-ghost use Rattle.usb_trace.specs.Program.{alone_text, left_lines, ending_of, run_text, status_of, AppendsAny, Begins, IsDone, IsSilentAtBad, Performs, TellsWhy};
+ghost use Rattle.usb_trace.specs.Program.{status_of, Begins, IsDone, IsSilentAtBad, Performs, TellsWhy};
 ghost use Rattle.usb_command.specs.declared.words.Task.{Task};
 ghost use Rattle.usb_command.specs.declared.words.Task.TheVariants.{Check, Steps};
-ghost use Rattle.usb_text.specs.StepLines.{numbered};
-ghost use Rattle.trace_run.specs.Stepwise.{stepwise_text};
 
 use crate::live::live;
 use clap::Error;
@@ -25,32 +22,17 @@ use std::alloc::Global;
 use std::io::{Read, Write};
 use std::sync::Wait;
 use std::thread::Threads;
-use trace_run::{
-    Reach, callbacks_of, devices_of, draw, parts_of, print_alone, print_plan, print_stepwise,
-};
+use trace_run::{Ending, draw_run, print_left, print_steps, run, run_alone};
 use usb_command::{Task, read_words};
-use usb_left::{left_behind, lines_of};
-use usb_model::{Name, Sequence};
 use usb_streams::print::print_findings;
-use usb_streams::{Fault, read_whole, write_bytes};
-use usb_text::{
-    Lined, NumberedLine, Scenario, ScriptedDevice, check, into_setups, read_lined, read_scenario,
-};
+use usb_streams::{Fault, read_whole};
+use usb_text::{Lined, Scenario, check, read_lined, read_scenario};
 
 /// The status of a run that ended early, and of a check that found bad lines.
 const FAILED: u8 = 1;
 
 /// The status of bad words.
 const BAD_WORDS: u8 = 2;
-
-/// How a task ends that no fault ends.
-#[derive(Clone, Copy, PartialEq, Eq, Debug)]
-pub(crate) enum Ending {
-    /// Each line of the input was taken, and the task is done.
-    Good,
-    /// A check found bad lines, and told of them.
-    BadLines,
-}
 
 /// Runs the program on its words, of which the first is its name, and its input, and answers its status: 0, or 1 where
 /// it ended early or a check found bad lines, or 2 for bad words. However a task ends, what it wrote is a beginning of
@@ -164,48 +146,6 @@ fn report<W: Write>(alloc: Global, text: &[u8], out: &mut W) -> Result<Ending, F
     Ok(Ending::BadLines)
 }
 
-/// How a task ends whose run came so far.
-fn ending_of(reach: Reach) -> Result<Ending, Fault>
-    ensures { result ≡ ending_of reach }
-{
-    match reach {
-        Reach::End => Ok(Ending::Good),
-        Reach::NoMemory => Err(Fault::Memory),
-    }
-}
-
-/// Prints the entries of a scenario, as the core on rings runs it; where memory ran out, those before.
-fn run<W: Write>(alloc: Global, scenario: Scenario, out: &mut W) -> Result<Ending, Fault>
-    requires { IsRunnable scenario }
-    ensures lines { OnOk result (Appends (W.contents out.old) (W.contents out.new) (run_text scenario)) }
-    ensures begun { AppendsSome (run_text scenario) (W.contents out.old) (W.contents out.new) }
-    ensures good { IfOk result (λ ending. ending ≡ Ending.Good) }
-    ensures fault { IfErr result (λ fault. IsOfRun fault) }
-{
-    let Scenario { setup, plan, rules } = scenario;
-    let parts = parts_of(alloc, setup, rules.as_slice())?;
-    ending_of(print_plan(alloc, parts, plan.as_slice(), out)?)
-}
-
-/// Prints the entries of a scenario, each behind its line; where memory ran out, those before.
-fn print_steps<W: Write>(
-    alloc: Global,
-    scenario: Scenario,
-    lines: &[NumberedLine<'_>],
-    out: &mut W,
-) -> Result<Ending, Fault>
-    requires runnable { IsRunnable scenario }
-    requires each { length lines.now ≡ length scenario.plan }
-    ensures lines { OnOk result (Appends (W.contents out.old) (W.contents out.new) (stepwise_text scenario.setup scenario.plan scenario.rules (map numbered lines.now))) }
-    ensures begun { AppendsSome (stepwise_text scenario.setup scenario.plan scenario.rules (map numbered lines.now)) (W.contents out.old) (W.contents out.new) }
-    ensures good { IfOk result (λ ending. ending ≡ Ending.Good) }
-    ensures fault { IfErr result (λ fault. IsOfRun fault) }
-{
-    let Scenario { setup, plan, rules } = scenario;
-    let parts = parts_of(alloc, setup, rules.as_slice())?;
-    ending_of(print_stepwise(alloc, parts, plan.as_slice(), lines, out)?)
-}
-
 /// Prints the entries of a text's scenario, each behind the number and the text of its step's line.
 fn run_steps<W: Write>(alloc: Global, text: &[u8], out: &mut W) -> Result<Ending, Fault>
     requires { length text.now ≤ longest_input }
@@ -215,60 +155,6 @@ fn run_steps<W: Write>(alloc: Global, text: &[u8], out: &mut W) -> Result<Ending
 {
     let Lined { scenario, lines } = read_lined(alloc, text)?;
     print_steps(alloc, scenario, lines.as_slice(), out)
-}
-
-/// Prints what the run of a scenario leaves behind, as the plain program runs it; nothing where memory ran out.
-fn print_left<W: Write>(alloc: Global, scenario: Scenario, out: &mut W) -> Result<Ending, Fault>
-    ensures lines { OnOk result (Appends (W.contents out.old) (W.contents out.new) (left_lines scenario)) }
-    ensures begun { AppendsSome (left_lines scenario) (W.contents out.old) (W.contents out.new) }
-    ensures good { IfOk result (λ ending. ending ≡ Ending.Good) }
-    ensures fault { IfErr result (λ fault. IsOfRun fault) }
-{
-    let Scenario { setup, plan, rules } = scenario;
-    let setup = into_setups(alloc, setup)?;
-    let left = left_behind(alloc, &setup, plan.as_slice(), rules.as_slice())?;
-    let lines = lines_of(alloc, left.as_slice())?;
-    write_bytes(out, lines.as_slice())?;
-    out.flush()?;
-    Ok(Ending::Good)
-}
-
-/// Prints the entries of a handle alone, as a core of its own runs them; where memory ran out, those before. Takes the
-/// devices a second time, for that core.
-fn run_alone<W: Write>(
-    alloc: Global,
-    scenario: Scenario,
-    other_setup: Sequence<ScriptedDevice>,
-    h: Name,
-    out: &mut W,
-) -> Result<Ending, Fault>
-    requires runnable { IsRunnable scenario }
-    requires same_devices { other_setup ≡ scenario.setup }
-    ensures lines { OnOk result (Appends (W.contents out.old) (W.contents out.new) (alone_text h scenario)) }
-    ensures begun { AppendsSome (alone_text h scenario) (W.contents out.old) (W.contents out.new) }
-    ensures good { IfOk result (λ ending. ending ≡ Ending.Good) }
-    ensures fault { IfErr result (λ fault. IsOfRun fault) }
-{
-    let Scenario { setup, plan, rules } = scenario;
-    let parts = parts_of(alloc, setup, rules.as_slice())?;
-    let other_parts = parts_of(alloc, other_setup, rules.as_slice())?;
-    ending_of(print_alone(alloc, parts, other_parts, plan.as_slice(), h, out)?)
-}
-
-/// Prints a picture of a scenario's run. What it shows is no matter of contracts.
-fn draw_run<W: Write>(alloc: Global, scenario: Scenario, out: &mut W) -> Result<Ending, Fault>
-    requires { IsRunnable scenario }
-    ensures drawn { AppendsAny (W.contents out.old) (W.contents out.new) }
-    ensures good { IfOk result (λ ending. ending ≡ Ending.Good) }
-    ensures fault { IfErr result (λ fault. IsOfRun fault) }
-{
-    let Scenario { setup, plan, rules } = scenario;
-    let devices = devices_of(alloc, setup)?;
-    let callbacks = callbacks_of(alloc, rules.as_slice())?;
-    let page = draw(alloc, devices, plan.as_slice(), callbacks)?.page()?;
-    write_bytes(out, page.as_bytes())?;
-    out.flush()?;
-    Ok(Ending::Good)
 }
 
 /// Prints the help that the words ask for.

@@ -1,0 +1,127 @@
+//! What `usbtrace` does with a scenario that no thread runs: its entries, all, behind their lines or one handle's; what it
+//! leaves behind; a picture.
+
+ghost use Rattle.std.specs.Prelude.{◌≡◌, IfErr, IfOk, OnOk, length, map};
+ghost use Rattle.std.specs.Io.KnownBytes.{Appends};
+ghost use Rattle.usb_streams.specs.Faults.{IsOfRun};
+ghost use Rattle.usb_streams.specs.Printing.{AppendsSome};
+ghost use Rattle.usb_text.specs.Runnable.{IsRunnable};
+ghost use Rattle.usb_text.specs.StepLines.{numbered};
+ghost use Rattle.trace_run.specs.Stepwise.{stepwise_text};
+ghost use Rattle.trace_run.specs.Tasks.{AppendsAny, alone_text, ending_of, left_lines, run_text};
+
+use crate::devices::{callbacks_of, devices_of, parts_of};
+use crate::drawing::draw;
+use crate::printing::{Reach, print_alone, print_plan};
+use crate::stepwise::print_stepwise;
+use std::alloc::Global;
+use std::io::Write;
+use usb_left::{left_behind, lines_of};
+use usb_model::{Name, Sequence};
+use usb_streams::{Fault, write_bytes};
+use usb_text::{NumberedLine, Scenario, ScriptedDevice, into_setups};
+
+/// How a task ends that no fault ends.
+#[derive(Clone, Copy, PartialEq, Eq, Debug)]
+pub enum Ending {
+    /// Each line of the input was taken, and the task is done.
+    Good,
+    /// A check found bad lines, and told of them.
+    BadLines,
+}
+
+/// How a task ends whose run came so far.
+fn ending_of(reach: Reach) -> Result<Ending, Fault>
+    ensures { result ≡ ending_of reach }
+{
+    match reach {
+        Reach::End => Ok(Ending::Good),
+        Reach::NoMemory => Err(Fault::Memory),
+    }
+}
+
+/// Prints the entries of a scenario, as the core on rings runs it; where memory ran out, those before.
+pub fn run<W: Write>(alloc: Global, scenario: Scenario, out: &mut W) -> Result<Ending, Fault>
+    requires { IsRunnable scenario }
+    ensures lines { OnOk result (Appends (W.contents out.old) (W.contents out.new) (run_text scenario)) }
+    ensures begun { AppendsSome (run_text scenario) (W.contents out.old) (W.contents out.new) }
+    ensures good { IfOk result (λ ending. ending ≡ Ending.Good) }
+    ensures fault { IfErr result (λ fault. IsOfRun fault) }
+{
+    let Scenario { setup, plan, rules } = scenario;
+    let parts = parts_of(alloc, setup, rules.as_slice())?;
+    ending_of(print_plan(alloc, parts, plan.as_slice(), out)?)
+}
+
+/// Prints the entries of a scenario, each behind its line; where memory ran out, those before.
+pub fn print_steps<W: Write>(
+    alloc: Global,
+    scenario: Scenario,
+    lines: &[NumberedLine<'_>],
+    out: &mut W,
+) -> Result<Ending, Fault>
+    requires runnable { IsRunnable scenario }
+    requires each { length lines.now ≡ length scenario.plan }
+    ensures lines { OnOk result (Appends (W.contents out.old) (W.contents out.new) (stepwise_text scenario.setup scenario.plan scenario.rules (map numbered lines.now))) }
+    ensures begun { AppendsSome (stepwise_text scenario.setup scenario.plan scenario.rules (map numbered lines.now)) (W.contents out.old) (W.contents out.new) }
+    ensures good { IfOk result (λ ending. ending ≡ Ending.Good) }
+    ensures fault { IfErr result (λ fault. IsOfRun fault) }
+{
+    let Scenario { setup, plan, rules } = scenario;
+    let parts = parts_of(alloc, setup, rules.as_slice())?;
+    ending_of(print_stepwise(alloc, parts, plan.as_slice(), lines, out)?)
+}
+
+/// Prints what the run of a scenario leaves behind, as the plain program runs it; nothing where memory ran out.
+pub fn print_left<W: Write>(alloc: Global, scenario: Scenario, out: &mut W) -> Result<Ending, Fault>
+    ensures lines { OnOk result (Appends (W.contents out.old) (W.contents out.new) (left_lines scenario)) }
+    ensures begun { AppendsSome (left_lines scenario) (W.contents out.old) (W.contents out.new) }
+    ensures good { IfOk result (λ ending. ending ≡ Ending.Good) }
+    ensures fault { IfErr result (λ fault. IsOfRun fault) }
+{
+    let Scenario { setup, plan, rules } = scenario;
+    let setup = into_setups(alloc, setup)?;
+    let left = left_behind(alloc, &setup, plan.as_slice(), rules.as_slice())?;
+    let lines = lines_of(alloc, left.as_slice())?;
+    write_bytes(out, lines.as_slice())?;
+    out.flush()?;
+    Ok(Ending::Good)
+}
+
+/// Prints the entries of a handle alone, as a core of its own runs them; where memory ran out, those before. Takes the
+/// devices a second time, for that core.
+pub fn run_alone<W: Write>(
+    alloc: Global,
+    scenario: Scenario,
+    other_setup: Sequence<ScriptedDevice>,
+    h: Name,
+    out: &mut W,
+) -> Result<Ending, Fault>
+    requires runnable { IsRunnable scenario }
+    requires same_devices { other_setup ≡ scenario.setup }
+    ensures lines { OnOk result (Appends (W.contents out.old) (W.contents out.new) (alone_text h scenario)) }
+    ensures begun { AppendsSome (alone_text h scenario) (W.contents out.old) (W.contents out.new) }
+    ensures good { IfOk result (λ ending. ending ≡ Ending.Good) }
+    ensures fault { IfErr result (λ fault. IsOfRun fault) }
+{
+    let Scenario { setup, plan, rules } = scenario;
+    let parts = parts_of(alloc, setup, rules.as_slice())?;
+    let other_parts = parts_of(alloc, other_setup, rules.as_slice())?;
+    ending_of(print_alone(alloc, parts, other_parts, plan.as_slice(), h, out)?)
+}
+
+/// Prints a picture of a scenario's run. What it shows is no matter of contracts.
+pub fn draw_run<W: Write>(alloc: Global, scenario: Scenario, out: &mut W) -> Result<Ending, Fault>
+    requires { IsRunnable scenario }
+    ensures drawn { AppendsAny (W.contents out.old) (W.contents out.new) }
+    ensures good { IfOk result (λ ending. ending ≡ Ending.Good) }
+    ensures fault { IfErr result (λ fault. IsOfRun fault) }
+{
+    let Scenario { setup, plan, rules } = scenario;
+    let devices = devices_of(alloc, setup)?;
+    let callbacks = callbacks_of(alloc, rules.as_slice())?;
+    let page = draw(alloc, devices, plan.as_slice(), callbacks)?.page()?;
+    write_bytes(out, page.as_bytes())?;
+    out.flush()?;
+    Ok(Ending::Good)
+}
