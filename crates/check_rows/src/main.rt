@@ -1,5 +1,5 @@
-//! The worked rows of standard input, each run as `usbtrace` runs it, and by the plain program too where it runs a scenario
-//! to its end. A line a row says whether all is as the row has it; where one isn't, the program ends with an error.
+//! The worked rows of standard input, each run as `usbtrace` runs it; a scenario that is run to its end is run by the
+//! plain program too. A line a row says whether all is as written. Where one differs, the program ends with an error.
 #![tactic(auto)]
 
 mod difference;
