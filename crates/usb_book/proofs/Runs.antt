@@ -1,5 +1,5 @@
 -- A run of one step more.
-use Rattle.std.proofs.Common.{◌≡◌, ◌∙◌, ℕ, List, [], ◌∷◌, ◌++◌, ap, refl, subst, sym}
+use Rattle.std.proofs.Common.{◌≡◌, ◌∙◌, ℕ, List, [], ◌∷◌, ◌++◌, ap, length, refl, subst, sym}
 use Rattle.std.proofs.lemmas.List.{map-append}
 use Rattle.usb_model.specs.declared.entry.Entry.{Entry}
 use Rattle.usb_model.specs.declared.step.Step.{Step}
@@ -13,7 +13,7 @@ use Rattle.usb_state.specs.Steps.{Turns}
 use Rattle.usb_book.specs.declared.place.Place.{Place}
 use Rattle.usb_book.specs.declared.timer.Timer.{Timer}
 use Rattle.usb_book.specs.Seen.{Receipted}
-use Rattle.usb_book.specs.Booked.{Booked, IsRun, IsSame, Replays, next_entry, steps_of, world_where}
+use Rattle.usb_book.specs.Booked.{Booked, IsRun, IsSame, Replays, next_entry, next_receipt, steps_of, world_where}
 use Rattle.usb_book.specs.Timers.{timers_by, timers_from, timers_of}
 
 -- the world behind one step more
@@ -83,6 +83,16 @@ module _ {P : Type 0} (setup : Setup) (journal prepared : List Place) (core new 
   same_book moment old is same stays still = subst (λ b. IsSame b (record { setup = setup; journal = prepared; moment = moment; core = new })) is (record { setup = refl; journal = same; moment = refl; core = stays; carries = still })
 
 module _ {P : Type 0} where
+  -- the receipt of a place that was entered behind a prepared journal is the next one's
+  pub received : (setup : Setup) (journal prepared : List Place) (core : State P) (moment : ℕ) (old : Booked P) (receipt : Receipted) (its step : Step) (caller : ℕ) (entry : Entry)
+      → record { setup = setup; journal = journal; moment = moment; core = core } ≡ old → prepared ≡ journal → its ≡ step
+      → receipt ≡ record { place = length prepared; entry = record { step = its; caller = caller; entry = entry; moment = moment } } → receipt ≡ next_receipt old step caller entry
+  received setup journal prepared core moment old receipt its step caller entry is same asked told =
+      told
+      ∙ (ap (λ (l : List Place). record { place = length l; entry = record { step = its; caller = caller; entry = entry; moment = moment } }) same
+      ∙ (ap (λ (s : Step). record { place = length journal; entry = record { step = s; caller = caller; entry = entry; moment = moment } }) asked
+      ∙ ap (λ (b : Booked P). next_receipt b step caller entry) is))
+
   -- no step was made
   pub none_yet : (setup : Setup) (core : State P) → ShowsWorld setup core (new_world setup) → Replays setup [] core
   unfolding journal journal_from world_from

@@ -6,7 +6,7 @@ use Rattle.usb_book.specs.declared.place.Place.{Place}
 use Rattle.usb_book.specs.Booked.{answer_entry}
 use Rattle.usb_book.specs.Timers.{started_again_if}
 use Rattle.usb_book.proofs.Answers.{again_timers, answer_turns, none_done, payload_comes_back}
-use Rattle.usb_book.proofs.Runs.{entered, same_book, same_place}
+use Rattle.usb_book.proofs.Runs.{entered, received, same_book, same_place}
 use Rattle.usb_book.proofs.book.Book.again.Goals as goal
 
 pub returns-in-Err-clause-err : goal.returns-in-Err-clause-err
@@ -31,3 +31,9 @@ invariant_of-self-2 g c =
     turn
     (c.start_again_if.ensures ∙ (ap (started_again_if c.args.h c.args.n c.self.inside.moment a) c.prepare.ensures.timers ∙ again_timers c.args.h c.args.n c.self.inside.moment a c.self.inside.timers.items))
     c.self.invariant
+
+pub returns-clause-receipt : goal.returns-clause-receipt
+returns-clause-receipt g c =
+    let step : Step = Answer c.args.h c.args.n Again in
+    received g.L.Naming.setup c.self.inside.log.journal c.prepare.new.log.journal c.self.inside.core c.self.inside.moment c.args.self.now c.enter_answer-receipt.result c.of-asked.result.value step c.args.caller
+    (answer_entry c.args.h c.in-Ok-unless_no_memory.answer) c.self.view_is c.prepare.ensures.same c.of-asked.ensures c.enter_answer-receipt.ensures.receipt

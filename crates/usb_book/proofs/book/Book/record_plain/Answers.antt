@@ -27,3 +27,6 @@ returns-clause-carries g c = λ kept has. c.in-Ok-step.ensures.carries kept (sub
 
 pub returns-clause-goes_out : goal.returns-clause-goes_out
 returns-clause-goes_out g c = λ kept has. c.in-Ok-step.ensures.goes_out kept (subst (λ (b : Booked g.row.P.Denot). Carries kept b.core) (sym c.self.view_is) has)
+
+pub returns-clause-back : goal.returns-clause-back
+returns-clause-back g c = c.in-Ok-step.ensures.back
