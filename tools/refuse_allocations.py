@@ -5,7 +5,7 @@ For usbtrace, runs `BINARY run < SCENARIO` once undisturbed, and then once for e
 run has to print a beginning of the undisturbed run's lines and end in `usbtrace: out of memory` and status 1, or end as
 the undisturbed run does, where the program gets by without that allocation. Prints a line for each scenario; status 1
 where a run does anything else. With --same, runs `BINARY WORD..` in the same way, and each run has to print what the
-undisturbed one does, and to end as it does: for `usb_scenes refusals`, which makes each call again. Needs gcc.
+undisturbed one does, and to end as it does: for `check_calls refusals`, which makes each call again. Needs gcc.
 """
 import os
 import subprocess

@@ -9,11 +9,11 @@ ghost use Rattle.usb_purge.specs.PlanRuns.{is_verdict};
 use crate::stand::both_kinds;
 use crate::told::{are_told, lines_of};
 use anyhow::Result;
+use example_devices::Reader;
 use std::alloc::Global;
 use usb_callback::{Callback, Repeat, StoredCallback};
 use usb_model::{Name, Plan, Returned, Rule, StatusSet, Step, Verdict};
 use usb_purge::{Comparison, alone, drive_alone};
-use usb_stand::Reader;
 
 /// What handle 1 is told of its reads, by the rules: both fill their room; the first callback submits once more, the
 /// second ends.

@@ -2,12 +2,12 @@
 
 use crate::told::add_line;
 use anyhow::{Result, anyhow};
+use example_devices::Reader;
 use std::alloc::Global;
 use usb_callback::Callback;
 use usb_core::{Core, Setup, Stepped};
 use usb_device::Device;
 use usb_model::{DeviceNo, EpAddr, Reply, Step, Verdict};
-use usb_stand::Reader;
 
 /// The steps of a read of 8 bytes, from the opening of the device to the verdict of its callback.
 pub fn read_steps(reader: &Reader, verdict: Verdict) -> [Step; 7] {

@@ -2,22 +2,22 @@
 //! read place by place.
 
 ghost use Rattle.std.specs.Prelude.{◌≡◌};
-ghost use Rattle.usb_roll.specs.Tokens.{new_keeper};
-ghost use Rattle.usb_state.specs.Making.{setup_of};
+ghost use Rattle.usb_receipts.specs.Tokens.{new_keeper};
+ghost use Rattle.proof_core.specs.Making.{setup_of};
 
 use crate::bench::read_steps;
 use crate::kinds::EitherDevice;
 use crate::stand::both_kinds;
 use crate::told::{add_line, expect, is_told};
 use anyhow::Result;
+use example_devices::Reader;
 use std::alloc::Global;
 use std::marker::Brand;
-use usb_book::{Book, Closed, Journal, Mark, Naming, Receipt, Told};
 use usb_core::{Setup, Stepped};
 use usb_device::Device;
+use usb_journal::{Book, Closed, Journal, Mark, Naming, Receipt, Told};
 use usb_model::{Step, Verdict};
-use usb_roll::{Keeper, Roll};
-use usb_stand::Reader;
+use usb_receipts::{Keeper, Roll};
 
 /// What is kept with each transfer.
 const PAYLOAD: u8 = 77;

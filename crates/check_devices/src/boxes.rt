@@ -6,6 +6,7 @@ use crate::bench::read_steps;
 use crate::kinds::Counter;
 use crate::told::{are_told, expect};
 use anyhow::{Result, anyhow};
+use example_devices::{Reader, device};
 use std::alloc::Global;
 use std::sync::Arc;
 use std::sync::atomic::{AtomicU64, Ordering};
@@ -13,7 +14,6 @@ use usb_core::{Setup, run};
 use usb_descriptors::Config;
 use usb_device::{BoxedDevice, Device};
 use usb_model::{Entry, Sequence, Step, Verdict};
-use usb_stand::{Reader, device};
 
 /// What is told of a read from each device, by the rules: both fill their room.
 const TOLD: &str = "h1 done\nh1 done\nh1 number 0\nh1 ended 0 code 1\nh1 finished 0\n\

@@ -5,11 +5,11 @@ use crate::kinds::EitherDevice;
 use crate::stand::both_kinds;
 use crate::told::{expect, is_told};
 use anyhow::Result;
+use example_devices::Reader;
 use std::alloc::{AllocError, Global};
 use usb_callback::{Callback, Repeat, StoredCallback};
 use usb_core::{Core, Setup};
 use usb_model::{Bytes, EpAddr, Flags, Request, Returned, Rule, Step, Verdict};
-use usb_stand::Reader;
 
 /// What is told of a write whose callback sends other bytes, by the rules: the second is a transfer of its own.
 const OTHER_LINES: &str = "h1 done\nh1 done\nh1 number 0\nh1 ended 0 code 1\nh1 finished 0\n\

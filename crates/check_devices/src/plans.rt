@@ -9,6 +9,7 @@ use crate::kinds::EitherDevice;
 use crate::stand::both_kinds;
 use crate::told::{are_told, expect};
 use anyhow::{Result, anyhow};
+use example_devices::Reader;
 use std::alloc::Global;
 use std::sync::Arc;
 use std::sync::atomic::{AtomicU64, Ordering};
@@ -16,7 +17,6 @@ use usb_callback::{Callback, Once, Repeat, StoredCallback};
 use usb_core::{Setup, Stopped};
 use usb_model::{Bytes, Entry, Plan, Returned, Rule, Sequence, Step, Verdict};
 use usb_purge::drive;
-use usb_stand::Reader;
 
 /// What is told of a read whose callback is called once, by the rules: it fills the room, and the callback ends.
 const CALLED_ONCE: &str = "h1 done\nh1 done\nh1 number 0\nh1 ended 0 code 1\nh1 finished 0\n\

@@ -2,9 +2,9 @@
 
 use crate::kinds::EitherDevice;
 use anyhow::Result;
+use example_devices::device;
 use std::alloc::Global;
 use usb_core::Setup;
-use usb_stand::device;
 
 /// The sizes of the packets to the host, in bytes; as many packets from it are taken.
 const SIZES: [u16; 5] = [8; 5];

@@ -7,15 +7,15 @@ use crate::kinds::EitherDevice;
 use crate::stand::both_kinds;
 use crate::told::expect;
 use anyhow::{Result, anyhow};
+use example_devices::{Reader, open_and_claim, submit};
 use std::alloc::Global;
 use std::marker::Brand;
 use std::sync::Wait;
-use usb_book::{Naming, Receipt, Unrecorded};
 use usb_core::Setup;
 use usb_device::Device;
+use usb_journal::{Naming, Receipt, Unrecorded};
 use usb_library::{Answered, Caller, Library, Opening};
 use usb_model::{Bytes, EpAddr, Refused, Reply};
-use usb_stand::{Reader, open_and_claim, submit};
 
 /// How many callers a library has at most.
 const CALLERS: u32 = 1024;

@@ -2,15 +2,15 @@
 
 use crate::stream::{Counts, Stream};
 use anyhow::{Result, anyhow};
+use example_devices::{Reader, devices};
 use std::alloc::Global;
 use std::sync::atomic::AtomicU64;
 use std::sync::{Arc, Wait};
 use std::thread::Threads;
 use std::time::{Clock, Duration, Instant};
-use usb_book::Recorder;
 use usb_device::TableDevice;
+use usb_journal::Recorder;
 use usb_live::live;
-use usb_stand::{Reader, devices};
 
 /// The devices: two handles have an interface each of one.
 pub const DEVICES: u8 = 4;

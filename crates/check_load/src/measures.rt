@@ -7,7 +7,7 @@ use std::alloc::Global;
 use std::sync::Wait;
 use std::thread::Threads;
 use std::time::Clock;
-use usb_book::{Journal, Unrecorded};
+use usb_journal::{Journal, Unrecorded};
 
 /// Two threads, whose transfers are few enough for the gate.
 const SCENE: Load = Load {

@@ -4,18 +4,18 @@ ghost use Rattle.std.specs.Prelude.{◌≡◌};
 
 use crate::seat::{Seat, TURNS};
 use anyhow::{Result, anyhow};
+use example_devices::{Reader, devices};
 use std::alloc::Global;
 use std::marker::Brand;
 use std::sync::Wait;
 use std::thread;
 use std::thread::Threads;
 use std::time::{Clock, Duration, Instant};
-use usb_book::{Journal, Naming, Recorder, Unrecorded};
 use usb_core::Taken;
 use usb_device::{Device, TableDevice};
+use usb_journal::{Journal, Naming, Recorder, Unrecorded};
 use usb_library::{Caller, Library, Opening};
 use usb_model::{Refused, Returned};
-use usb_stand::{Reader, devices};
 
 /// How many answers a device has before it is reset.
 const ANSWERS: u64 = 4_096;

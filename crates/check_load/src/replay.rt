@@ -2,12 +2,12 @@
 
 use crate::load::DEVICES;
 use anyhow::{Result, anyhow};
+use example_devices::devices;
 use std::alloc::Global;
-use usb_book::Place;
 use usb_core::run;
+use usb_journal::Place;
 use usb_model::{Entry, Name, Reply, Step};
 use usb_purge::alone;
-use usb_stand::devices;
 
 /// Whether two entries print the same.
 fn is_same(alloc: Global, one: &Entry, other: &Entry) -> Result<bool> {

@@ -1,13 +1,13 @@
 //! A caller at its work. Its calls are kept out of line, so that a profile tells them apart.
 
+use example_devices::submit;
 use std::alloc::AllocError;
 use std::sync::Wait;
-use usb_book::{Naming, Recorder};
 use usb_core::Taken;
 use usb_device::Device;
+use usb_journal::{Naming, Recorder};
 use usb_library::{Answered, Caller, Library};
 use usb_model::{DeviceNo, EpAddr, Name, Refused, Request};
-use usb_stand::submit;
 
 /// How often a thread looks whether something came about, before it gives up.
 pub const TURNS: u64 = 100_000_000;

@@ -1,18 +1,18 @@
 //! A thread that streams transfers, whose packets and callbacks are the workers'.
 
 use crate::seat::{Seat, TURNS};
+use example_devices::Reader;
 use std::alloc::AllocError;
 use std::sync::atomic::{AtomicU64, Ordering};
 use std::sync::{Arc, Wait};
 use std::thread;
 use std::time::{Clock, Duration};
-use usb_book::{Naming, Recorder};
 use usb_callback::Callback;
 use usb_device::Device;
+use usb_journal::{Naming, Recorder};
 use usb_library::{Caller, Library};
 use usb_live::Driver;
 use usb_model::{Refused, Returned, Verdict};
-use usb_stand::Reader;
 
 /// The callback of a transfer: it counts.
 #[derive(Drop)]

@@ -4,7 +4,7 @@ ghost use Rattle.std.specs.Prelude.{IfOk, [], ◌∷◌, ◌≡◌};
 
 use anyhow::Result;
 use std::alloc::{AllocError, Global};
-use usb_roll::{Keeper, Mark, Roll};
+use usb_receipts::{Keeper, Mark, Roll};
 
 /// Plays the scene of the log.
 pub fn play<P: Print>(rt: &P, alloc: Global) -> Result<()> {

@@ -1,9 +1,9 @@
 //! A row's scenario, run by the plain program.
 
 use crate::row::Row;
+use plain_run::{drive, drive_alone};
 use std::alloc::{AllocError, Global};
 use usb_model::{Entry, Name, Sequence};
-use usb_plain::{drive, drive_alone};
 use usb_text::{Scenario, into_setups, read_scenario};
 
 /// A run whose entries are printed.

@@ -61,11 +61,11 @@
 //! - **All of it in one call**: `live` makes the library, runs both workers and each `Driver` in a thread, joins them, and ends it.
 #![tactic(auto)]
 
-pub use usb_book::{Journal, Naming, NotRecorded, Place, Receipt, Recorder, Unrecorded};
 pub use usb_callback::{Callback, Once, Repeat, StoredCallback};
 pub use usb_core::{Core, Pending, Setup, Taken, Unaccepted, Unadded};
 pub use usb_descriptors::{Config, read_config};
 pub use usb_device::{BoxedDevice, Device, TableDevice};
+pub use usb_journal::{Journal, Naming, NotRecorded, Place, Receipt, Recorder, Unrecorded};
 pub use usb_library::{Answered, CALLERS, Caller, Ended, Library, Missing, Opening, Submitted};
 pub use usb_live::{Driver, Gates, Lived, live, live_gated};
 pub use usb_model::{

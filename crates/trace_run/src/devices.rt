@@ -2,7 +2,7 @@
 
 ghost use Rattle.std.specs.Prelude.{◌≡◌, ◌≤◌, ◌++◌, ◌∷◌, [], IfOk, OnOk, length, map};
 ghost use Rattle.std.specs.List.{AllByRecursion};
-ghost use Rattle.usb_state.specs.Making.{setup_of};
+ghost use Rattle.proof_core.specs.Making.{setup_of};
 ghost use Rattle.usb_text.specs.Runnable.{CanBeMade};
 
 use crate::printing::Parts;

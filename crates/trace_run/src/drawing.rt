@@ -9,10 +9,10 @@ ghost use Rattle.trace_run.specs.Printed.{IsNew};
 
 use std::alloc::{AllocError, Global};
 use std::vec::IntoIter;
+use trace_picture::Drawing;
 use usb_callback::Callback;
 use usb_core::Setup;
 use usb_device::Device;
-use usb_draw::Drawing;
 use usb_model::{Plan, Step, Verdict};
 use usb_purge::{Performed, PlanRun, next_callback};
 

@@ -2,7 +2,7 @@
 //! meanwhile (xHCI 1.2, 4.6.8 to 4.6.10; `libusb_cancel_transfer`).
 //!
 //! The one promise: at most one errand is outstanding at an endpoint, and each answer of the controller is followed by
-//! what `usb_kept` says of the whole endpoint.
+//! what `usb_design` says of the whole endpoint.
 #![tactic(auto)]
 
 mod ended;

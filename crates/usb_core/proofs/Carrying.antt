@@ -5,9 +5,9 @@ use Rattle.usb_model.specs.declared.refused.Refused.{Refused}
 use Rattle.usb_model.specs.declared.refused.Refused.TheVariants.{Busy, HeldElsewhere, InvalidParam, NoDevice, NoMem, NotFound, NotSupported}
 use Rattle.usb_model.specs.declared.step.Step.{Step}
 use Rattle.usb_model.specs.Numbers.{takes_payload}
-use Rattle.usb_parts.specs.declared.submitting.Unaccepted.{Unaccepted}
-use Rattle.usb_state.specs.Carrying.{Carries, CarriesMore, Kept, StillCarries}
-use Rattle.usb_state.specs.State.{State}
+use Rattle.usb_steps.specs.declared.submitting.Unaccepted.{Unaccepted}
+use Rattle.proof_core.specs.Carrying.{Carries, CarriesMore, Kept, StillCarries}
+use Rattle.proof_core.specs.State.{State}
 use Rattle.usb_core.specs.Stepping.{answered, kept_after, kept_by, turned_down}
 
 module _ {P : Type 0} where

@@ -12,12 +12,12 @@ use Rattle.usb_model.specs.Laws.Cut.{AllFit, Cell, Cleared, Ended, Fate, FitsFat
 use Rattle.usb_model.specs.Laws.Calls.{made, made_from}
 use Rattle.usb_model.specs.Laws.Places.{calls}
 use Rattle.usb_model.specs.Laws.Bound.{commands_in, delivers_in}
-use Rattle.usb_rows.specs.Rows.{bulk}
-use Rattle.usb_rows.specs.Rows.Halting.{stall_and_clear_halt}
-use Rattle.usb_rows.specs.Rows.Unplugging.{unplug_amid_transfers}
-use Rattle.usb_rows.proofs.Computed.{computed}
-use Rattle.usb_lemmas.proofs.Shares.Cuts.{ends_now}
-use Rattle.usb_lemmas.proofs.Shares.OpenShares.{open_if, outcome_nothing}
+use Rattle.proof_rows.specs.Rows.{bulk}
+use Rattle.proof_rows.specs.Rows.Halting.{stall_and_clear_halt}
+use Rattle.proof_rows.specs.Rows.Unplugging.{unplug_amid_transfers}
+use Rattle.proof_rows.proofs.Computed.{computed}
+use Rattle.proof_lemmas.proofs.Shares.Cuts.{ends_now}
+use Rattle.proof_lemmas.proofs.Shares.OpenShares.{open_if, outcome_nothing}
 use Rattle.usb_core.specs.Instances.{CallsBack, ReachesBound, ReachesBounds, IsCutInto, IsNotCut, stalled_cells, unplugged_cells}
 
 -- the bound is reached: the 17th Deliver makes the result, and no earlier one

@@ -5,14 +5,14 @@ use Rattle.usb_model.specs.declared.step.Step.{Step}
 use Rattle.usb_model.specs.Setup.{Setup}
 use Rattle.usb_model.specs.World.{World, new_world, turn}
 use Rattle.usb_model.specs.World.Journal.{journal, run_from, world_run}
-use Rattle.usb_lemmas.proofs.Handles.Beginnings.{first_steps, step_left}
-use Rattle.usb_lemmas.proofs.Handles.Runs.{run_ends, step_further}
-use Rattle.usb_account.proofs.Bound.AskedEnds.{asked_ends}
-use Rattle.usb_account.proofs.Cut.Runs.{cuts_at}
-use Rattle.usb_account.proofs.Places.Runs.{keeps_places}
-use Rattle.usb_state.specs.State.{ShowsWorld, State}
-use Rattle.usb_state.specs.Steps.{Turns}
-use Rattle.usb_shows.specs.Lively.{IsFine}
+use Rattle.proof_lemmas.proofs.Handles.Beginnings.{first_steps, step_left}
+use Rattle.proof_lemmas.proofs.Handles.Runs.{run_ends, step_further}
+use Rattle.proof_invariants.proofs.Bound.AskedEnds.{asked_ends}
+use Rattle.proof_invariants.proofs.Cut.Runs.{cuts_at}
+use Rattle.proof_invariants.proofs.Places.Runs.{keeps_places}
+use Rattle.proof_core.specs.State.{ShowsWorld, State}
+use Rattle.proof_core.specs.Steps.{Turns}
+use Rattle.proof_design.specs.Lively.{IsFine}
 use Rattle.usb_core.specs.Running.{IsLawfulRun, ObeysLaws}
 use Rattle.usb_core.specs.Stepping.{Advances}
 use Rattle.usb_core.proofs.CallsBack.{calls_back_in_order, calls_back_once}

@@ -12,16 +12,16 @@ use Rattle.usb_model.specs.World.{World}
 use Rattle.usb_device.specs.Pipe.{pipe_at}
 use Rattle.usb_xhc.specs.Slots.{DeviceSlot}
 use Rattle.usb_match.specs.Endpoint.{IsPipe}
-use Rattle.usb_parts.specs.declared.pending.Pending.{Pending}
-use Rattle.usb_parts.specs.Pending.{IsPending, does_something}
-use Rattle.usb_parts.specs.Homes.{can_expire, expires_now}
-use Rattle.usb_parts.specs.Packets.{taken_in}
-use Rattle.usb_shows.specs.Calling.{KeptHome, ask_core, device_of, kept_home, step_core}
-use Rattle.usb_shows.specs.Shows.{Core, Shows}
-use Rattle.usb_shows.proofs.Calls.Whole.{whole_steps}
+use Rattle.usb_steps.specs.declared.pending.Pending.{Pending}
+use Rattle.usb_steps.specs.Pending.{IsPending, does_something}
+use Rattle.usb_steps.specs.Homes.{can_expire, expires_now}
+use Rattle.usb_steps.specs.Packets.{taken_in}
+use Rattle.proof_design.specs.Calling.{KeptHome, ask_core, device_of, kept_home, step_core}
+use Rattle.proof_design.specs.Shows.{Core, Shows}
+use Rattle.proof_design.proofs.Calls.Whole.{whole_steps}
 use Rattle.usb_slots.proofs.Ids.{has_device}
 use Rattle.usb_slots.proofs.Lookups.{get_within}
-use Rattle.usb_state.specs.State.{Keeps, ShowsWorld, State}
+use Rattle.proof_core.specs.State.{Keeps, ShowsWorld, State}
 use Rattle.usb_core.specs.Reads.{IsLeft, is_done, would_expire}
 
 -- how many bytes the first result has

@@ -5,11 +5,11 @@ use Rattle.usb_model.specs.declared.refused.Refused.{Refused}
 use Rattle.usb_model.specs.declared.refused.Refused.TheVariants.{Busy, HeldElsewhere, InvalidParam, NoDevice, NoMem, NotFound, NotSupported}
 use Rattle.usb_model.specs.declared.reply.Reply.TheVariants.{Number, Refused as IsRefused}
 use Rattle.usb_model.specs.declared.step.Step.{Step}
-use Rattle.usb_parts.specs.declared.submitting.Unaccepted.{Unaccepted}
-use Rattle.usb_state.specs.Calls.{Stays}
-use Rattle.usb_state.specs.State.{IsState, State}
-use Rattle.usb_state.specs.Steps.{Does, Turns}
-use Rattle.usb_state.proofs.Turning.{shows_again, turns}
+use Rattle.usb_steps.specs.declared.submitting.Unaccepted.{Unaccepted}
+use Rattle.proof_core.specs.Calls.{Stays}
+use Rattle.proof_core.specs.State.{IsState, State}
+use Rattle.proof_core.specs.Steps.{Does, Turns}
+use Rattle.proof_core.proofs.Turning.{shows_again, turns}
 use Rattle.usb_core.specs.Stepping.{answered, turned_down}
 
 module _ {P : Type 0} where

@@ -27,19 +27,19 @@ use Rattle.usb_model.specs.Machine.Turns.{effect}
 use Rattle.usb_model.specs.Requests.{is_unsupported}
 use Rattle.usb_model.specs.Setup.{Setup, is_within, kind_of, packet_size_of, script_of}
 use Rattle.usb_model.specs.World.{World, all_ends_after, holder, is_blocked, is_its, machine_of, new_world, owner_of, turn, turn_by, turn_of, turn_of_nobody, world_after, world_from}
-use Rattle.usb_lemmas.proofs.Handles.Changes.{places_equal}
-use Rattle.usb_lemmas.proofs.Handles.Isolation.{effect_to, turn_blocked, turn_free}
-use Rattle.usb_lemmas.proofs.Lists.Parts.{each_append}
-use Rattle.usb_lemmas.proofs.Work.Moves.{SetsNone}
-use Rattle.usb_account.proofs.Cut.Runs.{cuts_at}
-use Rattle.usb_account.proofs.Cut.Steps.{rest_sets}
-use Rattle.usb_account.proofs.Machines.Deeds.{IsDone, IsWork, asks_it, clears, commands, delivers, only_rests, serves, submits, works}
-use Rattle.usb_account.proofs.Machines.Done.{is_done}
-use Rattle.usb_account.proofs.Machines.Idle.{at_device_of}
-use Rattle.usb_account.proofs.Machines.Well.{first_news, first_order, fit_at}
-use Rattle.usb_shows.specs.Lively.{IsFine, IsSized}
-use Rattle.usb_shows.proofs.Lives.{IsSound, sound_at, sound_turn}
-use Rattle.usb_shows.proofs.Sizes.{asked_sized, ordered_sized, submits_supported, told_sized}
+use Rattle.proof_lemmas.proofs.Handles.Changes.{places_equal}
+use Rattle.proof_lemmas.proofs.Handles.Isolation.{effect_to, turn_blocked, turn_free}
+use Rattle.proof_lemmas.proofs.Lists.Parts.{each_append}
+use Rattle.proof_lemmas.proofs.Work.Moves.{SetsNone}
+use Rattle.proof_invariants.proofs.Cut.Runs.{cuts_at}
+use Rattle.proof_invariants.proofs.Cut.Steps.{rest_sets}
+use Rattle.proof_invariants.proofs.Machines.Deeds.{IsDone, IsWork, asks_it, clears, commands, delivers, only_rests, serves, submits, works}
+use Rattle.proof_invariants.proofs.Machines.Done.{is_done}
+use Rattle.proof_invariants.proofs.Machines.Idle.{at_device_of}
+use Rattle.proof_invariants.proofs.Machines.Well.{first_news, first_order, fit_at}
+use Rattle.proof_design.specs.Lively.{IsFine, IsSized}
+use Rattle.proof_design.proofs.Lives.{IsSound, sound_at, sound_turn}
+use Rattle.proof_design.proofs.Sizes.{asked_sized, ordered_sized, submits_supported, told_sized}
 use Rattle.usb_core.specs.Running.{IsCutAt}
 
 -- nothing was accepted but that a halt ends, nothing came of it, and all answers of the script are left

@@ -8,10 +8,10 @@ use Rattle.usb_model.specs.declared.reply.Reply.TheVariants.{Called, Number, Ref
 use Rattle.usb_model.specs.declared.step.Step.{Step}
 use Rattle.usb_model.specs.declared.step.Step.TheVariants.{Take}
 use Rattle.usb_model.specs.Numbers.{takes_payload}
-use Rattle.usb_parts.specs.declared.submitting.Unaccepted.{Unaccepted}
-use Rattle.usb_state.specs.Carrying.{Kept, kept_with}
-use Rattle.usb_state.specs.State.{State}
-use Rattle.usb_state.specs.Steps.{Turns}
+use Rattle.usb_steps.specs.declared.submitting.Unaccepted.{Unaccepted}
+use Rattle.proof_core.specs.Carrying.{Kept, kept_with}
+use Rattle.proof_core.specs.State.{State}
+use Rattle.proof_core.specs.Steps.{Turns}
 use Rattle.usb_core.specs.declared.stepping.NoMemory.{NoMemory}
 use Rattle.usb_core.specs.declared.stepping.Stepped.{Stepped}
 

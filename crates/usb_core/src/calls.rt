@@ -6,18 +6,18 @@ ghost use Rattle.usb_model.specs.declared.reply.Reply.TheVariants.{Number, Refus
 ghost use Rattle.usb_model.specs.declared.step.Step.TheVariants.{Answer, Cancel, Claim, ClearHalt, Close, Command, Deliver, Expire, Open, Release, Reset, Serve, Submit, Take, Unplug};
 ghost use Rattle.usb_model.specs.declared.verdict.Verdict.TheVariants.{Again, AgainWith, Stop};
 ghost use Rattle.usb_model.specs.World.{new_world};
-ghost use Rattle.usb_state.specs.Calls.{Stays, called_entry};
-ghost use Rattle.usb_state.specs.Carrying.{Carries, CarriesMore, Kept, StillCarries};
-ghost use Rattle.usb_state.specs.Making.{setup_of};
-ghost use Rattle.usb_state.specs.State.{ShowsWorld};
-ghost use Rattle.usb_state.specs.Steps.{Turns};
-ghost use Rattle.usb_parts.specs.Taking.{CarriesOut};
+ghost use Rattle.proof_core.specs.Calls.{Stays, called_entry};
+ghost use Rattle.proof_core.specs.Carrying.{Carries, CarriesMore, Kept, StillCarries};
+ghost use Rattle.proof_core.specs.Making.{setup_of};
+ghost use Rattle.proof_core.specs.State.{ShowsWorld};
+ghost use Rattle.proof_core.specs.Steps.{Turns};
+ghost use Rattle.usb_steps.specs.Taking.{CarriesOut};
 
 use std::alloc::{AllocError, Global};
 use std::marker::Model;
 use usb_device::Device;
 use usb_model::{Bytes, DeviceNo, Entry, EpAddr, Name, Reply, Request};
-use usb_parts::{Parts, Setup, Taken, Unaccepted};
+use usb_steps::{Parts, Setup, Taken, Unaccepted};
 
 /// The library's core: every step of every name is made here, over the memory of real rings. Contracts see what it
 /// keeps, and say of it which world it shows (`ShowsWorld`); it always shows one. Each call is a turn of that world
@@ -34,7 +34,7 @@ pub struct Core<P, D: Device> {
 }
 
 impl<P, D: Device> Model for Core<P, D> {
-    ghost use Rattle.usb_state.specs.State.{IsState, State};
+    ghost use Rattle.proof_core.specs.State.{IsState, State};
 
     ghost Value = { State P };
 

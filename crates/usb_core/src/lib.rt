@@ -14,4 +14,4 @@ mod stepping;
 pub use calls::Core;
 pub use running::{Stopped, run};
 pub use stepping::{NoMemory, Stepped};
-pub use usb_parts::{Pending, Setup, Taken, Unaccepted, Unadded};
+pub use usb_steps::{Pending, Setup, Taken, Unaccepted, Unadded};

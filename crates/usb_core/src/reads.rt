@@ -5,15 +5,15 @@ ghost use Rattle.std.specs.Option.{option_copied, option_map_or};
 ghost use Rattle.usb_model.specs.declared.step.Step.TheVariants.{Command, Deliver, Take};
 ghost use Rattle.usb_model.specs.Setup.{Setup as ModelSetup, interface_of};
 ghost use Rattle.usb_model.specs.World.{World};
-ghost use Rattle.usb_state.specs.Making.{setup_of};
-ghost use Rattle.usb_state.specs.State.{ShowsWorld};
-ghost use Rattle.usb_parts.specs.Pending.{IsPending, does_something};
+ghost use Rattle.proof_core.specs.Making.{setup_of};
+ghost use Rattle.proof_core.specs.State.{ShowsWorld};
+ghost use Rattle.usb_steps.specs.Pending.{IsPending, does_something};
 ghost use Rattle.usb_core.specs.Reads.{IsLeft, would_expire};
 
 use crate::calls::Core;
 use usb_device::Device;
 use usb_model::{DeviceNo, EpAddr, Name};
-use usb_parts::{Pending, Setup};
+use usb_steps::{Pending, Setup};
 use usb_xhc::Controller;
 
 impl<P, D: Device> Core<P, D> {

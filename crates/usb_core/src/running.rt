@@ -2,7 +2,7 @@
 
 ghost use Rattle.std.specs.Prelude.{◌≡◌, ◌<◌, ◌⊎◌, [], IfErr, IfOk, OnErr, length, take};
 ghost use Rattle.usb_model.specs.World.Journal.{IsBeginning, world_run};
-ghost use Rattle.usb_state.specs.Making.{setup_of};
+ghost use Rattle.proof_core.specs.Making.{setup_of};
 ghost use Rattle.usb_core.specs.Running.{IsLawfulRun, ObeysLaws};
 ghost use Rattle.usb_core.specs.Stepping.{Advances};
 
@@ -11,7 +11,7 @@ use std::alloc::{AllocError, Global};
 use thiserror::Error;
 use usb_device::Device;
 use usb_model::{Entry, Sequence, Step};
-use usb_parts::Setup;
+use usb_steps::Setup;
 
 /// A run that found no memory: the entries before the step that found none.
 #[derive(Debug, Drop, Error)]

@@ -3,9 +3,9 @@
 ghost use Rattle.std.specs.Prelude.{◌≡◌, true, IfErr, IfOk, None, OnErr, Some, is_some, option_map};
 ghost use Rattle.usb_model.specs.declared.step.Step.TheVariants.{Answer, Take};
 ghost use Rattle.usb_model.specs.Numbers.{takes_payload};
-ghost use Rattle.usb_state.specs.Calls.{Stays};
-ghost use Rattle.usb_state.specs.Carrying.{Carries, Kept, StillCarries};
-ghost use Rattle.usb_state.specs.Steps.{Turns};
+ghost use Rattle.proof_core.specs.Calls.{Stays};
+ghost use Rattle.proof_core.specs.Carrying.{Carries, Kept, StillCarries};
+ghost use Rattle.proof_core.specs.Steps.{Turns};
 ghost use Rattle.usb_core.specs.Stepping.{GoesOut, answered, first_payload, handed_out, kept_after, left_over, takes_memory};
 
 use crate::calls::Core;
@@ -13,7 +13,7 @@ use std::fmt;
 use thiserror::Error;
 use usb_device::Device;
 use usb_model::{Entry, Name, Refused, Reply, Step, Verdict};
-use usb_parts::{Taken, Unaccepted};
+use usb_steps::{Taken, Unaccepted};
 
 /// What a step gave.
 #[derive(Drop)]

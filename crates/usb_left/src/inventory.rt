@@ -3,20 +3,20 @@
 ghost use Rattle.std.specs.Prelude.{◌≡◌, ◌<◌, ◌++◌, ◌==◌, IfOk, map, Some};
 ghost use Rattle.usb_model.specs.World.{own_endpoint};
 ghost use Rattle.usb_left.specs.Left.{all_left, answers_left, at_endpoint, callback_left, event_left, halt_left, is_halted, left_by, left_of, order_left, result_left, transfers_left};
-ghost use Rattle.usb_system.specs.Call.{machine_in};
-ghost use Rattle.usb_system.specs.System.{world_of};
-ghost use Rattle.usb_system.specs.Tables.{handle_at};
+ghost use Rattle.plain_system.specs.Call.{machine_in};
+ghost use Rattle.plain_system.specs.System.{world_of};
+ghost use Rattle.plain_system.specs.Tables.{handle_at};
 ghost use Rattle.std.specs.List.{filter, flat_map};
 ghost use Rattle.usb_model.specs.Machine.{device_of, endpoint_at};
 ghost use Rattle.usb_model.specs.Setup.{endpoints_of};
 
 use crate::left::{Left, Thing};
+use plain_system::{Call, System};
 use std::alloc::{AllocError, Global};
 use usb_model::{
     DeviceNo, Endpoint, EndpointState, EpAddr, Handle, InCallback, Item, Name, News, Order,
     Response, Setup, Tagged, TransferResult,
 };
-use usb_system::{Call, System};
 
 /// Whether an endpoint is halted, at its device or at the controller.
 fn is_halted(endpoint: &Endpoint) -> bool

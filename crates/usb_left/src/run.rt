@@ -7,9 +7,9 @@ ghost use Rattle.usb_model.specs.World.Plans.{expand};
 
 use crate::inventory::all_left;
 use crate::left::Left;
+use plain_run::end_of;
 use std::alloc::{AllocError, Global};
 use usb_model::{Plan, Rule, Setup};
-use usb_plain::end_of;
 
 /// What the handles haven't finished where the run of a plan under rules ends, by rising name. The plan is run by the
 /// plain program. An error where memory is refused.

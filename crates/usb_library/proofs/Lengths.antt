@@ -1,8 +1,8 @@
 -- How many receipts and places there are.
 use Rattle.std.proofs.Common.{◌≡◌, ◌+◌, ℕ, suc, List, [], ◌∷◌, length, take, drop, refl, sym, ap, ◌∙◌}
 use Rattle.std.proofs.lemmas.List.{length-append, take-append-drop}
-use Rattle.usb_book.specs.declared.place.Place.{Place}
-use Rattle.usb_book.specs.Seen.{receipts_from}
+use Rattle.usb_journal.specs.declared.place.Place.{Place}
+use Rattle.usb_journal.specs.Seen.{receipts_from}
 
 -- as many receipts as entries
 pub receipts_length : (n : ℕ) (ps : List Place) → length (receipts_from n ps) ≡ length ps

@@ -7,12 +7,12 @@ use Rattle.usb_model.specs.declared.reply.Reply.TheVariants.{Idle, Refused as Is
 use Rattle.usb_model.specs.declared.step.Step.{Step}
 use Rattle.usb_model.specs.Setup.{Setup}
 use Rattle.usb_model.specs.World.Due.{due}
-use Rattle.usb_book.specs.declared.events.Events.{Events}
-use Rattle.usb_book.specs.declared.place.Place.{Place}
-use Rattle.usb_parts.specs.declared.pending.Pending.{Pending}
-use Rattle.usb_parts.specs.Pending.{IsPending}
-use Rattle.usb_book.specs.Booked.{AreMoved, Booked, HasEvents, IsRun, asked, asks, dated, world_where}
-use Rattle.usb_book.specs.Seen.{Receipted, receipts_from}
+use Rattle.usb_journal.specs.declared.events.Events.{Events}
+use Rattle.usb_journal.specs.declared.place.Place.{Place}
+use Rattle.usb_steps.specs.declared.pending.Pending.{Pending}
+use Rattle.usb_steps.specs.Pending.{IsPending}
+use Rattle.usb_journal.specs.Booked.{AreMoved, Booked, HasEvents, IsRun, asked, asks, dated, world_where}
+use Rattle.usb_journal.specs.Seen.{Receipted, receipts_from}
 
 -- what a library is made of: the name and the parts of its ledger, the roll of its journal, and its devices
 pub record Opened : Type 0 where

@@ -3,8 +3,8 @@
 ghost use Rattle.std.specs.Prelude.{◌≡◌, IfErr, IfOk, None, Some};
 ghost use Rattle.usb_library.specs.Calling.{changes, refusal};
 
-use usb_book::{Naming, Receipt};
 use usb_core::Unaccepted;
+use usb_journal::{Naming, Receipt};
 use usb_model::{Entry, Refused, Reply};
 
 /// What came of a call: its entry, and the receipt for its place of the journal.

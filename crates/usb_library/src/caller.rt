@@ -4,7 +4,7 @@ ghost use Rattle.std.specs.Prelude.{◌≡◌};
 
 use std::marker::Model;
 use std::sync::ledger::Share;
-use usb_book::{Mark, Naming};
+use usb_journal::{Mark, Naming};
 
 /// Makes calls: each thread has one of its own. Contracts see its number, how many places the journal had after its last
 /// call, and the places of its calls, in order. It has no bytes but its number.

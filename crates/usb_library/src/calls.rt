@@ -13,8 +13,8 @@ use crate::library::Library;
 use crate::waking::{of_event, of_packet};
 use std::alloc::AllocError;
 use std::sync::Wait;
-use usb_book::{Naming, Recorder};
 use usb_device::Device;
+use usb_journal::{Naming, Recorder};
 use usb_model::{DeviceNo, EpAddr, Name, Step};
 
 impl<L: Naming, P: Drop, D: Device, J: Recorder> Library<L, P, D, J> {

@@ -5,9 +5,9 @@ ghost use Rattle.usb_model.specs.declared.refused.Refused.TheVariants.{Busy};
 ghost use Rattle.usb_model.specs.declared.step.Step.TheVariants.{Answer, Command, Deliver, Serve, Submit, Take};
 ghost use Rattle.usb_model.specs.declared.verdict.Verdict.TheVariants.{Again, AgainWith, Stop};
 ghost use Rattle.usb_model.specs.Numbers.{takes_payload};
-ghost use Rattle.usb_parts.specs.Pending.{does_something};
-ghost use Rattle.usb_state.specs.Calls.{called_entry};
-ghost use Rattle.usb_book.specs.Booked.{answer_entry, world_where};
+ghost use Rattle.usb_steps.specs.Pending.{does_something};
+ghost use Rattle.proof_core.specs.Calls.{called_entry};
+ghost use Rattle.usb_journal.specs.Booked.{answer_entry, world_where};
 ghost use Rattle.usb_library.specs.Calling.{HadEvents, Makes, Ticks, WasPending};
 
 use crate::answered::{Answered, Submitted};
@@ -15,9 +15,9 @@ use crate::caller::Caller;
 use std::alloc::AllocError;
 use std::marker::Model;
 use std::sync::ledger::{self, Share};
-use usb_book::{Book, Events, Naming, NotRecorded, Receipt, Recorder};
 use usb_core::{Pending, Taken};
 use usb_device::Device;
+use usb_journal::{Book, Events, Naming, NotRecorded, Receipt, Recorder};
 use usb_model::{Bytes, DeviceNo, EpAddr, Name, Refused, Request, Step};
 
 /// At most so many callers are made.

@@ -4,10 +4,10 @@ ghost use Rattle.std.specs.Prelude.{◌≡◌, ◌==◌, ℕ, ◌+◌, ◌<◌, 
 ghost use Rattle.std.specs.List.{sum_by};
 ghost use Rattle.usb_model.specs.Setup.{Setup as ModelSetup, interface_of};
 ghost use Rattle.usb_model.specs.World.{World};
-ghost use Rattle.usb_state.specs.Making.{setup_of};
-ghost use Rattle.usb_state.specs.State.{ShowsWorld};
+ghost use Rattle.proof_core.specs.Making.{setup_of};
+ghost use Rattle.proof_core.specs.State.{ShowsWorld};
 ghost use Rattle.usb_core.specs.Reads.{IsLeft};
-ghost use Rattle.usb_book.specs.Booked.{IsRun};
+ghost use Rattle.usb_journal.specs.Booked.{IsRun};
 
 use crate::caller::Caller;
 use crate::desk::Desk;
@@ -16,9 +16,9 @@ use crate::waking::Watchers;
 use std::alloc::{AllocError, Global};
 use std::sync::Mutex;
 use std::sync::ledger::Share;
-use usb_book::{Closed, Journal, Naming, Place, Receipt, Recorder, Whole};
 use usb_core::{Core, Setup};
 use usb_device::Device;
+use usb_journal::{Closed, Journal, Naming, Place, Receipt, Recorder, Whole};
 
 /// What a library leaves.
 #[derive(Drop)]

@@ -12,8 +12,8 @@ use crate::opening::Opening;
 use crate::waking::{Watchers, Work};
 use std::alloc::{AllocError, Global};
 use std::sync::{Mutex, Wait};
-use usb_book::{Book, Naming, Recorder};
 use usb_device::Device;
+use usb_journal::{Book, Naming, Recorder};
 use usb_model::{Refused, Step};
 
 /// A core under a lock, with what callers keep with their transfers (`P`), devices (`D`), and a recorder that keeps the

@@ -1,19 +1,19 @@
 //! What a library is made of.
 
 ghost use Rattle.std.specs.Prelude.{◌≡◌, IfErr, IfOk};
-ghost use Rattle.usb_state.specs.Making.{setup_of};
+ghost use Rattle.proof_core.specs.Making.{setup_of};
 
 use std::alloc::Global;
 use std::marker::Model;
 use std::sync::ledger::Blank;
-use usb_book::Told;
 use usb_core::Setup;
 use usb_device::Device;
-use usb_roll::{Keeper, Roll};
+use usb_journal::Told;
+use usb_receipts::{Keeper, Roll};
 
 /// What a library is made of, which no type names yet: its devices, the roll of its journal, and the ledger of its
-/// callers. A function that is generic in a name (`usb_book::Naming`) makes the library of it, and whoever calls that
-/// function has the name made for it: `std::marker::Brand`.
+/// callers. A function that is generic in a name (`usb_journal::Naming`) makes the library of it, and whoever calls
+/// that function has the name made for it: `std::marker::Brand`.
 #[derive(Drop)]
 pub struct Opening<D: Device> {
     pub(crate) roll: Roll<Told>,
@@ -26,8 +26,8 @@ pub struct Opening<D: Device> {
 impl<D: Device> Model for Opening<D> {
     ghost use Rattle.std.specs.Prelude.{◌≡◌};
     ghost use Rattle.usb_library.specs.Calling.{Opened};
-    ghost use Rattle.usb_roll.specs.Tokens.{new_keeper};
-    ghost use Rattle.usb_state.specs.Making.{setup_of};
+    ghost use Rattle.usb_receipts.specs.Tokens.{new_keeper};
+    ghost use Rattle.proof_core.specs.Making.{setup_of};
 
     ghost Value = { Opened };
 

@@ -3,8 +3,8 @@
 ghost use Rattle.std.specs.Prelude.{◌≡◌, IfErr, IfOk, OnErr, option_map};
 ghost use Rattle.usb_model.specs.declared.step.Step.TheVariants.{Answer, Submit, Take};
 ghost use Rattle.usb_model.specs.declared.verdict.Verdict.TheVariants.{Again, AgainWith, Stop};
-ghost use Rattle.usb_state.specs.Calls.{called_entry};
-ghost use Rattle.usb_book.specs.Booked.{answer_entry};
+ghost use Rattle.proof_core.specs.Calls.{called_entry};
+ghost use Rattle.usb_journal.specs.Booked.{answer_entry};
 ghost use Rattle.usb_library.specs.Calling.{Makes, Ticks};
 
 use crate::answered::{Answered, Submitted};
@@ -13,9 +13,9 @@ use crate::library::Library;
 use crate::waking::{Part, Work};
 use std::alloc::AllocError;
 use std::sync::Wait;
-use usb_book::{Naming, NotRecorded, Receipt, Recorder};
 use usb_core::Taken;
 use usb_device::Device;
+use usb_journal::{Naming, NotRecorded, Receipt, Recorder};
 use usb_model::{Bytes, Name, Request};
 
 impl<L: Naming, P: Drop, D: Device, J: Recorder> Library<L, P, D, J> {

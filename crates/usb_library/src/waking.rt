@@ -8,9 +8,9 @@ use crossbeam_utils::sync::Unparker;
 use std::alloc::{AllocError, Global};
 use std::sync::atomic::{AtomicBool, Ordering};
 use std::sync::{Mutex, Wait};
-use usb_book::{Events, Naming, Recorder};
 use usb_core::Pending;
 use usb_device::Device;
+use usb_journal::{Events, Naming, Recorder};
 use usb_model::Reply;
 
 /// A worker, by its part of the work.

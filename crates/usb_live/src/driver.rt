@@ -1,8 +1,8 @@
 //! What a driver does in its thread.
 
 use std::sync::Wait;
-use usb_book::{Naming, Recorder};
 use usb_device::Device;
+use usb_journal::{Naming, Recorder};
 use usb_library::{Caller, Library};
 
 /// A driver: what one thread does with the library, by calls of its own. The library's workers run beside it. It is not to wait

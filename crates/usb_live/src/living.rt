@@ -1,7 +1,7 @@
 //! A library from its opening to its end.
 
 ghost use Rattle.std.specs.Prelude.{◌≡◌, IfOk};
-ghost use Rattle.usb_state.specs.Making.{setup_of};
+ghost use Rattle.proof_core.specs.Making.{setup_of};
 ghost use Rattle.usb_live.specs.Living.{KeepsRun};
 
 use crate::driver::Driver;
@@ -12,10 +12,10 @@ use std::alloc::{AllocError, Global};
 use std::marker::Brand;
 use std::sync::Wait;
 use std::thread::Threads;
-use usb_book::{Naming, Recorder};
 use usb_callback::Callback;
 use usb_core::{Core, Setup};
 use usb_device::Device;
+use usb_journal::{Naming, Recorder};
 use usb_library::{Caller, Library, Opening};
 use usb_workers::{Gate, Open};
 

@@ -8,8 +8,8 @@ ghost use Rattle.usb_live.specs.Steps.{caller_of};
 
 use std::alloc::AllocError;
 use std::sync::Wait;
-use usb_book::{Naming, Recorder};
 use usb_device::Device;
+use usb_journal::{Naming, Recorder};
 use usb_library::{Answered, Caller, Library};
 use usb_model::{Name, Step};
 

@@ -3,8 +3,8 @@
 use crate::driver::Driver;
 use std::alloc::{AllocError, Global};
 use std::sync::Wait;
-use usb_book::{Naming, Recorder};
 use usb_device::Device;
+use usb_journal::{Naming, Recorder};
 use usb_library::{Caller, Library};
 
 /// A driver, with the caller of its calls.

@@ -8,9 +8,9 @@ use std::alloc::{AllocError, Global};
 use std::sync::Wait;
 use std::thread;
 use std::thread::{JoinHandle, Scope, Threads};
-use usb_book::{Naming, Recorder};
 use usb_callback::Callback;
 use usb_device::Device;
+use usb_journal::{Naming, Recorder};
 use usb_library::{Caller, Library};
 use usb_workers::{Gate, controller_loop, event_loop};
 

@@ -4,8 +4,8 @@ use Rattle.std.specs.Prelude.{get_or, slice_get}
 use Rattle.std.proofs.lemmas.Option.{slice_get_within}
 use Rattle.usb_trb.specs.declared.kind.TrbKind.{TrbKind}
 use Rattle.usb_segment.specs.Places.{address_of, cycle_of}
-use Rattle.usb_kept.specs.Kept.{KeptEndpoint, KeptTransfer, first_place}
-use Rattle.usb_kept.specs.Handling.{find_at}
+use Rattle.usb_design.specs.Kept.{KeptEndpoint, KeptTransfer, first_place}
+use Rattle.usb_design.specs.Handling.{find_at}
 use Rattle.usb_tring.specs.Line.{IsAt, Line, all_of, place_of, places}
 use Rattle.usb_context.specs.Context.{Context}
 use Rattle.usb_match.specs.Line.{AllItems, in_ring}

@@ -8,10 +8,10 @@ use Rattle.usb_model.specs.Setup.{Setup}
 use Rattle.usb_model.specs.Machine.Turns.{alone}
 use Rattle.usb_model.specs.World.{World, new_world, turn}
 use Rattle.usb_model.specs.World.Journal.{entries, is_own, journal, journal_from, own, run_from, world_run}
-use Rattle.usb_lemmas.proofs.Handles.Isolation.{entries_from, entries_less, entries_more, own_from, own_less, own_more, sees_alone}
-use Rattle.usb_lemmas.proofs.Handles.Alone.{runs_alone}
-use Rattle.usb_state.specs.State.{ShowsWorld, State}
-use Rattle.usb_state.specs.Steps.{Turns}
+use Rattle.proof_lemmas.proofs.Handles.Isolation.{entries_from, entries_less, entries_more, own_from, own_less, own_more, sees_alone}
+use Rattle.proof_lemmas.proofs.Handles.Alone.{runs_alone}
+use Rattle.proof_core.specs.State.{ShowsWorld, State}
+use Rattle.proof_core.specs.Steps.{Turns}
 use Rattle.usb_purge.specs.declared.comparison.Comparison.{Comparison}
 use Rattle.usb_purge.specs.declared.comparison.Part.{Part}
 use Rattle.usb_purge.specs.Alone.{AreCalledInOrder, AreCalledOnce, IsNext, IsPart, MakesOwn, RunsPicked, Shares, ShowsSome, picked, place_of, with_own}

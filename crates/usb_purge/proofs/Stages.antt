@@ -18,12 +18,12 @@ use Rattle.usb_model.specs.Machine.Calls.{callback_of}
 use Rattle.usb_model.specs.World.{World, new_world, turn, turn_of_nobody}
 use Rattle.usb_model.specs.Laws.Places.{call_of}
 use Rattle.usb_model.specs.World.Plans.{Book, Stage, first_stage, noted, noted_by, returning}
-use Rattle.usb_parts.specs.declared.taking.Taken.{Taken}
-use Rattle.usb_state.specs.Carrying.{Carries, Kept}
+use Rattle.usb_steps.specs.declared.taking.Taken.{Taken}
+use Rattle.proof_core.specs.Carrying.{Carries, Kept}
 use Rattle.usb_transfer.specs.declared.transfer.Transfer.{Transfer as InFlight}
 use Rattle.usb_flight.specs.Flights.{EndedOf}
-use Rattle.usb_state.specs.State.{ShowsWorld, State, result_of}
-use Rattle.usb_state.specs.Steps.{Turns}
+use Rattle.proof_core.specs.State.{ShowsWorld, State, result_of}
+use Rattle.proof_core.specs.Steps.{Turns}
 use Rattle.usb_core.specs.Stepping.{GoesOut, first_payload, handed_out, kept_after, kept_by}
 use Rattle.usb_purge.specs.PlanRuns.{IsRunning, IsRunningBut, IsUnder, MakesAnswer, MakesStep, PlanState, RunBehindStep, RunsToo, ShowsBut, ShowsStage, nowhere, running_at, still_called}
 use Rattle.usb_purge.specs.Returning.{AnswerEnds, CallsBack, IsReached, IsTold, KeepsCallbacks, SameCallbacks, TakeCalls, callback_at, ends_callback, is_answer, is_of_callback, is_there}

@@ -6,7 +6,7 @@ use Rattle.usb_model.specs.declared.plan.Plan.{Plan}
 use Rattle.usb_model.specs.declared.plan.Plan.TheVariants.{Do, Return}
 use Rattle.usb_model.specs.declared.verdict.Rule.{Rule}
 use Rattle.usb_model.specs.World.Plans.{first_rule, is_submission, rules_after, rules_past}
-use Rattle.usb_lemmas.proofs.Lists.Times.{count-cons}
+use Rattle.proof_lemmas.proofs.Lists.Times.{count-cons}
 use Rattle.usb_purge.specs.Driving.{TakesNext}
 use Rattle.usb_purge.specs.PlanRuns.{IsUnder}
 

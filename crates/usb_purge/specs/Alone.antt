@@ -14,9 +14,9 @@ use Rattle.usb_model.specs.World.Journal.{Place, entries, is_own, own, world_run
 use Rattle.usb_model.specs.World.Plans.{Stage, expand, first_rule, first_stage, is_submission, own_plan, own_rules, rules_after}
 use Rattle.usb_model.specs.Laws.Cut.{times}
 use Rattle.usb_model.specs.Laws.Places.{calls, numbers_called}
-use Rattle.usb_state.specs.State.{ShowsWorld, State}
+use Rattle.proof_core.specs.State.{ShowsWorld, State}
 use Rattle.usb_model.specs.World.{World, new_world}
-use Rattle.usb_state.specs.Steps.{Turns}
+use Rattle.proof_core.specs.Steps.{Turns}
 use Rattle.usb_purge.specs.declared.comparison.Comparison.{Comparison}
 use Rattle.usb_purge.specs.declared.comparison.Part.{Part}
 use Rattle.usb_purge.specs.declared.plan_run.Performed.{Performed}

@@ -4,8 +4,8 @@ ghost use Rattle.std.specs.Prelude.{◌≡◌, IfOk};
 ghost use Rattle.std.specs.Vec.Iter.{into_iter_items};
 ghost use Rattle.usb_model.specs.Machine.Turns.{alone};
 ghost use Rattle.usb_model.specs.World.Journal.{entries, own, world_run};
-ghost use Rattle.usb_state.specs.Making.{setup_of};
-ghost use Rattle.usb_state.specs.Steps.{Turns};
+ghost use Rattle.proof_core.specs.Making.{setup_of};
+ghost use Rattle.proof_core.specs.Steps.{Turns};
 ghost use Rattle.usb_purge.specs.Alone.{AreCalledInOrder, AreCalledOnce, IsNext, IsPart, MakesOwn, RunsPicked, Shares, TellsPart, picked};
 
 use std::alloc::{AllocError, Global};

@@ -4,7 +4,7 @@ ghost use Rattle.std.specs.Prelude.{◌≡◌, ◌≤◌, ◌<◌, ◌+◌, ◌+
 ghost use Rattle.std.specs.List.{AllByRecursion, count_by};
 ghost use Rattle.std.specs.Vec.Iter.{into_iter_items};
 ghost use Rattle.usb_model.specs.World.Plans.{is_submission};
-ghost use Rattle.usb_state.specs.Making.{setup_of};
+ghost use Rattle.proof_core.specs.Making.{setup_of};
 ghost use Rattle.usb_purge.specs.Driving.{Advances, IsDriven, IsDrivenTo, TakesNext};
 ghost use Rattle.usb_purge.specs.PlanRuns.{entries_of, is_verdict};
 

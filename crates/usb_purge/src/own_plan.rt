@@ -6,7 +6,7 @@ ghost use Rattle.std.specs.Vec.Iter.{into_iter_items};
 ghost use Rattle.usb_model.specs.declared.verdict.Rule.TheVariants.{Free};
 ghost use Rattle.usb_model.specs.World.Journal.{world_run};
 ghost use Rattle.usb_model.specs.World.Plans.{expand, is_submission};
-ghost use Rattle.usb_state.specs.Making.{setup_of};
+ghost use Rattle.proof_core.specs.Making.{setup_of};
 ghost use Rattle.usb_purge.specs.Alone.{DrivesPicked, IsPlanPart, PerformsOwn, SharesPiece, TellsPlan, TellsPlanPart, picked, picked_rules};
 ghost use Rattle.usb_purge.specs.PlanRuns.{entries_of, is_verdict};
 

@@ -7,7 +7,7 @@ ghost use Rattle.usb_model.specs.declared.plan.Plan.TheVariants.{Return};
 ghost use Rattle.usb_model.specs.declared.verdict.Rule.{Rule};
 ghost use Rattle.usb_model.specs.Numbers.{takes_payload};
 ghost use Rattle.usb_model.specs.World.Plans.{first_stage, is_submission};
-ghost use Rattle.usb_state.specs.Making.{setup_of};
+ghost use Rattle.proof_core.specs.Making.{setup_of};
 ghost use Rattle.usb_purge.specs.Returning.{is_answer};
 ghost use Rattle.usb_purge.specs.PlanRuns.{Calls, CallsThere, MakesAnswer, MakesStep, Performs, Returns, RunBehind, RunBehindReturn, RunBehindStep, RunsToo, ShowsStage, entries_of, is_verdict};
 

@@ -2,7 +2,7 @@
 
 ghost use Rattle.std.specs.Prelude.{◌≡◌, true, false, IfOk, is_some};
 ghost use Rattle.usb_model.specs.World.Plans.{is_submission};
-ghost use Rattle.usb_state.specs.Making.{setup_of};
+ghost use Rattle.proof_core.specs.Making.{setup_of};
 ghost use Rattle.usb_purge.specs.Alone.{AdvancesBoth, AreLeft, Begins, PerformsTwice, is_own_by};
 ghost use Rattle.usb_purge.specs.PlanRuns.{is_verdict};
 

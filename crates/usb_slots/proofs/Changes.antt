@@ -3,13 +3,13 @@ use Rattle.std.proofs.Common.{◌≡◌, ℕ, refl, ap, sym, subst, ◌∙◌, a
 use Rattle.std.specs.Prelude.{Bool, slice_get, slice_index_or, slice_set}
 use Rattle.std.specs.Option.{option_map_or}
 use Rattle.usb_model.specs.Setup.{Setup, endpoint_id, interface_of}
-use Rattle.usb_kept.specs.Kept.{KeptEndpoint}
+use Rattle.usb_design.specs.Kept.{KeptEndpoint}
 use Rattle.usb_device.specs.Pipe.{Pipe, pipe_at}
 use Rattle.usb_context.specs.Context.{Context}
 use Rattle.usb_xhc.specs.Controller.{Controller, slot_changed}
 use Rattle.usb_xhc.specs.Slots.{DeviceSlot, changed, context_of}
 use Rattle.usb_match.specs.Endpoint.{IsContext, IsPipe}
-use Rattle.usb_shows.specs.Shows.{RingEvent, RingOrder}
+use Rattle.proof_design.specs.Shows.{RingEvent, RingOrder}
 use Rattle.usb_slots.specs.Holds.{AllPosted, HasNone, HasRing, Holds, IsEnd, IsSlot, RingIs, with_end}
 use Rattle.usb_slots.specs.Laws.{HasPlain}
 use Rattle.usb_slots.proofs.Ids.{id-lt}

@@ -4,13 +4,13 @@ use Rattle.std.proofs.lemmas.List.{map-append}
 use Rattle.usb_model.specs.Setup.{endpoint_id}
 use Rattle.usb_trb.specs.declared.kind.TrbKind.{TrbKind}
 use Rattle.usb_segment.specs.Places.{address_of, index_of}
-use Rattle.usb_kept.specs.Kept.{Completion, Telling, Transfer}
+use Rattle.usb_design.specs.Kept.{Completion, Telling, Transfer}
 use Rattle.usb_ering.specs.Ring.{Ring}
 use Rattle.usb_context.specs.Context.{Context}
 use Rattle.usb_context.specs.Posting.{posted_all, posted_one}
 use Rattle.usb_xhc.specs.Controller.{order_address}
 use Rattle.usb_match.specs.Told.{event_in, event_of}
-use Rattle.usb_shows.specs.Shows.{RingEvent, event_at, order_at}
+use Rattle.proof_design.specs.Shows.{RingEvent, event_at, order_at}
 use Rattle.usb_slots.specs.Holds.{event_trb, ring_at}
 use Rattle.usb_slots.specs.Laws.{PostsCore, TakesCore}
 use Rattle.usb_slots.proofs.Orders.{orders_more}

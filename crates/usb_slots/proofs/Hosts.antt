@@ -8,8 +8,8 @@ use Rattle.usb_model.specs.declared.request.Request.{Request}
 use Rattle.usb_model.specs.Limits.{most_bytes}
 use Rattle.usb_model.specs.Requests.{length_of}
 use Rattle.usb_model.specs.Setup.{Setup, endpoint_id, interface_of, packet_size_of}
-use Rattle.usb_kept.specs.Kept.{KeptEndpoint, KeptTransfer, trbs_of}
-use Rattle.usb_kept.specs.Joining.{joined, new_kept}
+use Rattle.usb_design.specs.Kept.{KeptEndpoint, KeptTransfer, trbs_of}
+use Rattle.usb_design.specs.Joining.{joined, new_kept}
 use Rattle.usb_device.specs.Pipe.{Pipe, pipe_at}
 use Rattle.usb_transfer.specs.Tds.{tds_of}
 use Rattle.usb_transfer.specs.Trbs.{normals_of}
@@ -20,9 +20,9 @@ use Rattle.usb_xhc.specs.Controller.{Controller, slot_changed}
 use Rattle.usb_xhc.specs.Slots.{DeviceSlot, changed, context_of}
 use Rattle.usb_match.specs.Endpoint.{IsContext}
 use Rattle.usb_match.proofs.Hosts as match
-use Rattle.usb_shows.specs.Shows.{RingEvent, RingOrder}
+use Rattle.proof_design.specs.Shows.{RingEvent, RingOrder}
 use Rattle.usb_slots.specs.Holds.{HasRing, Holds, with_end}
-use Rattle.usb_shows.specs.Known.{NoMove}
+use Rattle.proof_design.specs.Known.{NoMove}
 use Rattle.usb_slots.specs.Laws.{HasPlain}
 use Rattle.usb_slots.proofs.Changes.{holds_changed}
 use Rattle.usb_slots.proofs.Orders.{orders_kept, orders_still, start_joined}

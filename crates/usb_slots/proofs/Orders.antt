@@ -11,16 +11,16 @@ use Rattle.usb_model.specs.Setup.{endpoint_id}
 use Rattle.usb_trb.specs.declared.kind.TrbKind.{TrbKind}
 use Rattle.usb_trb.specs.declared.kind.TrbKind.TheVariants.{SetDequeue}
 use Rattle.usb_segment.specs.Places.{address_of, cycle_of}
-use Rattle.usb_kept.specs.Kept.{KeptEndpoint, KeptTransfer, first_place}
-use Rattle.usb_kept.specs.Handling.{find_at, past_at, past_kept_blanks}
-use Rattle.usb_kept.specs.Serving.{Packet, answer_now, answered_by, answered_gone, endpoint_with, gave, got, packet_now, put_at, sent_before, serve_at, serve_kept}
-use Rattle.usb_kept.specs.Commanding as kept
+use Rattle.usb_design.specs.Kept.{KeptEndpoint, KeptTransfer, first_place}
+use Rattle.usb_design.specs.Handling.{find_at, past_at, past_kept_blanks}
+use Rattle.usb_design.specs.Serving.{Packet, answer_now, answered_by, answered_gone, endpoint_with, gave, got, packet_now, put_at, sent_before, serve_at, serve_kept}
+use Rattle.usb_design.specs.Commanding as kept
 use Rattle.usb_tring.specs.Line.{places}
 use Rattle.usb_match.specs.Laws.{HaveTrbsOf, start_of}
 use Rattle.usb_match.proofs.Goes.{put_same}
-use Rattle.usb_shows.specs.Shows.{RingOrder}
+use Rattle.proof_design.specs.Shows.{RingOrder}
 use Rattle.usb_slots.specs.Holds.{AllPosted, IsPosted, ring_at, with_end}
-use Rattle.usb_shows.specs.Known.{NoMove}
+use Rattle.proof_design.specs.Known.{NoMove}
 
 -- an order is one of any endpoint that goes on there
 pub posted_kept : (b after : KeptEndpoint) (d e : ℕ) (o : Errand) (t : TrbKind) → start_of after ≡ start_of b → IsPosted b d e o t → IsPosted after d e o t

@@ -5,8 +5,8 @@ use Rattle.std.specs.Option.{option_map_or, unwrap_or}
 use Rattle.usb_model.specs.declared.endpoint.EndpointState.{EndpointState}
 use Rattle.usb_model.specs.declared.response.Response.{Response}
 use Rattle.usb_model.specs.Setup.{Setup, endpoint_id, script_of}
-use Rattle.usb_kept.specs.Kept.{KeptEndpoint, KeptTransfer, first_place, new_kept_endpoint}
-use Rattle.usb_kept.specs.Handling.{find_at, past_kept_blanks}
+use Rattle.usb_design.specs.Kept.{KeptEndpoint, KeptTransfer, first_place, new_kept_endpoint}
+use Rattle.usb_design.specs.Handling.{find_at, past_kept_blanks}
 use Rattle.usb_device.specs.Pipe.{Pipe, cleared, no_pipe, pipe_at, rewound}
 use Rattle.usb_context.specs.Context.{Context, configured}
 use Rattle.usb_xhc.specs.Controller.{Controller, slot_changed}
@@ -14,9 +14,9 @@ use Rattle.usb_xhc.specs.Slots.{DeviceSlot, context_of, renewed}
 use Rattle.usb_match.specs.Endpoint.{IsContext, IsPipe, Stands}
 use Rattle.usb_match.specs.Laws.{HaveTrbsOf}
 use Rattle.usb_match.proofs.Hosts as match
-use Rattle.usb_shows.specs.Shows.{RingEvent, RingOrder}
+use Rattle.proof_design.specs.Shows.{RingEvent, RingOrder}
 use Rattle.usb_slots.specs.Holds.{Holds, IsEnd, IsSlot, RingIs, with_end}
-use Rattle.usb_shows.specs.Known.{NoMove}
+use Rattle.proof_design.specs.Known.{NoMove}
 use Rattle.usb_slots.specs.Laws.{HostsAll}
 use Rattle.usb_slots.proofs.Changes.{context_set, slot_changed_is}
 use Rattle.usb_slots.proofs.Hosts.{IsAt, blanks, drops, pushes, rings}

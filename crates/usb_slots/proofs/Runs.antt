@@ -10,9 +10,9 @@ use Rattle.usb_model.specs.Setup.{Setup, endpoint_id}
 use Rattle.usb_trb.specs.declared.kind.TrbKind.{TrbKind}
 use Rattle.usb_trb.specs.declared.kind.TrbKind.TheVariants.{CommandCompletion, SetDequeue, StopEndpoint, ResetEndpoint}
 use Rattle.usb_segment.specs.Places.{address_of, cycle_of}
-use Rattle.usb_kept.specs.Kept.{KeptEndpoint}
-use Rattle.usb_kept.specs.Handling.{errand_of}
-use Rattle.usb_kept.specs.Commanding as kept
+use Rattle.usb_design.specs.Kept.{KeptEndpoint}
+use Rattle.usb_design.specs.Handling.{errand_of}
+use Rattle.usb_design.specs.Commanding as kept
 use Rattle.usb_device.specs.Pipe.{Pipe, pipe_at}
 use Rattle.usb_tring.specs.Line.{places}
 use Rattle.usb_context.specs.Commanding.{carried, endpoint_not_enabled_error, move_in, moved_at, before, reset_in, stop_in, trb_error}
@@ -22,7 +22,7 @@ use Rattle.usb_xhc.specs.Controller.{Controller, carried_at, code_for, endpoint_
 use Rattle.usb_xhc.specs.Slots.{DeviceSlot, changed, context_of, order_code, order_events}
 use Rattle.usb_match.specs.Laws.{CarriesAs, IsOrder, start_of}
 use Rattle.usb_match.proofs.Carries.{carries}
-use Rattle.usb_shows.specs.Shows.{RingOrder, event_at}
+use Rattle.proof_design.specs.Shows.{RingOrder, event_at}
 use Rattle.usb_slots.specs.Holds.{AllPosted, HasRing, IsEnd, IsPosted, RingIs, event_trb, ring_at, with_end}
 use Rattle.usb_slots.specs.Laws.{RunsCore}
 use Rattle.usb_slots.proofs.Changes.{IsSame, with_context, but_context, context_set, ring_with}

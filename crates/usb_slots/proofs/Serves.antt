@@ -8,9 +8,9 @@ use Rattle.usb_model.specs.declared.endpoint.EndpointState.TheVariants.{Running,
 use Rattle.usb_model.specs.declared.reply.Reply.TheVariants.{Idle}
 use Rattle.usb_model.specs.declared.request.Body.TheVariants.{In}
 use Rattle.usb_model.specs.Setup.{Setup, interface_of, packet_size_of}
-use Rattle.usb_kept.specs.Kept.{KeptEndpoint, KeptTransfer}
-use Rattle.usb_kept.specs.Handling.{find_at}
-use Rattle.usb_kept.specs.Serving.{Answered, answer_now, got, packet_now, serve_at, serve_kept}
+use Rattle.usb_design.specs.Kept.{KeptEndpoint, KeptTransfer}
+use Rattle.usb_design.specs.Handling.{find_at}
+use Rattle.usb_design.specs.Serving.{Answered, answer_now, got, packet_now, serve_at, serve_kept}
 use Rattle.usb_device.specs.Pipe.{Pipe, answer_of, pipe_at}
 use Rattle.usb_context.specs.declared.packet.Packet.{Packet as Told}
 use Rattle.usb_context.specs.declared.trb_at.TrbAt.{TrbAt}
@@ -21,7 +21,7 @@ use Rattle.usb_xhc.specs.Controller.{Controller, served_at, told_at}
 use Rattle.usb_xhc.specs.Slots.{DeviceSlot, context_of, read_after}
 use Rattle.usb_match.specs.Laws.{ServedAs, ServesAs, packet_for, pipe_behind}
 use Rattle.usb_match.proofs.Serves as match
-use Rattle.usb_shows.specs.Shows.{RingEvent, RingOrder, event_at}
+use Rattle.proof_design.specs.Shows.{RingEvent, RingOrder, event_at}
 use Rattle.usb_slots.specs.Holds.{HasRing, Holds, IsEnd, IsSlot, RingIs, with_end}
 use Rattle.usb_slots.specs.Laws.{HasPlain, Serves, ServesCore, out_of}
 use Rattle.usb_slots.proofs.Changes.{context_set, ring_with}

@@ -7,13 +7,13 @@ use Rattle.std.proofs.lemmas.List.{ext_get_or, length-map}
 use Rattle.std.proofs.lemmas.Option.{same_Some, slice_get_within}
 use Rattle.usb_model.specs.declared.response.Response.{Response}
 use Rattle.usb_model.specs.Setup.{Setup, endpoint_id, interface_of, script_of}
-use Rattle.usb_kept.specs.Kept.{KeptEndpoint}
+use Rattle.usb_design.specs.Kept.{KeptEndpoint}
 use Rattle.usb_device.specs.Pipe.{Pipe, no_pipe, pipe_at}
 use Rattle.usb_context.specs.Context.{Context}
 use Rattle.usb_xhc.specs.Controller.{Controller}
 use Rattle.usb_xhc.specs.Slots.{DeviceSlot, context_of}
 use Rattle.usb_match.specs.Endpoint.{IsPipe}
-use Rattle.usb_shows.specs.Shows.{RingEvent, RingOrder}
+use Rattle.proof_design.specs.Shows.{RingEvent, RingOrder}
 use Rattle.usb_slots.specs.Holds.{AllPosted, Holds, IsEnd, IsSlot, RingIs, with_end}
 use Rattle.usb_slots.specs.Laws.{HasPlain}
 use Rattle.usb_slots.proofs.Ends.{at_other, beside, here}

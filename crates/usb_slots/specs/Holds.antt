@@ -8,7 +8,7 @@ use Rattle.usb_model.specs.Setup.{Setup, endpoint_id, interface_of, kind_of, pac
 use Rattle.usb_trb.specs.declared.kind.TrbKind.{TrbKind}
 use Rattle.usb_trb.specs.declared.kind.TrbKind.TheVariants.{CommandCompletion, ResetEndpoint, SetDequeue, StopEndpoint}
 use Rattle.usb_segment.specs.Places.{address_of, cycle_of}
-use Rattle.usb_kept.specs.Kept.{KeptEndpoint, Transfer}
+use Rattle.usb_design.specs.Kept.{KeptEndpoint, Transfer}
 use Rattle.usb_device.specs.Pipe.{Pipe, pipe_at, rewound}
 use Rattle.usb_tring.specs.Line.{places}
 use Rattle.usb_context.specs.Context.{Context}
@@ -18,7 +18,7 @@ use Rattle.usb_xhc.specs.Slots.{DeviceSlot, context_of}
 use Rattle.usb_match.specs.Endpoint.{IsContext, IsPipe}
 use Rattle.usb_match.specs.Laws.{start_of}
 use Rattle.usb_match.specs.Told.{event_in}
-use Rattle.usb_shows.specs.Shows.{Completes, Core, RingEvent, RingOrder, Transfers}
+use Rattle.proof_design.specs.Shows.{Completes, Core, RingEvent, RingOrder, Transfers}
 
 -- where an endpoint's ring begins, by device and address
 abbrev pub ring_at : ℕ → ℕ → ℕ

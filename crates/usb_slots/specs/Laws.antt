@@ -14,11 +14,11 @@ use Rattle.usb_claims.specs.Tables.{is_plain}
 use Rattle.usb_descriptors.specs.Table.{IsTable}
 use Rattle.usb_trb.specs.declared.kind.TrbKind.{TrbKind}
 use Rattle.usb_segment.specs.Places.{index_of}
-use Rattle.usb_kept.specs.Kept.{KeptEndpoint, KeptTransfer, code_of, new_kept_endpoint, trbs_of}
-use Rattle.usb_kept.specs.Handling.{errand_of, find_at}
-use Rattle.usb_kept.specs.Serving.{Answered, answer_now, got, packet_now, serve_kept}
-use Rattle.usb_kept.specs.Commanding as kept
-use Rattle.usb_kept.specs.Joining.{joined}
+use Rattle.usb_design.specs.Kept.{KeptEndpoint, KeptTransfer, code_of, new_kept_endpoint, trbs_of}
+use Rattle.usb_design.specs.Handling.{errand_of, find_at}
+use Rattle.usb_design.specs.Serving.{Answered, answer_now, got, packet_now, serve_kept}
+use Rattle.usb_design.specs.Commanding as kept
+use Rattle.usb_design.specs.Joining.{joined}
 use Rattle.usb_device.specs.Pipe.{IsLawful, Pipe, cleared, pipe_at}
 use Rattle.usb_transfer.specs.Tds.{tds_of}
 use Rattle.usb_transfer.specs.Trbs.{normals_of}
@@ -33,9 +33,9 @@ use Rattle.usb_xhc.specs.Slots.{DeviceSlot, changed, context_of, read_after, ren
 use Rattle.usb_match.specs.Endpoint.{IsFresh}
 use Rattle.usb_match.specs.Laws.{HaveTrbsOf}
 use Rattle.usb_match.specs.Told.{reply_of}
-use Rattle.usb_shows.specs.Lively.{IsFine}
-use Rattle.usb_shows.specs.Known.{NoMove}
-use Rattle.usb_shows.specs.Shows.{RingEvent, RingOrder, event_at, order_at}
+use Rattle.proof_design.specs.Lively.{IsFine}
+use Rattle.proof_design.specs.Known.{NoMove}
+use Rattle.proof_design.specs.Shows.{RingEvent, RingOrder, event_at, order_at}
 use Rattle.usb_slots.specs.Holds.{Holds, IsPosted, with_end}
 use Rattle.usb_slots.specs.Made.{AreLawful, IsOf, IsRead, IsSlotOf, TakesSizes}
 

@@ -11,7 +11,7 @@ use Rattle.usb_command.specs.declared.words.Task.TheVariants.{Run, Steps, Alone,
 use Rattle.usb_streams.proofs.Beginnings.{none_yet}
 use Rattle.usb_streams.proofs.Findings.{no_report}
 use Rattle.std.proofs.lemmas.List.Sorted.{IsPermutation-refl}
-use Rattle.usb_liveplan.specs.Callbacks.{AreCallbacks}
+use Rattle.trace_live.specs.Callbacks.{AreCallbacks}
 use Rattle.usb_trace.specs.Lived.{lived_of, AppendsSomeCallbacks, BeginsCallbacks}
 use Rattle.trace_run.specs.Tasks.{alone_text, left_lines, run_text, steps_text}
 use Rattle.usb_trace.specs.Program.{Begins, BeginsEntries, BeginsPicture}

@@ -10,7 +10,7 @@ use Rattle.usb_model.specs.Text.{lines_text}
 use Rattle.usb_line.specs.declared.line.Line.{Line}
 use Rattle.usb_line.specs.declared.line.Line.TheVariants.{Piece}
 use Rattle.usb_line.specs.Line.{line_of_text}
-use Rattle.usb_liveplan.specs.Callbacks.{AreCallbacks}
+use Rattle.trace_live.specs.Callbacks.{AreCallbacks}
 use Rattle.usb_streams.specs.Printing.{AppendsSome}
 use Rattle.usb_text.specs.declared.scenario.Scenario.{Scenario}
 use Rattle.usb_text.specs.Scenario.{scenario_of}

@@ -2,8 +2,8 @@
 use Rattle.std.proofs.Common.{◌≡◌, Bool, true, false, List, [], ◌∷◌, ◌++◌, ◌&&◌, refl, ap, ◌∙◌, append_assoc}
 use Rattle.std.specs.List.{list_all}
 use Rattle.usb_model.specs.declared.step.Step.{Step}
-use Rattle.usb_book.specs.declared.place.Place.{Place}
-use Rattle.usb_book.specs.Seen.{Receipted}
+use Rattle.usb_journal.specs.declared.place.Place.{Place}
+use Rattle.usb_journal.specs.Seen.{Receipted}
 use Rattle.usb_library.specs.Calling.{Calling, Makes}
 use Rattle.usb_workers.specs.Steps.{Works}
 

@@ -3,7 +3,7 @@ use Rattle.std.specs.Prelude.{◌≡◌, Bool, true, false, List, ◌++◌}
 use Rattle.std.specs.List.{list_all}
 use Rattle.usb_model.specs.declared.step.Step.{Step}
 use Rattle.usb_model.specs.declared.step.Step.TheVariants.{Answer, Command, Deliver, Serve, Take}
-use Rattle.usb_book.specs.declared.place.Place.{Place}
+use Rattle.usb_journal.specs.declared.place.Place.{Place}
 use Rattle.usb_library.specs.Calling.{Calling}
 
 -- the controller's part: packets and orders

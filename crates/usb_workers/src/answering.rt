@@ -4,9 +4,9 @@ ghost use Rattle.std.specs.Prelude.{◌≡◌};
 ghost use Rattle.usb_workers.specs.Steps.{Works, is_events};
 
 use std::sync::Wait;
-use usb_book::{Naming, Recorder};
 use usb_callback::Callback;
 use usb_device::Device;
+use usb_journal::{Naming, Recorder};
 use usb_library::{Caller, Library};
 use usb_model::{Bytes, Name, Verdict};
 

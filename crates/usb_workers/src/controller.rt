@@ -7,9 +7,9 @@ use crate::gate::{Gate, Point};
 use crate::parking::Parking;
 use std::alloc::Global;
 use std::sync::Wait;
-use usb_book::{Naming, Recorder};
 use usb_core::Pending;
 use usb_device::Device;
+use usb_journal::{Naming, Recorder};
 use usb_library::{Caller, Library, Part};
 
 /// A device answers one packet at the endpoint that the look showed. Want of memory is met by the next look.

@@ -8,10 +8,10 @@ use crate::gate::{Gate, Point};
 use crate::parking::Parking;
 use std::alloc::Global;
 use std::sync::Wait;
-use usb_book::{Events, Naming, Recorder};
 use usb_callback::Callback;
 use usb_core::Taken;
 use usb_device::Device;
+use usb_journal::{Events, Naming, Recorder};
 use usb_library::{Caller, Library, Part};
 
 /// An event is handled, if the look showed one. Want of memory is met by the next look.

@@ -3,8 +3,8 @@
 use crossbeam_utils::sync::Parker;
 use std::alloc::Global;
 use std::sync::Wait;
-use usb_book::{Naming, Recorder};
 use usb_device::Device;
+use usb_journal::{Naming, Recorder};
 use usb_library::{Library, Part};
 
 /// What a worker waits on while there is nothing to do. Where memory was refused for a parker it doesn't wait, and looks

@@ -1,9 +1,9 @@
-//! Runs of `usb_plain` by the outside's lines: two handles at one device, which is unplugged amid their transfers.
+//! Runs of `plain_run` by the outside's lines: two handles at one device, which is unplugged amid their transfers.
 
 use super::model::is_line_of;
+use plain_run::{alone, run};
 use std::alloc::Global;
 use usb_model::{Entry, Name, Plan, Sequence, Setup, Step};
-use usb_plain::{alone, run};
 use usb_text::{Scenario, into_setups, read_scenario};
 
 /// Two handles with transfers at one device, which is unplugged. It has bulk endpoints of interface 0 and an interrupt

@@ -1,4 +1,4 @@
-use Rattle.usb_state.specs.Making.{setup_of}
+use Rattle.proof_core.specs.Making.{setup_of}
 use Rattle.check_devices.proofs.booked.play.Given as goal
 
 abbrev pub ghosts-booked-L-Naming : goal.ghosts-booked-L-Naming

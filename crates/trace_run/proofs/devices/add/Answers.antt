@@ -2,7 +2,7 @@
 use Rattle.std.proofs.Common.{◌∷◌, [], ◌++◌, ◌∙◌, List, ap, map}
 use Rattle.usb_device.specs.Pipe.{Pipe}
 use Rattle.usb_model.specs.declared.response.Response.{Response}
-use Rattle.usb_state.specs.Making.{setup_of}
+use Rattle.proof_core.specs.Making.{setup_of}
 use Rattle.trace_run.proofs.Making.{scripts_of}
 use Rattle.trace_run.proofs.devices.add.Goals as goal
 

@@ -1,6 +1,6 @@
 -- The devices so far.
 use Rattle.std.proofs.Common.{◌≡◌}
-use Rattle.usb_state.specs.Making.{setup_of}
+use Rattle.proof_core.specs.Making.{setup_of}
 use Rattle.trace_run.proofs.devices.devices_of.Given as goal
 
 abbrev pub invariant-loop-device : goal.invariant-loop-device

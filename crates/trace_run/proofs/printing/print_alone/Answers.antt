@@ -1,6 +1,6 @@
 -- The runs were made for the plan.
 use Rattle.std.specs.Prelude.{map}
-use Rattle.usb_state.specs.Making.{setup_of}
+use Rattle.proof_core.specs.Making.{setup_of}
 use Rattle.usb_purge.proofs.BothRuns.{starts_both}
 use Rattle.trace_run.proofs.Printed.{of_both}
 use Rattle.trace_run.proofs.printing.print_alone.Goals as goal

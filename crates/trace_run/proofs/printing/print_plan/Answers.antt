@@ -1,7 +1,7 @@
 -- The run was made for the plan.
 use Rattle.std.specs.Prelude.{map}
 use Rattle.std.specs.Vec.Iter.{into_iter_items}
-use Rattle.usb_state.specs.Making.{setup_of}
+use Rattle.proof_core.specs.Making.{setup_of}
 use Rattle.trace_run.proofs.Printed.{of_plan, starts_plan}
 use Rattle.trace_run.proofs.printing.print_plan.Goals as goal
 

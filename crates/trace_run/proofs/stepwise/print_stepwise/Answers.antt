@@ -1,7 +1,7 @@
 -- The run was made for the plan.
 use Rattle.std.specs.Prelude.{map}
 use Rattle.std.specs.Vec.Iter.{into_iter_items}
-use Rattle.usb_state.specs.Making.{setup_of}
+use Rattle.proof_core.specs.Making.{setup_of}
 use Rattle.usb_text.specs.StepLines.{numbered}
 use Rattle.trace_run.proofs.Printed.{starts_plan}
 use Rattle.trace_run.proofs.Lined.{of_start}

@@ -1,4 +1,4 @@
-use Rattle.usb_account.proofs.Places.Runs.{keeps_places}
+use Rattle.proof_invariants.proofs.Places.Runs.{keeps_places}
 use Rattle.usb_core.proofs.laws.places.Goals as goal
 
 pub returns : goal.returns

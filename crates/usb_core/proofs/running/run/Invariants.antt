@@ -1,5 +1,5 @@
 -- The run so far.
-use Rattle.usb_state.specs.Making.{setup_of}
+use Rattle.proof_core.specs.Making.{setup_of}
 use Rattle.usb_core.proofs.Reached.{Reached}
 use Rattle.usb_core.proofs.running.run.Given as goal
 

@@ -2,7 +2,7 @@
 use Rattle.std.proofs.Common.{sym, ap, ◌∙◌, ◌++◌, append-nil}
 use Rattle.usb_model.specs.Machine.{device_of}
 use Rattle.usb_model.specs.Setup.{endpoints_of}
-use Rattle.usb_system.specs.Call.{machine_in}
+use Rattle.plain_system.specs.Call.{machine_in}
 use Rattle.usb_left.proofs.Pieces.{none_at_any}
 use Rattle.usb_left.proofs.inventory.add_at_endpoints.Goals as goal
 

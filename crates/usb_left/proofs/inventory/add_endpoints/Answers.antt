@@ -2,7 +2,7 @@
 use Rattle.usb_left.specs.Left.{at_endpoint}
 use Rattle.usb_model.specs.Setup.{endpoints_of}
 use Rattle.usb_model.specs.World.{own_endpoint}
-use Rattle.usb_system.specs.System.{world_of}
+use Rattle.plain_system.specs.System.{world_of}
 use Rattle.usb_left.proofs.Pieces.{one_further}
 use Rattle.usb_left.proofs.inventory.add_endpoints.Goals as goal
 

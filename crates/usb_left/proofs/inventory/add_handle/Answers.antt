@@ -3,8 +3,8 @@ use Rattle.std.proofs.Common.{◌++◌, map, ap, ◌∙◌}
 use Rattle.std.specs.List.{flat_map}
 use Rattle.usb_model.specs.Machine.{device_of, endpoint_at}
 use Rattle.usb_model.specs.Setup.{endpoints_of}
-use Rattle.usb_system.specs.Call.{machine_in}
-use Rattle.usb_system.specs.Tables.{handle_at}
+use Rattle.plain_system.specs.Call.{machine_in}
+use Rattle.plain_system.specs.Tables.{handle_at}
 use Rattle.usb_left.specs.Left.{at_endpoint, callback_left, event_left, order_left, result_left}
 use Rattle.usb_left.proofs.Pieces.{five_parts, of_pieces}
 use Rattle.usb_left.proofs.inventory.add_handle.Goals as goal

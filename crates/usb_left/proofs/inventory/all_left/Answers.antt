@@ -1,7 +1,7 @@
 -- All names were asked.
 use Rattle.std.proofs.Common.{arith, ap, ◌∙◌}
 use Rattle.usb_left.specs.Left.{left_below}
-use Rattle.usb_system.specs.System.{world_of}
+use Rattle.plain_system.specs.System.{world_of}
 use Rattle.usb_left.proofs.inventory.all_left.Goals as goal
 
 pub returns : goal.returns

@@ -1,7 +1,7 @@
 -- What the names so far left behind.
 use Rattle.std.proofs.Common.{◌≡◌}
 use Rattle.usb_left.specs.Left.{left_below}
-use Rattle.usb_system.specs.System.{world_of}
+use Rattle.plain_system.specs.System.{world_of}
 use Rattle.usb_left.proofs.inventory.all_left.Given as goal
 
 abbrev pub invariant-loop-number : goal.invariant-loop-number

@@ -1,7 +1,7 @@
 -- The steps so far, over whichever devices.
 use Rattle.usb_model.specs.Setup.{Setup}
 use Rattle.usb_model.specs.World.{new_world}
-use Rattle.usb_state.specs.State.{ShowsWorld}
+use Rattle.proof_core.specs.State.{ShowsWorld}
 use Rattle.usb_purge.proofs.Apart.{Amid}
 use Rattle.usb_purge.proofs.comparison.share_all.Given as goal
 

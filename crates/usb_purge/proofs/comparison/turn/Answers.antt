@@ -1,5 +1,5 @@
 use Rattle.std.proofs.Common.{subst}
-use Rattle.usb_state.specs.Steps.{Turns}
+use Rattle.proof_core.specs.Steps.{Turns}
 use Rattle.usb_purge.proofs.comparison.turn.Goals as goal
 
 pub returns-in-Ok : goal.returns-in-Ok

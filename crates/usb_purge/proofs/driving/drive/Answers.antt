@@ -1,7 +1,7 @@
 -- A piece further each turn.
 use Rattle.std.proofs.Common.{length, map, sym, ap, ◌∙◌}
 use Rattle.std.specs.Vec.Iter.{into_iter_items}
-use Rattle.usb_state.specs.Making.{setup_of}
+use Rattle.proof_core.specs.Making.{setup_of}
 use Rattle.usb_purge.proofs.Reached.{all, has_callback, is_no_verdict, none_stopped, none_yet, one_more, stopped}
 use Rattle.usb_purge.proofs.driving.drive.Goals as goal
 

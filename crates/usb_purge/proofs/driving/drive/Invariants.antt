@@ -1,7 +1,7 @@
 -- The plan so far.
 use Rattle.std.specs.Prelude.{map}
 use Rattle.std.specs.Vec.Iter.{into_iter_items}
-use Rattle.usb_state.specs.Making.{setup_of}
+use Rattle.proof_core.specs.Making.{setup_of}
 use Rattle.usb_purge.proofs.Reached.{Reached}
 use Rattle.usb_purge.proofs.driving.drive.Given as goal
 

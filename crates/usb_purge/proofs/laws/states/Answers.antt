@@ -1,4 +1,4 @@
-use Rattle.usb_lemmas.proofs.Handles.Runs.{states_alone}
+use Rattle.proof_lemmas.proofs.Handles.Runs.{states_alone}
 use Rattle.usb_purge.proofs.laws.states.Goals as goal
 
 pub returns : goal.returns

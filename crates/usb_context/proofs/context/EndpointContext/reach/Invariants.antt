@@ -1,5 +1,5 @@
 use Rattle.std.proofs.Common.{◌≡◌, ◌≤◌, ◌+◌, ◌-◌, ◌||◌, suc, Some, drop}
-use Rattle.usb_kept.specs.Stands.{total}
+use Rattle.usb_design.specs.Stands.{total}
 use Rattle.usb_context.specs.Ahead.{lengths, goes_on}
 use Rattle.usb_context.specs.Context.{trbs}
 use Rattle.usb_context.specs.Serving.{trb_at}

@@ -1,5 +1,5 @@
 use Rattle.std.proofs.Common.{◌≡◌, ◌≤◌, ◌-◌, Some, drop, ◌⊎◌}
-use Rattle.usb_kept.specs.Stands.{stand, total}
+use Rattle.usb_design.specs.Stands.{stand, total}
 use Rattle.usb_context.specs.Ahead.{lengths}
 use Rattle.usb_context.specs.Context.{trbs, stand_by}
 use Rattle.usb_context.specs.Serving.{trb_at}

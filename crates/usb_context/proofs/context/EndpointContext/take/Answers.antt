@@ -1,5 +1,5 @@
 use Rattle.std.proofs.Common.{◌∙◌, ap, sym, Some, None}
-use Rattle.usb_kept.specs.Stands.{Stand}
+use Rattle.usb_design.specs.Stands.{Stand}
 use Rattle.usb_context.specs.Context.{event_by}
 use Rattle.usb_context.specs.Posting.{posted_all, posted_one}
 use Rattle.usb_context.specs.Serving.{Served}

@@ -1,8 +1,8 @@
 use Rattle.std.proofs.Common.{subst, Some}
 use Rattle.usb_model.specs.declared.step.Step.TheVariants.{Release}
-use Rattle.usb_state.specs.State.{State}
-use Rattle.usb_state.specs.Steps.{Turns}
-use Rattle.usb_state.proofs.Turning.{shows_again, turns}
+use Rattle.proof_core.specs.State.{State}
+use Rattle.proof_core.specs.Steps.{Turns}
+use Rattle.proof_core.proofs.Turning.{shows_again, turns}
 use Rattle.usb_core.proofs.calls.Core.release.Goals as goal
 
 pub invariant_of-self : goal.invariant_of-self

@@ -1,9 +1,9 @@
 use Rattle.std.proofs.Common.{◌∙◌, ap, option_map, refl, sym, subst, Some}
 use Rattle.usb_model.specs.declared.step.Step.TheVariants.{Take}
-use Rattle.usb_state.specs.Calls.{called_entry}
+use Rattle.proof_core.specs.Calls.{called_entry}
 use Rattle.usb_core.proofs.Turning.{as_turn}
 use Rattle.usb_model.specs.declared.entry.Entry.{Entry}
-use Rattle.usb_parts.specs.Taking.{CarriesOut}
+use Rattle.usb_steps.specs.Taking.{CarriesOut}
 use Rattle.usb_core.specs.Stepping.{GoesOut}
 use Rattle.usb_core.proofs.calls.Core.step_take.Goals as goal
 

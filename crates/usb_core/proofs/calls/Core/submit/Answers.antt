@@ -2,9 +2,9 @@ use Rattle.std.proofs.Common.{Some, IfErr, IfOk, OnErr, ◌≡◌, subst}
 use Rattle.usb_model.specs.declared.refused.Refused.TheVariants.{NoMem}
 use Rattle.usb_model.specs.declared.reply.Reply.TheVariants.{Number, Refused}
 use Rattle.usb_model.specs.declared.step.Step.TheVariants.{Submit}
-use Rattle.usb_state.specs.Calls.{Stays}
-use Rattle.usb_state.specs.State.{State}
-use Rattle.usb_state.specs.Steps.{Turns}
+use Rattle.proof_core.specs.Calls.{Stays}
+use Rattle.proof_core.specs.State.{State}
+use Rattle.proof_core.specs.Steps.{Turns}
 use Rattle.usb_core.proofs.Turning.{shown_either, turns_if, turns_unless}
 use Rattle.usb_core.proofs.calls.Core.submit.Goals as goal
 

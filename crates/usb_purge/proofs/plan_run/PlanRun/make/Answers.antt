@@ -1,6 +1,6 @@
 use Rattle.std.proofs.Common.{sym, subst}
-use Rattle.usb_state.specs.Carrying.{Carries}
-use Rattle.usb_state.specs.Steps.{Turns}
+use Rattle.proof_core.specs.Carrying.{Carries}
+use Rattle.proof_core.specs.Steps.{Turns}
 use Rattle.usb_core.specs.Stepping.{kept_after}
 use Rattle.usb_purge.proofs.Stages.{comes_out, made}
 use Rattle.usb_purge.proofs.plan_run.PlanRun.make.Goals as goal

@@ -1,4 +1,4 @@
-use Rattle.usb_state.specs.Making.{setup_of}
+use Rattle.proof_core.specs.Making.{setup_of}
 use Rattle.usb_purge.proofs.Stages.{first_shown}
 use Rattle.usb_purge.proofs.plan_run.PlanRun.new.Goals as goal
 

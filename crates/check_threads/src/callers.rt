@@ -1,0 +1,185 @@
+//! Many callers over one library.
+
+use crate::acts::{Act, Acts};
+use crate::halt::Halt;
+use crate::player::Played;
+use crate::stage::{Seen, Stand, play_on};
+use crate::told::Told;
+use crate::turnstile::Turnstile;
+use anyhow::{Result, anyhow};
+use example_devices::{Reader, devices};
+use std::alloc::Global;
+use std::sync::Wait;
+use std::thread::Threads;
+use usb_core::run;
+use usb_journal::Place;
+use usb_model::{Entry, Name, Reply, Sequence, Step};
+use usb_purge::alone;
+use usb_workers::Point;
+
+/// How many handles there are, each with a thread, a caller and an interface of its own.
+const HANDLES: u8 = 8;
+
+/// How many transfers each submits.
+const TRANSFERS: u16 = 50;
+
+/// The devices: two handles have an interface each of one.
+const DEVICES: u8 = 4;
+
+/// The thread of a handle.
+fn handle(alloc: Global, h: u8) -> Result<Acts> {
+    let mut acts = Acts::claimed(alloc, Reader::new(h, h / 2, h % 2)?)?;
+    for _ in 0..TRANSFERS {
+        acts.read(1, Told::stop())?;
+    }
+    Ok(acts)
+}
+
+/// How many places of a caller the journal has.
+fn places_of(seen: &Seen, caller: u32) -> u64 {
+    let count = seen
+        .places
+        .iter()
+        .filter(|place| place.caller == caller)
+        .count();
+    count as u64
+}
+
+/// An error where a caller has another number of places than it has receipts.
+fn are_received(seen: &Seen) -> Result<()> {
+    for played in &seen.played {
+        let Played {
+            caller,
+            receipts,
+            ..
+        } = played;
+        if places_of(seen, *caller) != *receipts {
+            return Err(anyhow!("caller {caller} has another number of places"));
+        }
+    }
+    Ok(())
+}
+
+/// Whether two entries print the same.
+fn is_same(alloc: Global, one: &Entry, other: &Entry) -> Result<bool> {
+    let one = format!(in alloc; "{one}")?;
+    let other = format!(in alloc; "{other}")?;
+    Ok(one.as_str() == other.as_str())
+}
+
+/// Whether two lists of entries are the same.
+fn are_same(alloc: Global, some: &[Entry], others: &[Entry]) -> Result<bool> {
+    if some.len() != others.len() {
+        return Ok(false);
+    }
+    for (one, other) in some.iter().zip(others) {
+        if !is_same(alloc, one, other)? {
+            return Ok(false);
+        }
+    }
+    Ok(true)
+}
+
+/// How many callbacks these entries tell, where their numbers rise from 0 on.
+fn callbacks_in(entries: &[Entry]) -> Option<u64> {
+    let mut count: u64 = 0;
+    for entry in entries {
+        if let Reply::Called(returned) = &entry.reply {
+            if returned.n != count {
+                return None;
+            }
+            count = count.saturating_add(1);
+        }
+    }
+    Some(count)
+}
+
+/// What a handle sees amid the others, and alone over its own steps.
+fn both(
+    alloc: Global,
+    sizes: &[u16],
+    steps: &[Step],
+    h: Name,
+) -> Result<(Sequence<Entry>, Sequence<Entry>)> {
+    let setup = devices(alloc, DEVICES, 8, sizes)?;
+    let both = alone(alloc, setup, steps, h)?;
+    Ok((both.shared, both.alone))
+}
+
+/// An error where a handle alone sees something else than amid the others, or not so many callbacks in order.
+fn is_alone(alloc: Global, sizes: &[u16], steps: &[Step], h: u8, transfers: u64) -> Result<()> {
+    let Some(name) = Name::new(h) else {
+        return Err(anyhow!("no name {h}"));
+    };
+    let (shared, alone) = both(alloc, sizes, steps, name)?;
+    if !are_same(alloc, shared.as_slice(), alone.as_slice())? {
+        return Err(anyhow!("handle {h} sees something else alone"));
+    }
+    if callbacks_in(alone.as_slice()) != Some(transfers) {
+        return Err(anyhow!("handle {h} has other callbacks"));
+    }
+    Ok(())
+}
+
+/// The entries of a run of these steps over fresh devices.
+fn entries_of(alloc: Global, sizes: &[u16], steps: &[Step]) -> Result<Sequence<Entry>> {
+    let fresh = devices(alloc, DEVICES, 8, sizes)?;
+    match run(alloc, fresh, steps) {
+        Ok(entries) => Ok(entries),
+        Err(_) => Err(anyhow!("the run stopped")),
+    }
+}
+
+/// The steps of a journal, and their entries.
+fn apart(alloc: Global, places: Vec<Place>) -> Result<(Vec<Step>, Vec<Entry>)> {
+    let (mut steps, mut entries) = (Vec::new(alloc), Vec::new(alloc));
+    for place in places {
+        steps.push(place.step)?;
+        entries.push(place.entry)?;
+    }
+    Ok((steps, entries))
+}
+
+/// An error where a journal isn't the run of its steps over devices with these packets, or a handle alone sees
+/// something else than amid the others, or not so many callbacks in order.
+fn is_replayed(alloc: Global, places: Vec<Place>, sizes: &[u16], transfers: u64) -> Result<()> {
+    let (steps, entries) = apart(alloc, places)?;
+    let again = entries_of(alloc, sizes, steps.as_slice())?;
+    if !are_same(alloc, again.as_slice(), entries.as_slice())? {
+        return Err(anyhow!("the journal isn't the run of its steps"));
+    }
+    for h in 0..HANDLES {
+        is_alone(alloc, sizes, steps.as_slice(), h, transfers)?;
+    }
+    Ok(())
+}
+
+/// The threads of all handles.
+fn handles(alloc: Global) -> Result<Vec<Vec<Act>>> {
+    let mut threads = Vec::new(alloc);
+    for h in 0..HANDLES {
+        threads.push(handle(alloc, h)?.into_list())?;
+    }
+    Ok(threads)
+}
+
+/// What all of them saw.
+fn seen_by_all<R: Threads + Wait + Sync>(rt: &R, alloc: Global, sizes: &[u16]) -> Result<Seen> {
+    let gates = Turnstile::at(Point::Take, 0, &Halt::new(alloc)?)?;
+    let stand = Stand {
+        count: DEVICES,
+        packet: 8,
+        sizes,
+    };
+    play_on(rt, alloc, stand, gates, handles(alloc)?)
+}
+
+/// Four devices, eight threads with a handle and an interface each, and fifty transfers of each: each caller has as
+/// many places as receipts, a run of the journal's steps gives its entries, and each handle alone sees what it sees
+/// amid the others.
+pub fn many_callers<R: Threads + Wait + Sync>(rt: &R, alloc: Global) -> Result<()> {
+    let sizes = vec![in alloc; 1_u16; usize::from(TRANSFERS)]?;
+    let seen = seen_by_all(rt, alloc, sizes.as_slice())?;
+    are_received(&seen)?;
+    is_replayed(alloc, seen.places, sizes.as_slice(), u64::from(TRANSFERS))
+}

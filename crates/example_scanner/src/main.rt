@@ -1,0 +1,78 @@
+//! A scanner: bulk transfers of 65,536 bytes go round, each submitted again from its callback, until they are cancelled
+//! at a random moment. Copy it for a device that streams.
+//!
+//! Three files: `strip.rt` is the callback with the count that it keeps, `scanner.rt` the driver, and this the program.
+//! The device is a simulated one (`example_devices`), whose bytes are numbered, so that the program sees whether each
+//! came, and in its order.
+#![tactic(auto)]
+
+mod scanner;
+mod strip;
+
+use crate::scanner::{IN_LINE, Scanner};
+use crate::strip::Tally;
+use anyhow::{Result, anyhow};
+use example_devices::{Reader, devices};
+use std::alloc::Global;
+use std::random::RandomSource;
+use std::sync::{Arc, Wait};
+use std::thread::Threads;
+use tirnouch::{Refused, Setup, TableDevice, Unrecorded, live};
+
+/// The packets of the device: 32 transfers' worth. Behind them it isn't ready.
+const PACKETS: usize = 4_096;
+
+/// The size of a packet (USB 2.0, 5.8.3).
+const PACKET: u16 = 512;
+
+/// The driver, which keeps this tally and has enough at a random moment.
+fn driver<R: RandomSource>(rt: &R, tally: &Arc<Tally>) -> Result<Scanner> {
+    let mut moment = [0_u8; 2];
+    rt.fill_bytes(&mut moment)?;
+    Ok(Scanner {
+        reader: Reader::new(1, 0, 0)?,
+        tally: tally.clone()?,
+        moment: u64::from(u16::from_le_bytes(moment)),
+    })
+}
+
+/// The device, of which every packet is full.
+fn device(alloc: Global) -> Result<Setup<TableDevice>> {
+    let sizes = vec![in alloc; PACKET; PACKETS]?;
+    devices(alloc, 1, PACKET, sizes.as_slice())
+}
+
+/// Scans: whether each transfer was called back.
+fn scan<R: Threads + Wait + Sync>(
+    rt: &R,
+    alloc: Global,
+    setup: Setup<TableDevice>,
+    scanner: Scanner,
+) -> Result<Vec<Result<bool, Refused>>> {
+    let drivers = Vec::from_array(alloc, [scanner])?;
+    let lived = live::<_, TableDevice, Unrecorded, _, _>(rt, alloc, setup, drivers)?;
+    Ok(lived.left)
+}
+
+/// An error where a transfer wasn't called back.
+fn is_called_back(left: Result<bool, Refused>) -> Result<()> {
+    match left {
+        Ok(true) => Ok(()),
+        Ok(false) => Err(anyhow!("a transfer wasn't called back")),
+        Err(why) => Err(anyhow!("refused: {why}")),
+    }
+}
+
+fn main(rt: HostRuntime) -> Result<()> {
+    let alloc = rt.alloc();
+    let tally = Arc::new(alloc, Tally::new(IN_LINE))?;
+    for left in scan(&rt, alloc, device(alloc)?, driver(&rt, &tally)?)? {
+        is_called_back(left)?;
+        println!(rt; "each transfer was called back once, in order")?;
+    }
+    if !tally.is_right() {
+        return Err(anyhow!("a byte or a callback came out of its order"));
+    }
+    println!(rt; "each byte came in its order, up to the cancel")?;
+    Ok(())
+}

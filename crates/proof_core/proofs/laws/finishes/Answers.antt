@@ -1,0 +1,5 @@
+use Rattle.proof_core.proofs.Leaving.{finishes}
+use Rattle.proof_core.proofs.laws.finishes.Goals as goal
+
+pub returns : goal.returns
+returns g c = finishes

@@ -1,0 +1,5 @@
+use Rattle.proof_core.proofs.Leaving.{leaves}
+use Rattle.proof_core.proofs.laws.leaves.Goals as goal
+
+pub returns : goal.returns
+returns g c = leaves

@@ -1,0 +1,5 @@
+use Rattle.proof_core.proofs.Serving.{moves}
+use Rattle.proof_core.proofs.laws.moves.Goals as goal
+
+pub returns : goal.returns
+returns g c = moves

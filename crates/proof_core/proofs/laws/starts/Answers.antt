@@ -1,0 +1,5 @@
+use Rattle.proof_core.proofs.Starting.{starts}
+use Rattle.proof_core.proofs.laws.starts.Goals as goal
+
+pub returns : goal.returns
+returns g c = starts

@@ -1,0 +1,5 @@
+use Rattle.proof_core.proofs.Leaving.{withdraws}
+use Rattle.proof_core.proofs.laws.withdraws.Goals as goal
+
+pub returns : goal.returns
+returns g c = withdraws

@@ -1,0 +1,58 @@
+//! What is proved of the definitions in specs/. Each is the contract of a function with an empty body.
+
+ghost use Rattle.proof_core.specs.Laws.{AsksTransfers, FinishesTransfers, LeavesBlanks, MovesPackets, OrdersErrands, PausesTransfers, ResumesEndpoints, ServesSafely, StartsTransfers, TurnsWorlds, WithdrawsTransfers};
+
+/// An errand that is ordered is ordered in the core.
+pub fn posts<P>()
+    ensures { OrdersErrands P }
+{}
+
+/// An endpoint that goes on goes on in the core.
+pub fn resumes<P>()
+    ensures { ResumesEndpoints P }
+{}
+
+/// Blanks that leave a line leave the core's.
+pub fn leaves<P>()
+    ensures { LeavesBlanks P }
+{}
+
+/// A transfer that is withdrawn is withdrawn in the core, and its result is made.
+pub fn withdraws<P>()
+    ensures { WithdrawsTransfers P }
+{}
+
+/// A transfer that ended leaves the core's line, and its result is made.
+pub fn finishes<P>()
+    ensures { FinishesTransfers P }
+{}
+
+/// What is told of a pause is told in the core.
+pub fn pauses<P>()
+    ensures { PausesTransfers P }
+{}
+
+/// An ask that a transfer end is kept in the core.
+pub fn asks<P>()
+    ensures { AsksTransfers P }
+{}
+
+/// A transfer that is accepted joins the core's line.
+pub fn starts<P>()
+    ensures { StartsTransfers P }
+{}
+
+/// Of the item where the controller works one packet can be served: there is room for it, or there are bytes.
+pub fn can_serve<P>()
+    ensures { ServesSafely P }
+{}
+
+/// A packet is the core's: what is told of it, and what it leaves.
+pub fn moves<P>()
+    ensures { MovesPackets P }
+{}
+
+/// A step that is the core's is the world's, and leaves parts that show a world.
+pub fn turns<P>()
+    ensures { TurnsWorlds P }
+{}

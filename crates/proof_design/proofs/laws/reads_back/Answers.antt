@@ -1,0 +1,5 @@
+use Rattle.usb_design.proofs.Standing.{read_back}
+use Rattle.proof_design.proofs.laws.reads_back.Goals as goal
+
+pub returns : goal.returns
+returns c = read_back

@@ -1,6 +1,0 @@
-use Rattle.std.proofs.Common.{◌≡◌}
-use Rattle.usb_book.specs.Seen.{claims_of}
-use Rattle.usb_book.proofs.log.take_all.Given as goal
-
-abbrev pub invariant-loop-receipt : goal.invariant-loop-receipt
-invariant-loop-receipt g l = (l.keeper.roll ≡ l.initial.keeper.roll) × (l.keeper.log ≡ l.initial.keeper.log) × (l.keeper.taken ≡ claims_of l.yielded)

@@ -1,6 +1,0 @@
-use Rattle.std.proofs.Common.{◌≡◌, drop}
-use Rattle.usb_book.specs.Timers.{timeout_in}
-use Rattle.usb_book.proofs.timer.timeout_of.Given as goal
-
-abbrev pub invariant-loop-timer : goal.invariant-loop-timer
-invariant-loop-timer l = timeout_in l.fn.h l.fn.n l.fn.timers ≡ timeout_in l.fn.h l.fn.n (drop l.timer-index l.fn.timers)

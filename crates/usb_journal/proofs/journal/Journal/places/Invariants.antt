@@ -1,0 +1,6 @@
+use Rattle.std.proofs.Common.{◌≡◌, map, take}
+use Rattle.usb_journal.specs.Keeping.{place_of}
+use Rattle.usb_journal.proofs.journal.Journal.places.Given as goal
+
+abbrev pub invariant-loop-kept : goal.invariant-loop-kept
+invariant-loop-kept l = l.places.items ≡ map (place_of l.self-inside.bytes.items) (take l.kept-index l.self-inside.kept.items)

@@ -1,0 +1,43 @@
+-- What contracts see of receipts and marks.
+use Rattle.std.specs.Prelude.{ℕ, List, [], ◌∷◌, map, suc, None}
+use Rattle.atomic_table.specs.Seated.{TableId}
+use Rattle.usb_model.specs.declared.reply.Reply.TheVariants.{Idle}
+use Rattle.usb_model.specs.declared.step.Step.TheVariants.{Command}
+use Rattle.usb_journal.specs.declared.place.Place.{Place}
+
+-- the name of no roll
+abbrev pub no_table : TableId
+no_table = record { words = 0; slots = 0; views_name = 0; atom = 0; block = 0; offset = 0; slot_names = [] }
+
+-- a mark: how many places there were when it was last moved, and the places of its bearer, in order
+pub record Marked : Type 0 where
+  pub mark : ℕ
+  pub own : List Place
+
+-- a log: its places, and the recorder that was told them
+pub record Logged (J : Type 0) : Type 0 where
+  pub journal : List Place
+  pub recorder : J
+
+-- a receipt: the place's number, and what stands there
+pub record Receipted : Type 0 where
+  pub place : ℕ
+  pub entry : Place
+
+-- what a claim of nothing says
+abbrev pub nothing : Place
+nothing = record { step = Command; caller = 0; entry = record { owner = None; reply = Idle }; moment = 0 }
+
+-- what stands at the place of the first claim
+abbrev pub told : List (ℕ × Place) → Place
+told [] = nothing
+told (c ∷ cs) = c.1
+
+-- the claims of these receipts
+abbrev pub claims_of : List Receipted → List (ℕ × Place)
+claims_of rs = map (λ r. (r.place, r.entry)) rs
+
+-- receipts for these entries, at consecutive places from this one on
+abbrev pub receipts_from : ℕ → List Place → List Receipted
+receipts_from n [] = []
+receipts_from n (p ∷ ps) = record { place = n; entry = p } ∷ receipts_from (suc n) ps

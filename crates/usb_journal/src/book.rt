@@ -1,0 +1,156 @@
+//! The book, from its first place to its end.
+
+ghost use Rattle.std.specs.Prelude.{◌≡◌, ◌==◌, ℕ, ◌≤◌, All, IfOk, Some, [], count_by, length, slice_get};
+ghost use Rattle.std.specs.Option.{option_map_or};
+ghost use Rattle.usb_model.specs.declared.step.Step.TheVariants.{Command, Deliver, Take};
+ghost use Rattle.usb_steps.specs.Pending.{IsPending, does_something};
+ghost use Rattle.usb_receipts.specs.Tokens.{new_keeper};
+ghost use Rattle.proof_core.specs.Carrying.{Carries, Kept};
+ghost use Rattle.proof_core.specs.Making.{setup_of};
+ghost use Rattle.usb_journal.specs.Booked.{HasEvents, IsRun, world_where};
+
+use crate::closed::Closed;
+use crate::events::Events;
+use crate::log::Log;
+use crate::mark::Mark;
+use crate::naming::Naming;
+use crate::place::Told;
+use crate::receipt::Receipt;
+use crate::recorder::Recorder;
+use crate::timer::Timer;
+use std::alloc::{AllocError, Global};
+use std::marker::Model;
+use usb_core::{Core, Pending, Setup};
+use usb_device::Device;
+use usb_model::{DeviceNo, EpAddr};
+use usb_receipts::{Keeper, Roll};
+
+/// The core, the moment, and the journal of the core's steps. The journal stands in the proofs; at run time there is
+/// what the recorder keeps of it.
+#[derive(Drop)]
+pub struct Book<L: Naming, P, D: Device, J: Recorder> {
+    pub(crate) core: Core<P, D>,
+    pub(crate) moment: u64,
+    pub(crate) log: Log<L, J>,
+    pub(crate) timers: Vec<Timer>,
+    pub(crate) alloc: Global,
+}
+
+/// Contracts see the devices, the journal, the moment in milliseconds, and what the core keeps. The entries of the journal
+/// are those of the run of its steps, and the core shows the world where that ends.
+impl<L: Naming, P, D: Device, J: Recorder> Model for Book<L, P, D, J> {
+    ghost use Rattle.std.specs.Prelude.{◌≡◌};
+    ghost use Rattle.usb_journal.specs.Booked.{Booked, Replays};
+    ghost use Rattle.usb_journal.specs.Timers.{timers_of};
+
+    ghost Value = { Booked P };
+
+    ghost view = { λ b. record { setup = L.setup; journal = b.log.journal; moment = b.moment; core = b.core } };
+
+    ghost invariant = { λ b. Replays L.setup b.log.journal b.core × (b.timers.items ≡ timers_of b.log.journal) };
+}
+
+impl<L: Naming, P, D: Device, J: Recorder> Book<L, P, D, J> {
+    /// No step was made, at moment 0. The roll is the library's, with nothing in it. An error where memory is wanting.
+    pub fn new(
+        alloc: Global,
+        setup: Setup<D>,
+        roll: Roll<Told>,
+        keeper: Keeper<Told>,
+    ) -> Result<Book<L, P, D, J>, AllocError>
+        requires setup { setup_of setup ≡ L.setup }
+        requires roll { roll ≡ L.table }
+        requires keeper { keeper ≡ new_keeper roll }
+        ensures setup { IfOk result (λ b. b.setup ≡ L.setup) }
+        ensures empty { IfOk result (λ b. b.journal ≡ []) }
+        ensures moment { IfOk result (λ b. b.moment ≡ 0) }
+        ensures carries { IfOk result (λ b. (kept : Kept P) → Carries kept b.core) }
+    {
+        let core = Core::new(alloc, setup)?;
+        let log = Log::new(alloc, roll, keeper);
+        let timers = Vec::new(alloc);
+        Ok(Book {
+            core,
+            moment: 0,
+            log,
+            timers,
+            alloc,
+        })
+    }
+
+    /// How many places the journal has.
+    pub fn len(&self) -> u64
+        ensures { result ≡ length self.now.journal }
+    {
+        self.log.len()
+    }
+
+    /// The moment, in milliseconds.
+    pub fn moment(&self) -> u64
+        ensures { result ≡ self.now.moment }
+    {
+        self.moment
+    }
+
+    /// How many bytes the next result has that is taken; 0 where none waits.
+    pub fn next_len(&self) -> usize
+        ensures { result ≡ option_map_or (λ t. length t.piece.bytes) (slice_get (world_where self.now.setup self.now.journal).results 0) 0 }
+    {
+        self.core.next_len()
+    }
+
+    /// What is to be done next, looked for from behind this endpoint on. Takes no memory.
+    pub fn pending(&self, after: Option<(DeviceNo, EpAddr)>) -> Pending
+        ensures pending { IsPending self.now.setup (world_where self.now.setup self.now.journal) after result }
+        ensures run { IsRun self.now.setup self.now.journal }
+    {
+        self.core.pending(after)
+    }
+
+    /// Whether an order waits for the controller. Takes no memory.
+    pub fn has_order(&self) -> bool
+        ensures { result ≡ does_something self.now.setup (world_where self.now.setup self.now.journal) Command }
+    {
+        self.core.has_order()
+    }
+
+    /// Whether an event waits to be handled, and whether a result waits to go out. Takes no memory.
+    pub fn events(&self) -> Events
+        ensures events { HasEvents self.now.setup self.now.journal result }
+        ensures run { IsRun self.now.setup self.now.journal }
+    {
+        Events {
+            deliver: self.core.has_event(),
+            take: self.core.has_result(),
+        }
+    }
+
+    /// A mark at the end of the journal, whose bearer has no places yet.
+    pub fn mark(&mut self) -> Mark<L>
+        ensures mark { (result.mark ≡ length self.old.journal) × (result.own ≡ []) }
+        ensures same { self.new ≡ self.old }
+    {
+        self.log.mark()
+    }
+
+    /// The journal's end, compared with receipts.
+    pub fn finish(self, receipts: Vec<Receipt<L>>) -> Closed<P, D, J>
+        ensures journal { result.journal ≡ self.journal }
+        ensures kept { J.stands result.recorder self.journal }
+        ensures counted { result.places ≡ length self.journal }
+        ensures setup { self.setup ≡ L.setup }
+        ensures run { IsRun L.setup self.journal }
+        ensures core { result.core ≡ self.core }
+        ensures found { All (λ r. slice_get self.journal r.place ≡ Some r.entry) receipts.items }
+        ensures apart { (p : ℕ) → count_by (λ r. r.place == p) receipts.items ≤ 1 }
+    {
+        let Book { core, log, .. } = self;
+        let (journal, recorder, places) = log.finish(receipts);
+        Closed {
+            journal,
+            recorder,
+            places,
+            core,
+        }
+    }
+}

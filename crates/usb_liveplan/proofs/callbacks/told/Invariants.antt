@@ -1,7 +1,0 @@
-use Rattle.std.proofs.Common.{◌≡◌, filter}
-use Rattle.usb_book.specs.Booked.{entries_of}
-use Rattle.usb_liveplan.specs.Callbacks.{is_callback}
-use Rattle.usb_liveplan.proofs.callbacks.told.Given as goal
-
-abbrev pub invariant-loop-place : goal.invariant-loop-place
-invariant-loop-place l = l.lines.items ≡ filter is_callback (entries_of l.yielded)

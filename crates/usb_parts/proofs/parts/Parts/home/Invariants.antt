@@ -1,9 +1,0 @@
--- None of the endpoints before has it.
-use Rattle.usb_model.specs.Setup.{Setup}
-use Rattle.usb_shows.specs.Shows.{Core}
-use Rattle.usb_state.specs.State.{Keeps}
-use Rattle.usb_state.proofs.Homes.{Searched}
-use Rattle.usb_parts.proofs.parts.Parts.home.Given as goal
-
-abbrev pub invariant-loop-info : goal.invariant-loop-info
-invariant-loop-info g l = (setup : Setup) (c : Core) → Keeps setup l.self c → Searched setup c l.h l.n l.info-items l.info-index

@@ -1,0 +1,105 @@
+//! The rule of a roll: what its tokens know, and what each step tells them.
+
+use crate::image::Image;
+use atomic_table::{Join, Play, Seat, Split, Table, TableRule};
+use std::alloc::Global;
+use std::collections::LinkedList;
+
+/// What a token knows. No value of it is made.
+pub struct Known<E> {
+    /// Whether it knows the list whole.
+    pub keeps: bool,
+    /// Whether it knows that the slot lies in the table.
+    pub home: bool,
+    /// The list, where it does.
+    pub log: LinkedList<E>,
+    /// Places, each with what stands there.
+    pub claims: LinkedList<(u64, E)>,
+    /// So many places stand, or more.
+    pub mark: u64,
+    /// What was appended for its bearer, in order.
+    pub own: LinkedList<E>,
+}
+
+/// There is one list, which one token knows whole; what all others know of it is so, and no place is claimed twice.
+pub struct Enrolled;
+
+impl<E> TableRule<Slot<E>, Known<E>, Enrolled> for Enrolled {
+    ghost use Rattle.usb_receipts.specs.Rule.{Kept, opener};
+
+    ghost holds = { λ _. Kept };
+
+    ghost first = { λ _. opener };
+}
+
+/// The first token takes the slot.
+pub struct TakesSlot;
+
+impl<E> Play<Slot<E>, Known<E>> for TakesSlot {
+    ghost use Rattle.usb_receipts.specs.Rule.{Slotted};
+
+    ghost then = { Slotted };
+}
+
+/// The entry that the slot says is put behind the list, with a claim to its place.
+pub struct Appends;
+
+impl<E> Play<Slot<E>, Known<E>> for Appends {
+    ghost use Rattle.usb_receipts.specs.Rule.{Appended};
+
+    ghost then = { Appended };
+}
+
+/// What is known is compared with the list.
+pub struct Checks;
+
+impl<E> Play<Slot<E>, Known<E>> for Checks {
+    ghost use Rattle.usb_receipts.specs.Rule.{Seen};
+
+    ghost then = { Seen };
+}
+
+/// The claims go to a token of their own.
+pub struct CutsClaims;
+
+impl<E> Split<Known<E>> for CutsClaims {
+    ghost use Rattle.std.specs.Prelude.{[]};
+    ghost use Rattle.usb_receipts.specs.Rule.{bearer, cut};
+
+    ghost left = { cut };
+
+    ghost right = { λ v. bearer v.claims 0 [] };
+}
+
+/// A token is made with a mark at the end, which gets the own entries.
+pub struct CutsMark;
+
+impl<E> Split<Known<E>> for CutsMark {
+    ghost use Rattle.std.specs.Prelude.{[], length};
+    ghost use Rattle.usb_receipts.specs.Rule.{bare, bearer};
+
+    ghost left = { bare };
+
+    ghost right = { λ v. bearer [] (length v.log) v.own };
+}
+
+/// A token takes in what another knows.
+pub struct TakesIn;
+
+impl<E> Join<Known<E>> for TakesIn {
+    ghost use Rattle.std.specs.Prelude.{[]};
+    ghost use Rattle.usb_receipts.specs.Rule.{bearer, taken_in};
+
+    ghost both = { taken_in };
+
+    ghost spent = { bearer [] 0 [] };
+}
+
+/// What the keeper says before it appends: the entry. It has no bytes.
+pub type Slot<E> = Image<Option<E>>;
+
+/// The table that a roll stands on: one word, which stays 0, and one slot, which the keeper has.
+pub type Word<E> = Table<Slot<E>, Known<E>, Enrolled, Enrolled, Global>;
+
+/// What one token is: its knowledge of that table. It has no bytes.
+pub type Token<E> = Seat<Slot<E>, Known<E>>;

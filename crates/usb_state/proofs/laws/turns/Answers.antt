@@ -1,5 +1,0 @@
-use Rattle.usb_state.proofs.Turning.{shows_again, turns}
-use Rattle.usb_state.proofs.laws.turns.Goals as goal
-
-pub returns : goal.returns
-returns g c = λ old new step entry does. (turns old new step entry does, shows_again old new step entry does)

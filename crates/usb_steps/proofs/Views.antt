@@ -1,0 +1,13 @@
+-- The parts as contracts see them.
+use Rattle.std.proofs.Common.{List, Option}
+use Rattle.usb_claims.specs.Holding.{Holding}
+use Rattle.usb_transfer.specs.declared.transfer.Transfer.{Transfer as InFlight}
+use Rattle.usb_cancel.specs.declared.outstanding.Sent.{Sent}
+use Rattle.usb_xhc.specs.Controller.{Controller}
+use Rattle.usb_flight.specs.Flights.{Flights}
+use Rattle.usb_callers.specs.Caller.{Kept as Caller}
+use Rattle.proof_core.specs.State.{State}
+
+-- the record of them
+abbrev pub parts : {P : Type 0} → Holding → Controller → Flights (InFlight P) → List Caller → List (Option Sent) → State P
+parts claims controller flights callers outstanding = record { claims = claims; controller = controller; flights = flights; callers = callers; outstanding = outstanding }
