@@ -12,8 +12,8 @@ use Rattle.usb_design.specs.Kept.{KeptEndpoint}
 use Rattle.usb_design.specs.Handling.{posts}
 use Rattle.proof_design.specs.Shows.{Core}
 use Rattle.proof_design.specs.Stepping.{handle_work, worked}
-use Rattle.usb_slots.specs.Holds.{with_end}
-use Rattle.usb_slots.proofs.Ends.{here}
+use Rattle.proof_controller.specs.Holds.{with_end}
+use Rattle.proof_controller.proofs.Ends.{here}
 use Rattle.proof_core.specs.State.{Keeps, State}
 use Rattle.proof_core.specs.Steps.{amid}
 use Rattle.proof_core.specs.Works.{IsAt, Posts}

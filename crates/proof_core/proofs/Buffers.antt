@@ -14,7 +14,7 @@ use Rattle.usb_context.specs.Context.{Context}
 use Rattle.usb_xhc.specs.Controller.{Controller, slot_changed}
 use Rattle.usb_xhc.specs.Slots.{DeviceSlot, changed, context_by}
 use Rattle.usb_flight.specs.Flights.{keys_at, lane_at, line_at, with_keys, with_line}
-use Rattle.usb_slots.proofs.Ids.{id-lt}
+use Rattle.proof_controller.proofs.Ids.{id-lt}
 use Rattle.proof_core.specs.State.{AllNameBuffers, NameBuffers, NamesBuffer, State}
 use Rattle.proof_core.specs.Works.{context_in}
 use Rattle.proof_core.proofs.Lines.{index_set_other}

@@ -15,7 +15,7 @@ use Rattle.usb_callers.specs.Caller.{Kept as Caller}
 use Rattle.usb_callers.specs.Callers.{callback_at, callbacks_at, number_of, results_at}
 use Rattle.usb_flight.specs.Flights.{lane_at, line_at}
 use Rattle.proof_design.specs.Shows.{Core}
-use Rattle.usb_slots.specs.Holds.{HoldsCore}
+use Rattle.proof_controller.specs.Holds.{HoldsCore}
 use Rattle.proof_core.specs.State.{AllItems, Keeps, KeepsEnd, KeepsName, NameBuffers, State, result_of}
 use Rattle.proof_core.specs.Works.{IsAt}
 use Rattle.proof_core.proofs.Lanes.{lanes_apart}

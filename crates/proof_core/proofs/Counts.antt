@@ -14,7 +14,7 @@ use Rattle.usb_claims.specs.Holding.{Holding, device_of}
 use Rattle.usb_claims.specs.Tables.{is_plain}
 use Rattle.usb_callers.specs.Caller.{Kept as Caller}
 use Rattle.usb_callers.specs.Callers.{SameCallbacks, SameCounts, SameNumbers, is_there, results_at}
-use Rattle.usb_slots.proofs.Ids.{same_id}
+use Rattle.proof_controller.proofs.Ids.{same_id}
 use Rattle.proof_core.specs.State.{KeepsName, State}
 
 -- plain addresses are the same just where their ids are

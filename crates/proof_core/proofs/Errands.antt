@@ -14,7 +14,7 @@ use Rattle.usb_device.specs.Pipe.{pipe_at}
 use Rattle.usb_segment.specs.Places.{address_of, cycle_of, index_of}
 use Rattle.usb_tring.specs.Line.{place_of, places}
 use Rattle.usb_design.specs.Kept.{KeptEndpoint, KeptTransfer, SentErrand, first_place}
-use Rattle.usb_match.specs.Laws.{start_of}
+use Rattle.proof_controller.specs.EndpointLaws.{start_of}
 use Rattle.usb_transfer.specs.declared.transfer.Transfer.{Transfer as InFlight}
 use Rattle.usb_cancel.specs.declared.outstanding.Sent.{Sent}
 use Rattle.usb_cancel.specs.Outstanding.{sent_at}
@@ -24,12 +24,12 @@ use Rattle.usb_context.specs.Posting.{posted_one}
 use Rattle.usb_xhc.specs.Controller.{Controller, slot_changed}
 use Rattle.usb_xhc.specs.Slots.{DeviceSlot, changed, context_of}
 use Rattle.usb_flight.specs.Flights.{lane_at, line_at}
-use Rattle.usb_match.proofs.Where.{address, cycle}
+use Rattle.proof_controller.proofs.Where.{address, cycle}
 use Rattle.proof_design.specs.Shows.{Core, order_at}
-use Rattle.usb_slots.specs.Holds.{HasRing, Holds, HoldsCore, IsPosted, ring_at, with_end}
-use Rattle.usb_slots.proofs.Ends.{here}
-use Rattle.usb_slots.proofs.Events.{posts as post}
-use Rattle.usb_slots.proofs.Renews.{hosts}
+use Rattle.proof_controller.specs.Holds.{HasRing, Holds, HoldsCore, IsPosted, ring_at, with_end}
+use Rattle.proof_controller.proofs.Ends.{here}
+use Rattle.proof_controller.proofs.Events.{posts as post}
+use Rattle.proof_controller.proofs.Renews.{hosts}
 use Rattle.proof_core.specs.State.{AllItems, KeepsEnd, State, in_ring}
 use Rattle.proof_core.specs.Works.{IsAt, Posts, Resumes, context_in, leading, order_by, with_kept}
 use Rattle.proof_core.proofs.Buffers.{buffers_same}

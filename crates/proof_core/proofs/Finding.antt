@@ -7,8 +7,8 @@ use Rattle.usb_design.specs.Kept.{InRow, KeptEndpoint, KeptTransfer, first_place
 use Rattle.usb_design.specs.Handling.{covers, find_at, past_at}
 use Rattle.usb_design.specs.Serving.{put_at}
 use Rattle.usb_context.specs.Context.{Context}
-use Rattle.usb_match.specs.Endpoint.{IsContext}
-use Rattle.usb_match.specs.Line.{AllItems}
+use Rattle.proof_controller.specs.Endpoint.{IsContext}
+use Rattle.proof_controller.specs.Line.{AllItems}
 
 -- the transfer at a place stands here in the line
 pub record IsFoundAt (p : ℕ) (ys : List KeptTransfer) (y : KeptTransfer) (i : ℕ) : Type 0 where

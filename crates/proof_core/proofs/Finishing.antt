@@ -11,7 +11,7 @@ use Rattle.usb_model.specs.Setup.{Setup, endpoint_id}
 use Rattle.proof_lemmas.proofs.Lists.Times.{count-cons}
 use Rattle.usb_cancel.specs.declared.outstanding.Sent.{Sent}
 use Rattle.usb_cancel.specs.Outstanding.{sent_at}
-use Rattle.usb_slots.proofs.Ends.{here}
+use Rattle.proof_controller.proofs.Ends.{here}
 use Rattle.std.specs.Option.{option_map}
 use Rattle.usb_design.specs.Kept.{SentErrand, KeptEndpoint, KeptTransfer}
 use Rattle.usb_design.specs.Handling.{errand_of, kept_result}
@@ -27,11 +27,11 @@ use Rattle.usb_device.specs.Pipe.{pipe_at}
 use Rattle.usb_xhc.specs.Slots.{DeviceSlot, changed, context_of}
 use Rattle.usb_flight.specs.Flights.{Flights, blanked_at, item_at, lane_at, left_at, line_at}
 use Rattle.usb_flight.specs.declared.ending.Ending.{Ending}
-use Rattle.usb_match.specs.Endpoint.{IsContext}
+use Rattle.proof_controller.specs.Endpoint.{IsContext}
 use Rattle.proof_design.specs.Shows.{Core}
 use Rattle.proof_design.proofs.Bounds.{few_everywhere}
 use Rattle.proof_design.proofs.Numbers.{few_places}
-use Rattle.usb_slots.specs.Holds.{HasRing, ring_at, with_end}
+use Rattle.proof_controller.specs.Holds.{HasRing, ring_at, with_end}
 use Rattle.usb_model.specs.declared.step.Step.TheVariants.{Deliver}
 use Rattle.proof_core.specs.Delivering.{CanFinish, Tells, ending_of, leaving}
 use Rattle.proof_core.specs.State.{KeepsEnd, State, in_ring}

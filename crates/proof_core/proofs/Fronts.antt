@@ -24,12 +24,12 @@ use Rattle.usb_context.specs.Serving.{is_running, offset_by, packet_room, trb_at
 use Rattle.usb_xhc.specs.Controller.{Controller}
 use Rattle.usb_xhc.specs.Slots.{DeviceSlot, context_of}
 use Rattle.usb_flight.specs.Serving.{CanServe}
-use Rattle.usb_match.specs.Laws.{ServedAs, ServesAs, served_here}
-use Rattle.usb_match.proofs.Serves as match
-use Rattle.usb_match.proofs.Where as where_
+use Rattle.proof_controller.specs.EndpointLaws.{ServedAs, ServesAs, served_here}
+use Rattle.proof_controller.proofs.Serves as match
+use Rattle.proof_controller.proofs.Where as where_
 use Rattle.proof_design.specs.Shows.{Core, Shows}
 use Rattle.proof_design.proofs.Running.{fresh_while_running, reads_so_far}
-use Rattle.usb_slots.specs.Holds.{HasRing, RingIs}
+use Rattle.proof_controller.specs.Holds.{HasRing, RingIs}
 use Rattle.proof_core.specs.State.{State}
 use Rattle.proof_core.specs.Works.{CanServeItem, IsAt, IsFront, context_in}
 use Rattle.proof_core.proofs.Rings.{IsSlotOf, slot_of}

@@ -16,7 +16,7 @@ use Rattle.usb_claims.specs.Holding as claims
 use Rattle.usb_claims.specs.Holding.{Holding, IsSetup, has_device}
 use Rattle.usb_xhc.specs.Slots.{DeviceSlot}
 use Rattle.proof_design.specs.Shows.{Core, Shows}
-use Rattle.usb_slots.proofs.Lookups.{get_within}
+use Rattle.proof_controller.proofs.Lookups.{get_within}
 use Rattle.proof_core.specs.Handles.{gone_in}
 use Rattle.proof_core.specs.State.{Keeps, State}
 

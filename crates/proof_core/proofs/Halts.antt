@@ -18,8 +18,8 @@ use Rattle.proof_design.specs.Shows.{Core, Shows}
 use Rattle.proof_design.specs.Stepping.{handle_work, worked}
 use Rattle.proof_design.specs.Calling as calling
 use Rattle.proof_design.specs.Calling.{calls, clear_core, is_gone, kept_at, own_kept, step_core, unhalted}
-use Rattle.usb_slots.proofs.Ends.{here}
-use Rattle.usb_slots.proofs.Renews.{hosts}
+use Rattle.proof_controller.proofs.Ends.{here}
+use Rattle.proof_controller.proofs.Renews.{hosts}
 use Rattle.proof_core.specs.Handles.{first_why, gone_in, says}
 use Rattle.proof_core.specs.State.{Keeps, KeepsEnd, State}
 use Rattle.proof_core.specs.Steps.{Does, Is, amid}

@@ -25,10 +25,10 @@ use Rattle.usb_callers.specs.Callers.{number_of, results_at}
 use Rattle.usb_flight.specs.Flights.{line_at}
 use Rattle.proof_design.specs.Shows.{Core, Shows, at as at_here, tellings}
 use Rattle.proof_design.specs.Showing.{StandsNear}
-use Rattle.usb_slots.specs.Holds.{HasRing}
+use Rattle.proof_controller.specs.Holds.{HasRing}
 use Rattle.usb_device.specs.Pipe.{pipe_at}
 use Rattle.proof_design.specs.Calling.{places_at}
-use Rattle.usb_slots.proofs.Slots.{slot_there}
+use Rattle.proof_controller.proofs.Slots.{slot_there}
 use Rattle.proof_core.specs.State.{Keeps, State}
 use Rattle.proof_core.specs.Submitting.{Admits, RefusesIt}
 use Rattle.proof_core.specs.Works.{IsAt, IsHolder, context_in}

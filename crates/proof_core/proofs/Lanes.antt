@@ -8,11 +8,11 @@ use Rattle.usb_cancel.specs.Outstanding.{sent_at}
 use Rattle.usb_flight.specs.Flights.{Flights, lane_at, line_at, with_line}
 use Rattle.std.proofs.lemmas.Bool.{cases_eq}
 use Rattle.usb_design.specs.Kept.{KeptEndpoint, KeptTransfer}
-use Rattle.usb_match.specs.Laws.{HaveTrbsOf}
-use Rattle.usb_slots.specs.Holds.{with_end}
-use Rattle.usb_slots.specs.Laws.{HasPlain}
-use Rattle.usb_slots.proofs.Ends.{at_other, beside}
-use Rattle.usb_slots.proofs.Ids.{has_device, id-lt, same_id}
+use Rattle.proof_controller.specs.EndpointLaws.{HaveTrbsOf}
+use Rattle.proof_controller.specs.Holds.{with_end}
+use Rattle.proof_controller.specs.Laws.{HasPlain}
+use Rattle.proof_controller.proofs.Ends.{at_other, beside}
+use Rattle.proof_controller.proofs.Ids.{has_device, id-lt, same_id}
 use Rattle.proof_core.proofs.Lines.{index_set, index_set_other}
 
 -- a device's lanes are below 128

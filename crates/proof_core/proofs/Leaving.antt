@@ -21,9 +21,9 @@ use Rattle.usb_callers.specs.Callers.{SameCallbacks, SameCounts, SameNumbers, is
 use Rattle.usb_flight.specs.declared.ending.Ending.{Ending}
 use Rattle.usb_flight.specs.Flights.{Flights, blanked_at, item_at, keys_at, lane_at, left_at, line_at, with_keys, with_line}
 use Rattle.proof_design.specs.Shows.{Core}
-use Rattle.usb_slots.specs.Holds.{HoldsCore}
-use Rattle.usb_slots.proofs.Ends.{here}
-use Rattle.usb_slots.proofs.Renews.{hosts}
+use Rattle.proof_controller.specs.Holds.{HoldsCore}
+use Rattle.proof_controller.proofs.Ends.{here}
+use Rattle.proof_controller.proofs.Renews.{hosts}
 use Rattle.proof_core.specs.State.{AllItems, IsFlight, Keeps, KeepsEnd, NameBuffers, State, result_of}
 use Rattle.proof_core.specs.Works.{Finishes, IsAt, Leaves, Withdraws, result_by, with_kept}
 use Rattle.proof_core.proofs.Buffers.{blank_named, buffers_put, drop_named, keys_here, none_dropped, none_set}

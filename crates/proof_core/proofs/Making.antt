@@ -24,11 +24,11 @@ use Rattle.proof_design.specs.Lively.{IsFine, ends_from}
 use Rattle.proof_design.specs.Shows.{Core}
 use Rattle.proof_design.specs.Stepping.{new_core}
 use Rattle.proof_design.proofs.NewCore.{new_shows}
-use Rattle.usb_slots.specs.Holds.{HoldsCore}
-use Rattle.usb_slots.specs.Made.{AreLawful, IsOf, IsRead, IsSlotOf}
-use Rattle.usb_slots.specs.Laws.{HasNumbers, HasPlain}
-use Rattle.usb_slots.proofs.Fine.{fine, lawful_scripts}
-use Rattle.usb_slots.proofs.Made.{added, is_of, made}
+use Rattle.proof_controller.specs.Holds.{HoldsCore}
+use Rattle.proof_controller.specs.Made.{AreLawful, IsOf, IsRead, IsSlotOf}
+use Rattle.proof_controller.specs.Laws.{HasNumbers, HasPlain}
+use Rattle.proof_controller.proofs.Fine.{fine, lawful_scripts}
+use Rattle.proof_controller.proofs.Made.{added, is_of, made}
 use Rattle.proof_core.specs.Making.{AreReady, AreUnused, Devices, setup_from, setup_of}
 use Rattle.proof_core.specs.State.{AllItems, Keeps, NameBuffers, ShowsWorld, State, result_of}
 use Rattle.proof_core.proofs.Buffers.{NamesIn, buffers_by}

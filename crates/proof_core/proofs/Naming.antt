@@ -16,7 +16,7 @@ use Rattle.usb_xhc.specs.Controller.{Controller}
 use Rattle.usb_flight.specs.Flights.{Flights, line_at}
 use Rattle.usb_callers.specs.Callers.{SameCallbacks, SameCounts, SameNumbers, SameResults}
 use Rattle.proof_design.specs.Shows.{Core}
-use Rattle.usb_slots.specs.Holds.{HoldsCore}
+use Rattle.proof_controller.specs.Holds.{HoldsCore}
 use Rattle.proof_core.specs.Calls.{Stays}
 use Rattle.proof_core.specs.State.{Keeps, KeepsName, State, result_of}
 use Rattle.proof_core.proofs.Buffers.{buffers_same}

@@ -18,12 +18,12 @@ use Rattle.usb_context.specs.Context.{Context}
 use Rattle.usb_context.specs.Serving.{working}
 use Rattle.usb_xhc.specs.Controller.{Controller, told_at}
 use Rattle.usb_xhc.specs.Slots.{DeviceSlot, context_of, serving, serving_at}
-use Rattle.usb_match.specs.Told.{reply_of}
+use Rattle.proof_controller.specs.Told.{reply_of}
 use Rattle.proof_design.specs.Shows.{Core, Shows}
 use Rattle.proof_design.specs.Stepping.{Stepped, answer_work, serve_core, serve_held, works}
 use Rattle.proof_design.proofs.Running.{fresh_while_running}
-use Rattle.usb_slots.specs.Laws as slots
-use Rattle.usb_slots.proofs.Serves.{serves}
+use Rattle.proof_controller.specs.Laws as slots
+use Rattle.proof_controller.proofs.SlotServes.{serves}
 use Rattle.proof_core.specs.State.{Keeps, State}
 use Rattle.proof_core.specs.Steps.{Is}
 use Rattle.proof_core.specs.Works.{IsAt, IsFront, IsHolder, MovesPacket, behind_packet, context_in, packet_of}

@@ -12,12 +12,12 @@ use Rattle.usb_model.specs.Setup.{Setup, interface_of, kind_of}
 use Rattle.usb_model.specs.World.{holder}
 use Rattle.usb_trb.specs.declared.kind.TrbKind.{TrbKind}
 use Rattle.usb_design.specs.Kept.{KeptEndpoint, KeptTransfer}
-use Rattle.usb_match.specs.Line.{AllItems as AllSent}
+use Rattle.proof_controller.specs.Line.{AllItems as AllSent}
 use Rattle.usb_context.specs.Context.{Context}
 use Rattle.usb_xhc.specs.Controller.{Controller}
 use Rattle.usb_flight.specs.Flights.{lane_at, line_at}
 use Rattle.proof_design.specs.Shows.{Core, RingOrder}
-use Rattle.usb_slots.specs.Holds.{AllPosted, HoldsCore}
+use Rattle.proof_controller.specs.Holds.{AllPosted, HoldsCore}
 use Rattle.proof_core.specs.State.{Keeps, KeepsEnd, State}
 use Rattle.proof_core.specs.Steps.{CanPost}
 use Rattle.proof_core.specs.Works.{Posts, context_in, leading, order_by}

@@ -18,9 +18,9 @@ use Rattle.usb_xhc.specs.Controller.{Controller, slot_changed}
 use Rattle.usb_xhc.specs.Slots.{renewed}
 use Rattle.proof_design.specs.Known.{NoMove}
 use Rattle.proof_design.specs.Shows.{RingEvent, RingOrder}
-use Rattle.usb_slots.specs.Holds.{Holds, with_end}
-use Rattle.usb_slots.specs.Laws.{HasPlain}
-use Rattle.usb_slots.proofs.Renews.{hosts}
+use Rattle.proof_controller.specs.Holds.{Holds, with_end}
+use Rattle.proof_controller.specs.Laws.{HasPlain}
+use Rattle.proof_controller.proofs.Renews.{hosts}
 use Rattle.proof_core.specs.Renewing.{RenewedAll, RenewedFirst, is_of_interface, renewed_by, renewed_one}
 use Rattle.proof_core.proofs.Same.{holds_as}
 

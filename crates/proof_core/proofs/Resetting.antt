@@ -18,7 +18,7 @@ use Rattle.proof_design.specs.Calling as calling
 use Rattle.proof_design.specs.Calling.{are_quiet, is_gone, is_open, reset_core, rests, step_core}
 use Rattle.proof_design.specs.Shows.{Core, Shows}
 use Rattle.proof_design.specs.Stepping.{rested}
-use Rattle.usb_slots.specs.Holds.{HoldsCore}
+use Rattle.proof_controller.specs.Holds.{HoldsCore}
 use Rattle.proof_core.specs.Handles.{AreQuiet, IsLeft, StaysHeld, StaysLeft, first_why, gone_in, says}
 use Rattle.proof_core.specs.Renewing.{RenewedAll, is_held_by, renewed_by}
 use Rattle.proof_core.specs.State.{Keeps, State}

@@ -19,7 +19,7 @@ use Rattle.usb_context.specs.Context.{Context, gone_on, gone_past}
 use Rattle.usb_context.specs.Serving.{Served, packet_in, served, served_by, served_gone, working}
 use Rattle.usb_xhc.specs.Controller.{Controller, Run, carried_at, endpoint_in, run_of, served_at, slot_changed}
 use Rattle.usb_xhc.specs.Slots.{DeviceSlot, as_made, changed, context_by, context_of, events_after, order_events, renewed, serving_at, slot_after}
-use Rattle.usb_slots.proofs.Lookups.{get_set, get_set_other}
+use Rattle.proof_controller.proofs.Lookups.{get_set, get_set_other}
 
 -- of an endpoint
 abbrev pub ringed : Context → ℕ × List (List TrbKind)

@@ -8,8 +8,8 @@ use Rattle.usb_context.specs.Context.{Context}
 use Rattle.usb_xhc.specs.Slots.{DeviceSlot, context_of}
 use Rattle.usb_xhc.specs.Controller.{Controller}
 use Rattle.proof_design.specs.Shows.{Core}
-use Rattle.usb_slots.specs.Holds.{HasRing, HoldsCore, IsEnd, RingIs}
-use Rattle.usb_slots.proofs.Slots.{slot_there}
+use Rattle.proof_controller.specs.Holds.{HasRing, HoldsCore, IsEnd, RingIs}
+use Rattle.proof_controller.proofs.Slots.{slot_there}
 use Rattle.proof_core.specs.State.{State}
 use Rattle.proof_core.specs.Works.{IsAt, context_in}
 

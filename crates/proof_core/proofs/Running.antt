@@ -25,9 +25,9 @@ use Rattle.usb_claims.specs.Tables.{is_plain}
 use Rattle.proof_design.proofs.Bounds.{few_everywhere}
 use Rattle.proof_design.proofs.FirstOrders.{orders_fit}
 use Rattle.proof_design.proofs.Running.{fresh_while_running}
-use Rattle.usb_slots.specs.Holds.{event_trb, Holds, IsPosted, with_end}
-use Rattle.usb_slots.proofs.Ends.{here}
-use Rattle.usb_slots.proofs.Runs.{runs}
+use Rattle.proof_controller.specs.Holds.{event_trb, Holds, IsPosted, with_end}
+use Rattle.proof_controller.proofs.Ends.{here}
+use Rattle.proof_controller.proofs.Runs.{runs}
 use Rattle.usb_flight.specs.Flights.{line_at}
 use Rattle.proof_core.specs.State.{AllItems, Keeps, KeepsEnd, State, in_ring}
 use Rattle.proof_core.specs.Steps.{Is, IsRun, order_in}

@@ -7,7 +7,7 @@ use Rattle.usb_design.specs.Kept.{KeptEndpoint}
 use Rattle.usb_xhc.specs.Controller.{Controller}
 use Rattle.usb_xhc.specs.Slots.{DeviceSlot}
 use Rattle.proof_design.specs.Shows.{RingEvent, RingOrder}
-use Rattle.usb_slots.specs.Holds.{AllPosted, Holds, IsEnd, IsPosted, IsSlot, with_end}
+use Rattle.proof_controller.specs.Holds.{AllPosted, Holds, IsEnd, IsPosted, IsSlot, with_end}
 
 -- endpoints are the same, one by one
 abbrev pub AreSame : (ℕ → ℕ → KeptEndpoint) → (ℕ → ℕ → KeptEndpoint) → Type 0

@@ -19,8 +19,8 @@ use Rattle.proof_design.specs.Known.{KnowsCompletion, KnowsEvent}
 use Rattle.proof_design.specs.Shows.{Completes, Core, RingEvent, Shows, Transfers}
 use Rattle.proof_design.specs.Stepping.{has_sent, is_sent}
 use Rattle.proof_design.proofs.Strays.{never_stray}
-use Rattle.usb_slots.specs.Holds.{event_trb}
-use Rattle.usb_slots.proofs.Ids.{has_device}
+use Rattle.proof_controller.specs.Holds.{event_trb}
+use Rattle.proof_controller.proofs.Ids.{has_device}
 use Rattle.proof_core.specs.Delivering.{IsTaken, SentIs, Settles, sends, stands_at}
 use Rattle.proof_core.specs.State.{Keeps, State, in_ring}
 use Rattle.proof_core.specs.Works.{IsHolder}

@@ -26,15 +26,15 @@ use Rattle.usb_xhc.specs.Slots.{DeviceSlot, context_of, read_after}
 use Rattle.usb_flight.specs.Flights.{Flights, item_at, keys_at, line_at, with_line}
 use Rattle.usb_flight.specs.Serving.{IsServed, Serves, bytes_for}
 use Rattle.usb_flight.specs.Serving as flight
-use Rattle.usb_match.specs.Told.{reply_of}
+use Rattle.proof_controller.specs.Told.{reply_of}
 use Rattle.proof_design.specs.Shows.{Core}
 use Rattle.proof_design.proofs.Running.{fresh_while_running}
-use Rattle.usb_slots.specs.Holds.{HoldsCore}
-use Rattle.usb_slots.specs.Laws.{ServesEnd, out_of}
-use Rattle.usb_slots.specs.Laws as slots
-use Rattle.usb_slots.proofs.Ends.{here}
-use Rattle.usb_slots.proofs.Lookups.{set_same}
-use Rattle.usb_slots.proofs.Serves.{serves}
+use Rattle.proof_controller.specs.Holds.{HoldsCore}
+use Rattle.proof_controller.specs.Laws.{ServesEnd, out_of}
+use Rattle.proof_controller.specs.Laws as slots
+use Rattle.proof_controller.proofs.Ends.{here}
+use Rattle.proof_controller.proofs.Lookups.{set_same}
+use Rattle.proof_controller.proofs.SlotServes.{serves}
 use Rattle.proof_core.specs.State.{AllItems, IsFlight, KeepsEnd, State, in_ring, result_of}
 use Rattle.proof_core.specs.Works.{MovesPacket, behind_packet, context_in, packet_of}
 use Rattle.proof_core.proofs.Buffers.{buffers_line, set_named}

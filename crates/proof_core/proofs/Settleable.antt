@@ -29,8 +29,8 @@ use Rattle.usb_flight.specs.Flights.{Flights, blanked_at, item_at, lane_at, left
 use Rattle.usb_context.specs.Context.{Context}
 use Rattle.usb_device.specs.Pipe.{pipe_at}
 use Rattle.usb_xhc.specs.Slots.{DeviceSlot, changed, context_of}
-use Rattle.usb_slots.proofs.Ends.{here}
-use Rattle.usb_slots.specs.Holds.{HasRing}
+use Rattle.proof_controller.proofs.Ends.{here}
+use Rattle.proof_controller.specs.Holds.{HasRing}
 use Rattle.proof_design.specs.Shows.{Core}
 use Rattle.proof_core.specs.Delivering.{CanLeave, CanSettle, Settles, asked_ending}
 use Rattle.proof_core.specs.State.{AllItems, State}

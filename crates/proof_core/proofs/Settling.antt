@@ -26,8 +26,8 @@ use Rattle.proof_design.specs.Stepping.{Stepped, complete_at, completion_work, d
 use Rattle.proof_design.proofs.Bounds.{few_everywhere}
 use Rattle.proof_design.proofs.Numbers.{few_places}
 use Rattle.proof_design.proofs.Strays.{never_stray}
-use Rattle.usb_slots.specs.Holds.{RingIs, with_end}
-use Rattle.usb_slots.proofs.Ends.{here}
+use Rattle.proof_controller.specs.Holds.{RingIs, with_end}
+use Rattle.proof_controller.proofs.Ends.{here}
 use Rattle.proof_core.specs.Delivering.{CanSettle, Settles, WithdrawsAll}
 use Rattle.proof_core.specs.State.{Keeps, State}
 use Rattle.proof_core.specs.Steps.{CanPost, Is, amid}

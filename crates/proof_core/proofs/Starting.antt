@@ -27,9 +27,9 @@ use Rattle.usb_callers.specs.Caller.{Kept as Caller}
 use Rattle.usb_callers.specs.Callers.{SameCallbacks, SameCounts, SameResults, number_of}
 use Rattle.usb_flight.specs.Flights.{Flights, keys_at, lane_at, line_at, with_last}
 use Rattle.proof_design.specs.Shows.{Core}
-use Rattle.usb_slots.specs.Holds.{HasRing, HoldsCore}
-use Rattle.usb_slots.proofs.Ends.{here}
-use Rattle.usb_slots.proofs.Renews.{hosts}
+use Rattle.proof_controller.specs.Holds.{HasRing, HoldsCore}
+use Rattle.proof_controller.proofs.Ends.{here}
+use Rattle.proof_controller.proofs.Renews.{hosts}
 use Rattle.proof_core.specs.State.{AllItems, AllNameBuffers, IsFlight, KeepsEnd, KeepsName, State, result_of}
 use Rattle.proof_core.specs.Works.{IsUnstarted, Starts, context_in, with_kept}
 use Rattle.proof_core.proofs.Buffers.{buffers_put, join_named}

@@ -18,7 +18,7 @@ use Rattle.usb_callers.specs.Callers.{number_of}
 use Rattle.proof_design.specs.Shows.{Core}
 use Rattle.proof_design.specs.Stepping.{Stepped}
 use Rattle.proof_design.specs.Calling.{calls, joins, step_core}
-use Rattle.usb_slots.specs.Holds.{with_end}
+use Rattle.proof_controller.specs.Holds.{with_end}
 use Rattle.proof_core.specs.State.{Keeps, State}
 use Rattle.proof_core.specs.Steps.{Is}
 use Rattle.proof_core.specs.Submitting.{Admits, RefusesIt, submits}

@@ -29,17 +29,17 @@ use Rattle.usb_xhc.specs.Controller.{Controller}
 use Rattle.usb_xhc.specs.Slots.{DeviceSlot}
 use Rattle.std.specs.Option.{option_map_or}
 use Rattle.usb_flight.specs.Flights.{item_at}
-use Rattle.usb_match.proofs.Lines as lines
-use Rattle.usb_match.proofs.Where as where_
-use Rattle.usb_match.specs.Endpoint.{IsContext}
-use Rattle.usb_match.specs.Line.{IsSent}
+use Rattle.proof_controller.proofs.Lines as lines
+use Rattle.proof_controller.proofs.Where as where_
+use Rattle.proof_controller.specs.Endpoint.{IsContext}
+use Rattle.proof_controller.specs.Line.{IsSent}
 use Rattle.proof_design.specs.Known.{KnowsEvent, KnowsTransfer}
 use Rattle.proof_design.specs.Shows.{Completes, Core, RingEvent, Shows, Transfers}
 use Rattle.proof_design.specs.Stepping.{deliver_core, deliver_first}
 use Rattle.proof_design.specs.Calling.{step_core}
 use Rattle.proof_design.proofs.Strays.{never_stray}
-use Rattle.usb_slots.specs.Holds.{HoldsCore, RingIs, event_trb, ring_at}
-use Rattle.usb_slots.proofs.Events.{takes}
+use Rattle.proof_controller.specs.Holds.{HoldsCore, RingIs, event_trb, ring_at}
+use Rattle.proof_controller.proofs.Events.{takes}
 use Rattle.proof_core.specs.Delivering.{IsTaken, Tells, ending_of, is_gone}
 use Rattle.usb_flight.specs.declared.ending.Ending.{Ending}
 use Rattle.usb_model.specs.declared.status.Status.{Status}

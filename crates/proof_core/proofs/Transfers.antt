@@ -10,10 +10,10 @@ use Rattle.usb_cancel.specs.declared.outstanding.Sent.{Sent}
 use Rattle.usb_cancel.specs.Outstanding.{sent_at}
 use Rattle.usb_xhc.specs.Slots.{DeviceSlot, context_of}
 use Rattle.usb_flight.specs.Flights.{Flights, item_at, keys_at, lane_at, line_at, with_item, with_line}
-use Rattle.usb_match.specs.Laws.{HaveTrbsOf}
+use Rattle.proof_controller.specs.EndpointLaws.{HaveTrbsOf}
 use Rattle.proof_design.specs.Shows.{Core}
-use Rattle.usb_slots.proofs.Ends.{here}
-use Rattle.usb_slots.proofs.Renews.{hosts}
+use Rattle.proof_controller.proofs.Ends.{here}
+use Rattle.proof_controller.proofs.Renews.{hosts}
 use Rattle.proof_core.specs.State.{AllItems, IsFlight, IsItem, Keeps, KeepsEnd, State, result_of}
 use Rattle.proof_core.specs.Works.{Asks, IsAt, Pauses, with_kept}
 use Rattle.proof_core.proofs.Buffers.{buffers_line, set_named}

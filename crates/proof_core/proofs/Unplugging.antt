@@ -11,7 +11,7 @@ use Rattle.usb_claims.specs.Holding.{has_device}
 use Rattle.usb_xhc.specs.Controller.{Controller, slot_changed}
 use Rattle.proof_design.specs.Shows.{Core}
 use Rattle.proof_design.specs.Calling.{step_core, unplug_core}
-use Rattle.usb_slots.proofs.Unplugs.{unplugs}
+use Rattle.proof_controller.proofs.Unplugs.{unplugs}
 use Rattle.proof_core.specs.Handles.{gone_in, nobody_says}
 use Rattle.proof_core.specs.State.{State}
 use Rattle.proof_core.specs.Steps.{Does}

@@ -20,8 +20,8 @@ use Rattle.usb_transfer.specs.declared.transfer.Transfer.{Transfer as InFlight}
 use Rattle.usb_flight.specs.declared.ending.Ending.{Ending}
 use Rattle.usb_flight.specs.Flights.{item_at, line_at}
 use Rattle.proof_design.specs.Shows.{Core}
-use Rattle.usb_slots.specs.Holds.{with_end}
-use Rattle.usb_slots.proofs.Ends.{here}
+use Rattle.proof_controller.specs.Holds.{with_end}
+use Rattle.proof_controller.proofs.Ends.{here}
 use Rattle.proof_core.specs.Delivering.{WithdrawsAll, WithdrawsTo, asked_ending, withdrawn_to}
 use Rattle.proof_core.specs.State.{AllItems, IsItem, Keeps, State}
 use Rattle.proof_core.specs.Works.{IsAt, Withdraws, result_by, with_kept}

@@ -26,7 +26,7 @@ use Rattle.usb_xhc.specs.Slots.{context_of}
 use Rattle.usb_flight.specs.Flights.{item_at, lane_at, line_at}
 use Rattle.proof_design.specs.Shows.{Completes, Core, RingEvent, Shows, Transfers}
 use Rattle.proof_design.specs.Stepping.{deliver_core, is_sent, sender}
-use Rattle.usb_slots.specs.Holds.{event_trb}
+use Rattle.proof_controller.specs.Holds.{event_trb}
 use Rattle.proof_core.specs.State.{Keeps, State}
 use Rattle.proof_core.specs.Steps.{Is}
 

@@ -18,7 +18,7 @@ use Rattle.usb_flight.specs.Flights.{line_at}
 use Rattle.usb_callers.specs.Callers.{callbacks_at, results_at}
 use Rattle.proof_design.specs.Calling as calling
 use Rattle.proof_design.specs.Shows.{Core}
-use Rattle.usb_slots.specs.Holds.{HoldsCore}
+use Rattle.proof_controller.specs.Holds.{HoldsCore}
 use Rattle.proof_core.specs.State.{Keeps, State}
 
 -- whether a device is gone, as the controller says it

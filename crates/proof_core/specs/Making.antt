@@ -10,7 +10,7 @@ use Rattle.usb_xhc.specs.Controller.{AreLawfulAll, Controller, all_renewed}
 use Rattle.usb_xhc.specs.Slots.{DeviceSlot}
 use Rattle.usb_flight.specs.Flights.{keys_at, line_at}
 use Rattle.usb_callers.specs.Callers.{callback_at, callbacks_at, number_of, results_at}
-use Rattle.usb_slots.specs.Made.{IsSlotOf}
+use Rattle.proof_controller.specs.Made.{IsSlotOf}
 use Rattle.proof_core.specs.State.{State}
 
 -- devices that wait to be run: their configurations, and the controller that has them at its slots

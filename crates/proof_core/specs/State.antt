@@ -29,9 +29,9 @@ use Rattle.usb_callers.specs.Caller.{Kept as Caller}
 use Rattle.usb_callers.specs.Callers.{callback_at, callbacks_at, number_of, results_at}
 use Rattle.proof_design.specs.Lively.{IsFine, ends_of}
 use Rattle.proof_design.specs.Shows.{Core, Shows}
-use Rattle.usb_slots.specs.Holds.{HoldsCore}
-use Rattle.usb_slots.specs.Laws.{HasPlain}
-use Rattle.usb_slots.specs.Made.{IsRead}
+use Rattle.proof_controller.specs.Holds.{HoldsCore}
+use Rattle.proof_controller.specs.Laws.{HasPlain}
+use Rattle.proof_controller.specs.Made.{IsRead}
 
 -- P: what callers keep with their transfers
 module _ {P : Type 0} where

@@ -22,7 +22,7 @@ use Rattle.proof_design.specs.Shows.{Core, RingOrder, Shows}
 use Rattle.usb_design.specs.Joining.{asked}
 use Rattle.proof_design.specs.Stepping.{Stepped, command_core, handle_work, worked}
 use Rattle.proof_design.specs.Calling.{ask_core, device_of, is_kept_it, kept_home, kept_in_progress, own_kept, step_core}
-use Rattle.usb_slots.specs.Holds.{with_end}
+use Rattle.proof_controller.specs.Holds.{with_end}
 use Rattle.proof_core.specs.State.{Keeps, ShowsWorld, State}
 use Rattle.proof_core.specs.Works.{IsAt}
 

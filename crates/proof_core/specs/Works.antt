@@ -31,9 +31,9 @@ use Rattle.usb_xhc.specs.Slots.{context_of}
 use Rattle.usb_flight.specs.Flights.{item_at, line_at}
 use Rattle.usb_flight.specs.Serving.{CanServe}
 use Rattle.usb_flight.specs.declared.ending.Ending.{Ending}
-use Rattle.usb_match.specs.Told.{reply_of}
+use Rattle.proof_controller.specs.Told.{reply_of}
 use Rattle.proof_design.specs.Shows.{Core, Shows, event_at, order_at}
-use Rattle.usb_slots.specs.Holds.{with_end}
+use Rattle.proof_controller.specs.Holds.{with_end}
 use Rattle.proof_design.specs.Known.{NoMove}
 use Rattle.usb_claims.specs.Holding.{IsSetup, owner_of}
 use Rattle.proof_core.specs.State.{Keeps, State}

@@ -14,7 +14,7 @@ use Rattle.usb_xhc.specs.Controller.{Controller, served_at, told_at}
 use Rattle.usb_xhc.specs.Slots.{DeviceSlot, context_of, serving, serving_at}
 use Rattle.usb_flight.specs.Flights.{Flights, item_at}
 use Rattle.usb_flight.specs.Serving.{Serves, out_of}
-use Rattle.usb_match.specs.Told.{reply_of}
+use Rattle.proof_controller.specs.Told.{reply_of}
 use Rattle.proof_design.specs.Calling.{step_core}
 use Rattle.proof_core.specs.State.{IsState, State}
 use Rattle.proof_core.specs.Steps.{Does}

@@ -26,7 +26,7 @@ use Rattle.proof_design.proofs.FirstOrders.{orders_fit}
 use Rattle.proof_design.proofs.Glue.{command_steps}
 use Rattle.proof_design.proofs.Strays.{never_stray}
 use Rattle.proof_design.proofs.Takes.{take_steps}
-use Rattle.usb_slots.specs.Holds.{event_trb}
+use Rattle.proof_controller.specs.Holds.{event_trb}
 use Rattle.proof_core.specs.State.{Keeps, State, result_of}
 use Rattle.proof_core.proofs.Posting.{as_many_orders}
 use Rattle.proof_core.proofs.Running.{runs_order}

@@ -20,13 +20,13 @@ use Rattle.usb_context.specs.Serving.{packet_in, served, served_by, served_gone,
 use Rattle.usb_xhc.specs.Controller.{Controller, told_at}
 use Rattle.usb_xhc.specs.Slots.{DeviceSlot, context_of, serving, serving_at}
 use Rattle.usb_flight.specs.Flights.{line_at}
-use Rattle.usb_match.specs.Told.{reply_of}
+use Rattle.proof_controller.specs.Told.{reply_of}
 use Rattle.proof_design.specs.Shows.{Core, Shows}
 use Rattle.proof_design.specs.Stepping.{serve_core, serve_held}
 use Rattle.proof_design.proofs.Glue.{serve_steps}
 use Rattle.proof_design.proofs.Running.{fresh_while_running}
-use Rattle.usb_slots.specs.Laws as slots
-use Rattle.usb_slots.proofs.Serves as slot
+use Rattle.proof_controller.specs.Laws as slots
+use Rattle.proof_controller.proofs.SlotServes as slot
 use Rattle.proof_core.specs.State.{Keeps, State}
 use Rattle.proof_core.specs.Works.{IsAt, IsHolder, context_in, packet_of}
 use Rattle.proof_core.proofs.Fronts.{works_at}

@@ -2,7 +2,7 @@
 
 ghost use Rattle.std.specs.Prelude.{◌≡◌};
 ghost use Rattle.usb_model.specs.declared.step.Step.TheVariants.{Serve};
-ghost use Rattle.usb_match.specs.Told.{reply_of};
+ghost use Rattle.proof_controller.specs.Told.{reply_of};
 ghost use Rattle.proof_core.specs.Carrying.{StillCarries};
 ghost use Rattle.proof_core.specs.State.{IsState};
 ghost use Rattle.proof_core.specs.Steps.{Does};

@@ -1,4 +1,0 @@
-pub mod Line
-pub mod Endpoint
-pub mod Told
-pub mod Laws
