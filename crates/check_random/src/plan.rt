@@ -9,13 +9,13 @@ use bitflags::Flags as _;
 use std::alloc::Global;
 use std::sync::Arc;
 use std::sync::atomic::{AtomicU64, Ordering};
+use trace_io::print;
 use usb_callback::{Once, Repeat, StoredCallback};
 use usb_model::{
     Body, DeviceNo, EpAddr, Flags, Kind, Name, Plan, Request, Returned, Rule, StatusSet, Step,
     Verdict,
 };
 use usb_purge::drive;
-use usb_streams::print;
 
 /// What is told of it, by the rules: three short packets, of which the second is read by the transfer that the first
 /// callback submits once more; and nothing returns twice.

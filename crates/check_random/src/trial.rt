@@ -5,7 +5,7 @@ use crate::seen::Seen;
 use crate::steps::steps;
 use anyhow::{Result, anyhow};
 use std::alloc::Global;
-use usb_streams::print;
+use trace_io::print;
 
 /// Runs the scenario of a seed, of so many steps, by the core and by the plain program. An error where they differ, or
 /// where memory is refused.

@@ -10,7 +10,7 @@ mod rows;
 mod traced;
 
 use anyhow::Result;
-use usb_streams::read_whole;
+use trace_io::read_whole;
 
 fn main(rt: HostRuntime) -> Result<()> {
     let text = read_whole(rt.alloc(), &mut rt.stdin())?;

@@ -16,9 +16,9 @@ use Rattle.usb_purge.specs.PlanRuns.{Performs, PlanState, ShowsStage, StandsFor,
 use Rattle.usb_purge.proofs.Plans.{AreFixed, IsFixedStage, fixed_after, fixed_once, stands_only}
 use Rattle.usb_purge.proofs.Reached.{piece_rules}
 use Rattle.usb_purge.proofs.Taking.{Takes, has_one, takes}
-use Rattle.usb_streams.specs.declared.fault.Fault.{Fault}
-use Rattle.usb_streams.specs.Printing.{AppendsAllBut, AppendsSome}
-use Rattle.usb_streams.proofs.Beginnings.{gathered_further, kept, some_behind, some_further, some_of_front, whole}
+use Rattle.trace_io.specs.declared.fault.Fault.{Fault}
+use Rattle.trace_io.specs.Printing.{AppendsAllBut, AppendsSome}
+use Rattle.trace_io.proofs.Beginnings.{gathered_further, kept, some_behind, some_further, some_of_front, whole}
 use Rattle.usb_text.specs.StepLines.{numbered}
 use Rattle.usb_text.specs.declared.lined.NumberedLine.{NumberedLine}
 use Rattle.trace_run.specs.Printed.{BeginsPiece, PrintsPiece, PrintsText, StartsPlan}

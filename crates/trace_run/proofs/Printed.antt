@@ -20,9 +20,9 @@ use Rattle.usb_purge.proofs.BothRuns as both
 use Rattle.usb_purge.proofs.BothRuns.{AreBeside}
 use Rattle.usb_purge.proofs.Reached as reached
 use Rattle.usb_purge.proofs.Reached.{Reached}
-use Rattle.usb_streams.specs.Printing.{line_text, AppendsAllBut, AppendsSome}
-use Rattle.usb_streams.proofs.Beginnings.{gathered_further, kept, some_behind, some_further, some_of_front, whole}
-use Rattle.usb_streams.proofs.Printed.{lines_begun}
+use Rattle.trace_io.specs.Printing.{line_text, AppendsAllBut, AppendsSome}
+use Rattle.trace_io.proofs.Beginnings.{gathered_further, kept, some_behind, some_further, some_of_front, whole}
+use Rattle.trace_io.proofs.Printed.{lines_begun}
 use Rattle.trace_run.specs.Printed.{BeginsOwnPiece, BeginsPiece, PrintsOwnPiece, PrintsPiece, PrintsTo, StartsPlan, own_entries, plan_entries}
 use Rattle.trace_run.specs.declared.printing.Reach.{Reach}
 use Rattle.trace_run.specs.declared.printing.Reach.TheVariants.{End, NoMemory}

@@ -5,7 +5,7 @@ pub use Rattle.usb_model.specs.World.Journal
 pub use Rattle.usb_model.specs.World.Plans
 pub use Rattle.usb_model.specs.Text
 pub use Rattle.usb_model.specs.Machine.Turns
-pub use Rattle.usb_streams.specs.Printing
+pub use Rattle.trace_io.specs.Printing
 pub use Rattle.usb_text.specs.StepLines
 pub use Rattle.usb_left.specs.Left
 pub use Rattle.usb_left.specs.LeftText

@@ -14,7 +14,7 @@ use Rattle.usb_model.specs.World.Plans.{expand, first_stage, is_submission}
 use Rattle.usb_purge.specs.Alone.{AdvancesBoth, StartsBoth, TwinState, alone_of}
 use Rattle.usb_purge.specs.PlanRuns.{Performs, PlanState, ShowsStage, is_verdict}
 use Rattle.usb_purge.specs.declared.twins.Told.{Told}
-use Rattle.usb_streams.specs.Printing.{AppendsAllBut, AppendsSome}
+use Rattle.trace_io.specs.Printing.{AppendsAllBut, AppendsSome}
 use Rattle.trace_run.specs.declared.printing.Reach.{Reach}
 use Rattle.trace_run.specs.declared.printing.Reach.TheVariants.{End, NoMemory}
 

@@ -10,7 +10,7 @@ use Rattle.usb_model.specs.Setup.{Setup}
 use Rattle.usb_model.specs.World.Journal.{run_from}
 use Rattle.usb_model.specs.World.Plans.{Stage, first_stage, stage_after, steps_of}
 use Rattle.usb_purge.specs.PlanRuns.{PlanState}
-use Rattle.usb_streams.specs.Printing.{AppendsSome}
+use Rattle.trace_io.specs.Printing.{AppendsSome}
 use Rattle.trace_run.specs.Printed.{PrintsText, StartsPlan}
 use Rattle.trace_run.specs.declared.printing.Reach.{Reach}
 

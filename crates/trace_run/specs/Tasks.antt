@@ -7,8 +7,8 @@ use Rattle.usb_model.specs.World.{new_world, world_from}
 use Rattle.usb_model.specs.World.Plans.{expand}
 use Rattle.usb_model.specs.World.Journal.{world_run, own}
 use Rattle.usb_model.specs.Machine.Turns.{alone}
-use Rattle.usb_streams.specs.declared.fault.Fault.{Fault}
-use Rattle.usb_streams.specs.declared.fault.Fault.TheVariants.{Memory}
+use Rattle.trace_io.specs.declared.fault.Fault.{Fault}
+use Rattle.trace_io.specs.declared.fault.Fault.TheVariants.{Memory}
 use Rattle.usb_text.specs.declared.scenario.Scenario.{Scenario}
 use Rattle.usb_text.specs.StepLines.{step_lines}
 use Rattle.usb_left.specs.Left.{all_left}

@@ -10,19 +10,19 @@ ghost use Rattle.usb_model.specs.World.Plans.{is_submission};
 ghost use Rattle.proof_core.specs.Making.{setup_of};
 ghost use Rattle.usb_purge.specs.Alone.{AreLeft, Begins, CanStartBoth};
 ghost use Rattle.usb_purge.specs.PlanRuns.{entries_of, is_verdict};
-ghost use Rattle.usb_streams.specs.Faults.{IsOfRun};
-ghost use Rattle.usb_streams.specs.Printing.{AppendsAllBut, AppendsSome};
+ghost use Rattle.trace_io.specs.Faults.{IsOfRun};
+ghost use Rattle.trace_io.specs.Printing.{AppendsAllBut, AppendsSome};
 ghost use Rattle.trace_run.specs.Printed.{BeginsFrom, BeginsOwn, BeginsOwnPiece, BeginsPiece, CanStart, PrintsFrom, PrintsOwn, PrintsOwnPiece, PrintsPiece, PrintsTo, own_entries, plan_entries};
 
 use std::alloc::{AllocError, Global};
 use std::io::Write;
 use std::vec::IntoIter;
+use trace_io::{Fault, Lines};
 use usb_callback::Callback;
 use usb_core::Setup;
 use usb_device::Device;
 use usb_model::{Name, Plan};
 use usb_purge::{Performed, PlanRun, Twins, next_callback};
-use usb_streams::{Fault, Lines};
 
 /// How far a run comes.
 #[derive(Clone, Copy, PartialEq, Eq, Debug)]

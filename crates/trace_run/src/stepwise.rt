@@ -7,8 +7,8 @@ ghost use Rattle.usb_model.specs.declared.verdict.Rule.TheVariants.{Free};
 ghost use Rattle.usb_model.specs.World.Plans.{is_submission};
 ghost use Rattle.proof_core.specs.Making.{setup_of};
 ghost use Rattle.usb_purge.specs.PlanRuns.{entries_of, is_verdict};
-ghost use Rattle.usb_streams.specs.Faults.{IsOfRun};
-ghost use Rattle.usb_streams.specs.Printing.{AppendsSome};
+ghost use Rattle.trace_io.specs.Faults.{IsOfRun};
+ghost use Rattle.trace_io.specs.Printing.{AppendsSome};
 ghost use Rattle.usb_text.specs.StepLines.{numbered};
 ghost use Rattle.trace_run.specs.Printed.{BeginsPiece, CanStart, PrintsPiece, PrintsText, Puts};
 ghost use Rattle.trace_run.specs.Stepwise.{behind_line, piece_text, stepwise_text, BeginsSteps, PrintsSteps};
@@ -17,11 +17,11 @@ use crate::printing::{Parts, Reach, write_rest};
 use std::alloc::{AllocError, Global};
 use std::io::Write;
 use std::vec::IntoIter;
+use trace_io::{Fault, Lines};
 use usb_callback::Callback;
 use usb_device::Device;
 use usb_model::{Entry, Plan};
 use usb_purge::{Performed, PlanRun, next_callback};
-use usb_streams::{Fault, Lines};
 use usb_text::NumberedLine;
 
 /// Puts an entry behind a line, and both behind the text.

@@ -3,8 +3,8 @@
 
 ghost use Rattle.std.specs.Prelude.{◌≡◌, IfErr, IfOk, OnOk, length, map};
 ghost use Rattle.std.specs.Io.KnownBytes.{Appends};
-ghost use Rattle.usb_streams.specs.Faults.{IsOfRun};
-ghost use Rattle.usb_streams.specs.Printing.{AppendsSome};
+ghost use Rattle.trace_io.specs.Faults.{IsOfRun};
+ghost use Rattle.trace_io.specs.Printing.{AppendsSome};
 ghost use Rattle.usb_text.specs.Runnable.{IsRunnable};
 ghost use Rattle.usb_text.specs.StepLines.{numbered};
 ghost use Rattle.trace_run.specs.Stepwise.{stepwise_text};
@@ -16,9 +16,9 @@ use crate::printing::{Reach, print_alone, print_plan};
 use crate::stepwise::print_stepwise;
 use std::alloc::Global;
 use std::io::Write;
+use trace_io::{Fault, write_bytes};
 use usb_left::{left_behind, lines_of};
 use usb_model::{Name, Sequence};
-use usb_streams::{Fault, write_bytes};
 use usb_text::{NumberedLine, Scenario, ScriptedDevice, into_setups};
 
 /// How a task ends that no fault ends.

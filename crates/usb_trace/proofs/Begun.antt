@@ -6,10 +6,10 @@ use Rattle.usb_text.specs.Counts.{counts_of}
 use Rattle.usb_text.specs.Findings.{bad_lines, good_lines}
 use Rattle.usb_text.specs.Scenario.{scenario_of}
 use Rattle.usb_text.specs.declared.scenario.Scenario.{Scenario}
-use Rattle.usb_command.specs.declared.words.Task.{Task}
-use Rattle.usb_command.specs.declared.words.Task.TheVariants.{Run, Steps, Alone, Live, Left, Check, Draw}
-use Rattle.usb_streams.proofs.Beginnings.{none_yet}
-use Rattle.usb_streams.proofs.Findings.{no_report}
+use Rattle.trace_io.specs.declared.words.Task.{Task}
+use Rattle.trace_io.specs.declared.words.Task.TheVariants.{Run, Steps, Alone, Live, Left, Check, Draw}
+use Rattle.trace_io.proofs.Beginnings.{none_yet}
+use Rattle.trace_io.proofs.Findings.{no_report}
 use Rattle.std.proofs.lemmas.List.Sorted.{IsPermutation-refl}
 use Rattle.trace_live.specs.Callbacks.{AreCallbacks}
 use Rattle.usb_trace.specs.Lived.{lived_of, AppendsSomeCallbacks, BeginsCallbacks}

@@ -14,22 +14,22 @@ use Rattle.usb_text.proofs.Sifting.{none_bad, scenario_good}
 use Rattle.usb_text.specs.Counts.{counts_of}
 use Rattle.usb_text.specs.Findings.{bad_lines, good_lines}
 use Rattle.usb_text.specs.Scenario.{nothing_said, scenario_of}
-use Rattle.usb_command.specs.CommandLine.{AreBad, AskFor, grammar}
-use Rattle.usb_streams.specs.Faults.{message_of}
-use Rattle.usb_streams.specs.Input.{longest_input}
-use Rattle.usb_streams.specs.declared.fault.Fault.{Fault}
-use Rattle.usb_streams.specs.declared.fault.Fault.TheVariants.{Line, Memory, InputOutput}
+use Rattle.trace_io.specs.CommandLine.{AreBad, AskFor, grammar}
+use Rattle.trace_io.specs.Faults.{message_of}
+use Rattle.trace_io.specs.Input.{longest_input}
+use Rattle.trace_io.specs.declared.fault.Fault.{Fault}
+use Rattle.trace_io.specs.declared.fault.Fault.TheVariants.{Line, Memory, InputOutput}
 use Rattle.usb_text.specs.declared.scenario.Scenario.{Scenario}
 use Rattle.usb_trace.specs.Lived.{earlier, first_unlived}
 use Rattle.usb_trace.specs.Program.{scenario_for, status_of, Begins, IsDone, IsReported, Performs, TellsWhy}
 use Rattle.trace_run.specs.declared.tasks.Ending.{Ending}
 use Rattle.trace_run.specs.declared.tasks.Ending.TheVariants.{Good, BadLines}
 use Rattle.usb_trace.proofs.Begun.{keeps_same, nothing_begun}
-use Rattle.usb_command.specs.declared.words.Task.{Task}
-use Rattle.usb_command.specs.declared.words.Task.TheVariants.{Run, Steps, Alone, Live, Left, Check, Draw}
+use Rattle.trace_io.specs.declared.words.Task.{Task}
+use Rattle.trace_io.specs.declared.words.Task.TheVariants.{Run, Steps, Alone, Live, Left, Check, Draw}
 use Rattle.usb_text.specs.declared.findings.Counts.{Counts}
 use Rattle.usb_text.specs.declared.findings.Finding.{Finding}
-use Rattle.usb_streams.specs.Printing.{finding_text, counts_line, AppendsReport, AppendsSome}
+use Rattle.trace_io.specs.Printing.{finding_text, counts_line, AppendsReport, AppendsSome}
 
 -- where no line is bad, the counts alone
 pub counts_alone : (numbers : List ℕ) (counts : Counts) (old new : Option (List ℕ)) → AppendsReport numbers counts old new → numbers ≡ []

@@ -1,9 +1,9 @@
 pub mod Lived
 pub mod Program
-pub use Rattle.usb_command.specs.CommandLine
-pub use Rattle.usb_streams.specs.Faults
-pub use Rattle.usb_streams.specs.Input
-pub use Rattle.usb_streams.specs.Printing
+pub use Rattle.trace_io.specs.CommandLine
+pub use Rattle.trace_io.specs.Faults
+pub use Rattle.trace_io.specs.Input
+pub use Rattle.trace_io.specs.Printing
 pub use Rattle.usb_model.specs.World.Journal
 pub use Rattle.usb_model.specs.World.Plans
 pub use Rattle.usb_model.specs.Text

@@ -11,7 +11,7 @@ use Rattle.usb_line.specs.declared.line.Line.{Line}
 use Rattle.usb_line.specs.declared.line.Line.TheVariants.{Piece}
 use Rattle.usb_line.specs.Line.{line_of_text}
 use Rattle.trace_live.specs.Callbacks.{AreCallbacks}
-use Rattle.usb_streams.specs.Printing.{AppendsSome}
+use Rattle.trace_io.specs.Printing.{AppendsSome}
 use Rattle.usb_text.specs.declared.scenario.Scenario.{Scenario}
 use Rattle.usb_text.specs.Scenario.{scenario_of}
 

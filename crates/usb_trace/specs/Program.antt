@@ -1,19 +1,19 @@
 -- What the program does.
 use Rattle.std.specs.Prelude.{◌≡◌, ◌≢◌, ◌≤◌, ◌⊎◌, ℕ, length, ⊤, IfSome, List, [], Option, Result, Ok, Err}
 use Rattle.std.specs.Io.KnownBytes.{Appends, Keeps}
-use Rattle.usb_streams.specs.declared.fault.Fault.{Fault}
-use Rattle.usb_streams.specs.declared.fault.Fault.TheVariants.{Line, Memory, InputOutput}
+use Rattle.trace_io.specs.declared.fault.Fault.{Fault}
+use Rattle.trace_io.specs.declared.fault.Fault.TheVariants.{Line, Memory, InputOutput}
 use Rattle.trace_run.specs.declared.tasks.Ending.{Ending}
 use Rattle.trace_run.specs.declared.tasks.Ending.TheVariants.{Good, BadLines}
 use Rattle.trace_run.specs.Tasks.{AppendsAny, alone_text, left_lines, run_text, steps_text}
 use Rattle.usb_text.specs.declared.scenario.Scenario.{Scenario}
 use Rattle.clap.specs.Walk.{Text}
-use Rattle.usb_command.specs.CommandLine.{AskFor}
-use Rattle.usb_command.specs.declared.words.Task.{Task}
-use Rattle.usb_command.specs.declared.words.Task.TheVariants as task
-use Rattle.usb_streams.specs.Faults.{message_of}
-use Rattle.usb_streams.specs.Input.{longest_input}
-use Rattle.usb_streams.specs.Printing.{counts_line, AppendsReport, AppendsSome, AppendsSomeReport}
+use Rattle.trace_io.specs.CommandLine.{AskFor}
+use Rattle.trace_io.specs.declared.words.Task.{Task}
+use Rattle.trace_io.specs.declared.words.Task.TheVariants as task
+use Rattle.trace_io.specs.Faults.{message_of}
+use Rattle.trace_io.specs.Input.{longest_input}
+use Rattle.trace_io.specs.Printing.{counts_line, AppendsReport, AppendsSome, AppendsSomeReport}
 use Rattle.usb_text.specs.Counts.{counts_of}
 use Rattle.usb_text.specs.Findings.{bad_lines, good_lines}
 use Rattle.usb_text.specs.Scenario.{scenario_of}

@@ -1,10 +1,10 @@
 //! A scenario that is run in threads.
 
 ghost use Rattle.std.specs.Prelude.{◌≡◌, ◌≤◌, IfErr, IfOk, OnOk, length};
-ghost use Rattle.usb_streams.specs.Faults.{IsOfRun};
-ghost use Rattle.usb_streams.specs.Input.{longest_input};
+ghost use Rattle.trace_io.specs.Faults.{IsOfRun};
+ghost use Rattle.trace_io.specs.Input.{longest_input};
 ghost use Rattle.usb_text.specs.Runnable.{IsRunnable};
-ghost use Rattle.usb_command.specs.declared.words.Task.TheVariants.{Live};
+ghost use Rattle.trace_io.specs.declared.words.Task.TheVariants.{Live};
 ghost use Rattle.usb_trace.specs.Lived.{AppendsCallbacks, AppendsSomeCallbacks};
 ghost use Rattle.usb_trace.specs.Program.{Begins, IsSilentAtBad, Performs};
 
@@ -13,10 +13,10 @@ use std::alloc::Global;
 use std::io::Write;
 use std::sync::Wait;
 use std::thread::Threads;
+use trace_io::Fault;
+use trace_io::print::print;
 use trace_live::perform;
 use trace_run::{Ending, devices_of};
-use usb_streams::Fault;
-use usb_streams::print::print;
 use usb_text::Scenario;
 
 /// Runs a scenario in threads, and prints what its callbacks were told, by handle and number.

@@ -4,16 +4,16 @@ ghost use Rattle.std.specs.Prelude.{◌≡◌, ◌≢◌, ◌≤◌, ◌⊎◌, 
 ghost use Rattle.std.specs.Io.KnownBytes.{Keeps};
 ghost use Rattle.usb_text.specs.Findings.{bad_lines};
 ghost use Rattle.usb_words.specs.Words.{words_of};
-ghost use Rattle.usb_command.specs.CommandLine.{AreBad, AskFor, AskForHelp};
+ghost use Rattle.trace_io.specs.CommandLine.{AreBad, AskFor, AskForHelp};
 ghost use Rattle.clap.specs.Values.{kind_of};
 ghost use Rattle.clap.specs.declared.error.kind.ErrorKind.TheVariants as ErrorKind;
-ghost use Rattle.usb_streams.specs.Faults.{message_of, IsOfRun};
-ghost use Rattle.usb_streams.specs.declared.fault.Fault.{Fault};
-ghost use Rattle.usb_streams.specs.Input.{longest_input};
-ghost use Rattle.usb_streams.specs.Printing.{AppendsSome};
+ghost use Rattle.trace_io.specs.Faults.{message_of, IsOfRun};
+ghost use Rattle.trace_io.specs.declared.fault.Fault.{Fault};
+ghost use Rattle.trace_io.specs.Input.{longest_input};
+ghost use Rattle.trace_io.specs.Printing.{AppendsSome};
 ghost use Rattle.usb_trace.specs.Program.{status_of, Begins, IsDone, IsSilentAtBad, Performs, TellsWhy};
-ghost use Rattle.usb_command.specs.declared.words.Task.{Task};
-ghost use Rattle.usb_command.specs.declared.words.Task.TheVariants.{Check, Steps};
+ghost use Rattle.trace_io.specs.declared.words.Task.{Task};
+ghost use Rattle.trace_io.specs.declared.words.Task.TheVariants.{Check, Steps};
 
 use crate::live::live;
 use clap::Error;
@@ -22,10 +22,9 @@ use std::alloc::Global;
 use std::io::{Read, Write};
 use std::sync::Wait;
 use std::thread::Threads;
+use trace_io::print::print_findings;
+use trace_io::{Fault, Task, read_whole, read_words};
 use trace_run::{Ending, draw_run, print_left, print_steps, run, run_alone};
-use usb_command::{Task, read_words};
-use usb_streams::print::print_findings;
-use usb_streams::{Fault, read_whole};
 use usb_text::{Lined, Scenario, check, read_lined, read_scenario};
 
 /// The status of a run that ended early, and of a check that found bad lines.

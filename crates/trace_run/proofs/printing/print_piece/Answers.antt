@@ -1,5 +1,5 @@
 -- A beginning of its lines.
-use Rattle.usb_streams.proofs.Printed.{on_error}
+use Rattle.trace_io.proofs.Printed.{on_error}
 use Rattle.trace_run.proofs.Printed.{begins_piece}
 use Rattle.trace_run.proofs.printing.print_piece.Goals as goal
 

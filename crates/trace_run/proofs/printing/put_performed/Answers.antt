@@ -1,6 +1,6 @@
 -- One line, or two.
 use Rattle.trace_run.proofs.Printed.{both_begun, both_put, err_then, first_begun, ok_then}
-use Rattle.usb_streams.proofs.Printed.{on_error}
+use Rattle.trace_io.proofs.Printed.{on_error}
 use Rattle.trace_run.proofs.printing.put_performed.Goals as goal
 
 pub returns-in_err-put-clause-begun : goal.returns-in_err-put-clause-begun

@@ -1,7 +1,7 @@
 -- Of the text a beginning is written.
 use Rattle.std.proofs.Common.{◌++◌, ◌∙◌, subst}
-use Rattle.usb_streams.specs.Printing.{AppendsSome}
-use Rattle.usb_streams.proofs.Printed.{on_error}
+use Rattle.trace_io.specs.Printing.{AppendsSome}
+use Rattle.trace_io.proofs.Printed.{on_error}
 use Rattle.trace_run.proofs.stepwise.put_behind.Goals as goal
 
 pub returns-in_err-put_text-clause-begun : goal.returns-in_err-put_text-clause-begun

@@ -1,5 +1,5 @@
 -- A task over all that the input has.
-use Rattle.usb_command.specs.declared.words.Task.TheVariants.{Check, Live, Steps}
+use Rattle.trace_io.specs.declared.words.Task.TheVariants.{Check, Live, Steps}
 use Rattle.usb_trace.proofs.Begun.{bytes_begun}
 use Rattle.usb_trace.proofs.program.perform.Goals as goal
 

@@ -1,0 +1,5 @@
+pub mod CommandLines
+pub mod WordsRead
+pub mod Findings
+pub mod Beginnings
+pub mod Printed

@@ -1,0 +1,56 @@
+use Rattle.trace_io.proofs.WordsRead.{alone_asks, check_asks, check_of_a_file_is_bad, draw_asks, handle_64_is_bad, help_asks, help_is_no_word, leading_zeros_ask, left_asks, left_with_a_word_is_bad, live_asks, live_with_a_word_is_bad, no_handle_is_bad, no_words_are_bad, plus_sign_asks, run_asks, steps_ask, too_many_are_bad}
+use Rattle.trace_io.proofs.laws.words.Goals as goal
+
+pub returns-clause-run : goal.returns-clause-run
+returns-clause-run c = run_asks
+
+pub returns-clause-alone : goal.returns-clause-alone
+returns-clause-alone c = alone_asks
+
+pub returns-clause-plus_sign : goal.returns-clause-plus_sign
+returns-clause-plus_sign c = plus_sign_asks
+
+pub returns-clause-leading_zeros : goal.returns-clause-leading_zeros
+returns-clause-leading_zeros c = leading_zeros_ask
+
+pub returns-clause-help : goal.returns-clause-help
+returns-clause-help c = help_asks
+
+pub returns-clause-no_words : goal.returns-clause-no_words
+returns-clause-no_words c = no_words_are_bad
+
+pub returns-clause-too_many : goal.returns-clause-too_many
+returns-clause-too_many c = too_many_are_bad
+
+pub returns-clause-no_handle : goal.returns-clause-no_handle
+returns-clause-no_handle c = no_handle_is_bad
+
+pub returns-clause-handle_64 : goal.returns-clause-handle_64
+returns-clause-handle_64 c = handle_64_is_bad
+
+pub returns-clause-no_help : goal.returns-clause-no_help
+returns-clause-no_help c = help_is_no_word
+
+pub returns-clause-check : goal.returns-clause-check
+returns-clause-check c = check_asks
+
+pub returns-clause-check_of_a_file : goal.returns-clause-check_of_a_file
+returns-clause-check_of_a_file c = check_of_a_file_is_bad
+
+pub returns-clause-draw : goal.returns-clause-draw
+returns-clause-draw c = draw_asks
+
+pub returns-clause-live : goal.returns-clause-live
+returns-clause-live c = live_asks
+
+pub returns-clause-live_with_a_word : goal.returns-clause-live_with_a_word
+returns-clause-live_with_a_word c = live_with_a_word_is_bad
+
+pub returns-clause-left : goal.returns-clause-left
+returns-clause-left c = left_asks
+
+pub returns-clause-left_with_a_word : goal.returns-clause-left_with_a_word
+returns-clause-left_with_a_word c = left_with_a_word_is_bad
+
+pub returns-clause-steps : goal.returns-clause-steps
+returns-clause-steps c = steps_ask

@@ -1,0 +1,99 @@
+-- The command line: which words mean which task, by the reading of clap's documentation.
+use Rattle.std.specs.Prelude.{◌≡◌, ◌≢◌, ℕ, Bool, ◌∷◌, [], List, Option, Some, None, true, false, codes, if◌then◌else◌, option_map}
+use Rattle.std.specs.Option.{option_map_or}
+use Rattle.std.specs.Str.{bytes_eq}
+use Rattle.std.specs.Str.Parse.{digits_value, without_leading_plus}
+use Rattle.clap.specs.Walk.{Row, Rule, Text, first_of, one_of}
+use Rattle.clap.specs.Simple.{App, Shape, new_rule, new_shape, subcommand_of}
+use Rattle.clap.specs.Kinds.{IsAmong}
+use Rattle.clap.specs.Faults.{fault_of}
+use Rattle.clap.specs.declared.builder.action.ArgAction.TheVariants.{Set, SetTrue}
+use Rattle.clap.specs.declared.builder.value_parser.ValueParser.TheVariants.{Unsigned}
+use Rattle.clap.specs.declared.error.kind.ErrorKind.{ErrorKind}
+use Rattle.clap.specs.declared.error.kind.ErrorKind.TheVariants.{DisplayHelp}
+use Rattle.usb_words.specs.Number.{last_handle}
+use Rattle.trace_io.specs.declared.words.Task.{Task}
+use Rattle.trace_io.specs.declared.words.Task.TheVariants.{Run, Steps, Alone, Live, Left, Check, Draw}
+
+-- the word H: a whole number from 0 to the last name, which has to be there
+abbrev pub handle_word : Rule
+handle_word = record (new_rule (codes "H")) { action = Some Set; parser = Some (Unsigned 0 last_handle); required = true }
+
+-- the word --steps: a flag
+abbrev pub steps_word : Rule
+steps_word = record (new_rule (codes "steps")) { long = Some (codes "steps"); action = Some SetTrue }
+
+-- run, or run --steps
+abbrev pub run_words : Shape
+run_words = record (new_shape (codes "run")) { rules = steps_word ∷ [] }
+
+-- whether the flag is there
+abbrev pub is_stepwise : List Row → Bool
+is_stepwise rows = option_map_or (λ text. bytes_eq text (codes "true")) (first_of (codes "steps") rows) false
+
+-- alone H
+abbrev pub alone_words : Shape
+alone_words = record (new_shape (codes "alone")) { rules = handle_word ∷ [] }
+
+-- live
+abbrev pub live_words : Shape
+live_words = new_shape (codes "live")
+
+-- left
+abbrev pub left_words : Shape
+left_words = new_shape (codes "left")
+
+-- check
+abbrev pub check_words : Shape
+check_words = new_shape (codes "check")
+
+-- draw
+abbrev pub draw_words : Shape
+draw_words = new_shape (codes "draw")
+
+-- usbtrace, and then one of the six; there is no subcommand for help
+abbrev pub first_words : Shape
+first_words = record (new_shape (codes "usbtrace")) { is_leaf = false; disable_help_subcommand = true; subcommand_required = true }
+
+-- the command line before its subcommands are added
+abbrev pub program_alone : App
+program_alone = record { top = record first_words { is_leaf = true }; subs = [] }
+
+-- the command line with those subcommands alone that print entries
+abbrev pub program_of_runs : App
+program_of_runs = record { top = first_words; subs = run_words ∷ alone_words ∷ live_words ∷ [] }
+
+-- the command line
+abbrev pub grammar : App
+grammar = record { top = first_words; subs = run_words ∷ alone_words ∷ live_words ∷ left_words ∷ check_words ∷ draw_words ∷ [] }
+
+-- the number of the handle, as its word says it
+abbrev pub handle_in : List Row → Option ℕ
+handle_in rows = option_map (λ text. digits_value 10 (without_leading_plus text)) (one_of (codes "H") rows)
+
+-- the task of a subcommand, by its name and what stands behind it
+abbrev pub task_named : Text → List Row → Option Task
+task_named name rows =
+    if bytes_eq name (codes "alone") then option_map Alone (handle_in rows)
+    else (if bytes_eq name (codes "live") then Some Live
+    else (if bytes_eq name (codes "left") then Some Left
+    else (if bytes_eq name (codes "check") then Some Check
+    else (if bytes_eq name (codes "draw") then Some Draw
+    else (if bytes_eq name (codes "run") then Some (if is_stepwise rows then Steps else Run) else None)))))
+
+-- the task of the subcommand that the words name
+abbrev pub task_of : Option (Text × List Row) → Option Task
+task_of None = None
+task_of (Some named) = task_named named.0 named.1
+
+-- the words, of which the first is the program's name, are without fault and ask for this task
+abbrev pub AskFor : List Text → Task → Type 0
+AskFor words task = (fault_of grammar words ≡ []) × (task_of (subcommand_of grammar words) ≡ Some task)
+
+-- the words ask for help
+abbrev pub AskForHelp : List Text → Type 0
+AskForHelp words = IsAmong DisplayHelp (fault_of grammar words)
+
+-- the words have a fault
+abbrev pub AreBad : List Text → Type 0
+AreBad words = (kind : ErrorKind) × IsAmong kind (fault_of grammar words) × (kind ≢ DisplayHelp)

@@ -1,0 +1,35 @@
+-- Why a run of the program ends early, and its message.
+use Rattle.std.specs.Prelude.{◌++◌, ℕ, List, ⊤, codes}
+use Rattle.std.specs.Fmt.{decimal}
+use Rattle.std.specs.declared.io.ErrorKind.{ErrorKind}
+use Rattle.std.specs.declared.io.ErrorKind.TheVariants.{OutOfMemory}
+use Rattle.usb_text.specs.declared.fault.TextFault.{TextFault}
+use Rattle.usb_text.specs.declared.fault.TextFault.TheVariants as text
+use Rattle.trace_io.specs.declared.fault.Fault.{Fault}
+use Rattle.trace_io.specs.declared.fault.Fault.TheVariants.{Line, Memory, InputOutput}
+
+-- the fault of a run whose text has this one
+abbrev pub fault_of_text : TextFault → Fault
+fault_of_text (text.Line line) = Line line
+fault_of_text text.Memory = Memory
+
+-- the fault of a stream that fails with an error of this kind
+abbrev pub fault_of_kind : ErrorKind → Fault
+fault_of_kind OutOfMemory = Memory
+fault_of_kind _ = InputOutput
+
+-- a fault in words
+abbrev pub fault_text : Fault → List ℕ
+fault_text (Line line) = codes "line " ++ decimal line ++ codes " refused"
+fault_text Memory = codes "out of memory"
+fault_text InputOutput = codes "input or output failed"
+
+-- the message of a fault on standard error
+abbrev pub message_of : Fault → List ℕ
+message_of fault = codes "usbtrace: " ++ fault_text fault ++ codes "\n"
+
+-- a fault of memory or of a stream, and not of a line
+abbrev pub IsOfRun : Fault → Type 0
+IsOfRun (Line line) = ⊥
+IsOfRun Memory = ⊤
+IsOfRun InputOutput = ⊤

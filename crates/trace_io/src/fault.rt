@@ -1,0 +1,88 @@
+//! Why a run of the program ends early.
+
+ghost use Rattle.std.specs.Prelude.{◌≡◌, OnOk, Some};
+ghost use Rattle.std.specs.Io.KnownBytes.{Appends};
+ghost use Rattle.std.specs.IoError.{error_kind};
+ghost use Rattle.trace_io.specs.Faults.{fault_of_kind, fault_of_text, fault_text, message_of};
+ghost use Rattle.trace_io.specs.Printing.{AppendsSome};
+ghost use Rattle.trace_io.specs.declared.fault.Fault.TheVariants as Fault;
+
+use crate::write::write_bytes;
+use arrayvec::ArrayString;
+use std::alloc::AllocError;
+use std::fmt::Write;
+use std::{fmt, io};
+use thiserror::Error;
+use usb_text::TextFault;
+
+/// How many bytes a message may have. The longest, of a line whose number has 20 digits, has 44.
+const ROOM: usize = 64;
+
+/// What ends a run, in the words of its message.
+#[derive(Clone, Copy, PartialEq, Eq, Debug, Error)]
+pub enum Fault {
+    /// The line of this number, from 1, is none that may stand there.
+    Line(u64),
+    /// No memory was to be had.
+    Memory,
+    /// The input can't be read, or the output not written.
+    InputOutput,
+}
+
+/// The fault in words. They are written here, and not by the derive, whose text no contract knows.
+impl fmt::Display for Fault {
+    ghost output = { λ fault. Some (fault_text fault) };
+
+    fn fmt<W: fmt::Write>(&self, f: &mut fmt::Formatter<W>) -> fmt::Result {
+        match self {
+            Fault::Line(line) => write!(f, "line {line} refused"),
+            Fault::Memory => f.write_str("out of memory"),
+            Fault::InputOutput => f.write_str("input or output failed"),
+        }
+    }
+}
+
+impl Fault {
+    /// Says what ended the run, on standard error. Where writing fails, a beginning of the message is written. No
+    /// memory is taken.
+    pub fn tell<E: io::Write>(self, err: &mut E) -> Result<(), Fault>
+        ensures whole { OnOk result (Appends (E.contents err.old) (E.contents err.new) (message_of self)) }
+        ensures begun { AppendsSome (message_of self) (E.contents err.old) (E.contents err.new) }
+    {
+        let mut message: ArrayString<ROOM> = ArrayString::new();
+        match write!(message, "usbtrace: {self}\n") {
+            Ok(()) => write_bytes(err, message.as_bytes()),
+            Err(_) => Err(Fault::InputOutput),
+        }
+    }
+}
+
+impl From<TextFault> for Fault {
+    ghost from_gives = { λ error fault. fault ≡ fault_of_text error };
+
+    fn from(error: TextFault) -> Fault {
+        match error {
+            TextFault::Line(line) => Fault::Line(line),
+            TextFault::Memory => Fault::Memory,
+        }
+    }
+}
+
+impl From<AllocError> for Fault {
+    ghost from_gives = { λ _ fault. fault ≡ Fault.Memory };
+
+    fn from(_error: AllocError) -> Fault {
+        Fault::Memory
+    }
+}
+
+impl From<io::Error> for Fault {
+    ghost from_gives = { λ error fault. fault ≡ fault_of_kind (error_kind error) };
+
+    fn from(error: io::Error) -> Fault {
+        match error.kind() {
+            io::ErrorKind::OutOfMemory => Fault::Memory,
+            _ => Fault::InputOutput,
+        }
+    }
+}

@@ -1,0 +1,223 @@
+//! The words of the command line.
+
+ghost use Rattle.std.specs.Prelude.{◌≡◌, IfOk, Some, codes, false, option_map, if◌then◌else◌};
+ghost use Rattle.std.specs.Option.{option_map_or};
+ghost use Rattle.std.specs.Str.{bytes_eq};
+ghost use Rattle.clap.specs.Kinds.{FailsBy};
+ghost use Rattle.clap.specs.Faults.{fault_of};
+ghost use Rattle.clap.specs.Matches.{found_of};
+ghost use Rattle.clap.specs.Simple.{app_of, shape_of};
+ghost use Rattle.clap.specs.declared.builder.command.Command.TheViews.{out-Command as fields_of};
+ghost use Rattle.clap.specs.Walk.{rows_of, rule_of};
+ghost use Rattle.trace_io.specs.CommandLine.{AskFor, alone_words, check_words, draw_words, grammar, handle_in, handle_word, is_stepwise, left_words, live_words, program_alone, program_of_runs, run_words, steps_word};
+ghost use Rattle.usb_words.specs.Words.{words_of};
+ghost use Rattle.trace_io.specs.declared.words.Task.TheVariants.{Run, Steps};
+
+use crate::help;
+use clap::builder::ValueParser;
+use clap::{Arg, ArgAction, ArgMatches, Command, Error};
+use std::alloc::{AllocError, Global};
+use usb_model::Name;
+
+/// What the program is asked to do.
+#[derive(Clone, Copy, PartialEq, Eq, Debug)]
+pub enum Task {
+    /// Run the scenario, and print all entries.
+    Run,
+    /// The same, each entry behind the line of its step.
+    Steps,
+    /// Print the entries of this handle alone.
+    Alone(Name),
+    /// Run the scenario in threads, and print what its callbacks were told.
+    Live,
+    /// Print what the run of the scenario leaves behind.
+    Left,
+    /// Print what is wrong with the scenario.
+    Check,
+    /// Draw the run of the scenario.
+    Draw,
+}
+
+/// The last name of a handle.
+const LAST_HANDLE: u64 = 63;
+
+/// The task of some words, of which the first is the program's name. Else their fault, or the help that they ask for.
+pub fn read_words(alloc: Global, words: &[&str]) -> Result<Task, Error>
+    ensures task { IfOk result (AskFor (words_of words.now)) }
+    ensures fault { FailsBy (fault_of grammar (words_of words.now)) result }
+{
+    let matches = command(alloc)?.try_get_matches_from(words)?;
+    if let Some(found) = matches.subcommand_matches("alone") {
+        return Ok(Task::Alone(handle_of(found)?));
+    }
+    if matches.subcommand_matches("live").is_some() {
+        return Ok(Task::Live);
+    }
+    if matches.subcommand_matches("left").is_some() {
+        return Ok(Task::Left);
+    }
+    if matches.subcommand_matches("check").is_some() {
+        return Ok(Task::Check);
+    }
+    if matches.subcommand_matches("draw").is_some() {
+        return Ok(Task::Draw);
+    }
+    if let Some(found) = matches.subcommand_matches("run") {
+        return Ok(run_task(found));
+    }
+    // clap has seen that there is one of the words, so that nothing comes here.
+    Ok(Task::Run)
+}
+
+/// The words that the program takes.
+fn command<'a>(alloc: Global) -> Result<Command<'a>, AllocError>
+    ensures { IfOk result (λ command. app_of command ≡ grammar) }
+{
+    runs(alloc)?
+        .subcommand(left(alloc))?
+        .subcommand(check(alloc))?
+        .subcommand(draw(alloc))
+}
+
+/// The words that run a scenario and print entries.
+fn runs<'a>(alloc: Global) -> Result<Command<'a>, AllocError>
+    ensures { IfOk result (λ command. app_of command ≡ program_of_runs) }
+{
+    program(alloc)
+        .subcommand(run(alloc)?)?
+        .subcommand(alone(alloc)?)?
+        .subcommand(live(alloc))
+}
+
+/// The program's name, with what holds for all its words.
+fn program<'a>(alloc: Global) -> Command<'a>
+    ensures { app_of result ≡ program_alone }
+{
+    Command::new(alloc, "usbtrace")
+        .about("Runs a scenario of USB transfers, read from standard input")
+        .after_help(help::PROGRAM)
+        .disable_help_subcommand(true)
+        .subcommand_required(true)
+}
+
+/// The words `run` and `run --steps`.
+fn run<'a>(alloc: Global) -> Result<Command<'a>, AllocError>
+    ensures words { IfOk result (λ command. shape_of command ≡ run_words) }
+    ensures local { IfOk result (λ command. (fields_of command).has_globals ≡ false) }
+{
+    Command::new(alloc, "run")
+        .about("Runs the scenario and prints its entries")
+        .after_help(help::RUN)
+        .arg(steps(alloc))
+}
+
+/// The word `--steps`.
+fn steps<'a>(alloc: Global) -> Arg<'a>
+    ensures word { rule_of result ≡ steps_word }
+    ensures local { result.global ≡ false }
+{
+    Arg::new(alloc, "steps")
+        .long("steps")
+        .action(ArgAction::SetTrue)
+        .help("Each entry behind the number and the text of its step's line")
+}
+
+/// Whether a flag's text says that it is there.
+fn is_true(given: Option<&str>) -> bool
+    ensures { result ≡ option_map_or (λ text. bytes_eq text (codes "true")) (option_map (λ s. s.now) given.entry) false }
+{
+    match given {
+        Some(text) => text == "true",
+        None => false,
+    }
+}
+
+/// Whether `--steps` stands behind `run`.
+fn is_stepwise(found: &ArgMatches<'_>) -> bool
+    ensures { result ≡ is_stepwise (rows_of (found_of found.now)) }
+{
+    is_true(found.get_str("steps"))
+}
+
+/// Which run the words behind `run` ask for.
+fn run_task(found: &ArgMatches<'_>) -> Task
+    ensures { result ≡ (if is_stepwise (rows_of (found_of found.now)) then Steps else Run) }
+{
+    if is_stepwise(found) {
+        Task::Steps
+    } else {
+        Task::Run
+    }
+}
+
+/// The words `alone H`.
+fn alone<'a>(alloc: Global) -> Result<Command<'a>, AllocError>
+    ensures words { IfOk result (λ command. shape_of command ≡ alone_words) }
+    ensures local { IfOk result (λ command. (fields_of command).has_globals ≡ false) }
+{
+    Command::new(alloc, "alone")
+        .about("Prints the entries of one handle, alone over its own steps")
+        .after_help(help::ALONE)
+        .arg(handle(alloc))
+}
+
+/// The words `live`.
+fn live<'a>(alloc: Global) -> Command<'a>
+    ensures words { shape_of result ≡ live_words }
+    ensures local { (fields_of result).has_globals ≡ false }
+{
+    Command::new(alloc, "live")
+        .about("Runs the scenario in threads, and prints what its callbacks were told")
+        .after_help(help::LIVE)
+}
+
+/// The words `left`.
+fn left<'a>(alloc: Global) -> Command<'a>
+    ensures words { shape_of result ≡ left_words }
+    ensures local { (fields_of result).has_globals ≡ false }
+{
+    Command::new(alloc, "left")
+        .about("Prints what the scenario's run leaves behind, handle by handle")
+        .after_help(help::LEFT)
+}
+
+/// The words `check`.
+fn check<'a>(alloc: Global) -> Command<'a>
+    ensures words { shape_of result ≡ check_words }
+    ensures local { (fields_of result).has_globals ≡ false }
+{
+    Command::new(alloc, "check")
+        .about("Prints what is wrong with the scenario, line by line")
+        .after_help(help::CHECK)
+}
+
+/// The words `draw`.
+fn draw<'a>(alloc: Global) -> Command<'a>
+    ensures words { shape_of result ≡ draw_words }
+    ensures local { (fields_of result).has_globals ≡ false }
+{
+    Command::new(alloc, "draw")
+        .about("Prints a picture of the scenario's run, an SVG document")
+        .after_help(help::DRAW)
+}
+
+/// The word of a handle.
+fn handle<'a>(alloc: Global) -> Arg<'a>
+    ensures word { rule_of result ≡ handle_word }
+    ensures local { result.global ≡ false }
+{
+    Arg::new(alloc, "H")
+        .required(true)
+        .action(ArgAction::Set)
+        .value_parser(ValueParser::unsigned(0, LAST_HANDLE))
+        .help("The handle, 0 to 63")
+}
+
+/// The handle that was given. clap has seen that it is there, and at most 63; but no contract of clap's says so of what
+/// stands behind a subcommand, so where it is missing memory counts as wanting.
+fn handle_of(found: &ArgMatches<'_>) -> Result<Name, AllocError>
+    ensures { IfOk result (λ h. handle_in (rows_of (found_of found.now)) ≡ Some h) }
+{
+    let number = found.get_one::<u8>("H").ok_or(AllocError)?;
+    Ok(Name::new(number).ok_or(AllocError)?)
+}

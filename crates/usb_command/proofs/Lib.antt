@@ -1,2 +1,0 @@
-pub mod CommandLines
-pub mod WordsRead

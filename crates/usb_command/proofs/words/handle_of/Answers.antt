@@ -1,8 +1,0 @@
-use Rattle.std.proofs.Common.{rules}
-use Rattle.clap.specs.Matches.{found_of}
-use Rattle.usb_command.proofs.CommandLines.{handle_read}
-use Rattle.usb_command.proofs.words.handle_of.Goals as goal
-
--- src/words.rt:82:1
-pub returns : goal.returns
-returns c = handle_read (found_of c.args.found.now) c.in_ok-ok_or.field-0 c.get_one.result c.get_one.ensures.none c.get_one.ensures.value (grind rules)

@@ -1,3 +1,0 @@
-pub mod Findings
-pub mod Beginnings
-pub mod Printed

@@ -1,6 +1,0 @@
-use Rattle.std.proofs.Common.{map, take}
-use Rattle.usb_streams.specs.Printing.{AppendsFindings}
-use Rattle.usb_streams.proofs.print.print_bad.Given as goal
-
-abbrev pub invariant-loop-finding : goal.invariant-loop-finding
-invariant-loop-finding g l = AppendsFindings (map (λ finding. finding.line) (take l.finding-index l.bad)) (g.W.Write.contents l.initial.out) (g.W.Write.contents l.out)

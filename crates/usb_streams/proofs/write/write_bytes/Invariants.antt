@@ -1,6 +1,0 @@
--- What is gone from the rest was appended.
-use Rattle.usb_streams.specs.Printing.{AppendsAllBut}
-use Rattle.usb_streams.proofs.write.write_bytes.Given as goal
-
-abbrev pub invariant-loop : goal.invariant-loop
-invariant-loop g l = AppendsAllBut l.fn.bytes l.rest (g.W.Write.contents l.initial.out) (g.W.Write.contents l.out)
