@@ -3,8 +3,8 @@
 use crate::row::Row;
 use plain_run::{drive, drive_alone};
 use std::alloc::{AllocError, Global};
+use trace_scenario::{Scenario, into_setups, read_scenario};
 use usb_model::{Entry, Name, Sequence};
-use usb_text::{Scenario, into_setups, read_scenario};
 
 /// A run whose entries are printed.
 #[derive(Clone, Copy)]

@@ -4,8 +4,8 @@ use Rattle.std.specs.List.{flat_map}
 use Rattle.std.specs.Io.KnownBytes.{Appends}
 use Rattle.std.proofs.lemmas.Grind.{flat_map-append}
 use Rattle.std.proofs.lemmas.List.{flat_map_more, map-append, take_more}
-use Rattle.usb_text.specs.declared.findings.Counts.{Counts}
-use Rattle.usb_text.specs.declared.findings.Finding.{Finding}
+use Rattle.trace_scenario.specs.declared.findings.Counts.{Counts}
+use Rattle.trace_scenario.specs.declared.findings.Finding.{Finding}
 use Rattle.trace_io.specs.Printing.{finding_text, counts_line, AppendsFindings, AppendsReport, AppendsSome, AppendsSomeFindings, AppendsSomeReport}
 use Rattle.trace_io.proofs.Beginnings.{all_of, joined, kept, none_yet, some_behind, some_of_front}
 

@@ -3,8 +3,8 @@ use Rattle.std.specs.Prelude.{◌++◌, ℕ, List, ⊤, codes}
 use Rattle.std.specs.Fmt.{decimal}
 use Rattle.std.specs.declared.io.ErrorKind.{ErrorKind}
 use Rattle.std.specs.declared.io.ErrorKind.TheVariants.{OutOfMemory}
-use Rattle.usb_text.specs.declared.fault.TextFault.{TextFault}
-use Rattle.usb_text.specs.declared.fault.TextFault.TheVariants as text
+use Rattle.trace_scenario.specs.declared.text_fault.TextFault.{TextFault}
+use Rattle.trace_scenario.specs.declared.text_fault.TextFault.TheVariants as text
 use Rattle.trace_io.specs.declared.fault.Fault.{Fault}
 use Rattle.trace_io.specs.declared.fault.Fault.TheVariants.{Line, Memory, InputOutput}
 

@@ -1,9 +1,9 @@
 pub mod CommandLine
-pub use Rattle.usb_words.specs.Number
-pub use Rattle.usb_words.specs.Words
+pub use Rattle.trace_scenario.specs.Number
+pub use Rattle.trace_scenario.specs.Words
 pub mod Faults
 pub mod Input
 pub mod Printing
 pub use Rattle.usb_model.specs.Text
-pub use Rattle.usb_text.specs.Counts
+pub use Rattle.trace_scenario.specs.Counts
 pub use Rattle.usb_model.specs.World.Journal

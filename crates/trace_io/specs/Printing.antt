@@ -5,8 +5,8 @@ use Rattle.std.specs.List.{flat_map}
 use Rattle.std.specs.Io.KnownBytes.{Appends}
 use Rattle.usb_model.specs.declared.entry.Entry.{Entry}
 use Rattle.usb_model.specs.Text.{entry_text}
-use Rattle.usb_text.specs.declared.findings.Counts.{Counts}
-use Rattle.usb_text.specs.Counts.{counts_text}
+use Rattle.trace_scenario.specs.declared.findings.Counts.{Counts}
+use Rattle.trace_scenario.specs.Counts.{counts_text}
 use Rattle.usb_model.specs.World.Journal.{IsBeginning}
 
 -- a beginning of the text is appended: all of it, or none, or some

@@ -13,7 +13,7 @@ use std::alloc::AllocError;
 use std::fmt::Write;
 use std::{fmt, io};
 use thiserror::Error;
-use usb_text::TextFault;
+use trace_scenario::TextFault;
 
 /// How many bytes a message may have. The longest, of a line whose number has 20 digits, has 44.
 const ROOM: usize = 64;

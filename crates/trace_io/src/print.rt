@@ -11,8 +11,8 @@ use crate::lines::Lines;
 use crate::write::write_bytes;
 use std::alloc::Global;
 use std::io::Write;
+use trace_scenario::{Counts, Finding, Findings};
 use usb_model::Entry;
-use usb_text::{Counts, Finding, Findings};
 
 /// Prints the entries, one line each and many lines a write. Where that fails, a beginning of their text is printed.
 pub fn print<W: Write>(alloc: Global, out: &mut W, entries: &[Entry]) -> Result<(), Fault>

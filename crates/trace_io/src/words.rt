@@ -10,7 +10,7 @@ ghost use Rattle.clap.specs.Simple.{app_of, shape_of};
 ghost use Rattle.clap.specs.declared.builder.command.Command.TheViews.{out-Command as fields_of};
 ghost use Rattle.clap.specs.Walk.{rows_of, rule_of};
 ghost use Rattle.trace_io.specs.CommandLine.{AskFor, alone_words, check_words, draw_words, grammar, handle_in, handle_word, is_stepwise, left_words, live_words, program_alone, program_of_runs, run_words, steps_word};
-ghost use Rattle.usb_words.specs.Words.{words_of};
+ghost use Rattle.trace_scenario.specs.Words.{words_of};
 ghost use Rattle.trace_io.specs.declared.words.Task.TheVariants.{Run, Steps};
 
 use crate::help;

@@ -19,8 +19,8 @@ use Rattle.usb_purge.proofs.Taking.{Takes, has_one, takes}
 use Rattle.trace_io.specs.declared.fault.Fault.{Fault}
 use Rattle.trace_io.specs.Printing.{AppendsAllBut, AppendsSome}
 use Rattle.trace_io.proofs.Beginnings.{gathered_further, kept, some_behind, some_further, some_of_front, whole}
-use Rattle.usb_text.specs.StepLines.{numbered}
-use Rattle.usb_text.specs.declared.lined.NumberedLine.{NumberedLine}
+use Rattle.trace_scenario.specs.StepLines.{numbered}
+use Rattle.trace_scenario.specs.declared.lined.NumberedLine.{NumberedLine}
 use Rattle.trace_run.specs.Printed.{BeginsPiece, PrintsPiece, PrintsText, StartsPlan}
 use Rattle.trace_run.specs.Stepwise.{PrintsSteps, piece_text, stepwise_from, stepwise_text}
 use Rattle.trace_run.specs.declared.printing.Reach.{Reach}

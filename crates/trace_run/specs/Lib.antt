@@ -6,6 +6,6 @@ pub use Rattle.usb_model.specs.World.Plans
 pub use Rattle.usb_model.specs.Text
 pub use Rattle.usb_model.specs.Machine.Turns
 pub use Rattle.trace_io.specs.Printing
-pub use Rattle.usb_text.specs.StepLines
+pub use Rattle.trace_scenario.specs.StepLines
 pub use Rattle.usb_left.specs.Left
 pub use Rattle.usb_left.specs.LeftText

@@ -9,8 +9,8 @@ use Rattle.usb_model.specs.World.Journal.{world_run, own}
 use Rattle.usb_model.specs.Machine.Turns.{alone}
 use Rattle.trace_io.specs.declared.fault.Fault.{Fault}
 use Rattle.trace_io.specs.declared.fault.Fault.TheVariants.{Memory}
-use Rattle.usb_text.specs.declared.scenario.Scenario.{Scenario}
-use Rattle.usb_text.specs.StepLines.{step_lines}
+use Rattle.trace_scenario.specs.declared.scenario.Scenario.{Scenario}
+use Rattle.trace_scenario.specs.StepLines.{step_lines}
 use Rattle.usb_left.specs.Left.{all_left}
 use Rattle.usb_left.specs.LeftText.{lines_left}
 use Rattle.trace_run.specs.declared.printing.Reach.{Reach}

@@ -3,15 +3,15 @@
 ghost use Rattle.std.specs.Prelude.{◌≡◌, ◌≤◌, ◌++◌, ◌∷◌, [], IfOk, OnOk, length, map};
 ghost use Rattle.std.specs.List.{AllByRecursion};
 ghost use Rattle.proof_core.specs.Making.{setup_of};
-ghost use Rattle.usb_text.specs.Runnable.{CanBeMade};
+ghost use Rattle.trace_scenario.specs.Runnable.{CanBeMade};
 
 use crate::printing::Parts;
 use std::alloc::{AllocError, Global};
+use trace_scenario::ScriptedDevice;
 use usb_callback::{Callback, Ruled};
 use usb_core::Setup;
 use usb_device::TableDevice;
 use usb_model::{Rule, Sequence};
-use usb_text::ScriptedDevice;
 
 /// Adds a device, which answers by its scripts. An error where memory is refused.
 fn add(

@@ -9,7 +9,7 @@ ghost use Rattle.proof_core.specs.Making.{setup_of};
 ghost use Rattle.usb_purge.specs.PlanRuns.{entries_of, is_verdict};
 ghost use Rattle.trace_io.specs.Faults.{IsOfRun};
 ghost use Rattle.trace_io.specs.Printing.{AppendsSome};
-ghost use Rattle.usb_text.specs.StepLines.{numbered};
+ghost use Rattle.trace_scenario.specs.StepLines.{numbered};
 ghost use Rattle.trace_run.specs.Printed.{BeginsPiece, CanStart, PrintsPiece, PrintsText, Puts};
 ghost use Rattle.trace_run.specs.Stepwise.{behind_line, piece_text, stepwise_text, BeginsSteps, PrintsSteps};
 
@@ -18,11 +18,11 @@ use std::alloc::{AllocError, Global};
 use std::io::Write;
 use std::vec::IntoIter;
 use trace_io::{Fault, Lines};
+use trace_scenario::NumberedLine;
 use usb_callback::Callback;
 use usb_device::Device;
 use usb_model::{Entry, Plan};
 use usb_purge::{Performed, PlanRun, next_callback};
-use usb_text::NumberedLine;
 
 /// Puts an entry behind a line, and both behind the text.
 fn add_behind(

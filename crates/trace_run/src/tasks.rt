@@ -5,8 +5,8 @@ ghost use Rattle.std.specs.Prelude.{◌≡◌, IfErr, IfOk, OnOk, length, map};
 ghost use Rattle.std.specs.Io.KnownBytes.{Appends};
 ghost use Rattle.trace_io.specs.Faults.{IsOfRun};
 ghost use Rattle.trace_io.specs.Printing.{AppendsSome};
-ghost use Rattle.usb_text.specs.Runnable.{IsRunnable};
-ghost use Rattle.usb_text.specs.StepLines.{numbered};
+ghost use Rattle.trace_scenario.specs.Runnable.{IsRunnable};
+ghost use Rattle.trace_scenario.specs.StepLines.{numbered};
 ghost use Rattle.trace_run.specs.Stepwise.{stepwise_text};
 ghost use Rattle.trace_run.specs.Tasks.{AppendsAny, alone_text, ending_of, left_lines, run_text};
 
@@ -17,9 +17,9 @@ use crate::stepwise::print_stepwise;
 use std::alloc::Global;
 use std::io::Write;
 use trace_io::{Fault, write_bytes};
+use trace_scenario::{NumberedLine, Scenario, ScriptedDevice, into_setups};
 use usb_left::{left_behind, lines_of};
 use usb_model::{Name, Sequence};
-use usb_text::{NumberedLine, Scenario, ScriptedDevice, into_setups};
 
 /// How a task ends that no fault ends.
 #[derive(Clone, Copy, PartialEq, Eq, Debug)]

@@ -2,10 +2,10 @@
 use Rattle.std.proofs.Common.{◌≡◌, ℕ, List, [], Option, Some, None, Result, Ok, Err, IfSome, refl, sym, subst, arith}
 use Rattle.std.specs.Io.KnownBytes.{Keeps}
 use Rattle.usb_model.specs.World.Journal.{journal, journal_from}
-use Rattle.usb_text.specs.Counts.{counts_of}
-use Rattle.usb_text.specs.Findings.{bad_lines, good_lines}
-use Rattle.usb_text.specs.Scenario.{scenario_of}
-use Rattle.usb_text.specs.declared.scenario.Scenario.{Scenario}
+use Rattle.trace_scenario.specs.Counts.{counts_of}
+use Rattle.trace_scenario.specs.Findings.{bad_lines, good_lines}
+use Rattle.trace_scenario.specs.Scenario.{scenario_of}
+use Rattle.trace_scenario.specs.declared.scenario.Scenario.{Scenario}
 use Rattle.trace_io.specs.declared.words.Task.{Task}
 use Rattle.trace_io.specs.declared.words.Task.TheVariants.{Run, Steps, Alone, Live, Left, Check, Draw}
 use Rattle.trace_io.proofs.Beginnings.{none_yet}

@@ -10,16 +10,16 @@ use Rattle.clap.specs.Values.{kind_of}
 use Rattle.clap.specs.Walk.{Text}
 use Rattle.clap.specs.declared.error.Error.{Error}
 use Rattle.clap.specs.declared.error.kind.ErrorKind.TheVariants as kind
-use Rattle.usb_text.proofs.Sifting.{none_bad, scenario_good}
-use Rattle.usb_text.specs.Counts.{counts_of}
-use Rattle.usb_text.specs.Findings.{bad_lines, good_lines}
-use Rattle.usb_text.specs.Scenario.{nothing_said, scenario_of}
+use Rattle.trace_scenario.proofs.Sifting.{none_bad, scenario_good}
+use Rattle.trace_scenario.specs.Counts.{counts_of}
+use Rattle.trace_scenario.specs.Findings.{bad_lines, good_lines}
+use Rattle.trace_scenario.specs.Scenario.{nothing_said, scenario_of}
 use Rattle.trace_io.specs.CommandLine.{AreBad, AskFor, grammar}
 use Rattle.trace_io.specs.Faults.{message_of}
 use Rattle.trace_io.specs.Input.{longest_input}
 use Rattle.trace_io.specs.declared.fault.Fault.{Fault}
 use Rattle.trace_io.specs.declared.fault.Fault.TheVariants.{Line, Memory, InputOutput}
-use Rattle.usb_text.specs.declared.scenario.Scenario.{Scenario}
+use Rattle.trace_scenario.specs.declared.scenario.Scenario.{Scenario}
 use Rattle.usb_trace.specs.Lived.{earlier, first_unlived}
 use Rattle.usb_trace.specs.Program.{scenario_for, status_of, Begins, IsDone, IsReported, Performs, TellsWhy}
 use Rattle.trace_run.specs.declared.tasks.Ending.{Ending}
@@ -27,8 +27,8 @@ use Rattle.trace_run.specs.declared.tasks.Ending.TheVariants.{Good, BadLines}
 use Rattle.usb_trace.proofs.Begun.{keeps_same, nothing_begun}
 use Rattle.trace_io.specs.declared.words.Task.{Task}
 use Rattle.trace_io.specs.declared.words.Task.TheVariants.{Run, Steps, Alone, Live, Left, Check, Draw}
-use Rattle.usb_text.specs.declared.findings.Counts.{Counts}
-use Rattle.usb_text.specs.declared.findings.Finding.{Finding}
+use Rattle.trace_scenario.specs.declared.findings.Counts.{Counts}
+use Rattle.trace_scenario.specs.declared.findings.Finding.{Finding}
 use Rattle.trace_io.specs.Printing.{finding_text, counts_line, AppendsReport, AppendsSome}
 
 -- where no line is bad, the counts alone

@@ -1,7 +1,7 @@
 -- The lines of a text, looked through for the first that no handle's thread does.
 use Rattle.std.proofs.Common.{◌≡◌, ℕ, ◌+◌, ◌<◌, ◌≤◌, List, length, get_or, drop, Some, None, sym, ◌∙◌, ap, if◌then◌else◌}
 use Rattle.std.proofs.lemmas.List.{at_drop_more, at_drop_all}
-use Rattle.usb_line.specs.Line.{line_of_text}
+use Rattle.trace_scenario.specs.Line.{line_of_text}
 use Rattle.usb_trace.specs.Lived.{first_unlived, is_unlived}
 
 -- one line of those that are left

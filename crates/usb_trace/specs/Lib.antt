@@ -8,10 +8,10 @@ pub use Rattle.usb_model.specs.World.Journal
 pub use Rattle.usb_model.specs.World.Plans
 pub use Rattle.usb_model.specs.Text
 pub use Rattle.usb_model.specs.Machine.Turns
-pub use Rattle.usb_text.specs.Counts
-pub use Rattle.usb_text.specs.Findings
-pub use Rattle.usb_text.specs.Scenario
-pub use Rattle.usb_words.specs.Words
-pub use Rattle.usb_text.specs.StepLines
+pub use Rattle.trace_scenario.specs.Counts
+pub use Rattle.trace_scenario.specs.Findings
+pub use Rattle.trace_scenario.specs.Scenario
+pub use Rattle.trace_scenario.specs.Words
+pub use Rattle.trace_scenario.specs.StepLines
 pub use Rattle.usb_left.specs.Left
 pub use Rattle.usb_left.specs.LeftText

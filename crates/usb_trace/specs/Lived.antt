@@ -7,13 +7,13 @@ use Rattle.usb_model.specs.declared.plan.Plan.TheVariants.{Do}
 use Rattle.usb_model.specs.declared.step.Step.{Step}
 use Rattle.usb_model.specs.declared.step.Step.TheVariants.{Expire, Unplug}
 use Rattle.usb_model.specs.Text.{lines_text}
-use Rattle.usb_line.specs.declared.line.Line.{Line}
-use Rattle.usb_line.specs.declared.line.Line.TheVariants.{Piece}
-use Rattle.usb_line.specs.Line.{line_of_text}
+use Rattle.trace_scenario.specs.declared.line.Line.{Line}
+use Rattle.trace_scenario.specs.declared.line.Line.TheVariants.{Piece}
+use Rattle.trace_scenario.specs.Line.{line_of_text}
 use Rattle.trace_live.specs.Callbacks.{AreCallbacks}
 use Rattle.trace_io.specs.Printing.{AppendsSome}
-use Rattle.usb_text.specs.declared.scenario.Scenario.{Scenario}
-use Rattle.usb_text.specs.Scenario.{scenario_of}
+use Rattle.trace_scenario.specs.declared.scenario.Scenario.{Scenario}
+use Rattle.trace_scenario.specs.Scenario.{scenario_of}
 
 -- whether a line asks for what no handle's thread does: the end of a transfer's time, or of a device
 abbrev pub is_unlived : Option Line → Bool

@@ -6,7 +6,7 @@ use Rattle.trace_io.specs.declared.fault.Fault.TheVariants.{Line, Memory, InputO
 use Rattle.trace_run.specs.declared.tasks.Ending.{Ending}
 use Rattle.trace_run.specs.declared.tasks.Ending.TheVariants.{Good, BadLines}
 use Rattle.trace_run.specs.Tasks.{AppendsAny, alone_text, left_lines, run_text, steps_text}
-use Rattle.usb_text.specs.declared.scenario.Scenario.{Scenario}
+use Rattle.trace_scenario.specs.declared.scenario.Scenario.{Scenario}
 use Rattle.clap.specs.Walk.{Text}
 use Rattle.trace_io.specs.CommandLine.{AskFor}
 use Rattle.trace_io.specs.declared.words.Task.{Task}
@@ -14,9 +14,9 @@ use Rattle.trace_io.specs.declared.words.Task.TheVariants as task
 use Rattle.trace_io.specs.Faults.{message_of}
 use Rattle.trace_io.specs.Input.{longest_input}
 use Rattle.trace_io.specs.Printing.{counts_line, AppendsReport, AppendsSome, AppendsSomeReport}
-use Rattle.usb_text.specs.Counts.{counts_of}
-use Rattle.usb_text.specs.Findings.{bad_lines, good_lines}
-use Rattle.usb_text.specs.Scenario.{scenario_of}
+use Rattle.trace_scenario.specs.Counts.{counts_of}
+use Rattle.trace_scenario.specs.Findings.{bad_lines, good_lines}
+use Rattle.trace_scenario.specs.Scenario.{scenario_of}
 use Rattle.usb_trace.specs.Lived.{lived_of, AppendsCallbacks, BeginsCallbacks}
 
 -- the scenario that a task reads in a text

@@ -3,7 +3,7 @@
 ghost use Rattle.std.specs.Prelude.{◌≡◌, ◌≤◌, IfErr, IfOk, OnOk, length};
 ghost use Rattle.trace_io.specs.Faults.{IsOfRun};
 ghost use Rattle.trace_io.specs.Input.{longest_input};
-ghost use Rattle.usb_text.specs.Runnable.{IsRunnable};
+ghost use Rattle.trace_scenario.specs.Runnable.{IsRunnable};
 ghost use Rattle.trace_io.specs.declared.words.Task.TheVariants.{Live};
 ghost use Rattle.usb_trace.specs.Lived.{AppendsCallbacks, AppendsSomeCallbacks};
 ghost use Rattle.usb_trace.specs.Program.{Begins, IsSilentAtBad, Performs};
@@ -17,7 +17,7 @@ use trace_io::Fault;
 use trace_io::print::print;
 use trace_live::perform;
 use trace_run::{Ending, devices_of};
-use usb_text::Scenario;
+use trace_scenario::Scenario;
 
 /// Runs a scenario in threads, and prints what its callbacks were told, by handle and number.
 fn live_scenario<T: Threads + Wait + Sync, W: Write>(

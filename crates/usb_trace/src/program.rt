@@ -2,8 +2,8 @@
 
 ghost use Rattle.std.specs.Prelude.{◌≡◌, ◌≢◌, ◌≤◌, ◌⊎◌, [], IfSome, IfErr, IfOk, OnOk, length};
 ghost use Rattle.std.specs.Io.KnownBytes.{Keeps};
-ghost use Rattle.usb_text.specs.Findings.{bad_lines};
-ghost use Rattle.usb_words.specs.Words.{words_of};
+ghost use Rattle.trace_scenario.specs.Findings.{bad_lines};
+ghost use Rattle.trace_scenario.specs.Words.{words_of};
 ghost use Rattle.trace_io.specs.CommandLine.{AreBad, AskFor, AskForHelp};
 ghost use Rattle.clap.specs.Values.{kind_of};
 ghost use Rattle.clap.specs.declared.error.kind.ErrorKind.TheVariants as ErrorKind;
@@ -25,7 +25,7 @@ use std::thread::Threads;
 use trace_io::print::print_findings;
 use trace_io::{Fault, Task, read_whole, read_words};
 use trace_run::{Ending, draw_run, print_left, print_steps, run, run_alone};
-use usb_text::{Lined, Scenario, check, read_lined, read_scenario};
+use trace_scenario::{Lined, Scenario, check, read_lined, read_scenario};
 
 /// The status of a run that ended early, and of a check that found bad lines.
 const FAILED: u8 = 1;

@@ -3,8 +3,8 @@
 use super::model::is_line_of;
 use plain_run::{alone, run};
 use std::alloc::Global;
+use trace_scenario::{Scenario, into_setups, read_scenario};
 use usb_model::{Entry, Name, Plan, Sequence, Setup, Step};
-use usb_text::{Scenario, into_setups, read_scenario};
 
 /// Two handles with transfers at one device, which is unplugged. It has bulk endpoints of interface 0 and an interrupt
 /// endpoint of interface 1; endpoint 81 answers one packet.

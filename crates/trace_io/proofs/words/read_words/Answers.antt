@@ -3,7 +3,7 @@ use Rattle.std.specs.Prelude.{option_map}
 use Rattle.clap.specs.Matches.{found_of}
 use Rattle.clap.specs.Simple.{app_of}
 use Rattle.clap.specs.Walk.{rows_of}
-use Rattle.usb_words.specs.Words.{words_of}
+use Rattle.trace_scenario.specs.Words.{words_of}
 use Rattle.trace_io.specs.declared.words.Task.TheVariants.{Alone, Check, Draw, Left, Live, Run}
 use Rattle.trace_io.proofs.CommandLines.{asks_behind, asks_for, has_one, met, without_fault}
 use Rattle.trace_io.proofs.words.read_words.Goals as goal

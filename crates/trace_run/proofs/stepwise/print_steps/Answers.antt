@@ -1,7 +1,7 @@
 -- A piece further each turn, with its line, and then what is left.
 use Rattle.std.proofs.Common.{◌+◌, inl, length, map, drop, refl, sym, ap, ◌∙◌, subst}
 use Rattle.std.specs.Vec.Iter.{into_iter_items}
-use Rattle.usb_text.specs.StepLines.{numbered}
+use Rattle.trace_scenario.specs.StepLines.{numbered}
 use Rattle.trace_run.specs.Printed.{PrintsPiece}
 use Rattle.trace_run.specs.Stepwise.{piece_text, stepwise_text}
 use Rattle.trace_run.proofs.Lined.{each_start, ended_if, has_callback, is_no_verdict, line_first, none_yet, piece_begun, piece_put, rest_begun, stopped_begun, stopped_if}

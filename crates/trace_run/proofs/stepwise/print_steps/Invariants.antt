@@ -3,7 +3,7 @@ use Rattle.std.proofs.Common.{List, drop, map}
 use Rattle.std.specs.Vec.Iter.{into_iter_items}
 use Rattle.usb_model.specs.declared.verdict.Rule.{Rule}
 use Rattle.usb_model.specs.Setup.{Setup}
-use Rattle.usb_text.specs.StepLines.{numbered}
+use Rattle.trace_scenario.specs.StepLines.{numbered}
 use Rattle.trace_run.specs.Printed.{StartsPlan}
 use Rattle.trace_run.specs.Stepwise.{stepwise_text}
 use Rattle.trace_run.proofs.Lined.{IsStepwise}

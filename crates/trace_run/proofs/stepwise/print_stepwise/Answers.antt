@@ -2,7 +2,7 @@
 use Rattle.std.specs.Prelude.{map}
 use Rattle.std.specs.Vec.Iter.{into_iter_items}
 use Rattle.proof_core.specs.Making.{setup_of}
-use Rattle.usb_text.specs.StepLines.{numbered}
+use Rattle.trace_scenario.specs.StepLines.{numbered}
 use Rattle.trace_run.proofs.Printed.{starts_plan}
 use Rattle.trace_run.proofs.Lined.{of_start}
 use Rattle.trace_run.proofs.stepwise.print_stepwise.Goals as goal

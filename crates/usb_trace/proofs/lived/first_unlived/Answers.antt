@@ -3,8 +3,8 @@ use Rattle.std.specs.List.{slice_split}
 use Rattle.std.proofs.lemmas.List.{length_push}
 use Rattle.std.proofs.lemmas.Iterator.Splits.{YieldsList-from_slice_split}
 use Rattle.std.proofs.lemmas.Iterator.Consumers.{YieldsList-turn, YieldsList-end}
-use Rattle.usb_line.specs.Line.{line_of_text}
-use Rattle.usb_text.proofs.Scenarios.{counted}
+use Rattle.trace_scenario.specs.Line.{line_of_text}
+use Rattle.trace_scenario.proofs.Scenarios.{counted}
 use Rattle.usb_trace.specs.Lived.{first_unlived, is_unlived}
 use Rattle.usb_trace.proofs.Unlived.{unlived-more, unlived-end}
 use Rattle.usb_trace.proofs.lived.first_unlived.Goals as goal

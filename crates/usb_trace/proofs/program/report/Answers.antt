@@ -1,8 +1,8 @@
 -- A check's report, or a beginning of it.
 use Rattle.std.proofs.Common.{arith}
 use Rattle.std.proofs.lemmas.Grind.{common_steps}
-use Rattle.usb_text.specs.Counts.{counts_of}
-use Rattle.usb_text.specs.Findings.{bad_lines, good_lines}
+use Rattle.trace_scenario.specs.Counts.{counts_of}
+use Rattle.trace_scenario.specs.Findings.{bad_lines, good_lines}
 use Rattle.trace_io.proofs.Findings.{no_report}
 use Rattle.usb_trace.proofs.Reports.{all_good}
 use Rattle.usb_trace.proofs.program.report.Goals as goal

@@ -1,6 +1,6 @@
 -- What words and input come to.
 use Rattle.std.proofs.Common.{refl}
-use Rattle.usb_words.specs.Words.{words_of}
+use Rattle.trace_scenario.specs.Words.{words_of}
 use Rattle.usb_trace.proofs.Reports.{bad_input, never_begun, told_of, unwritten, words_are_bad}
 use Rattle.usb_trace.proofs.program.trace.Goals as goal
 

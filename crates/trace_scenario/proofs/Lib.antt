@@ -1,0 +1,12 @@
+pub mod Numbers
+pub mod Prefixes
+pub mod Unions
+pub mod Each
+pub mod Shapes
+pub mod Texts
+pub mod Scenarios
+pub mod Sifting
+pub mod Places
+mod Lines
+mod Runnables
+pub mod StepLines

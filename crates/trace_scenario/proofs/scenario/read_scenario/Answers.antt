@@ -1,0 +1,47 @@
+use Rattle.std.proofs.Common.{◌≡◌, ◌+◌, ◌<◌, ◌^◌, ◌==◌, length, drop, Ok, Err, sym, ap, ◌∙◌, subst, arith, rules, tests}
+use Rattle.std.specs.List.{slice_split}
+use Rattle.std.proofs.lemmas.List.{length_push}
+use Rattle.std.proofs.lemmas.Iterator.Splits.{YieldsList-from_slice_split}
+use Rattle.std.proofs.lemmas.Iterator.Consumers.{YieldsList-turn, YieldsList-end}
+use Rattle.trace_scenario.specs.declared.scenario.Scenario.{Scenario}
+use Rattle.trace_scenario.specs.TextReading.{AnswersAs, fault_at}
+use Rattle.trace_scenario.specs.Scenario.{scenario_of, scenario_from, taken_at}
+use Rattle.trace_scenario.proofs.Runnables.{scenarios_runnable}
+use Rattle.trace_scenario.proofs.Scenarios.{scenario-more, scenario-end, faulty, counted}
+use Rattle.trace_scenario.proofs.scenario.read_scenario.Goals as goal
+
+pub returns-in-Err-clause-scenario : goal.returns-in-Err-clause-scenario
+returns-in-Err-clause-scenario c =
+    let texts = slice_split (λ b. b == 10) c.args.text.now in
+    let i = length c.loop-line.yielded in
+    let t = YieldsList-turn (YieldsList-from_slice_split {s = c.into_iter-line-iterator.result} _ (λ b. b == 10) c.args.text.now (cc) (cc) (cc) (λ x b q k. search (rules, tests))) c.loop-line.yielded _ c.loop-line.yielded_by _ _ c.in-Some.line c.in-Some.is c.next.ensures.steps in
+    let small : length c.args.text.now < 2 ^ 63 = omega arith in
+    let at : c.saturating_add-at.result ≡ i + 1 = counted c.args.text.now i c.loop-line.at _ small t.0 c.loop-line.invariant.counted c.saturating_add-at.ensures in
+    let fault : AnswersAs (Err (fault_at (i + 1) c.in-Err.fault)) (scenario_of c.args.text.now) = faulty c.read.result c.in-Err.fault _ _ _ (i + 1) _ _ c.read.ensures c.in-Err.is (c.loop-line.invariant.rest ∙ scenario-more (i + 1) c.loop-line.draft texts i c.in-Some.line.now t) in
+    subst (λ fault. AnswersAs {T = Scenario} (Err fault) (scenario_of c.args.text.now)) (sym (c.at.ensures ∙ ap (λ line. fault_at line c.in-Err.fault) at)) fault
+
+pub loop-line-preserved : goal.loop-line-preserved
+loop-line-preserved c =
+    let texts = slice_split (λ b. b == 10) c.args.text.now in
+    let i = length c.loop-line.yielded in
+    let t = YieldsList-turn (YieldsList-from_slice_split {s = c.into_iter-line-iterator.result} _ (λ b. b == 10) c.args.text.now (cc) (cc) (cc) (λ x b q k. search (rules, tests))) c.loop-line.yielded _ c.loop-line.yielded_by _ _ c.in-Some.line c.in-Some.is c.next.ensures.steps in
+    let grows = length_push c.loop-line.yielded c.in-Some.line in
+    let small : length c.args.text.now < 2 ^ 63 = omega arith in
+    let at : c.saturating_add-at.result ≡ i + 1 = counted c.args.text.now i c.loop-line.at _ small t.0 c.loop-line.invariant.counted c.saturating_add-at.ensures in
+    let more = scenario-more (i + 1) c.loop-line.draft texts i c.in-Some.line.now t in
+    record {
+      counted = at ∙ sym grows;
+      rest =
+          c.loop-line.invariant.rest ∙ more ∙ ap (taken_at (i + 1) (λ s. scenario_from (i + 1 + 1) s (drop (i + 1) texts))) c.in_default.ensures
+          ∙ sym (ap (λ n. scenario_from (n + 1) c.read.new.self (drop n texts)) grows);
+    }
+
+pub returns-clause-scenario : goal.returns-clause-scenario
+returns-clause-scenario c =
+    let texts = slice_split (λ b. b == 10) c.args.text.now in
+    let t = YieldsList-end (YieldsList-from_slice_split {s = c.into_iter-line-iterator.result} _ (λ b. b == 10) c.args.text.now (cc) (cc) (cc) (λ x b q k. search (rules, tests))) c.loop-line.yielded _ c.loop-line.yielded_by _ _ c.in-None.is c.next.ensures.steps in
+    c.loop-line.invariant.rest ∙ scenario-end (length c.loop-line.yielded + 1) c.loop-line.draft texts (length c.loop-line.yielded) (omega (arith, t.1))
+    ∙ ap Ok (sym c.into_scenario.ensures)
+
+pub returns-clause-runnable : goal.returns-clause-runnable
+returns-clause-runnable c = scenarios_runnable c.args.text.now c.into_scenario.result (returns-clause-scenario c)

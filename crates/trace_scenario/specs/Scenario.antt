@@ -1,0 +1,98 @@
+-- A scenario: what its lines say together.
+use Rattle.std.specs.Prelude.{ℕ, zero, suc, ◌+◌, ◌==◌, Bool, true, false, ◌&&◌, List, [], ◌∷◌, ◌++◌, length, Option, Some, None, Result, Ok, Err, slice_get, slice_set, if◌then◌else◌}
+use Rattle.std.specs.Option.{option_map, option_and_then}
+use Rattle.std.specs.List.{list_any, slice_split}
+use Rattle.usb_model.specs.declared.response.Response.{Response}
+use Rattle.usb_model.specs.declared.request.Kind.{Kind}
+use Rattle.usb_model.specs.declared.request.Kind.TheVariants.{Bulk, Interrupt}
+use Rattle.usb_model.specs.declared.setup.Configuration.{Configuration}
+use Rattle.usb_model.specs.declared.setup.DeviceSetup.{DeviceSetup}
+use Rattle.usb_model.specs.declared.plan.Plan.{Plan}
+use Rattle.usb_model.specs.declared.plan.Plan.TheVariants.{Do}
+use Rattle.usb_model.specs.declared.step.Step.TheVariants as step
+use Rattle.usb_model.specs.Setup.{endpoint_id}
+use Rattle.trace_scenario.specs.declared.line.Line.{Line}
+use Rattle.trace_scenario.specs.declared.line.Line.TheVariants as line
+use Rattle.trace_scenario.specs.declared.scenario.Scenario.{Scenario}
+use Rattle.trace_scenario.specs.Line.{line_of_text}
+
+-- no line is read yet
+abbrev pub nothing_said : Scenario
+nothing_said = record { setup = []; plan = []; rules = [] }
+
+-- whether transfers may be submitted to endpoints of this kind
+abbrev pub has_transfers : Kind → Bool
+has_transfers Bulk = true
+has_transfers Interrupt = true
+has_transfers _ = false
+
+-- whether a configuration has a bulk or interrupt endpoint of this address
+abbrev pub takes_script : Configuration → ℕ → Bool
+takes_script config ep = list_any (λ info. (info.address == ep) && has_transfers info.kind) config.endpoints
+
+-- whether a script is there, and empty
+abbrev pub is_empty_script : Option (List Response) → Bool
+is_empty_script None = false
+is_empty_script (Some script) = length script == 0
+
+-- whether there is room for a script at an id: none so far
+abbrev pub is_free : ℕ → List (List Response) → Bool
+is_free id scripts = is_empty_script (slice_get scripts id)
+
+-- this device with the script of one of its endpoints, where it has none so far
+abbrev pub device_with : ℕ → List Response → DeviceSetup → Option DeviceSetup
+device_with ep answers device =
+    if takes_script device.config ep && is_free (endpoint_id ep) device.scripts
+    then Some (record device { scripts = slice_set device.scripts (endpoint_id ep) answers })
+    else None
+
+-- so many empty scripts
+unfoldable pub empty_scripts : ℕ → List (List Response)
+empty_scripts zero = []
+empty_scripts (suc n) = empty_scripts n ++ [] ∷ []
+
+-- how many ids the endpoints of a device have
+abbrev pub endpoint_ids : ℕ
+endpoint_ids = 32
+
+-- a device as its line says, with an empty script for each id of an endpoint
+abbrev pub new_device : Configuration → DeviceSetup
+new_device config = record { config = config; scripts = empty_scripts endpoint_ids }
+
+-- the scenario with one more piece of its plan
+abbrev pub with_piece : Plan → Scenario → Scenario
+with_piece piece s = record s { plan = s.plan ++ piece ∷ [] }
+
+-- the scenario with what one more line says, where that may stand here: devices by number, scripts of their endpoints, and both before the first step
+abbrev pub with_line : Scenario → Line → Option Scenario
+with_line s (line.Device number config) =
+    if (length s.plan == 0) && (number == length s.setup) then Some (record s { setup = s.setup ++ new_device config ∷ [] }) else None
+with_line s (line.Script dev ep answers) =
+    if length s.plan == 0
+    then option_and_then (λ device. option_map (λ changed. record s { setup = slice_set s.setup dev changed }) (device_with ep answers device)) (slice_get s.setup dev)
+    else None
+with_line s (line.Submit h request rule) = Some (record (with_piece (Do (step.Submit h request)) s) { rules = s.rules ++ rule ∷ [] })
+with_line s (line.Piece piece) = Some (with_piece piece s)
+
+-- whether a line says nothing: an empty one, or a comment
+abbrev pub says_nothing : List ℕ → Bool
+says_nothing [] = true
+says_nothing (b ∷ bs) = b == 35
+
+-- the scenario with one more line of text
+abbrev pub with_text : Scenario → List ℕ → Option Scenario
+with_text s text = if says_nothing text then Some s else option_and_then (with_line s) (line_of_text text)
+
+-- what follows a line that is taken; the number of one that isn't
+abbrev pub taken_at : ℕ → (Scenario → Result Scenario ℕ) → Option Scenario → Result Scenario ℕ
+taken_at at further None = Err at
+taken_at at further (Some s) = further s
+
+-- the scenario of some lines behind others, of which the first has this number; or the number of the first that isn't taken
+unfoldable pub scenario_from : ℕ → Scenario → List (List ℕ) → Result Scenario ℕ
+scenario_from at s [] = Ok s
+scenario_from at s (text ∷ texts) = taken_at at (λ t. scenario_from (at + 1) t texts) (with_text s text)
+
+-- the scenario of a text, whose lines are counted from 1
+abbrev pub scenario_of : List ℕ → Result Scenario ℕ
+scenario_of text = scenario_from 1 nothing_said (slice_split (λ b. b == 10) text)

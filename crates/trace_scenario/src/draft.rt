@@ -1,0 +1,252 @@
+//! The scenario that the lines so far say.
+
+ghost use Rattle.std.specs.Prelude.{◌≡◌, ◌==◌, IfOk, Some, length, not, slice_set, true};
+ghost use Rattle.trace_scenario.specs.Counts.{counts_of, scripts_of, written_scripts};
+ghost use Rattle.trace_scenario.specs.Scenario.{says_nothing, empty_scripts, is_free, takes_script};
+ghost use Rattle.trace_scenario.specs.TextReading.{Becomes, IsJudged};
+
+use crate::findings::Counts;
+use crate::scenario::Scenario;
+use crate::scripted::ScriptedDevice;
+use crate::{Line, LineFault, Misplaced, Problem};
+use std::alloc::{AllocError, Global};
+use std::marker::Model;
+use std::mem;
+use usb_descriptors::Config;
+use usb_model::{DeviceNo, EpAddr, Kind, Plan, Rule, Script, Sequence, Step};
+
+/// How many ids the endpoints of a device have: one for each number and direction.
+const ENDPOINT_IDS: u8 = 32;
+
+/// The scenario that the lines so far say.
+#[derive(Drop)]
+pub(crate) struct Draft {
+    devices: Vec<ScriptedDevice>,
+    plan: Vec<Plan>,
+    rules: Vec<Rule>,
+}
+
+impl Model for Draft {
+    ghost use Rattle.trace_scenario.specs.declared.scenario.Scenario.{Scenario};
+
+    ghost Value = { Scenario };
+
+    ghost view = { λ d. record { setup = d.devices.items; plan = d.plan.items; rules = d.rules.items } };
+}
+
+impl Draft {
+    ghost use Rattle.trace_scenario.specs.Scenario.{nothing_said, with_line, with_text, with_piece, new_device};
+
+    /// Nothing is read yet.
+    pub(crate) fn new(alloc: Global) -> Draft
+        ensures { result ≡ nothing_said }
+    {
+        Draft {
+            devices: Vec::new(alloc),
+            plan: Vec::new(alloc),
+            rules: Vec::new(alloc),
+        }
+    }
+
+    /// The scenario of what was read.
+    pub(crate) fn into_scenario(self) -> Scenario
+        ensures { result ≡ self }
+    {
+        let Draft {
+            devices,
+            plan,
+            rules,
+        } = self;
+        Scenario {
+            setup: Sequence::from_vec(devices),
+            plan: Sequence::from_vec(plan),
+            rules: Sequence::from_vec(rules),
+        }
+    }
+
+    /// Reads a line. An empty one and a comment say nothing.
+    pub(crate) fn read(&mut self, alloc: Global, text: &[u8]) -> Result<(), LineFault>
+        ensures { Becomes result (with_text self.old text.now) self.old self.new }
+    {
+        if says_nothing(text) {
+            return Ok(());
+        }
+        self.take(alloc, Line::from_text(alloc, text)?)
+    }
+
+    /// Reads a line, and tells what is wrong with it where it is bad, and then takes nothing of it.
+    pub(crate) fn judge(
+        &mut self,
+        alloc: Global,
+        text: &[u8],
+    ) -> Result<Option<Problem>, AllocError>
+        ensures { IfOk result (λ problem. IsJudged problem (with_text self.old text.now) self.old self.new) }
+    {
+        match self.read(alloc, text) {
+            Ok(()) => Ok(None),
+            Err(LineFault::Bad(problem)) => Ok(Some(problem)),
+            Err(LineFault::Memory) => Err(AllocError),
+        }
+    }
+
+    /// How much the lines so far say. There are at most 4 devices with 32 scripts each, so their sum fits; no contract
+    /// says so, and where it didn't memory would count as wanting.
+    pub(crate) fn counts(&self) -> Result<Counts, AllocError>
+        ensures { IfOk result (λ counts. counts ≡ counts_of self.now) }
+    {
+        Ok(Counts {
+            devices: self.devices.len(),
+            scripts: scripts_of(self.devices.as_slice())?,
+            steps: self.plan.len(),
+        })
+    }
+
+    /// Adds what a line says, where it may stand here.
+    fn take(&mut self, alloc: Global, line: Line) -> Result<(), LineFault>
+        ensures { Becomes result (with_line self.old line) self.old self.new }
+    {
+        match line {
+            Line::Device { number, config } => self.add_device(alloc, number, config),
+            Line::Script { dev, ep, answers } => self.add_script(alloc, dev, ep, answers),
+            Line::Submit { h, request, rule } => {
+                self.rules.push(rule)?;
+                self.add_piece(Plan::Do(Step::Submit { h, request }))
+            }
+            Line::Piece(piece) => self.add_piece(piece),
+        }
+    }
+
+    /// How many pieces the plan has so far.
+    pub(crate) fn pieces(&self) -> usize
+        ensures { result ≡ length self.now.plan }
+    {
+        self.plan.len()
+    }
+
+    /// Whether a step stands before, so that no device or script may stand here.
+    fn has_steps(&self) -> bool
+        ensures { result ≡ not (length self.now.plan == 0) }
+    {
+        !self.plan.is_empty()
+    }
+
+    /// Adds a piece of the plan.
+    fn add_piece(&mut self, piece: Plan) -> Result<(), LineFault>
+        ensures { Becomes result (Some (with_piece piece self.old)) self.old self.new }
+    {
+        self.plan.push(piece)?;
+        Ok(())
+    }
+
+    /// Adds the device of the next number, before the first step.
+    fn add_device(
+        &mut self,
+        alloc: Global,
+        number: DeviceNo,
+        config: Config,
+    ) -> Result<(), LineFault>
+        ensures { Becomes result (with_line self.old (Line.Device number config)) self.old self.new }
+    {
+        if self.has_steps() {
+            return Err(LineFault::Bad(Problem::Place(Misplaced::Late)));
+        }
+        if usize::from(number.number()) != self.devices.len() {
+            let turn = Misplaced::Turn(self.devices.len());
+            return Err(LineFault::Bad(Problem::Place(turn)));
+        }
+        let scripts = empty_scripts(alloc, ENDPOINT_IDS)?;
+        self.devices.push(ScriptedDevice { config, scripts })?;
+        Ok(())
+    }
+
+    /// Adds the script of an endpoint that has none so far, before the first step.
+    fn add_script(
+        &mut self,
+        alloc: Global,
+        dev: DeviceNo,
+        ep: EpAddr,
+        answers: Script,
+    ) -> Result<(), LineFault>
+        ensures { Becomes result (with_line self.old (Line.Script dev ep answers)) self.old self.new }
+    {
+        if self.has_steps() {
+            return Err(LineFault::Bad(Problem::Place(Misplaced::Late)));
+        }
+        let (place, id) = (usize::from(dev.number()), usize::from(ep.id()));
+        let device = self
+            .devices
+            .get(place)
+            .ok_or(Problem::Place(Misplaced::NoDevice))?;
+        if !takes_script(&device.config, ep) {
+            return Err(LineFault::Bad(Problem::Place(Misplaced::NoEndpoint)));
+        }
+        if !is_free(device.scripts.as_slice(), id) {
+            return Err(LineFault::Bad(Problem::Place(Misplaced::SecondScript)));
+        }
+        put_script(alloc, &mut self.devices[place], id, answers);
+        Ok(())
+    }
+}
+
+/// How many scripts some devices have.
+fn scripts_of(devices: &[ScriptedDevice]) -> Result<usize, AllocError>
+    ensures { IfOk result (λ count. count ≡ scripts_of devices.now) }
+{
+    let mut count: usize = 0;
+    for device in devices {
+        let more = written_scripts(device.scripts.as_slice());
+        count = count.checked_add(more).ok_or(AllocError)?;
+    }
+    Ok(count)
+}
+
+/// How many of some scripts aren't empty.
+fn written_scripts(scripts: &[Script]) -> usize
+    ensures { result ≡ written_scripts scripts.now }
+{
+    scripts.iter().filter(|script| !script.is_empty()).count()
+}
+
+/// Whether a line is empty or a comment.
+fn says_nothing(text: &[u8]) -> bool
+    ensures { result ≡ says_nothing text.now }
+{
+    matches!(text, [] | [b'#', ..])
+}
+
+/// So many empty scripts.
+fn empty_scripts(alloc: Global, count: u8) -> Result<Sequence<Script>, AllocError>
+    ensures { IfOk result (λ scripts. scripts ≡ empty_scripts count) }
+{
+    let mut scripts = Vec::new(alloc);
+    for _ in 0..count {
+        scripts.push(Script::new(alloc))?;
+    }
+    Ok(Sequence::from_vec(scripts))
+}
+
+/// Whether a configuration has a bulk or interrupt endpoint of this address.
+fn takes_script(config: &Config, ep: EpAddr) -> bool
+    ensures { result ≡ takes_script config.now ep }
+{
+    config.endpoints().iter().any(|info| info.address == ep
+        && matches!(info.kind, Kind::Bulk | Kind::Interrupt))
+}
+
+/// Whether there is room for a script at an id: none so far.
+fn is_free(scripts: &[Script], id: usize) -> bool
+    ensures { result ≡ is_free id scripts.now }
+{
+    matches!(scripts.get(id), Some(script) if script.is_empty())
+}
+
+/// Puts a script at an id where there is room.
+#[tactic(auto, using(crate::proofs::Places::free_place))]
+fn put_script(alloc: Global, device: &mut ScriptedDevice, id: usize, answers: Script)
+    requires { is_free id device.old.scripts ≡ true }
+    ensures { device.new ≡ record device.old { scripts = slice_set device.old.scripts id answers } }
+{
+    let mut scripts = mem::replace(&mut device.scripts, Sequence::new(alloc)).into_vec();
+    scripts[id] = answers;
+    device.scripts = Sequence::from_vec(scripts);
+}

@@ -1,0 +1,79 @@
+//! What is wrong with a text, line by line.
+
+ghost use Rattle.std.specs.Prelude.{◌≡◌, IfOk, map, Some};
+ghost use Rattle.trace_scenario.specs.Counts.{counts_of, counts_text, plural_end};
+ghost use Rattle.trace_scenario.specs.Findings.{bad_lines, good_lines};
+
+use crate::Problem;
+use crate::draft::Draft;
+use std::alloc::{AllocError, Global};
+use std::fmt;
+
+/// A bad line.
+#[derive(Clone, Copy, PartialEq, Eq, Debug)]
+pub struct Finding {
+    /// Its number, from 1.
+    pub line: u64,
+    /// What is wrong with it.
+    pub problem: Problem,
+}
+
+/// How much the good lines of a text say.
+#[derive(Clone, Copy, PartialEq, Eq, Debug)]
+pub struct Counts {
+    /// How many devices there are.
+    pub devices: usize,
+    /// How many endpoints have a script.
+    pub scripts: usize,
+    /// How many steps there are, submissions and calls of callbacks among them.
+    pub steps: usize,
+}
+
+/// The counts in words, as `2 devices, 1 script, 17 steps`.
+impl fmt::Display for Counts {
+    ghost output = { λ counts. Some (counts_text counts) };
+
+    fn fmt<W: fmt::Write>(&self, f: &mut fmt::Formatter<W>) -> fmt::Result {
+        let (devices, scripts, steps) = (self.devices, self.scripts, self.steps);
+        let (d, s, t) = (plural_end(devices), plural_end(scripts), plural_end(steps));
+        write!(
+            f,
+            "{devices} device{d}, {scripts} script{s}, {steps} step{t}"
+        )
+    }
+}
+
+/// What stands at the end of a noun for so many.
+fn plural_end(count: usize) -> &'static str
+    ensures { result.now ≡ plural_end count }
+{
+    if count == 1 { "" } else { "s" }
+}
+
+/// What a check of a text finds.
+#[derive(Debug, Drop)]
+pub struct Findings {
+    /// Its bad lines, in order.
+    pub bad: Vec<Finding>,
+    /// What the others say, counted.
+    pub counts: Counts,
+}
+
+/// Reads a text as `read_scenario` does, but skips each bad line and tells of it. Each line is judged by what the good
+/// ones before it say.
+pub fn check(alloc: Global, text: &[u8]) -> Result<Findings, AllocError>
+    ensures bad { IfOk result (λ findings. map (λ finding. finding.line) findings.bad.items ≡ bad_lines text.now) }
+    ensures counts { IfOk result (λ findings. findings.counts ≡ counts_of (good_lines text.now)) }
+{
+    let mut draft = Draft::new(alloc);
+    let mut bad = Vec::new(alloc);
+    let mut line: u64 = 0;
+    for words in text.split(|byte| *byte == b'\n') {
+        line = line.saturating_add(1);
+        if let Some(problem) = draft.judge(alloc, words)? {
+            bad.push(Finding { line, problem })?;
+        }
+    }
+    let counts = draft.counts()?;
+    Ok(Findings { bad, counts })
+}

@@ -1,0 +1,73 @@
+//! A scenario, with the lines that its steps stand in.
+
+ghost use Rattle.std.specs.Prelude.{◌≡◌, ◌++◌, ◌∷◌, [], IfErr, IfOk, Ok, length, map, if◌then◌else◌};
+ghost use Rattle.trace_scenario.specs.TextReading.{IsFaultOf};
+ghost use Rattle.trace_scenario.specs.Runnable.{IsRunnable};
+ghost use Rattle.trace_scenario.specs.Scenario.{scenario_of};
+ghost use Rattle.trace_scenario.specs.StepLines.{has_grown, numbered, step_lines};
+
+use crate::draft::Draft;
+use crate::scenario::Scenario;
+use crate::text_fault::TextFault;
+use std::alloc::{AllocError, Global};
+
+/// A line of a text.
+#[derive(Clone, Copy)]
+pub struct NumberedLine<'a> {
+    /// Its number, from 1.
+    pub number: u64,
+    /// Its bytes, without the line feed.
+    pub text: &'a [u8],
+}
+
+/// A scenario that was read, and of each piece of its plan the line that says it.
+#[derive(Drop)]
+pub struct Lined<'a> {
+    /// The scenario.
+    pub scenario: Scenario,
+    /// The lines, one for each piece, in order.
+    pub lines: Vec<NumberedLine<'a>>,
+}
+
+/// Keeps a line, if it says a step.
+fn keep<'a>(
+    lines: &mut Vec<NumberedLine<'a>>,
+    number: u64,
+    text: &'a [u8],
+    says_step: bool,
+) -> Result<(), AllocError>
+    ensures { IfOk result (λ _. map numbered lines.new.items ≡ map numbered lines.old.items ++ (if says_step then (number, text.now) ∷ [] else [])) }
+{
+    if says_step {
+        lines.push(NumberedLine { number, text })?;
+    }
+    Ok(())
+}
+
+/// The scenario of a text with the lines of its steps, or the fault in it, as `read_scenario` has it.
+pub fn read_lined<'a>(alloc: Global, text: &'a [u8]) -> Result<Lined<'a>, TextFault>
+    ensures scenario { IfOk result (λ read. scenario_of text.now ≡ Ok read.scenario) }
+    ensures fault { IfErr result (λ fault. IsFaultOf fault (scenario_of text.now)) }
+    ensures runnable { IfOk result (λ read. IsRunnable read.scenario) }
+    ensures lines { IfOk result (λ read. map numbered read.lines.items ≡ step_lines text.now) }
+    ensures each { IfOk result (λ read. length read.lines.items ≡ length read.scenario.plan) }
+{
+    let mut draft = Draft::new(alloc);
+    let mut lines = Vec::new(alloc);
+    let mut number: u64 = 0;
+    for line in text.split(|byte| *byte == b'\n') {
+        number = number.saturating_add(1);
+        let pieces = draft.pieces();
+        if let Err(fault) = draft.read(alloc, line) {
+            return Err(TextFault::at(number, fault));
+        }
+        let says_step = pieces < draft.pieces();
+        let Ok(()) = keep(&mut lines, number, line, says_step) else {
+            return Err(TextFault::Memory);
+        };
+    }
+    Ok(Lined {
+        scenario: draft.into_scenario(),
+        lines,
+    })
+}

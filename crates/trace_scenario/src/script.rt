@@ -1,0 +1,81 @@
+//! Lines that say what a device will answer.
+
+ghost use Rattle.std.specs.Prelude.{codes};
+ghost use Rattle.std.specs.Option.{option_and_then};
+ghost use Rattle.trace_scenario.specs.Line.{script_of, answers_of, each_of, answer_of, packet_of};
+ghost use Rattle.trace_scenario.specs.Prefix.{behind};
+ghost use Rattle.trace_scenario.specs.Reading.{ReadsAs};
+ghost use Rattle.trace_scenario.specs.Words.{words_of};
+
+use crate::fault::LineFault;
+use crate::line::Line;
+use crate::number::{address, bytes, device};
+use crate::problem::Problem;
+use crate::verb::Verb;
+use crate::{Expected, behind};
+use std::alloc::Global;
+use usb_model::limits::{LARGEST_PACKET, LONGEST_SCRIPT};
+use usb_model::{EpAddr, Response, Script};
+
+/// The answers of an endpoint of a device.
+#[tactic(auto, unfolding(crate::specs::Line::script_of))]
+pub(crate) fn script(alloc: Global, words: &[&str]) -> Result<Line, LineFault>
+    ensures { ReadsAs result (script_of (words_of words.now)) }
+{
+    let [dev, ep, words @ ..] = words else {
+        return Err(LineFault::Bad(Problem::Form(Verb::Script)));
+    };
+    let (dev, ep) = (device(dev)?, address(ep)?);
+    let answers = answers(alloc, ep, words)?;
+    Ok(Line::Script { dev, ep, answers })
+}
+
+/// The answers of some words: 1 to 4,096.
+#[tactic(auto, unfolding(crate::specs::Line::answers_of))]
+fn answers(alloc: Global, ep: EpAddr, words: &[&str]) -> Result<Script, LineFault>
+    ensures { ReadsAs result (answers_of ep (words_of words.now)) }
+{
+    if words.is_empty() || words.len() > LONGEST_SCRIPT {
+        return Err(LineFault::Bad(Problem::Answers));
+    }
+    each_answer(alloc, ep, words)
+}
+
+/// The answer of each word.
+fn each_answer(alloc: Global, ep: EpAddr, words: &[&str]) -> Result<Script, LineFault>
+    ensures { ReadsAs result (each_of (answer_of ep) (words_of words.now)) }
+{
+    let mut answers = Vec::new(alloc);
+    for word in words {
+        answers.push(answer(alloc, ep, word)?)?;
+    }
+    Ok(Script::from_vec(answers))
+}
+
+/// One answer: a packet of an endpoint for IN, that one was taken by an endpoint for OUT, or what either may answer.
+#[tactic(auto, unfolding(crate::specs::Line::answer_of))]
+fn answer(alloc: Global, ep: EpAddr, word: &str) -> Result<Response, LineFault>
+    ensures { ReadsAs result (answer_of ep word.now) }
+{
+    match word {
+        "n" => Ok(Response::Nak),
+        "s" => Ok(Response::Stall),
+        "b" => Ok(Response::Broken),
+        "a" if !ep.is_in() => Ok(Response::Ack),
+        _ if ep.is_in() => packet(alloc, word),
+        _ => Err(LineFault::Bad(Problem::Word(Expected::OutAnswer))),
+    }
+}
+
+/// A packet of an endpoint for IN.
+#[tactic(auto, unfolding(crate::specs::Line::packet_of))]
+fn packet(alloc: Global, word: &str) -> Result<Response, LineFault>
+    ensures { ReadsAs result (option_and_then packet_of (behind (codes "d:") word.now)) }
+{
+    let digits = behind("d:", word).ok_or(Expected::InAnswer)?;
+    let packet = bytes(alloc, digits)?.ok_or(Expected::Bytes)?;
+    if packet.len() > LARGEST_PACKET {
+        return Err(LineFault::Bad(Problem::Packet));
+    }
+    Ok(Response::Data(packet))
+}

@@ -1,0 +1,85 @@
+//! Lines that submit a transfer.
+
+ghost use Rattle.std.specs.Prelude.{◌≡◌};
+ghost use Rattle.trace_scenario.specs.Line.{submit_of, transfer_of, submission, kind_of, body_of};
+ghost use Rattle.trace_scenario.specs.Reading.{ReadsAs};
+ghost use Rattle.trace_scenario.specs.Words.{words_of};
+
+use crate::fault::LineFault;
+use crate::line::Line;
+use crate::number::{address, bytes, decimal_u32, handle};
+use crate::problem::Problem;
+use crate::verb::Verb;
+use crate::{Expected, Options, behind};
+use std::alloc::Global;
+use usb_model::{Body, EpAddr, Kind, Name, Request};
+
+/// A submission: a handle, an endpoint, and the transfer.
+#[tactic(auto, unfolding(crate::specs::Line::submit_of))]
+pub(crate) fn submit(alloc: Global, words: &[&str]) -> Result<Line, LineFault>
+    ensures { ReadsAs result (submit_of (words_of words.now)) }
+{
+    let [h, ep, words @ ..] = words else {
+        return Err(LineFault::Bad(Problem::Form(Verb::Submit)));
+    };
+    let (h, ep) = (handle(h)?, address(ep)?);
+    transfer(alloc, h, ep, words)
+}
+
+/// A transfer: its kind, its body, and the options.
+#[tactic(auto, using(crate::proofs::Shapes::transfer_short), unfolding(crate::specs::Line::transfer_of))]
+fn transfer(alloc: Global, h: Name, ep: EpAddr, words: &[&str]) -> Result<Line, LineFault>
+    ensures { ReadsAs result (transfer_of h ep (words_of words.now)) }
+{
+    let [kind, body, options @ ..] = words else {
+        return Err(LineFault::Bad(Problem::Form(Verb::Submit)));
+    };
+    let kind = kind_of(kind).ok_or(Expected::Kind)?;
+    let body = body_of(alloc, body)?;
+    let options = Options::read(options)?;
+    Ok(submission(h, ep, kind, body, options))
+}
+
+/// The submission of a transfer with these options.
+fn submission(h: Name, ep: EpAddr, kind: Kind, body: Body, options: Options) -> Line
+    ensures { result ≡ submission h ep kind body options }
+{
+    let request = Request {
+        ep,
+        kind,
+        flags: options.flags,
+        timeout: options.timeout,
+        body,
+    };
+    Line::Submit {
+        h,
+        request,
+        rule: options.rule,
+    }
+}
+
+/// The kind of an endpoint that transfers may be submitted to.
+#[tactic(auto, unfolding(crate::specs::Line::kind_of))]
+fn kind_of(word: &str) -> Option<Kind>
+    ensures { result ≡ kind_of word.now }
+{
+    match word {
+        "bulk" => Some(Kind::Bulk),
+        "int" => Some(Kind::Interrupt),
+        _ => None,
+    }
+}
+
+/// What a transfer carries: bytes after `x:`, or else how many bytes there is room for.
+#[tactic(auto, unfolding(crate::specs::Line::body_of))]
+fn body_of(alloc: Global, word: &str) -> Result<Body, LineFault>
+    ensures { ReadsAs result (body_of word.now) }
+{
+    match behind("x:", word) {
+        Some(digits) => {
+            let bytes = bytes(alloc, digits)?.ok_or(Expected::Bytes)?;
+            Ok(Body::Out(bytes))
+        }
+        None => Ok(Body::In(decimal_u32(word).ok_or(Expected::Length)?)),
+    }
+}

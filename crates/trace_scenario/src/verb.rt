@@ -1,0 +1,95 @@
+//! The first words of lines.
+
+ghost use Rattle.std.specs.Prelude.{◌≡◌};
+ghost use Rattle.trace_scenario.specs.Verb.{verb_of};
+
+/// What a line is about: its first word.
+#[derive(Clone, Copy, PartialEq, Eq, Debug)]
+pub enum Verb {
+    /// `device`
+    Device,
+    /// `script`
+    Script,
+    /// `open`
+    Open,
+    /// `close`
+    Close,
+    /// `claim`
+    Claim,
+    /// `release`
+    Release,
+    /// `reset`
+    Reset,
+    /// `clear`
+    Clear,
+    /// `submit`
+    Submit,
+    /// `cancel`
+    Cancel,
+    /// `expire`
+    Expire,
+    /// `serve`
+    Serve,
+    /// `command`
+    Command,
+    /// `deliver`
+    Deliver,
+    /// `take`
+    Take,
+    /// `return`
+    Return,
+    /// `unplug`
+    Unplug,
+}
+
+impl Verb {
+    /// The verb of a word.
+    #[tactic(auto, unfolding(crate::specs::Verb::verb_of))]
+    pub(crate) fn read(word: &str) -> Option<Verb>
+        ensures { result ≡ verb_of word.now }
+    {
+        match word {
+            "device" => Some(Verb::Device),
+            "script" => Some(Verb::Script),
+            "open" => Some(Verb::Open),
+            "close" => Some(Verb::Close),
+            "claim" => Some(Verb::Claim),
+            "release" => Some(Verb::Release),
+            "reset" => Some(Verb::Reset),
+            "clear" => Some(Verb::Clear),
+            "submit" => Some(Verb::Submit),
+            "cancel" => Some(Verb::Cancel),
+            "expire" => Some(Verb::Expire),
+            "serve" => Some(Verb::Serve),
+            "command" => Some(Verb::Command),
+            "deliver" => Some(Verb::Deliver),
+            "take" => Some(Verb::Take),
+            "return" => Some(Verb::Return),
+            "unplug" => Some(Verb::Unplug),
+            _ => None,
+        }
+    }
+
+    /// The words of a line that begins so, for a person.
+    pub fn form(self) -> &'static str {
+        match self {
+            Verb::Device => "device D HEX",
+            Verb::Script => "script D EP A A ..",
+            Verb::Open => "open H D",
+            Verb::Close => "close H",
+            Verb::Claim => "claim H I",
+            Verb::Release => "release H I",
+            Verb::Reset => "reset H",
+            Verb::Clear => "clear H EP",
+            Verb::Submit => "submit H EP K B options",
+            Verb::Cancel => "cancel H N",
+            Verb::Expire => "expire H N",
+            Verb::Serve => "serve D EP",
+            Verb::Command => "command",
+            Verb::Deliver => "deliver",
+            Verb::Take => "take",
+            Verb::Return => "return H N",
+            Verb::Unplug => "unplug D",
+        }
+    }
+}

@@ -1,3 +1,0 @@
-pub mod Each
-pub mod Shapes
-pub mod Texts

@@ -1,6 +1,0 @@
-pub mod Scenarios
-pub mod Sifting
-pub mod Places
-mod Lines
-mod Runnables
-pub mod StepLines
