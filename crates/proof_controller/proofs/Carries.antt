@@ -18,11 +18,11 @@ use Rattle.usb_design.specs.Handling.{find_at, past_kept_blanks}
 use Rattle.usb_design.specs.Serving.{event_at, sent_before, walk}
 use Rattle.usb_design.specs.Commanding as kept
 use Rattle.usb_tring.specs.Line.{Line, all_of, moved_behind, places}
-use Rattle.usb_context.specs.Ahead.{ahead}
-use Rattle.usb_context.specs.Commanding.{Carried, before, carried, move_in, moved_at, pause_by, reset_in, stop_in}
-use Rattle.usb_context.specs.Context.{Context}
-use Rattle.usb_context.specs.Serving.{trb_at}
-use Rattle.usb_context.proofs.Moves.{at_place, found-none, found-there}
+use Rattle.usb_xhc.specs.Ahead.{ahead}
+use Rattle.usb_xhc.specs.Commanding.{Carried, before, carried, move_in, moved_at, pause_by, reset_in, stop_in}
+use Rattle.usb_xhc.specs.Context.{Context}
+use Rattle.usb_xhc.specs.Serving.{trb_at}
+use Rattle.usb_xhc.proofs.Moves.{at_place, found-none, found-there}
 use Rattle.proof_controller.specs.Endpoint.{IsContext, IsFresh}
 use Rattle.proof_controller.specs.EndpointLaws.{CarriesAs, IsOrder}
 use Rattle.proof_controller.specs.Line.{IsLine}

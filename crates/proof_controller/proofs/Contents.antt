@@ -11,7 +11,7 @@ use Rattle.usb_design.specs.Handling.{past_kept_blanks}
 use Rattle.usb_transfer.specs.Tds.{tds_of}
 use Rattle.usb_transfer.specs.Trbs.{normals_of, buffer_of}
 use Rattle.usb_tring.specs.Line.{Line, all_of, contents, no_ops, normals, used}
-use Rattle.usb_context.specs.Ahead.{ahead, trbs_ahead}
+use Rattle.usb_xhc.specs.Ahead.{ahead, trbs_ahead}
 use Rattle.proof_controller.specs.Line.{AllItems, IsLine, IsSent}
 use Rattle.proof_controller.proofs.Trbs.{ahead_whole, ends_drop, normals_count, normals_end}
 use Rattle.proof_controller.proofs.Lines.{Found, spans}

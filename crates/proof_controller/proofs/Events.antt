@@ -6,8 +6,8 @@ use Rattle.usb_trb.specs.declared.kind.TrbKind.{TrbKind}
 use Rattle.usb_segment.specs.Places.{address_of, index_of}
 use Rattle.usb_design.specs.Kept.{Completion, Telling, Transfer}
 use Rattle.usb_ering.specs.Ring.{Ring}
-use Rattle.usb_context.specs.Context.{Context}
-use Rattle.usb_context.specs.Posting.{posted_all, posted_one}
+use Rattle.usb_xhc.specs.Context.{Context}
+use Rattle.usb_xhc.specs.Posting.{posted_all, posted_one}
 use Rattle.usb_xhc.specs.Controller.{order_address}
 use Rattle.proof_controller.specs.Told.{event_in, event_of}
 use Rattle.proof_design.specs.Shows.{RingEvent, event_at, order_at}

@@ -11,8 +11,8 @@ use Rattle.usb_design.specs.Kept.{InRow, KeptEndpoint, KeptTransfer, first_place
 use Rattle.usb_design.specs.Handling.{covers, find_at, past_at, past_kept_blanks}
 use Rattle.usb_design.specs.Serving.{put_at, room_at, sent_before, walk}
 use Rattle.usb_tring.specs.Line.{Line, all_of, contents, moved, no_ops}
-use Rattle.usb_context.specs.Ahead.{lengths, past, trbs_ahead}
-use Rattle.usb_context.specs.Context.{Context, gone_on, gone_past, stand_by}
+use Rattle.usb_xhc.specs.Ahead.{lengths, past, trbs_ahead}
+use Rattle.usb_xhc.specs.Context.{Context, gone_on, gone_past, stand_by}
 use Rattle.proof_controller.specs.Line.{AllItems, IsLine}
 use Rattle.proof_controller.specs.Endpoint.{IsBegun, IsContext, Stands}
 use Rattle.proof_controller.specs.EndpointLaws.{HasTrbsOf, HaveTrbsOf}

@@ -15,8 +15,8 @@ use Rattle.usb_transfer.specs.Tds.{tds_of}
 use Rattle.usb_transfer.specs.Trbs.{buffer_of, normals_of}
 use Rattle.usb_transfer.proofs.Pieces.{normals_at_count}
 use Rattle.usb_tring.specs.Line.{Line, normals, used}
-use Rattle.usb_context.specs.Context.{Context}
-use Rattle.usb_context.specs.Hosting.{with_ring, with_pushed, with_blank, without_first}
+use Rattle.usb_xhc.specs.Context.{Context}
+use Rattle.usb_xhc.specs.Hosting.{with_ring, with_pushed, with_blank, without_first}
 use Rattle.proof_controller.specs.Line.{AllItems, IsItem, IsLine}
 use Rattle.proof_controller.specs.Endpoint.{IsBegun, IsContext}
 use Rattle.proof_controller.specs.EndpointLaws.{HasTrbsOf, HaveTrbsOf}

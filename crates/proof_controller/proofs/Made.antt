@@ -17,7 +17,7 @@ use Rattle.usb_descriptors.specs.Table.{IsNumbered, IsTable, info_at}
 use Rattle.usb_design.specs.Kept.{KeptEndpoint, new_kept_endpoint}
 use Rattle.usb_device.specs.Pipe.{Pipe, no_pipe, pipe_at, rewound}
 use Rattle.usb_device.specs.Scripts.{info_by}
-use Rattle.usb_context.specs.Context.{Context, configured}
+use Rattle.usb_xhc.specs.Context.{Context, configured}
 use Rattle.proof_controller.specs.Endpoint.{IsPipe}
 use Rattle.usb_xhc.specs.Making.{context_for, context_made, contexts_for, ring_base, slot_for}
 use Rattle.usb_xhc.specs.Slots.{DeviceSlot, as_made, context_of, slot_renewed}

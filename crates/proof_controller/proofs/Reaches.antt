@@ -11,7 +11,7 @@ use Rattle.usb_design.specs.Serving.{packet_by}
 use Rattle.usb_transfer.specs.Tds.{Tds, lengths as lengths_by}
 use Rattle.usb_transfer.specs.Trbs.{buffer_of, normal_at, normals_at, td_at}
 use Rattle.usb_transfer.proofs.Pieces.{td_at-lengths}
-use Rattle.usb_context.specs.Ahead.{goes_on, lengths}
+use Rattle.usb_xhc.specs.Ahead.{goes_on, lengths}
 use Rattle.proof_controller.proofs.Trbs.{EndsTd, chained_ends, more_behind, normals_plain, same_lengths, some_pieces, td_chained, td_last}
 
 -- a TD has a TRB a piece

@@ -8,7 +8,7 @@ use Rattle.usb_model.specs.Setup.{Setup, endpoint_id, script_of}
 use Rattle.usb_design.specs.Kept.{KeptEndpoint, KeptTransfer, first_place, new_kept_endpoint}
 use Rattle.usb_design.specs.Handling.{find_at, past_kept_blanks}
 use Rattle.usb_device.specs.Pipe.{Pipe, cleared, no_pipe, pipe_at, rewound}
-use Rattle.usb_context.specs.Context.{Context, configured}
+use Rattle.usb_xhc.specs.Context.{Context, configured}
 use Rattle.usb_xhc.specs.Controller.{Controller, slot_changed}
 use Rattle.usb_xhc.specs.Slots.{DeviceSlot, context_of, renewed}
 use Rattle.proof_controller.specs.Endpoint.{IsContext, IsPipe, Stands}

@@ -15,9 +15,9 @@ use Rattle.usb_design.specs.Handling.{errand_of}
 use Rattle.usb_design.specs.Commanding as kept
 use Rattle.usb_device.specs.Pipe.{Pipe, pipe_at}
 use Rattle.usb_tring.specs.Line.{places}
-use Rattle.usb_context.specs.Commanding.{carried, endpoint_not_enabled_error, move_in, moved_at, before, reset_in, stop_in, trb_error}
-use Rattle.usb_context.specs.Context.{Context}
-use Rattle.usb_context.specs.Posting.{posted_all}
+use Rattle.usb_xhc.specs.Commanding.{carried, endpoint_not_enabled_error, move_in, moved_at, before, reset_in, stop_in, trb_error}
+use Rattle.usb_xhc.specs.Context.{Context}
+use Rattle.usb_xhc.specs.Posting.{posted_all}
 use Rattle.usb_xhc.specs.Controller.{Controller, carried_at, code_for, endpoint_in, order_address, run_at, run_of, slot_in}
 use Rattle.usb_xhc.specs.Slots.{DeviceSlot, changed, context_of, order_code, order_events}
 use Rattle.proof_controller.specs.EndpointLaws.{CarriesAs, IsOrder, start_of}

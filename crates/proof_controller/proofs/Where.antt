@@ -7,7 +7,7 @@ use Rattle.usb_segment.specs.Places.{address_of, cycle_of}
 use Rattle.usb_design.specs.Kept.{KeptEndpoint, KeptTransfer, first_place}
 use Rattle.usb_design.specs.Handling.{find_at}
 use Rattle.usb_tring.specs.Line.{IsAt, Line, all_of, place_of, places}
-use Rattle.usb_context.specs.Context.{Context}
+use Rattle.usb_xhc.specs.Context.{Context}
 use Rattle.proof_controller.specs.Line.{AllItems, in_ring}
 use Rattle.proof_controller.specs.Endpoint.{IsContext}
 use Rattle.proof_controller.specs.EndpointLaws.{FindsKept}

@@ -5,7 +5,7 @@ use Rattle.usb_design.specs.Stands.{length_at, total}
 use Rattle.usb_design.specs.Kept.{KeptEndpoint, KeptTransfer}
 use Rattle.usb_design.specs.Handling.{find_at}
 use Rattle.usb_device.specs.Pipe.{Pipe}
-use Rattle.usb_context.specs.Context.{Context}
+use Rattle.usb_xhc.specs.Context.{Context}
 use Rattle.proof_controller.specs.Line.{IsLine}
 
 -- of the transfer where the controller stands: whether any of it moved; of its TRB no more moved than it has

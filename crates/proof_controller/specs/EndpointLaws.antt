@@ -23,11 +23,11 @@ use Rattle.usb_device.specs.Pipe.{Pipe, answer_of, bytes_after, pipe_after, rewo
 use Rattle.usb_transfer.specs.Tds.{tds_of}
 use Rattle.usb_transfer.specs.Trbs.{normals_of}
 use Rattle.usb_tring.specs.Line.{IsAt, capacity, normals, place_of, places, used}
-use Rattle.usb_context.specs.declared.trb_at.TrbAt.{TrbAt}
-use Rattle.usb_context.specs.Context.{Context, configured}
-use Rattle.usb_context.specs.Commanding.{Carried, carried}
-use Rattle.usb_context.specs.Hosting.{rung, with_ring, with_pushed, with_blank, without_first}
-use Rattle.usb_context.specs.Serving.{Served, offset_by, packet_out, packet_room, served, served_gone, working}
+use Rattle.usb_xhc.specs.declared.trb_at.TrbAt.{TrbAt}
+use Rattle.usb_xhc.specs.Context.{Context, configured}
+use Rattle.usb_xhc.specs.Commanding.{Carried, carried}
+use Rattle.usb_xhc.specs.Hosting.{rung, with_ring, with_pushed, with_blank, without_first}
+use Rattle.usb_xhc.specs.Serving.{Served, offset_by, packet_out, packet_room, served, served_gone, working}
 use Rattle.proof_controller.specs.Endpoint.{IsContext, IsFresh, IsPipe}
 use Rattle.proof_controller.specs.Told.{event_of, reply_of}
 

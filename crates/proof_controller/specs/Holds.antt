@@ -11,7 +11,7 @@ use Rattle.usb_segment.specs.Places.{address_of, cycle_of}
 use Rattle.usb_design.specs.Kept.{KeptEndpoint, Transfer}
 use Rattle.usb_device.specs.Pipe.{Pipe, pipe_at, rewound}
 use Rattle.usb_tring.specs.Line.{places}
-use Rattle.usb_context.specs.Context.{Context}
+use Rattle.usb_xhc.specs.Context.{Context}
 use Rattle.usb_xhc.specs.Controller.{Controller}
 use Rattle.usb_xhc.specs.Making.{ring_base}
 use Rattle.usb_xhc.specs.Slots.{DeviceSlot, context_of}

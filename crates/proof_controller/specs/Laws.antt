@@ -23,10 +23,10 @@ use Rattle.usb_device.specs.Pipe.{IsLawful, Pipe, cleared, pipe_at}
 use Rattle.usb_transfer.specs.Tds.{tds_of}
 use Rattle.usb_transfer.specs.Trbs.{normals_of}
 use Rattle.usb_tring.specs.Line.{capacity, normals, used}
-use Rattle.usb_context.specs.declared.packet.Packet.{Packet as Told}
-use Rattle.usb_context.specs.Context.{Context}
-use Rattle.usb_context.specs.Hosting.{rung, with_ring, with_pushed, with_blank, without_first}
-use Rattle.usb_context.specs.Posting.{posted_one}
+use Rattle.usb_xhc.specs.declared.packet.Packet.{Packet as Told}
+use Rattle.usb_xhc.specs.Context.{Context}
+use Rattle.usb_xhc.specs.Hosting.{rung, with_ring, with_pushed, with_blank, without_first}
+use Rattle.usb_xhc.specs.Posting.{posted_one}
 use Rattle.usb_xhc.specs.Controller.{AreLawfulAll, Controller, Run, all_renewed, run_of, served_at, slot_changed, told_at}
 use Rattle.usb_xhc.specs.Making.{slot_for}
 use Rattle.usb_xhc.specs.Slots.{DeviceSlot, changed, context_of, read_after, renewed, sends}

@@ -11,7 +11,7 @@ use Rattle.usb_model.specs.Setup.{Setup, endpoint_id, is_in}
 use Rattle.usb_descriptors.specs.Table.{IsTable, info_at}
 use Rattle.usb_device.specs.Pipe.{Pipe, pipe_at}
 use Rattle.usb_device.specs.Scripts.{script_by}
-use Rattle.usb_context.specs.Context.{Context}
+use Rattle.usb_xhc.specs.Context.{Context}
 use Rattle.usb_xhc.specs.Controller.{Controller}
 use Rattle.usb_xhc.specs.Making.{ring_base}
 use Rattle.usb_xhc.specs.Slots.{DeviceSlot, context_of}

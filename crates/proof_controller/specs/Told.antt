@@ -7,9 +7,9 @@ use Rattle.usb_trb.specs.declared.kind.TrbKind.TheVariants.{TransferEvent, Comma
 use Rattle.usb_segment.specs.Places.{address_of}
 use Rattle.usb_design.specs.Kept.{Telling, Transfer, Completion}
 use Rattle.usb_tring.specs.Line.{places}
-use Rattle.usb_context.specs.declared.packet.Packet.{Packet}
-use Rattle.usb_context.specs.declared.packet.Packet.TheVariants as packet
-use Rattle.usb_context.specs.Context.{Context}
+use Rattle.usb_xhc.specs.declared.packet.Packet.{Packet}
+use Rattle.usb_xhc.specs.declared.packet.Packet.TheVariants as packet
+use Rattle.usb_xhc.specs.Context.{Context}
 
 -- an event of the event ring; base, commands: where the endpoint's ring and the command ring begin (xHCI 1.2, 6.4.2.1, 6.4.2.2)
 abbrev pub event_in : (slot id base commands : ℕ) → Telling → TrbKind

@@ -17,7 +17,7 @@ use Rattle.usb_design.specs.Handling.{Handled, Reading, find_at, finish, kept_af
 use Rattle.usb_design.specs.Settling.{pauses}
 use Rattle.usb_cancel.specs.Orders.{ordered, without_ended}
 use Rattle.usb_design.specs.Stands.{length_at, read_off}
-use Rattle.usb_context.specs.Context.{Context}
+use Rattle.usb_xhc.specs.Context.{Context}
 use Rattle.proof_controller.specs.Endpoint.{IsContext}
 use Rattle.proof_controller.specs.Holds.{ring_at}
 use Rattle.usb_flight.specs.Flights.{Flights, item_at, line_at, with_item}

@@ -18,9 +18,9 @@ use Rattle.proof_controller.specs.EndpointLaws.{start_of}
 use Rattle.usb_transfer.specs.declared.transfer.Transfer.{Transfer as InFlight}
 use Rattle.usb_cancel.specs.declared.outstanding.Sent.{Sent}
 use Rattle.usb_cancel.specs.Outstanding.{sent_at}
-use Rattle.usb_context.specs.Context.{Context}
-use Rattle.usb_context.specs.Hosting.{rung}
-use Rattle.usb_context.specs.Posting.{posted_one}
+use Rattle.usb_xhc.specs.Context.{Context}
+use Rattle.usb_xhc.specs.Hosting.{rung}
+use Rattle.usb_xhc.specs.Posting.{posted_one}
 use Rattle.usb_xhc.specs.Controller.{Controller, slot_changed}
 use Rattle.usb_xhc.specs.Slots.{DeviceSlot, changed, context_of}
 use Rattle.usb_flight.specs.Flights.{lane_at, line_at}

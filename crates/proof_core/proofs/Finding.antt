@@ -6,7 +6,7 @@ use Rattle.usb_trb.specs.declared.kind.TrbKind.{TrbKind}
 use Rattle.usb_design.specs.Kept.{InRow, KeptEndpoint, KeptTransfer, first_place}
 use Rattle.usb_design.specs.Handling.{covers, find_at, past_at}
 use Rattle.usb_design.specs.Serving.{put_at}
-use Rattle.usb_context.specs.Context.{Context}
+use Rattle.usb_xhc.specs.Context.{Context}
 use Rattle.proof_controller.specs.Endpoint.{IsContext}
 use Rattle.proof_controller.specs.Line.{AllItems}
 

@@ -19,10 +19,10 @@ use Rattle.usb_cancel.specs.Orders.{without_ended}
 use Rattle.usb_transfer.specs.declared.transfer.Transfer.{Transfer as InFlight}
 use Rattle.usb_callers.specs.Callers.{SameCallbacks, SameCounts, SameNumbers, is_there, results_at}
 use Rattle.usb_callers.specs.Caller.{Kept as Caller}
-use Rattle.usb_context.specs.Hosting.{with_ring, without_first}
+use Rattle.usb_xhc.specs.Hosting.{with_ring, without_first}
 use Rattle.usb_xhc.specs.Controller.{Controller, slot_changed}
 use Rattle.proof_core.proofs.Leaving.{finishes}
-use Rattle.usb_context.specs.Context.{Context}
+use Rattle.usb_xhc.specs.Context.{Context}
 use Rattle.usb_device.specs.Pipe.{pipe_at}
 use Rattle.usb_xhc.specs.Slots.{DeviceSlot, changed, context_of}
 use Rattle.usb_flight.specs.Flights.{Flights, blanked_at, item_at, lane_at, left_at, line_at}

@@ -18,9 +18,9 @@ use Rattle.usb_transfer.specs.declared.transfer.Transfer.{Transfer as InFlight}
 use Rattle.usb_transfer.specs.Tds.{room_of}
 use Rattle.usb_tring.specs.Line.{IsAt as IsInRing, places}
 use Rattle.usb_segment.specs.Places.{address_of}
-use Rattle.usb_context.specs.declared.trb_at.TrbAt.{TrbAt}
-use Rattle.usb_context.specs.Context.{Context}
-use Rattle.usb_context.specs.Serving.{is_running, offset_by, packet_room, trb_at, working}
+use Rattle.usb_xhc.specs.declared.trb_at.TrbAt.{TrbAt}
+use Rattle.usb_xhc.specs.Context.{Context}
+use Rattle.usb_xhc.specs.Serving.{is_running, offset_by, packet_room, trb_at, working}
 use Rattle.usb_xhc.specs.Controller.{Controller}
 use Rattle.usb_xhc.specs.Slots.{DeviceSlot, context_of}
 use Rattle.usb_flight.specs.Serving.{CanServe}

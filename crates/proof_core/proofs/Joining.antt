@@ -19,7 +19,7 @@ use Rattle.usb_design.specs.Kept.{KeptEndpoint}
 use Rattle.usb_claims.specs.Holding.{device_of as device_at}
 use Rattle.usb_transfer.specs.Refusal.{checked}
 use Rattle.usb_transfer.specs.Tds.{Tds, tds_of}
-use Rattle.usb_context.specs.Context.{Context}
+use Rattle.usb_xhc.specs.Context.{Context}
 use Rattle.usb_xhc.specs.Slots.{DeviceSlot, context_of}
 use Rattle.usb_callers.specs.Callers.{number_of, results_at}
 use Rattle.usb_flight.specs.Flights.{line_at}

@@ -13,7 +13,7 @@ use Rattle.usb_claims.specs.Tables.{is_plain}
 use Rattle.usb_trb.specs.declared.kind.TrbKind.TheVariants.{NoOp}
 use Rattle.usb_design.specs.Kept.{KeptEndpoint, KeptTransfer}
 use Rattle.usb_transfer.specs.declared.transfer.Transfer.{Transfer as InFlight}
-use Rattle.usb_context.specs.Hosting.{with_blank, with_ring, without_first}
+use Rattle.usb_xhc.specs.Hosting.{with_blank, with_ring, without_first}
 use Rattle.usb_xhc.specs.Controller.{Controller, slot_changed}
 use Rattle.usb_xhc.specs.Slots.{changed}
 use Rattle.usb_callers.specs.Caller.{Kept as Caller}

@@ -6,7 +6,7 @@ use Rattle.usb_flight.specs.Flights.{Flights, keys_at, lane_at, line_at}
 use Rattle.std.proofs.lemmas.Option.{same_Some, slice_get-map, slice_get_within}
 use Rattle.std.specs.Prelude.{option_map}
 use Rattle.std.specs.Option.{option_and_then}
-use Rattle.usb_context.specs.Context.{Context}
+use Rattle.usb_xhc.specs.Context.{Context}
 use Rattle.usb_descriptors.specs.Table.{IsTable}
 use Rattle.usb_device.specs.Pipe.{Pipe, rewound}
 use Rattle.usb_device.specs.Scripts.{Takes}

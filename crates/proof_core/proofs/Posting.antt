@@ -5,7 +5,7 @@ use Rattle.std.proofs.lemmas.Option.{same_Some}
 use Rattle.usb_model.specs.declared.errand.Errand.{Errand}
 use Rattle.usb_segment.specs.Places.{index_of}
 use Rattle.usb_cancel.specs.declared.outstanding.Sent.{Sent}
-use Rattle.usb_context.specs.Posting.{posted_one}
+use Rattle.usb_xhc.specs.Posting.{posted_one}
 use Rattle.std.proofs.lemmas.List.Sums.{prefix_len-le-length}
 use Rattle.usb_model.specs.Requests.{is_unsupported}
 use Rattle.usb_model.specs.Setup.{Setup, interface_of, kind_of}
@@ -13,7 +13,7 @@ use Rattle.usb_model.specs.World.{holder}
 use Rattle.usb_trb.specs.declared.kind.TrbKind.{TrbKind}
 use Rattle.usb_design.specs.Kept.{KeptEndpoint, KeptTransfer}
 use Rattle.proof_controller.specs.Line.{AllItems as AllSent}
-use Rattle.usb_context.specs.Context.{Context}
+use Rattle.usb_xhc.specs.Context.{Context}
 use Rattle.usb_xhc.specs.Controller.{Controller}
 use Rattle.usb_flight.specs.Flights.{lane_at, line_at}
 use Rattle.proof_design.specs.Shows.{Core, RingOrder}

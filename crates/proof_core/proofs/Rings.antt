@@ -4,7 +4,7 @@ use Rattle.std.specs.Prelude.{slice_get}
 use Rattle.std.specs.Option.{option_and_then}
 use Rattle.usb_model.specs.Setup.{Setup, interface_of}
 use Rattle.usb_device.specs.Pipe.{pipe_at}
-use Rattle.usb_context.specs.Context.{Context}
+use Rattle.usb_xhc.specs.Context.{Context}
 use Rattle.usb_xhc.specs.Slots.{DeviceSlot, context_of}
 use Rattle.usb_xhc.specs.Controller.{Controller}
 use Rattle.proof_design.specs.Shows.{Core}

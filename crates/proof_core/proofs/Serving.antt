@@ -16,10 +16,10 @@ use Rattle.usb_design.specs.Kept.{KeptEndpoint, KeptTransfer, SentErrand, first_
 use Rattle.usb_design.specs.Handling.{find_at, past_at, past_kept_blanks}
 use Rattle.usb_design.specs.Serving.{Answered, Packet, answer_now, answered_by, answered_gone, endpoint_with, gave, got, packet_now, put_at, sent_before, serve_at, serve_kept}
 use Rattle.usb_transfer.specs.declared.transfer.Transfer.{Transfer as InFlight}
-use Rattle.usb_context.specs.declared.packet.Packet.{Packet as Told}
-use Rattle.usb_context.specs.declared.trb_at.TrbAt.{TrbAt}
-use Rattle.usb_context.specs.Context.{Context}
-use Rattle.usb_context.specs.Serving.{packet_room, working}
+use Rattle.usb_xhc.specs.declared.packet.Packet.{Packet as Told}
+use Rattle.usb_xhc.specs.declared.trb_at.TrbAt.{TrbAt}
+use Rattle.usb_xhc.specs.Context.{Context}
+use Rattle.usb_xhc.specs.Serving.{packet_room, working}
 use Rattle.usb_xhc.specs.Controller.{Controller, served_at, told_at}
 use Rattle.usb_device.specs.Pipe.{answer_of, bytes_after, pipe_at}
 use Rattle.usb_xhc.specs.Slots.{DeviceSlot, context_of, read_after}

@@ -10,7 +10,7 @@ use Rattle.usb_cancel.specs.declared.ended.Mark.{Mark}
 use Rattle.usb_cancel.specs.declared.outstanding.Sent.{Sent}
 use Rattle.usb_cancel.specs.Settlements.{fails_stop, mark_of, settled_by}
 use Rattle.usb_design.specs.Settling.{settle}
-use Rattle.usb_context.specs.Hosting.{rung, with_blank, with_ring, without_first}
+use Rattle.usb_xhc.specs.Hosting.{rung, with_blank, with_ring, without_first}
 use Rattle.usb_xhc.specs.Controller.{Controller, slot_changed}
 use Rattle.proof_core.proofs.Leaving.{leaves, withdraws}
 use Rattle.proof_core.proofs.Errands.{resumes}
@@ -26,7 +26,7 @@ use Rattle.usb_transfer.specs.declared.transfer.Transfer.{Transfer as InFlight}
 use Rattle.usb_callers.specs.Callers.{SameCallbacks, SameCounts, SameNumbers, is_there, results_at}
 use Rattle.usb_flight.specs.declared.ending.Ending.{Ending}
 use Rattle.usb_flight.specs.Flights.{Flights, blanked_at, item_at, lane_at, left_at, line_at, mark_in}
-use Rattle.usb_context.specs.Context.{Context}
+use Rattle.usb_xhc.specs.Context.{Context}
 use Rattle.usb_device.specs.Pipe.{pipe_at}
 use Rattle.usb_xhc.specs.Slots.{DeviceSlot, changed, context_of}
 use Rattle.proof_controller.proofs.Ends.{here}

@@ -19,7 +19,7 @@ use Rattle.usb_design.specs.Settling.{kept_blanked, settle, withdrawn_results}
 use Rattle.usb_cancel.specs.declared.ended.Settlement.{Settlement}
 use Rattle.usb_cancel.specs.Settlements.{goes_on, line_by, results_by}
 use Rattle.usb_device.specs.Pipe.{pipe_at}
-use Rattle.usb_context.specs.Context.{Context}
+use Rattle.usb_xhc.specs.Context.{Context}
 use Rattle.proof_design.specs.Known.{KnowsCompletion, NoMove}
 use Rattle.proof_design.specs.Shows.{Core, RingEvent}
 use Rattle.proof_design.specs.Stepping.{Stepped, complete_at, completion_work, deliver_core, deliver_first, delivers, handle_work, works}

@@ -19,8 +19,8 @@ use Rattle.usb_transfer.specs.declared.transfer.Transfer.{Transfer as InFlight}
 use Rattle.usb_transfer.specs.Tds.{tds_of}
 use Rattle.usb_transfer.specs.Trbs.{normals_of}
 use Rattle.usb_tring.specs.Line.{capacity, normals, used}
-use Rattle.usb_context.specs.Context.{Context}
-use Rattle.usb_context.specs.Hosting.{with_pushed, with_ring}
+use Rattle.usb_xhc.specs.Context.{Context}
+use Rattle.usb_xhc.specs.Hosting.{with_pushed, with_ring}
 use Rattle.usb_xhc.specs.Controller.{Controller, slot_changed}
 use Rattle.usb_xhc.specs.Slots.{DeviceSlot, changed, context_of}
 use Rattle.usb_callers.specs.Caller.{Kept as Caller}

@@ -24,7 +24,7 @@ use Rattle.usb_design.specs.Kept.{KeptEndpoint, KeptTransfer, trbs_of}
 use Rattle.usb_design.specs.Handling.{Reading, find_at, read_at, reading}
 use Rattle.usb_design.specs.Stands.{length_at, read_off}
 use Rattle.usb_device.specs.Pipe.{pipe_at}
-use Rattle.usb_context.specs.Context.{Context}
+use Rattle.usb_xhc.specs.Context.{Context}
 use Rattle.usb_xhc.specs.Controller.{Controller}
 use Rattle.usb_xhc.specs.Slots.{DeviceSlot}
 use Rattle.std.specs.Option.{option_map_or}

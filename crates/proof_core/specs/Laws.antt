@@ -3,12 +3,12 @@ use Rattle.std.specs.Prelude.{◌≡◌, ℕ, ◌+◌, ◌-◌, ◌<◌, ◌≤�
 use Rattle.usb_callers.specs.Caller.{Kept as Caller}
 use Rattle.usb_callers.specs.Callers.{SameCallbacks, SameCounts, SameNumbers, SameResults, is_there, number_of, results_at}
 use Rattle.usb_cancel.specs.declared.outstanding.Sent.{Sent}
-use Rattle.usb_context.specs.Context.{Context}
-use Rattle.usb_context.specs.Hosting.{rung, with_blank, with_pushed, with_ring, without_first}
-use Rattle.usb_context.specs.Posting.{posted_one}
-use Rattle.usb_context.specs.Serving.{working}
-use Rattle.usb_context.specs.declared.packet.Packet.{Packet as Told}
-use Rattle.usb_context.specs.declared.trb_at.TrbAt.{TrbAt}
+use Rattle.usb_xhc.specs.Context.{Context}
+use Rattle.usb_xhc.specs.Hosting.{rung, with_blank, with_pushed, with_ring, without_first}
+use Rattle.usb_xhc.specs.Posting.{posted_one}
+use Rattle.usb_xhc.specs.Serving.{working}
+use Rattle.usb_xhc.specs.declared.packet.Packet.{Packet as Told}
+use Rattle.usb_xhc.specs.declared.trb_at.TrbAt.{TrbAt}
 use Rattle.usb_flight.specs.Flights.{Flights, blanked_at, item_at, lane_at, left_at, line_at, with_item, with_last}
 use Rattle.usb_flight.specs.Serving.{Serves}
 use Rattle.usb_flight.specs.declared.ending.Ending.{Ending}

@@ -10,7 +10,7 @@ use Rattle.usb_model.specs.Setup.{Setup, packet_size_of}
 use Rattle.usb_design.specs.Kept.{trbs_of}
 use Rattle.usb_transfer.specs.Tds.{Tds, tds_of}
 use Rattle.usb_tring.specs.Line.{capacity, used}
-use Rattle.usb_context.specs.Context.{Context}
+use Rattle.usb_xhc.specs.Context.{Context}
 use Rattle.usb_callers.specs.Callers.{number_of}
 use Rattle.usb_flight.specs.Flights.{line_at}
 use Rattle.proof_design.specs.Shows.{Core}

@@ -17,15 +17,15 @@ use Rattle.usb_trb.specs.declared.kind.TrbKind.{TrbKind}
 use Rattle.usb_trb.specs.declared.kind.TrbKind.TheVariants.{ResetEndpoint, SetDequeue, StopEndpoint}
 use Rattle.usb_segment.specs.Places.{address_of, cycle_of}
 use Rattle.usb_tring.specs.Line.{IsAt as IsInRing, place_of, places}
-use Rattle.usb_context.specs.declared.packet.Packet.{Packet as Told}
-use Rattle.usb_context.specs.declared.trb_at.TrbAt.{TrbAt}
-use Rattle.usb_context.specs.Serving.{working}
+use Rattle.usb_xhc.specs.declared.packet.Packet.{Packet as Told}
+use Rattle.usb_xhc.specs.declared.trb_at.TrbAt.{TrbAt}
+use Rattle.usb_xhc.specs.Serving.{working}
 use Rattle.usb_design.specs.Kept.{KeptEndpoint, KeptTransfer}
 use Rattle.usb_design.specs.Joining.{joined}
 use Rattle.usb_design.specs.Serving.{Answered, serve_kept}
 use Rattle.usb_transfer.specs.declared.transfer.Transfer.{Transfer as InFlight}
 use Rattle.usb_transfer.specs.Tds.{room_of}
-use Rattle.usb_context.specs.Context.{Context}
+use Rattle.usb_xhc.specs.Context.{Context}
 use Rattle.usb_xhc.specs.Controller.{Controller}
 use Rattle.usb_xhc.specs.Slots.{context_of}
 use Rattle.usb_flight.specs.Flights.{item_at, line_at}

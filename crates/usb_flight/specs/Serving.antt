@@ -4,7 +4,7 @@ use Rattle.std.specs.Option.{option_map_or}
 use Rattle.usb_model.specs.declared.request.Body.{Body}
 use Rattle.usb_model.specs.declared.request.Body.TheVariants.{In, Out}
 use Rattle.usb_device.specs.Pipe.{pipe_at}
-use Rattle.usb_context.specs.Serving.{offset_by, packet_room, working}
+use Rattle.usb_xhc.specs.Serving.{offset_by, packet_room, working}
 use Rattle.usb_xhc.specs.Controller.{Controller}
 use Rattle.usb_xhc.specs.Slots.{DeviceSlot, context_of, read_after, sends}
 use Rattle.usb_transfer.specs.declared.transfer.Transfer.{Transfer}

@@ -14,7 +14,7 @@ use Rattle.usb_completion.specs.Events.{read_target, told_of_target}
 use Rattle.usb_completion.specs.declared.target.Reading.{Reading}
 use Rattle.usb_completion.specs.declared.target.Reading.TheVariants.{Ended, Paused, Stray}
 use Rattle.usb_claims.specs.declared.held.HeldEndpoint.{HeldEndpoint}
-use Rattle.usb_context.specs.Context.{Context}
+use Rattle.usb_xhc.specs.Context.{Context}
 use Rattle.usb_flight.specs.declared.ending.Ending.{Ending}
 use Rattle.proof_core.proofs.Telling.{IsFound, tells_all}
 use Rattle.proof_design.specs.Shows.{Core}

@@ -5,10 +5,10 @@ use Rattle.std.specs.Option.{option_and_then}
 use Rattle.usb_model.specs.declared.reply.Reply.TheVariants.{Idle}
 use Rattle.usb_model.specs.declared.step.Step.TheVariants.{Serve}
 use Rattle.usb_device.specs.Pipe.{answer_of, pipe_at}
-use Rattle.usb_context.specs.declared.packet.Packet.{Packet as Told}
-use Rattle.usb_context.specs.declared.trb_at.TrbAt.{TrbAt}
-use Rattle.usb_context.specs.Context.{Context}
-use Rattle.usb_context.specs.Serving.{working}
+use Rattle.usb_xhc.specs.declared.packet.Packet.{Packet as Told}
+use Rattle.usb_xhc.specs.declared.trb_at.TrbAt.{TrbAt}
+use Rattle.usb_xhc.specs.Context.{Context}
+use Rattle.usb_xhc.specs.Serving.{working}
 use Rattle.usb_transfer.specs.declared.transfer.Transfer.{Transfer as InFlight}
 use Rattle.usb_xhc.specs.Controller.{Controller, served_at, told_at}
 use Rattle.usb_xhc.specs.Slots.{DeviceSlot, context_of, serving, serving_at}

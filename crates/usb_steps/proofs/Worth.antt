@@ -12,11 +12,11 @@ use Rattle.usb_model.specs.World.{Claims, World, holder}
 use Rattle.usb_design.specs.Serving.{Answered, Packet}
 use Rattle.usb_device.specs.Pipe.{Pipe, answer_of, first_of, is_ready, pipe_at}
 use Rattle.usb_transfer.specs.declared.transfer.Transfer.{Transfer as InFlight}
-use Rattle.usb_context.specs.declared.packet.Packet.{Packet as Told}
-use Rattle.usb_context.specs.declared.packet.Packet.TheVariants as told
-use Rattle.usb_context.specs.declared.trb_at.TrbAt.{TrbAt}
-use Rattle.usb_context.specs.Context.{Context}
-use Rattle.usb_context.specs.Serving.{packet_in, served, served_by, served_gone, working}
+use Rattle.usb_xhc.specs.declared.packet.Packet.{Packet as Told}
+use Rattle.usb_xhc.specs.declared.packet.Packet.TheVariants as told
+use Rattle.usb_xhc.specs.declared.trb_at.TrbAt.{TrbAt}
+use Rattle.usb_xhc.specs.Context.{Context}
+use Rattle.usb_xhc.specs.Serving.{packet_in, served, served_by, served_gone, working}
 use Rattle.usb_xhc.specs.Controller.{Controller, told_at}
 use Rattle.usb_xhc.specs.Slots.{DeviceSlot, context_of, serving, serving_at}
 use Rattle.usb_flight.specs.Flights.{line_at}

@@ -14,11 +14,11 @@ ghost use Rattle.usb_steps.specs.Tellings.{ToldIs, target_of};
 use crate::parts::Parts;
 use usb_claims::HeldEndpoint;
 use usb_completion::{Reading, Target};
-use usb_context::EndpointContext;
 use usb_device::Device;
 use usb_model::{DeviceNo, EpAddr};
 use usb_transfer::{Tds, Transfer};
 use usb_trb::{EndpointId, Pointer, Residual, Slot};
+use usb_xhc::EndpointContext;
 
 /// A transfer in progress, as an event tells of it.
 #[derive(Clone, Copy, PartialEq, Eq, Debug)]

@@ -6,9 +6,9 @@ use Rattle.usb_trb.specs.declared.kind.TrbKind.TheVariants.{Normal, Link, NoOp, 
 use Rattle.usb_segment.specs.Places.{index_of}
 use Rattle.usb_ering.specs.Ring.{Ring, dequeue_of, empty}
 use Rattle.usb_device.specs.Pipe.{IsLawful}
-use Rattle.usb_context.specs.declared.packet.Packet.{Packet as Told}
-use Rattle.usb_context.specs.Commanding.{carried, endpoint_not_enabled_error, trb_error}
-use Rattle.usb_context.specs.Posting.{posted_all, posted_one}
+use Rattle.usb_xhc.specs.declared.packet.Packet.{Packet as Told}
+use Rattle.usb_xhc.specs.Commanding.{carried, endpoint_not_enabled_error, trb_error}
+use Rattle.usb_xhc.specs.Posting.{posted_all, posted_one}
 use Rattle.usb_xhc.specs.Slots.{DeviceSlot, changed, events_after, order_code, order_events, serving, slot_after, slot_renewed}
 
 -- slots: one a device, by number, slot 1 the first (xHCI 1.2, 4.5.3). commands, events: the two rings

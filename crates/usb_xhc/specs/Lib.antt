@@ -1,3 +1,10 @@
+pub mod Ahead
+pub mod Reading
+pub mod Context
+pub mod Posting
+pub mod Serving
+pub mod Commanding
+pub mod Hosting
 pub mod Slots
 pub mod Making
 pub mod Controller

@@ -7,7 +7,7 @@ use Rattle.usb_model.specs.declared.setup.EndpointInfo.{EndpointInfo}
 use Rattle.usb_model.specs.Requests.{is_unsupported}
 use Rattle.usb_device.specs.Pipe.{Pipe}
 use Rattle.usb_device.specs.Scripts.{info_by}
-use Rattle.usb_context.specs.Context.{Context, configured}
+use Rattle.usb_xhc.specs.Context.{Context, configured}
 use Rattle.usb_xhc.specs.Slots.{DeviceSlot}
 
 -- where the transfer ring of a slot's endpoint begins

@@ -3,8 +3,8 @@
 ghost use Rattle.std.specs.Prelude.{◌≡◌, ◌<◌, IfOk, length, ◌+◌, ◌^◌};
 ghost use Rattle.usb_xhc.specs.Making.{context_made, context_for, contexts_for, ring_base};
 
+use crate::EndpointContext;
 use std::alloc::{AllocError, Global};
-use usb_context::EndpointContext;
 use usb_descriptors::Config;
 use usb_device::info_by;
 use usb_model::EndpointInfo;

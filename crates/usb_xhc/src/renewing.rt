@@ -5,8 +5,8 @@ ghost use Rattle.usb_device.specs.Pipe.{IsLawful, rewound};
 ghost use Rattle.usb_xhc.specs.Controller.{AreLawfulAll};
 ghost use Rattle.usb_xhc.specs.Slots.{as_made, slot_renewed};
 
+use crate::EndpointContext;
 use crate::slot::DeviceSlot;
-use usb_context::EndpointContext;
 use usb_device::Device;
 use usb_model::EpAddr;
 

@@ -6,7 +6,7 @@ use Rattle.usb_trb.specs.declared.kind.Normal.{Normal as NormalTrb}
 use Rattle.usb_tring.specs.Line.{normals}
 use Rattle.usb_transfer.specs.declared.transfer.Transfer.{Transfer as InFlight}
 use Rattle.usb_transfer.specs.Trbs.{normals_of}
-use Rattle.usb_context.specs.Hosting.{with_pushed, with_ring}
+use Rattle.usb_xhc.specs.Hosting.{with_pushed, with_ring}
 use Rattle.usb_xhc.specs.Controller.{slot_changed}
 use Rattle.usb_xhc.specs.Slots.{changed}
 use Rattle.proof_core.specs.State.{State}

@@ -1,6 +1,0 @@
-pub mod Scans
-pub mod Reaching
-pub mod Passing
-pub mod Nexts
-pub mod Serves
-pub mod Moves
