@@ -1,3 +1,5 @@
 pub mod PlanRuns
 pub mod RuleBooks
 pub mod Comparing
+pub mod Left
+pub mod LeftText

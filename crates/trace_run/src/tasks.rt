@@ -14,11 +14,11 @@ use crate::devices::{callbacks_of, devices_of, parts_of};
 use crate::drawing::draw;
 use crate::printing::{Reach, print_alone, print_plan};
 use crate::stepwise::print_stepwise;
+use plain_run::{left_behind, lines_of};
 use std::alloc::Global;
 use std::io::Write;
 use trace_io::{Fault, write_bytes};
 use trace_scenario::{NumberedLine, Scenario, ScriptedDevice, into_setups};
-use usb_left::{left_behind, lines_of};
 use usb_model::{Name, Sequence};
 
 /// How a task ends that no fault ends.

@@ -1,8 +1,8 @@
 -- A line further each turn.
 use Rattle.std.proofs.Common.{[]}
-use Rattle.usb_left.specs.LeftText.{left_line}
-use Rattle.usb_left.proofs.Pieces.{one_further}
-use Rattle.usb_left.proofs.lines.lines_of.Goals as goal
+use Rattle.plain_run.specs.LeftText.{left_line}
+use Rattle.plain_run.proofs.Pieces.{one_further}
+use Rattle.plain_run.proofs.lines.lines_of.Goals as goal
 
 pub loop-one-preserved : goal.loop-one-preserved
 loop-one-preserved c =

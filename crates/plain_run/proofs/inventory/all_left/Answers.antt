@@ -1,8 +1,8 @@
 -- All names were asked.
 use Rattle.std.proofs.Common.{arith, ap, ◌∙◌}
-use Rattle.usb_left.specs.Left.{left_below}
+use Rattle.plain_run.specs.Left.{left_below}
 use Rattle.plain_system.specs.System.{world_of}
-use Rattle.usb_left.proofs.inventory.all_left.Goals as goal
+use Rattle.plain_run.proofs.inventory.all_left.Goals as goal
 
 pub returns : goal.returns
 returns c =

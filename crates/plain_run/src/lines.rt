@@ -1,7 +1,7 @@
 //! The printed lines of what is left behind.
 
 ghost use Rattle.std.specs.Prelude.{◌≡◌, ◌++◌, IfOk};
-ghost use Rattle.usb_left.specs.LeftText.{left_line, lines_left};
+ghost use Rattle.plain_run.specs.LeftText.{left_line, lines_left};
 
 use crate::left::Left;
 use std::alloc::{AllocError, Global};

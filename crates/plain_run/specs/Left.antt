@@ -16,9 +16,9 @@ use Rattle.usb_model.specs.Setup.{Setup, endpoints_of}
 use Rattle.usb_model.specs.Endpoint.{is_blank, is_waiting}
 use Rattle.usb_model.specs.Machine.{Machine, device_of, endpoint_at}
 use Rattle.usb_model.specs.World.{World, machine_with}
-use Rattle.usb_left.specs.declared.left.Left.{Left}
-use Rattle.usb_left.specs.declared.left.Thing.{Thing}
-use Rattle.usb_left.specs.declared.left.Thing.TheVariants.{Waits, HasEnded, IsHalted, Unused, Finished, Paused, Settled, Order as OrderWaits, Result as ResultWaits, Callback}
+use Rattle.plain_run.specs.declared.left.Left.{Left}
+use Rattle.plain_run.specs.declared.left.Thing.{Thing}
+use Rattle.plain_run.specs.declared.left.Thing.TheVariants.{Waits, HasEnded, IsHalted, Unused, Finished, Paused, Settled, Order as OrderWaits, Result as ResultWaits, Callback}
 
 -- something at a handle's endpoint
 abbrev pub left_at : ℕ → ℕ → Thing → Left

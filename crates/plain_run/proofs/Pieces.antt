@@ -7,8 +7,8 @@ use Rattle.usb_model.specs.declared.setup.EndpointInfo.{EndpointInfo}
 use Rattle.usb_model.specs.declared.shared.Tagged.{Tagged}
 use Rattle.usb_model.specs.Machine.{Machine, endpoint_at}
 use Rattle.usb_model.specs.World.Shared.{pieces_of}
-use Rattle.usb_left.specs.declared.left.Left.{Left}
-use Rattle.usb_left.specs.Left.{at_endpoint}
+use Rattle.plain_run.specs.declared.left.Left.{Left}
+use Rattle.plain_run.specs.Left.{at_endpoint}
 
 -- one piece more, if it is the name's
 one_piece : {A B : Type 0} (f : A → B) (h : ℕ) (x : Tagged A) (xs : List (Tagged A)) → map (λ y. f y.piece) (filter (λ y. y.name == h) xs) ≡ map f (pieces_of h xs)

@@ -1,8 +1,8 @@
 //! One thing that is left behind.
 
 ghost use Rattle.std.specs.Prelude.{◌≡◌, Some};
-ghost use Rattle.usb_left.specs.Left.{callback_left, event_left, left_at, order_left, result_left, thing_of, thing_of_event};
-ghost use Rattle.usb_left.specs.LeftText.{left_text, thing_text};
+ghost use Rattle.plain_run.specs.Left.{callback_left, event_left, left_at, order_left, result_left, thing_of, thing_of_event};
+ghost use Rattle.plain_run.specs.LeftText.{left_text, thing_text};
 
 use std::fmt;
 use usb_model::{

@@ -2,7 +2,7 @@
 
 ghost use Rattle.std.specs.Prelude.{◌≡◌, ◌<◌, ◌++◌, ◌==◌, IfOk, map, Some};
 ghost use Rattle.usb_model.specs.World.{own_endpoint};
-ghost use Rattle.usb_left.specs.Left.{all_left, answers_left, at_endpoint, callback_left, event_left, halt_left, is_halted, left_by, left_of, order_left, result_left, transfers_left};
+ghost use Rattle.plain_run.specs.Left.{all_left, answers_left, at_endpoint, callback_left, event_left, halt_left, is_halted, left_by, left_of, order_left, result_left, transfers_left};
 ghost use Rattle.plain_system.specs.Call.{machine_in};
 ghost use Rattle.plain_system.specs.System.{world_of};
 ghost use Rattle.plain_system.specs.Tables.{handle_at};

@@ -1,11 +1,11 @@
 -- What is left at the endpoints so far.
 use Rattle.std.proofs.Common.{◌≡◌, ◌++◌, take}
 use Rattle.std.specs.List.{flat_map}
-use Rattle.usb_left.specs.Left.{at_endpoint}
+use Rattle.plain_run.specs.Left.{at_endpoint}
 use Rattle.usb_model.specs.Setup.{endpoints_of}
 use Rattle.usb_model.specs.World.{own_endpoint}
 use Rattle.plain_system.specs.System.{world_of}
-use Rattle.usb_left.proofs.inventory.add_endpoints.Given as goal
+use Rattle.plain_run.proofs.inventory.add_endpoints.Given as goal
 
 abbrev pub invariant-loop-info : goal.invariant-loop-info
 invariant-loop-info l =

@@ -5,9 +5,9 @@ use Rattle.usb_model.specs.Machine.{device_of, endpoint_at}
 use Rattle.usb_model.specs.Setup.{endpoints_of}
 use Rattle.plain_system.specs.Call.{machine_in}
 use Rattle.plain_system.specs.Tables.{handle_at}
-use Rattle.usb_left.specs.Left.{at_endpoint, callback_left, event_left, order_left, result_left}
-use Rattle.usb_left.proofs.Pieces.{five_parts, of_pieces}
-use Rattle.usb_left.proofs.inventory.add_handle.Goals as goal
+use Rattle.plain_run.specs.Left.{at_endpoint, callback_left, event_left, order_left, result_left}
+use Rattle.plain_run.proofs.Pieces.{five_parts, of_pieces}
+use Rattle.plain_run.proofs.inventory.add_handle.Goals as goal
 
 pub returns : goal.returns
 returns c =

@@ -1,13 +1,13 @@
 //! What the run of a scenario leaves behind.
 
 ghost use Rattle.std.specs.Prelude.{◌≡◌, IfOk};
-ghost use Rattle.usb_left.specs.Left.{all_left};
+ghost use Rattle.plain_run.specs.Left.{all_left};
 ghost use Rattle.usb_model.specs.World.{new_world, world_from};
 ghost use Rattle.usb_model.specs.World.Plans.{expand};
 
+use crate::end_of;
 use crate::inventory::all_left;
 use crate::left::Left;
-use plain_run::end_of;
 use std::alloc::{AllocError, Global};
 use usb_model::{Plan, Rule, Setup};
 

@@ -3,9 +3,9 @@ use Rattle.std.specs.Prelude.{ℕ, List, ◌++◌, codes}
 use Rattle.std.specs.Fmt.{decimal}
 use Rattle.std.specs.List.{flat_map}
 use Rattle.usb_model.specs.Text.{errand_text, hex_byte, ok_text, status_text}
-use Rattle.usb_left.specs.declared.left.Left.{Left}
-use Rattle.usb_left.specs.declared.left.Thing.{Thing}
-use Rattle.usb_left.specs.declared.left.Thing.TheVariants as thing
+use Rattle.plain_run.specs.declared.left.Left.{Left}
+use Rattle.plain_run.specs.declared.left.Thing.{Thing}
+use Rattle.plain_run.specs.declared.left.Thing.TheVariants as thing
 
 abbrev pub thing_text : Thing → List ℕ
 thing_text (thing.Waits n) = codes "transfer " ++ (decimal n ++ codes " waits")

@@ -3,8 +3,8 @@ use Rattle.std.proofs.Common.{sym, ap, ◌∙◌, ◌++◌, append-nil}
 use Rattle.usb_model.specs.Machine.{device_of}
 use Rattle.usb_model.specs.Setup.{endpoints_of}
 use Rattle.plain_system.specs.Call.{machine_in}
-use Rattle.usb_left.proofs.Pieces.{none_at_any}
-use Rattle.usb_left.proofs.inventory.add_at_endpoints.Goals as goal
+use Rattle.plain_run.proofs.Pieces.{none_at_any}
+use Rattle.plain_run.proofs.inventory.add_at_endpoints.Goals as goal
 
 pub returns-in-None : goal.returns-in-None
 returns-in-None c =

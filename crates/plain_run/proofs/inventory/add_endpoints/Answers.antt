@@ -1,10 +1,10 @@
 -- An endpoint further each turn.
-use Rattle.usb_left.specs.Left.{at_endpoint}
+use Rattle.plain_run.specs.Left.{at_endpoint}
 use Rattle.usb_model.specs.Setup.{endpoints_of}
 use Rattle.usb_model.specs.World.{own_endpoint}
 use Rattle.plain_system.specs.System.{world_of}
-use Rattle.usb_left.proofs.Pieces.{one_further}
-use Rattle.usb_left.proofs.inventory.add_endpoints.Goals as goal
+use Rattle.plain_run.proofs.Pieces.{one_further}
+use Rattle.plain_run.proofs.inventory.add_endpoints.Goals as goal
 
 pub loop-info-preserved : goal.loop-info-preserved
 loop-info-preserved c =
