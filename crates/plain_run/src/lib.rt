@@ -1,11 +1,8 @@
-//! The plain program: runs and plans over a system by value, slow and simple. Every later body is compared with it.
+//! The plain program: runs and plans over a system by value, slow and simple, and what a scenario leaves behind where its
+//! run ends. Every later body is compared with it.
 //!
 //! The one promise: its entries are those of the definitions, step by step, or a beginning of them where it found no
-//! memory.
-//!
-//! What a scenario leaves behind: what handles haven't finished when its run ends.
-//!
-//! The one promise: what is told is what the definitions' world has where the run ends, all of it, in order.
+//! memory; and what is told to be left is what the definitions' world has, all of it, in order.
 #![tactic(auto)]
 
 mod comparison;

@@ -1,15 +1,9 @@
-//! What single words of a scenario's text say: numbers, addresses, bytes, names of flags, options.
+//! Scenarios as text, in the form that docs/FORMATS.md gives: what single words say (numbers, addresses, bytes, flags,
+//! options), what a line says (a device, a script, a submission or another piece of a plan), and the whole.
 //!
-//! The one promise: each reader gives what its definition makes of the word, or says what the word had to be.
-//!
-//! One line of a scenario's text: a device, a script, a submission or another piece of a plan.
-//!
-//! The one promise: what `Line::from_text` gives is what the definition `line_of_text` makes of the text.
-//!
-//! Scenarios as text: devices and the steps of handles, a line each, in the form that docs/FORMATS.md gives.
-//!
-//! The one promise: what `read_scenario` gives is what the definition `scenario_of` makes of the text, and the lines
-//! that `check` finds bad are those that `bad_lines` names.
+//! The one promise: what `Line::from_text` gives is what the definition `line_of_text` makes of the text, what
+//! `read_scenario` gives is what `scenario_of` makes of it, and the lines that `check` finds bad are those that
+//! `bad_lines` names.
 #![tactic(auto)]
 
 mod draft;

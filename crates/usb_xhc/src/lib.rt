@@ -1,13 +1,9 @@
-//! An endpoint as the controller keeps it (xHCI 1.2, 4.6 to 4.10): its state, its transfer ring, and how far the transfer at
-//! dequeue has come.
-//!
-//! The one promise: what a packet, an order or a doorbell does there is one equation, by the TRBs from dequeue on.
-//!
 //! The controller (xHCI 1.2, 4): it reads TRBs from transfer rings and the command ring, asks devices for packets, and
-//! posts events.
+//! posts events. An endpoint of it has a state, a transfer ring, and how far the transfer at dequeue has come (4.6 to
+//! 4.10).
 //!
 //! The one promise: each call is one equation over rings and devices: what a packet, an order or a doorbell does at its
-//! endpoint, while all others stay as they are.
+//! endpoint, by the TRBs from dequeue on, while all others stay as they are.
 #![tactic(auto)]
 
 mod commanding;
