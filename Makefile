@@ -1,13 +1,13 @@
 # `make run` builds the program unproved, and shows the README's example; `make build` proves it; `make test` is the gate.
 # `make fmt` lays all files out, which the gate asks for; `make bench` prints nanoseconds, `make bench_threads` those of
 # threads; `make wrong_bodies` tries those that the gate leaves out; `make plant` makes definitions wrong, and says what
-# refuses that.
+# refuses that. `make doc` writes doc/index.html, the public items of all crates with their contracts.
 
 SCENARIO = examples/cancel_amid_transfer.txt
 
 KIT = $(shell dirname $$(dirname $$(readlink -f $$(command -v rt))))
 
-.PHONY: run build test fmt bench bench_threads wrong_bodies plant always
+.PHONY: run build test fmt doc bench bench_threads wrong_bodies plant always
 
 run:
 	@tools/program.py try
@@ -27,6 +27,9 @@ test:
 fmt:
 	@for crate in crates/*; do (cd $$crate && rt fmt); done
 	@rustfmt --edition 2021 bench/main.rs
+
+doc:
+	@tools/api.py write
 
 bench: bin/bench
 	@bin/bench
