@@ -10,6 +10,7 @@ import sys
 ROOT = pathlib.Path(__file__).resolve().parent.parent
 EXAMPLE = "cancel_amid_transfer"
 DRIVER = ROOT / "crates" / "example_first" / "src" / "meter.rt"
+PAGES = [ROOT / "README.md", *sorted((ROOT / "docs").glob("*.md")), ROOT / "rows" / "README.md"]
 MOST_LINES = 70
 # Where the printed half of README's scenario begins.
 COLUMN = 42
@@ -60,17 +61,33 @@ def layer_faults():
 
 def link_faults():
     """Pages, tools and folders that a page names and that aren't there."""
-    for page in [ROOT / "README.md", *sorted((ROOT / "docs").glob("*.md")), ROOT / "rows" / "README.md"]:
+    for page in PAGES:
         for name in sorted(set(re.findall(r"\b(?:docs|tools|examples|rows|crates)/[\w./]*\w", page.read_text()))):
             if "NAME" not in name and "CRATE" not in name and not (ROOT / name).exists():
                 yield f"{page.relative_to(ROOT)} names {name}, which isn't there"
+
+
+def name_faults():
+    """Calls, as `Core::take`, and files of code that a page names and that aren't there."""
+    sources = list((ROOT / "crates").rglob("*.rt"))
+    names = {it.stem for it in sources} | {it.name for it in (ROOT / "crates").iterdir()}
+    for source in sources:
+        names |= set(re.findall(r"\b(?:fn|struct|enum|trait|type) (\w+)", source.read_text()))
+    files = {it.name for it in sources}
+    for page in PAGES:
+        text = page.read_text()
+        for owner, name in sorted(set(re.findall(r"`(?:[a-z_]+::)*(\w+)::(\w+)`", text))):
+            if not {owner, name} <= names:
+                yield f"{page.relative_to(ROOT)} names {owner}::{name}, which isn't there"
+        for name in sorted(set(re.findall(r"\b([a-z_]+\.rt)\b", text)) - files):
+            yield f"{page.relative_to(ROOT)} names {name}, which isn't there"
 
 
 def main(words):
     if words != ["check"]:
         print(__doc__)
         return 2
-    faults = [*readme_faults(), *layer_faults(), *link_faults()]
+    faults = [*readme_faults(), *layer_faults(), *link_faults(), *name_faults()]
     for fault in faults:
         print(fault)
     if not faults:
