@@ -45,20 +45,6 @@ def readme_faults():
         yield f"README.md's driver isn't that of {DRIVER.relative_to(ROOT)}"
 
 
-def layer_faults():
-    """Crates without a page in docs/LAYERS.md, and pages of no crate."""
-    lines = (ROOT / "crates.txt").read_text().splitlines()
-    crates = {it.split(":")[0].split()[0] for it in lines if ":" in it and not it.startswith("#")}
-    heads = re.findall(r"^## (.+)$", (ROOT / "docs" / "LAYERS.md").read_text(), re.M)
-    pages = [name for head in heads for name in head.split(", ")]
-    for name in sorted(crates - set(pages)):
-        yield f"docs/LAYERS.md has no page of {name}"
-    for name in sorted(set(pages) - crates):
-        yield f"docs/LAYERS.md has a page of {name}, which is no crate"
-    for name in sorted({it for it in pages if pages.count(it) > 1}):
-        yield f"docs/LAYERS.md has two pages of {name}"
-
-
 def link_faults():
     """Pages, tools and folders that a page names and that aren't there."""
     for page in PAGES:
@@ -87,7 +73,7 @@ def main(words):
     if words != ["check"]:
         print(__doc__)
         return 2
-    faults = [*readme_faults(), *layer_faults(), *link_faults(), *name_faults()]
+    faults = [*readme_faults(), *link_faults(), *name_faults()]
     for fault in faults:
         print(fault)
     if not faults:

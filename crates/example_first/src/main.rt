@@ -1,5 +1,10 @@
 //! The driver of README.md, and what it needs around it: devices, a callback, and `live`, which runs it beside both workers.
 //! Copy it to begin.
+//!
+//! # Files
+//!
+//! - `main.rt`: the program
+//! - `meter.rt`: the drivers
 #![tactic(auto)]
 
 mod meter;
@@ -8,10 +13,9 @@ use crate::meter::Meter;
 use anyhow::{Result, anyhow};
 use example_devices::devices;
 use std::alloc::Global;
-use std::sync::Arc;
 use std::sync::atomic::{AtomicU64, Ordering};
+use std::sync::{Arc, Wait};
 use std::thread::Threads;
-use std::sync::Wait;
 use tirnouch::{DeviceNo, Name, Once, Returned, StoredCallback, TableDevice, Unrecorded, live};
 
 /// A callback that counts the bytes that it is told.
