@@ -28,7 +28,7 @@ fn counting(alloc: Global, bytes: &Arc<AtomicU64>) -> Result<StoredCallback> {
 }
 
 /// The driver, as handle 1 of device 0.
-fn meter(alloc: Global, bytes: &Arc<AtomicU64>) -> Result<Meter> {
+fn driver(alloc: Global, bytes: &Arc<AtomicU64>) -> Result<Meter> {
     let (Some(h), Some(dev)) = (Name::new(1), DeviceNo::new(0)) else {
         return Err(anyhow!("there is no such handle, or no such device"));
     };
@@ -50,7 +50,7 @@ fn run<R: Threads + Wait + Sync>(rt: &R, alloc: Global, meter: Meter) -> Result<
 fn main(rt: HostRuntime) -> Result<()> {
     let alloc = rt.alloc();
     let bytes = Arc::new(alloc, AtomicU64::new(0))?;
-    run(&rt, alloc, meter(alloc, &bytes)?)?;
+    run(&rt, alloc, driver(alloc, &bytes)?)?;
     println!(rt; "{} bytes", bytes.load(Ordering::SeqCst))?;
     Ok(())
 }

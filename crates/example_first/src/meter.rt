@@ -1,6 +1,7 @@
 //! The driver that README.md prints.
 
 use anyhow::Result;
+use bitflags::Flags as _;
 use std::sync::Wait;
 use tirnouch::{
     Body, Caller, Device, DeviceNo, Driver, EpAddr, Flags, Kind, Library, Name, Naming, Recorder,
