@@ -20,6 +20,8 @@ build:
 test:
 	tools/wrong_bodies.py fit
 	tools/rows.py check
+	tools/layers.py check
+	tools/pages.py check
 	RT_JOBS=$$(nproc) rt ci
 	@tools/program.py keep
 	@tools/pictures.py check

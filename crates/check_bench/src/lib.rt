@@ -2,6 +2,14 @@
 //! times, and gives a number that depends on all that came out.
 //!
 //! The one promise: each export is safe and ends.
+//!
+//! # Files
+//!
+//! - `exports.rt`: what the harness calls
+//! - `coding.rt`, `transfers.rt`, `events.rt`: work of the rings
+//! - `requests.rt`, `stores.rt`, `readings.rt`, `holders.rt`: work of the core's parts
+//! - `shape.rt`, `traffic.rt`, `calls.rt`: devices and transfers by numbers; whole transfers through the core, call
+//!   by call
 #![tactic(auto)]
 
 mod calls;

@@ -1,5 +1,12 @@
 //! Scenes of the core in which the bytes of its rings have to be those of the standard (xHCI 1.2, 4.9, 6.4). Each is data:
 //! what is done, and what is told and found behind it.
+//!
+//! # Files
+//!
+//! - `short.rt`, `long.rt`: the scenes: short transfers and errands; transfers over several TRBs
+//! - `scene.rt`, `pattern.rt`: how a scene is played; whether what is found fits a line
+//! - `host.rt`, `found.rt`, `device.rt`: the core with what can be asked of its rings; what was found, in words; the
+//!   device
 #![tactic(auto)]
 
 mod device;

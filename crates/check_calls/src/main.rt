@@ -1,5 +1,11 @@
 //! Calls of one library: each scene is run, and a line says what it saw; a scene that isn't as it has to be ends the
 //! program with an error.
+//!
+//! # Files
+//!
+//! - `calls.rt`, `ticks.rt`, `refusals.rt`: the three scenes
+//! - `call.rt`, `scene.rt`: a call, as a value; a library with its one caller, which makes it
+//! - `told.rt`: entries and journals in lines
 #![tactic(auto)]
 
 mod call;

@@ -2,6 +2,12 @@
 //!
 //! With no word it plays a small scene, and a line says what was seen: each transfer was called back, the journal is the run of
 //! its steps, and each handle saw what it sees alone. With a word it measures, by hand or for bench/ (docs/BENCH.md).
+//!
+//! # Files
+//!
+//! - `load.rt`, `stream.rt`, `seat.rt`: a load; a thread that streams; the library's calls, one a function
+//! - `replay.rt`: the journal against the run of its steps, and each handle alone
+//! - `measures.rt`, `reads.rt`: what is timed: several threads; one or two that make all calls themselves
 #![tactic(auto)]
 
 mod load;

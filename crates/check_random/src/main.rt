@@ -1,4 +1,11 @@
 //! Random scenarios, each run by the core and by the plain program: their entries have to be the same.
+//!
+//! # Files
+//!
+//! - `dice.rt`: numbers that look random, the same at each run
+//! - `scene.rt`, `steps.rt`: two devices with random scripts, for both programs; random steps
+//! - `seen.rt`, `trial.rt`: which kinds of replies were seen; one scenario, run by both
+//! - `plan.rt`: a plan whose callbacks are called, and what is told of it
 #![tactic(auto)]
 
 mod dice;

@@ -1,6 +1,13 @@
 //! Threads over one library: each scene is played, and a line says what it saw; a scene that isn't as it has to be ends
 //! the program with an error. A thread waits a bounded number of turns at most, so that a hang is a failure, and not a
 //! wait.
+//!
+//! # Files
+//!
+//! - `gates.rt`, `callers.rt`, `missing.rt`, `waking.rt`: the scenes
+//! - `acts.rt`, `player.rt`, `stage.rt`: what a thread does, act by act; a thread that does it; a scene is played
+//! - `flag.rt`, `halt.rt`, `turnstile.rt`, `told.rt`, `counted.rt`: what threads tell each other; where they are
+//!   held; gates, callbacks and a device that take part
 #![tactic(auto)]
 
 mod acts;

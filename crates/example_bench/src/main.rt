@@ -3,6 +3,12 @@
 //!
 //! Three files: `report.rt` is the callback with the count that it keeps, `tester.rt` a thread, and this the program.
 //! The devices are simulated ones (`example_devices`).
+//!
+//! # Files
+//!
+//! - `main.rt`: the program
+//! - `report.rt`: the callback, with the count that it keeps
+//! - `tester.rt`: the drivers
 #![tactic(auto)]
 
 mod report;

@@ -3,6 +3,12 @@
 //!
 //! Three files: `reading.rt` is the callback with the count that it keeps, `meter.rt` the two threads, and this the
 //! program. The device is a simulated one (`example_devices`): it answers three readings, and is silent after that.
+//!
+//! # Files
+//!
+//! - `main.rt`: the program
+//! - `reading.rt`: the callback, with the count that it keeps
+//! - `meter.rt`: the drivers
 #![tactic(auto)]
 
 mod meter;

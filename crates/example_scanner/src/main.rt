@@ -4,6 +4,12 @@
 //! Three files: `strip.rt` is the callback with the count that it keeps, `scanner.rt` the driver, and this the program.
 //! The device is a simulated one (`example_devices`), whose bytes are numbered, so that the program sees whether each
 //! came, and in its order.
+//!
+//! # Files
+//!
+//! - `main.rt`: the program
+//! - `strip.rt`: the callback, with the count that it keeps
+//! - `scanner.rt`: the drivers
 #![tactic(auto)]
 
 mod scanner;

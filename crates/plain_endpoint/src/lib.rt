@@ -2,6 +2,22 @@
 //! device, controller, event loop and handle at it (USB 2.0, 8.5; xHCI 1.2, 4.6 and 4.10).
 //!
 //! The one promise: each step gives what its definition says of the endpoint, or finds no memory.
+//!
+//! # Files
+//!
+//! - `share.rt`, `packet.rt`, `outcome.rt`: the answers that a transfer took; an OUT transfer's bytes in packets;
+//!   what the share did
+//! - `status.rt`, `result.rt`: what a callback is told, and given
+//! - `line.rt`: which transfer of the line is meant, and what is left behind it
+//! - `device.rt`: `serve`: a device answers one packet
+//! - `controller.rt`: `command`: an order is carried out
+//! - `events.rt`: `deliver`: a piece of news is handled
+//! - `calls.rt`: `submit`, `set_ask`, `unhalt`: what a handle asks of the endpoint
+//!
+//! # Contracts
+//!
+//! - `plain_endpoint`: `serve`, `command`, `deliver`, `submit`, `set_ask`, `unhalt`: where memory is found, the
+//!   effect at the endpoint is that of the definition of the same subject, for every endpoint, packet size and news
 #![tactic(auto)]
 
 pub mod calls;

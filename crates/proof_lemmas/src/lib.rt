@@ -1,4 +1,12 @@
 //! Lemmas on the definitions of usb_model: lists, handles, shares of answers, and work at an endpoint.
 //!
 //! The one promise: what the definitions say of one step, or of one more answer, stands here once.
+//!
+//! # Files
+//!
+//! - Lists: counts, lists of which some are left out, one name's pieces of a shared list
+//! - Handles: what a change does to each name's interfaces and endpoints; a turn of the world is a turn of its
+//!   owner's machine, and nothing to others
+//! - Shares: what an open share is, and what one more answer makes of it
+//! - Work: what each kind of work does to a line, replies and moves; errands and what waits for them
 #![tactic(auto)]

@@ -2,6 +2,20 @@
 //!
 //! The one promise: what is printed is the text of the entries of the plan's run, or of a handle's alone, or a beginning of
 //! it where memory ran out.
+//!
+//! # Files
+//!
+//! - `devices.rt`: a scenario's devices and callbacks as the core has them
+//! - `printing.rt`, specs/Printed: the entries of a plan, all or one handle's alone, printed as the core comes to
+//!   them
+//! - `stepwise.rt`, specs/Stepwise, proofs/Lined: the same, each entry behind its step's line
+//! - `drawing.rt`: a plan run by the core, and drawn
+//! - proofs/Printed: how far a run is, and what of its lines is written
+//!
+//! The part of `usb_trace` that needs no threads: it doesn't wait for the library's proofs. A run's lines are
+//! gathered as its steps are made, and no entry is kept; `print_alone` runs two cores side by side. Stands on
+//! `usb_purge`, `usb_callback`, `usb_core` with what it stands on, `trace_io`, `trace_scenario`, and on
+//! `trace_picture` for pictures.
 #![tactic(auto)]
 
 mod devices;

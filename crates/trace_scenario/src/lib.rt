@@ -4,6 +4,43 @@
 //! The one promise: what `Line::from_text` gives is what the definition `line_of_text` makes of the text, what
 //! `read_scenario` gives is what `scenario_of` makes of it, and the lines that `check` finds bad are those that
 //! `bad_lines` names.
+//!
+//! # Files
+//!
+//! - `number.rt`, `names.rt`, `prefix.rt`, `option.rt`: numbers, addresses and bytes; sets of names; beginnings of
+//!   words; the options of a submission
+//! - `expected.rt`: what a word had to be, in a sentence
+//! - `verb.rt`, `line.rt`: first words; one line
+//! - `script.rt`, `submit.rt`, `step.rt`: the lines of scripts, of submissions, of other pieces of a plan
+//! - `problem.rt`, `fault.rt`: what is wrong with a line, in a sentence; why it isn't taken
+//! - `draft.rt`, `scenario.rt`, `scripted.rt`: what the lines so far say; a scenario; a device of it
+//! - `lined.rt`, specs/StepLines: a scenario with the line of each piece of its plan
+//! - `findings.rt`: the bad lines of a text, and how much the others say
+//! - `text_fault.rt`, `laws.rt`: why a text isn't read; a text has no bad line exactly where it is that of a
+//!   scenario, and each scenario can be run
+//! - specs/Runnable: what a program needs of a scenario to run it: devices that can be made, a plan without verdicts,
+//!   a rule for each submission
+//! - proofs/ Lines, Runnables: what a line that is taken always says; that each leaves a scenario runnable
+//!
+//! # Contracts
+//!
+//! - decimal numbers, addresses, bytes, names between plus signs, options in their order: taken exactly where they
+//!   are what specs/Number, Names and Option say; a decimal has no sign and no leading zero
+//! - `trace_scenario::Line::from_text`: the line of the text as specs/Line says, or that it is bad. Want of memory
+//!   leaves both open
+//! - `read_scenario`: the scenario that the lines say together (`scenario_of`), or the number of the first bad line;
+//!   what it gives can be run (`IsRunnable`). Want of memory leaves both open
+//! - `read_lined`: the same with the line of each piece of the plan: its number and its bytes (`step_lines`), as many
+//!   lines as pieces
+//! - `into_setups`, `ScriptedDevice::into_setup`: devices as the model has them: the same
+//! - `check`: the numbers of the bad lines, each line judged by what the good ones before it say, and the counts of
+//!   what the good ones say
+//! - `laws::bad_lines`: a text has no bad line exactly where it is that of a scenario; where it is none, the line
+//!   that `read_scenario` names is the first of them
+//! - `laws::scenarios`: the scenario of any text is runnable (`IsRunnable`): it has four devices at most; each has 32
+//!   scripts, by endpoint id, that a `TableDevice` of its configuration may have (none longer than 4,096 answers, no
+//!   packet over 2,048 bytes, each answer of its endpoint's direction, none where there is no endpoint); its plan
+//!   says no verdict itself; and it has a rule for each submission, none of which is Free
 #![tactic(auto)]
 
 mod draft;

@@ -3,4 +3,14 @@
 //!
 //! The one promise: the crates that do a part of it have contracts in these words, and `proof_design` proves that the whole
 //! is what the model says.
+//!
+//! # Files
+//!
+//! - specs/ Stands: where a transfer stands in its TRBs by the bytes that it moved, the residual there, and the bytes
+//!   read off it
+//! - specs/ Kept: a transfer, an errand and an endpoint as they are kept, also as it is made; a line in a row; what
+//!   an event tells
+//! - specs/ Handling, Settling: an event of a transfer; a pause; the end of an errand
+//! - specs/ Serving, Commanding: a packet; an order that is carried out
+//! - specs/ Joining: a submission; an ask
 #![tactic(auto)]

@@ -1,6 +1,35 @@
 //! Devices as the controller meets them: each endpoint answers one transaction at a time (USB 2.0, 8.4.5).
 //!
 //! The one promise: a call at an endpoint answers by the next of its script, and changes that endpoint alone.
+//!
+//! # Files
+//!
+//! - `device.rt`: `Device`, the trait, and `Act`. `answer`: one transaction, whose packet for the host is put into a
+//!   buffer; `answer_in` appends it, by `answer` where a device doesn't say how; `ready`, `taken`, `rewind`,
+//!   `clear_halt`
+//! - `table.rt`, `pipe.rt`: `TableDevice`: a place in each script, so that nothing is copied
+//! - `taken.rt`, `scripts.rt`: packets that were taken, in one buffer an endpoint; scripts that a configuration may
+//!   have
+//! - `boxed.rt`: `BoxedDevice`: a device of any type, in a box that may cross threads
+//! - specs/ Pipe, Scripts, Taken: one endpoint as its device keeps it; scripts beside a configuration; packets in one
+//!   buffer
+//!
+//! # Contracts
+//!
+//! - `Device::answer`, `answer_in`: of every device: it answers by the next answer of the endpoint's script, Stall
+//!   while it is halted, Nak behind the script's end; the endpoint goes one answer on, is halted by a Stall, and
+//!   keeps the packet that was sent where it answers Ack; no other endpoint changes. A packet for the host stands at
+//!   the buffer's front, or behind the bytes; one that doesn't fit is left out, and not cut
+//! - `Device::ready`, `taken`, `rewind`, `clear_halt`: whether an answer is left or it is halted; packet i of those
+//!   taken; the script from its beginning, without halt and packets; the halt goes and the script goes on. A device
+//!   has 32 endpoints, and no answer of the wrong direction (clause `lawful`)
+//! - `TableDevice::new`: the endpoints of the configuration with the scripts, at their beginning; InvalidParam just
+//!   where a script isn't fit, else NoMem; refused, the scripts come back as they were
+//! - `TableDevice::packet_size`, `BoxedDevice::new`: the most bytes of a packet that an endpoint takes; a box answers
+//!   as the device in it
+//!
+//! It doesn't say: which transfer a transaction is of, when one is tried again, how long anything takes. A device's
+//! answers are settled when it is made.
 #![tactic(auto)]
 
 mod append;

@@ -2,6 +2,49 @@
 //!
 //! The one promise: when all callers are back, the journal is the definitions' run of its steps, and at each receipt's
 //! place it has what that call was asked to make, with its entry.
+//!
+//! # Files
+//!
+//! - `opening.rt`: what a library is made of, before a type names it
+//! - `library.rt`, `calls.rt`, `transfers.rt`: the library; its calls, those of handles and of the controller, those
+//!   of transfers and of time
+//! - `desk.rt`: what lies under the lock: the book, the callers' ledger, the endpoint that was served last
+//! - `caller.rt`, `answered.rt`: a caller; what a call gave
+//! - `waking.rt`: what there is to do; for which worker a step made work; who is unparked after a change; when all is
+//!   at rest
+//! - `finishing.rt`: the end: the journal, or which callers are missing
+//! - specs/Calling: what a call makes (`Makes`), and what a tick does (`Ticks`)
+//!
+//! # Contracts
+//!
+//! - `Library::finish`: where all callers come back: at each receipt's place the journal has what the receipt says
+//!   (`found`); no two receipts have one place (`apart`); the journal has as many places as the callers' own lists
+//!   together (`counted`); its entries are the definitions' run of its steps, from the devices that the library was
+//!   made of (`run`); what was kept is that journal (`kept`). Missing exactly where fewer callers come than were
+//!   made, with the library and all that was brought
+//! - `open` to `unplug`, `submit`, `take`, `stop`, `again`, `again_with`: the call makes a step (`Makes`): its
+//!   receipt's place is above the caller's earlier ones; it has the step that was asked for and this caller's number,
+//!   as the last of the caller's own; what is answered is the entry there. A refused step has its place too. An error
+//!   is want of memory: the caller is as it was, and what was given comes back
+//! - `tick`: `Ticks`: one Expire for each transfer that is due at the moment, which is `now` or later, in the
+//!   definitions' order, at consecutive places, which are above the caller's earlier ones and below those of its
+//!   later calls, and no other step
+//! - `Library::pending`, `work`, `events`: what was to be done at some moment: in the world where the run of the
+//!   library's steps until then ended (`WasPending`; of `events`, whether an event or a result waited, `HadEvents`).
+//!   Which moment that was, no contract can say
+//! - `Library::caller`, `Caller::number`, `Opening::new`, `Answered::granted`: a caller has no places yet, and what
+//!   is refused is refused as Busy (that there are 1,024 then is a clause behind the lock, and a scene); its number;
+//!   the devices are those given; the receipt exactly where the step wasn't refused
+//! - `Ended::to_places`, `Ended::into_setup`: copies of the very places that the recorder has; the devices, as
+//!   `Core::into_setup` hands them back
+//!
+//! What `watch`, `watch_part`, `rested` and `stop_workers` do has no contract: what a lock keeps is known by its type
+//! alone, so nothing can be said of it behind the call. That a worker is woken whenever a step made work for its part
+//! is argued in `waking.rt`, and shown by scenes alone.
+//!
+//! A core under one lock (`Desk`), called by many threads, each with a `Caller` of its own. Callbacks are handed out
+//! by `take`, and called by whoever took them, with no lock held. The comment at `Library` says what the lock is for,
+//! and what must not change.
 #![tactic(auto)]
 
 mod answered;

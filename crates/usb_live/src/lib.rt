@@ -1,6 +1,27 @@
 //! A library that lives: its two workers and some drivers beside them, each in a thread of its own.
 //!
 //! The one promise: what is kept of the journal is that of the definitions' run of its steps over the devices that were given.
+//!
+//! # Files
+//!
+//! - `driver.rt`, `gates.rt`: what a driver is; the gates of both workers
+//! - `living.rt`: the library from its opening to its end
+//! - `threads.rt`, `seat.rt`: the threads; a driver with its caller, on its way into one and back
+//! - `making.rt`: a handle's step, by the call that it is
+//! - specs/Living, Steps: what is left; which steps a handle makes by a call of its own
+//!
+//! # Contracts
+//!
+//! - `live`, `live_gated` of `usb_live`: what is kept is that of a journal whose entries are the definitions' run of
+//!   its steps over the devices that were given, with as many places as are told (`KeepsRun`)
+//! - `make`, `handle_of` of `usb_live`: where something is answered, the step was made and its receipt has it
+//!   (`Makes`), else nothing changed; whose its entry is, in any world, where a handle is named; and that there is
+//!   none just for steps that submit, and for those of workers, clocks and callbacks
+//!
+//! `live` is a library from its opening to its end: it makes it, runs both workers and each driver in a thread of its
+//! own, asks the workers to stop once the drivers have ended, joins all, and finishes. A driver is what one thread
+//! does; it has a caller, and leaves a value. With gates the workers pass them before each act. Where a thread can't
+//! be made all that were made come to their end first.
 #![tactic(auto)]
 
 mod driver;

@@ -2,6 +2,74 @@
 //! callbacks are called.
 //!
 //! The one promise: no step of another handle changes an entry of a handle's own, nor what its plan stands for.
+//!
+//! # Files
+//!
+//! - `laws.rt`, specs/Laws: the laws and their statements
+//! - specs/Holders, Whose: who holds what, and whose a step is, read off the world
+//! - specs/Returning: when a transfer is in its callback
+//! - `running.rt`: the callbacks that came out and haven't answered, by name and number
+//! - `plan_run.rt`, specs/PlanRuns: one piece of a plan: a step, or a callback that returns; the stage that is shown
+//! - `reads.rt`: what can be asked amid a plan, and how its devices are handed back
+//! - `driving.rt`, specs/Driving: a whole plan
+//! - `comparison.rt`, `own_plan.rt`, specs/Alone: a handle amid the others, and then alone over the same devices: of
+//!   a list of steps; of a plan, with callbacks of its own
+//! - `twins.rt`, specs/Alone: the same of a plan, side by side and piece by piece
+//! - proofs/: one file a question: runs, calls, order, numbers given, verdicts, takes, expansion, plans, endpoints,
+//!   held, owners; how far a run and a plan are, a handle's part of either, and a run beside another (Reached, Apart,
+//!   OwnPlans, ApartPlans, BothRuns)
+//!
+//! # Contracts
+//!
+//! `laws::purge`, `states` and `callbacks` are in the first table, and `drive` stands over them. `held_elsewhere` and
+//! `whose` hold at every world, also where no run leads to it.
+//!
+//! - `laws::plans`: what a handle's part of a plan stands for, under the rules of its own submissions, is the
+//!   handle's part of what the plan stands for. A rule that is Free counts as one that stops
+//! - `laws::plan_steps`: what a plan stands for by `expand`, it may stand for by `Expands`; where no rule is Free, it
+//!   may stand for nothing else
+//! - `laws::held_elsewhere`: a Claim is refused 5, "another handle holds an interface", just where its caller has
+//!   opened a device that isn't gone, the device has the interface, and another handle holds it; a Reset just where
+//!   its caller has opened a device that isn't gone, each endpoint whose interface the caller holds is quiet, and
+//!   another handle holds an interface of the device; any other step never. Then the world stays as it was
+//! - `laws::in_callbacks`: in every world that a run leads to: a Take brings the transfer of its result into its
+//!   callback, with the status and the round that the callback is told; a verdict that isn't refused takes it out; no
+//!   other step touches it. A number is given to a submission alone, and is then in no callback
+//! - `PlanRun::perform`: from a run that shows a stage of a plan: the entries of a piece are those of steps that it
+//!   may stand for (a step is itself; a return is the Answer of a verdict that fits the callback's rule, and, where a
+//!   resubmission is refused for another cause than that there is no such thing, the Stop behind it), and the run
+//!   then shows the stage behind them (`performs`). Where a callback runs under the name and number of a return, this
+//!   very one is called, with the result that came out to it and nothing else; it gives a verdict that its code may
+//!   give (`may_answer`), and the entries are those of just this verdict (`called`). Where a step's entry is that a
+//!   callback is called, there then runs under its name and number the callback that was kept with the transfer, with
+//!   this result, and all others as before; behind any other step the same ones run; behind a return all but the one
+//!   that returned (`out`). Premises: a submission has a callback, and no piece is a verdict by itself
+//! - `PlanRun::into_setup`: the devices that are handed back are those over which the run showed its stages: a core
+//!   or a run that is made of them begins anew. Each endpoint that a device has stands as the stage's world has it,
+//!   as by `Core::into_setup`
+//! - `drive`: the entries of a plan are the run of steps that it may stand for under its callbacks' rules
+//!   (`Expands`); of the only ones, `expand`, where no rule is Free. Of these steps all laws hold: what each handle
+//!   sees is what it sees alone, each transfer is called back at most once, after its number, in order; the cut, the
+//!   places, the bound of asks. Where memory is refused, the entries are those of the first so many steps, and a step
+//!   is left. Premises: as many callbacks as submissions, and no piece that is a verdict
+//! - `alone`: by two runs over the same devices, of all steps and then of the handle's own, each by a new core: a
+//!   handle's entries amid the others (`shared`) are `entries` of the run, those of its own steps by themselves
+//!   (`alone`) are the run of `own` and what the definitions' machine says; both are equal, and each callback stands
+//!   among them once at most, and in order. No premise
+//! - `drive_alone`: the same of a plan, by two runs over the same devices and with two lists of callbacks of the same
+//!   rules (`TellsPlan`): the handle's entries of the whole plan's steps (`shared`) and the entries of its own pieces
+//!   of the plan by themselves (`alone`) are equal, and are what the definitions' machine of that one handle says;
+//!   each callback stands among them once at most, and in order. Premises: a callback for each submission in either
+//!   list; the rules are the same, and none is Free; no piece is a verdict. What is told after want of memory isn't
+//!   said
+//! - `Twins::advance`: one piece of a plan was performed amid the others; where it is the handle's own it was
+//!   performed alone too, and the entries of both are told (`AdvancesBoth`). `print_alone` of `trace_run` stands over
+//!   it
+//! - `PlanRun::taken`: the packet of an index of those that a device took at one of its endpoints, held or not
+//! - `laws::whose`: the owner of an entry is the caller; for Serve, who holds the endpoint's interface; for Command,
+//!   Deliver and Take, the name of the first piece. There is none just for an Unplug, a Serve of an endpoint that has
+//!   no interface or a free one, and a Command, Deliver or Take of an empty list. Such a step, but for an Unplug, is
+//!   idle and changes nothing
 #![tactic(auto)]
 
 mod comparison;

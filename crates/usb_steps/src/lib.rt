@@ -2,6 +2,61 @@
 //!
 //! The one promise: a step does what the core of lists does that the parts keep, whichever that is: its reply, and the
 //! core that is then kept. What a caller keeps with a transfer stays with it, until both go out to the callback.
+//!
+//! # Files
+//!
+//! - parts, setup, making: the parts: claims, controller, transfers in flight, callers, errands; devices, and the
+//!   parts made of them
+//! - serving, commanding: a packet; the oldest order
+//! - delivering, telling, finishing, settling, sender: the oldest event; what it tells of a transfer; a transfer's
+//!   end; the end of an errand; whose order an event is of
+//! - submitting, taking, answering: a transfer joins its line; the oldest result goes out to its callback; a callback
+//!   ends, or its transfer is submitted once more
+//! - asking: a transfer is looked for, and asked to end
+//! - handles, halts, quiet: opens, closes, releases; a halt is cleared; whether anything is under way
+//! - claiming, resetting, renewing: an interface is claimed; a device is reset; endpoints are made new
+//! - errands: an errand is ordered
+//! - reads, pending: how long the next result is; whether a transfer can expire; what is to be done next
+//!
+//! # Contracts
+//!
+//! `Does`: for every core that the old parts keep and that shows a world, the entry is that of the core's step, and
+//! the new parts keep the core behind it. The only premise of each call is that the parts show some world, which each
+//! of them keeps.
+//!
+//! - `Parts::serve`: a packet of the transfer where the controller works does as Serve does; nothing is asked at run
+//!   time: room for it, or its bytes, are there
+//! - `Parts::command`: the oldest order of the ring, whatever it is, is carried out as Command does: whose it was is
+//!   found by slot and endpoint id
+//! - `Parts::cancel`, `Parts::expire`: the transfer is found, and asked, or refused, as Cancel and Expire do; Stop is
+//!   ordered where no errand is outstanding
+//! - `Parts::submit`: a submission is accepted or refused as Submit is; its TRBs have room in the ring; NoMem leaves
+//!   the core as it was, and whatever is refused gives request and payload back
+//! - `Parts::take`: the oldest result goes out as Take does, with the payload that its submission brought; want of
+//!   memory leaves the core as it was
+//! - `Parts::open`, `close`, `claim`, `release`, `reset`, `clear_halt`, `unplug`: as Open, Close, Claim, Release,
+//!   Reset, ClearHalt and Unplug do, with their refusals in libusb's order
+//! - `Parts::deliver`: the oldest event is handled as Deliver does: a transfer stands or it ended, or an errand
+//!   ended; that the event is of the controller's kinds, and of something that is known, isn't asked at run time
+//! - `Parts::stop`: a callback ends as an Answer with Stop does
+//! - `Parts::again`, `again_with`: a callback's transfer is submitted once more, or refused, as an Answer with Again,
+//!   or AgainWith, does; NoMem leaves the core as it was, with the callback put back without taking memory; whatever
+//!   is refused gives the payload back, and `again_with` the bytes
+//! - clause `carries` of each of these, and of `Parts::new`: what callers keep with their transfers: whatever is kept
+//!   under names and numbers with each transfer in flight is kept so after the call; a submission that is accepted
+//!   keeps its payload under its name and number; what a Take hands out is what is kept under the name and the number
+//!   that the callback is told
+//! - `Parts::next_len`, `expires`: how many bytes the next result has; whether a transfer can expire
+//! - `Parts::pending`: what is to be done next, by the world: the first endpoint, by device and address in a circle
+//!   from behind one, where a packet does something; whether Command, Deliver and Take do; whether a transfer is in
+//!   its callback
+//! - `Parts::has_order`, `has_event`, `has_result`: the same of Command, of Deliver and of Take alone
+//! - `Setup::add`: a device joins the setup, with the scripts that it has, wherever it stands in them; refused, it
+//!   comes back as it is, with its configuration: InvalidParam just where there are four already, and NoMem else.
+//!   Premise: the device takes packets as long as its configuration says, which `TableDevice::new` ensures
+//! - `Setup::taken`: the packet of a number that a device took at an endpoint since it was made new
+//! - `Parts::into_setup`: the setup of each world that the parts show, and the controller as it is
+//! - `Parts::new`: the parts show the new world of the setup
 #![tactic(auto)]
 
 mod answering;

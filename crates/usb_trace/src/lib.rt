@@ -4,6 +4,41 @@
 //!
 //! The one promise: what is printed is the text of the entries of the scenario that the input spells, or a beginning of
 //! it where the status isn't 0.
+//!
+//! # Files
+//!
+//! - `program.rt`, specs/Program: `trace`, over any reader and writers
+//! - `live.rt`, `lived.rt`, specs/Lived: a scenario run in threads, and which lines it can't have
+//!
+//! # Contracts
+//!
+//! - `trace`, status 0: the words asked for a task, the input is a scenario's text of at most 67,108,864 bytes, and
+//!   what was written is, byte for byte, the lines of its run, these with the number and the text of its step's line
+//!   before each (`run --steps`), those of one handle alone, what callbacks were told in some run of the definitions
+//!   over its devices, all of it, by handle and number (`live`; no contract says which steps that run had), what is
+//!   left behind (`left`), or, of a check, the counts; of `draw` no contract says what is written; or the words asked
+//!   for help, and the input wasn't read. Nothing is on standard error
+//! - `trace`, status 1: a check wrote a line with the number of each bad line, in order, and then the counts, and
+//!   nothing is on standard error; or what is on standard error is a beginning of the message of a fault that fits:
+//!   of a line, only where the words ask for no check and it is the text's first bad line (under `live` an `expire`
+//!   or `unplug` line is bad too). Want of memory and a failed stream fit always
+//! - `trace`, status 2: the words are bad; nothing is written on standard output, and the input isn't read
+//! - `trace`, any status: at a bad line, all but `check` write nothing on standard output (help, where it is asked
+//!   for, is written), and `check` doesn't answer 0. Where the words ask for no task the input isn't read. The status
+//!   is 0, 1 or 2. However a task ends, what it wrote is a beginning of its text: of the lines of the run, of those
+//!   of the handle, of what callbacks were told in some run over the scenario's devices, of what is left, or of the
+//!   check's report
+//! - within `usb_trace`: `run`, `run --steps` and `alone` print each line as the core comes to it, and keep no entry.
+//!   A run that finds no memory prints the lines of a beginning of its entries (`PrintsTo`), unless printing fails
+//!   too. The fault that ended a task is the one whose message is begun, byte for byte (`status_of`)
+//!
+//! That a message isn't cut short can't be said of `trace`: of a `Write` that fails nobody but itself knows, and the
+//! status is the same. For that reason too, want of memory told in place of another fault fits the clause of `trace`;
+//! within, it doesn't fit that of `status_of`.
+//!
+//! What the words mean is said by clap's documented rules (specs/CommandLine). The clauses on bytes speak of readers
+//! and writers whose bytes std's contracts know, as slices and `Vec`; of the process's own streams they know none.
+//! `usbtrace` hands its words and streams to `trace`.
 #![tactic(auto)]
 
 mod live;

@@ -1,4 +1,10 @@
 //! The program `usbtrace`: runs and checks scenarios of USB transfers.
+//!
+//! # Files
+//!
+//! - `main.rt`: the process's words and streams
+//! - `tests.rt`: whole runs of `trace`: long ones, and lines of every form; streams that fail, and what crosses
+//!   crates
 #![tactic(auto)]
 
 ghost use Rattle.std.specs.Prelude.{◌≡◌, ℕ, List, map, IfOk, string_bytes};

@@ -2,10 +2,10 @@ use Rattle.std.proofs.Common.{◌∙◌, ap, length, subst, sym}
 use Rattle.usb_model.specs.declared.step.Step.{Step}
 use Rattle.proof_core.specs.Carrying.{Carries}
 use Rattle.usb_journal.specs.declared.place.Place.{Place}
-use Rattle.usb_journal.specs.Booked.{Booked}
+use Rattle.usb_journal.specs.Booked.{Booked, next_entry}
 use Rattle.usb_journal.specs.Timers.{stopped_if}
 use Rattle.usb_journal.proofs.Replies.{no_bytes_of, plain_timers}
-use Rattle.usb_journal.proofs.Runs.{entered}
+use Rattle.usb_journal.proofs.Runs.{entered, next_is}
 use Rattle.usb_journal.proofs.book.Book.record_plain.Goals as goal
 
 pub enter-receipt-requires-clause-bytes : goal.enter-receipt-requires-clause-bytes
@@ -21,6 +21,11 @@ invariant_of-self-2 g c =
     c.in-Ok-step.ensures.turned
     (c.stop_if.ensures ∙ (ap (λ o. stopped_if o entry.reply c.self.inside.timers.items) c.ending-ending.ensures ∙ plain_timers c.self.inside.timers.items c.args.step entry.reply c.self.inside.moment c.requires))
     c.self.invariant
+
+pub returns-clause-entry : goal.returns-clause-entry
+returns-clause-entry g c =
+    next_is g.L.Naming.setup c.self.inside.log.journal c.self.inside.core c.step.new.self c.args.step c.in-Ok-step.stepped.entry c.in-Ok-step.ensures.turned c.self.invariant.0
+    ∙ ap (λ (b : Booked g.row.P.Denot). next_entry b.setup b.journal c.args.step) c.self.view_is
 
 pub returns-clause-carries : goal.returns-clause-carries
 returns-clause-carries g c = λ kept has. c.in-Ok-step.ensures.carries kept (subst (λ (b : Booked g.row.P.Denot). Carries kept b.core) (sym c.self.view_is) has)

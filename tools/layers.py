@@ -1,0 +1,116 @@
+#!/usr/bin/env python3
+"""docs/LAYERS.md, made from what each crate says of itself (the head of its lib.rt or main.rt) and from crates.txt.
+
+    tools/layers.py write    writes the page anew
+    tools/layers.py check    says whether it is current; the gate asks it
+
+Of each crate: what it is, its one promise, and what of this repository it stands on; what stands below that goes without saying."""
+import pathlib
+import re
+import sys
+import textwrap
+
+ROOT = pathlib.Path(__file__).resolve().parent.parent
+PAGE = ROOT / "docs" / "LAYERS.md"
+WIDTH = 118
+ROLES = [
+    ("tirnouch", "What a driver's author uses"),
+    ("usb_", "What ships, lowest first"),
+    ("trace_", "Parts of `usbtrace`"),
+    ("usbtrace", "The program"),
+    ("proof_", "No code: laws, lemmas, refinement"),
+    ("plain_", "The program that runs the definitions"),
+    ("check_", "Scenes that the gate runs"),
+    ("example_", "Programs to copy"),
+]
+
+
+def crates():
+    """The crates of crates.txt with what each uses, lowest first."""
+    found = {}
+    for line in (ROOT / "crates.txt").read_text().splitlines():
+        head, colon, uses = line.split("#")[0].partition(":")
+        if colon:
+            found[head.split()[0]] = uses.split()
+    return found
+
+
+def head_of(crate):
+    """The paragraphs of a crate's head, up to its first heading."""
+    source = ROOT / "crates" / crate / "src" / "lib.rt"
+    if not source.is_file():
+        source = source.with_name("main.rt")
+    lines = []
+    for line in source.read_text().splitlines():
+        if not line.startswith("//!"):
+            break
+        lines.append(line[3:].strip())
+    text = "\n".join(lines).split("\n# ")[0]
+    return [" ".join(it.split()) for it in re.split(r"\n\n+", text) if it.strip()]
+
+
+def direct(crate, uses):
+    """What a crate of this repository stands on, without what these stand on themselves."""
+    own = [it for it in uses[crate] if it in uses]
+    below = {lower for it in own for lower in all_below(it, uses)}
+    return [it for it in own if it not in below]
+
+
+def all_below(crate, uses, seen=None):
+    seen = set() if seen is None else seen
+    for it in uses[crate]:
+        if it in uses and it not in seen:
+            seen.add(it)
+            all_below(it, uses, seen)
+    return seen
+
+
+def page_of(crate, uses):
+    """The page of a crate."""
+    lines = [f"### {crate}", ""]
+    for text in head_of(crate):
+        promise = text.removeprefix("The one promise: ")
+        if promise != text:
+            text = f"**Promise.** {promise[0].upper()}{promise[1:]}"
+        lines += [*textwrap.wrap(text, WIDTH, break_long_words=False, break_on_hyphens=False), ""]
+    on = direct(crate, uses)
+    if on:
+        lines += [*textwrap.wrap("Stands on " + ", ".join(f"`{it}`" for it in on) + ".", WIDTH), ""]
+    return lines
+
+
+def page():
+    """The whole page."""
+    uses, lines = crates(), [
+        "# Layers",
+        "",
+        "Made by tools/layers.py from what each crate says of itself; its files and contracts stand in the head of its lib.rt.",
+        "docs/REFINEMENT.md says how the layers of the core hang together, docs/DECISIONS.md why a crate is one.",
+        "",
+    ]
+    placed = {}
+    for crate in uses:
+        role = "usb_" if crate == "usb_trace" else next(it for it, _ in ROLES if crate.startswith(it))
+        placed.setdefault(role, []).append(crate)
+    for role, title in ROLES:
+        lines += [f"## {title}", ""]
+        for crate in placed.get(role, []):
+            lines += page_of(crate, uses)
+    return "\n".join(lines).rstrip("\n") + "\n"
+
+
+def main(words):
+    if words == ["write"]:
+        PAGE.write_text(page())
+        return 0
+    if words == ["check"]:
+        if PAGE.read_text() == page():
+            print("docs/LAYERS.md is current")
+            return 0
+        print("docs/LAYERS.md isn't what the crates say: tools/layers.py write")
+        return 1
+    print(__doc__)
+    return 2
+
+
+sys.exit(main(sys.argv[1:]))
