@@ -31,7 +31,7 @@ fmt:
 	@rustfmt --edition 2021 bench/main.rs
 
 doc:
-	@tools/api.py write
+	@python3 tools/api write
 
 bench: bin/bench
 	@bin/bench
