@@ -8,7 +8,7 @@ be read, a public function that belongs nowhere, and a link that leads nowhere a
 status is 1. A crate is read whole or not at all: where one can't be, no page is written.
 
 The modules, from below: repository (places, roles, faults); tokens, items, parts, source (reading of .rt); specs
-(reading of .antt); names (who is reachable, what a word stands for); binders (which words lead nowhere); markup, page,
+(reading of .antt); names (who is reachable, what a word stands for); logic (what the words of clauses may be); markup, page,
 sections, pages (HTML, with style.css); checks."""
 import shutil
 import sys

@@ -17,6 +17,16 @@ class Clause:
         return self.keyword.endswith("*")
 
 
+class Ghost:
+    """A `ghost` of a trait or an impl, as `ghost rule: { Self → Rule }`: what only contracts see."""
+
+    def __init__(self, name, code, line):
+        self.name = name
+        self.code = code
+        self.line = line
+        self.docs = []
+
+
 class Part:
     """A public field of a struct, or a variant of an enum, with its own public fields."""
 
@@ -27,7 +37,15 @@ class Part:
         self.parts = list(parts)
 
 
-class Item:
+class Owner:
+    """What may have ghosts: a trait or an impl."""
+
+    def ghost(self, name):
+        """Its own ghost of this name, or None."""
+        return next((ghost for ghost in self.ghosts if ghost.name == name), None)
+
+
+class Item(Owner):
     """An item of a module, a trait or an impl, with all that is shown of it."""
 
     def __init__(self, kind, name, line, module):
@@ -37,7 +55,7 @@ class Item:
         self.code = ""
         self.docs, self.attributes, self.clauses, self.parts = [], [], [], []
         # Of a trait: what stands in it.
-        self.members = []
+        self.members, self.ghosts = [], []
         # What its clauses speak of: the definitions in scope, and the names of its own parameters.
         self.scope = module.scope
         self.parameters = set()
@@ -49,22 +67,27 @@ class Item:
         found = [re.match(r"#\[derive\((.*)\)\]", text, re.DOTALL) for text in self.attributes]
         return [name.strip() for match in found if match for name in match.group(1).split(",") if name.strip()]
 
+    def models(self):
+        """Its impls of Model, which say what contracts see of its values."""
+        return [impl for impl in self.trait_impls if impl.trait[-1] == "Model" and impl.ghosts]
+
     def public_members(self):
         """What can be called of it: the members of a trait, and the public functions of its own impls."""
         return self.members + [member for impl in self.impls for member in impl.public_members()]
 
 
-class Impl:
+class Impl(Owner):
     """An impl: its header, the path of its type and that of its trait, and what stands in it."""
 
-    def __init__(self, header, trait, of, docs, line, module):
+    def __init__(self, header, trait, of, docs, line, scope):
         self.header = header
         self.trait = trait
         self.of = of
         self.docs = docs
         self.line = line
-        self.module = module
-        self.members = []
+        self.scope = scope
+        self.module = scope.module
+        self.members, self.ghosts = [], []
 
     def public_members(self):
         return [member for member in self.members if member.has_pub]

@@ -2,6 +2,7 @@
 import re
 
 from items import Item, Module
+from logic import super_traits
 from repository import CRATES, ROLES, BadSource, crate_names
 from source import read_module
 from specs import SpecFile
@@ -117,6 +118,21 @@ class World:
                 if public:
                     walk(inner, front + [name])
         walk(crate.root, [])
+
+    def trait_of_ghost(self, module, traits, name):
+        """Which of these traits, or of those that they ask for, has a ghost of this name; None if none has."""
+        for trait in (self.find(module, [trait]) for trait in traits):
+            if isinstance(trait, Item) and trait.ghost(name):
+                return trait
+            above = super_traits(trait.code) if isinstance(trait, Item) and trait.kind == "trait" else []
+            found = self.trait_of_ghost(trait.module, above, name) if above else None
+            if found:
+                return found
+        return None
+
+    def has_ghost(self, of, trait, name):
+        """Whether an impl of a trait for a type says what this ghost is."""
+        return any(impl.ghost(name) for impl in of.trait_impls if self.find(impl.module, impl.trait) is trait)
 
     def join(self, module):
         """Joins the impls of a module to their types and traits."""

@@ -2,8 +2,8 @@
 import pathlib
 import re
 
-from binders import WORD, string_spans
 from items import Item, Module
+from logic import INSTANCE, WORD, string_spans
 from markup import anchor, escape, escape_text
 from repository import DOC, BadSource
 from specs import SpecFile
@@ -47,9 +47,10 @@ class Page:
         place = f"#{anchor(name)}" if name else ""
         return place if page == self.path and place else f"{self.up}{page}{place}"
 
-    def link(self, href, text):
+    def link(self, href, text, kind=None):
         self.tally.links += 1
-        return f'<a href="{escape(href)}">{escape_text(text)}</a>'
+        kind = f' class="{kind}"' if kind else ""
+        return f'<a{kind} href="{escape(href)}">{escape_text(text)}</a>'
 
     def href_of_item(self, item, variant=None):
         """Where an item is shown, first on this page; None where it isn't."""
@@ -80,32 +81,58 @@ class Page:
         found = self.world.find(module, [word])
         return self.href_of_item(found) if isinstance(found, Item) else None
 
+    def href_of_ghost(self, trait, name, of=None):
+        """Where a ghost of a trait stands: at a type that says what it is, if one is given, else at the trait."""
+        at_type = of is not None and self.world.has_ghost(of, trait, name)
+        place = self.href_of_item(of, f"{trait.name}.{name}") if at_type else None
+        return place or self.href_of_item(trait, f"ghost.{name}")
+
+    def href_of_instance(self, module, text, name):
+        """Where a ghost leads that stands behind this text: of ⟦<TYPE as TRAIT>⟧."""
+        found = INSTANCE.search(text)
+        trait = self.world.find(module, [found["trait"] or found["boxed"]]) if found else None
+        if not isinstance(trait, Item) or not trait.ghost(name):
+            return None
+        of = self.world.find(module, [found["of"]]) if found["of"] else None
+        return self.href_of_ghost(trait, name, of if isinstance(of, Item) else None)
+
+    def href_of_model(self, module, name):
+        """Where it is said what contracts see of a type; None where nothing is."""
+        of = self.world.find(module, [name])
+        return self.href_of_item(of, "ghosts") if isinstance(of, Item) and of.models() else None
+
     # Text whose words lead somewhere
 
-    def logic(self, text, scope, bound, line, own=None):
-        """Text of a clause or of definitions. Names that are bound there lead nowhere; `own` are those of this page."""
+    def logic(self, text, context):
+        """Text of a clause or of definitions."""
         out, at, quoted = [], 0, string_spans(text)
         for match in WORD.finditer(text):
             begin, end = match.span()
             if begin < at or any(first <= begin < last for first, last in quoted):
                 continue
-            href, end = self.href_of_word(text, match, scope, bound, line, own)
+            href, end = self.href_of_word(text, match, context)
             if href:
-                out += [escape_text(text[at:begin]), self.link(href, text[begin:end])]
+                kind = "value" if href == context.values.get(text[begin:end]) else None
+                out += [escape_text(text[at:begin]), self.link(href, text[begin:end], kind)]
                 at = end
         return "".join(out) + escape_text(text[at:])
 
-    def href_of_word(self, text, match, scope, bound, line, own):
-        """Where one word leads, and where that ends: behind the next one for a name of a whole file."""
-        word, (begin, end) = match.group(), match.span()
-        if word in bound or is_field(text, begin, end):
+    def href_of_word(self, text, match, context):
+        """Where one word leads, and where that ends: behind the next one for a whole file's name, or a generic's."""
+        word, (begin, end), scope, line = match.group(), match.span(), context.scope, context.line
+        if text[:begin].endswith(("⟧.", ").")):
+            return self.href_of_instance(scope.module, text[:begin], word), end
+        if word in context.bound or is_field(text, begin, end):
             return None, end
         behind = WORD.match(text, end + 1) if text[end:end + 1] == "." else None
         if word in scope.files and behind:
             href = self.href_of_definition(scope, scope.files[word], behind.group(), line)
             return href, behind.end() if href else end
-        if own is not None and word in own:
-            return own[word], end
+        if word in context.generics and behind:
+            trait = self.world.trait_of_ghost(scope.module, context.generics[word], behind.group())
+            return (self.href_of_ghost(trait, behind.group()), behind.end()) if trait else (None, end)
+        if word in context.own or word in context.values:
+            return context.own.get(word) or context.values[word], end
         if word in scope.names:
             return self.href_of_definition(scope, *scope.names[word], line), end
         if isinstance(scope.module, Module) and word[:1].isupper():

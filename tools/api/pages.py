@@ -1,8 +1,8 @@
 """The pages: the index, one for each crate, and one for each file of definitions."""
 import re
 
-from binders import WORD, bound_by_line
 from items import Item
+from logic import WORD, Context, bound_by_line
 from markup import anchor, escape, escape_text, first_paragraph, first_sentence, inline, markdown
 from page import Page
 from repository import CRATES, ROLE_ORDER, ROLES
@@ -155,7 +155,7 @@ def specs_text(page, found):
         if re.match(r"\s*(pub )?use |\s*pub mod ", line):
             text = escape_text(code)
         else:
-            text = page.logic(code, found.scope, bound[at], at + 1, names_led_to(found, at))
+            text = page.logic(code, Context(found.scope, at + 1, bound[at], names_led_to(found, at)))
         text += escape_text(dashes + comment)
         for name in starts.get(at, []):
             text = f'<span id="{escape(name)}">' + text

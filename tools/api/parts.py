@@ -33,16 +33,13 @@ class PartReader(Cursor):
         while self.word() != "}":
             docs, _ = self.docs_and_attributes()
             begin, public = self.offset(), self.visibility() or all_public
-            if self.word() == "ghost":
-                self.until(",", "}")
-                hidden = True
-            else:
-                name = self.take()
-                self.take(":")
-                self.field_rest()
-                if public:
-                    shown.append(Part(name, self.source(begin), docs))
-                hidden = hidden or not public
+            self.take_if("ghost")
+            name = self.take()
+            self.take(":")
+            self.field_rest()
+            if public:
+                shown.append(Part(name, self.source(begin), docs))
+            hidden = hidden or not public
             self.take_if(",")
         self.take("}")
         return shown, hidden

@@ -29,7 +29,7 @@ class Tally:
     """What was written, what was found wrong, and which public functions were read and shown, by file and line."""
 
     def __init__(self):
-        self.pages = self.items = self.clauses = self.links = self.unlinked = 0
+        self.pages = self.items = self.clauses = self.ghosts = self.links = self.unlinked = 0
         self.faults = []
         self.functions_read = set()
         self.functions_shown = set()
@@ -41,7 +41,7 @@ class Tally:
 
     def print_counts(self, unreachable):
         """What was written, and what was left out."""
-        print(f"{self.pages} pages in doc/: {self.items} items, {self.clauses} clauses, {self.links} links")
+        print(f"{self.pages} pages in doc/: {self.items} items, {self.clauses} clauses, {self.ghosts} ghosts, {self.links} links")
         print(f"left out: {unreachable} public functions that can't be reached from outside their crates; "
               f"{self.unlinked} words of clauses and definitions lead nowhere, since they name a type that can't")
 

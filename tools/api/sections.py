@@ -1,5 +1,6 @@
 """The section of an item on a page: its declaration, docs, contract, and all that belongs to it."""
-from binders import bound_in, generic_names
+from items import Impl, Item
+from logic import Context, bound_in, generic_bounds, value_types
 from markup import escape, escape_text, markdown
 
 # How clauses are headed, with the class of their box and their keyword.
@@ -12,9 +13,9 @@ class ItemSections:
     def __init__(self, page):
         self.page, self.tally = page, page.tally
 
-    def item(self, item, name, level=3, method=False, generics=()):
-        """An item at its place on the page, with its contract and all that belongs to it."""
-        page = self.page
+    def item(self, item, name, level=3, owner=None):
+        """An item at its place on the page, with its contract and all that belongs to it. `owner` is its trait or impl."""
+        page, method = self.page, owner is not None
         self.tally.items += 1
         if item.kind == "function":
             self.tally.functions_shown.add((item.module.path, item.line))
@@ -22,12 +23,13 @@ class ItemSections:
         page.put(f'<section class="{"method" if method else "item"}">')
         page.put(f'<h{level} id="{escape(name)}"><code>{escape(item.name)}</code> '
                  f'<span class="kind">{kind}</span>{"" if method else self.home(item)}</h{level}>')
-        page.put(f"<pre>{self.declaration(item, name, generics)}</pre>")
+        page.put(f"<pre>{self.declaration(item, name, generics_around(item, owner))}</pre>")
         page.put(markdown(item.docs, level + 1))
-        self.clauses(item, name)
+        self.clauses(item, name, owner)
         self.parts(item.parts, item.module)
         for text in item.flags:
             page.put(f"<p>Its flags:</p><pre>{escape_text(text)}</pre>")
+        self.ghosts(item, name, level)
         self.members(item, name, level)
         page.put("</section>")
 
@@ -41,7 +43,7 @@ class ItemSections:
 
     def declaration(self, item, name, generics):
         """The code of an item; each variant of an enum is a place that clauses lead to."""
-        apart = generic_names(item.code) | set(generics) | {item.name}
+        apart = {*generics, item.name}
         if item.kind != "enum":
             return self.page.code(item.code, item.module, apart)
         head = self.page.code(item.code.split("{")[0], item.module, apart)
@@ -51,7 +53,10 @@ class ItemSections:
 
     # Contracts
 
-    def clauses(self, item, name):
+    def clauses(self, item, name, owner):
+        values = self.values(item, owner)
+        context = Context(item.scope, item.line, item.parameters - values.keys(), self.ghosts_in_reach(owner),
+                          generics_around(item, owner), values)
         for label, kind, keyword in CLAUSE_KINDS:
             found = [clause for clause in item.clauses if clause.keyword.rstrip("*") == keyword]
             if not found:
@@ -59,16 +64,67 @@ class ItemSections:
             self.page.put(f'<div class="box {kind}" role="group" aria-label="{label}"><p>{label}</p><ul>')
             for clause in found:
                 self.tally.clauses += 1
-                self.page.put(self.clause(clause, item, f"{name}.{kind}"))
+                self.page.put(self.clause(clause, context, f"{name}.{kind}"))
             self.page.put("</ul></div>")
 
-    def clause(self, clause, item, front):
-        text = self.page.logic(clause.text, item.scope, item.parameters | bound_in(clause.text), item.line)
+    def clause(self, clause, context, front):
+        text = self.page.logic(clause.text, context.binding(bound_in(clause.text)))
         kind = ' <span class="kind">(an assertion of separation logic)</span>' if clause.is_separation() else ""
         if clause.name is None:
             return f"<li><code>{text}</code>{kind}</li>"
         name = escape(clause.name)
         return f'<li><strong id="{escape(front)}.{name}">{name}</strong> <code>{text}</code>{kind}</li>'
+
+    # What contracts see
+
+    def ghosts_in_reach(self, owner):
+        """The ghosts that clauses of a trait's members may speak of, each with where it leads."""
+        if not isinstance(owner, Item):
+            return {}
+        return {ghost.name: self.page.href_of_ghost(owner, ghost.name) for ghost in owner.ghosts}
+
+    def values(self, item, owner):
+        """The parameters and the result of a function, each with where it is said what contracts see of it."""
+        of = owner.of[-1] if isinstance(owner, Impl) else None
+        generics = generics_around(item, owner)
+        types = {name: word for name, word in value_types(item.code, of).items() if word and word not in generics}
+        found = {name: self.page.href_of_model(item.module, word) for name, word in types.items()}
+        return {name: href for name, href in found.items() if href}
+
+    def ghosts(self, item, name, level):
+        """The ghosts of a trait; of a type, those that its impls have, as its view and its invariant."""
+        impls = [impl for impl in item.trait_impls if impl.ghosts]
+        if not item.ghosts and not impls:
+            return
+        self.page.put(f'<h{level + 1} id="{escape(name)}.ghosts">What contracts see</h{level + 1}>')
+        if item.ghosts:
+            self.page.put("<dl>")
+            for ghost in item.ghosts:
+                self.page.put(f'<dt id="{escape(name)}.ghost.{escape(ghost.name)}"><code>{self.ghost(ghost, item)}</code></dt>'
+                              f"<dd>{markdown(ghost.docs)}</dd>")
+            self.page.put("</dl>")
+        named = set()
+        for impl in impls:
+            self.page.put(self.impl_ghosts(impl, name, named))
+
+    def impl_ghosts(self, impl, name, named):
+        """The ghosts of an impl, as they stand there. A name that several impls have is the first one's place."""
+        header = self.page.code(impl.header, impl.module, generic_bounds(impl.header))
+        lines = []
+        for ghost in impl.ghosts:
+            place = f"{name}.{impl.trait[-1]}.{ghost.name}"
+            code = indented(self.ghost(ghost, impl) + ";")
+            lines.append(code if place in named else f'<span id="{escape(place)}">{code}</span>')
+            named.add(place)
+        return markdown(impl.docs) + f"<pre>{header} {{\n" + "\n".join(lines) + "\n}</pre>"
+
+    def ghost(self, ghost, owner):
+        """The code of a ghost, whose words lead somewhere."""
+        scope = owner.scope
+        self.tally.ghosts += 1
+        head, _, text = ghost.code.partition(ghost.name)
+        context = Context(scope, ghost.line, bound_in(text), self.ghosts_in_reach(owner), generics_around(owner))
+        return escape_text(head + ghost.name) + self.page.logic(text, context)
 
     # What belongs to it
 
@@ -87,16 +143,15 @@ class ItemSections:
     def members(self, item, name, level):
         """Methods, traits, and the types of a trait."""
         for member in item.members:
-            self.item(member, f"{name}.{member.name}", level + 1, True)
+            self.item(member, f"{name}.{member.name}", level + 1, item)
         header = None
         for impl in item.impls:
-            generics = generic_names(impl.header)
             for member in impl.public_members():
                 if impl.header != header:
                     header = impl.header
-                    code = self.page.code(header, impl.module, generics | {item.name})
+                    code = self.page.code(header, impl.module, {*generic_bounds(header), item.name})
                     self.page.put(f'<p class="from"><code>{code}</code></p>')
-                self.item(member, f"{name}.{member.name}", level + 1, True, generics)
+                self.item(member, f"{name}.{member.name}", level + 1, impl)
         self.traits(item)
         if item.types:
             types = sorted({self.type_of_trait(of) for of, _ in item.types})
@@ -110,10 +165,24 @@ class ItemSections:
         if item.derived():
             names = ", ".join(f"<code>{escape(name)}</code>" for name in item.derived())
             self.page.put(f"<p>Derived: {names}.</p>")
-        if not item.trait_impls:
+        impls = [impl for impl in item.trait_impls if impl not in item.models()]
+        if not impls:
             return
         self.page.put("<p>Traits:</p><ul>")
-        for impl in item.trait_impls:
-            code = self.page.code(impl.header, impl.module, generic_names(impl.header))
+        for impl in impls:
+            code = self.page.code(impl.header, impl.module, generic_bounds(impl.header))
             self.page.put(f"<li><code>{code}</code>{markdown(impl.docs)}</li>")
         self.page.put("</ul>")
+
+
+def generics_around(*owners):
+    """What is generic in an item and in what is around it, with bounds."""
+    found = {}
+    for owner in owners:
+        if owner is not None:
+            found.update(generic_bounds(owner.code if isinstance(owner, Item) else owner.header))
+    return found
+
+
+def indented(text):
+    return "\n".join(f"    {line}" if line else line for line in text.split("\n"))

@@ -3,7 +3,7 @@
 A file is read item by item. What begins no item that is known here is a fault, so that nothing is passed over."""
 import re
 
-from items import Impl, Item, Module, Scope
+from items import Ghost, Impl, Item, Module, Scope
 from parts import PartReader
 from repository import BadSource
 
@@ -31,12 +31,12 @@ class Reader(PartReader):
         while self.word() == "#" and self.word(1) == "!":
             self.attribute()
         while self.kind() != "end":
-            item = self.item(self.module.scope, None)
+            item = self.item(self.module.scope)
             if isinstance(item, Item):
                 self.module.items.append(item)
 
-    def item(self, scope, owner):
-        """One item, with its docs. What isn't shown gives None. `owner` is the impl or trait around it."""
+    def item(self, scope, owner=None):
+        """One item, with its docs; of a trait or an impl, which is its owner then, a ghost too. What isn't shown gives None."""
         docs, attributes = self.docs_and_attributes()
         line, begin, public = self.line(), self.offset(), self.visibility()
         if "#[cfg(test)]" in attributes or "#[test]" in attributes:
@@ -45,6 +45,8 @@ class Reader(PartReader):
         if isinstance(item, Item):
             item.docs, item.attributes = docs, attributes
             item.has_pub, item.is_public = public, public or bool(owner)
+        elif isinstance(item, Ghost):
+            item.docs = docs
         return item
 
     def skip_item(self):
@@ -58,7 +60,7 @@ class Reader(PartReader):
         """The item behind its docs and its `pub`."""
         word = self.word()
         if word == "ghost":
-            return self.ghost(scope)
+            return self.ghost(scope, line, begin)
         if word == "use":
             return self.use(public)
         if word == "mod":
@@ -77,15 +79,16 @@ class Reader(PartReader):
 
     # What a file takes in, and its modules
 
-    def ghost(self, scope):
-        line = self.line()
+    def ghost(self, scope, line, begin):
+        """A `ghost use`, which gives None, or a ghost of a trait or an impl."""
         self.take("ghost")
-        if self.word() == "use":
-            self.take()
-            scope.add(self.until(";"), line)
-        else:
-            self.until(";")
+        name = self.take()
+        text = self.until(";")
+        ghost = Ghost(name, self.source(begin), line)
         self.take(";")
+        if name != "use":
+            return ghost
+        return scope.add(text, line)
 
     def use(self, public):
         line = self.line()
@@ -180,7 +183,7 @@ class Reader(PartReader):
         self.until("{")
         item.code = self.source(begin)
         item.scope = Scope(self.module, scope)
-        item.members = self.block(item.scope, item)
+        self.block(item.scope, item)
         return item
 
     def impl(self, scope, docs, line):
@@ -193,22 +196,22 @@ class Reader(PartReader):
             self.take()
             trait, of = of, self.path_names()
         self.until("{")
-        impl = Impl(self.source(begin), trait, of, docs, line, self.module)
-        impl.members = self.block(Scope(self.module, scope), impl)
+        impl = Impl(self.source(begin), trait, of, docs, line, Scope(self.module, scope))
+        self.block(impl.scope, impl)
         self.module.impls.append(impl)
 
     def block(self, scope, owner):
         """What stands between the braces of a trait or an impl. Its `ghost use` may stand behind what it is for."""
         self.take("{")
-        members = []
         while self.word() != "}":
             if self.kind() == "end":
                 self.fail("a brace isn't closed")
             item = self.item(scope, owner)
             if isinstance(item, Item):
-                members.append(item)
+                owner.members.append(item)
+            elif isinstance(item, Ghost):
+                owner.ghosts.append(item)
         self.take("}")
-        return members
 
     # Functions
 
