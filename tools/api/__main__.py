@@ -1,15 +1,15 @@
 """The pages of doc/, for whoever calls the library: each crate's public items with their contracts, from the sources.
 
-    python3 tools/api write    writes them anew: doc/index.html, a page for each crate, and one for each file of definitions
+    python3 tools/api write    writes them anew: the index, a page for each crate, and one for each file of definitions
 
 A public item is shown where it can be reached: by `pub mod` and `pub use`, from the crate's root. Its clauses stand
-under it as they stand in the source, and a word of a clause that is a definition leads to that definition. What can't
-be read, a public function that belongs nowhere, and a link that leads nowhere are told by file and line; then the
-status is 1. A crate is read whole or not at all: where one can't be, no page is written.
+under it as they stand in the source, long ones in lines, and a word of a clause leads to the definition or the ghost
+that it is. What can't be read, a public function that belongs nowhere, and a link that leads nowhere are told by file
+and line; then the status is 1. A crate is read whole or not at all: where one can't be, no page is written.
 
 The modules, from below: repository (places, roles, faults); tokens, items, parts, source (reading of .rt); specs
-(reading of .antt); names (who is reachable, what a word stands for); logic (what the words of clauses may be); markup, page,
-sections, pages (HTML, with style.css); checks."""
+(reading of .antt); names (who is reachable, what a word stands for); logic (what the words of clauses may be); markup, page, doclinks,
+wrapping, sections, pages (HTML, with style.css); checks."""
 import shutil
 import sys
 

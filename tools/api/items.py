@@ -72,7 +72,7 @@ class Item(Owner):
         return [impl for impl in self.trait_impls if impl.trait[-1] == "Model" and impl.ghosts]
 
     def public_members(self):
-        """What can be called of it: the members of a trait, and the public functions of its own impls."""
+        """What can be called of it: the members of a trait, and the public functions of its own impls, in their order."""
         return self.members + [member for impl in self.impls for member in impl.public_members()]
 
 

@@ -16,27 +16,44 @@ def anchor(text):
     return urllib.parse.quote(text, safe="")
 
 
-def inline(text):
+def code(text):
+    return f"<code>{escape(text)}</code>"
+
+
+def inline(text, show_code=code):
     """A line of docs: what is between backticks as code, what is between ** strongly."""
     parts = re.split(r"`([^`]*)`", text)
     for at, part in enumerate(parts):
         if at % 2:
-            parts[at] = f"<code>{escape(part)}</code>"
+            parts[at] = show_code(part)
         else:
             parts[at] = re.sub(r"\*\*(.+?)\*\*", r"<strong>\1</strong>", escape_text(part))
     return "".join(parts)
 
 
-def markdown(lines, level=5, slug=None):
+def markdown(lines, level=5, slug=None, show_code=code):
     """Docs as HTML. Their headings begin at this level; with a slug, they can be led to."""
-    return Markdown(level, slug).convert(lines)
+    return Markdown(level, slug, show_code).convert(lines)
+
+
+def heading_id(slug, text):
+    """The place of a heading of docs."""
+    return slug + anchor(text.lower().replace(" ", "-"))
+
+
+def head_sections(lines):
+    """The docs of a file: what stands before the first heading, and each heading with its lines."""
+    starts = [at for at, line in enumerate(lines) if line.startswith("# ")]
+    ends = [*starts[1:], len(lines)]
+    before = lines[:starts[0]] if starts else lines
+    return before, [(lines[start][2:], lines[start:end]) for start, end in zip(starts, ends)]
 
 
 class Markdown:
     """Converts the lines of docs."""
 
-    def __init__(self, level, slug):
-        self.level, self.slug = level, slug
+    def __init__(self, level, slug, show_code):
+        self.level, self.slug, self.show_code = level, slug, show_code
         self.out, self.paragraph, self.entries = [], [], []
 
     def convert(self, lines):
@@ -52,6 +69,9 @@ class Markdown:
                 self.line(line)
         self.close()
         return "\n".join(self.out)
+
+    def inline(self, text):
+        return inline(text, self.show_code)
 
     def line(self, line):
         if not line.strip():
@@ -76,16 +96,16 @@ class Markdown:
     def heading(self, line):
         self.close()
         marks, text = line.split(" ", 1)
-        name = "" if self.slug is None else f' id="{self.slug}{anchor(text.lower().replace(" ", "-"))}"'
+        name = "" if self.slug is None else f' id="{heading_id(self.slug, text)}"'
         tag = f"h{min(6, self.level + len(marks) - 1)}"
-        self.out.append(f"<{tag}{name}>{inline(text)}</{tag}>")
+        self.out.append(f"<{tag}{name}>{self.inline(text)}</{tag}>")
 
     def close(self):
         """Ends the paragraph or the list that is open."""
         if self.paragraph:
-            self.out.append(f"<p>{inline(' '.join(self.paragraph))}</p>")
+            self.out.append(f"<p>{self.inline(' '.join(self.paragraph))}</p>")
         if self.entries:
-            self.out.append("<ul>" + "".join(f"<li>{inline(text)}</li>" for text in self.entries) + "</ul>")
+            self.out.append("<ul>" + "".join(f"<li>{self.inline(text)}</li>" for text in self.entries) + "</ul>")
         self.paragraph, self.entries = [], []
 
 

@@ -15,8 +15,9 @@ MOST_EXPORTS = 6
 class Crate:
     """A crate: its files, and where each of its items is shown."""
 
-    def __init__(self, name, role, tally):
-        self.name, self.role = name, role
+    def __init__(self, name, role, height, tally):
+        # `height` is its place in crates.txt: what stands on others is higher than they are.
+        self.name, self.role, self.height = name, role, height
         roots = [CRATES / name / "src" / file for file in ("lib.rt", "main.rt")]
         root = next((path for path in roots if path.is_file()), None)
         if root is None:
@@ -26,11 +27,24 @@ class Crate:
         read_module(self.root, tally)
         files = [SpecFile(name, path) for path in sorted((CRATES / name / "specs").rglob("*.antt"))]
         self.specs = {found.file: found for found in files}
+        self.file_order = self.order_of_files()
         # By item: its place on the crate's page.
         self.shown = {}
 
     def modules(self):
         return self.root.all()
+
+    def order_of_files(self):
+        """The place of each module among all: in the order in which the crate's head names the files, then as they are met."""
+        named = re.findall(r"`([\w/]+\.rt)`", "\n".join(self.root.head))
+        modules = list(self.modules())
+        files = {module: module.path.relative_to(self.root.path.parent).as_posix() for module in modules}
+        ranks = {module: named.index(file) if file in named else len(named) for module, file in files.items()}
+        return {module: at for at, module in enumerate(sorted(modules, key=ranks.get))}
+
+    def place_in_source(self, thing):
+        """By what items and impls of the crate are put in the order of the source."""
+        return self.file_order[thing.module], thing.line
 
     def shown_specs(self):
         """The files of definitions that have a page."""
@@ -42,11 +56,11 @@ class World:
 
     def __init__(self, tally):
         self.tally, self.crates = tally, {}
-        for name in crate_names():
+        for height, name in enumerate(crate_names()):
             role = next((at for at, (_, fits) in enumerate(ROLES) if re.fullmatch(fits, name)), None)
             try:
                 if role is not None:
-                    self.crates[name] = Crate(name, role, tally)
+                    self.crates[name] = Crate(name, role, height, tally)
             except BadSource as bad:
                 tally.report(bad)
         if tally.faults:
@@ -54,7 +68,7 @@ class World:
         for crate in self.crates.values():
             self.reach(crate)
         for crate in self.crates.values():
-            for module in crate.modules():
+            for module in sorted(crate.modules(), key=crate.file_order.get):
                 self.join(module)
             for file in [*crate.modules(), *crate.specs.values()]:
                 self.check_taken(file)

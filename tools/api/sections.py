@@ -1,8 +1,14 @@
 """The section of an item on a page: its declaration, docs, contract, and all that belongs to it."""
+import re
+
+from doclinks import DocLinks
 from items import Impl, Item
 from logic import Context, bound_in, generic_bounds, value_types
-from markup import escape, escape_text, markdown
+from markup import anchor, escape, escape_text, markdown
+from wrapping import wrapped
 
+# With more methods than this a type has a list of them.
+MOST_UNLISTED = 4
 # How clauses are headed, with the class of their box and their keyword.
 CLAUSE_KINDS = [("Needs", "needs", "requires"), ("Promises", "promises", "ensures")]
 
@@ -22,24 +28,31 @@ class ItemSections:
         kind = "method" if method and item.kind == "function" else item.kind
         page.put(f'<section class="{"method" if method else "item"}">')
         page.put(f'<h{level} id="{escape(name)}"><code>{escape(item.name)}</code> '
-                 f'<span class="kind">{kind}</span>{"" if method else self.home(item)}</h{level}>')
+                 f'<span class="kind">{kind}</span></h{level}>')
         page.put(f"<pre>{self.declaration(item, name, generics_around(item, owner))}</pre>")
-        page.put(markdown(item.docs, level + 1))
+        links = DocLinks(page, item.module, self.spoken_of(item, owner), item.parameters)
+        page.put(markdown(item.docs, level + 1, show_code=links))
+        self.list_of_members(item, name)
         self.clauses(item, name, owner)
-        self.parts(item.parts, item.module)
+        self.parts(item.parts, item)
         for text in item.flags:
             page.put(f"<p>Its flags:</p><pre>{escape_text(text)}</pre>")
         self.ghosts(item, name, level)
         self.members(item, name, level)
         page.put("</section>")
 
-    def home(self, item):
-        """The crate of an item that is of another than the page."""
-        crate = item.module.crate
-        if crate is self.page.crate:
-            return ""
-        link = self.page.link(self.page.href(f"{crate.name}.html", crate.shown.get(item)), crate.name)
-        return f' <span class="from">of {link}</span>'
+    def spoken_of(self, item, owner):
+        """The item of whose methods its docs speak: of a method's, its type or trait."""
+        if owner is None or isinstance(owner, Item):
+            return owner or item
+        return self.page.world.find(owner.module, owner.of)
+
+    def list_of_members(self, item, name):
+        """What can be called of it, where that is much."""
+        members = [member for member in item.public_members() if member.kind == "function"]
+        if len(members) > MOST_UNLISTED:
+            links = (self.page.link("#" + anchor(f"{name}.{member.name}"), member.name) for member in members)
+            self.page.put(f"<p>Methods: {', '.join(links)}.</p>")
 
     def declaration(self, item, name, generics):
         """The code of an item; each variant of an enum is a place that clauses lead to."""
@@ -68,7 +81,7 @@ class ItemSections:
             self.page.put("</ul></div>")
 
     def clause(self, clause, context, front):
-        text = self.page.logic(clause.text, context.binding(bound_in(clause.text)))
+        text = self.page.logic(wrapped(clause.text), context.binding(bound_in(clause.text)))
         kind = ' <span class="kind">(an assertion of separation logic)</span>' if clause.is_separation() else ""
         if clause.name is None:
             return f"<li><code>{text}</code>{kind}</li>"
@@ -100,8 +113,9 @@ class ItemSections:
         if item.ghosts:
             self.page.put("<dl>")
             for ghost in item.ghosts:
-                self.page.put(f'<dt id="{escape(name)}.ghost.{escape(ghost.name)}"><code>{self.ghost(ghost, item)}</code></dt>'
-                              f"<dd>{markdown(ghost.docs)}</dd>")
+                self.page.put(f'<dt id="{escape(name)}.ghost.{escape(ghost.name)}"><code>{self.ghost(ghost, item)}</code></dt>')
+                if ghost.docs:
+                    self.page.put(f"<dd>{markdown(ghost.docs, show_code=DocLinks(self.page, item.module, item))}</dd>")
             self.page.put("</dl>")
         named = set()
         for impl in impls:
@@ -116,7 +130,10 @@ class ItemSections:
             code = indented(self.ghost(ghost, impl) + ";")
             lines.append(code if place in named else f'<span id="{escape(place)}">{code}</span>')
             named.add(place)
-        return markdown(impl.docs) + f"<pre>{header} {{\n" + "\n".join(lines) + "\n}</pre>"
+        return self.impl_docs(impl) + f"<pre>{header} {{\n" + "\n".join(lines) + "\n}</pre>"
+
+    def impl_docs(self, impl):
+        return markdown(impl.docs, show_code=DocLinks(self.page, impl.module))
 
     def ghost(self, ghost, owner):
         """The code of a ghost, whose words lead somewhere."""
@@ -128,15 +145,16 @@ class ItemSections:
 
     # What belongs to it
 
-    def parts(self, parts, module):
+    def parts(self, parts, item):
         """Fields and variants that have docs."""
         told = [part for part in parts if part.docs or part.parts]
         if not told:
             return
         self.page.put("<dl>")
         for part in told:
-            self.page.put(f"<dt><code>{self.page.code(part.text, module)}</code></dt><dd>{markdown(part.docs)}")
-            self.parts(part.parts, module)
+            docs = markdown(part.docs, show_code=DocLinks(self.page, item.module, item))
+            self.page.put(f"<dt><code>{escape(part.name)}</code></dt><dd>{docs}")
+            self.parts(part.parts, item)
             self.page.put("</dd>")
         self.page.put("</dl>")
 
@@ -144,7 +162,7 @@ class ItemSections:
         """Methods, traits, and the types of a trait."""
         for member in item.members:
             self.item(member, f"{name}.{member.name}", level + 1, item)
-        header = None
+        header = plain_header(item)
         for impl in item.impls:
             for member in impl.public_members():
                 if impl.header != header:
@@ -153,13 +171,14 @@ class ItemSections:
                     self.page.put(f'<p class="from"><code>{code}</code></p>')
                 self.item(member, f"{name}.{member.name}", level + 1, impl)
         self.traits(item)
-        if item.types:
-            types = sorted({self.type_of_trait(of) for of, _ in item.types})
-            self.page.put(f"<p>Types that have it: {', '.join(types)}.</p>")
+        self.types(item)
 
-    def type_of_trait(self, of):
-        href = self.page.href_of_item(of)
-        return self.page.link(href, of.name) if href else f"<code>{escape(of.name)}</code>"
+    def types(self, trait):
+        """The types of a trait that are shown somewhere."""
+        hrefs = {of.name: self.page.href_of_item(of) for of, _ in trait.types}
+        links = [self.page.link(href, name) for name, href in sorted(hrefs.items()) if href]
+        if links:
+            self.page.put(f"<p>Types that have it: {', '.join(links)}.</p>")
 
     def traits(self, item):
         if item.derived():
@@ -171,7 +190,7 @@ class ItemSections:
         self.page.put("<p>Traits:</p><ul>")
         for impl in impls:
             code = self.page.code(impl.header, impl.module, generic_bounds(impl.header))
-            self.page.put(f"<li><code>{code}</code>{markdown(impl.docs)}</li>")
+            self.page.put(f"<li><code>{code}</code>{self.impl_docs(impl)}</li>")
         self.page.put("</ul>")
 
 
@@ -182,6 +201,14 @@ def generics_around(*owners):
         if owner is not None:
             found.update(generic_bounds(owner.code if isinstance(owner, Item) else owner.header))
     return found
+
+
+def plain_header(item):
+    """The header of an impl that asks for no more than the type itself."""
+    parameters = re.search(r"\b(?:struct|enum)\s+\w+\s*(<.*>)", item.code.split("{")[0].split("(")[0], re.DOTALL)
+    if not parameters:
+        return f"impl {item.name}"
+    return f"impl{parameters.group(1)} {item.name}<{', '.join(generic_bounds(item.code))}>"
 
 
 def indented(text):
