@@ -6,7 +6,7 @@ use Rattle.usb_journal.specs.declared.place.Place.{Place}
 use Rattle.usb_journal.specs.Booked.{answer_entry}
 use Rattle.usb_journal.specs.Timers.{started_again_if}
 use Rattle.usb_journal.proofs.Answers.{again_timers, answer_turns, none_done, payload_comes_back}
-use Rattle.usb_journal.proofs.Runs.{entered, received, same_book, same_place}
+use Rattle.usb_journal.proofs.Runs.{entered, received, same_book, same_place, stands_still}
 use Rattle.usb_journal.proofs.book.Book.again.Goals as goal
 
 pub returns-in-Err-clause-err : goal.returns-in-Err-clause-err
@@ -37,3 +37,8 @@ returns-clause-receipt g c =
     let step : Step = Answer c.args.h c.args.n Again in
     received g.L.Naming.setup c.self.inside.log.journal c.prepare.new.log.journal c.self.inside.core c.self.inside.moment c.args.self.now c.enter_answer-receipt.result c.of-asked.result.value step c.args.caller
     (answer_entry c.args.h c.in-Ok-unless_no_memory.answer) c.self.view_is c.prepare.ensures.same c.of-asked.ensures c.enter_answer-receipt.ensures.receipt
+
+pub invariant_of-self-in-Err : goal.invariant_of-self-in-Err
+invariant_of-self-in-Err g c =
+    stands_still g.L.Naming.setup c.self.inside.log.journal c.prepare.new.log.journal c.self.inside.core c.again.new.self c.self.inside.timers.items c.prepare.new.timers.items c.prepare.ensures.same c.prepare.ensures.timers
+    (none_done c.again.result c.in-Err.back _ (sym c.unless_no_memory.ensures ∙ c.in-Err.is) c.again.ensures.kept) c.self.invariant

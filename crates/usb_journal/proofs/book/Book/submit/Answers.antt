@@ -7,7 +7,7 @@ use Rattle.usb_journal.specs.declared.place.Place.{Place}
 use Rattle.usb_journal.specs.Booked.{answer_entry}
 use Rattle.usb_journal.specs.Timers.{started_if}
 use Rattle.usb_journal.proofs.Answers.{answer_turns, given_back, none_done, payload_comes_back, submitted_timers}
-use Rattle.usb_journal.proofs.Runs.{entered, same_book, same_place}
+use Rattle.usb_journal.proofs.Runs.{entered, same_book, same_place, stands_still}
 use Rattle.usb_journal.proofs.book.Book.submit.Goals as goal
 
 pub returns-in-Err-clause-err : goal.returns-in-Err-clause-err
@@ -35,3 +35,8 @@ invariant_of-self-2 g c =
     turn
     (c.start_if.ensures ∙ (ap (started_if c.args.h c.in-Some.request.timeout c.self.inside.moment a) c.prepare-prepared.ensures.timers ∙ submitted_timers c.args.h c.in-Some.request c.self.inside.moment a c.self.inside.timers.items))
     c.self.invariant
+
+pub invariant_of-self-in-Err : goal.invariant_of-self-in-Err
+invariant_of-self-in-Err g c =
+    stands_still g.L.Naming.setup c.self.inside.log.journal c.prepare-prepared.new.log.journal c.self.inside.core c.submit.new.self c.self.inside.timers.items c.prepare-prepared.new.timers.items c.prepare-prepared.ensures.same c.prepare-prepared.ensures.timers
+    (none_done c.submit.result c.in-Err.back _ (sym c.unless_no_memory.ensures ∙ c.in-Err.is) c.submit.ensures.kept) c.self.invariant
