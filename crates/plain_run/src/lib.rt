@@ -10,7 +10,7 @@
 //! - `rule_book.rt`, `plan_run.rt`: the rule of each number; plans
 //! - `comparison.rt`: a handle's two lists
 //! - `left.rt`: one thing that is left behind, and its text
-//! - `inventory.rt`, `run.rt`: all of them, handle by handle; of a plan's run
+//! - `inventory.rt`, `behind.rt`: all of them, handle by handle; of a plan's run
 //! - `lines.rt`: printed lines
 //! - specs/Left, LeftText: what is left in a world, by each handle's machine
 //!
@@ -36,6 +36,7 @@
 //! The other specs/, and those of `plain_system`, are the program's own words: docs/MODEL.md, "The plain program".
 #![tactic(auto)]
 
+mod behind;
 mod comparison;
 mod inventory;
 mod journal;
@@ -43,11 +44,10 @@ mod left;
 mod lines;
 mod plan_run;
 mod rule_book;
-mod run;
 
+pub use behind::left_behind;
 pub use comparison::{Comparison, alone};
 pub use journal::{Stopped, run};
 pub use left::{Left, Thing};
 pub use lines::lines_of;
 pub use plan_run::{drive, drive_alone, end_of};
-pub use run::left_behind;
