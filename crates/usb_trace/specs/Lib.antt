@@ -13,5 +13,3 @@ pub use Rattle.trace_scenario.specs.Findings
 pub use Rattle.trace_scenario.specs.Scenario
 pub use Rattle.trace_scenario.specs.Words
 pub use Rattle.trace_scenario.specs.StepLines
-pub use Rattle.plain_run.specs.Left
-pub use Rattle.plain_run.specs.LeftText
