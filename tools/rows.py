@@ -5,7 +5,7 @@
     tools/rows.py check         says whether they are those of rows/; the gate asks it
     tools/rows.py run [NAME ..] runs all rows, or these, by the built program over its own streams, and says which differ
 
-What check_rows is to print comes from the list of the rows, and never from a program."""
+What check_rows is to print comes from the rows' files, and never from a program."""
 import pathlib
 import re
 import subprocess
@@ -15,8 +15,8 @@ ROOT = pathlib.Path(__file__).resolve().parent.parent
 ROWS = ROOT / "rows"
 CRATE = ROOT / "crates" / "check_rows"
 PROGRAM = ROOT / "bin" / "usbtrace"
-# What stands in a row's text before its name, its output, and its status and errors.
-NAME, PRINTS, FAILS = b"=== ", b"--- prints\n", b"--- fails "
+# What stands before a row's name; and what is printed before its status and errors, and before what the plain program prints.
+NAME, STATUS, PLAIN = b"=== ", b"--- status ", b"--- by the plain program\n"
 
 
 class BadRow(Exception):
@@ -50,18 +50,19 @@ class Row:
             raise BadRow(f"{self.name}.status: a status from 1 to 255; none where it is 0")
         if self.errors and not self.status:
             raise BadRow(f"{self.name}.err: without a status, nothing is said there")
-        if any(mark in text for mark in (NAME, PRINTS, FAILS) for text in (self.input, self.output, self.errors)):
-            raise BadRow(f"{self.name}: `===`, `--- prints` and `--- fails` stand between rows, and can't stand in one")
+        if NAME in self.input:
+            raise BadRow(f"{self.name}.in: `===` stands between rows, and can't stand in one")
 
     def text(self):
         """The row, as check_rows reads it."""
-        text = NAME + f"{self.name}\nusbtrace {self.words}".encode() + self.input + PRINTS + self.output
-        return text + FAILS + f"{self.status}\n".encode() + self.errors if self.status else text
+        return NAME + f"{self.name}\nusbtrace {self.words}".encode() + self.input
 
-    def verdict(self):
+    def printed(self):
         """What check_rows is to print of it: the plain program runs what is run to its end."""
-        is_run = re.fullmatch(r"run|alone \d+", self.words.strip()) and not self.status
-        return f"{self.name}: as written{' by both programs' if is_run else ''}\n"
+        text = NAME + f"{self.name}\n".encode() + self.output
+        if self.status:
+            return text + STATUS + f"{self.status}\n".encode() + self.errors
+        return text + PLAIN + self.output if re.fullmatch(r"run|alone \d+", self.words.strip()) else text
 
     def differs(self):
         """Whether the built program does otherwise."""
@@ -80,8 +81,7 @@ def all_rows():
 
 def files(rows):
     """The files of check_rows, and what has to stand in them."""
-    verdicts = "".join(row.verdict() for row in rows) + f"{len(rows)} rows, all as written\n"
-    return {CRATE / "stdin": b"".join(row.text() for row in rows), CRATE / "stdout": verdicts.encode()}
+    return {CRATE / "stdin": b"".join(row.text() for row in rows), CRATE / "stdout": b"".join(row.printed() for row in rows)}
 
 
 def write(rows):

@@ -1,18 +1,20 @@
 //! The worked rows of standard input, each run as `usbtrace` runs it; a scenario that is run to its end is run by the
-//! plain program too. A line a row says whether all is as written. Where one differs, the program ends with an error.
+//! plain program too. What came of each is printed whole, and compared by whoever runs this: it knows nothing of what a row has to
+//! print.
+//!
+//! A row is a line of `=== ` and its name, a line of its words, and its input. Behind the name is printed what stands on standard
+//! output; behind a line `--- status N`, where the status isn't 0, what stands on standard error; and behind a line `--- by the plain
+//! program` what that prints.
 //!
 //! # Files
 //!
 //! - `row.rt`, `rows.rt`: a row, read from the text; all of them, and what came of each
 //! - `traced.rt`, `input.rt`: what the program answers and writes; its input
 //! - `plain.rt`: what the plain program prints
-//! - `difference.rt`: what differs, and in which line first
 //!
-//! Its stdin and stdout are written by tools/rows.py from rows/: each row is expected to be as written, whatever the
-//! program says.
+//! Its stdin and stdout are written by tools/rows.py from rows/, never from a program.
 #![tactic(auto)]
 
-mod difference;
 mod input;
 mod plain;
 mod row;
@@ -23,6 +25,7 @@ use anyhow::Result;
 use trace_io::read_whole;
 
 fn main(rt: HostRuntime) -> Result<()> {
-    let text = read_whole(rt.alloc(), &mut rt.stdin())?;
-    rows::run(&rt, rt.alloc(), text.as_slice())
+    let alloc = rt.alloc();
+    let text = read_whole(alloc, &mut rt.stdin())?;
+    rows::run(&rt, alloc, text.as_slice(), &mut rt.stdout())
 }

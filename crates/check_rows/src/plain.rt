@@ -1,10 +1,17 @@
 //! A row's scenario, run by the plain program.
 
 use crate::row::Row;
+use anyhow::Result;
 use plain_run::{drive, drive_alone};
 use std::alloc::{AllocError, Global};
+use std::io::Write;
+use std::result;
+use trace_io::print::print;
 use trace_scenario::{Scenario, into_setups, read_scenario};
 use usb_model::{Entry, Name, Sequence};
+
+/// What stands before what it prints.
+const MARK: &[u8] = b"--- by the plain program\n";
 
 /// A run whose entries are printed.
 #[derive(Clone, Copy)]
@@ -29,7 +36,7 @@ fn entries_of(
     alloc: Global,
     scenario: Scenario,
     asked: Run,
-) -> Result<Sequence<Entry>, AllocError> {
+) -> result::Result<Sequence<Entry>, AllocError> {
     let Scenario { setup, plan, rules } = scenario;
     let setup = into_setups(alloc, setup)?;
     let (plan, rules) = (plan.as_slice(), rules.as_slice());
@@ -39,28 +46,14 @@ fn entries_of(
     }
 }
 
-/// The lines of some entries.
-fn lines_of(alloc: Global, entries: &[Entry]) -> Result<String, AllocError> {
-    let mut lines = String::new(alloc);
-    for entry in entries {
-        lines.push_str(entry.to_string(alloc)?.as_str())?;
-        lines.push('\n')?;
+/// Prints what the plain program prints of a row, where the row asks for a run: nothing where the scenario isn't read.
+pub fn print_plain<W: Write>(alloc: Global, row: &Row<'_>, out: &mut W) -> Result<()> {
+    let Some(asked) = asked_by(row.words) else {
+        return Ok(());
+    };
+    out.write_all(MARK)?;
+    if let Ok(scenario) = read_scenario(alloc, row.input) {
+        print(alloc, out, entries_of(alloc, scenario, asked)?.as_slice())?;
     }
-    Ok(lines)
-}
-
-/// What is printed of a scenario's run; nothing where the scenario isn't read.
-fn printed(alloc: Global, input: &[u8], asked: Run) -> Result<String, AllocError> {
-    match read_scenario(alloc, input) {
-        Ok(scenario) => lines_of(alloc, entries_of(alloc, scenario, asked)?.as_slice()),
-        Err(_) => Ok(String::new(alloc)),
-    }
-}
-
-/// What the plain program prints of a row. None where the row isn't of a run that ends well.
-pub fn run_plain(alloc: Global, row: &Row<'_>) -> Result<Option<String>, AllocError> {
-    match asked_by(row.words) {
-        Some(asked) if row.status == 0 => Ok(Some(printed(alloc, row.input, asked)?)),
-        _ => Ok(None),
-    }
+    Ok(())
 }
