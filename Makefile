@@ -3,7 +3,7 @@
 # threads; `make wrong_bodies` tries those that the gate leaves out; `make plant` makes definitions wrong, and says what
 # refuses that. `make doc` writes doc/index.html, the public items of all crates with their contracts.
 
-SCENARIO = examples/cancel_amid_transfer.txt
+SCENARIO = rows/cancel_amid_transfer.in
 
 KIT = $(shell dirname $$(dirname $$(readlink -f $$(command -v rt))))
 

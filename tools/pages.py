@@ -1,14 +1,14 @@
 #!/usr/bin/env python3
 """Whether the pages fit what they speak of: tools/pages.py check; the gate asks it, and it takes no time.
 
-README.md has at most 70 lines; its scenario is an example's, with what the worked row of the same name prints; its driver stands
-in a crate that is proved. docs/LAYERS.md has a page for each crate and for no other. Each page that is named is there."""
+README.md has at most 70 lines; its scenario is that of a worked row, with what it prints; its driver stands in a crate that is
+proved. docs/LAYERS.md has a page for each crate and for no other. Each page that is named is there."""
 import pathlib
 import re
 import sys
 
 ROOT = pathlib.Path(__file__).resolve().parent.parent
-EXAMPLE = "cancel_amid_transfer"
+ROW = "cancel_amid_transfer"
 DRIVER = ROOT / "crates" / "example_first" / "src" / "meter.rt"
 PAGES = [ROOT / "README.md", *sorted((ROOT / "docs").glob("*.md")), ROOT / "rows" / "README.md"]
 MOST_LINES = 70
@@ -33,13 +33,13 @@ def readme_faults():
     text = (ROOT / "README.md").read_text()
     if len(text.splitlines()) > MOST_LINES:
         yield f"README.md has more than {MOST_LINES} lines"
-    scenario = (ROOT / "examples" / f"{EXAMPLE}.txt").read_text().splitlines()
-    printed = (ROOT / "rows" / f"{EXAMPLE}.out").read_text().splitlines()
+    scenario = (ROOT / "rows" / f"{ROW}.in").read_text().splitlines()
+    printed = (ROOT / "rows" / f"{ROW}.out").read_text().splitlines()
     setup = [it for it in scenario if it.split()[0] in ("device", "script")]
     steps = [it for it in scenario if it not in setup]
     wanted = setup + [f"{step:<{COLUMN - 4}}{told}" for step, told in zip(steps, printed, strict=True)]
     if wanted not in blocks(text):
-        yield f"README.md doesn't have examples/{EXAMPLE}.txt with what it prints"
+        yield f"README.md doesn't have rows/{ROW}.in with what it prints"
     driver = DRIVER.read_text()
     if not any("\n".join(it) in driver for it in blocks(text) if it[0].startswith("impl ")):
         yield f"README.md's driver isn't that of {DRIVER.relative_to(ROOT)}"
@@ -48,7 +48,7 @@ def readme_faults():
 def link_faults():
     """Pages, tools and folders that a page names and that aren't there."""
     for page in PAGES:
-        for name in sorted(set(re.findall(r"\b(?:docs|tools|examples|rows|crates)/[\w./]*\w", page.read_text()))):
+        for name in sorted(set(re.findall(r"\b(?:docs|tools|rows|crates)/[\w./]*\w", page.read_text()))):
             if "NAME" not in name and "CRATE" not in name and not (ROOT / name).exists():
                 yield f"{page.relative_to(ROOT)} names {name}, which isn't there"
 

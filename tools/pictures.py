@@ -1,5 +1,5 @@
 #!/usr/bin/env python3
-"""The pictures of docs/pictures, drawn by the built program, each from examples/NAME.txt.
+"""The pictures of docs/pictures, drawn by the built program, each from the worked row of its name (rows/NAME.in).
 
     tools/pictures.py draw    draws them anew
     tools/pictures.py check   says which of them the program draws otherwise; the gate asks it once all is built
@@ -14,8 +14,8 @@ PICTURES = ROOT / "docs" / "pictures"
 
 
 def drawn(name):
-    """The picture of an example, or None where the program doesn't draw it."""
-    with (ROOT / "examples" / f"{name}.txt").open("rb") as scenario:
+    """The picture of a worked row, or None where the program doesn't draw it."""
+    with (ROOT / "rows" / f"{name}.in").open("rb") as scenario:
         ran = subprocess.run([PROGRAM, "draw"], stdin=scenario, capture_output=True, timeout=60)
     return ran.stdout if ran.returncode == 0 else None
 

@@ -1,15 +1,18 @@
 #!/usr/bin/env python3
-"""The worked rows of rows/ (rows/README.md), as the gate runs them: all in one text, which the program check_rows reads.
+"""The worked rows of rows/ (rows/README.md), as the gate runs and proves them: all in one text, which the program
+check_rows reads; and those of rows/proved.txt in crates/proof_rows, as definitions (tools/proved_rows.py).
 
-    tools/rows.py write         writes crates/check_rows/stdin and stdout anew from rows/
-    tools/rows.py check         says whether they are those of rows/; the gate asks it
+    tools/rows.py write         writes those files of the two crates anew that aren't as rows/ has them
+    tools/rows.py check         says which they are; the gate asks it
     tools/rows.py run [NAME ..] runs all rows, or these, by the built program over its own streams, and says which differ
 
-What check_rows is to print comes from the rows' files, and never from a program."""
+What check_rows is to print, and what is proved, comes from the rows' files, and never from a program."""
 import pathlib
 import re
 import subprocess
 import sys
+
+from proved_rows import BadRow, proved_files
 
 ROOT = pathlib.Path(__file__).resolve().parent.parent
 ROWS = ROOT / "rows"
@@ -17,10 +20,8 @@ CRATE = ROOT / "crates" / "check_rows"
 PROGRAM = ROOT / "bin" / "usbtrace"
 # What stands before a row's name; and what is printed before its status and errors, and before what the plain program prints.
 NAME, STATUS, PLAIN = b"=== ", b"--- status ", b"--- by the plain program\n"
-
-
-class BadRow(Exception):
-    """A row that isn't as rows/README.md has it."""
+# The files of a row, and those that are no row's.
+KINDS, PAGES = ("cmd", "in", "out", "err", "status"), ("README.md", "proved.txt")
 
 
 class Row:
@@ -74,28 +75,39 @@ def all_rows():
     """The rows by their names. None of the files may belong to no row."""
     names = sorted(path.stem for path in ROWS.glob("*.cmd"))
     for path in sorted(ROWS.iterdir()):
-        if path.name != "README.md" and (path.suffix[1:] not in ("cmd", "in", "out", "err", "status") or path.stem not in names):
+        if path.name not in PAGES and (path.suffix[1:] not in KINDS or path.stem not in names):
             raise BadRow(f"{path.relative_to(ROOT)} is no row's")
     return [Row(name) for name in names]
 
 
 def files(rows):
-    """The files of check_rows, and what has to stand in them."""
-    return {CRATE / "stdin": b"".join(row.text() for row in rows), CRATE / "stdout": b"".join(row.printed() for row in rows)}
+    """The files that are written, and what has to stand in them."""
+    asked, printed = b"".join(row.text() for row in rows), b"".join(row.printed() for row in rows)
+    return {CRATE / "stdin": asked, CRATE / "stdout": printed, **proved_files(rows)}
+
+
+def is_in(path, text):
+    """Whether a file has this text. Where the lists of a definition are broken into lines, it may differ."""
+    known = path.read_bytes() if path.is_file() else None
+    if known is None or path.suffix != ".antt":
+        return known == text
+    return re.sub("∷\n +", "∷ ", known.decode()) == re.sub("∷\n +", "∷ ", text.decode())
 
 
 def write(rows):
     for path, text in files(rows).items():
-        path.write_bytes(text)
+        if not is_in(path, text):
+            path.parent.mkdir(parents=True, exist_ok=True)
+            path.write_bytes(text)
     return 0
 
 
 def check(rows):
-    others = [path for path, text in files(rows).items() if not path.is_file() or path.read_bytes() != text]
+    others = [path for path, text in files(rows).items() if not is_in(path, text)]
     for path in others:
         print(f"{path.relative_to(ROOT)} isn't that of rows/: tools/rows.py write")
     if not others:
-        print(f"{len(rows)} worked rows stand in check_rows")
+        print(f"{len(rows)} worked rows stand in check_rows, and in proof_rows those of rows/proved.txt")
     return 1 if others else 0
 
 

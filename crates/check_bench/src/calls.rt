@@ -3,7 +3,7 @@
 use std::alloc::{AllocError, Global};
 use usb_core::{Core, Setup};
 use usb_device::TableDevice;
-use usb_model::{DeviceNo, EpAddr, Name, Request, Returned};
+use usb_model::{DeviceNo, EpAddr, Name, Request, Returned, Step};
 
 /// A number that depends on what a callback is given.
 fn weight(returned: &Returned, payload: u64) -> u64 {
@@ -38,12 +38,12 @@ impl Calls {
 
     /// A name opens a device.
     pub fn open(&mut self, h: Name, dev: DeviceNo) {
-        let _ = self.core.open(h, dev);
+        let _ = self.core.call(Step::Open { h, dev });
     }
 
     /// A name claims interface 0.
     pub fn claim(&mut self, h: Name) {
-        let _ = self.core.claim(h, 0);
+        let _ = self.core.call(Step::Claim { h, i: 0 });
     }
 
     /// Submits a transfer, and gives its number.
@@ -85,6 +85,6 @@ impl Calls {
     /// The name's device is reset.
     #[inline(never)]
     pub fn reset(&mut self, h: Name) {
-        let _ = self.core.reset(h);
+        let _ = self.core.call(Step::Reset { h });
     }
 }

@@ -1,6 +1,6 @@
 //! Events posted and taken.
 
-use crate::coding::weight;
+use crate::codes::weight;
 use std::alloc::{AllocError, Global};
 use usb_ering::{EventRing, Ring};
 use usb_trb::{EndpointId, Pointer, Residual, Slot, Trb, TrbKind};

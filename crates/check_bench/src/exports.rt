@@ -1,7 +1,7 @@
 //! What the benchmark calls. Each makes what it needs, does its work `turns` times, and lets all go; what came out is a number,
 //! which is `NONE` where memory is refused or there is no such shape.
 
-use crate::coding::Coding;
+use crate::codes::Coding;
 use crate::events::Events;
 use crate::holders::Holders;
 use crate::readings::Readings;

@@ -6,14 +6,14 @@
 //! # Files
 //!
 //! - `exports.rt`: what the harness calls
-//! - `coding.rt`, `transfers.rt`, `events.rt`: work of the rings
+//! - `codes.rt`, `transfers.rt`, `events.rt`: work of the rings
 //! - `requests.rt`, `stores.rt`, `readings.rt`, `holders.rt`: work of the core's parts
 //! - `shape.rt`, `traffic.rt`, `calls.rt`: devices and transfers by numbers; whole transfers through the core, call
 //!   by call
 #![tactic(auto)]
 
 mod calls;
-mod coding;
+mod codes;
 mod events;
 mod exports;
 mod holders;

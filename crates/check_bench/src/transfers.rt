@@ -1,6 +1,6 @@
 //! Transfers of one TRB put on a ring, read, passed and dropped.
 
-use crate::coding::weight;
+use crate::codes::weight;
 use std::alloc::{AllocError, Global};
 use usb_trb::{Length, Normal, Pointer};
 use usb_tring::TransferRing;

@@ -1,4 +1,6 @@
-//! A call of a scene.
+//! A call of a scene, and what it is answered.
+
+use usb_model::Entry;
 
 /// A call of the library. Transfers are named by number, endpoints by address.
 #[derive(Clone, Copy)]
@@ -39,4 +41,13 @@ pub enum Call {
     Tick(u64),
     /// The device is gone.
     Unplug,
+}
+
+/// What a call is answered.
+#[derive(Drop)]
+pub enum Answer {
+    /// Whose it was, and the reply to it.
+    Told(Entry),
+    /// How many transfers a moment asked to end.
+    Asked(usize),
 }

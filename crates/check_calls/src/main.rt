@@ -1,28 +1,39 @@
-//! Calls of one library: each scene is run, and a line says what it saw; a scene that isn't as it has to be ends the
-//! program with an error.
+//! Calls of one library, by its one caller. What each was answered is printed, and compared by whoever runs this: it knows
+//! nothing of what that has to be.
+//!
+//! With the word `refusals` it plays the last scene alone. Of that the journal is printed, which is the same whichever
+//! allocation was refused: a call is made again where memory is refused, and so is the whole scene where it is refused before
+//! the first call or after the last.
 //!
 //! # Files
 //!
-//! - `calls.rt`, `ticks.rt`, `refusals.rt`: the three scenes
-//! - `call.rt`, `scene.rt`: a call, as a value; a library with its one caller, which makes it
-//! - `told.rt`: entries and journals in lines
+//! - `scenes.rt`, `call.rt`: the calls of each scene; a call as a value, and what it is answered
+//! - `scene.rt`, `life.rt`: the calls that a library's one caller makes; the library's beginning and end
+//!
+//! Its stdout is what the rules say, never what a program printed.
 #![tactic(auto)]
 
 mod call;
-mod calls;
-mod refusals;
+mod life;
 mod scene;
-mod ticks;
-mod told;
+mod scenes;
 
-use anyhow::Result;
-use std::alloc::Alloc;
+use crate::call::{Answer, Call};
+use crate::life::play;
+use crate::scenes::{CALLS, REFUSALS, TICKS};
+use anyhow::{Result, anyhow};
+use std::alloc::{Alloc, Global};
 use std::env::{self, Env};
+use std::sync::Wait;
+use usb_journal::{Journal, Place, Recorder, Unrecorded};
+
+/// So often a thing is tried where memory is refused.
+const TRIES: u32 = 3;
 
 /// Whether the one word behind the program's name asks for the scene in which memory may be refused. Tried again where
 /// memory is refused.
 fn is_refusals<R: Env + Alloc>(rt: &R) -> bool {
-    for _ in 0..3 {
+    for _ in 0..TRIES {
         if let Ok(words) = env::args(rt) {
             for word in words {
                 if word.as_str() == "refusals" {
@@ -35,14 +46,66 @@ fn is_refusals<R: Env + Alloc>(rt: &R) -> bool {
     false
 }
 
+/// Prints what calls were answered, a line each.
+fn print_answers<R: Print>(rt: &R, answers: &[Answer]) -> Result<()> {
+    for answer in answers {
+        match answer {
+            Answer::Told(entry) => println!(rt; "{entry}")?,
+            Answer::Asked(count) => println!(rt; "{count} asked to end")?,
+        }
+    }
+    Ok(())
+}
+
+/// Prints the entries of a journal, a line each.
+fn print_entries<R: Print>(rt: &R, places: &[Place]) -> Result<()> {
+    for place in places {
+        let entry = &place.entry;
+        println!(rt; "{entry}")?;
+    }
+    Ok(())
+}
+
+/// Plays a scene, and prints what its calls were answered, and how many places and receipts came of them: what was kept
+/// of the journal.
+fn show<J: Recorder, R: Wait + Print>(
+    rt: &R,
+    alloc: Global,
+    sizes: &[u16],
+    calls: &[Call],
+) -> Result<J> {
+    let left = play::<J, R>(rt, alloc, sizes, calls)?;
+    print_answers(rt, left.answers.as_slice())?;
+    println!(rt; "{} places, {} receipts", left.places, left.receipts)?;
+    Ok(left.recorder)
+}
+
+/// The places of the last scene's journal.
+fn refusals<R: Wait>(rt: &R, alloc: Global) -> Result<Vec<Place>> {
+    let left = play::<Journal, R>(rt, alloc, &[8, 1], &REFUSALS)?;
+    Ok(left.recorder.places(alloc)?)
+}
+
+/// Plays the last scene, again where memory is refused, and prints its journal. An error where that is often.
+fn show_refusals<R: Wait + Print>(rt: &R, alloc: Global) -> Result<()> {
+    for _ in 0..TRIES {
+        if let Ok(places) = refusals(rt, alloc) {
+            return print_entries(rt, places.as_slice());
+        }
+    }
+    Err(anyhow!("memory is refused again and again"))
+}
+
 fn main(rt: HostRuntime) -> Result<()> {
     let alloc = rt.alloc();
     if is_refusals(&rt) {
-        return refusals::run(&rt, alloc);
+        return show_refusals(&rt, alloc);
     }
-    calls::run(&rt, alloc)?;
     println!(rt; "calls: each by one caller, answered as it has to be, with a receipt")?;
-    ticks::run(&rt, alloc)?;
+    show::<Journal, _>(&rt, alloc, &[8, 1], &CALLS)?;
+    show::<Unrecorded, _>(&rt, alloc, &[8, 1], &CALLS)?;
     println!(rt; "ticks: a transfer is asked to end at its deadline, not before it, and once")?;
-    refusals::run(&rt, alloc)
+    let journal = show::<Journal, _>(&rt, alloc, &[], &TICKS)?;
+    print_entries(&rt, journal.places(alloc)?.as_slice())?;
+    show_refusals(&rt, alloc)
 }

@@ -1,49 +1,54 @@
-//! One caller of a library, and the calls that it makes.
+//! A scene: one caller of a library, and the calls that it makes.
 
-ghost use Rattle.std.specs.Prelude.{◌≡◌, IfOk};
+ghost use Rattle.std.specs.Prelude.{◌≡◌};
 
-use crate::call::Call;
-use crate::told::called;
+use crate::call::{Answer, Call};
 use anyhow::{Result, anyhow};
-use crossbeam_utils::sync::Unparker;
-use example_devices::{Reader, devices};
+use crossbeam_utils::sync::Parker;
+use example_devices::Reader;
 use std::alloc::{AllocError, Global};
 use std::result;
 use std::sync::Wait;
-use usb_device::{Device, TableDevice};
+use usb_core::Taken;
+use usb_device::TableDevice;
 use usb_journal::{Naming, NotRecorded, Receipt, Recorder};
-use usb_library::{Answered, Caller, Ended, Library, Opening, Submitted};
+use usb_library::{Answered, Caller, Library, Opening, Submitted};
 use usb_model::{Bytes, Entry, EpAddr, Reply, Request};
 
 /// What is kept with each transfer.
 const PAYLOAD: u8 = 77;
 
-/// For how many receipts there is room from the beginning.
-const RECEIPTS: usize = 64;
+/// For how many receipts and answers there is room from the beginning.
+const ROOM: usize = 64;
 
-/// What a call is answered. None of a moment: its receipts say what it asked to end. At an error memory was refused,
-/// and nothing is left of the call.
-type Came = result::Result<Option<Entry>, AllocError>;
+/// So often a call is made where memory is refused.
+const TRIES: u32 = 3;
 
-/// A library with its one caller, what that reads from, and its receipts so far.
+/// What a call is answered. At an error memory was refused, and nothing is left of the call.
+type Came = result::Result<Answer, AllocError>;
+
+/// A library with its one caller, what that reads from, and its receipts and answers so far.
 #[derive(Drop)]
-pub struct Scene<L: Naming, D: Device, J: Recorder> {
+pub struct Scene<L: Naming, J: Recorder> {
     alloc: Global,
-    library: Library<L, u8, D, J>,
+    library: Library<L, u8, TableDevice, J>,
     caller: Caller<L>,
     reader: Reader,
     receipts: Vec<Receipt<L>>,
+    answers: Vec<Answer>,
 }
 
-/// What a library is made of, over one device whose endpoints 81 and 83 answer with packets of these sizes.
-pub fn opening(alloc: Global, sizes: &[u16]) -> Result<Opening<TableDevice>>
-    ensures { IfOk result (λ o. o.parts ≡ 1025) }
-{
-    let devices = devices(alloc, 1, 8, sizes)?;
-    match Opening::new(alloc, devices) {
-        Ok(opening) => Ok(opening),
-        Err(_) => Err(anyhow!("no memory")),
-    }
+/// What a scene leaves.
+#[derive(Drop)]
+pub struct Left<J> {
+    /// What each call was answered.
+    pub answers: Vec<Answer>,
+    /// How many receipts the calls gave.
+    pub receipts: usize,
+    /// How many places the journal has.
+    pub places: u64,
+    /// What was kept of it.
+    pub recorder: J,
 }
 
 /// Bytes to be sent.
@@ -55,16 +60,31 @@ fn bytes(alloc: Global, text: &[u8]) -> result::Result<Bytes, AllocError> {
     Ok(bytes)
 }
 
-impl<L: Naming, D: Device, J: Recorder> Scene<L, D, J> {
+/// What a look for a result is answered: what a callback is told, or that there is none.
+fn called(taken: Option<Taken<u8>>) -> Entry {
+    match taken {
+        Some(Taken { returned, .. }) => Entry {
+            owner: Some(returned.h),
+            reply: Reply::Called(returned),
+        },
+        None => Entry {
+            owner: None,
+            reply: Reply::Idle,
+        },
+    }
+}
+
+impl<L: Naming, J: Recorder> Scene<L, J> {
     /// A library that was made of this, and its caller. Nothing was called.
-    pub fn new<R: Wait>(rt: &R, alloc: Global, opening: Opening<D>) -> Result<Scene<L, D, J>>
+    pub fn new<R: Wait>(rt: &R, alloc: Global, opening: Opening<TableDevice>) -> Result<Scene<L, J>>
         requires name { opening.name ≡ L.name }
         requires parts { (L.parts ≡ 1025) × (opening.parts ≡ L.parts) }
         requires table { opening.table ≡ L.table }
         requires setup { opening.setup ≡ L.setup }
     {
         let reader = Reader::new(1, 0, 0)?;
-        let receipts = Vec::with_capacity(alloc, RECEIPTS)?;
+        let receipts = Vec::with_capacity(alloc, ROOM)?;
+        let answers = Vec::with_capacity(alloc, ROOM)?;
         let library = Library::new(alloc, opening)?;
         let caller = library.caller(rt)?;
         Ok(Scene {
@@ -73,83 +93,34 @@ impl<L: Naming, D: Device, J: Recorder> Scene<L, D, J> {
             caller,
             reader,
             receipts,
+            answers,
         })
     }
 
-    /// This is unparked from now on, whenever something changed.
-    pub fn watch<R: Wait>(&self, rt: &R, unparker: Unparker) -> Result<()> {
-        Ok(self.library.watch(rt, unparker)?)
-    }
-
-    /// How many receipts there are.
-    pub fn receipts(&self) -> usize {
-        self.receipts.len()
-    }
-
-    fn open<R: Wait>(&mut self, rt: &R) -> result::Result<Answered<L>, AllocError> {
-        let Reader { h, dev, .. } = self.reader;
-        self.library.open(rt, &mut self.caller, h, dev)
-    }
-
-    fn claim<R: Wait>(&mut self, rt: &R) -> result::Result<Answered<L>, AllocError> {
-        let Reader { h, i, .. } = self.reader;
-        self.library.claim(rt, &mut self.caller, h, i)
-    }
-
-    fn clear_halt<R: Wait>(&mut self, rt: &R) -> result::Result<Answered<L>, AllocError> {
-        let Reader { h, ep, .. } = self.reader;
-        self.library.clear_halt(rt, &mut self.caller, h, ep)
-    }
-
-    fn reset<R: Wait>(&mut self, rt: &R) -> result::Result<Answered<L>, AllocError> {
-        self.library.reset(rt, &mut self.caller, self.reader.h)
-    }
-
-    fn release<R: Wait>(&mut self, rt: &R) -> result::Result<Answered<L>, AllocError> {
-        let Reader { h, i, .. } = self.reader;
-        self.library.release(rt, &mut self.caller, h, i)
-    }
-
-    fn close<R: Wait>(&mut self, rt: &R) -> result::Result<Answered<L>, AllocError> {
-        self.library.close(rt, &mut self.caller, self.reader.h)
-    }
-
-    fn cancel<R: Wait>(&mut self, rt: &R, n: u64) -> result::Result<Answered<L>, AllocError> {
-        self.library.cancel(rt, &mut self.caller, self.reader.h, n)
-    }
-
-    fn serve<R: Wait>(&mut self, rt: &R, ep: u8) -> result::Result<Answered<L>, AllocError> {
-        let ep = EpAddr::new(ep);
-        self.library
-            .serve(rt, &mut self.caller, self.reader.dev, ep)
-    }
-
-    fn command<R: Wait>(&mut self, rt: &R) -> result::Result<Answered<L>, AllocError> {
-        self.library.command(rt, &mut self.caller)
-    }
-
-    fn deliver<R: Wait>(&mut self, rt: &R) -> result::Result<Answered<L>, AllocError> {
-        self.library.deliver(rt, &mut self.caller)
-    }
-
-    fn stop<R: Wait>(&mut self, rt: &R, n: u64) -> result::Result<Answered<L>, AllocError> {
-        self.library.stop(rt, &mut self.caller, self.reader.h, n)
-    }
-
-    fn unplug<R: Wait>(&mut self, rt: &R) -> result::Result<Answered<L>, AllocError> {
-        self.library.unplug(rt, &mut self.caller, self.reader.dev)
+    /// Makes a call of which the library tells the entry.
+    fn ask<R: Wait>(&mut self, rt: &R, call: Call) -> result::Result<Answered<L>, AllocError> {
+        let Reader { h, dev, i, ep, .. } = self.reader;
+        let (library, caller) = (&self.library, &mut self.caller);
+        match call {
+            Call::Open => library.open(rt, caller, h, dev),
+            Call::Claim => library.claim(rt, caller, h, i),
+            Call::ClearHalt => library.clear_halt(rt, caller, h, ep),
+            Call::Reset => library.reset(rt, caller, h),
+            Call::Release => library.release(rt, caller, h, i),
+            Call::Cancel(n) => library.cancel(rt, caller, h, n),
+            Call::Stop(n) => library.stop(rt, caller, h, n),
+            Call::Serve(ep) => library.serve(rt, caller, dev, EpAddr::new(ep)),
+            Call::Command => library.command(rt, caller),
+            Call::Deliver => library.deliver(rt, caller),
+            Call::Unplug => library.unplug(rt, caller, dev),
+            _ => library.close(rt, caller, h),
+        }
     }
 
     /// Keeps a receipt: what its call was answered.
     fn keep(&mut self, receipt: Receipt<L>, entry: Entry) -> Came {
         self.receipts.push(receipt)?;
-        Ok(Some(entry))
-    }
-
-    /// Keeps the receipt of a call.
-    fn answered(&mut self, answered: result::Result<Answered<L>, AllocError>) -> Came {
-        let Answered { receipt, entry } = answered?;
-        self.keep(receipt, entry)
+        Ok(Answer::Told(entry))
     }
 
     /// Keeps the receipt of a submission.
@@ -176,16 +147,6 @@ impl<L: Naming, D: Device, J: Recorder> Scene<L, D, J> {
         self.submitted(submitted)
     }
 
-    fn read<R: Wait>(&mut self, rt: &R, timeout: u32) -> Came {
-        let request = self.reader.read(8, timeout);
-        self.submit(rt, request)
-    }
-
-    fn write<R: Wait>(&mut self, rt: &R) -> Came {
-        let request = self.reader.write(bytes(self.alloc, b"abc")?);
-        self.submit(rt, request)
-    }
-
     fn again<R: Wait>(&mut self, rt: &R, n: u64) -> Came {
         let h = self.reader.h;
         let submitted = self.library.again(rt, &mut self.caller, h, n, PAYLOAD);
@@ -207,52 +168,82 @@ impl<L: Naming, D: Device, J: Recorder> Scene<L, D, J> {
 
     fn tick<R: Wait>(&mut self, rt: &R, now: u64) -> Came {
         let mut receipts = self.library.tick(rt, &mut self.caller, now)?;
+        let asked = receipts.len();
         self.receipts.append(&mut receipts)?;
-        Ok(None)
-    }
-
-    /// Makes a call of a handle.
-    fn ask<R: Wait>(&mut self, rt: &R, call: Call) -> result::Result<Answered<L>, AllocError> {
-        match call {
-            Call::Open => self.open(rt),
-            Call::Claim => self.claim(rt),
-            Call::ClearHalt => self.clear_halt(rt),
-            Call::Reset => self.reset(rt),
-            Call::Release => self.release(rt),
-            Call::Cancel(n) => self.cancel(rt, n),
-            Call::Stop(n) => self.stop(rt, n),
-            Call::Serve(ep) => self.serve(rt, ep),
-            Call::Command => self.command(rt),
-            Call::Deliver => self.deliver(rt),
-            Call::Unplug => self.unplug(rt),
-            _ => self.close(rt),
-        }
+        Ok(Answer::Asked(asked))
     }
 
     /// Makes a call.
-    pub fn call<R: Wait>(&mut self, rt: &R, call: Call) -> Came {
+    fn call<R: Wait>(&mut self, rt: &R, call: Call) -> Came {
         match call {
-            Call::Read(timeout) => self.read(rt, timeout),
-            Call::Write => self.write(rt),
+            Call::Read(timeout) => {
+                let request = self.reader.read(8, timeout);
+                self.submit(rt, request)
+            }
+            Call::Write => {
+                let request = self.reader.write(bytes(self.alloc, b"abc")?);
+                self.submit(rt, request)
+            }
             Call::Again(n) => self.again(rt, n),
             Call::AgainWith(n) => self.again_with(rt, n),
             Call::Take => self.take(rt),
             Call::Tick(now) => self.tick(rt, now),
             _ => {
-                let answered = self.ask(rt, call);
-                self.answered(answered)
+                let Answered { receipt, entry } = self.ask(rt, call)?;
+                self.keep(receipt, entry)
             }
         }
     }
 
-    /// Ends the library: what it leaves. An error where it misses a caller.
-    pub fn end(self) -> Result<Ended<L, u8, D, J>>
+    /// Makes a call, again where memory is refused. An error where that is often.
+    fn make<R: Wait>(&mut self, rt: &R, call: Call) -> Result<()> {
+        for _ in 0..TRIES {
+            if let Ok(answer) = self.call(rt, call) {
+                self.answers.push(answer)?;
+                return Ok(());
+            }
+        }
+        Err(anyhow!("memory is refused again and again"))
+    }
+
+    /// Makes all calls.
+    fn make_all<R: Wait>(&mut self, rt: &R, calls: &[Call]) -> Result<()> {
+        for call in calls {
+            self.make(rt, *call)?;
+        }
+        Ok(())
+    }
+
+    /// Makes all calls, and waits for a change, of which there were many.
+    pub fn play<R: Wait>(&mut self, rt: &R, calls: &[Call]) -> Result<()> {
+        let parker = Parker::new(self.alloc)?;
+        self.library.watch(rt, parker.unparker().clone()?)?;
+        self.make_all(rt, calls)?;
+        parker.park(rt);
+        Ok(())
+    }
+
+    /// Ends the library. An error where it misses a caller.
+    pub fn end(self) -> Result<Left<J>>
         requires { L.parts ≡ 1025 }
     {
-        let mut callers = Vec::new(self.alloc);
-        callers.push(self.caller)?;
-        match self.library.finish(callers, self.receipts) {
-            Ok(ended) => Ok(ended),
+        let Scene {
+            alloc,
+            library,
+            caller,
+            receipts,
+            answers,
+            ..
+        } = self;
+        let count = receipts.len();
+        let callers = Vec::from_array(alloc, [caller])?;
+        match library.finish(callers, receipts) {
+            Ok(ended) => Ok(Left {
+                answers,
+                receipts: count,
+                places: ended.places,
+                recorder: ended.recorder,
+            }),
             Err(_) => Err(anyhow!("a caller is missing")),
         }
     }

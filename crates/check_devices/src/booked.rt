@@ -3,7 +3,7 @@
 
 ghost use Rattle.std.specs.Prelude.{◌≡◌};
 ghost use Rattle.usb_receipts.specs.Tokens.{new_keeper};
-ghost use Rattle.proof_core.specs.Making.{setup_of};
+ghost use Rattle.usb_core.specs.Public.{setup_of};
 
 use crate::bench::read_steps;
 use crate::kinds::EitherDevice;
@@ -13,11 +13,12 @@ use anyhow::Result;
 use example_devices::Reader;
 use std::alloc::Global;
 use std::marker::Brand;
+use std::sync::ledger::Blank;
 use usb_core::{Setup, Stepped};
 use usb_device::Device;
-use usb_journal::{Book, Closed, Journal, Mark, Naming, Receipt, Told};
+use usb_journal::{Book, Closed, Journal, Naming, PlaceImage, Position, Receipt};
 use usb_model::{Step, Verdict};
-use usb_receipts::{Keeper, Roll};
+use usb_receipts::{Keeper, Log};
 
 /// What is kept with each transfer.
 const PAYLOAD: u8 = 77;
@@ -29,8 +30,8 @@ const TOLD: &str = "h1 done\nh1 done\nh1 number 0\nh1 ended 0 code 1\nh1 finishe
 
 /// Plays the scene of a book.
 pub fn play<P: Print>(rt: &P, alloc: Global) -> Result<()> {
-    let (roll, keeper) = Roll::open(alloc)?;
-    booked::<Brand, EitherDevice>(alloc, both_kinds(alloc)?, roll, keeper)?;
+    let (log, keeper) = Log::open(alloc)?;
+    booked::<Brand, EitherDevice>(alloc, both_kinds(alloc)?, log, keeper, Blank::new(1))?;
     println!(rt;
         "a submission, a result and one more submission, each recorded by a book and read back"
     )?;
@@ -41,16 +42,21 @@ pub fn play<P: Print>(rt: &P, alloc: Global) -> Result<()> {
 fn booked<L: Naming, D: Device>(
     alloc: Global,
     setup: Setup<D>,
-    roll: Roll<Told>,
-    keeper: Keeper<Told>,
+    log: Log<PlaceImage>,
+    keeper: Keeper<PlaceImage>,
+    blank: Blank,
 ) -> Result<()>
+    requires name { blank.name ≡ L.name }
+    requires parts { (L.parts ≡ 1) × (blank.parts ≡ L.parts) }
     requires setup { setup_of setup ≡ L.setup }
-    requires roll { roll ≡ L.table }
-    requires keeper { keeper ≡ new_keeper roll }
+    requires log { log ≡ L.table }
+    requires keeper { keeper ≡ new_keeper log }
 {
-    let mut book = Book::<L, u8, D, Journal>::new(alloc, setup, roll, keeper)?;
+    let (total, share) = blank.open::<L>();
+    let mut book = Book::<L, u8, D, Journal>::new(alloc, setup, log, keeper, total)?;
+    let mut position = book.position(share);
     let mut receipts = Vec::new(alloc);
-    record_all(alloc, &mut book, &mut receipts)?;
+    record_all(alloc, &mut book, &mut position, &mut receipts)?;
     let Closed { recorder, .. } = book.finish(receipts);
     are_read(alloc, &recorder)
 }
@@ -58,7 +64,7 @@ fn booked<L: Naming, D: Device>(
 /// One step: its receipt is put behind the others, and what came out with it is told.
 fn record<L: Naming, D: Device>(
     book: &mut Book<L, u8, D, Journal>,
-    mark: &mut Mark<L>,
+    position: &mut Position<L>,
     receipts: &mut Vec<Receipt<L>>,
     step: Step,
 ) -> Result<Option<u8>> {
@@ -67,7 +73,7 @@ fn record<L: Naming, D: Device>(
     } else {
         None
     };
-    let (receipt, Stepped { out, .. }) = book.record(step, 0, mark, payload)?;
+    let (receipt, Stepped { out, .. }) = book.record(step, 0, position, payload)?;
     receipts.push(receipt)?;
     Ok(out)
 }
@@ -76,16 +82,16 @@ fn record<L: Naming, D: Device>(
 fn record_all<L: Naming, D: Device>(
     alloc: Global,
     book: &mut Book<L, u8, D, Journal>,
+    position: &mut Position<L>,
     receipts: &mut Vec<Receipt<L>>,
 ) -> Result<()> {
     let steps = read_steps(&Reader::new(1, 0, 0)?, Verdict::Again);
-    let mut mark = book.mark();
     for step in Vec::from_array(alloc, steps)? {
         let wanted = match step {
             Step::Take => Some(PAYLOAD),
             _ => None,
         };
-        let out = record(book, &mut mark, receipts, step)?;
+        let out = record(book, position, receipts, step)?;
         expect(out == wanted, "another payload comes out")?;
     }
     Ok(())

@@ -39,11 +39,11 @@ pub fn play<P: Print>(rt: &P, alloc: Global) -> Result<()> {
 fn driven<C: Callback>(
     alloc: Global,
     setup: Setup<EitherDevice>,
-    plan: &[Plan],
+    plan: Vec<Plan>,
     callbacks: Vec<C>,
 ) -> Result<Sequence<Entry>, Stopped>
-    requires count { length callbacks.items ≡ count_by is_submission plan.now }
-    requires no_verdict { AllByRecursion (λ piece. is_verdict piece ≡ false) plan.now }
+    requires count { length callbacks.items ≡ count_by is_submission plan.items }
+    requires no_verdict { AllByRecursion (λ piece. is_verdict piece ≡ false) plan.items }
 {
     drive(alloc, setup, plan, callbacks)
 }
@@ -66,7 +66,7 @@ fn read<C: Callback>(alloc: Global, reader: &Reader, callback: C) -> Result<Sequ
         Plan::Do(Step::Take),
         Plan::Return { h, n: 0 },
     ];
-    match driven(alloc, setup, &plan, callbacks) {
+    match driven(alloc, setup, Vec::from_array(alloc, plan)?, callbacks) {
         Ok(entries) => Ok(entries),
         Err(_) => Err(anyhow!("the plan stopped")),
     }

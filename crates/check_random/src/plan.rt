@@ -84,7 +84,8 @@ pub fn run(alloc: Global) -> Result<()> {
     let mut callbacks = Vec::new(alloc);
     callbacks.push(StoredCallback::repeat(rule, again_once))?;
     callbacks.push(StoredCallback::once(once))?;
-    let Ok(entries) = drive(alloc, scene::three_packets(alloc)?, &plan, callbacks) else {
+    let plan = Vec::from_array(alloc, plan)?;
+    let Ok(entries) = drive(alloc, scene::three_packets(alloc)?, plan, callbacks) else {
         return Err(anyhow!("the plan stopped"));
     };
     let mut told = Vec::new(alloc);

@@ -1,7 +1,7 @@
 //! What a thread of a scene does, put down one act after the other.
 
+use crate::callback::RuleCallback;
 use crate::flag::Flag;
-use crate::told::Told;
 use crossbeam_utils::sync::{Parker, Unparker};
 use example_devices::Reader;
 use std::alloc::{AllocError, Global};
@@ -15,7 +15,7 @@ pub enum Act {
     /// The same, until it isn't refused as busy.
     Until(Step),
     /// Submits a transfer, again where that is refused as busy.
-    Submit(Name, Request, Told),
+    Submit(Name, Request, RuleCallback),
     /// Waits, or ends the waiting of another thread.
     Tell(Signal),
     /// Is woken by changes from here on.
@@ -94,7 +94,7 @@ impl Acts {
     }
 
     /// Reads so many bytes, with this callback.
-    pub fn read(&mut self, bytes: u32, told: Told) -> Result<(), AllocError> {
+    pub fn read(&mut self, bytes: u32, told: RuleCallback) -> Result<(), AllocError> {
         let request = self.reader.read(bytes, 0);
         self.push(Act::Submit(self.reader.h, request, told))
     }

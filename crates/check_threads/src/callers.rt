@@ -1,10 +1,10 @@
 //! Many callers over one library.
 
 use crate::acts::{Act, Acts};
+use crate::callback::RuleCallback;
 use crate::halt::Halt;
 use crate::player::Played;
 use crate::stage::{Seen, Stand, play_on};
-use crate::told::Told;
 use crate::turnstile::Turnstile;
 use anyhow::{Result, anyhow};
 use example_devices::{Reader, devices};
@@ -30,7 +30,7 @@ const DEVICES: u8 = 4;
 fn handle(alloc: Global, h: u8) -> Result<Acts> {
     let mut acts = Acts::claimed(alloc, Reader::new(h, h / 2, h % 2)?)?;
     for _ in 0..TRANSFERS {
-        acts.read(1, Told::stop())?;
+        acts.read(1, RuleCallback::stop())?;
     }
     Ok(acts)
 }

@@ -1,9 +1,9 @@
 //! Scenes in which a worker or a callback is held.
 
 use crate::acts::{Acts, Signal};
+use crate::callback::RuleCallback;
 use crate::halt::Halt;
 use crate::stage::{Stand, play_halted};
-use crate::told::Told;
 use crate::turnstile::Turnstile;
 use anyhow::{Result, anyhow};
 use example_devices::Reader;
@@ -25,8 +25,8 @@ const ROUNDS: &str = "h1 called 0 ep 81 round 0 COMPLETED 1 data 01\n\
     h1 called 3 ep 81 round 3 COMPLETED 1 data 04\n";
 
 /// A callback that ends its transfer, behind a halt.
-fn held(halt: &Halt) -> Result<Told> {
-    Ok(Told {
+fn held(halt: &Halt) -> Result<RuleCallback> {
+    Ok(RuleCallback {
         rule: Rule::once_only(),
         halt: Some(halt.again()?),
     })
@@ -37,7 +37,7 @@ fn holding(alloc: Global, reader: Reader, halt: &Halt) -> Result<Acts> {
     let mut acts = Acts::claimed(alloc, reader)?;
     acts.read(8, held(halt)?)?;
     acts.wait(&halt.here)?;
-    acts.read(8, Told::stop())?;
+    acts.read(8, RuleCallback::stop())?;
     acts.raise(&halt.on)?;
     Ok(acts)
 }
@@ -62,8 +62,8 @@ fn crossing(alloc: Global, halt: &Halt) -> Result<Gates<Turnstile>> {
 /// A thread that reads twice.
 fn reading(alloc: Global, reader: Reader) -> Result<Acts> {
     let mut acts = Acts::claimed(alloc, reader)?;
-    acts.read(8, Told::stop())?;
-    acts.read(8, Told::stop())?;
+    acts.read(8, RuleCallback::stop())?;
+    acts.read(8, RuleCallback::stop())?;
     Ok(acts)
 }
 
@@ -77,12 +77,12 @@ pub fn two_loops<R: Threads + Wait + Sync>(rt: &R, alloc: Global) -> Result<()> 
 }
 
 /// A callback that submits its transfer three times more.
-fn three_more() -> Told {
+fn three_more() -> RuleCallback {
     let rule = Rule::Again {
         on: StatusSet::COMPLETED,
         rounds: 3,
     };
-    Told { rule, halt: None }
+    RuleCallback { rule, halt: None }
 }
 
 /// A thread that closes and releases while a callback's answer is held, and closes once it can.
@@ -173,8 +173,8 @@ const OVERRUN: &str = "h1 called 0 ep 81 round 0 OVERFLOW 0 data -\n\
 /// nothing to do; and closes once it can.
 fn overrunning(alloc: Global, reader: Reader, halt: &Halt) -> Result<Acts> {
     let mut acts = Acts::claimed(alloc, reader)?;
-    acts.read(1, Told::stop())?;
-    acts.read(8, Told::stop())?;
+    acts.read(1, RuleCallback::stop())?;
+    acts.read(8, RuleCallback::stop())?;
     acts.wait(&halt.here)?;
     acts.tell(Signal::Yield(PARKING_TURNS))?;
     acts.raise(&halt.on)?;

@@ -4,24 +4,24 @@
 //!
 //! # Files
 //!
-//! - `gates.rt`, `callers.rt`, `missing.rt`, `waking.rt`: the scenes
+//! - `gates.rt`, `callers.rt`, `absence.rt`, `wakes.rt`: the scenes
 //! - `acts.rt`, `player.rt`, `stage.rt`: what a thread does, act by act; a thread that does it; a scene is played
-//! - `flag.rt`, `halt.rt`, `turnstile.rt`, `told.rt`, `counted.rt`: what threads tell each other; where they are
+//! - `flag.rt`, `halt.rt`, `turnstile.rt`, `callback.rt`, `counted.rt`: what threads tell each other; where they are
 //!   held; gates, callbacks and a device that take part
 #![tactic(auto)]
 
+mod absence;
 mod acts;
+mod callback;
 mod callers;
 mod counted;
 mod flag;
 mod gates;
 mod halt;
-mod missing;
 mod player;
 mod stage;
-mod told;
 mod turnstile;
-mod waking;
+mod wakes;
 
 use anyhow::Result;
 use std::alloc::Global;
@@ -70,19 +70,19 @@ fn play_others<R: Threads + Wait + Sync + Print>(rt: &R, alloc: Global) -> Resul
         rt,
         "many callers: 8 threads, 400 transfers, each handle as if it were alone",
     )?;
-    missing::missing_caller(rt, alloc)?;
+    absence::missing_caller(rt, alloc)?;
     say(
         rt,
         "missing caller: all is handed back, and the end comes with it",
     )?;
-    waking::look_then_park(rt, alloc)?;
+    wakes::look_then_park(rt, alloc)?;
     say(rt, "look then park: a submission in between wakes")?;
-    waking::each_wakes(rt, alloc)?;
+    wakes::each_wakes(rt, alloc)?;
     say(
         rt,
         "each wakes: 1000 transfers, each after the last was called back",
     )?;
-    waking::idle_workers_park(rt, alloc)?;
+    wakes::idle_workers_park(rt, alloc)?;
     say(rt, "idle workers park: they look a few times, and wait")
 }
 

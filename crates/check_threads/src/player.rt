@@ -1,8 +1,8 @@
 //! A thread of a scene: what it does, one act after the other.
 
 use crate::acts::{Act, Signal};
+use crate::callback::RuleCallback;
 use crate::flag::{Flag, TURNS};
-use crate::told::Told;
 use crossbeam_utils::sync::Unparker;
 use std::alloc::{AllocError, Global};
 use std::sync::Wait;
@@ -34,14 +34,14 @@ pub struct Played {
     pub replies: Vec<Reply>,
 }
 
-impl Driver<Told> for Player {
+impl Driver<RuleCallback> for Player {
     type Left = Result<Played, AllocError>;
 
     /// An error where it waited in vain, or memory was refused.
     fn drive<L: Naming, D: Device, J: Recorder, R: Wait>(
         self,
         rt: &R,
-        library: &Library<L, Told, D, J>,
+        library: &Library<L, RuleCallback, D, J>,
         caller: &mut Caller<L>,
     ) -> Result<Played, AllocError> {
         let mut played = Played {
@@ -59,7 +59,7 @@ impl Driver<Told> for Player {
 /// Does an act.
 fn play<L: Naming, D: Device, J: Recorder, R: Wait>(
     rt: &R,
-    library: &Library<L, Told, D, J>,
+    library: &Library<L, RuleCallback, D, J>,
     caller: &mut Caller<L>,
     act: Act,
     played: &mut Played,
@@ -79,7 +79,7 @@ fn play<L: Naming, D: Device, J: Recorder, R: Wait>(
 /// An error where there is something to serve.
 fn look<L: Naming, D: Device, J: Recorder, R: Wait>(
     rt: &R,
-    library: &Library<L, Told, D, J>,
+    library: &Library<L, RuleCallback, D, J>,
 ) -> Result<(), AllocError> {
     in_time(library.pending(rt).serve.is_none())
 }
@@ -127,7 +127,7 @@ fn in_time(is_up: bool) -> Result<(), AllocError> {
 /// What a step was answered.
 fn answer<L: Naming, D: Device, J: Recorder, R: Wait>(
     rt: &R,
-    library: &Library<L, Told, D, J>,
+    library: &Library<L, RuleCallback, D, J>,
     caller: &mut Caller<L>,
     step: Step,
     played: &mut Played,
@@ -140,7 +140,7 @@ fn answer<L: Naming, D: Device, J: Recorder, R: Wait>(
 /// What a step was answered, when it wasn't busy any more.
 fn until<L: Naming, D: Device, J: Recorder, R: Wait>(
     rt: &R,
-    library: &Library<L, Told, D, J>,
+    library: &Library<L, RuleCallback, D, J>,
     caller: &mut Caller<L>,
     step: Step,
     played: &mut Played,
@@ -161,11 +161,11 @@ enum Tried {
     /// It has its place.
     Answered(Reply),
     /// The endpoint was busy: what was given is back.
-    Busy(Request, Told),
+    Busy(Request, RuleCallback),
 }
 
 /// What a submission is answered with this number, or with what wasn't accepted.
-fn came_of(number: Result<u64, Unaccepted<Request, Told>>) -> Tried {
+fn came_of(number: Result<u64, Unaccepted<Request, RuleCallback>>) -> Tried {
     match number {
         Ok(n) => Tried::Answered(Reply::Number(n)),
         Err(refused) => match refused.why {
@@ -178,11 +178,11 @@ fn came_of(number: Result<u64, Unaccepted<Request, Told>>) -> Tried {
 /// Submits a transfer, once.
 fn try_submit<L: Naming, D: Device, J: Recorder, R: Wait>(
     rt: &R,
-    library: &Library<L, Told, D, J>,
+    library: &Library<L, RuleCallback, D, J>,
     caller: &mut Caller<L>,
     h: Name,
     request: Request,
-    told: Told,
+    told: RuleCallback,
 ) -> Result<Tried, AllocError> {
     match library.submit(rt, caller, h, request, told) {
         Ok(submitted) => Ok(came_of(submitted.number)),
@@ -193,11 +193,11 @@ fn try_submit<L: Naming, D: Device, J: Recorder, R: Wait>(
 /// What a submission was answered, when it wasn't busy any more.
 fn submit<L: Naming, D: Device, J: Recorder, R: Wait>(
     rt: &R,
-    library: &Library<L, Told, D, J>,
+    library: &Library<L, RuleCallback, D, J>,
     caller: &mut Caller<L>,
     h: Name,
     request: Request,
-    told: Told,
+    told: RuleCallback,
     played: &mut Played,
 ) -> Result<Reply, AllocError> {
     let (mut request, mut told) = (request, told);

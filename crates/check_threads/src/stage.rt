@@ -1,9 +1,9 @@
 //! A scene that is played: a library with some threads, and what it leaves.
 
 use crate::acts::{Act, Acts};
+use crate::callback::RuleCallback;
 use crate::halt::Halt;
 use crate::player::{Played, Player};
-use crate::told::Told;
 use crate::turnstile::Turnstile;
 use anyhow::{Result, anyhow};
 use example_devices::devices;
@@ -43,7 +43,7 @@ fn lived<D: Device + Send, R: Threads + Wait + Sync>(
     gates: Gates<Turnstile>,
     players: Vec<Player>,
 ) -> Result<(Journal, Vec<result::Result<Played, AllocError>>)> {
-    let lived = live_gated::<Told, D, Journal, Turnstile, Player, R>(
+    let lived = live_gated::<RuleCallback, D, Journal, Turnstile, Player, R>(
         rt, alloc, setup, gates, players,
     )?;
     Ok((lived.kept, lived.left))

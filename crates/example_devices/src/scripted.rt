@@ -2,7 +2,7 @@
 
 ghost use Rattle.std.specs.Prelude.{◌+◌, ◌≡◌, IfOk, OnOk, length};
 ghost use Rattle.usb_device.specs.Scripts.{Takes};
-ghost use Rattle.proof_core.specs.Making.{setup_of};
+ghost use Rattle.usb_core.specs.Public.{setup_of};
 
 use crate::packets::scripts;
 use anyhow::{Result, anyhow};

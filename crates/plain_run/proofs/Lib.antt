@@ -1,3 +1,3 @@
-mod Comparing
+mod PartSteps
 mod Drives
 mod Pieces

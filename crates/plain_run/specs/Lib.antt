@@ -1,5 +1,5 @@
 pub mod PlanRuns
 pub mod RuleBooks
-pub mod Comparing
+pub mod Part
 pub mod Left
 pub mod LeftText

@@ -1,7 +1,7 @@
 //! What a handle sees amid the others, and what it sees alone.
 
 ghost use Rattle.std.specs.Prelude.{◌≡◌, ◌++◌, ◌∷◌, [], IfOk};
-ghost use Rattle.plain_run.specs.Comparing.{own_entries, own_steps};
+ghost use Rattle.plain_run.specs.Part.{own_entries, own_steps};
 ghost use Rattle.usb_model.specs.World.Journal.{entries, is_held_elsewhere, is_own, is_unplug, own, world_run};
 ghost use Rattle.usb_model.specs.Machine.Turns.{alone};
 ghost use Rattle.usb_model.specs.World.{is_its};

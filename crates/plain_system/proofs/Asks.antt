@@ -14,7 +14,7 @@ use Rattle.usb_model.specs.Endpoint.{in_progress}
 use Rattle.usb_model.specs.Machine.{Machine, device_of, endpoint_at, says, refused_if}
 use Rattle.usb_model.specs.Machine.Calls.{Home, home_by, home_in, home_of, ask_in_progress, ask_effect}
 use Rattle.usb_model.specs.Endpoint.{has_in_progress}
-use Rattle.plain_system.specs.Asking.{Asks}
+use Rattle.plain_system.specs.Asked.{Asks}
 use Rattle.plain_system.proofs.Steps.{end_there, none_there}
 
 -- the address where a search ends

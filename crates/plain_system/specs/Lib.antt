@@ -1,6 +1,6 @@
 pub mod Tables
 pub mod System
 pub mod Renewed
-pub mod Asking
+pub mod Asked
 pub mod Submit
 pub mod Call

@@ -10,7 +10,7 @@ ghost use Rattle.usb_model.specs.Setup.{endpoints_of};
 ghost use Rattle.usb_model.specs.Machine.Calls.{ask_effect};
 ghost use Rattle.usb_model.specs.Machine.{says};
 ghost use Rattle.usb_model.specs.Endpoint.{has_in_progress};
-ghost use Rattle.plain_system.specs.Asking.{Asks};
+ghost use Rattle.plain_system.specs.Asked.{Asks};
 ghost use Rattle.usb_model.specs.World.{machine_with, own_endpoint};
 ghost use Rattle.plain_system.specs.Call.{machine_in, world_in};
 ghost use Rattle.plain_system.specs.System.{with_endpoint_out, world_of};

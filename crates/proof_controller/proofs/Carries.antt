@@ -14,19 +14,19 @@ use Rattle.usb_trb.specs.declared.kind.TrbKind.TheVariants.{CommandCompletion}
 use Rattle.usb_segment.specs.Places.{address_of}
 use Rattle.usb_design.specs.Stands.{total}
 use Rattle.usb_design.specs.Kept.{Completion, KeptEndpoint, KeptTransfer, Telling, first_place}
-use Rattle.usb_design.specs.Handling.{find_at, past_kept_blanks}
-use Rattle.usb_design.specs.Serving.{event_at, sent_before, walk}
-use Rattle.usb_design.specs.Commanding as kept
+use Rattle.usb_design.specs.Events.{find_at, past_kept_blanks}
+use Rattle.usb_design.specs.Packets.{event_at, sent_before, walk}
+use Rattle.usb_design.specs.Commands as kept
 use Rattle.usb_tring.specs.Line.{Line, all_of, moved_behind, places}
 use Rattle.usb_xhc.specs.Ahead.{ahead}
-use Rattle.usb_xhc.specs.Commanding.{Carried, before, carried, move_in, moved_at, pause_by, reset_in, stop_in}
+use Rattle.usb_xhc.specs.Commands.{Carried, before, carried, move_in, moved_at, pause_by, reset_in, stop_in}
 use Rattle.usb_xhc.specs.Context.{Context}
-use Rattle.usb_xhc.specs.Serving.{trb_at}
+use Rattle.usb_xhc.specs.Transaction.{trb_at}
 use Rattle.usb_xhc.proofs.Moves.{at_place, found-none, found-there}
 use Rattle.proof_controller.specs.Endpoint.{IsContext, IsFresh}
 use Rattle.proof_controller.specs.EndpointLaws.{CarriesAs, IsOrder}
 use Rattle.proof_controller.specs.Line.{IsLine}
-use Rattle.proof_controller.specs.Told.{event_of}
+use Rattle.proof_controller.specs.Reports.{event_of}
 use Rattle.proof_controller.proofs.Changes.{moves_behind, place_behind_is}
 use Rattle.proof_controller.proofs.Contents.{blanks_span, contents_end}
 use Rattle.proof_controller.proofs.Fronts.{IsFront, at_front, first_is}

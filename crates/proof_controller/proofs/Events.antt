@@ -7,9 +7,9 @@ use Rattle.usb_segment.specs.Places.{address_of, index_of}
 use Rattle.usb_design.specs.Kept.{Completion, Telling, Transfer}
 use Rattle.usb_ering.specs.Ring.{Ring}
 use Rattle.usb_xhc.specs.Context.{Context}
-use Rattle.usb_xhc.specs.Posting.{posted_all, posted_one}
+use Rattle.usb_xhc.specs.Posts.{posted_all, posted_one}
 use Rattle.usb_xhc.specs.Controller.{order_address}
-use Rattle.proof_controller.specs.Told.{event_in, event_of}
+use Rattle.proof_controller.specs.Reports.{event_in, event_of}
 use Rattle.proof_design.specs.Shows.{RingEvent, event_at, order_at}
 use Rattle.proof_controller.specs.Holds.{event_trb, ring_at}
 use Rattle.proof_controller.specs.Laws.{PostsCore, TakesCore}

@@ -8,14 +8,14 @@ use Rattle.usb_model.specs.Requests.{length_of}
 use Rattle.usb_trb.specs.declared.kind.Normal.{Normal as NormalTrb}
 use Rattle.usb_design.specs.Stands.{length_at, lengths_of, stand, total}
 use Rattle.usb_design.specs.Kept.{KeptEndpoint, KeptTransfer, is_extra}
-use Rattle.usb_design.specs.Handling.{find_at}
-use Rattle.usb_design.specs.Serving.{packet_by, room_at, sent_before, walk}
+use Rattle.usb_design.specs.Events.{find_at}
+use Rattle.usb_design.specs.Packets.{packet_by, room_at, sent_before, walk}
 use Rattle.usb_transfer.specs.Tds.{tds_of}
 use Rattle.usb_transfer.specs.Trbs.{buffer_of, normals_of}
 use Rattle.usb_transfer.proofs.Pieces.{normals_at_lengths}
 use Rattle.usb_xhc.specs.Ahead.{goes_on, lengths, room}
 use Rattle.usb_xhc.specs.Context.{Context, stand_by, trbs}
-use Rattle.usb_xhc.specs.Serving.{offset_by, packet_in, packet_room}
+use Rattle.usb_xhc.specs.Transaction.{offset_by, packet_in, packet_room}
 use Rattle.proof_controller.specs.Line.{IsSent}
 use Rattle.proof_controller.specs.Endpoint.{IsContext}
 use Rattle.proof_controller.proofs.Contents.{trbs_at}

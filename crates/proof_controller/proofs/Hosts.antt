@@ -9,14 +9,14 @@ use Rattle.usb_trb.specs.declared.kind.TrbKind.{TrbKind}
 use Rattle.usb_trb.specs.declared.kind.TrbKind.TheVariants.{NoOp}
 use Rattle.usb_design.specs.Stands.{length_at, total}
 use Rattle.usb_design.specs.Kept.{InRow, KeptEndpoint, KeptTransfer, first_place, trbs_of}
-use Rattle.usb_design.specs.Handling.{covers, find_at}
-use Rattle.usb_design.specs.Joining.{joined, new_kept}
+use Rattle.usb_design.specs.Events.{covers, find_at}
+use Rattle.usb_design.specs.Joins.{joined, new_kept}
 use Rattle.usb_transfer.specs.Tds.{tds_of}
 use Rattle.usb_transfer.specs.Trbs.{buffer_of, normals_of}
 use Rattle.usb_transfer.proofs.Pieces.{normals_at_count}
 use Rattle.usb_tring.specs.Line.{Line, normals, used}
 use Rattle.usb_xhc.specs.Context.{Context}
-use Rattle.usb_xhc.specs.Hosting.{with_ring, with_pushed, with_blank, without_first}
+use Rattle.usb_xhc.specs.Host.{with_ring, with_pushed, with_blank, without_first}
 use Rattle.proof_controller.specs.Line.{AllItems, IsItem, IsLine}
 use Rattle.proof_controller.specs.Endpoint.{IsBegun, IsContext}
 use Rattle.proof_controller.specs.EndpointLaws.{HasTrbsOf, HaveTrbsOf}

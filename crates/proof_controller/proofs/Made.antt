@@ -19,7 +19,7 @@ use Rattle.usb_device.specs.Pipe.{Pipe, no_pipe, pipe_at, rewound}
 use Rattle.usb_device.specs.Scripts.{info_by}
 use Rattle.usb_xhc.specs.Context.{Context, configured}
 use Rattle.proof_controller.specs.Endpoint.{IsPipe}
-use Rattle.usb_xhc.specs.Making.{context_for, context_made, contexts_for, ring_base, slot_for}
+use Rattle.usb_xhc.specs.Made.{context_for, context_made, contexts_for, ring_base, slot_for}
 use Rattle.usb_xhc.specs.Slots.{DeviceSlot, as_made, context_of, slot_renewed}
 use Rattle.proof_controller.specs.Holds.{IsEnd, IsSlot, RingIs}
 use Rattle.proof_controller.specs.Laws.{AddsSlot, IsOfHeld, MakesCore}

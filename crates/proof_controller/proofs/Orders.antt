@@ -12,9 +12,9 @@ use Rattle.usb_trb.specs.declared.kind.TrbKind.{TrbKind}
 use Rattle.usb_trb.specs.declared.kind.TrbKind.TheVariants.{SetDequeue}
 use Rattle.usb_segment.specs.Places.{address_of, cycle_of}
 use Rattle.usb_design.specs.Kept.{KeptEndpoint, KeptTransfer, first_place}
-use Rattle.usb_design.specs.Handling.{find_at, past_at, past_kept_blanks}
-use Rattle.usb_design.specs.Serving.{Packet, answer_now, answered_by, answered_gone, endpoint_with, gave, got, packet_now, put_at, sent_before, serve_at, serve_kept}
-use Rattle.usb_design.specs.Commanding as kept
+use Rattle.usb_design.specs.Events.{find_at, past_at, past_kept_blanks}
+use Rattle.usb_design.specs.Packets.{Packet, answer_now, answered_by, answered_gone, endpoint_with, gave, got, packet_now, put_at, sent_before, serve_at, serve_kept}
+use Rattle.usb_design.specs.Commands as kept
 use Rattle.usb_tring.specs.Line.{places}
 use Rattle.proof_controller.specs.EndpointLaws.{HaveTrbsOf, start_of}
 use Rattle.proof_controller.proofs.Goes.{put_same}

@@ -9,12 +9,12 @@ use Rattle.usb_model.specs.declared.request.Body.TheVariants.{In, Out}
 use Rattle.usb_model.specs.declared.response.Response.{Response}
 use Rattle.usb_model.specs.Endpoint.Status.{halts}
 use Rattle.usb_model.specs.Setup.{endpoint_id}
-use Rattle.usb_design.specs.Serving.{Packet}
+use Rattle.usb_design.specs.Packets.{Packet}
 use Rattle.usb_device.specs.Pipe.{Pipe, answer_of, bytes_after, first_of, no_pipe, pipe_after, pipe_at, stalls, taken_by}
 use Rattle.usb_xhc.specs.declared.trb_at.TrbAt.{TrbAt}
 use Rattle.usb_xhc.specs.Context.{Context, gone_on, gone_past}
-use Rattle.usb_xhc.specs.Posting.{posted_all}
-use Rattle.usb_xhc.specs.Serving.{Served, packet_in, packet_out, packet_room, served, served_by, served_gone, working}
+use Rattle.usb_xhc.specs.Posts.{posted_all}
+use Rattle.usb_xhc.specs.Transaction.{Served, packet_in, packet_out, packet_room, served, served_by, served_gone, working}
 use Rattle.usb_xhc.specs.Controller.{Controller, served_at, told_at}
 use Rattle.usb_xhc.specs.Slots.{DeviceSlot, asks, context_of, events_after, read_after, serving, serving_at, slot_after}
 use Rattle.proof_controller.specs.EndpointLaws.{packet_for, pipe_behind, served_here}

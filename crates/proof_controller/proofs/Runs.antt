@@ -11,13 +11,13 @@ use Rattle.usb_trb.specs.declared.kind.TrbKind.{TrbKind}
 use Rattle.usb_trb.specs.declared.kind.TrbKind.TheVariants.{CommandCompletion, SetDequeue, StopEndpoint, ResetEndpoint}
 use Rattle.usb_segment.specs.Places.{address_of, cycle_of}
 use Rattle.usb_design.specs.Kept.{KeptEndpoint}
-use Rattle.usb_design.specs.Handling.{errand_of}
-use Rattle.usb_design.specs.Commanding as kept
+use Rattle.usb_design.specs.Events.{errand_of}
+use Rattle.usb_design.specs.Commands as kept
 use Rattle.usb_device.specs.Pipe.{Pipe, pipe_at}
 use Rattle.usb_tring.specs.Line.{places}
-use Rattle.usb_xhc.specs.Commanding.{carried, endpoint_not_enabled_error, move_in, moved_at, before, reset_in, stop_in, trb_error}
+use Rattle.usb_xhc.specs.Commands.{carried, endpoint_not_enabled_error, move_in, moved_at, before, reset_in, stop_in, trb_error}
 use Rattle.usb_xhc.specs.Context.{Context}
-use Rattle.usb_xhc.specs.Posting.{posted_all}
+use Rattle.usb_xhc.specs.Posts.{posted_all}
 use Rattle.usb_xhc.specs.Controller.{Controller, carried_at, code_for, endpoint_in, order_address, run_at, run_of, slot_in}
 use Rattle.usb_xhc.specs.Slots.{DeviceSlot, changed, context_of, order_code, order_events}
 use Rattle.proof_controller.specs.EndpointLaws.{CarriesAs, IsOrder, start_of}

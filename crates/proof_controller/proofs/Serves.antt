@@ -17,18 +17,18 @@ use Rattle.usb_trb.specs.declared.kind.TrbKind.TheVariants.{TransferEvent}
 use Rattle.usb_segment.specs.Places.{address_of}
 use Rattle.usb_design.specs.Stands.{Stand, length_at}
 use Rattle.usb_design.specs.Kept.{KeptEndpoint, KeptTransfer, is_extra}
-use Rattle.usb_design.specs.Handling.{find_at}
-use Rattle.usb_design.specs.Serving.{Answered, Packet, answer_now, answered_by, answered_gone, endpoint_with, event_at, gave, got, packet_now, put_at, room_at, sent_before, serve_at, serve_kept, walk}
+use Rattle.usb_design.specs.Events.{find_at}
+use Rattle.usb_design.specs.Packets.{Answered, Packet, answer_now, answered_by, answered_gone, endpoint_with, event_at, gave, got, packet_now, put_at, room_at, sent_before, serve_at, serve_kept, walk}
 use Rattle.usb_device.specs.Pipe.{Pipe, answer_of, bytes_after, pipe_after}
 use Rattle.usb_tring.specs.Line.{places}
 use Rattle.usb_xhc.specs.declared.packet.Packet.TheVariants as told
 use Rattle.usb_xhc.specs.declared.trb_at.TrbAt.{TrbAt}
 use Rattle.usb_xhc.specs.Ahead.{ahead, lengths}
 use Rattle.usb_xhc.specs.Context.{Context, event_by, gone_on, gone_past, stand_by, trbs}
-use Rattle.usb_xhc.specs.Serving.{Served, is_running, offset_by, packet_room, served, served_by, served_gone, trb_at, working}
+use Rattle.usb_xhc.specs.Transaction.{Served, is_running, offset_by, packet_room, served, served_by, served_gone, trb_at, working}
 use Rattle.proof_controller.specs.Endpoint.{IsContext, IsFresh, IsPipe}
 use Rattle.proof_controller.specs.EndpointLaws.{HaveTrbsOf, ServedAs, ServesAs, packet_for, served_here}
-use Rattle.proof_controller.specs.Told.{event_of, reply_of}
+use Rattle.proof_controller.specs.Reports.{event_of, reply_of}
 use Rattle.proof_controller.proofs.Contents.{contents_end}
 use Rattle.proof_controller.proofs.Fronts.{HasBytes, IsFront, at_front, first_is, has_bytes, length_drop_at, lengths_ahead, same_answer, same_room, same_walk}
 use Rattle.proof_controller.proofs.Goes.{goes_on, goes_past, next_place, put_same}

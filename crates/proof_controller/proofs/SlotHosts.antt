@@ -9,13 +9,13 @@ use Rattle.usb_model.specs.Limits.{most_bytes}
 use Rattle.usb_model.specs.Requests.{length_of}
 use Rattle.usb_model.specs.Setup.{Setup, endpoint_id, interface_of, packet_size_of}
 use Rattle.usb_design.specs.Kept.{KeptEndpoint, KeptTransfer, trbs_of}
-use Rattle.usb_design.specs.Joining.{joined, new_kept}
+use Rattle.usb_design.specs.Joins.{joined, new_kept}
 use Rattle.usb_device.specs.Pipe.{Pipe, pipe_at}
 use Rattle.usb_transfer.specs.Tds.{tds_of}
 use Rattle.usb_transfer.specs.Trbs.{normals_of}
 use Rattle.usb_tring.specs.Line.{capacity, normals, used}
 use Rattle.usb_xhc.specs.Context.{Context}
-use Rattle.usb_xhc.specs.Hosting.{rung, state_by_doorbell, with_ring, with_pushed, with_blank, without_first}
+use Rattle.usb_xhc.specs.Host.{rung, state_by_doorbell, with_ring, with_pushed, with_blank, without_first}
 use Rattle.usb_xhc.specs.Controller.{Controller, slot_changed}
 use Rattle.usb_xhc.specs.Slots.{DeviceSlot, changed, context_of}
 use Rattle.proof_controller.specs.Endpoint.{IsContext}

@@ -9,14 +9,14 @@ use Rattle.usb_model.specs.declared.reply.Reply.TheVariants.{Idle}
 use Rattle.usb_model.specs.declared.request.Body.TheVariants.{In}
 use Rattle.usb_model.specs.Setup.{Setup, interface_of, packet_size_of}
 use Rattle.usb_design.specs.Kept.{KeptEndpoint, KeptTransfer}
-use Rattle.usb_design.specs.Handling.{find_at}
-use Rattle.usb_design.specs.Serving.{Answered, answer_now, got, packet_now, serve_at, serve_kept}
+use Rattle.usb_design.specs.Events.{find_at}
+use Rattle.usb_design.specs.Packets.{Answered, answer_now, got, packet_now, serve_at, serve_kept}
 use Rattle.usb_device.specs.Pipe.{Pipe, answer_of, pipe_at}
 use Rattle.usb_xhc.specs.declared.packet.Packet.{Packet as Told}
 use Rattle.usb_xhc.specs.declared.trb_at.TrbAt.{TrbAt}
 use Rattle.usb_xhc.specs.Context.{Context}
-use Rattle.usb_xhc.specs.Posting.{posted_all}
-use Rattle.usb_xhc.specs.Serving.{Served, working}
+use Rattle.usb_xhc.specs.Posts.{posted_all}
+use Rattle.usb_xhc.specs.Transaction.{Served, working}
 use Rattle.usb_xhc.specs.Controller.{Controller, served_at, told_at}
 use Rattle.usb_xhc.specs.Slots.{DeviceSlot, context_of, read_after}
 use Rattle.proof_controller.specs.EndpointLaws.{ServedAs, ServesAs, packet_for, pipe_behind}

@@ -3,7 +3,7 @@ use Rattle.std.specs.Prelude.{◌≡◌, ℕ, ◌+◌, ◌-◌, ◌≤◌, nat_l
 use Rattle.usb_model.specs.declared.endpoint.EndpointState.{EndpointState}
 use Rattle.usb_design.specs.Stands.{length_at, total}
 use Rattle.usb_design.specs.Kept.{KeptEndpoint, KeptTransfer}
-use Rattle.usb_design.specs.Handling.{find_at}
+use Rattle.usb_design.specs.Events.{find_at}
 use Rattle.usb_device.specs.Pipe.{Pipe}
 use Rattle.usb_xhc.specs.Context.{Context}
 use Rattle.proof_controller.specs.Line.{IsLine}

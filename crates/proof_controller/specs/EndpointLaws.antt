@@ -15,21 +15,21 @@ use Rattle.usb_trb.specs.declared.kind.TrbKind.{TrbKind}
 use Rattle.usb_trb.specs.declared.kind.TrbKind.TheVariants.{StopEndpoint, ResetEndpoint, SetDequeue, CommandCompletion}
 use Rattle.usb_segment.specs.Places.{address_of, cycle_of}
 use Rattle.usb_design.specs.Kept.{KeptEndpoint, KeptTransfer, code_of, first_place, new_kept_endpoint, trbs_of}
-use Rattle.usb_design.specs.Handling.{find_at, past_kept_blanks}
-use Rattle.usb_design.specs.Serving.{Answered, answer_now, got, packet_now, sent_before, serve_kept}
-use Rattle.usb_design.specs.Commanding as kept
-use Rattle.usb_design.specs.Joining.{joined}
+use Rattle.usb_design.specs.Events.{find_at, past_kept_blanks}
+use Rattle.usb_design.specs.Packets.{Answered, answer_now, got, packet_now, sent_before, serve_kept}
+use Rattle.usb_design.specs.Commands as kept
+use Rattle.usb_design.specs.Joins.{joined}
 use Rattle.usb_device.specs.Pipe.{Pipe, answer_of, bytes_after, pipe_after, rewound}
 use Rattle.usb_transfer.specs.Tds.{tds_of}
 use Rattle.usb_transfer.specs.Trbs.{normals_of}
 use Rattle.usb_tring.specs.Line.{IsAt, capacity, normals, place_of, places, used}
 use Rattle.usb_xhc.specs.declared.trb_at.TrbAt.{TrbAt}
 use Rattle.usb_xhc.specs.Context.{Context, configured}
-use Rattle.usb_xhc.specs.Commanding.{Carried, carried}
-use Rattle.usb_xhc.specs.Hosting.{rung, with_ring, with_pushed, with_blank, without_first}
-use Rattle.usb_xhc.specs.Serving.{Served, offset_by, packet_out, packet_room, served, served_gone, working}
+use Rattle.usb_xhc.specs.Commands.{Carried, carried}
+use Rattle.usb_xhc.specs.Host.{rung, with_ring, with_pushed, with_blank, without_first}
+use Rattle.usb_xhc.specs.Transaction.{Served, offset_by, packet_out, packet_room, served, served_gone, working}
 use Rattle.proof_controller.specs.Endpoint.{IsContext, IsFresh, IsPipe}
-use Rattle.proof_controller.specs.Told.{event_of, reply_of}
+use Rattle.proof_controller.specs.Reports.{event_of, reply_of}
 
 -- what is sent to the device
 abbrev pub packet_for : Context → NormalTrb → Body → Option (List ℕ)

@@ -13,11 +13,11 @@ use Rattle.usb_device.specs.Pipe.{Pipe, pipe_at, rewound}
 use Rattle.usb_tring.specs.Line.{places}
 use Rattle.usb_xhc.specs.Context.{Context}
 use Rattle.usb_xhc.specs.Controller.{Controller}
-use Rattle.usb_xhc.specs.Making.{ring_base}
+use Rattle.usb_xhc.specs.Made.{ring_base}
 use Rattle.usb_xhc.specs.Slots.{DeviceSlot, context_of}
 use Rattle.proof_controller.specs.Endpoint.{IsContext, IsPipe}
 use Rattle.proof_controller.specs.EndpointLaws.{start_of}
-use Rattle.proof_controller.specs.Told.{event_in}
+use Rattle.proof_controller.specs.Reports.{event_in}
 use Rattle.proof_design.specs.Shows.{Completes, Core, RingEvent, RingOrder, Transfers}
 
 -- where an endpoint's ring begins, by device and address

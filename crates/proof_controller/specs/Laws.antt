@@ -15,24 +15,24 @@ use Rattle.usb_descriptors.specs.Table.{IsTable}
 use Rattle.usb_trb.specs.declared.kind.TrbKind.{TrbKind}
 use Rattle.usb_segment.specs.Places.{index_of}
 use Rattle.usb_design.specs.Kept.{KeptEndpoint, KeptTransfer, code_of, new_kept_endpoint, trbs_of}
-use Rattle.usb_design.specs.Handling.{errand_of, find_at}
-use Rattle.usb_design.specs.Serving.{Answered, answer_now, got, packet_now, serve_kept}
-use Rattle.usb_design.specs.Commanding as kept
-use Rattle.usb_design.specs.Joining.{joined}
+use Rattle.usb_design.specs.Events.{errand_of, find_at}
+use Rattle.usb_design.specs.Packets.{Answered, answer_now, got, packet_now, serve_kept}
+use Rattle.usb_design.specs.Commands as kept
+use Rattle.usb_design.specs.Joins.{joined}
 use Rattle.usb_device.specs.Pipe.{IsLawful, Pipe, cleared, pipe_at}
 use Rattle.usb_transfer.specs.Tds.{tds_of}
 use Rattle.usb_transfer.specs.Trbs.{normals_of}
 use Rattle.usb_tring.specs.Line.{capacity, normals, used}
 use Rattle.usb_xhc.specs.declared.packet.Packet.{Packet as Told}
 use Rattle.usb_xhc.specs.Context.{Context}
-use Rattle.usb_xhc.specs.Hosting.{rung, with_ring, with_pushed, with_blank, without_first}
-use Rattle.usb_xhc.specs.Posting.{posted_one}
+use Rattle.usb_xhc.specs.Host.{rung, with_ring, with_pushed, with_blank, without_first}
+use Rattle.usb_xhc.specs.Posts.{posted_one}
 use Rattle.usb_xhc.specs.Controller.{AreLawfulAll, Controller, Run, all_renewed, run_of, served_at, slot_changed, told_at}
-use Rattle.usb_xhc.specs.Making.{slot_for}
+use Rattle.usb_xhc.specs.Made.{slot_for}
 use Rattle.usb_xhc.specs.Slots.{DeviceSlot, changed, context_of, read_after, renewed, sends}
 use Rattle.proof_controller.specs.Endpoint.{IsFresh}
 use Rattle.proof_controller.specs.EndpointLaws.{HaveTrbsOf}
-use Rattle.proof_controller.specs.Told.{reply_of}
+use Rattle.proof_controller.specs.Reports.{reply_of}
 use Rattle.proof_design.specs.Lively.{IsFine}
 use Rattle.proof_design.specs.Known.{NoMove}
 use Rattle.proof_design.specs.Shows.{RingEvent, RingOrder, event_at, order_at}

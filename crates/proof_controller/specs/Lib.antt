@@ -1,6 +1,6 @@
 pub mod Line
 pub mod Endpoint
-pub mod Told
+pub mod Reports
 pub mod EndpointLaws
 pub mod Holds
 pub mod Made

@@ -13,7 +13,7 @@ use Rattle.usb_device.specs.Pipe.{Pipe, pipe_at}
 use Rattle.usb_device.specs.Scripts.{script_by}
 use Rattle.usb_xhc.specs.Context.{Context}
 use Rattle.usb_xhc.specs.Controller.{Controller}
-use Rattle.usb_xhc.specs.Making.{ring_base}
+use Rattle.usb_xhc.specs.Made.{ring_base}
 use Rattle.usb_xhc.specs.Slots.{DeviceSlot, context_of}
 
 -- the ring of an endpoint of which the configuration of device d says this: one where transfers can go

@@ -8,7 +8,7 @@
 //! - specs/ Line: a transfer's TRBs, or as many No Ops; a ring that holds a line, up to the enqueue place, with its
 //!   dequeue pointer at a place
 //! - specs/ Endpoint: a context that is a kept endpoint's; a device's endpoint that is
-//! - specs/ Told: an event of the event ring for what `usb_design` tells; a reply for what the controller tells of a
+//! - specs/ Reports: an event of the event ring for what `usb_design` tells; a reply for what the controller tells of a
 //!   packet
 //! - specs/ EndpointLaws: the statements of the nine laws of `endpoint_laws.rt`
 //! - specs/ Holds: an endpoint of a slot, with a ring or without; a slot; an order and an event as their TRBs; the

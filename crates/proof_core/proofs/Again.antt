@@ -17,21 +17,21 @@ use Rattle.usb_model.specs.Machine.Calls.{callback_of}
 use Rattle.usb_model.specs.Setup.{Setup, endpoint_id}
 use Rattle.usb_model.specs.World.{World}
 use Rattle.usb_transfer.specs.Tds.{Tds}
-use Rattle.usb_callers.specs.Caller.{Kept as Caller, is_one_of}
-use Rattle.usb_callers.specs.Callers.{SameCallbacks, SameNumbers, SameResults, callback_at, callbacks_at, is_there, number_of}
-use Rattle.proof_design.specs.Calling.{answer_core, called_back, step_core}
+use Rattle.usb_tables.specs.Caller.{Kept as Caller, is_one_of}
+use Rattle.usb_tables.specs.Callers.{SameCallbacks, SameNumbers, SameResults, callback_at, callbacks_at, is_there, number_of}
+use Rattle.proof_design.specs.Calls.{answer_core, called_back, step_core}
 use Rattle.proof_design.specs.Shows.{Core, Shows}
-use Rattle.proof_design.specs.Stepping.{Stepped}
+use Rattle.proof_design.specs.Steps.{Stepped}
 use Rattle.proof_core.specs.Calls.{Stays}
 use Rattle.proof_core.specs.Handles.{says}
 use Rattle.proof_core.specs.State.{IsState, Keeps, State}
-use Rattle.proof_core.specs.Steps.{Does, Is}
-use Rattle.proof_core.specs.Submitting.{Admits, CanStart, RefusesIt, submits}
+use Rattle.proof_core.specs.Steps.{DoesCoreStep, Is}
+use Rattle.proof_core.specs.Submissions.{Admits, CanStart, RefusesIt, submits}
 use Rattle.proof_core.specs.Works.{Starts}
 use Rattle.proof_core.proofs.Called.{found_number, round_called}
-use Rattle.proof_core.proofs.Naming.{stays}
-use Rattle.proof_core.proofs.Stopping.{Ended, keeps_ended}
-use Rattle.proof_core.proofs.Submitting.{submit_is, submit_refused}
+use Rattle.proof_core.proofs.Names.{stays}
+use Rattle.proof_core.proofs.Stops.{Ended, keeps_ended}
+use Rattle.proof_core.proofs.Submissions.{submit_is, submit_refused}
 
 -- what is submitted once more, by the verdict
 abbrev pub again_of : Verdict → InCallback → Option Request
@@ -64,14 +64,14 @@ put_callbacks old amid new h n x number found ended put g k =
 
 module _ {P : Type 0} where
   -- there is no such callback
-  pub again_none : (s : State P) (h n : ℕ) (verdict : Verdict) → callback_at s.callers h n ≡ None → Does s (Answer h n verdict) (says h (Refused NotFound)) s
+  pub again_none : (s : State P) (h n : ℕ) (verdict : Verdict) → callback_at s.callers h n ≡ None → DoesCoreStep s (Answer h n verdict) (says h (Refused NotFound)) s
   unfolding step_core answer_core
   again_none s h n verdict none setup w c keeps shows =
       subst (λ (v : Option InCallback). Is setup (answer_core setup c h (Answer h n verdict) verdict v) (says h (Refused NotFound)) s) (sym ((keeps.named h).callback n ∙ none)) (refl, keeps)
 
   -- the submission is refused: the callback goes on
   pub again_refused : (s : State P) (h n : ℕ) (verdict : Verdict) (x : InCallback) (request : Request) (why : Why) → callback_at s.callers h n ≡ Some x → again_of verdict x ≡ Some request
-      → ((setup : Setup) (w : World) (c : Core) → Keeps setup s c → Shows setup w c → RefusesIt setup c h request why) → Does s (Answer h n verdict) (says h (Refused why)) s
+      → ((setup : Setup) (w : World) (c : Core) → Keeps setup s c → Shows setup w c → RefusesIt setup c h request why) → DoesCoreStep s (Answer h n verdict) (says h (Refused why)) s
   again_refused s h n verdict x request why found is refused setup w c keeps shows =
       subst (λ (t : Stepped). Is setup t (says h (Refused why)) s) (sym (again_is setup c h n verdict x request ((keeps.named h).callback n ∙ found) is))
       (submit_refused setup s c h request why (called_back c h x.n) (Answer h n verdict) (x.round + 1) keeps (refused setup w c keeps shows))
@@ -79,7 +79,7 @@ module _ {P : Type 0} where
   -- it is accepted: the callback ends, and the transfer joins its line
   pub again_joins : (old new : State P) (callers : List Caller) (h d n k : ℕ) (verdict : Verdict) (x : InCallback) (request : Request) (tds : Tds) → callback_at old.callers h n ≡ Some x → again_of verdict x ≡ Some request
       → Ended old.callers callers h n → ((setup : Setup) (w : World) (c : Core) → Keeps setup old c → Shows setup w c → Admits setup old c h d request tds)
-      → Starts (record old { callers = callers }) new h d request.ep request (x.round + 1) → k ≡ number_of callers h → Does old (Answer h n verdict) (says h (Number k)) new
+      → Starts (record old { callers = callers }) new h d request.ep request (x.round + 1) → k ≡ number_of callers h → DoesCoreStep old (Answer h n verdict) (says h (Number k)) new
   again_joins old new callers h d n k verdict x request tds found is ended admits starts given setup w c keeps shows =
       subst (λ (t : Stepped). Is setup t (says h (Number k)) new) (sym (again_is setup c h n verdict x request here is))
       (submit_is setup old (record old { callers = callers }) new c h d k request tds (called_back c h x.n) (Answer h n verdict) (x.round + 1) refl refl (admits setup w c keeps shows) refl

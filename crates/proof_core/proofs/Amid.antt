@@ -9,9 +9,9 @@ use Rattle.usb_model.specs.declared.result.TransferResult.{TransferResult}
 use Rattle.usb_model.specs.declared.step.Step.{Step}
 use Rattle.usb_model.specs.Setup.{Setup}
 use Rattle.usb_design.specs.Kept.{KeptEndpoint}
-use Rattle.usb_design.specs.Handling.{posts}
+use Rattle.usb_design.specs.Events.{posts}
 use Rattle.proof_design.specs.Shows.{Core}
-use Rattle.proof_design.specs.Stepping.{handle_work, worked}
+use Rattle.proof_design.specs.Steps.{handle_work, worked}
 use Rattle.proof_controller.specs.Holds.{with_end}
 use Rattle.proof_controller.proofs.Ends.{here}
 use Rattle.proof_core.specs.State.{Keeps, State}

@@ -11,8 +11,8 @@ use Rattle.usb_model.specs.World.{World}
 use Rattle.usb_design.specs.Kept.{KeptTransfer}
 use Rattle.usb_xhc.specs.Context.{Context}
 use Rattle.usb_transfer.specs.declared.transfer.Transfer.{Transfer as InFlight}
-use Rattle.usb_flight.specs.Flights.{item_at}
-use Rattle.proof_design.specs.Calling.{is_kept_it}
+use Rattle.usb_tables.specs.Flights.{item_at}
+use Rattle.proof_design.specs.Calls.{is_kept_it}
 use Rattle.proof_design.specs.Shows.{Core, Shows}
 use Rattle.proof_design.proofs.Bounds.{few_everywhere}
 use Rattle.proof_design.proofs.Numbers.{numbers_once}

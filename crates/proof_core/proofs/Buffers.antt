@@ -13,7 +13,8 @@ use Rattle.usb_tring.specs.Line.{normals}
 use Rattle.usb_xhc.specs.Context.{Context}
 use Rattle.usb_xhc.specs.Controller.{Controller, slot_changed}
 use Rattle.usb_xhc.specs.Slots.{DeviceSlot, changed, context_by}
-use Rattle.usb_flight.specs.Flights.{keys_at, lane_at, line_at, with_keys, with_line}
+use Rattle.usb_tables.specs.ByEndpoint.{lane_at}
+use Rattle.usb_tables.specs.Flights.{keys_at, line_at, with_keys, with_line}
 use Rattle.proof_controller.proofs.Ids.{id-lt}
 use Rattle.proof_core.specs.State.{AllNameBuffers, NameBuffers, NamesBuffer, State}
 use Rattle.proof_core.specs.Works.{context_in}

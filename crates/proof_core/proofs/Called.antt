@@ -18,7 +18,7 @@ use Rattle.proof_invariants.proofs.Bounds.Runs.{keeps_bounds}
 use Rattle.proof_invariants.proofs.Places.Placed.{IsPlaced}
 use Rattle.proof_invariants.proofs.Places.Runs.{kept_at}
 use Rattle.proof_design.specs.Shows.{Core, Shows}
-use Rattle.proof_design.proofs.Linking.{machine_parts}
+use Rattle.proof_design.proofs.Links.{machine_parts}
 
 -- the numbers of transfers in callbacks
 abbrev pub numbers_in : List InCallback → List ℕ

@@ -7,13 +7,14 @@ use Rattle.usb_model.specs.declared.result.TransferResult.{TransferResult}
 use Rattle.usb_model.specs.Setup.{Setup, endpoint_id, interface_of}
 use Rattle.usb_model.specs.World.{Claims, holder}
 use Rattle.usb_model.specs.World.Shared.{pieces_of}
-use Rattle.usb_claims.specs.Holding.{Holding, device_of, owner_of}
+use Rattle.usb_claims.specs.Holders.{Holding, device_of, owner_of}
 use Rattle.usb_claims.specs.Tables.{is_plain}
 use Rattle.usb_design.specs.Kept.{KeptEndpoint}
-use Rattle.usb_cancel.specs.Outstanding.{sent_at}
-use Rattle.usb_callers.specs.Caller.{Kept as Caller}
-use Rattle.usb_callers.specs.Callers.{callback_at, callbacks_at, number_of, results_at}
-use Rattle.usb_flight.specs.Flights.{lane_at, line_at}
+use Rattle.usb_tables.specs.Outstanding.{sent_at}
+use Rattle.usb_tables.specs.Caller.{Kept as Caller}
+use Rattle.usb_tables.specs.Callers.{callback_at, callbacks_at, number_of, results_at}
+use Rattle.usb_tables.specs.ByEndpoint.{lane_at}
+use Rattle.usb_tables.specs.Flights.{line_at}
 use Rattle.proof_design.specs.Shows.{Core}
 use Rattle.proof_controller.specs.Holds.{HoldsCore}
 use Rattle.proof_core.specs.State.{AllItems, Keeps, KeepsEnd, KeepsName, NameBuffers, State, result_of}

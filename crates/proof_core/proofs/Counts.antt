@@ -10,10 +10,10 @@ use Rattle.usb_model.specs.Machine.{is_result_at}
 use Rattle.usb_model.specs.Setup.{endpoint_id}
 use Rattle.usb_model.specs.World.Shared.{pieces_of, tagged}
 use Rattle.proof_lemmas.proofs.Lists.Pieces.{pieces_of-append}
-use Rattle.usb_claims.specs.Holding.{Holding, device_of}
+use Rattle.usb_claims.specs.Holders.{Holding, device_of}
 use Rattle.usb_claims.specs.Tables.{is_plain}
-use Rattle.usb_callers.specs.Caller.{Kept as Caller}
-use Rattle.usb_callers.specs.Callers.{SameCallbacks, SameCounts, SameNumbers, is_there, results_at}
+use Rattle.usb_tables.specs.Caller.{Kept as Caller}
+use Rattle.usb_tables.specs.Callers.{SameCallbacks, SameCounts, SameNumbers, is_there, results_at}
 use Rattle.proof_controller.proofs.Ids.{same_id}
 use Rattle.proof_core.specs.State.{KeepsName, State}
 

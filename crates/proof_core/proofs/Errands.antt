@@ -16,14 +16,15 @@ use Rattle.usb_tring.specs.Line.{place_of, places}
 use Rattle.usb_design.specs.Kept.{KeptEndpoint, KeptTransfer, SentErrand, first_place}
 use Rattle.proof_controller.specs.EndpointLaws.{start_of}
 use Rattle.usb_transfer.specs.declared.transfer.Transfer.{Transfer as InFlight}
-use Rattle.usb_cancel.specs.declared.outstanding.Sent.{Sent}
-use Rattle.usb_cancel.specs.Outstanding.{sent_at}
+use Rattle.usb_tables.specs.declared.outstanding.Sent.{Sent}
+use Rattle.usb_tables.specs.Outstanding.{sent_at}
 use Rattle.usb_xhc.specs.Context.{Context}
-use Rattle.usb_xhc.specs.Hosting.{rung}
-use Rattle.usb_xhc.specs.Posting.{posted_one}
+use Rattle.usb_xhc.specs.Host.{rung}
+use Rattle.usb_xhc.specs.Posts.{posted_one}
 use Rattle.usb_xhc.specs.Controller.{Controller, slot_changed}
 use Rattle.usb_xhc.specs.Slots.{DeviceSlot, changed, context_of}
-use Rattle.usb_flight.specs.Flights.{lane_at, line_at}
+use Rattle.usb_tables.specs.ByEndpoint.{lane_at}
+use Rattle.usb_tables.specs.Flights.{line_at}
 use Rattle.proof_controller.proofs.Where.{address, cycle}
 use Rattle.proof_design.specs.Shows.{Core, order_at}
 use Rattle.proof_controller.specs.Holds.{HasRing, Holds, HoldsCore, IsPosted, ring_at, with_end}

@@ -7,9 +7,9 @@ use Rattle.usb_model.specs.declared.handle.Handle.{Handle}
 use Rattle.usb_model.specs.Setup.{Setup, interface_of}
 use Rattle.usb_model.specs.World.{Claims, World, holder, is_its}
 use Rattle.usb_design.specs.Kept.{KeptEndpoint}
-use Rattle.usb_claims.specs.Holding.{Holding, device_of}
+use Rattle.usb_claims.specs.Holders.{Holding, device_of}
 use Rattle.proof_design.specs.Shows.{Core, Shows}
-use Rattle.proof_design.proofs.Linking.{known}
+use Rattle.proof_design.proofs.Links.{known}
 use Rattle.proof_core.specs.Handles.{IsLeft, NameRests, StaysHeld, StaysLeft}
 use Rattle.proof_core.specs.State.{Keeps, State}
 

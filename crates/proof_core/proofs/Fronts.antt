@@ -11,8 +11,8 @@ use Rattle.usb_model.specs.Setup.{Setup}
 use Rattle.usb_model.specs.declared.request.Request.{Request}
 use Rattle.usb_model.specs.World.{Claims, World, holder}
 use Rattle.usb_design.specs.Kept.{KeptEndpoint, KeptTransfer}
-use Rattle.usb_design.specs.Handling.{find_at}
-use Rattle.usb_design.specs.Serving.{sent_before, serve_kept}
+use Rattle.usb_design.specs.Events.{find_at}
+use Rattle.usb_design.specs.Packets.{sent_before, serve_kept}
 use Rattle.usb_device.specs.Pipe.{answer_of, pipe_at}
 use Rattle.usb_transfer.specs.declared.transfer.Transfer.{Transfer as InFlight}
 use Rattle.usb_transfer.specs.Tds.{room_of}
@@ -20,15 +20,15 @@ use Rattle.usb_tring.specs.Line.{IsAt as IsInRing, places}
 use Rattle.usb_segment.specs.Places.{address_of}
 use Rattle.usb_xhc.specs.declared.trb_at.TrbAt.{TrbAt}
 use Rattle.usb_xhc.specs.Context.{Context}
-use Rattle.usb_xhc.specs.Serving.{is_running, offset_by, packet_room, trb_at, working}
+use Rattle.usb_xhc.specs.Transaction.{is_running, offset_by, packet_room, trb_at, working}
 use Rattle.usb_xhc.specs.Controller.{Controller}
 use Rattle.usb_xhc.specs.Slots.{DeviceSlot, context_of}
-use Rattle.usb_flight.specs.Serving.{CanServe}
+use Rattle.proof_core.specs.Packets.{CanServe}
 use Rattle.proof_controller.specs.EndpointLaws.{ServedAs, ServesAs, served_here}
 use Rattle.proof_controller.proofs.Serves as match
 use Rattle.proof_controller.proofs.Where as where_
 use Rattle.proof_design.specs.Shows.{Core, Shows}
-use Rattle.proof_design.proofs.Running.{fresh_while_running, reads_so_far}
+use Rattle.proof_design.proofs.RunningEndpoints.{fresh_while_running, reads_so_far}
 use Rattle.proof_controller.specs.Holds.{HasRing, RingIs}
 use Rattle.proof_core.specs.State.{State}
 use Rattle.proof_core.specs.Works.{CanServeItem, IsAt, IsFront, context_in}

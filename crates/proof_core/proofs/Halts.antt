@@ -10,19 +10,19 @@ use Rattle.usb_model.specs.Setup.{Setup, endpoint_id}
 use Rattle.usb_model.specs.World.{World, is_its}
 use Rattle.usb_model.specs.World.Shared.{pieces_of}
 use Rattle.usb_design.specs.Kept.{KeptEndpoint}
-use Rattle.usb_claims.specs.Holding.{device_of}
+use Rattle.usb_claims.specs.Holders.{device_of}
 use Rattle.usb_device.specs.Pipe.{cleared, pipe_at}
 use Rattle.usb_xhc.specs.Controller.{Controller, slot_changed}
-use Rattle.usb_flight.specs.Flights.{line_at}
+use Rattle.usb_tables.specs.Flights.{line_at}
 use Rattle.proof_design.specs.Shows.{Core, Shows}
-use Rattle.proof_design.specs.Stepping.{handle_work, worked}
-use Rattle.proof_design.specs.Calling as calling
-use Rattle.proof_design.specs.Calling.{calls, clear_core, is_gone, kept_at, own_kept, step_core, unhalted}
+use Rattle.proof_design.specs.Steps.{handle_work, worked}
+use Rattle.proof_design.specs.Calls as calling
+use Rattle.proof_design.specs.Calls.{calls, clear_core, is_gone, kept_at, own_kept, step_core, unhalted}
 use Rattle.proof_controller.proofs.Ends.{here}
 use Rattle.proof_controller.proofs.Renews.{hosts}
 use Rattle.proof_core.specs.Handles.{first_why, gone_in, says}
 use Rattle.proof_core.specs.State.{Keeps, KeepsEnd, State}
-use Rattle.proof_core.specs.Steps.{Does, Is, amid}
+use Rattle.proof_core.specs.Steps.{DoesCoreStep, Is, amid}
 use Rattle.proof_core.specs.Works.{IsAt, IsHolder, with_kept}
 use Rattle.proof_core.proofs.Amid.{keeps_as, rests_amid}
 use Rattle.proof_core.proofs.Buffers.{buffers_same}
@@ -32,7 +32,7 @@ use Rattle.proof_core.proofs.Gone.{gone_is}
 use Rattle.proof_core.proofs.Held.{holder_is, is_at}
 use Rattle.proof_core.proofs.Lanes.{with_other}
 use Rattle.proof_core.proofs.Lines.{as_many}
-use Rattle.proof_core.proofs.Refusing.{accepted_is, refused_is}
+use Rattle.proof_core.proofs.Refusals.{accepted_is, refused_is}
 use Rattle.proof_core.proofs.Ringed.{rings_changed}
 use Rattle.proof_core.proofs.Transfers.{end_at}
 
@@ -46,13 +46,13 @@ halt_tests c h b = (is_gone c h, NoDevice) ∷ (not (length b.line == 0), Busy) 
 
 module _ {P : Type 0} where
   -- no device is open
-  pub halts_none : (s : State P) (h e : ℕ) → device_of s.claims h ≡ None → Does s (ClearHalt h e) (says h (Refused NotFound)) s
+  pub halts_none : (s : State P) (h e : ℕ) → device_of s.claims h ≡ None → DoesCoreStep s (ClearHalt h e) (says h (Refused NotFound)) s
   unfolding step_core clear_core
   halts_none s h e none setup w c keeps shows =
       subst (λ (o : Option KeptEndpoint). Is setup (clear_core setup c h e o) (says h (Refused NotFound)) s) (sym (ap (λ (o : Option ℕ). option_and_then (λ dev. own_kept setup c h dev e) o) ((keeps.named h).device ∙ none))) (refl, keeps)
 
   -- the endpoint isn't the name's
-  pub halts_others : (s : State P) (h d e : ℕ) (o : Option ℕ) → device_of s.claims h ≡ Some d → IsHolder s d e o → is_its h o ≡ false → Does s (ClearHalt h e) (says h (Refused NotFound)) s
+  pub halts_others : (s : State P) (h d e : ℕ) (o : Option ℕ) → device_of s.claims h ≡ Some d → IsHolder s d e o → is_its h o ≡ false → DoesCoreStep s (ClearHalt h e) (says h (Refused NotFound)) s
   unfolding step_core clear_core
   halts_others s h d e o device held other setup w c keeps shows =
       subst (λ (x : Option KeptEndpoint). Is setup (clear_core setup c h e x) (says h (Refused NotFound)) s)
@@ -72,7 +72,7 @@ module _ {P : Type 0} where
   gone_of setup w s c h d keeps shows device = ap (λ (o : Option ℕ). c.gone (unwrap_or o 0)) ((keeps.named h).device ∙ device) ∙ sym (gone_is setup w s c d keeps shows)
 
   -- the device is gone
-  pub halts_gone : (s : State P) (h d e : ℕ) (o : Option ℕ) → device_of s.claims h ≡ Some d → IsHolder s d e o → is_its h o ≡ true → gone_in s.controller d ≡ true → Does s (ClearHalt h e) (says h (Refused NoDevice)) s
+  pub halts_gone : (s : State P) (h d e : ℕ) (o : Option ℕ) → device_of s.claims h ≡ Some d → IsHolder s d e o → is_its h o ≡ true → gone_in s.controller d ≡ true → DoesCoreStep s (ClearHalt h e) (says h (Refused NoDevice)) s
   unfolding step_core clear_core
   halts_gone s h d e o device held its left setup w c keeps shows =
       let at = mine_at setup s c h d e o keeps held its in
@@ -88,7 +88,7 @@ module _ {P : Type 0} where
       (sym (as_many (Some h) e (line_at s.flights d e) (c.endpoints d e).line (end_at setup s c h d e at).line))
 
   -- a transfer is in the line
-  pub halts_busy : (s : State P) (h d e : ℕ) (o : Option ℕ) → device_of s.claims h ≡ Some d → IsHolder s d e o → is_its h o ≡ true → gone_in s.controller d ≡ false → 0 < length (line_at s.flights d e) → Does s (ClearHalt h e) (says h (Refused Busy)) s
+  pub halts_busy : (s : State P) (h d e : ℕ) (o : Option ℕ) → device_of s.claims h ≡ Some d → IsHolder s d e o → is_its h o ≡ true → gone_in s.controller d ≡ false → 0 < length (line_at s.flights d e) → DoesCoreStep s (ClearHalt h e) (says h (Refused Busy)) s
   unfolding step_core clear_core
   halts_busy s h d e o device held its still some setup w c keeps shows =
       let at = mine_at setup s c h d e o keeps held its in
@@ -137,7 +137,7 @@ module _ {P : Type 0} where
 
   -- it is cleared
   halts_it : (s : State P) (h d e : ℕ) (o : Option ℕ) → device_of s.claims h ≡ Some d → IsHolder s d e o → is_its h o ≡ true → gone_in s.controller d ≡ false → length (line_at s.flights d e) ≡ 0
-      → Does s (ClearHalt h e) (says h Done) (record s { controller = unhalted_by s.controller d e })
+      → DoesCoreStep s (ClearHalt h e) (says h Done) (record s { controller = unhalted_by s.controller d e })
   unfolding step_core clear_core
   halts_it s h d e o device held its still none setup w c keeps shows =
       let at = mine_at setup s c h d e o keeps held its in
@@ -149,8 +149,8 @@ module _ {P : Type 0} where
       (refl, subst (λ (dev : ℕ). Keeps setup new (worked h (c.names h) dev e (ClearHalt h e) (handle_work (unhalted (c.endpoints d e))) c)) (sym (ap (λ (x : Option ℕ). unwrap_or x 0) ((keeps.named h).device ∙ device))) (cleared_core setup s c h d e at)))
 
   pub halts_now : (now s : State P) (h d e : ℕ) (o : Option ℕ) (k : Controller) → s ≡ now → device_of now.claims h ≡ Some d → IsHolder now d e o → is_its h o ≡ true → gone_in now.controller d ≡ false → length (line_at now.flights d e) ≤ 0
-      → k ≡ unhalted_by s.controller d e → Does now (ClearHalt h e) (says h Done) (record s { controller = k })
+      → k ≡ unhalted_by s.controller d e → DoesCoreStep now (ClearHalt h e) (says h Done) (record s { controller = k })
   halts_now now s h d e o k same device held its still none is =
-      subst₂ (λ (x : State P) (y : Controller). Does x (ClearHalt h e) (says h Done) (record s { controller = y })) same (sym is)
+      subst₂ (λ (x : State P) (y : Controller). DoesCoreStep x (ClearHalt h e) (says h Done) (record s { controller = y })) same (sym is)
       (halts_it s h d e o (ap (λ (x : State P). device_of x.claims h) same ∙ device) (subst (λ (x : State P). IsHolder x d e o) (sym same) held) its
       (ap (λ (x : State P). gone_in x.controller d) same ∙ still) (ap (λ (x : State P). length (line_at x.flights d e)) same ∙ omega (arith, none)))

@@ -6,7 +6,7 @@ use Rattle.std.specs.Option.{option_and_then, option_map_or, unwrap_or}
 use Rattle.std.proofs.lemmas.Option.{same_Some, slice_get-map}
 use Rattle.usb_model.specs.declared.setup.Configuration.{Configuration}
 use Rattle.usb_model.specs.declared.setup.DeviceSetup.{DeviceSetup}
-use Rattle.usb_claims.specs.Holding.{device_of as device_at}
+use Rattle.usb_claims.specs.Holders.{device_of as device_at}
 use Rattle.std.proofs.lemmas.Bool.{ltb-true}
 use Rattle.std.proofs.lemmas.List.Quantifiers.{position-Some}
 use Rattle.usb_model.specs.declared.setup.EndpointInfo.{EndpointInfo}
@@ -14,9 +14,9 @@ use Rattle.usb_model.specs.Setup.{Setup, endpoints_of}
 use Rattle.usb_model.specs.World.{holder, is_its}
 use Rattle.usb_design.specs.Kept.{KeptEndpoint, KeptTransfer}
 use Rattle.usb_transfer.specs.declared.transfer.Transfer.{Transfer as InFlight}
-use Rattle.usb_flight.specs.Flights.{is_number, line_at}
+use Rattle.usb_tables.specs.Flights.{is_number, line_at}
 use Rattle.proof_design.specs.Shows.{Core}
-use Rattle.proof_design.specs.Calling.{device_of, home_by, home_in, is_kept_it, kept_home, kept_in_progress, own_kept}
+use Rattle.proof_design.specs.Calls.{device_of, home_by, home_in, is_kept_it, kept_home, kept_in_progress, own_kept}
 use Rattle.proof_core.specs.State.{AllItems, IsItem, Keeps, State}
 use Rattle.proof_core.specs.Steps.{InLine, IsHome, IsInLine}
 use Rattle.proof_core.specs.Works.{IsAt}

@@ -3,9 +3,10 @@ use Rattle.std.proofs.Common.{◌≡◌, ℕ, ◌<◌, ◌≤◌, refl, sym, ari
 use Rattle.std.specs.Prelude.{slice_set}
 use Rattle.usb_model.specs.Setup.{Setup, endpoint_id, interface_of}
 use Rattle.usb_claims.specs.Tables.{is_plain}
-use Rattle.usb_cancel.specs.declared.outstanding.Sent.{Sent}
-use Rattle.usb_cancel.specs.Outstanding.{sent_at}
-use Rattle.usb_flight.specs.Flights.{Flights, lane_at, line_at, with_line}
+use Rattle.usb_tables.specs.declared.outstanding.Sent.{Sent}
+use Rattle.usb_tables.specs.Outstanding.{sent_at}
+use Rattle.usb_tables.specs.ByEndpoint.{lane_at}
+use Rattle.usb_tables.specs.Flights.{Flights, line_at, with_line}
 use Rattle.std.proofs.lemmas.Bool.{cases_eq}
 use Rattle.usb_design.specs.Kept.{KeptEndpoint, KeptTransfer}
 use Rattle.proof_controller.specs.EndpointLaws.{HaveTrbsOf}

@@ -4,7 +4,7 @@ use Rattle.std.specs.Prelude.{slice_get, slice_set, slice_index_or, is_none, ifâ
 use Rattle.std.specs.List.{prefix_len}
 use Rattle.std.proofs.lemmas.Option.{same_Some}
 use Rattle.usb_design.specs.Kept.{KeptTransfer}
-use Rattle.usb_design.specs.Handling.{past_kept_blanks}
+use Rattle.usb_design.specs.Events.{past_kept_blanks}
 use Rattle.usb_transfer.specs.declared.transfer.Transfer.{Transfer as InFlight}
 use Rattle.proof_core.specs.State.{AllItems, IsItem}
 

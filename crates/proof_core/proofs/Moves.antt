@@ -12,10 +12,10 @@ use Rattle.usb_model.specs.World.{World, holder}
 use Rattle.usb_design.specs.Kept.{SentErrand}
 use Rattle.proof_design.specs.Known.{NoMove}
 use Rattle.proof_design.specs.Lively.{IsFine}
-use Rattle.proof_design.specs.Showing.{orders_sent}
+use Rattle.proof_design.specs.ShownEndpoint.{orders_sent}
 use Rattle.proof_design.specs.Shows.{At, Core, Shows, at, errands, here, ring_order}
 use Rattle.proof_design.proofs.Glue.{same_holder}
-use Rattle.proof_design.proofs.Linking.{known}
+use Rattle.proof_design.proofs.Links.{known}
 use Rattle.proof_design.proofs.Rests.{none_there}
 
 -- where none waits at an endpoint none moves there

@@ -10,18 +10,18 @@ use Rattle.usb_model.specs.declared.step.Step.TheVariants.{Serve}
 use Rattle.usb_model.specs.Setup.{Setup}
 use Rattle.usb_model.specs.World.{Claims, World, holder}
 use Rattle.usb_design.specs.Kept.{KeptEndpoint}
-use Rattle.usb_design.specs.Serving.{Answered}
+use Rattle.usb_design.specs.Packets.{Answered}
 use Rattle.usb_device.specs.Pipe.{answer_of, pipe_at}
-use Rattle.usb_xhc.specs.declared.packet.Packet.{Packet as Told}
+use Rattle.usb_xhc.specs.declared.packet.Packet.{Packet as ServedPacket}
 use Rattle.usb_xhc.specs.declared.trb_at.TrbAt.{TrbAt}
 use Rattle.usb_xhc.specs.Context.{Context}
-use Rattle.usb_xhc.specs.Serving.{working}
+use Rattle.usb_xhc.specs.Transaction.{working}
 use Rattle.usb_xhc.specs.Controller.{Controller, told_at}
 use Rattle.usb_xhc.specs.Slots.{DeviceSlot, context_of, serving, serving_at}
-use Rattle.proof_controller.specs.Told.{reply_of}
+use Rattle.proof_controller.specs.Reports.{reply_of}
 use Rattle.proof_design.specs.Shows.{Core, Shows}
-use Rattle.proof_design.specs.Stepping.{Stepped, answer_work, serve_core, serve_held, works}
-use Rattle.proof_design.proofs.Running.{fresh_while_running}
+use Rattle.proof_design.specs.Steps.{Stepped, answer_work, serve_core, serve_held, works}
+use Rattle.proof_design.proofs.RunningEndpoints.{fresh_while_running}
 use Rattle.proof_controller.specs.Laws as slots
 use Rattle.proof_controller.proofs.SlotServes.{serves}
 use Rattle.proof_core.specs.State.{Keeps, State}
@@ -88,7 +88,7 @@ module _ {P : Type 0} where
       holds = ap (λ (g : Claims). holder setup g d e) (sym shows.claims) ∙ at.holds
 
       rests : packet_of setup c d e ≡ record { reply = Idle; endpoint = c.endpoints d e; told = [] }
-      rests = (subst (λ (o : Option Told). slots.Serves setup s.controller c.gone c.endpoints c.orders c.events c.posted d e o (packet_of setup c d e)) nothing
+      rests = (subst (λ (o : Option ServedPacket). slots.Serves setup s.controller c.gone c.endpoints c.orders c.events c.posted d e o (packet_of setup c d e)) nothing
           (serves setup s.controller c.gone c.endpoints c.orders c.events c.posted d e at.interface at.keeps.plain at.keeps.held at.there (fresh_while_running setup w c shows at.keeps.fine h d e holds))).0
 
       same : (works h d e (Serve d e) (answer_work (record { reply = Idle; endpoint = c.endpoints d e; told = [] })) c).core ≡ c
@@ -104,7 +104,7 @@ module _ {P : Type 0} where
       })
 
   -- a packet of the transfer where it works
-  pub serves_packet : (setup : Setup) (w : World) (old new : State P) (c : Core) (h d e item n : ℕ) (told : Told) → IsAt setup old c h d e → Shows setup w c → IsFront old d e (Some item) → MovesPacket old new h d e item n told
+  pub serves_packet : (setup : Setup) (w : World) (old new : State P) (c : Core) (h d e item n : ℕ) (told : ServedPacket) → IsAt setup old c h d e → Shows setup w c → IsFront old d e (Some item) → MovesPacket old new h d e item n told
       → Is setup (serve_core setup c d e) (record { owner = Some h; reply = reply_of n told }) new
   serves_packet setup w old new c h d e item n told at shows front moves = (
     ap entry_of (sym (moves setup w c at shows front).0) ∙ sym (ap (λ (t : Stepped). t.entry) (served_held setup old c h d e at)),

@@ -12,12 +12,12 @@ use Rattle.usb_model.specs.World.{holder, is_its}
 use Rattle.usb_model.specs.World.Shared.{pieces_of}
 use Rattle.usb_design.specs.Kept.{KeptEndpoint, KeptTransfer, SentErrand}
 use Rattle.usb_claims.specs.Tables.{is_plain}
-use Rattle.usb_cancel.specs.declared.outstanding.Sent.{Sent}
-use Rattle.usb_cancel.specs.Outstanding.{sent_at}
-use Rattle.usb_flight.specs.Flights.{line_at}
-use Rattle.usb_callers.specs.Callers.{callbacks_at, results_at}
+use Rattle.usb_tables.specs.declared.outstanding.Sent.{Sent}
+use Rattle.usb_tables.specs.Outstanding.{sent_at}
+use Rattle.usb_tables.specs.Flights.{line_at}
+use Rattle.usb_tables.specs.Callers.{callbacks_at, results_at}
 use Rattle.proof_design.specs.Shows.{Core}
-use Rattle.proof_design.specs.Calling.{are_quiet, is_quiet, kept_at, own_kept, results_of}
+use Rattle.proof_design.specs.Calls.{are_quiet, is_quiet, kept_at, own_kept, results_of}
 use Rattle.proof_core.specs.Handles.{AreQuiet, FirstQuiet, IsLeft, IsQuiet, is_among, quiet_in, rests_at}
 use Rattle.proof_core.specs.State.{Keeps, KeepsEnd, KeepsName, State, in_ring}
 use Rattle.proof_core.specs.Works.{IsAt, IsHolder}

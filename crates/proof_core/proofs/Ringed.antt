@@ -13,10 +13,10 @@ use Rattle.usb_trb.specs.declared.kind.TrbKind.{TrbKind}
 use Rattle.usb_trb.specs.declared.kind.TrbKind.TheVariants.{CommandCompletion, Link, NoOp, Normal, ResetEndpoint, SetDequeue, StopEndpoint, TransferEvent}
 use Rattle.usb_device.specs.Pipe.{answer_of, pipe_at, rewound}
 use Rattle.usb_xhc.specs.declared.trb_at.TrbAt.{TrbAt}
-use Rattle.usb_xhc.specs.Commanding.{before, carried, move_in, moved_at, reset_in, stop_in}
-use Rattle.usb_xhc.specs.Posting.{posted_all}
+use Rattle.usb_xhc.specs.Commands.{before, carried, move_in, moved_at, reset_in, stop_in}
+use Rattle.usb_xhc.specs.Posts.{posted_all}
 use Rattle.usb_xhc.specs.Context.{Context, gone_on, gone_past}
-use Rattle.usb_xhc.specs.Serving.{Served, packet_in, served, served_by, served_gone, working}
+use Rattle.usb_xhc.specs.Transaction.{Served, packet_in, served, served_by, served_gone, working}
 use Rattle.usb_xhc.specs.Controller.{Controller, Run, carried_at, endpoint_in, run_of, served_at, slot_changed}
 use Rattle.usb_xhc.specs.Slots.{DeviceSlot, as_made, changed, context_by, context_of, events_after, order_events, renewed, serving_at, slot_after}
 use Rattle.proof_controller.proofs.Lookups.{get_set, get_set_other}

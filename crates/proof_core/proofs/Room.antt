@@ -7,7 +7,7 @@ use Rattle.usb_trb.specs.declared.kind.TrbKind.{TrbKind}
 use Rattle.usb_design.specs.Kept.{InRow, KeptTransfer, first_place, is_extra, trbs_of}
 use Rattle.usb_tring.specs.Line.{Line, all_of, capacity, used}
 use Rattle.proof_controller.specs.Line.{AllItems, IsLine}
-use Rattle.proof_design.specs.Showing.{AllFew}
+use Rattle.proof_design.specs.ShownEndpoint.{AllFew}
 use Rattle.proof_design.proofs.Budget.{few_trbs, row_span}
 
 -- the TRBs of the items are those between the first item's place and the end

@@ -12,16 +12,16 @@ use Rattle.usb_model.specs.World.{World, holder}
 use Rattle.usb_trb.specs.declared.kind.TrbKind.TheVariants.{CommandCompletion}
 use Rattle.usb_segment.specs.Places.{address_of}
 use Rattle.usb_design.specs.Kept.{SentErrand}
-use Rattle.usb_design.specs.Handling.{errand_of}
-use Rattle.usb_cancel.specs.declared.outstanding.Sent.{Sent}
-use Rattle.usb_cancel.specs.Outstanding.{sent_at}
+use Rattle.usb_design.specs.Events.{errand_of}
+use Rattle.usb_tables.specs.declared.outstanding.Sent.{Sent}
+use Rattle.usb_tables.specs.Outstanding.{sent_at}
 use Rattle.proof_design.specs.Known.{KnowsCompletion, KnowsEvent}
 use Rattle.proof_design.specs.Shows.{Completes, Core, RingEvent, Shows, Transfers}
-use Rattle.proof_design.specs.Stepping.{has_sent, is_sent}
+use Rattle.proof_design.specs.Steps.{has_sent, is_sent}
 use Rattle.proof_design.proofs.Strays.{never_stray}
 use Rattle.proof_controller.specs.Holds.{event_trb}
 use Rattle.proof_controller.proofs.Ids.{has_device}
-use Rattle.proof_core.specs.Delivering.{IsTaken, SentIs, Settles, sends, stands_at}
+use Rattle.proof_core.specs.Deliveries.{IsTaken, SentIs, Settles, sends, stands_at}
 use Rattle.proof_core.specs.State.{Keeps, State, in_ring}
 use Rattle.proof_core.specs.Works.{IsHolder}
 use Rattle.proof_core.proofs.Held.{held_interface, holder_is}

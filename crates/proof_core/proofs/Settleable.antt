@@ -5,14 +5,14 @@ use Rattle.std.specs.List.{prefix_len}
 use Rattle.std.proofs.lemmas.List.{length-drop, length-map}
 use Rattle.std.proofs.lemmas.List.Sums.{prefix_len-le-length}
 use Rattle.std.proofs.lemmas.Option.{same_Some, slice_get_within}
-use Rattle.usb_callers.specs.Caller.{Kept as Caller}
+use Rattle.usb_tables.specs.Caller.{Kept as Caller}
 use Rattle.usb_cancel.specs.declared.ended.Mark.{Mark}
-use Rattle.usb_cancel.specs.declared.outstanding.Sent.{Sent}
+use Rattle.usb_tables.specs.declared.outstanding.Sent.{Sent}
 use Rattle.usb_cancel.specs.Settlements.{fails_stop, mark_of, settled_by}
-use Rattle.usb_design.specs.Settling.{settle}
-use Rattle.usb_xhc.specs.Hosting.{rung, with_blank, with_ring, without_first}
+use Rattle.usb_design.specs.Settlements.{settle}
+use Rattle.usb_xhc.specs.Host.{rung, with_blank, with_ring, without_first}
 use Rattle.usb_xhc.specs.Controller.{Controller, slot_changed}
-use Rattle.proof_core.proofs.Leaving.{leaves, withdraws}
+use Rattle.proof_core.proofs.Leaves.{leaves, withdraws}
 use Rattle.proof_core.proofs.Errands.{resumes}
 use Rattle.usb_model.specs.declared.errand.Errand.{Errand}
 use Rattle.usb_model.specs.Machine.{is_result_at}
@@ -23,25 +23,26 @@ use Rattle.proof_lemmas.proofs.Lists.Times.{count-cons}
 use Rattle.usb_design.specs.Kept.{KeptEndpoint, KeptTransfer}
 use Rattle.usb_cancel.specs.declared.ended.Settlement.{Settlement}
 use Rattle.usb_transfer.specs.declared.transfer.Transfer.{Transfer as InFlight}
-use Rattle.usb_callers.specs.Callers.{SameCallbacks, SameCounts, SameNumbers, is_there, results_at}
-use Rattle.usb_flight.specs.declared.ending.Ending.{Ending}
-use Rattle.usb_flight.specs.Flights.{Flights, blanked_at, item_at, lane_at, left_at, line_at, mark_in}
+use Rattle.usb_tables.specs.Callers.{SameCallbacks, SameCounts, SameNumbers, is_there, results_at}
+use Rattle.usb_tables.specs.declared.ending.Ending.{Ending}
+use Rattle.usb_tables.specs.ByEndpoint.{lane_at}
+use Rattle.usb_tables.specs.Flights.{Flights, blanked_at, item_at, left_at, line_at, mark_in}
 use Rattle.usb_xhc.specs.Context.{Context}
 use Rattle.usb_device.specs.Pipe.{pipe_at}
 use Rattle.usb_xhc.specs.Slots.{DeviceSlot, changed, context_of}
 use Rattle.proof_controller.proofs.Ends.{here}
 use Rattle.proof_controller.specs.Holds.{HasRing}
 use Rattle.proof_design.specs.Shows.{Core}
-use Rattle.proof_core.specs.Delivering.{CanLeave, CanSettle, Settles, asked_ending}
+use Rattle.proof_core.specs.Deliveries.{CanLeave, CanSettle, Settles, asked_ending}
 use Rattle.proof_core.specs.State.{AllItems, State}
 use Rattle.proof_core.specs.Works.{IsAt, Leaves, Posts, Resumes, Withdraws, context_in, result_by, with_kept}
 use Rattle.proof_core.proofs.Counts.{count_append, count_one}
-use Rattle.proof_core.proofs.Finishing.{leading_none, live_counts}
+use Rattle.proof_core.proofs.Ends.{leading_none, live_counts}
 use Rattle.proof_core.proofs.Lines.{as_many, kept_of, past_blanks}
-use Rattle.proof_core.proofs.Posting.{ring_items, ring_there}
+use Rattle.proof_core.proofs.Posts.{ring_items, ring_there}
 use Rattle.proof_core.proofs.Rings.{ring_of}
 use Rattle.proof_core.proofs.Settlements.{Fits, cleaned, fits, marks_are, with_cleaned}
-use Rattle.proof_core.proofs.Settling.{IsEnded, ended, supported_there}
+use Rattle.proof_core.proofs.ErrandEnds.{IsEnded, ended, supported_there}
 use Rattle.proof_core.proofs.Transfers.{end_at}
 
 -- how many of a line are in progress

@@ -6,10 +6,11 @@ use Rattle.usb_model.specs.Setup.{Setup}
 use Rattle.usb_model.specs.World.Shared.{pieces_of}
 use Rattle.usb_design.specs.Kept.{KeptEndpoint, KeptTransfer}
 use Rattle.usb_transfer.specs.declared.transfer.Transfer.{Transfer as InFlight}
-use Rattle.usb_cancel.specs.declared.outstanding.Sent.{Sent}
-use Rattle.usb_cancel.specs.Outstanding.{sent_at}
+use Rattle.usb_tables.specs.declared.outstanding.Sent.{Sent}
+use Rattle.usb_tables.specs.Outstanding.{sent_at}
 use Rattle.usb_xhc.specs.Slots.{DeviceSlot, context_of}
-use Rattle.usb_flight.specs.Flights.{Flights, item_at, keys_at, lane_at, line_at, with_item, with_line}
+use Rattle.usb_tables.specs.ByEndpoint.{lane_at}
+use Rattle.usb_tables.specs.Flights.{Flights, item_at, keys_at, line_at, with_item, with_line}
 use Rattle.proof_controller.specs.EndpointLaws.{HaveTrbsOf}
 use Rattle.proof_design.specs.Shows.{Core}
 use Rattle.proof_controller.proofs.Ends.{here}

@@ -11,12 +11,12 @@ use Rattle.usb_model.specs.declared.setup.EndpointInfo.{EndpointInfo}
 use Rattle.usb_model.specs.Setup.{endpoint_id, Setup, interface_of}
 use Rattle.usb_model.specs.World.{holder}
 use Rattle.usb_design.specs.Kept.{KeptEndpoint}
-use Rattle.usb_claims.specs.Holding.{Holding, device_of, owner_of}
-use Rattle.usb_cancel.specs.Outstanding.{sent_at}
+use Rattle.usb_claims.specs.Holders.{Holding, device_of, owner_of}
+use Rattle.usb_tables.specs.Outstanding.{sent_at}
 use Rattle.usb_xhc.specs.Controller.{Controller}
-use Rattle.usb_flight.specs.Flights.{line_at}
-use Rattle.usb_callers.specs.Callers.{callbacks_at, results_at}
-use Rattle.proof_design.specs.Calling as calling
+use Rattle.usb_tables.specs.Flights.{line_at}
+use Rattle.usb_tables.specs.Callers.{callbacks_at, results_at}
+use Rattle.proof_design.specs.Calls as calling
 use Rattle.proof_design.specs.Shows.{Core}
 use Rattle.proof_controller.specs.Holds.{HoldsCore}
 use Rattle.proof_core.specs.State.{Keeps, State}

@@ -1,17 +1,18 @@
 -- The theorems, as the contracts of src/laws.rt name them. P: what callers keep with their transfers.
 use Rattle.std.specs.Prelude.{◌≡◌, ℕ, ◌+◌, ◌-◌, ◌<◌, ◌≤◌, ◌==◌, List, [], ◌∷◌, ◌++◌, length, drop, Option, Some, None, slice_set, if◌then◌else◌}
-use Rattle.usb_callers.specs.Caller.{Kept as Caller}
-use Rattle.usb_callers.specs.Callers.{SameCallbacks, SameCounts, SameNumbers, SameResults, is_there, number_of, results_at}
-use Rattle.usb_cancel.specs.declared.outstanding.Sent.{Sent}
+use Rattle.usb_tables.specs.Caller.{Kept as Caller}
+use Rattle.usb_tables.specs.Callers.{SameCallbacks, SameCounts, SameNumbers, SameResults, is_there, number_of, results_at}
+use Rattle.usb_tables.specs.declared.outstanding.Sent.{Sent}
 use Rattle.usb_xhc.specs.Context.{Context}
-use Rattle.usb_xhc.specs.Hosting.{rung, with_blank, with_pushed, with_ring, without_first}
-use Rattle.usb_xhc.specs.Posting.{posted_one}
-use Rattle.usb_xhc.specs.Serving.{working}
-use Rattle.usb_xhc.specs.declared.packet.Packet.{Packet as Told}
+use Rattle.usb_xhc.specs.Host.{rung, with_blank, with_pushed, with_ring, without_first}
+use Rattle.usb_xhc.specs.Posts.{posted_one}
+use Rattle.usb_xhc.specs.Transaction.{working}
+use Rattle.usb_xhc.specs.declared.packet.Packet.{Packet as ServedPacket}
 use Rattle.usb_xhc.specs.declared.trb_at.TrbAt.{TrbAt}
-use Rattle.usb_flight.specs.Flights.{Flights, blanked_at, item_at, lane_at, left_at, line_at, with_item, with_last}
-use Rattle.usb_flight.specs.Serving.{Serves}
-use Rattle.usb_flight.specs.declared.ending.Ending.{Ending}
+use Rattle.usb_tables.specs.ByEndpoint.{lane_at}
+use Rattle.usb_tables.specs.Flights.{Flights, blanked_at, item_at, left_at, line_at, with_item, with_last}
+use Rattle.proof_core.specs.Packets.{Serves}
+use Rattle.usb_tables.specs.declared.ending.Ending.{Ending}
 use Rattle.usb_design.specs.Kept.{trbs_of}
 use Rattle.usb_model.specs.Setup.{Setup, endpoint_id}
 use Rattle.usb_model.specs.World.{World}
@@ -23,7 +24,7 @@ use Rattle.usb_model.specs.declared.step.Step.{Step}
 use Rattle.usb_segment.specs.Places.{index_of}
 use Rattle.proof_design.specs.Shows.{Core, Shows}
 use Rattle.proof_core.specs.State.{IsState, State}
-use Rattle.proof_core.specs.Steps.{Does, Turns}
+use Rattle.proof_core.specs.Steps.{DoesCoreStep, TurnsWorld}
 use Rattle.proof_core.specs.Works.{Asks, CanServeItem, Finishes, IsAt, IsFront, IsUnstarted, Leaves, MovesPacket, Pauses, Posts, Resumes, Starts, Withdraws, context_in, leading, order_by}
 use Rattle.usb_transfer.specs.Tds.{tds_of}
 use Rattle.usb_transfer.specs.Trbs.{normals_of}
@@ -31,7 +32,7 @@ use Rattle.usb_transfer.specs.declared.transfer.Transfer.{Transfer as InFlight}
 use Rattle.usb_tring.specs.Line.{capacity, normals, used}
 use Rattle.usb_xhc.specs.Controller.{Controller, served_at, slot_changed, told_at}
 use Rattle.usb_xhc.specs.Slots.{changed}
-use Rattle.usb_flight.specs.Serving as flight
+use Rattle.proof_core.specs.Packets as flight
 
 module _ (P : Type 0) where
   -- an errand that is ordered is ordered in the core
@@ -73,8 +74,8 @@ module _ (P : Type 0) where
 
   -- a packet is the core's: what is told of it, and what it leaves
   abbrev pub MovesPackets : Type 0
-  MovesPackets = (old : State P) (k : Controller) (f : Flights (InFlight P)) (h d e item n : ℕ) (told : Told) → (x : Context) → (first : TrbAt) → context_in old.controller d e ≡ Some x → working x ≡ Some first → Some told ≡ told_at old.controller d e → ((t : InFlight P) → item_at old.flights d e item ≡ Some t → t.n ≡ n) → ((t : InFlight P) → item_at old.flights d e item ≡ Some t → k ≡ served_at old.controller d e (flight.out_of e t.request.body)) → ((t : InFlight P) → item_at old.flights d e item ≡ Some t → Serves old.flights f old.controller d e item t) → f.ended ≡ old.flights.ended → MovesPacket old (record old { controller = k; flights = f }) h d e item n told
+  MovesPackets = (old : State P) (k : Controller) (f : Flights (InFlight P)) (h d e item n : ℕ) (told : ServedPacket) → (x : Context) → (first : TrbAt) → context_in old.controller d e ≡ Some x → working x ≡ Some first → Some told ≡ told_at old.controller d e → ((t : InFlight P) → item_at old.flights d e item ≡ Some t → t.n ≡ n) → ((t : InFlight P) → item_at old.flights d e item ≡ Some t → k ≡ served_at old.controller d e (flight.out_of e t.request.body)) → ((t : InFlight P) → item_at old.flights d e item ≡ Some t → Serves old.flights f old.controller d e item t) → f.ended ≡ old.flights.ended → MovesPacket old (record old { controller = k; flights = f }) h d e item n told
 
   -- a step that is the core's is the world's, and leaves parts that show a world
   abbrev pub TurnsWorlds : Type 0
-  TurnsWorlds = (old new : State P) (step : Step) (entry : Entry) → Does old step entry new → Turns old step entry new × (IsState old → IsState new)
+  TurnsWorlds = (old new : State P) (step : Step) (entry : Entry) → DoesCoreStep old step entry new → TurnsWorld old step entry new × (IsState old → IsState new)

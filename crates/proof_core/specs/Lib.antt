@@ -1,11 +1,12 @@
 pub mod State
 pub mod Works
-pub mod Carrying
+pub mod Packets
+pub mod Payloads
 pub mod Steps
-pub mod Making
-pub mod Delivering
+pub mod Made
+pub mod Deliveries
 pub mod Laws
 pub mod Handles
 pub mod Calls
-pub mod Submitting
-pub mod Renewing
+pub mod Submissions
+pub mod Renewals

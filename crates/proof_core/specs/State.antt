@@ -11,7 +11,7 @@ use Rattle.usb_model.specs.Machine.Calls.{callback_of}
 use Rattle.usb_model.specs.Setup.{Setup, endpoint_id, interface_of}
 use Rattle.usb_model.specs.World.{World, holder}
 use Rattle.usb_model.specs.World.Shared.{pieces_of}
-use Rattle.usb_claims.specs.Holding.{Holding, IsSetup, device_of, owner_of}
+use Rattle.usb_claims.specs.Holders.{Holding, IsSetup, device_of, owner_of}
 use Rattle.usb_claims.specs.Tables.{is_plain}
 use Rattle.usb_design.specs.Kept.{KeptEndpoint, KeptTransfer, SentErrand}
 use Rattle.usb_transfer.specs.declared.transfer.Transfer.{Transfer as InFlight}
@@ -20,13 +20,13 @@ use Rattle.usb_transfer.specs.Trbs.{normals_of}
 use Rattle.usb_trb.specs.declared.kind.TrbKind.{TrbKind}
 use Rattle.usb_tring.specs.Line.{normals}
 use Rattle.usb_xhc.specs.Context.{Context}
-use Rattle.usb_cancel.specs.declared.outstanding.Sent.{Sent}
-use Rattle.usb_cancel.specs.Outstanding.{sent_at}
+use Rattle.usb_tables.specs.declared.outstanding.Sent.{Sent}
+use Rattle.usb_tables.specs.Outstanding.{sent_at}
 use Rattle.usb_xhc.specs.Controller.{Controller}
 use Rattle.usb_xhc.specs.Slots.{DeviceSlot, context_of}
-use Rattle.usb_flight.specs.Flights.{EndedOf, Flights, keys_at, line_at}
-use Rattle.usb_callers.specs.Caller.{Kept as Caller}
-use Rattle.usb_callers.specs.Callers.{callback_at, callbacks_at, number_of, results_at}
+use Rattle.usb_tables.specs.Flights.{EndedOf, Flights, keys_at, line_at}
+use Rattle.usb_tables.specs.Caller.{Kept as Caller}
+use Rattle.usb_tables.specs.Callers.{callback_at, callbacks_at, number_of, results_at}
 use Rattle.proof_design.specs.Lively.{IsFine, ends_of}
 use Rattle.proof_design.specs.Shows.{Core, Shows}
 use Rattle.proof_controller.specs.Holds.{HoldsCore}

@@ -19,21 +19,21 @@ use Rattle.usb_trb.specs.declared.kind.TrbKind.{TrbKind}
 use Rattle.usb_trb.specs.declared.kind.TrbKind.TheVariants.{CommandCompletion, Link, NoOp, Normal, ResetEndpoint, SetDequeue, StopEndpoint, TransferEvent}
 use Rattle.usb_xhc.specs.Controller.{Run, run_of}
 use Rattle.proof_design.specs.Shows.{Core, RingOrder, Shows}
-use Rattle.usb_design.specs.Joining.{asked}
-use Rattle.proof_design.specs.Stepping.{Stepped, command_core, handle_work, worked}
-use Rattle.proof_design.specs.Calling.{ask_core, device_of, is_kept_it, kept_home, kept_in_progress, own_kept, step_core}
+use Rattle.usb_design.specs.Joins.{asked}
+use Rattle.proof_design.specs.Steps.{Stepped, command_core, handle_work, worked}
+use Rattle.proof_design.specs.Calls.{ask_core, device_of, is_kept_it, kept_home, kept_in_progress, own_kept, step_core}
 use Rattle.proof_controller.specs.Holds.{with_end}
 use Rattle.proof_core.specs.State.{Keeps, ShowsWorld, State}
 use Rattle.proof_core.specs.Works.{IsAt}
 
 module _ {P : Type 0} where
   -- a step is the core's: its entry, and the core that is then kept
-  abbrev pub Does : State P → Step → Entry → State P → Type 0
-  Does old step entry new = (setup : Setup) (w : World) (c : Core) → Keeps setup old c → Shows setup w c → (entry ≡ (step_core setup c step).entry) × Keeps setup new (step_core setup c step).core
+  abbrev pub DoesCoreStep : State P → Step → Entry → State P → Type 0
+  DoesCoreStep old step entry new = (setup : Setup) (w : World) (c : Core) → Keeps setup old c → Shows setup w c → (entry ≡ (step_core setup c step).entry) × Keeps setup new (step_core setup c step).core
 
   -- a step is the world's: its entry is that of the world's turn, and the parts then show the next world
-  abbrev pub Turns : State P → Step → Entry → State P → Type 0
-  Turns old step entry new = (setup : Setup) (w : World) → ShowsWorld setup old w → (entry ≡ (turn setup w step).entry) × ShowsWorld setup new (turn setup w step).world
+  abbrev pub TurnsWorld : State P → Step → Entry → State P → Type 0
+  TurnsWorld old step entry new = (setup : Setup) (w : World) → ShowsWorld setup old w → (entry ≡ (turn setup w step).entry) × ShowsWorld setup new (turn setup w step).world
 
   -- a step whose entry and core these are
   abbrev pub Is : Setup → Stepped → Entry → State P → Type 0

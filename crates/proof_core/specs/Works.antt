@@ -17,25 +17,25 @@ use Rattle.usb_trb.specs.declared.kind.TrbKind.{TrbKind}
 use Rattle.usb_trb.specs.declared.kind.TrbKind.TheVariants.{ResetEndpoint, SetDequeue, StopEndpoint}
 use Rattle.usb_segment.specs.Places.{address_of, cycle_of}
 use Rattle.usb_tring.specs.Line.{IsAt as IsInRing, place_of, places}
-use Rattle.usb_xhc.specs.declared.packet.Packet.{Packet as Told}
+use Rattle.usb_xhc.specs.declared.packet.Packet.{Packet as ServedPacket}
 use Rattle.usb_xhc.specs.declared.trb_at.TrbAt.{TrbAt}
-use Rattle.usb_xhc.specs.Serving.{working}
+use Rattle.usb_xhc.specs.Transaction.{working}
 use Rattle.usb_design.specs.Kept.{KeptEndpoint, KeptTransfer}
-use Rattle.usb_design.specs.Joining.{joined}
-use Rattle.usb_design.specs.Serving.{Answered, serve_kept}
+use Rattle.usb_design.specs.Joins.{joined}
+use Rattle.usb_design.specs.Packets.{Answered, serve_kept}
 use Rattle.usb_transfer.specs.declared.transfer.Transfer.{Transfer as InFlight}
 use Rattle.usb_transfer.specs.Tds.{room_of}
 use Rattle.usb_xhc.specs.Context.{Context}
 use Rattle.usb_xhc.specs.Controller.{Controller}
 use Rattle.usb_xhc.specs.Slots.{context_of}
-use Rattle.usb_flight.specs.Flights.{item_at, line_at}
-use Rattle.usb_flight.specs.Serving.{CanServe}
-use Rattle.usb_flight.specs.declared.ending.Ending.{Ending}
-use Rattle.proof_controller.specs.Told.{reply_of}
+use Rattle.usb_tables.specs.Flights.{item_at, line_at}
+use Rattle.proof_core.specs.Packets.{CanServe}
+use Rattle.usb_tables.specs.declared.ending.Ending.{Ending}
+use Rattle.proof_controller.specs.Reports.{reply_of}
 use Rattle.proof_design.specs.Shows.{Core, Shows, event_at, order_at}
 use Rattle.proof_controller.specs.Holds.{with_end}
 use Rattle.proof_design.specs.Known.{NoMove}
-use Rattle.usb_claims.specs.Holding.{IsSetup, owner_of}
+use Rattle.usb_claims.specs.Holders.{IsSetup, owner_of}
 use Rattle.proof_core.specs.State.{Keeps, State}
 
 -- what the controller keeps of an endpoint
@@ -148,6 +148,6 @@ abbrev pub behind_packet : Setup → Core → ℕ → ℕ → Core
 behind_packet setup c d e = record (with_kept d e (packet_of setup c d e).endpoint c) { events = c.events ++ map (event_at d e) (packet_of setup c d e).told }
 
 -- a packet of an item is served: the transfer's number, and what is told of it
-abbrev pub MovesPacket : {P : Type 0} (old new : State P) (h d e item n : ℕ) → Told → Type 0
+abbrev pub MovesPacket : {P : Type 0} (old new : State P) (h d e item n : ℕ) → ServedPacket → Type 0
 MovesPacket old new h d e item n told = (setup : Setup) (w : World) (c : Core) → IsAt setup old c h d e → Shows setup w c → IsFront old d e (Some item)
     → ((packet_of setup c d e).reply ≡ reply_of n told) × Keeps setup new (behind_packet setup c d e)

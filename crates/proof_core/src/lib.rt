@@ -9,10 +9,10 @@
 //! - specs/ Works: pieces of work, each by what it makes of every core that the parts keep
 //! - specs/ Steps: a step, by what it makes of every core that the parts keep and that shows a world; what steps are
 //!   made of
-//! - specs/ Calls, Submitting, Handles, Delivering: the same for results and callbacks, submissions, the calls of
+//! - specs/ Calls, Submissions, Handles, Deliveries: the same for results and callbacks, submissions, the calls of
 //!   handles, and events
-//! - specs/ Making: devices that are set up, and parts that are unused
-//! - specs/ Carrying: what callers keep with the transfers in flight
+//! - specs/ Made: devices that are set up, and parts that are unused
+//! - specs/ Payloads: what callers keep with the transfers in flight
 //! - specs/ Laws: the statements of the eleven laws of `laws.rt`
 //!
 //! # Contracts

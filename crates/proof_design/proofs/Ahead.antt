@@ -1,5 +1,5 @@
 -- Where the controller stands at the first transfer that waits, the line begins there or before, and so does all that is told point.
-use Rattle.usb_design.proofs.Standing.{stands_some}
+use Rattle.usb_design.proofs.Stands.{stands_some}
 use Rattle.std.proofs.Common.{Bool, List, Option, [], ap, arith, false, length, refl, subst, sym, true, ℕ, ◌++◌, ◌<◌, ◌≤◌, ◌∷◌, ◌≡◌}
 use Rattle.std.specs.Prelude.{if◌then◌else◌}
 use Rattle.proof_lemmas.proofs.Lists.Parts.{each_append}
@@ -14,7 +14,7 @@ use Rattle.usb_model.specs.declared.news.Event.TheVariants.{Finished, Paused, Se
 use Rattle.usb_model.specs.declared.news.Event.{Event}
 use Rattle.usb_design.specs.Kept.{Completion, InRow, KeptEndpoint, KeptTransfer, SentErrand, Telling, Transfer, first_place}
 use Rattle.usb_design.specs.Stands.{stand}
-use Rattle.proof_design.specs.Showing.{AllBefore, AllKept, IsBefore, IsLive, IsNear, ShowsEnd, count, front, front_of, is_stale, pause_told, tail_told, telling_of, told_by, told_of}
+use Rattle.proof_design.specs.ShownEndpoint.{AllBefore, AllKept, IsBefore, IsLive, IsNear, ShowsEnd, count, front, front_of, is_stale, pause_told, tail_told, telling_of, told_by, told_of}
 use Rattle.proof_design.proofs.Fronts.{told_none}
 use Rattle.proof_design.proofs.Near.{front_behind, near_fresh}
 

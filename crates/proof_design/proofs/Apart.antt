@@ -11,7 +11,7 @@ use Rattle.proof_design.specs.Lively.{IsFine, ends_of}
 use Rattle.proof_design.specs.Shows.{Core, InRun, RingOrder, Shows, at, completed, tellings, under_way}
 use Rattle.proof_design.proofs.Budget.{index_names}
 use Rattle.proof_design.proofs.InRun.{run_length}
-use Rattle.proof_design.proofs.Linking.{known}
+use Rattle.proof_design.proofs.Links.{known}
 use Rattle.proof_design.proofs.Senders.{UnderWay, is_under_way, news_in, order_in, run_later}
 use Rattle.proof_design.proofs.UnderWay.{few_under_way}
 

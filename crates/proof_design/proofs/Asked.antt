@@ -19,11 +19,11 @@ use Rattle.usb_model.specs.Machine.Calls.{asks, with_ask}
 use Rattle.usb_model.specs.Endpoint.{first_waiting, is_blank, is_waiting, is_waiting_state}
 use Rattle.proof_lemmas.proofs.Work.Errands.{events-with_ask}
 use Rattle.usb_model.specs.Coherence.{IsCoherent, served_events}
-use Rattle.proof_design.specs.Showing.{AllKept, FirstPaused, FrontKnown, IsKept, ShowsEnd, count, front, is_stale, known_by, orders_sent, pause_told, tail_told, told_of}
+use Rattle.proof_design.specs.ShownEndpoint.{AllKept, FirstPaused, FrontKnown, IsKept, ShowsEnd, count, front, is_stale, known_by, orders_sent, pause_told, tail_told, told_of}
 use Rattle.usb_design.specs.Kept.{InRow, KeptEndpoint, KeptTransfer, SentErrand, Telling, first_place}
-use Rattle.usb_design.specs.Handling.{Handled, posts}
-use Rattle.proof_design.specs.Keeping.{Handles}
-use Rattle.usb_design.specs.Joining.{asked, kept_ask}
+use Rattle.usb_design.specs.Events.{Handled, posts}
+use Rattle.proof_design.specs.Kept.{Handles}
+use Rattle.usb_design.specs.Joins.{asked, kept_ask}
 use Rattle.proof_design.proofs.Finished.{same_tail, tail_same}
 use Rattle.proof_lemmas.proofs.Work.Phases.{free}
 

@@ -13,12 +13,12 @@ use Rattle.usb_model.specs.Setup.{Setup, info_of, interface_of, packet_size_of}
 use Rattle.usb_model.specs.World.{Claims, World, holder}
 use Rattle.proof_lemmas.proofs.Lists.Pieces.{either_way}
 use Rattle.usb_design.specs.Kept.{SentErrand, KeptTransfer, first_place}
-use Rattle.proof_design.specs.Showing.{AllKept, is_stale}
+use Rattle.proof_design.specs.ShownEndpoint.{AllKept, is_stale}
 use Rattle.proof_design.specs.Lively.{IsFine, ends_from, ends_of}
 use Rattle.proof_design.specs.Shows.{AllHeld, At, Core, Report, Shows, at, here, ring_event, ring_order, errands, events, tellings}
 use Rattle.proof_design.proofs.Ahead.{ServedLow, near_served}
 use Rattle.proof_design.proofs.Budget.{few_at_endpoint, fewer, split_length, ring_fits}
-use Rattle.proof_design.proofs.Linking.{known}
+use Rattle.proof_design.proofs.Links.{known}
 use Rattle.proof_design.proofs.Rests.{none_there}
 use Rattle.proof_design.proofs.Senders.{info_there, interface_there}
 use Rattle.usb_model.specs.declared.item.Item.{Item}

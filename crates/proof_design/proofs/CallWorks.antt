@@ -23,18 +23,18 @@ use Rattle.usb_model.specs.Coherence.{IsCoherent}
 use Rattle.std.proofs.lemmas.Option.{same_Some}
 use Rattle.proof_invariants.proofs.Coherence.Commands.{coherent_ask, coherent_submit}
 use Rattle.proof_invariants.proofs.Machines.Deeds.{cleared}
-use Rattle.proof_design.specs.Showing.{AllFew, ShowsEnd, StandsNear}
+use Rattle.proof_design.specs.ShownEndpoint.{AllFew, ShowsEnd, StandsNear}
 use Rattle.usb_design.specs.Kept.{KeptEndpoint}
-use Rattle.usb_design.specs.Handling.{Handled, posts}
-use Rattle.proof_design.specs.Keeping.{Handles}
-use Rattle.usb_design.specs.Joining.{asked, joined, kept_ask}
+use Rattle.usb_design.specs.Events.{Handled, posts}
+use Rattle.proof_design.specs.Kept.{Handles}
+use Rattle.usb_design.specs.Joins.{asked, joined, kept_ask}
 use Rattle.proof_design.specs.Lively.{IsFine}
 use Rattle.proof_design.specs.Shows.{Core, InRun, Shows, at, errands, events, order_at, tellings, under_way}
-use Rattle.proof_design.specs.Stepping.{Stepped, handle_work, posted_by, worked, StepsTo}
+use Rattle.proof_design.specs.Steps.{Stepped, handle_work, posted_by, worked, StepsTo}
 use Rattle.proof_design.proofs.Asked.{asks_show}
 use Rattle.proof_design.proofs.Delivers.{IsPosting, run_posting}
-use Rattle.proof_design.proofs.Halting.{near_still}
-use Rattle.proof_design.proofs.Linking.{known, turn_works}
+use Rattle.proof_design.proofs.Halts.{near_still}
+use Rattle.proof_design.proofs.Links.{known, turn_works}
 use Rattle.proof_design.proofs.Near.{asked_few, joined_few}
 use Rattle.proof_design.proofs.Renewed.{cleared_shows}
 use Rattle.proof_design.proofs.Stale.{asked_near, joined_near}

@@ -3,9 +3,9 @@ pub mod Tables
 pub mod Refusals
 pub mod Tests
 pub mod Openings
-pub mod Claiming
+pub mod Claims
 pub mod Submissions
-pub mod Clearing
-pub mod Asking
-pub mod Answering
+pub mod ClearedHalts
+pub mod Asks
+pub mod Verdicts
 pub mod Whole

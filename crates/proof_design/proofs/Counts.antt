@@ -11,7 +11,7 @@ use Rattle.usb_model.specs.declared.news.Event.TheVariants.{Finished, Paused, Se
 use Rattle.usb_model.specs.declared.news.Event.{Event}
 use Rattle.usb_model.specs.Endpoint.{first_waiting, is_waiting}
 use Rattle.usb_model.specs.Coherence.{event_by, served_events}
-use Rattle.proof_design.specs.Showing.{AllKept, FirstPaused, ShowsEnd, orders_sent, pause_told, tail_told, telling_of, told_by, told_of}
+use Rattle.proof_design.specs.ShownEndpoint.{AllKept, FirstPaused, ShowsEnd, orders_sent, pause_told, tail_told, telling_of, told_by, told_of}
 use Rattle.usb_design.specs.Kept.{KeptEndpoint, KeptTransfer, SentErrand, Telling}
 use Rattle.proof_design.specs.Shows.{Report, errands, events, tellings}
 

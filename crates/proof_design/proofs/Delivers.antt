@@ -26,22 +26,22 @@ use Rattle.usb_model.specs.Coherence.{IsCoherent, event_by, served_events}
 use Rattle.proof_lemmas.proofs.Lists.Pieces.{same_name}
 use Rattle.std.proofs.lemmas.Option.{same_Some}
 use Rattle.proof_invariants.proofs.Coherence.Delivers.{coherent_deliver}
-use Rattle.proof_design.specs.Showing.{AllFew, AllUncut, ShowsEnd, StandsNear, is_stale, uncut_by}
+use Rattle.proof_design.specs.ShownEndpoint.{AllFew, AllUncut, ShowsEnd, StandsNear, is_stale, uncut_by}
 use Rattle.usb_design.specs.Kept.{KeptEndpoint, KeptTransfer, SentErrand, Telling, Transfer, code_of, index_of}
-use Rattle.usb_design.specs.Handling.{Handled, Reading, errand_of, finish, kept_after, kept_result, past_kept_blanks, posts, reading}
-use Rattle.proof_design.specs.Keeping.{Handles}
+use Rattle.usb_design.specs.Events.{Handled, Reading, errand_of, finish, kept_after, kept_result, past_kept_blanks, posts, reading}
+use Rattle.proof_design.specs.Kept.{Handles}
 use Rattle.proof_design.specs.Lively.{IsFine}
-use Rattle.usb_design.specs.Settling.{kept_blanked, leads_kept, pauses, resume_kept, settle, withdrawn_results}
+use Rattle.usb_design.specs.Settlements.{kept_blanked, leads_kept, pauses, resume_kept, settle, withdrawn_results}
 use Rattle.proof_design.specs.Shows.{AllHeld, At, Core, InRun, Report, RingEvent, RingOrder, Shows, at, errands, event_at, events, here, news_of, order_at, ring_event, tellings, under_way}
-use Rattle.proof_design.specs.Stepping.{StepsTo, complete_at, completion_work, deliver_core, deliver_first, delivers, handle_work, posted_by, sender, transfer_work, works}
+use Rattle.proof_design.specs.Steps.{StepsTo, complete_at, completion_work, deliver_core, deliver_first, delivers, handle_work, posted_by, sender, transfer_work, works}
 use Rattle.proof_design.proofs.Finished.{FinishedShows, finished_shows, first_end}
 use Rattle.proof_design.proofs.Glue.{idle_steps, same_gone, same_handle, same_holder}
-use Rattle.proof_design.proofs.Halting.{near_still}
+use Rattle.proof_design.proofs.Halts.{near_still}
 use Rattle.proof_design.proofs.InRun.{run_posted}
-use Rattle.proof_design.proofs.Linking.{IsKnown, end_there, known, machine_parts, turn_works}
+use Rattle.proof_design.proofs.Links.{IsKnown, end_there, known, machine_parts, turn_works}
 use Rattle.proof_design.proofs.Near.{finish_few, pauses_few, read_found, settle_few}
 use Rattle.proof_design.proofs.Pauses.{PausedShows, paused_shows}
-use Rattle.proof_design.proofs.Placing.{first_here, is_first_at}
+use Rattle.proof_design.proofs.Waiters.{first_here, is_first_at}
 use Rattle.proof_design.proofs.Senders.{sender_is}
 use Rattle.proof_design.proofs.Settled.{SettledShows, settled_shows}
 use Rattle.proof_design.proofs.Stale.{finish_near, moved_near, pauses_near, settle_near}

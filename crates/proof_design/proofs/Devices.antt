@@ -15,9 +15,9 @@ use Rattle.usb_model.specs.World.{Claims, World, all_ends_after, holder, is_its}
 use Rattle.proof_lemmas.proofs.Lists.Pieces.{same_name}
 use Rattle.proof_invariants.proofs.Machines.Deeds.{IsRest, claims, claims_again, closes, opens, releases, resets, stays, stops, takes}
 use Rattle.usb_design.specs.Kept.{KeptEndpoint, SentErrand, Telling, new_kept_endpoint}
-use Rattle.proof_design.specs.Showing.{ShowsDevice, ShowsEnd}
+use Rattle.proof_design.specs.ShownEndpoint.{ShowsDevice, ShowsEnd}
 use Rattle.proof_design.specs.Shows.{Core, Shows}
-use Rattle.proof_design.specs.Stepping.{kept_endpoint_after}
+use Rattle.proof_design.specs.Steps.{kept_endpoint_after}
 use Rattle.proof_design.proofs.Renewed.{fresh_shows}
 
 -- of an endpoint that is shown

@@ -17,8 +17,8 @@ use Rattle.proof_design.specs.Shows.{AllHeld, At, Core, InRun, RingOrder, Shows,
 use Rattle.usb_design.specs.Kept.{SentErrand}
 use Rattle.proof_design.proofs.Glue.{same_holder}
 use Rattle.proof_design.proofs.InRun.{run_length, run_once}
-use Rattle.proof_design.proofs.Linking.{known}
-use Rattle.proof_design.proofs.Placing.{first_here}
+use Rattle.proof_design.proofs.Links.{known}
+use Rattle.proof_design.proofs.Waiters.{first_here}
 
 -- an order that waits for an endpoint is that of its errand
 its_errand : (s : EndpointState) (er : Option Errand) (l : List Errand) (es tail : List Event) (o : Errand) (os : List Errand) → l ≡ o ∷ os → IsPhase s er l es tail → er ≡ Some o

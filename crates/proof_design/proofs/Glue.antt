@@ -26,22 +26,22 @@ use Rattle.proof_lemmas.proofs.Lists.Pieces.{same_name}
 use Rattle.proof_invariants.proofs.Coherence.Commands.{coherent_command}
 use Rattle.proof_invariants.proofs.Coherence.Serves.{coherent_serve}
 use Rattle.usb_design.specs.Kept.{KeptEndpoint, Completion, KeptTransfer, SentErrand, code_of}
-use Rattle.proof_design.specs.Showing.{ShowsEnd, is_stale}
-use Rattle.usb_design.specs.Commanding.{Carried, carry, pause_at}
-use Rattle.proof_design.specs.Keeping.{Carries, Serves}
-use Rattle.usb_design.specs.Handling.{find_at}
+use Rattle.proof_design.specs.ShownEndpoint.{ShowsEnd, is_stale}
+use Rattle.usb_design.specs.Commands.{Carried, carry, pause_at}
+use Rattle.proof_design.specs.Kept.{Carries, Serves}
+use Rattle.usb_design.specs.Events.{find_at}
 use Rattle.proof_design.specs.Lively.{IsFine, goes}
-use Rattle.usb_design.specs.Serving as serving
-use Rattle.usb_design.specs.Serving.{walk, Answered, Packet, answered_by, answered_gone, packet_now, sent_before, serve_at, serve_kept}
+use Rattle.usb_design.specs.Packets as serving
+use Rattle.usb_design.specs.Packets.{walk, Answered, Packet, answered_by, answered_gone, packet_now, sent_before, serve_at, serve_kept}
 use Rattle.proof_design.specs.Shows.{AllHeld, At, Completes, Core, InRun, RingEvent, RingOrder, Shows, at, completed, errands, event_at, events, here, order_of, ring_order, tellings, under_way}
-use Rattle.proof_design.specs.Stepping.{StepsTo, answer_work, carry_work, command_core, command_first, command_held, idle, serve_core, serve_held}
+use Rattle.proof_design.specs.Steps.{StepsTo, answer_work, carry_work, command_core, command_first, command_held, idle, serve_core, serve_held}
 use Rattle.proof_design.proofs.Commands.{command_shows, ways}
-use Rattle.proof_design.proofs.Halting.{carry_near, serve_near, stale_still}
+use Rattle.proof_design.proofs.Halts.{carry_near, serve_near, stale_still}
 use Rattle.proof_design.proofs.InRun.{run_carried}
-use Rattle.proof_design.proofs.Linking.{IsKnown, end_there, known, machine_parts, turn_works}
+use Rattle.proof_design.proofs.Links.{IsKnown, end_there, known, machine_parts, turn_works}
 use Rattle.proof_design.proofs.Near.{carry_few, serve_few}
 use Rattle.proof_design.proofs.Lives.{first_each}
-use Rattle.proof_design.proofs.Placing.{first_here, is_first_at}
+use Rattle.proof_design.proofs.Waiters.{first_here, is_first_at}
 use Rattle.proof_design.proofs.Serves.{serve_shows}
 use Rattle.proof_design.proofs.Sizes.{waits_sized}
 use Rattle.proof_design.proofs.Tells.{packet_told, pause_told_if_open}

@@ -1,4 +1,4 @@
-pub mod Finding
+pub mod FirstServed
 pub mod Finished
 pub mod Fronts
 pub mod Serves
@@ -17,10 +17,10 @@ pub mod InRun
 pub mod Orderly
 pub mod Sizes
 pub mod Lives
-pub mod Placing
+pub mod Waiters
 pub mod Counts
 pub mod Worked
-pub mod Linking
+pub mod Links
 pub mod Glue
 pub mod Senders
 pub mod Delivers
@@ -32,11 +32,11 @@ pub mod Near
 pub mod Seen
 pub mod Takes
 pub mod Calls
-pub mod Running
+pub mod RunningEndpoints
 pub mod UnderWay
 pub mod Ahead
 pub mod Places
-pub mod Halting
+pub mod Halts
 pub mod Stale
 pub mod FirstOrders
 pub mod Numbers

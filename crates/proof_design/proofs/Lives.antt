@@ -47,7 +47,7 @@ use Rattle.usb_model.specs.Fitness.{IsWell, errands_of, events_of}
 use Rattle.proof_invariants.proofs.Machines.Done.{is_done}
 use Rattle.proof_invariants.proofs.Machines.Idle.{at_device_of}
 use Rattle.proof_invariants.proofs.Machines.Well.{fit_at, first_news, first_order, well_kept, well_new}
-use Rattle.proof_design.specs.Keeping.{outcome_now}
+use Rattle.proof_design.specs.Kept.{outcome_now}
 use Rattle.proof_design.specs.Lively.{IsFine, IsLively, IsSized, goes}
 use Rattle.proof_design.proofs.Orderly.Serves.{answer_goes, orderly_serve}
 use Rattle.proof_design.proofs.Orderly.Lines.{each_blanks, each_first, each_map, each_number, each_push}

@@ -7,7 +7,7 @@ use Rattle.usb_model.specs.Setup.{Setup, script_of, packet_size_of}
 use Rattle.usb_model.specs.World.{World, new_world, turn, world_from}
 use Rattle.proof_lemmas.proofs.Handles.Runs.{one_step}
 use Rattle.proof_design.specs.Shows.{Core, Shows, Steps}
-use Rattle.proof_design.specs.Stepping.{new_core}
+use Rattle.proof_design.specs.Steps.{new_core}
 use Rattle.proof_design.proofs.Devices.{device_renewed}
 use Rattle.proof_design.proofs.Renewed.{fresh_shows, new_near}
 

@@ -26,11 +26,11 @@ use Rattle.proof_lemmas.proofs.Lists.Times.{count-cons, times-cons, times_here}
 use Rattle.usb_design.specs.Kept.{KeptTransfer}
 use Rattle.proof_design.specs.Known.{FewPlaces, NotYetCalled, NumbersOnce}
 use Rattle.proof_design.specs.Lively.{IsFine}
-use Rattle.proof_design.specs.Showing.{AllKept}
+use Rattle.proof_design.specs.ShownEndpoint.{AllKept}
 use Rattle.proof_design.specs.Shows.{Core, Shows}
 use Rattle.proof_design.proofs.Bounds.{as_long}
 use Rattle.proof_design.proofs.Glue.{same_holder}
-use Rattle.proof_design.proofs.Linking.{end_there, known, machine_parts}
+use Rattle.proof_design.proofs.Links.{end_there, known, machine_parts}
 
 -- the numbers in progress of a line as it is kept
 abbrev kept_numbers : List KeptTransfer → List ℕ

@@ -21,7 +21,7 @@ use Rattle.proof_lemmas.proofs.Shares.More.{next_of, read_next, sent_next}
 use Rattle.proof_lemmas.proofs.Shares.OpenShares.{IsRead, IsSent, IsWhole, full_count}
 use Rattle.std.proofs.lemmas.Option.{same_Some}
 use Rattle.usb_design.specs.Kept.{is_extra}
-use Rattle.usb_design.specs.Serving.{Packet, gave, got, packet_by}
+use Rattle.usb_design.specs.Packets.{Packet, gave, got, packet_by}
 use Rattle.proof_design.proofs.Pieces.{first_pieces, more_comes, next_piece}
 
 -- what an answer tells of a transfer

@@ -14,12 +14,12 @@ use Rattle.usb_model.specs.Endpoint.Deliver.{deliver}
 use Rattle.usb_model.specs.Endpoint.{first_waiting, is_blank_state, is_waiting, with_first}
 use Rattle.usb_model.specs.Coherence.{IsCoherent, IsPhase, ended, move_ran, move_waits, reset_ran, reset_waits, runs, served_events, stop_failed, stop_ran, stop_ran_paused, stop_waits, stop_waits_halted}
 use Rattle.usb_design.specs.Stands.{residual}
-use Rattle.proof_design.specs.Showing.{AllKept, FirstPaused, FrontKnown, ShowsEnd, count, front, tail_told, telling_of, told_of}
+use Rattle.proof_design.specs.ShownEndpoint.{AllKept, FirstPaused, FrontKnown, ShowsEnd, count, front, tail_told, telling_of, told_of}
 use Rattle.usb_design.specs.Kept.{KeptEndpoint, KeptTransfer, SentErrand, Telling, Transfer}
-use Rattle.proof_design.specs.Keeping.{Handles}
-use Rattle.usb_design.specs.Handling.{Reading, reading}
-use Rattle.usb_design.specs.Serving.{put_at}
-use Rattle.usb_design.specs.Settling.{pauses}
+use Rattle.proof_design.specs.Kept.{Handles}
+use Rattle.usb_design.specs.Events.{Reading, reading}
+use Rattle.usb_design.specs.Packets.{put_at}
+use Rattle.usb_design.specs.Settlements.{pauses}
 use Rattle.proof_design.proofs.Finished.{reads_at}
 use Rattle.proof_lemmas.proofs.Lists.Parts.{heads_same}
 use Rattle.proof_design.proofs.Fronts.{fronts, told_none}

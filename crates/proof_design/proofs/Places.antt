@@ -4,11 +4,11 @@ use Rattle.std.specs.Prelude.{if◌then◌else◌, nat_le, nat_lt, not, ◌&&◌
 use Rattle.std.proofs.lemmas.Bool.{and_parts, leb-true, ltb-true}
 use Rattle.std.proofs.lemmas.Option.{same_Some}
 use Rattle.usb_model.specs.declared.item.Ask.{Ask}
-use Rattle.usb_design.specs.Handling.{covers, find_at, past_at}
-use Rattle.usb_design.specs.Joining.{kept_ask}
+use Rattle.usb_design.specs.Events.{covers, find_at, past_at}
+use Rattle.usb_design.specs.Joins.{kept_ask}
 use Rattle.usb_design.specs.Kept.{InRow, KeptTransfer, first_place}
-use Rattle.usb_design.specs.Serving.{put_at}
-use Rattle.usb_design.specs.Settling.{kept_blanked, kept_withdrawn}
+use Rattle.usb_design.specs.Packets.{put_at}
+use Rattle.usb_design.specs.Settlements.{kept_blanked, kept_withdrawn}
 use Rattle.usb_design.specs.Stands.{one_on, stand}
 use Rattle.proof_design.proofs.Ahead.{row_low}
 

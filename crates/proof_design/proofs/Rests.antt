@@ -22,13 +22,13 @@ use Rattle.usb_model.specs.World.{Claims, World, all_ends_after, claims_after, h
 use Rattle.proof_lemmas.proofs.Handles.Isolation.{gone_stays, turn_blocked, turn_free}
 use Rattle.proof_lemmas.proofs.Lists.Pieces.{either_way, same_name}
 use Rattle.proof_invariants.proofs.Machines.Deeds.{IsIdle, IsRest, claims, claims_again, closes, opens, releases, resets, stays, stops, takes}
-use Rattle.proof_design.specs.Showing.{AllFew, ShowsEnd, StandsNear}
+use Rattle.proof_design.specs.ShownEndpoint.{AllFew, ShowsEnd, StandsNear}
 use Rattle.proof_design.specs.Lively.{IsFine}
 use Rattle.proof_design.specs.Shows.{AllHeld, At, Core, Shows, at, errands, events, here, tellings}
-use Rattle.proof_design.specs.Stepping.{kept_endpoint_after, rested, StepsTo}
+use Rattle.proof_design.specs.Steps.{kept_endpoint_after, rested, StepsTo}
 use Rattle.proof_design.proofs.Devices.{devices_rested}
-use Rattle.proof_design.proofs.Linking.{all_sound, has_device, its_lists, machine_parts}
-use Rattle.proof_design.proofs.Placing.{is_here}
+use Rattle.proof_design.proofs.Links.{all_sound, has_device, its_lists, machine_parts}
+use Rattle.proof_design.proofs.Waiters.{is_here}
 use Rattle.proof_design.proofs.Renewed.{fresh_shows, new_near}
 use Rattle.proof_design.proofs.Worked.{world_and}
 use Rattle.proof_lemmas.proofs.Handles.Alone.{is_its-some}

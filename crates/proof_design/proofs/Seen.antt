@@ -7,8 +7,8 @@ use Rattle.usb_model.specs.declared.item.Ask.{Ask}
 use Rattle.usb_model.specs.declared.item.Item.{Item}
 use Rattle.usb_model.specs.declared.request.Request.{Request}
 use Rattle.usb_model.specs.Endpoint.{in_progress, is_blank, is_transfer}
-use Rattle.proof_design.specs.Calling.{is_kept_it, kept_in_progress}
-use Rattle.proof_design.specs.Showing.{AllKept}
+use Rattle.proof_design.specs.Calls.{is_kept_it, kept_in_progress}
+use Rattle.proof_design.specs.ShownEndpoint.{AllKept}
 use Rattle.usb_design.specs.Kept.{KeptTransfer, SentErrand}
 
 -- what is read of it

@@ -16,13 +16,13 @@ use Rattle.usb_model.specs.Setup.{Setup, endpoints_of, info_of, interface_of}
 use Rattle.usb_model.specs.World.{World, holder}
 use Rattle.usb_model.specs.Coherence.{IsCoherent, IsPhase, ended, move_ran, move_waits, reset_ran, reset_waits, runs, served_events, stop_failed, stop_ran, stop_ran_paused, stop_waits, stop_waits_halted}
 use Rattle.usb_design.specs.Kept.{KeptEndpoint, Completion, SentErrand, Telling, Transfer, code_of, index_of}
-use Rattle.proof_design.specs.Showing.{ShowsEnd, orders_sent, pause_told, tail_told, told_of}
+use Rattle.proof_design.specs.ShownEndpoint.{ShowsEnd, orders_sent, pause_told, tail_told, told_of}
 use Rattle.proof_design.specs.Lively.{IsFine}
 use Rattle.proof_design.specs.Shows.{At, Core, InRun, Report, RingOrder, Shows, at, completed, event_at, here, ring_event, ring_order, tellings, under_way}
-use Rattle.proof_design.specs.Stepping.{has_sent, is_sent, sender}
+use Rattle.proof_design.specs.Steps.{has_sent, is_sent, sender}
 use Rattle.proof_design.proofs.Finished.{same_tail}
-use Rattle.proof_design.proofs.Linking.{known}
-use Rattle.proof_design.proofs.Placing.{is_here}
+use Rattle.proof_design.proofs.Links.{known}
+use Rattle.proof_design.proofs.Waiters.{is_here}
 
 -- whether a telling is the completion of this order
 abbrev pub completes : ℕ → Telling → Bool

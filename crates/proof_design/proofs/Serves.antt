@@ -19,14 +19,14 @@ use Rattle.usb_model.specs.Endpoint.Status.{halts}
 use Rattle.proof_lemmas.proofs.Work.Errands.{events-with_first}
 use Rattle.usb_model.specs.Coherence.{IsCoherent, event_by, served_events}
 use Rattle.usb_design.specs.Stands.{Stand, stand, total}
-use Rattle.proof_design.specs.Showing.{AllKept, IsLive, NewBehind, ShowsEnd, count, front, front_of, is_stale, orders_sent, telling_of, tail_told, told_of}
+use Rattle.proof_design.specs.ShownEndpoint.{AllKept, IsLive, NewBehind, ShowsEnd, count, front, front_of, is_stale, orders_sent, telling_of, tail_told, told_of}
 use Rattle.usb_design.specs.Kept.{InRow, KeptEndpoint, KeptTransfer, SentErrand, Telling, first_place}
-use Rattle.usb_design.specs.Handling.{covers, find_at, past_at, past_kept_blanks}
-use Rattle.usb_design.specs.Serving.{Packet, answer_now, answered_by, answered_gone, endpoint_with, event_at, gave, got, packet_now, put_at, sent_before, serve_at, serve_kept, walk}
-use Rattle.proof_design.specs.Keeping.{PacketIs, Serves, grown, outcome_now}
-use Rattle.proof_design.proofs.Finding.{covers_past}
+use Rattle.usb_design.specs.Events.{covers, find_at, past_at, past_kept_blanks}
+use Rattle.usb_design.specs.Packets.{Packet, answer_now, answered_by, answered_gone, endpoint_with, event_at, gave, got, packet_now, put_at, sent_before, serve_at, serve_kept, walk}
+use Rattle.proof_design.specs.Kept.{PacketIs, Serves, grown, outcome_now}
+use Rattle.proof_design.proofs.FirstServed.{covers_past}
 use Rattle.proof_design.proofs.Fronts.{Fronted, Puts, fronts}
-use Rattle.usb_design.proofs.Standing.{stands_some, walks}
+use Rattle.usb_design.proofs.Stands.{stands_some, walks}
 use Rattle.proof_lemmas.proofs.Work.Phases.{running_tail}
 
 -- a running endpoint's controller stands at the first waiting transfer

@@ -19,12 +19,12 @@ use Rattle.usb_model.specs.Endpoint.Deliver.{blanked, deliver, is_withdrawn, lea
 use Rattle.usb_model.specs.Endpoint.{is_blank, is_blank_state, is_waiting, is_waiting_state, past_blanks}
 use Rattle.proof_lemmas.proofs.Work.Errands.{events-blanked, events-past_blanks}
 use Rattle.usb_model.specs.Coherence.{IsCoherent, IsPhase, event_by, ended, move_ran, move_waits, reset_ran, reset_waits, runs, served_events, stop_failed, stop_ran, stop_ran_paused, stop_waits, stop_waits_halted}
-use Rattle.proof_design.specs.Showing.{AllKept, AllNew, FrontKnown, IsOrderly, NewBehind, ShowsEnd, count, front, has_pause, is_stale, known_by, new_by, orders_sent, tail_told}
+use Rattle.proof_design.specs.ShownEndpoint.{AllKept, AllNew, FrontKnown, IsOrderly, NewBehind, ShowsEnd, count, front, has_pause, is_stale, known_by, new_by, orders_sent, tail_told}
 use Rattle.usb_design.specs.Kept.{Completion, InRow, KeptEndpoint, KeptTransfer, SentErrand, Telling, code_of, first_place, index_of}
-use Rattle.proof_design.specs.Keeping.{Handles}
-use Rattle.usb_design.specs.Handling.{kept_result, past_kept_blanks, posts}
-use Rattle.usb_design.specs.Settling.{kept_blanked, kept_withdrawn, leads_kept, resume_kept, settle, withdrawn_results}
-use Rattle.proof_design.proofs.Finding.{blanks_leave}
+use Rattle.proof_design.specs.Kept.{Handles}
+use Rattle.usb_design.specs.Events.{kept_result, past_kept_blanks, posts}
+use Rattle.usb_design.specs.Settlements.{kept_blanked, kept_withdrawn, leads_kept, resume_kept, settle, withdrawn_results}
+use Rattle.proof_design.proofs.FirstServed.{blanks_leave}
 use Rattle.proof_design.proofs.Finished.{same_result}
 use Rattle.proof_lemmas.proofs.Lists.Parts.{heads_same}
 use Rattle.proof_design.proofs.Fronts.{none_moved, told_none}

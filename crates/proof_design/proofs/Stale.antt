@@ -19,13 +19,13 @@ use Rattle.usb_model.specs.declared.news.Event.{Event}
 use Rattle.usb_model.specs.declared.reply.Reply.TheVariants as reply
 use Rattle.usb_model.specs.declared.reply.Reply.{Reply}
 use Rattle.usb_model.specs.declared.request.Request.{Request}
-use Rattle.usb_design.specs.Handling.{Handled, Reading, errand_of, find_at, finish, kept_after, kept_result, past_at, past_kept_blanks, posts}
-use Rattle.usb_design.specs.Joining.{asked, joined, kept_ask, new_kept}
+use Rattle.usb_design.specs.Events.{Handled, Reading, errand_of, find_at, finish, kept_after, kept_result, past_at, past_kept_blanks, posts}
+use Rattle.usb_design.specs.Joins.{asked, joined, kept_ask, new_kept}
 use Rattle.usb_design.specs.Kept.{InRow, KeptEndpoint, KeptTransfer, SentErrand, Telling, Transfer, first_place, trbs_of}
-use Rattle.usb_design.specs.Settling.{kept_blanked, leads_kept, pauses, resume_kept, settle, withdrawn_results}
-use Rattle.proof_design.specs.Showing.{AllBefore, AllFew, IsNear, ShowsEnd, StandsNear, is_stale}
+use Rattle.usb_design.specs.Settlements.{kept_blanked, leads_kept, pauses, resume_kept, settle, withdrawn_results}
+use Rattle.proof_design.specs.ShownEndpoint.{AllBefore, AllFew, IsNear, ShowsEnd, StandsNear, is_stale}
 use Rattle.proof_design.proofs.Ahead.{told_near}
-use Rattle.proof_design.proofs.Finding.{Less, blanks_leave}
+use Rattle.proof_design.proofs.FirstServed.{Less, blanks_leave}
 use Rattle.proof_design.proofs.Finished.{FirstEnd, first_end}
 use Rattle.proof_design.proofs.Near.{few_find, front_behind}
 use Rattle.proof_design.proofs.Places.{ask_place, blanked_place, is_at, map_first, push_first, put_first}

@@ -18,15 +18,15 @@ use Rattle.proof_lemmas.proofs.Lists.Pieces.{same_name}
 use Rattle.usb_design.specs.Kept.{KeptEndpoint, SentErrand, code_of, index_of}
 use Rattle.proof_design.specs.Known.{KnowsEvent, NeverStray, NoMove}
 use Rattle.proof_design.specs.Lively.{IsFine, ends_of}
-use Rattle.proof_design.specs.Showing.{ShowsEnd}
+use Rattle.proof_design.specs.ShownEndpoint.{ShowsEnd}
 use Rattle.proof_design.specs.Shows.{AllHeld, At, Core, Report, Shows, at, errands, event_at, events, here, ring_event, ring_order, tellings}
 use Rattle.proof_design.proofs.Apart.{errands_apart}
 use Rattle.proof_design.proofs.Delivers.{code_tells, sent_there}
 use Rattle.proof_design.proofs.Finished.{FinishedShows, finished_shows}
 use Rattle.proof_design.proofs.Glue.{same_holder}
-use Rattle.proof_design.proofs.Linking.{IsKnown, known}
+use Rattle.proof_design.proofs.Links.{IsKnown, known}
 use Rattle.proof_design.proofs.Pauses.{PausedShows, paused_shows}
-use Rattle.proof_design.proofs.Placing.{first_here}
+use Rattle.proof_design.proofs.Waiters.{first_here}
 use Rattle.proof_design.proofs.Senders.{sender_is}
 use Rattle.proof_design.proofs.Settled.{EndWays, SettledShows, end_ways, none_served, settled_shows}
 

@@ -13,9 +13,9 @@ use Rattle.proof_lemmas.proofs.Lists.Pieces.{same_name}
 use Rattle.proof_invariants.proofs.Machines.Deeds.{takes}
 use Rattle.proof_design.specs.Lively.{IsFine}
 use Rattle.proof_design.specs.Shows.{Core, Shows}
-use Rattle.proof_design.specs.Stepping.{StepsTo, rested, take_core, take_first, with_out}
+use Rattle.proof_design.specs.Steps.{StepsTo, rested, take_core, take_first, with_out}
 use Rattle.proof_design.proofs.Glue.{idle_steps, same_handle}
-use Rattle.proof_design.proofs.Linking.{machine_parts}
+use Rattle.proof_design.proofs.Links.{machine_parts}
 use Rattle.proof_design.proofs.Rests.{rest_steps}
 
 -- the oldest result

@@ -22,10 +22,10 @@ use Rattle.proof_lemmas.proofs.Shares.More.{one_more}
 use Rattle.proof_lemmas.proofs.Shares.Next.{next_there}
 use Rattle.proof_lemmas.proofs.Shares.OpenShares.{IsWhole, open_at, open_whole, halted_outcome}
 use Rattle.usb_design.specs.Stands.{full_trbs, lengths_of, total}
-use Rattle.proof_design.specs.Showing.{AllNew, AllOpen, IsLive, count, known_by, new_by}
+use Rattle.proof_design.specs.ShownEndpoint.{AllNew, AllOpen, IsLive, count, known_by, new_by}
 use Rattle.usb_design.specs.Kept.{KeptEndpoint, KeptTransfer, is_extra, trbs_of}
-use Rattle.usb_design.specs.Serving.{Packet, answer_now, gave, got, packet_by, packet_now, packet_of, room_at}
-use Rattle.proof_design.specs.Keeping.{PacketIs, grown, outcome_now, PauseTold}
+use Rattle.usb_design.specs.Packets.{Packet, answer_now, gave, got, packet_by, packet_now, packet_of, room_at}
+use Rattle.proof_design.specs.Kept.{PacketIs, grown, outcome_now, PauseTold}
 use Rattle.proof_design.proofs.Packets.{IsCounted, counted, next_is}
 use Rattle.proof_design.proofs.Fronts.{none_moved}
 use Rattle.proof_design.proofs.Serves.{At, PacketTold}

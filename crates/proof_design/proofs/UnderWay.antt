@@ -18,12 +18,12 @@ use Rattle.usb_model.specs.declared.news.Event.TheVariants.{Settled}
 use Rattle.usb_model.specs.declared.news.Event.{Event}
 use Rattle.usb_design.specs.Kept.{Completion, KeptEndpoint, KeptTransfer, SentErrand, Telling, Transfer}
 use Rattle.proof_design.specs.Lively.{IsFine, ends_of}
-use Rattle.proof_design.specs.Showing.{ShowsEnd, orders_sent, pause_told, tail_told, telling_of, told_by, told_of}
+use Rattle.proof_design.specs.ShownEndpoint.{ShowsEnd, orders_sent, pause_told, tail_told, telling_of, told_by, told_of}
 use Rattle.proof_design.specs.Shows.{At, Core, Report, RingOrder, Shows, at, completed, event_at, here, ring_event, ring_order, tellings, under_way}
 use Rattle.proof_design.proofs.Bounds.{Keyed, held_keyed, keyed_left}
 use Rattle.proof_design.proofs.Budget.{fewer, split_length}
 use Rattle.proof_design.proofs.Finished.{same_tail}
-use Rattle.proof_design.proofs.Linking.{known}
+use Rattle.proof_design.proofs.Links.{known}
 use Rattle.proof_design.proofs.Rests.{none_there}
 
 -- whether a telling is a completion

@@ -19,14 +19,14 @@ use Rattle.usb_model.specs.World.{World, holder, is_its, new_world, turn, world_
 use Rattle.usb_model.specs.Coherence.{IsCoherent, IsPhase, ended, move_ran, move_waits, reset_ran, reset_waits, runs, served_events, stop_failed, stop_ran, stop_ran_paused, stop_waits, stop_waits_halted}
 use Rattle.proof_lemmas.proofs.Handles.Isolation.{gone_stays}
 use Rattle.proof_lemmas.proofs.Lists.Pieces.{same_name}
-use Rattle.proof_design.specs.Showing.{AllFew, ShowsEnd, StandsNear, is_stale}
+use Rattle.proof_design.specs.ShownEndpoint.{AllFew, ShowsEnd, StandsNear, is_stale}
 use Rattle.usb_design.specs.Kept.{KeptEndpoint, SentErrand, Telling}
 use Rattle.proof_design.specs.Shows.{At, Core, InRun, Report, Shows, at, errands, event_at, events, news_of, order_at, order_of, ring_event, ring_order, tellings, under_way}
-use Rattle.proof_design.specs.Stepping.{Work, posted_by, worked}
+use Rattle.proof_design.specs.Steps.{Work, posted_by, worked}
 use Rattle.proof_design.proofs.Ahead.{fresh_near}
 use Rattle.proof_design.proofs.Counts.{NoEnds, as_many, errands_added, events_reported, reports, tellings_reported}
 use Rattle.proof_design.proofs.Devices.{device_shown, devices_worked}
-use Rattle.proof_design.proofs.Placing.{at_here, at_other, held_past, held_put, is_first_at, past-map, past_other, put}
+use Rattle.proof_design.proofs.Waiters.{at_here, at_other, held_past, held_put, is_first_at, past-map, past_other, put}
 
 -- a run with one step more
 pub world_and : (setup : Setup) (w : World) (steps : List Step) (step : Step) → world_from setup w (steps ++ step ∷ []) ≡ (turn setup (world_from setup w steps) step).world

@@ -10,9 +10,9 @@ use Rattle.usb_model.specs.Setup.{Setup}
 use Rattle.usb_model.specs.World.{World, holder}
 use Rattle.usb_model.specs.World.Shared.{pieces_of}
 use Rattle.usb_design.specs.Kept.{KeptTransfer, SentErrand}
-use Rattle.usb_design.specs.Handling.{Reading, errand_of, reading}
+use Rattle.usb_design.specs.Events.{Reading, errand_of, reading}
 use Rattle.proof_design.specs.Shows.{Completes, Core, RingEvent, RingOrder, Shows, Transfers}
-use Rattle.proof_design.specs.Stepping.{sender}
+use Rattle.proof_design.specs.Steps.{sender}
 
 -- no order to go on elsewhere in its ring waits for this endpoint
 abbrev pub moves_here : ℕ → ℕ → RingOrder → Type 0

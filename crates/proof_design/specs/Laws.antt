@@ -22,17 +22,17 @@ use Rattle.usb_model.specs.Machine.Turns.{gone_after, unplug_reply}
 use Rattle.usb_model.specs.World.{World, holder, machine_of, new_world, world_from}
 use Rattle.proof_design.specs.Lively.{IsLively, ends_of}
 use Rattle.proof_design.specs.Shows.{Core, Shows, under_way}
-use Rattle.proof_design.specs.Stepping.{StepsTo, command_core, deliver_core, new_core, serve_core, take_core}
+use Rattle.proof_design.specs.Steps.{StepsTo, command_core, deliver_core, new_core, serve_core, take_core}
 use Rattle.usb_model.specs.Coherence.{IsCoherent}
 use Rattle.usb_design.specs.Stands.{read_off, residual, stand, total}
 use Rattle.usb_design.specs.Kept.{KeptEndpoint, KeptTransfer, Completion, SentErrand, Telling, Transfer, code_of, first_place, index_of}
-use Rattle.proof_design.specs.Showing.{IsOrderly, ShowsEnd}
-use Rattle.proof_design.specs.Keeping.{Handles, Serves, Carries}
-use Rattle.usb_design.specs.Handling.{Reading, find_at, finish, reading}
-use Rattle.usb_design.specs.Serving.{sent_before, serve_kept}
-use Rattle.usb_design.specs.Commanding.{carry}
-use Rattle.usb_design.specs.Settling.{pauses, settle}
-use Rattle.usb_design.specs.Joining.{asked, joined}
+use Rattle.proof_design.specs.ShownEndpoint.{IsOrderly, ShowsEnd}
+use Rattle.proof_design.specs.Kept.{Handles, Serves, Carries}
+use Rattle.usb_design.specs.Events.{Reading, find_at, finish, reading}
+use Rattle.usb_design.specs.Packets.{sent_before, serve_kept}
+use Rattle.usb_design.specs.Commands.{carry}
+use Rattle.usb_design.specs.Settlements.{pauses, settle}
+use Rattle.usb_design.specs.Joins.{asked, joined}
 
 -- the bytes moved are read off the residual of an event where the transfer stands
 abbrev pub ReadsBack : Type 0

@@ -6,7 +6,7 @@ use Rattle.usb_model.specs.declared.item.Item.{Item}
 use Rattle.usb_model.specs.Direction.{is_of_direction, IsBody}
 use Rattle.usb_model.specs.Requests.{is_unsupported}
 use Rattle.usb_model.specs.Setup.{Setup, interface_of, is_in, kind_of, script_of, packet_size_of}
-use Rattle.proof_design.specs.Showing.{IsOrderly}
+use Rattle.proof_design.specs.ShownEndpoint.{IsOrderly}
 
 -- what a configuration has: a packet size at each endpoint where transfers can go, and answers of each endpoint's direction
 pub record IsFine (setup : Setup) : Type 0 where

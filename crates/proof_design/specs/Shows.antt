@@ -12,7 +12,7 @@ use Rattle.usb_model.specs.declared.result.TransferResult.{TransferResult}
 use Rattle.usb_model.specs.declared.shared.Tagged.{Tagged}
 use Rattle.usb_model.specs.Setup.{Setup, packet_size_of}
 use Rattle.usb_model.specs.World.{World, Claims, holder, turn, new_world, world_from}
-use Rattle.proof_design.specs.Showing.{AllFew, ShowsDevice, ShowsEnd, StandsNear}
+use Rattle.proof_design.specs.ShownEndpoint.{AllFew, ShowsDevice, ShowsEnd, StandsNear}
 use Rattle.usb_design.specs.Kept.{Telling, Transfer, Completion, SentErrand, KeptEndpoint}
 
 -- an order as the command ring has it: its endpoint, and the place where it stands, counted without end

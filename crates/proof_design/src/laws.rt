@@ -2,7 +2,7 @@
 
 ghost use Rattle.std.specs.Prelude.{ℕ, ◌≤◌, length};
 ghost use Rattle.usb_model.specs.Setup.{Setup};
-ghost use Rattle.proof_design.specs.Calling.{StepsWhole};
+ghost use Rattle.proof_design.specs.Calls.{StepsWhole};
 ghost use Rattle.proof_design.specs.Known.{FewPlaces, NeverStray, NotYetCalled, NumbersOnce, OrdersFit};
 ghost use Rattle.proof_design.specs.Lively.{IsFine, ends_of};
 ghost use Rattle.proof_design.specs.Laws.{FewEverywhere, FewUnderWay, FreshWhileRunning, LivelyAll, NearEverywhere, ReadsSoFar, StepsOfCore, AcceptsAsks, AcceptsSubmissions, CarriesOrders, DeliversFinished, DeliversPaused, DeliversSettled, FewAtEndpoint, KeepsOrder, ReadsBack, ServesPackets};

@@ -3,7 +3,7 @@ pub mod Due
 pub mod Delivers
 pub mod Serves
 pub mod Keeps
-pub mod Opening
+pub mod Opens
 pub mod Gone
 pub mod Steps
 pub mod AskedEnds

@@ -1,5 +1,5 @@
 -- Bounds of what waits for one endpoint, and of how often a transfer was submitted before.
 pub mod Items
 pub mod Paused
-pub mod Waiting
+pub mod Waits
 pub mod Runs

@@ -3,15 +3,15 @@
 
 ghost use Rattle.proof_rows.specs.Rows.{FallDue, Prints, PrintsAlone, StepsPrint};
 ghost use Rattle.proof_rows.specs.Rows.Transfers.{empty_scenario, bulk_in_eight_bytes, short_third_packet, short_is_not_ok, zero_length_in, zero_length_in_babble, two_transfers_in_order, seventeen_submissions, read_over_the_limit, out_with_zero_packet};
-ghost use Rattle.proof_rows.specs.Rows.Halting.{babble_then_recovery, three_babbles, stall_and_clear_halt, cancel_loses_to_stall, stall_beside_cancel};
-ghost use Rattle.proof_rows.specs.Rows.Cancelling.{cancel_amid_transfer, cancel_after_served, cancel_in_the_middle, pause_before_the_zero_packet, expire_without_timeout, cancel_then_expire, expire_then_cancel, cancel_amid_move, second_cancel_repeats_nothing, cancel_at_its_bound};
+ghost use Rattle.proof_rows.specs.Rows.Halts.{babble_then_recovery, three_babbles, stall_and_clear_halt, cancel_loses_to_stall, stall_beside_cancel};
+ghost use Rattle.proof_rows.specs.Rows.Cancels.{cancel_amid_transfer, cancel_after_served, cancel_in_the_middle, pause_before_the_zero_packet, expire_without_timeout, cancel_then_expire, expire_then_cancel, cancel_amid_move, second_cancel_repeats_nothing, cancel_at_its_bound};
 ghost use Rattle.proof_rows.specs.Rows.Handles.{refusals_of_handles, reset_with_other_holder, interface_changes_hands, close_waits_for_quiet, close_waits_for_errand};
 ghost use Rattle.proof_rows.specs.Rows.Callbacks.{resubmit_three_rounds, resubmit_until_stall, again_without_a_place, again_at_a_gone_device};
-ghost use Rattle.proof_rows.specs.Rows.Unplugging.{unplug_amid_transfers, unplug_of_nothing};
+ghost use Rattle.proof_rows.specs.Rows.Unplugs.{unplug_amid_transfers, unplug_of_nothing};
 ghost use Rattle.proof_rows.specs.Rows.Alone.{stall_beside_cancel_alone_1, stall_beside_cancel_alone_2, interface_changes_hands_alone_2, two_handles_two_rules_alone_1, two_handles_two_rules_alone_2, unplug_amid_transfers_alone_2};
 ghost use Rattle.proof_rows.specs.Rows.Refusals.{refusals_of_open, handle_that_is_not_open, interface_that_is_not_held, calls_amid_a_transfer};
 ghost use Rattle.proof_rows.specs.Rows.Requests.{unsupported_endpoints, bad_requests_at_a_full_endpoint, refused_asks, answers_of_no_callback};
-ghost use Rattle.proof_rows.specs.Rows.Closing.{close_frees_its_interfaces, numbers_go_on_behind_a_close, result_that_waits_is_in_the_way, errand_is_in_the_way, release_looks_at_one_interface, claim_of_what_is_held, reset_ends_a_halt};
+ghost use Rattle.proof_rows.specs.Rows.Closes.{close_frees_its_interfaces, numbers_go_on_behind_a_close, result_that_waits_is_in_the_way, errand_is_in_the_way, release_looks_at_one_interface, claim_of_what_is_held, reset_ends_a_halt};
 ghost use Rattle.proof_rows.specs.Rows.Places.{blanks_behind_a_failed_transfer, blanks_behind_a_completed_transfer, sixteen_places_at_each_endpoint};
 ghost use Rattle.proof_rows.specs.Rows.Devices.{two_devices_one_unplugged, four_devices_one_unplugged, served_before_the_unplug, unplug_amid_packets, cancel_at_a_gone_device, cancel_loses_to_the_unplug};
 ghost use Rattle.proof_rows.specs.Rows.Answers.{broken_at_first, broken_amid_packets, broken_behind_a_cancel, stall_amid_out, stall_and_babble_amid_reads, cancel_behind_a_stall};

@@ -1,7 +1,7 @@
 -- What is appended is a beginning of a text.
 use Rattle.std.proofs.Common.{◌≡◌, ℕ, List, [], ◌++◌, take, drop, Option, Some, None, refl, sym, ◌∙◌, ap, append_assoc, append-nil, take-append-drop}
 use Rattle.std.specs.Io.KnownBytes.{Appends, Keeps}
-use Rattle.trace_io.specs.Printing.{AppendsAllBut, AppendsSome}
+use Rattle.trace_io.specs.Output.{AppendsAllBut, AppendsSome}
 
 -- what is appended, and then appended to
 pub joined : (old mid new : Option (List ℕ)) (xs ys zs : List ℕ) → zs ≡ xs ++ ys → Appends old mid xs → Appends mid new ys → Appends old new zs

@@ -7,7 +7,7 @@ use Rattle.std.proofs.lemmas.List.{flat_map_more, take_all, take_more}
 use Rattle.usb_model.specs.declared.entry.Entry.{Entry}
 use Rattle.usb_model.specs.Text.{lines_text}
 use Rattle.usb_model.specs.World.Journal.{IsBeginning}
-use Rattle.trace_io.specs.Printing.{line_text, AppendsAllBut, AppendsSome}
+use Rattle.trace_io.specs.Output.{line_text, AppendsAllBut, AppendsSome}
 use Rattle.trace_io.proofs.Beginnings.{gathered_further, some_behind, some_further, some_of_front, stays, whole}
 
 -- the lines of the first entries, and of one more

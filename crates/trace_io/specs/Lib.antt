@@ -3,7 +3,7 @@ pub use Rattle.trace_scenario.specs.Number
 pub use Rattle.trace_scenario.specs.Words
 pub mod Faults
 pub mod Input
-pub mod Printing
+pub mod Output
 pub use Rattle.usb_model.specs.Text
 pub use Rattle.trace_scenario.specs.Counts
 pub use Rattle.usb_model.specs.World.Journal

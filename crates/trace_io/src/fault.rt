@@ -4,7 +4,7 @@ ghost use Rattle.std.specs.Prelude.{◌≡◌, OnOk, Some};
 ghost use Rattle.std.specs.Io.KnownBytes.{Appends};
 ghost use Rattle.std.specs.IoError.{error_kind};
 ghost use Rattle.trace_io.specs.Faults.{fault_of_kind, fault_of_text, fault_text, message_of};
-ghost use Rattle.trace_io.specs.Printing.{AppendsSome};
+ghost use Rattle.trace_io.specs.Output.{AppendsSome};
 ghost use Rattle.trace_io.specs.declared.fault.Fault.TheVariants as Fault;
 
 use crate::write::write_bytes;

@@ -3,7 +3,7 @@
 ghost use Rattle.std.specs.Prelude.{◌≡◌, ◌++◌, [], IfErr, OnErr, OnOk};
 ghost use Rattle.std.specs.Io.KnownBytes.{Appends};
 ghost use Rattle.trace_io.specs.Faults.{IsOfRun};
-ghost use Rattle.trace_io.specs.Printing.{line_text, AppendsAllBut, AppendsSome};
+ghost use Rattle.trace_io.specs.Output.{line_text, AppendsAllBut, AppendsSome};
 
 use crate::fault::Fault;
 use crate::write::write_bytes;

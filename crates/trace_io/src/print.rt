@@ -4,7 +4,7 @@ ghost use Rattle.std.specs.Prelude.{ℕ, List, map, IfErr, OnErr, OnOk};
 ghost use Rattle.std.specs.Io.KnownBytes.{Appends};
 ghost use Rattle.usb_model.specs.Text.{lines_text};
 ghost use Rattle.trace_io.specs.Faults.{IsOfRun};
-ghost use Rattle.trace_io.specs.Printing.{finding_text, counts_line, AppendsFindings, AppendsReport, AppendsSome, AppendsSomeFindings, AppendsSomeReport};
+ghost use Rattle.trace_io.specs.Output.{finding_text, counts_line, AppendsFindings, AppendsReport, AppendsSome, AppendsSomeFindings, AppendsSomeReport};
 
 use crate::fault::Fault;
 use crate::lines::Lines;

@@ -3,7 +3,7 @@
 ghost use Rattle.std.specs.Prelude.{IfErr, OnOk};
 ghost use Rattle.std.specs.Io.KnownBytes.{Appends};
 ghost use Rattle.trace_io.specs.Faults.{IsOfRun};
-ghost use Rattle.trace_io.specs.Printing.{AppendsSome};
+ghost use Rattle.trace_io.specs.Output.{AppendsSome};
 
 use crate::fault::Fault;
 use std::io::{ErrorKind, Write};

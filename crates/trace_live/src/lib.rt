@@ -4,7 +4,7 @@
 //!
 //! # Files
 //!
-//! - `performing.rt`: a plan from its devices to what its callbacks were told
+//! - `performance.rt`: a plan from its devices to what its callbacks were told
 //! - `handles.rt`, `line.rt`: each handle with its channel, and its thread; a line
 //! - `callbacks.rt`: what callbacks were told, out of a journal, and sorted
 //! - specs/Callbacks: the same as definitions
@@ -21,6 +21,6 @@
 mod callbacks;
 mod handles;
 mod line;
-mod performing;
+mod performance;
 
-pub use performing::perform;
+pub use performance::perform;

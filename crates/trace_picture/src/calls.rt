@@ -5,6 +5,7 @@ use crate::known::Flight;
 use crate::lane::Lane;
 use crate::picture::{Side, Spot};
 use crate::sign::Sign;
+use crate::words::Words;
 use std::alloc::AllocError;
 use usb_model::{Name, Refused, Step};
 
@@ -71,9 +72,8 @@ impl Drawing {
 
     /// Puts a sign and a number at the head of a lane.
     fn head_number(&mut self, spot: Spot, sign: Sign, number: u64) -> Result<(), AllocError> {
-        self.picture.mark(spot, sign)?;
-        let words = format!(in self.alloc; "{number}")?;
-        self.picture.label(spot, Side::Right, words)
+        self.picture
+            .tell(spot, sign, Side::Right, Words::number(number))
     }
 
     /// A transfer is asked to end.
@@ -136,11 +136,7 @@ impl Drawing {
     fn submitted(&mut self, column: u64, h: Name, n: u64, lane: Lane) -> Result<(), AllocError> {
         let own = Lane::of_handle(h);
         let bar = self.picture.begin_bar(own, column)?;
-        let start = Spot {
-            lane: own,
-            bar: Some(bar),
-            column,
-        };
+        let start = Spot::row(own, bar, column);
         self.head_number(start, Sign::Submission, n)?;
         let arrival = Spot::head(lane, column);
         self.picture.join(start, arrival)?;

@@ -1,23 +1,18 @@
 //! What stands below a column: its step, in a verb, its objects and its amount.
 
-use std::alloc::{AllocError, Global};
-use std::fmt;
+use crate::words::Words;
 use usb_model::{Step, Verdict};
 
 /// A step in three short lines.
-#[derive(Drop)]
+#[derive(Clone, Copy)]
 pub struct Caption {
     /// What is done.
-    pub verb: &'static str,
+    pub verb: Words,
     /// By whom, and with what.
-    pub objects: String,
-    /// Of how many bytes; empty where there are none to tell.
-    pub amount: String,
+    pub objects: Option<Words>,
+    /// Of how many bytes.
+    pub amount: Option<Words>,
 }
-
-/// The objects of a step.
-#[derive(Drop)]
-struct Objects<'a>(&'a Step);
 
 /// The verb of an answer.
 fn answer_verb(verdict: &Verdict) -> &'static str {
@@ -28,7 +23,7 @@ fn answer_verb(verdict: &Verdict) -> &'static str {
 }
 
 /// The verb of a step.
-fn step_verb(step: &Step) -> &'static str {
+fn verb(step: &Step) -> &'static str {
     match step {
         Step::Open { .. } => "open",
         Step::Close { .. } => "close",
@@ -48,64 +43,40 @@ fn step_verb(step: &Step) -> &'static str {
     }
 }
 
-/// The bytes of a submission.
-fn step_amount(alloc: Global, step: &Step) -> Result<String, AllocError> {
-    match step {
-        Step::Submit { request, .. } => {
-            let length = request.body.length();
-            format!(in alloc; "{length} B")
+/// The objects of a step.
+fn objects(step: &Step) -> Option<Words> {
+    Some(match step {
+        Step::Open { h, dev } => Words::OfHandle(h.number(), u64::from(dev.number())),
+        Step::Close { h } | Step::Reset { h } => Words::handle(h.number()),
+        Step::Claim { h, i } | Step::Release { h, i } => {
+            Words::OfHandle(h.number(), u64::from(*i))
         }
-        _ => Ok(String::new(alloc)),
+        Step::ClearHalt { h, ep } => Words::Endpoint("h", h.number(), ep.address()),
+        Step::Submit { h, request } => Words::Endpoint("h", h.number(), request.ep.address()),
+        Step::Cancel { h, n } | Step::Expire { h, n } | Step::Answer { h, n, .. } => {
+            Words::OfHandle(h.number(), *n)
+        }
+        Step::Serve { dev, ep } => Words::Endpoint("", dev.number(), ep.address()),
+        Step::Unplug { dev } => Words::number(u64::from(dev.number())),
+        Step::Command | Step::Deliver | Step::Take => return None,
+    })
+}
+
+/// The bytes of a submission.
+fn amount(step: &Step) -> Option<Words> {
+    match step {
+        Step::Submit { request, .. } => Some(Words::bytes(request.body.length() as u64)),
+        _ => None,
     }
 }
 
 impl Caption {
     /// The caption of a step.
-    pub fn of(alloc: Global, step: &Step) -> Result<Caption, AllocError> {
-        Ok(Caption {
-            verb: step_verb(step),
-            objects: Objects(step).to_string(alloc)?,
-            amount: step_amount(alloc, step)?,
-        })
-    }
-}
-
-impl fmt::Display for Objects<'_> {
-    fn fmt<W: fmt::Write>(&self, f: &mut fmt::Formatter<W>) -> fmt::Result {
-        match self.0 {
-            Step::Open { h, dev } => {
-                let (h, dev) = (h.number(), dev.number());
-                write!(f, "h{h} {dev}")
-            }
-            Step::Close { h } | Step::Reset { h } => {
-                let h = h.number();
-                write!(f, "h{h}")
-            }
-            Step::Claim { h, i } | Step::Release { h, i } => {
-                let h = h.number();
-                write!(f, "h{h} {i}")
-            }
-            Step::ClearHalt { h, ep } => {
-                let h = h.number();
-                write!(f, "h{h} {ep}")
-            }
-            Step::Submit { h, request } => {
-                let (h, ep) = (h.number(), request.ep);
-                write!(f, "h{h} {ep}")
-            }
-            Step::Cancel { h, n } | Step::Expire { h, n } | Step::Answer { h, n, .. } => {
-                let h = h.number();
-                write!(f, "h{h} {n}")
-            }
-            Step::Serve { dev, ep } => {
-                let dev = dev.number();
-                write!(f, "{dev} {ep}")
-            }
-            Step::Unplug { dev } => {
-                let dev = dev.number();
-                write!(f, "{dev}")
-            }
-            Step::Command | Step::Deliver | Step::Take => Ok(()),
+    pub fn of(step: &Step) -> Caption {
+        Caption {
+            verb: Words::Text(verb(step)),
+            objects: objects(step),
+            amount: amount(step),
         }
     }
 }

@@ -10,7 +10,7 @@ use usb_model::{Entry, Name, Reply, Step};
 /// A picture of a run, as far as it was told.
 #[derive(Drop)]
 pub struct Drawing {
-    pub(crate) alloc: Global,
+    alloc: Global,
     pub(crate) picture: Picture,
     pub(crate) known: Known,
 }
@@ -27,8 +27,7 @@ impl Drawing {
 
     /// Draws the next step of the run, and its entry. Without memory some of it is missing.
     pub fn tell(&mut self, step: &Step, entry: &Entry) -> Result<(), AllocError> {
-        let caption = Caption::of(self.alloc, step)?;
-        let column = self.picture.begin_column(caption)?;
+        let column = self.picture.begin_column(Caption::of(step))?;
         match (&entry.reply, entry.owner) {
             (Reply::Done, _) => self.done(column, step),
             (Reply::Number(n), _) => self.numbered(column, step, *n),

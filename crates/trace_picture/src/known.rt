@@ -8,8 +8,7 @@ use std::collections::BTreeMap;
 use usb_model::{EpAddr, Name};
 
 /// The name of a transfer: its handle's number, and its own.
-#[derive(Clone, Copy, PartialEq, Eq, PartialOrd, Ord)]
-struct Transfer(u8, u64);
+type Transfer = (u8, u64);
 
 /// What is known of a transfer.
 #[derive(Clone, Copy)]
@@ -64,18 +63,18 @@ impl Known {
     /// The lane of an endpoint of the device that the handle opened last; of device 0 where it opened none.
     pub fn lane(&self, h: Name, ep: EpAddr) -> Lane {
         let device = self.devices.get(&h.number()).copied().unwrap_or(0);
-        Lane::at_device(device, ep)
+        Lane::Endpoint(device, ep.address())
     }
 
     /// This is known of a transfer from now on.
     pub fn note_flight(&mut self, h: Name, n: u64, flight: Flight) -> Result<(), AllocError> {
-        self.flights.insert(Transfer(h.number(), n), flight)?;
+        self.flights.insert((h.number(), n), flight)?;
         Ok(())
     }
 
     /// What is known of a transfer.
     pub fn flight(&self, h: Name, n: u64) -> Option<Flight> {
-        self.flights.get(&Transfer(h.number(), n)).copied()
+        self.flights.get(&(h.number(), n)).copied()
     }
 
     /// This is known of an endpoint from now on.

@@ -1,6 +1,6 @@
 //! Lanes: the rows of the picture, one for each thing to which something happens.
 
-use std::fmt;
+use crate::words::Words;
 use usb_model::{DeviceNo, EpAddr, Name};
 
 /// A lane. They stand from the top to the bottom in this order.
@@ -29,9 +29,15 @@ impl Lane {
         Lane::Endpoint(dev.number(), ep.address())
     }
 
-    /// The lane of an endpoint at a device of this number.
-    pub fn at_device(device: u8, ep: EpAddr) -> Lane {
-        Lane::Endpoint(device, ep.address())
+    /// Its name, as `h1`, or `0 81` for the endpoint 81 of device 0.
+    pub fn name(self) -> Words {
+        match self {
+            Lane::Plugs => Words::Text("plugs"),
+            Lane::Handle(number) => Words::handle(number),
+            Lane::Endpoint(device, address) => Words::Endpoint("", device, address),
+            Lane::Commands => Words::Text("command"),
+            Lane::Events => Words::Text("event"),
+        }
     }
 
     /// What stands below its name.
@@ -60,19 +66,6 @@ impl Lane {
             Lane::Commands => "order",
             Lane::Events => "event",
             _ => "transfer",
-        }
-    }
-}
-
-/// Its name, as `h1`, or `0 81` for the endpoint 81 of device 0.
-impl fmt::Display for Lane {
-    fn fmt<W: fmt::Write>(&self, f: &mut fmt::Formatter<W>) -> fmt::Result {
-        match self {
-            Lane::Plugs => f.write_str("plugs"),
-            Lane::Handle(number) => write!(f, "h{number}"),
-            Lane::Endpoint(device, address) => write!(f, "{device} {address:02x}"),
-            Lane::Commands => f.write_str("command"),
-            Lane::Events => f.write_str("event"),
         }
     }
 }

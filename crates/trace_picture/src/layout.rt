@@ -40,60 +40,63 @@ pub fn column_edge(column: u64) -> u64 {
     LEFT.saturating_add(column.saturating_mul(COLUMN))
 }
 
-/// The row of a bar, which it takes in its lane.
-fn place(tracks: &mut Vec<Track>, bar: &Bar) -> Result<u64, AllocError> {
-    for track in tracks.iter_mut() {
-        if track.lane == bar.lane {
-            return track.place(bar);
-        }
-    }
-    Ok(0)
-}
-
-/// Puts the tracks below one another, and gives the lower edge of the last.
-fn stack(tracks: &mut Vec<Track>) -> u64 {
-    let mut top = TOP;
-    for track in tracks.iter_mut() {
-        track.top = top;
-        top = top.saturating_add(track.height());
-    }
-    top
-}
-
 impl Layout {
     /// The layout of a picture.
     pub fn of(alloc: Global, picture: &Picture) -> Result<Layout, AllocError> {
-        let mut tracks = Vec::new(alloc);
+        let mut layout = Layout {
+            tracks: Vec::new(alloc),
+            rows: Vec::new(alloc),
+            bottom: TOP,
+            width: column_edge(picture.width().saturating_add(1)).max(LEAST_WIDTH),
+        };
+        layout.add(alloc, picture)?;
+        Ok(layout)
+    }
+
+    /// Adds the lanes and bars of a picture, and puts the lanes below one another.
+    fn add(&mut self, alloc: Global, picture: &Picture) -> Result<(), AllocError> {
         for lane in picture.lanes.iter() {
-            tracks.push(Track::new(alloc, *lane))?;
+            self.tracks.push(Track::new(alloc, *lane))?;
         }
-        let mut rows = Vec::new(alloc);
         for bar in picture.bars.iter() {
-            rows.push(place(&mut tracks, bar)?)?;
+            self.place(bar)?;
         }
-        let bottom = stack(&mut tracks);
-        let width = column_edge(picture.width().saturating_add(1)).max(LEAST_WIDTH);
-        Ok(Layout {
-            tracks,
-            rows,
-            bottom,
-            width,
-        })
+        self.stack();
+        Ok(())
+    }
+
+    /// Puts a bar into a row of its lane.
+    fn place(&mut self, bar: &Bar) -> Result<(), AllocError> {
+        let mut row = 0;
+        for track in self.tracks.iter_mut() {
+            if track.lane == bar.lane {
+                row = track.place(bar)?;
+            }
+        }
+        self.rows.push(row)?;
+        Ok(())
+    }
+
+    /// Puts the lanes below one another.
+    fn stack(&mut self) {
+        for track in self.tracks.iter_mut() {
+            track.top = self.bottom;
+            self.bottom = self.bottom.saturating_add(track.height());
+        }
     }
 
     /// The height at which a place of this lane stands: in the row of its bar, or at the lane's head.
     fn height(&self, lane: Lane, bar: Option<usize>) -> u64 {
-        let Some(track) = self.tracks.iter().find(|track| track.lane == lane) else {
-            return TOP;
-        };
         let row = match bar {
             Some(number) => self.rows.get(number).copied(),
             None => None,
         };
-        match row {
-            Some(row) => track.row_middle(row),
-            None => track.head_middle(),
+        for track in self.tracks.iter() {
+            if track.lane == lane {
+                return track.middle(row);
+            }
         }
+        TOP
     }
 
     /// A place's point.

@@ -1,6 +1,7 @@
 //! The legend: what each sign and number means.
 
 use crate::page::Page;
+use crate::words::Words;
 use std::alloc::AllocError;
 
 /// The height of the legend.
@@ -57,14 +58,18 @@ const NOTES: [&str; 3] = [
 ];
 
 /// A line of signs with their meanings.
-fn signs(page: &mut Page, y: u64, places: &[(&str, &str)]) -> Result<(), AllocError> {
+fn signs(
+    page: &mut Page,
+    y: u64,
+    places: &[(&'static str, &'static str)],
+) -> Result<(), AllocError> {
     let mut x = LEFT;
     for (id, meaning) in places {
         page.shape(id, (x, y))?;
         page.words(
             "meaning",
             (x.saturating_add(12), y.saturating_add(4)),
-            meaning,
+            Words::Text(meaning),
         )?;
         x = x.saturating_add(PLACE);
     }
@@ -82,7 +87,7 @@ pub fn legend(page: &mut Page, top: u64) -> Result<(), AllocError> {
         page.words(
             "faint",
             (LEFT.saturating_sub(6), y.saturating_add(4)),
-            words,
+            Words::Text(words),
         )?;
         y = y.saturating_add(LINE);
     }

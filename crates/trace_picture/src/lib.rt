@@ -5,7 +5,7 @@
 //! # Files
 //!
 //! - `drawing.rt`, `calls.rt`, `turns.rt`, `known.rt`: what a step and its entry add, by what was told before
-//! - `picture.rt`, `lane.rt`, `track.rt`, `sign.rt`, `caption.rt`: what stands in a picture
+//! - `picture.rt`, `lane.rt`, `track.rt`, `sign.rt`, `caption.rt`, `words.rt`: what stands in a picture
 //! - `layout.rt`, `paint.rt`, `page.rt`, `style.rt`, `legend.rt`: where it stands, and how it is written (SVG 1.1)
 #![tactic(auto)]
 
@@ -23,5 +23,6 @@ mod sign;
 mod style;
 mod track;
 mod turns;
+mod words;
 
 pub use drawing::Drawing;

@@ -1,6 +1,7 @@
 //! A page of SVG 1.1, written shape by shape.
 
 use crate::style::{SHAPES, STYLE};
+use crate::words::Words;
 use std::alloc::{AllocError, Global};
 
 /// A page that is being written.
@@ -12,16 +13,38 @@ pub struct Page {
 impl Page {
     /// An empty page of this size.
     pub fn new(alloc: Global, width: u64, height: u64) -> Result<Page, AllocError> {
-        let mut text = String::new(alloc);
+        let mut page = Page {
+            text: String::new(alloc),
+        };
+        page.open(width, height)?;
+        Ok(page)
+    }
+
+    /// Begins the page, with its style and the shapes of all signs.
+    fn open(&mut self, width: u64, height: u64) -> Result<(), AllocError> {
         write!(
-            text,
+            self.text,
             "<svg xmlns='http://www.w3.org/2000/svg' xmlns:xlink='http://www.w3.org/1999/xlink' version='1.1' width='{width}' height='{height}' viewBox='0 0 {width} {height}'>\n"
         )?;
-        text.push_str(STYLE)?;
-        text.push_str(SHAPES)?;
-        let mut page = Page { text };
-        page.block("page", (0, 0), (width, height))?;
-        Ok(page)
+        self.text.push_str(STYLE)?;
+        self.text.push_str(SHAPES)?;
+        self.block("page", (0, 0), (width, height))
+    }
+
+    /// Begins an element of this class.
+    fn begin(&mut self, element: &str, class: &str) -> Result<(), AllocError> {
+        write!(self.text, "<{element} class='{class}'")
+    }
+
+    /// Writes two attributes of an element.
+    fn pair(&mut self, first: &str, second: &str, pair: (u64, u64)) -> Result<(), AllocError> {
+        let (x, y) = pair;
+        write!(self.text, " {first}='{x}' {second}='{y}'")
+    }
+
+    /// Ends an element that has nothing in it.
+    fn end(&mut self) -> Result<(), AllocError> {
+        self.text.push_str("/>\n")
     }
 
     /// A rectangle, by its upper left corner and its size.
@@ -31,11 +54,10 @@ impl Page {
         corner: (u64, u64),
         size: (u64, u64),
     ) -> Result<(), AllocError> {
-        let ((x, y), (width, height)) = (corner, size);
-        write!(
-            self.text,
-            "<rect class='{class}' x='{x}' y='{y}' width='{width}' height='{height}'/>\n"
-        )
+        self.begin("rect", class)?;
+        self.pair("x", "y", corner)?;
+        self.pair("width", "height", size)?;
+        self.end()
     }
 
     /// A line from a point to another.
@@ -45,38 +67,26 @@ impl Page {
         from: (u64, u64),
         to: (u64, u64),
     ) -> Result<(), AllocError> {
-        let ((x1, y1), (x2, y2)) = (from, to);
-        write!(
-            self.text,
-            "<line class='{class}' x1='{x1}' y1='{y1}' x2='{x2}' y2='{y2}'/>\n"
-        )
+        self.begin("line", class)?;
+        self.pair("x1", "y1", from)?;
+        self.pair("x2", "y2", to)?;
+        self.end()
     }
 
     /// A shape of this name, at a point.
     pub fn shape(&mut self, id: &str, at: (u64, u64)) -> Result<(), AllocError> {
-        let (x, y) = at;
-        write!(self.text, "<use xlink:href='#{id}' x='{x}' y='{y}'/>\n")
+        write!(self.text, "<use xlink:href='#{id}'")?;
+        self.pair("x", "y", at)?;
+        self.end()
     }
 
     /// Words at a point.
-    pub fn words(&mut self, class: &str, at: (u64, u64), words: &str) -> Result<(), AllocError> {
-        let (x, y) = at;
-        write!(self.text, "<text class='{class}' x='{x}' y='{y}'>")?;
-        self.escaped(words)?;
+    pub fn words(&mut self, class: &str, at: (u64, u64), words: Words) -> Result<(), AllocError> {
+        self.begin("text", class)?;
+        self.pair("x", "y", at)?;
+        self.text.push_str(">")?;
+        words.write(&mut self.text)?;
         self.text.push_str("</text>\n")
-    }
-
-    /// Words, with the characters that mean something in XML as entities.
-    fn escaped(&mut self, words: &str) -> Result<(), AllocError> {
-        for character in words.chars() {
-            match character {
-                '&' => self.text.push_str("&amp;")?,
-                '<' => self.text.push_str("&lt;")?,
-                '>' => self.text.push_str("&gt;")?,
-                _ => self.text.push(character)?,
-            }
-        }
-        Ok(())
     }
 
     /// The whole text of the page.

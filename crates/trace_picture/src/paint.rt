@@ -6,6 +6,7 @@ use crate::legend;
 use crate::page::Page;
 use crate::picture::{Bar, Label, Picture, Side};
 use crate::track::Track;
+use crate::words::Words;
 use std::alloc::{AllocError, Global};
 
 /// The room for the captions.
@@ -17,60 +18,60 @@ const BAR: u64 = 14;
 /// The page of a picture.
 pub fn paint(alloc: Global, picture: &Picture) -> Result<String, AllocError> {
     let layout = Layout::of(alloc, picture)?;
-    let legend_top = layout.bottom.saturating_add(CAPTIONS);
-    let height = legend_top.saturating_add(legend::HEIGHT);
+    let height = legend_top(&layout).saturating_add(legend::HEIGHT);
     let mut page = Page::new(alloc, layout.width, height)?;
-    ground(alloc, &mut page, &layout, picture)?;
-    lines(&mut page, &layout, picture)?;
-    signs(&mut page, &layout, picture)?;
-    legend::legend(&mut page, legend_top)?;
+    draw(&mut page, &layout, picture)?;
     page.finish()
 }
 
+/// The upper edge of the legend.
+fn legend_top(layout: &Layout) -> u64 {
+    layout.bottom.saturating_add(CAPTIONS)
+}
+
+/// Draws all of a picture.
+fn draw(page: &mut Page, layout: &Layout, picture: &Picture) -> Result<(), AllocError> {
+    ground(page, layout, picture)?;
+    lines(page, layout, picture)?;
+    signs(page, layout, picture)?;
+    legend::legend(page, legend_top(layout))
+}
+
 /// The lanes with their names, and the columns with their captions.
-fn ground(
-    alloc: Global,
-    page: &mut Page,
-    layout: &Layout,
-    picture: &Picture,
-) -> Result<(), AllocError> {
+fn ground(page: &mut Page, layout: &Layout, picture: &Picture) -> Result<(), AllocError> {
     let mut is_shaded = true;
     for track in layout.tracks.iter() {
-        lane(alloc, page, layout.width, track, is_shaded)?;
+        lane(page, layout.width, track, is_shaded)?;
         is_shaded = !is_shaded;
     }
     page.line("edge", (0, layout.bottom), (layout.width, layout.bottom))?;
     for column in 0..picture.width() {
-        grid(alloc, page, layout.bottom, column)?;
+        grid(page, layout.bottom, column)?;
     }
     captions(page, layout.bottom, picture)
 }
 
 /// A lane with its name.
-fn lane(
-    alloc: Global,
-    page: &mut Page,
-    width: u64,
-    track: &Track,
-    is_shaded: bool,
-) -> Result<(), AllocError> {
+fn lane(page: &mut Page, width: u64, track: &Track, is_shaded: bool) -> Result<(), AllocError> {
+    let (lane, top) = (track.lane, track.top);
     if is_shaded {
-        page.block("lane", (0, track.top), (width, track.height()))?;
+        page.block("lane", (0, top), (width, track.height()))?;
     }
-    page.line("edge", (0, track.top), (width, track.top))?;
-    let name = track.lane.to_string(alloc)?;
-    page.words("name", (12, track.top.saturating_add(17)), name.as_str())?;
-    let hint = track.lane.hint();
-    page.words("hint", (12, track.top.saturating_add(28)), hint)
+    page.line("edge", (0, top), (width, top))?;
+    page.words("name", (12, top.saturating_add(17)), lane.name())?;
+    page.words(
+        "hint",
+        (12, top.saturating_add(28)),
+        Words::Text(lane.hint()),
+    )
 }
 
 /// A column's line and number.
-fn grid(alloc: Global, page: &mut Page, bottom: u64, column: u64) -> Result<(), AllocError> {
+fn grid(page: &mut Page, bottom: u64, column: u64) -> Result<(), AllocError> {
     let x = column_middle(column);
     page.line("grid", (x, TOP), (x, bottom))?;
-    let number = column.saturating_add(1);
-    let words = format!(in alloc; "{number}")?;
-    page.words("number", (x, TOP.saturating_sub(12)), words.as_str())
+    let number = Words::number(column.saturating_add(1));
+    page.words("number", (x, TOP.saturating_sub(12)), number)
 }
 
 /// The captions of all columns, below this height.
@@ -86,12 +87,11 @@ fn captions(page: &mut Page, bottom: u64, picture: &Picture) -> Result<(), Alloc
 /// A caption round this middle, below this height.
 fn page_caption(page: &mut Page, x: u64, bottom: u64, caption: &Caption) -> Result<(), AllocError> {
     page.words("verb", (x, bottom.saturating_add(15)), caption.verb)?;
-    let mut y = bottom.saturating_add(28);
-    for words in [caption.objects.as_str(), caption.amount.as_str()] {
-        if !words.is_empty() {
-            page.words("objects", (x, y), words)?;
-        }
-        y = y.saturating_add(12);
+    if let Some(words) = caption.objects {
+        page.words("objects", (x, bottom.saturating_add(28)), words)?;
+    }
+    if let Some(words) = caption.amount {
+        page.words("objects", (x, bottom.saturating_add(40)), words)?;
     }
     Ok(())
 }
@@ -147,5 +147,5 @@ fn page_label(page: &mut Page, at: (u64, u64), label: &Label) -> Result<(), Allo
         Side::Below => ("faint", (right, y.saturating_add(11))),
         Side::Left => ("left", (left, y.saturating_add(4))),
     };
-    page.words(class, at, label.words.as_str())
+    page.words(class, at, label.words)
 }

@@ -3,6 +3,7 @@
 use crate::caption::Caption;
 use crate::lane::Lane;
 use crate::sign::Sign;
+use crate::words::Words;
 use std::alloc::{AllocError, Global};
 use std::collections::BTreeSet;
 
@@ -60,14 +61,14 @@ pub enum Side {
 }
 
 /// Words at a place.
-#[derive(Drop)]
+#[derive(Clone, Copy)]
 pub struct Label {
     /// Where.
     pub spot: Spot,
     /// On which side.
     pub side: Side,
     /// The words.
-    pub words: String,
+    pub words: Words,
 }
 
 /// All that is drawn.
@@ -90,6 +91,15 @@ pub struct Picture {
 }
 
 impl Spot {
+    /// The row of a bar.
+    pub fn row(lane: Lane, bar: usize, column: u64) -> Spot {
+        Spot {
+            lane,
+            bar: Some(bar),
+            column,
+        }
+    }
+
     /// The head of a lane.
     pub fn head(lane: Lane, column: u64) -> Spot {
         Spot {
@@ -114,11 +124,17 @@ impl Picture {
         }
     }
 
+    /// This lane occurs.
+    fn add_lane(&mut self, lane: Lane) -> Result<(), AllocError> {
+        self.lanes.insert(lane)?;
+        Ok(())
+    }
+
     /// Begins a column with this caption, and gives its number.
     pub fn begin_column(&mut self, caption: Caption) -> Result<u64, AllocError> {
         let column = self.width();
-        self.lanes.insert(Lane::Commands)?;
-        self.lanes.insert(Lane::Events)?;
+        self.add_lane(Lane::Commands)?;
+        self.add_lane(Lane::Events)?;
         self.captions.push(caption)?;
         Ok(column)
     }
@@ -131,7 +147,7 @@ impl Picture {
     /// Begins a bar, and gives its number.
     pub fn begin_bar(&mut self, lane: Lane, from: u64) -> Result<usize, AllocError> {
         let number = self.bars.len();
-        self.lanes.insert(lane)?;
+        self.add_lane(lane)?;
         self.bars.push(Bar {
             lane,
             from,
@@ -145,11 +161,7 @@ impl Picture {
         if let Some(bar) = self.bars.get_mut(number) {
             bar.to = Some(column);
         }
-        Spot {
-            lane,
-            bar: Some(number),
-            column,
-        }
+        Spot::row(lane, number, column)
     }
 
     /// How many columns a bar has lasted at this one.
@@ -162,21 +174,33 @@ impl Picture {
 
     /// Puts a sign at a place.
     pub fn mark(&mut self, spot: Spot, sign: Sign) -> Result<(), AllocError> {
-        self.lanes.insert(spot.lane)?;
+        self.add_lane(spot.lane)?;
         self.marks.push(Mark { spot, sign })?;
         Ok(())
     }
 
     /// Draws a line from a place to another.
     pub fn join(&mut self, from: Spot, to: Spot) -> Result<(), AllocError> {
-        self.lanes.insert(to.lane)?;
+        self.add_lane(to.lane)?;
         self.joins.push(Join { from, to })?;
         Ok(())
     }
 
     /// Puts words beside a place.
-    pub fn label(&mut self, spot: Spot, side: Side, words: String) -> Result<(), AllocError> {
+    pub fn label(&mut self, spot: Spot, side: Side, words: Words) -> Result<(), AllocError> {
         self.labels.push(Label { spot, side, words })?;
         Ok(())
+    }
+
+    /// Puts a sign at a place, and words beside it.
+    pub fn tell(
+        &mut self,
+        spot: Spot,
+        sign: Sign,
+        side: Side,
+        words: Words,
+    ) -> Result<(), AllocError> {
+        self.mark(spot, sign)?;
+        self.label(spot, side, words)
     }
 }

@@ -53,11 +53,6 @@ fn status_id(status: Status) -> &'static str {
 }
 
 impl Sign {
-    /// Success or failure.
-    pub fn of_outcome(ok: bool) -> Sign {
-        if ok { Sign::Success } else { Sign::Failure }
-    }
-
     /// Its name in the page.
     pub fn id(self) -> &'static str {
         match self {

@@ -37,20 +37,16 @@ impl Track {
     /// Puts a bar into the first row that is free where it begins, and gives that row.
     pub fn place(&mut self, bar: &Bar) -> Result<u64, AllocError> {
         let (from, to) = (bar.from, bar.to.unwrap_or(u64::MAX));
-        let free = self.ends.iter().position(|end| *end < from);
-        let Some(row) = free else {
-            self.ends.push(to)?;
-            return Ok(self.last_row());
-        };
-        if let Some(end) = self.ends.get_mut(row) {
-            *end = to;
+        let mut row = 0u64;
+        for end in self.ends.iter_mut() {
+            if *end < from {
+                *end = to;
+                return Ok(row);
+            }
+            row = row.saturating_add(1);
         }
-        Ok(row as u64)
-    }
-
-    /// The last row.
-    fn last_row(&self) -> u64 {
-        (self.ends.len() as u64).saturating_sub(1)
+        self.ends.push(to)?;
+        Ok(row)
     }
 
     /// Its height.
@@ -60,18 +56,16 @@ impl Track {
         self.lane.head().saturating_add(below).max(LEAST_HEIGHT)
     }
 
-    /// The middle of its head.
-    pub fn head_middle(&self) -> u64 {
-        self.top
-            .saturating_add(self.lane.head() / 2)
-            .saturating_add(MARGIN / 2)
-    }
-
-    /// The middle of a row.
-    pub fn row_middle(&self, row: u64) -> u64 {
-        let rows_top = self.top.saturating_add(self.lane.head());
-        rows_top
-            .saturating_add(row.saturating_mul(ROW))
-            .saturating_add(ROW / 2)
+    /// The middle of a row; of its head where there is none.
+    pub fn middle(&self, row: Option<u64>) -> u64 {
+        let head = self.lane.head();
+        match row {
+            Some(row) => self
+                .top
+                .saturating_add(head)
+                .saturating_add(row.saturating_mul(ROW))
+                .saturating_add(ROW / 2),
+            None => self.top.saturating_add(head / 2).saturating_add(MARGIN / 2),
+        }
     }
 }

@@ -5,6 +5,7 @@ use crate::known::{Flight, Trace};
 use crate::lane::Lane;
 use crate::picture::{Side, Spot};
 use crate::sign::Sign;
+use crate::words::Words;
 use std::alloc::AllocError;
 use usb_model::completion::halts;
 use usb_model::{EpAddr, Errand, Name, Returned, Step};
@@ -12,10 +13,10 @@ use usb_model::{EpAddr, Errand, Name, Returned, Step};
 /// How many columns a bar lasts at least whose number is told again at its end.
 const LONG: u64 = 5;
 
-/// The lane of the endpoint that a step serves.
-fn served_lane(step: &Step) -> Option<Lane> {
+/// The head of the lane of the endpoint that a step serves.
+fn served(step: &Step, column: u64) -> Option<Spot> {
     match step {
-        Step::Serve { dev, ep } => Some(Lane::of_endpoint(*dev, *ep)),
+        Step::Serve { dev, ep } => Some(Spot::head(Lane::of_endpoint(*dev, *ep), column)),
         _ => None,
     }
 }
@@ -23,15 +24,13 @@ fn served_lane(step: &Step) -> Option<Lane> {
 impl Drawing {
     /// Puts a sign at the lane of an endpoint, and the transfer's number above it.
     fn packet(&mut self, spot: Spot, sign: Sign, n: u64) -> Result<(), AllocError> {
-        self.picture.mark(spot, sign)?;
-        let words = format!(in self.alloc; "{n}")?;
-        self.picture.label(spot, Side::Above, words)
+        self.picture.tell(spot, sign, Side::Above, Words::number(n))
     }
 
     /// The device wasn't ready.
     pub(crate) fn nak(&mut self, column: u64, step: &Step, n: u64) -> Result<(), AllocError> {
-        match served_lane(step) {
-            Some(lane) => self.packet(Spot::head(lane, column), Sign::Nak, n),
+        match served(step, column) {
+            Some(spot) => self.packet(spot, Sign::Nak, n),
             None => Ok(()),
         }
     }
@@ -44,12 +43,11 @@ impl Drawing {
         n: u64,
         bytes: u32,
     ) -> Result<(), AllocError> {
-        let Some(lane) = served_lane(step) else {
+        let Some(spot) = served(step, column) else {
             return Ok(());
         };
-        let spot = Spot::head(lane, column);
         self.packet(spot, Sign::Packet, n)?;
-        let words = format!(in self.alloc; "{bytes} B")?;
+        let words = Words::bytes(u64::from(bytes));
         self.picture.label(spot, Side::Below, words)
     }
 
@@ -66,8 +64,11 @@ impl Drawing {
         };
         let spot = Spot::head(flight.lane, column);
         self.packet(spot, Sign::Ended, n)?;
-        let words = format!(in self.alloc; "code {code}")?;
-        self.picture.label(spot, Side::Below, words)?;
+        self.picture.label(
+            spot,
+            Side::Below,
+            Words::Numbered("code ", u64::from(code), ""),
+        )?;
         let event = self.posted(spot)?;
         let flight = Flight {
             event: Some(event),
@@ -77,16 +78,16 @@ impl Drawing {
         self.known.note_flight(h, n, flight)
     }
 
+    /// Begins the bar of an order or an event in the lane of its ring, and joins it to the place where it comes from.
+    fn begun(&mut self, lane: Lane, from: Spot) -> Result<usize, AllocError> {
+        let bar = self.picture.begin_bar(lane, from.column)?;
+        self.picture.join(from, Spot::row(lane, bar, from.column))?;
+        Ok(bar)
+    }
+
     /// Begins the bar of an event that is posted from a place.
     fn posted(&mut self, from: Spot) -> Result<usize, AllocError> {
-        let event = self.picture.begin_bar(Lane::Events, from.column)?;
-        let to = Spot {
-            lane: Lane::Events,
-            bar: Some(event),
-            column: from.column,
-        };
-        self.picture.join(from, to)?;
-        Ok(event)
+        self.begun(Lane::Events, from)
     }
 
     /// The bar of an event: this one, where there is one.
@@ -99,17 +100,10 @@ impl Drawing {
 
     /// The bar of an order that is carried out in this column, from where it was ordered.
     fn order_bar(&mut self, cause: Option<Spot>, column: u64) -> Result<usize, AllocError> {
-        let Some(cause) = cause else {
-            return self.picture.begin_bar(Lane::Commands, column);
-        };
-        let order = self.picture.begin_bar(Lane::Commands, cause.column)?;
-        let to = Spot {
-            lane: Lane::Commands,
-            bar: Some(order),
-            column: cause.column,
-        };
-        self.picture.join(cause, to)?;
-        Ok(order)
+        match cause {
+            Some(cause) => self.begun(Lane::Commands, cause),
+            None => self.picture.begin_bar(Lane::Commands, column),
+        }
     }
 
     /// An order was carried out, or failed: an event is posted.
@@ -147,9 +141,9 @@ impl Drawing {
         errand: Errand,
         ok: bool,
     ) -> Result<(), AllocError> {
-        self.picture.mark(spot, Sign::of_outcome(ok))?;
-        let words = format!(in self.alloc; "{errand} {ep}")?;
-        self.picture.label(spot, Side::Right, words)
+        let sign = if ok { Sign::Success } else { Sign::Failure };
+        let words = Words::Errand(errand, ep.address());
+        self.picture.tell(spot, sign, Side::Right, words)
     }
 
     /// The event of an order was handled.
@@ -185,10 +179,8 @@ impl Drawing {
         n: u64,
     ) -> Result<Spot, AllocError> {
         let spot = self.picture.end_bar(event, Lane::Events, column);
-        self.picture.mark(spot, sign)?;
-        let number = h.number();
-        let words = format!(in self.alloc; "h{number} {n}")?;
-        self.picture.label(spot, Side::Right, words)?;
+        let words = Words::OfHandle(h.number(), n);
+        self.picture.tell(spot, sign, Side::Right, words)?;
         Ok(spot)
     }
 
@@ -229,13 +221,14 @@ impl Drawing {
             return Ok(());
         };
         let spot = self.picture.end_bar(flight.bar, Lane::of_handle(h), column);
-        self.picture.mark(spot, Sign::Called(returned.status))?;
-        let words = format!(in self.alloc; "{actual} B")?;
-        self.picture.label(spot, Side::Right, words)?;
+        let (sign, words) = (
+            Sign::Called(returned.status),
+            Words::bytes(u64::from(actual)),
+        );
+        self.picture.tell(spot, sign, Side::Right, words)?;
         if self.picture.age(flight.bar, column) < LONG {
             return Ok(());
         }
-        let words = format!(in self.alloc; "{n}")?;
-        self.picture.label(spot, Side::Left, words)
+        self.picture.label(spot, Side::Left, Words::number(n))
     }
 }

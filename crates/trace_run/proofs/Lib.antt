@@ -1,3 +1,3 @@
-mod Making
+mod MadeDevices
 mod Printed
 mod Lined

@@ -1,9 +1,14 @@
 -- How far a run is whose entries are printed step by step, and what of them is written.
-use Rattle.std.proofs.Common.{◌≡◌, ℕ, ◌+◌, ◌<◌, ◌≤◌, ◌⊎◌, inl, inr, true, false, List, [], ◌∷◌, ◌++◌, length, map, drop, slice_index_or, append_assoc, append-nil, Option, refl, sym, ◌∙◌, ap, subst}
+use Rattle.std.proofs.Common.{◌≡◌, ℕ, ◌⊎◌, inl, inr, true, false, List, [], ◌∷◌, ◌++◌, length, map, append_assoc, append-nil, Option, None, Iter, refl, sym, ◌∙◌, ap, subst}
 use Rattle.std.specs.Prelude.{is_some, IfOk, OnOk, Result, Ok, Err}
 use Rattle.std.specs.List.{AllByRecursion, count_by}
 use Rattle.std.specs.Io.KnownBytes.{Appends}
-use Rattle.std.proofs.lemmas.List.{drop_all, drop_more, length-map}
+use Rattle.std.specs.Iterator.Adapters.{zip_first, zip_second, zip_steps}
+use Rattle.std.specs.Slice.Iter.{iter_rest, iter_steps}
+use Rattle.std.specs.Vec.Iter.{into_iter_items, into_iter_steps}
+use Rattle.std.specs.declared.iter.Zip.{Zip}
+use Rattle.std.specs.declared.vec.IntoIter.{IntoIter}
+use Rattle.std.proofs.lemmas.List.{nil_from_length}
 use Rattle.usb_model.specs.declared.entry.Entry.{Entry}
 use Rattle.usb_model.specs.declared.plan.Plan.{Plan}
 use Rattle.usb_model.specs.declared.step.Step.{Step}
@@ -11,20 +16,19 @@ use Rattle.usb_model.specs.declared.verdict.Rule.{Rule}
 use Rattle.usb_model.specs.Setup.{Setup}
 use Rattle.usb_model.specs.World.Journal.{run_from}
 use Rattle.usb_model.specs.World.Plans.{Stage, first_stage, is_submission, stage_after, steps_of}
-use Rattle.usb_purge.specs.Driving.{TakesNext}
+use Rattle.usb_purge.specs.Drives.{TakesNext}
 use Rattle.usb_purge.specs.PlanRuns.{Performs, PlanState, ShowsStage, StandsFor, is_verdict}
 use Rattle.usb_purge.proofs.Plans.{AreFixed, IsFixedStage, fixed_after, fixed_once, stands_only}
+use Rattle.usb_purge.proofs.Reached as reached
 use Rattle.usb_purge.proofs.Reached.{piece_rules}
-use Rattle.usb_purge.proofs.Taking.{Takes, has_one, takes}
+use Rattle.usb_purge.proofs.TakenCallbacks.{Takes, has_one, takes}
 use Rattle.trace_io.specs.declared.fault.Fault.{Fault}
-use Rattle.trace_io.specs.Printing.{AppendsAllBut, AppendsSome}
+use Rattle.trace_io.specs.Output.{AppendsAllBut, AppendsSome}
 use Rattle.trace_io.proofs.Beginnings.{gathered_further, kept, some_behind, some_further, some_of_front, whole}
-use Rattle.trace_scenario.specs.StepLines.{numbered}
-use Rattle.trace_scenario.specs.declared.lined.NumberedLine.{NumberedLine}
 use Rattle.trace_run.specs.Printed.{BeginsPiece, PrintsPiece, PrintsText, StartsPlan}
 use Rattle.trace_run.specs.Stepwise.{PrintsSteps, piece_text, stepwise_from, stepwise_text}
-use Rattle.trace_run.specs.declared.printing.Reach.{Reach}
-use Rattle.trace_run.specs.declared.printing.Reach.TheVariants.{End, NoMemory}
+use Rattle.trace_run.specs.declared.lines.Reach.{Reach}
+use Rattle.trace_run.specs.declared.lines.Reach.TheVariants.{End, NoMemory}
 
 -- a text, and behind it a number, a line and an entry, with what stands between them
 pub behind_parts : (old n space line bar entry a b c : List ℕ) → a ≡ old ++ (n ++ space) → b ≡ a ++ line → c ≡ b ++ (bar ++ entry) → c ≡ old ++ (n ++ (space ++ (line ++ (bar ++ entry))))
@@ -50,67 +54,64 @@ unfolding stepwise_from
 piece_first setup s piece plan line lines here is = ap (λ steps. piece_text line (run_from setup s.world steps) ++ stepwise_from setup (stage_after setup s piece steps) plan lines) (sym is)
 
 -- total: the text of the whole run; old: what stood on the output before
-module _ {P : Type 0} (rule : P → Rule) (setup : Setup) (plan : List Plan) (total : List ℕ) (old : Option (List ℕ)) where
-  -- so many pieces were performed: their text and that of those that are left is the whole; of theirs all but these lines are written
-  pub record IsStepwise (v : PlanState P) (i : ℕ) (left : List P) (behind : List (ℕ × List ℕ)) (lines : List ℕ) (new : Option (List ℕ)) : Type 0 where
+module _ {P : Type 0} (rule : P → Rule) (setup : Setup) (total : List ℕ) (old : Option (List ℕ)) where
+  -- some pieces were performed: their text and that of those to come is the whole; of theirs all but these lines are written
+  -- ahead: the pieces to come; left: the callbacks of their submissions; behind: their lines
+  pub record IsStepwise (v : PlanState P) (ahead : List Plan) (left : List P) (behind : List (ℕ × List ℕ)) (lines : List ℕ) (new : Option (List ℕ)) : Type 0 where
     pub stage : Stage
     pub shows : ShowsStage rule setup v stage
     pub fixed : IsFixedStage stage
     pub under : stage.rules ≡ map rule left
-    pub enough : length left ≡ count_by is_submission (drop i plan)
-    pub no_verdict : AllByRecursion (λ piece. is_verdict piece ≡ false) (drop i plan)
+    pub enough : length left ≡ count_by is_submission ahead
+    pub no_verdict : AllByRecursion (λ piece. is_verdict piece ≡ false) ahead
     pub done : List ℕ
-    pub is_whole : done ++ stepwise_from setup stage (drop i plan) behind ≡ total
+    pub is_whole : done ++ stepwise_from setup stage ahead behind ≡ total
     pub appended : AppendsAllBut done lines old new
 
   -- none was
-  pub none_yet : (v : PlanState P) (rules : List Rule) (left : List P) (behind : List (ℕ × List ℕ)) (lines : List ℕ) → ((rs : List Rule) → ShowsStage rule setup v (first_stage setup rs)) → rules ≡ map rule left → length left ≡ count_by is_submission plan
-      → AllByRecursion (λ piece. is_verdict piece ≡ false) plan → AreFixed rules → lines ≡ [] → stepwise_from setup (first_stage setup rules) plan behind ≡ total → IsStepwise v 0 left behind lines old
-  none_yet v rules left behind lines shows under enough none fixed empty all = record {
-    stage = first_stage setup rules;
-    shows = shows rules;
-    fixed = record { noted = λ h n. fixed_once; coming = fixed };
-    under = under;
-    enough = enough;
-    no_verdict = none;
-    done = [];
-    is_whole = all;
-    appended = ([], sym empty, kept old);
-  }
-
-  -- what is left at a piece
-  rest_is : (i : ℕ) (piece : Plan) → i < length plan → piece ≡ slice_index_or plan i piece → drop i plan ≡ piece ∷ drop (i + 1) plan
-  rest_is i piece within item = drop_more plan i piece within ∙ ap (λ y. y ∷ drop (i + 1) plan) (sym item)
+  pub none_yet : (v : PlanState P) (rules : List Rule) (plan ahead : List Plan) (left : List P) (behind : List (ℕ × List ℕ)) (lines : List ℕ) → ahead ≡ plan → ((rs : List Rule) → ShowsStage rule setup v (first_stage setup rs)) → rules ≡ map rule left → length left ≡ count_by is_submission plan
+      → AllByRecursion (λ piece. is_verdict piece ≡ false) plan → AreFixed rules → lines ≡ [] → stepwise_from setup (first_stage setup rules) plan behind ≡ total → IsStepwise v ahead left behind lines old
+  none_yet v rules plan ahead left behind lines same shows under enough none fixed empty all = subst (λ l. IsStepwise v l left behind lines old) (sym same) first
+    where
+      first : IsStepwise v plan left behind lines old
+      first = record {
+        stage = first_stage setup rules;
+        shows = shows rules;
+        fixed = record { noted = λ h n. fixed_once; coming = fixed };
+        under = under;
+        enough = enough;
+        no_verdict = none;
+        done = [];
+        is_whole = all;
+        appended = ([], sym empty, kept old);
+      }
 
   -- a piece that submits has its callback
-  pub has_callback : (v : PlanState P) (i : ℕ) (left more : List P) (behind : List (ℕ × List ℕ)) (lines : List ℕ) (new : Option (List ℕ)) (piece : Plan) (callback : Option P) → i < length plan → piece ≡ slice_index_or plan i piece → IsStepwise v i left behind lines new
+  pub has_callback : (v : PlanState P) (ahead beyond : List Plan) (left more : List P) (behind : List (ℕ × List ℕ)) (lines : List ℕ) (new : Option (List ℕ)) (piece : Plan) (callback : Option P) → ahead ≡ piece ∷ beyond → IsStepwise v ahead left behind lines new
       → TakesNext (is_submission piece) left more callback → is_submission piece ≡ true → is_some callback ≡ true
-  has_callback v i left more behind lines new piece callback within item p next = has_one rule piece (drop (i + 1) plan) left more callback (p.enough ∙ ap (count_by is_submission) (rest_is i piece within item)) next
+  has_callback v ahead beyond left more behind lines new piece callback comes p next = has_one rule piece beyond left more callback (p.enough ∙ ap (count_by is_submission) comes) next
 
   -- and is no verdict
-  pub is_no_verdict : (v : PlanState P) (i : ℕ) (left : List P) (behind : List (ℕ × List ℕ)) (lines : List ℕ) (new : Option (List ℕ)) (piece : Plan) → i < length plan → piece ≡ slice_index_or plan i piece → IsStepwise v i left behind lines new → is_verdict piece ≡ false
-  is_no_verdict v i left behind lines new piece within item p = (subst (AllByRecursion (λ q. is_verdict q ≡ false)) (rest_is i piece within item) p.no_verdict).0
+  pub is_no_verdict : (v : PlanState P) (ahead beyond : List Plan) (left : List P) (behind : List (ℕ × List ℕ)) (lines : List ℕ) (new : Option (List ℕ)) (piece : Plan) → ahead ≡ piece ∷ beyond → IsStepwise v ahead left behind lines new → is_verdict piece ≡ false
+  is_no_verdict v ahead beyond left behind lines new piece comes p = (subst (AllByRecursion (λ q. is_verdict q ≡ false)) comes p.no_verdict).0
 
   -- one more was performed, from a stage that was shown: its text is the next, and the stage behind it is shown
-  record IsNext (stage : Stage) (w : PlanState P) (i : ℕ) (more : List P) (behind after : List (ℕ × List ℕ)) (piece : Plan) (line : ℕ × List ℕ) (entries : List Entry) : Type 0 where
+  record IsNext (stage : Stage) (w : PlanState P) (ahead beyond : List Plan) (more : List P) (behind after : List (ℕ × List ℕ)) (piece : Plan) (line : ℕ × List ℕ) (entries : List Entry) : Type 0 where
     here : List Step
     shows : ShowsStage rule setup w (stage_after setup stage piece here)
     fixed : IsFixedStage (stage_after setup stage piece here)
     under : (stage_after setup stage piece here).rules ≡ map rule more
-    enough : length more ≡ count_by is_submission (drop (i + 1) plan)
-    text : stepwise_from setup stage (drop i plan) behind ≡ piece_text line entries ++ stepwise_from setup (stage_after setup stage piece here) (drop (i + 1) plan) after
+    enough : length more ≡ count_by is_submission beyond
+    text : stepwise_from setup stage ahead behind ≡ piece_text line entries ++ stepwise_from setup (stage_after setup stage piece here) beyond after
 
-  is_next : (v w : PlanState P) (i : ℕ) (left more : List P) (behind after : List (ℕ × List ℕ)) (lines : List ℕ) (mid : Option (List ℕ)) (piece : Plan) (callback : Option P) (line : ℕ × List ℕ) (entries : List Entry) → i < length plan → piece ≡ slice_index_or plan i piece
-      → (p : IsStepwise v i left behind lines mid) → behind ≡ line ∷ after → TakesNext (is_submission piece) left more callback → Performs rule v piece callback entries w → IsNext p.stage w i more behind after piece line entries
-  is_next v w i left more behind after lines mid piece callback line entries within item p first next performs = by_steps (performs setup p.stage p.shows taken.under)
+  is_next : (v w : PlanState P) (ahead beyond : List Plan) (left more : List P) (behind after : List (ℕ × List ℕ)) (lines : List ℕ) (mid : Option (List ℕ)) (piece : Plan) (callback : Option P) (line : ℕ × List ℕ) (entries : List Entry) → ahead ≡ piece ∷ beyond
+      → (p : IsStepwise v ahead left behind lines mid) → behind ≡ line ∷ after → TakesNext (is_submission piece) left more callback → Performs rule v piece callback entries w → IsNext p.stage w ahead beyond more behind after piece line entries
+  is_next v w ahead beyond left more behind after lines mid piece callback line entries comes p first next performs = by_steps (performs setup p.stage p.shows taken.under)
     where
-      rest : drop i plan ≡ piece ∷ drop (i + 1) plan
-      rest = rest_is i piece within item
+      taken : Takes rule p.stage.rules piece beyond callback more
+      taken = takes rule p.stage.rules piece beyond left more callback p.under (p.enough ∙ ap (count_by is_submission) comes) next
 
-      taken : Takes rule p.stage.rules piece (drop (i + 1) plan) callback more
-      taken = takes rule p.stage.rules piece (drop (i + 1) plan) left more callback p.under (p.enough ∙ ap (count_by is_submission) rest) next
-
-      by_steps : (steps : List Step) × StandsFor setup p.stage piece steps × (entries ≡ run_from setup p.stage.world steps) × ShowsStage rule setup w (stage_after setup p.stage piece steps) → IsNext p.stage w i more behind after piece line entries
+      by_steps : (steps : List Step) × StandsFor setup p.stage piece steps × (entries ≡ run_from setup p.stage.world steps) × ShowsStage rule setup w (stage_after setup p.stage piece steps) → IsNext p.stage w ahead beyond more behind after piece line entries
       by_steps (steps, stands, run, shows) = record {
         here = steps;
         shows = shows;
@@ -118,10 +119,10 @@ module _ {P : Type 0} (rule : P → Rule) (setup : Setup) (plan : List Plan) (to
         under = piece_rules setup p.stage piece steps stands ∙ taken.left;
         enough = taken.enough;
         text =
-            ap (λ l. stepwise_from setup p.stage l behind) rest
-            ∙ (ap (stepwise_from setup p.stage (piece ∷ drop (i + 1) plan)) first
-            ∙ (piece_first setup p.stage piece (drop (i + 1) plan) line after steps (stands_only setup p.stage piece steps p.fixed stands)
-            ∙ ap (λ es. piece_text line es ++ stepwise_from setup (stage_after setup p.stage piece steps) (drop (i + 1) plan) after) (sym run)));
+            ap (λ l. stepwise_from setup p.stage l behind) comes
+            ∙ (ap (stepwise_from setup p.stage (piece ∷ beyond)) first
+            ∙ (piece_first setup p.stage piece beyond line after steps (stands_only setup p.stage piece steps p.fixed stands)
+            ∙ ap (λ es. piece_text line es ++ stepwise_from setup (stage_after setup p.stage piece steps) beyond after) (sym run)));
       }
 
   -- what was written, and one more
@@ -129,73 +130,73 @@ module _ {P : Type 0} (rule : P → Rule) (setup : Setup) (plan : List Plan) (to
   all_with done text rest before all is = append_assoc done text rest ∙ (ap (λ l. done ++ l) (sym is) ∙ all)
 
   -- its lines are put
-  pub piece_put : (v w : PlanState P) (i : ℕ) (left more : List P) (behind after : List (ℕ × List ℕ)) (lines gathered : List ℕ) (mid new : Option (List ℕ)) (piece : Plan) (callback : Option P) (line : ℕ × List ℕ) → i < length plan → piece ≡ slice_index_or plan i piece
-      → IsStepwise v i left behind lines mid → behind ≡ line ∷ after → TakesNext (is_submission piece) left more callback → PrintsPiece rule (piece_text line) End v piece callback w lines gathered mid new → IsStepwise w (i + 1) more after gathered new
-  piece_put v w i left more behind after lines gathered mid new piece callback line within item p first next q =
-      let n = is_next v w i left more behind after lines mid piece callback line q.made within item p first next q.makes in
+  pub piece_put : (v w : PlanState P) (ahead beyond : List Plan) (left more : List P) (behind after : List (ℕ × List ℕ)) (lines gathered : List ℕ) (mid new : Option (List ℕ)) (piece : Plan) (callback : Option P) (line : ℕ × List ℕ) → ahead ≡ piece ∷ beyond
+      → IsStepwise v ahead left behind lines mid → behind ≡ line ∷ after → TakesNext (is_submission piece) left more callback → PrintsPiece rule (piece_text line) End v piece callback w lines gathered mid new → IsStepwise w beyond more after gathered new
+  piece_put v w ahead beyond left more behind after lines gathered mid new piece callback line comes p first next q =
+      let n = is_next v w ahead beyond left more behind after lines mid piece callback line q.made comes p first next q.makes in
       record {
         stage = stage_after setup p.stage piece n.here;
         shows = n.shows;
         fixed = n.fixed;
         under = n.under;
         enough = n.enough;
-        no_verdict = (subst (AllByRecursion (λ q. is_verdict q ≡ false)) (rest_is i piece within item) p.no_verdict).1;
+        no_verdict = (subst (AllByRecursion (λ q. is_verdict q ≡ false)) comes p.no_verdict).1;
         done = p.done ++ piece_text line q.made;
-        is_whole = all_with p.done (piece_text line q.made) (stepwise_from setup (stage_after setup p.stage piece n.here) (drop (i + 1) plan) after) (stepwise_from setup p.stage (drop i plan) behind) p.is_whole n.text;
+        is_whole = all_with p.done (piece_text line q.made) (stepwise_from setup (stage_after setup p.stage piece n.here) beyond after) (stepwise_from setup p.stage ahead behind) p.is_whole n.text;
         appended = gathered_further p.done lines (piece_text line q.made) gathered old mid new p.appended q.put;
       }
 
   -- a beginning of them is written
-  pub piece_begun : (v w : PlanState P) (i : ℕ) (left more : List P) (behind after : List (ℕ × List ℕ)) (lines : List ℕ) (mid new : Option (List ℕ)) (piece : Plan) (callback : Option P) (line : ℕ × List ℕ) → i < length plan → piece ≡ slice_index_or plan i piece
-      → IsStepwise v i left behind lines mid → behind ≡ line ∷ after → TakesNext (is_submission piece) left more callback → BeginsPiece rule (piece_text line) v piece callback w lines mid new → AppendsSome total old new
-  piece_begun v w i left more behind after lines mid new piece callback line within item p first next q =
-      let n = is_next v w i left more behind after lines mid piece callback line q.made within item p first next q.makes in
-      let rest : List ℕ = stepwise_from setup (stage_after setup p.stage piece n.here) (drop (i + 1) plan) after in
-      some_of_front total (p.done ++ piece_text line q.made) rest old new (sym (all_with p.done (piece_text line q.made) rest (stepwise_from setup p.stage (drop i plan) behind) p.is_whole n.text))
+  pub piece_begun : (v w : PlanState P) (ahead beyond : List Plan) (left more : List P) (behind after : List (ℕ × List ℕ)) (lines : List ℕ) (mid new : Option (List ℕ)) (piece : Plan) (callback : Option P) (line : ℕ × List ℕ) → ahead ≡ piece ∷ beyond
+      → IsStepwise v ahead left behind lines mid → behind ≡ line ∷ after → TakesNext (is_submission piece) left more callback → BeginsPiece rule (piece_text line) v piece callback w lines mid new → AppendsSome total old new
+  piece_begun v w ahead beyond left more behind after lines mid new piece callback line comes p first next q =
+      let n = is_next v w ahead beyond left more behind after lines mid piece callback line q.made comes p first next q.makes in
+      let rest : List ℕ = stepwise_from setup (stage_after setup p.stage piece n.here) beyond after in
+      some_of_front total (p.done ++ piece_text line q.made) rest old new (sym (all_with p.done (piece_text line q.made) rest (stepwise_from setup p.stage ahead behind) p.is_whole n.text))
       (some_further p.done lines (piece_text line q.made) old mid new p.appended q.some)
 
   -- of those that were gathered a beginning is written
-  pub rest_begun : (v : PlanState P) (i : ℕ) (left : List P) (behind : List (ℕ × List ℕ)) (lines : List ℕ) (mid new : Option (List ℕ)) → IsStepwise v i left behind lines mid → AppendsSome lines mid new → AppendsSome total old new
-  rest_begun v i left behind lines mid new p some =
-      some_of_front total p.done (stepwise_from setup p.stage (drop i plan) behind) old new (sym p.is_whole)
+  pub rest_begun : (v : PlanState P) (ahead : List Plan) (left : List P) (behind : List (ℕ × List ℕ)) (lines : List ℕ) (mid new : Option (List ℕ)) → IsStepwise v ahead left behind lines mid → AppendsSome lines mid new → AppendsSome total old new
+  rest_begun v ahead left behind lines mid new p some =
+      some_of_front total p.done (stepwise_from setup p.stage ahead behind) old new (sym p.is_whole)
       (some_behind p.done p.appended.0 lines old mid new p.appended.1 p.appended.2 some)
 
   -- what is written at the end of a run that came so far: to the end of the plan, or of its lines, or to a step that found no memory
-  pub ended : (reach r : Reach) (v : PlanState P) (i : ℕ) (left : List P) (behind : List (ℕ × List ℕ)) (lines : List ℕ) (mid new : Option (List ℕ)) → r ≡ reach → (reach ≡ End → (length plan ≤ i) ⊎ (behind ≡ [])) → IsStepwise v i left behind lines mid → Appends mid new lines → PrintsText r total old new
-  ended reach r v i left behind lines mid new same past p rest = subst (λ x. PrintsText x total old new) (sym same) (by_reach reach past)
+  pub ended : (reach r : Reach) (v : PlanState P) (ahead : List Plan) (left : List P) (behind : List (ℕ × List ℕ)) (lines : List ℕ) (mid new : Option (List ℕ)) → r ≡ reach → (reach ≡ End → (ahead ≡ []) ⊎ (behind ≡ [])) → IsStepwise v ahead left behind lines mid → Appends mid new lines → PrintsText r total old new
+  ended reach r v ahead left behind lines mid new same past p rest = subst (λ x. PrintsText x total old new) (sym same) (by_reach reach past)
     where
       written : Appends old new p.done
       written = whole p.done lines old mid new p.appended rest
 
-      none : (length plan ≤ i) ⊎ (behind ≡ []) → stepwise_from setup p.stage (drop i plan) behind ≡ []
-      none (inl end) = ap (λ l. stepwise_from setup p.stage l behind) (drop_all i plan end) ∙ none_left setup p.stage behind
-      none (inr empty) = ap (stepwise_from setup p.stage (drop i plan)) empty ∙ none_behind setup p.stage (drop i plan)
+      none : (ahead ≡ []) ⊎ (behind ≡ []) → stepwise_from setup p.stage ahead behind ≡ []
+      none (inl end) = ap (λ l. stepwise_from setup p.stage l behind) end ∙ none_left setup p.stage behind
+      none (inr empty) = ap (stepwise_from setup p.stage ahead) empty ∙ none_behind setup p.stage ahead
 
-      by_reach : (x : Reach) → (x ≡ End → (length plan ≤ i) ⊎ (behind ≡ [])) → PrintsText x total old new
+      by_reach : (x : Reach) → (x ≡ End → (ahead ≡ []) ⊎ (behind ≡ [])) → PrintsText x total old new
       by_reach End past = subst (Appends old new) (sym (append-nil p.done) ∙ (ap (λ l. p.done ++ l) (sym (none (past refl))) ∙ p.is_whole)) written
-      by_reach NoMemory past = (p.done, (stepwise_from setup p.stage (drop i plan) behind, sym p.is_whole), written)
+      by_reach NoMemory past = (p.done, (stepwise_from setup p.stage ahead behind, sym p.is_whole), written)
 
   -- if the rest is written
-  pub ended_if : (reach : Reach) (result : Result Reach Fault) (v : PlanState P) (i : ℕ) (left : List P) (behind : List (ℕ × List ℕ)) (lines : List ℕ) (mid new : Option (List ℕ)) → (reach ≡ End → (length plan ≤ i) ⊎ (behind ≡ [])) → IsStepwise v i left behind lines mid
+  pub ended_if : (reach : Reach) (result : Result Reach Fault) (v : PlanState P) (ahead : List Plan) (left : List P) (behind : List (ℕ × List ℕ)) (lines : List ℕ) (mid new : Option (List ℕ)) → (reach ≡ End → (ahead ≡ []) ⊎ (behind ≡ [])) → IsStepwise v ahead left behind lines mid
       → IfOk result (λ r. r ≡ reach) → OnOk result (Appends mid new lines) → IfOk result (λ r. PrintsText r total old new)
-  ended_if reach (Ok r) v i left behind lines mid new past p same rest = ended reach r v i left behind lines mid new same past p rest
-  ended_if reach (Err fault) v i left behind lines mid new past p same rest = tt
+  ended_if reach (Ok r) v ahead left behind lines mid new past p same rest = ended reach r v ahead left behind lines mid new same past p rest
+  ended_if reach (Err fault) v ahead left behind lines mid new past p same rest = tt
 
   -- so it is where a step found no memory, and nothing of it was put
-  pub stopped_if : (result : Result Reach Fault) (v : PlanState P) (i : ℕ) (left : List P) (behind : List (ℕ × List ℕ)) (lines lines' : List ℕ) (mid mid' new : Option (List ℕ)) → IsStepwise v i left behind lines mid → (lines' ≡ lines) × (mid' ≡ mid)
+  pub stopped_if : (result : Result Reach Fault) (v : PlanState P) (ahead : List Plan) (left : List P) (behind : List (ℕ × List ℕ)) (lines lines' : List ℕ) (mid mid' new : Option (List ℕ)) → IsStepwise v ahead left behind lines mid → (lines' ≡ lines) × (mid' ≡ mid)
       → IfOk result (λ r. r ≡ NoMemory) → OnOk result (Appends mid' new lines') → IfOk result (λ r. PrintsText r total old new)
-  stopped_if result v i left behind lines lines' mid mid' new p same is rest =
-      ended_if NoMemory result v i left behind lines mid new (λ e. absurd cc) p is (subst (λ m. OnOk result (Appends m new lines)) same.1 (subst (λ l. OnOk result (Appends mid' new l)) same.0 rest))
+  stopped_if result v ahead left behind lines lines' mid mid' new p same is rest =
+      ended_if NoMemory result v ahead left behind lines mid new (λ e. absurd cc) p is (subst (λ m. OnOk result (Appends m new lines)) same.1 (subst (λ l. OnOk result (Appends mid' new l)) same.0 rest))
 
   -- and a beginning is written however that ends
-  pub stopped_begun : (v : PlanState P) (i : ℕ) (left : List P) (behind : List (ℕ × List ℕ)) (lines lines' : List ℕ) (mid mid' new : Option (List ℕ)) → IsStepwise v i left behind lines mid → (lines' ≡ lines) × (mid' ≡ mid) → AppendsSome lines' mid' new → AppendsSome total old new
-  stopped_begun v i left behind lines lines' mid mid' new p same some =
-      rest_begun v i left behind lines mid new p (subst (λ m. AppendsSome lines m new) same.1 (subst (λ l. AppendsSome l mid' new) same.0 some))
+  pub stopped_begun : (v : PlanState P) (ahead : List Plan) (left : List P) (behind : List (ℕ × List ℕ)) (lines lines' : List ℕ) (mid mid' new : Option (List ℕ)) → IsStepwise v ahead left behind lines mid → (lines' ≡ lines) × (mid' ≡ mid) → AppendsSome lines' mid' new → AppendsSome total old new
+  stopped_begun v ahead left behind lines lines' mid mid' new p same some =
+      rest_begun v ahead left behind lines mid new p (subst (λ m. AppendsSome lines m new) same.1 (subst (λ l. AppendsSome l mid' new) same.0 some))
 
--- the lines from a place on begin with the line there
-pub line_first : (lines : List NumberedLine) (i n : ℕ) (line : ℕ × List ℕ) → i < n → length lines ≡ n → line ≡ slice_index_or (map numbered lines) i (0, []) → drop i (map numbered lines) ≡ line ∷ drop (i + 1) (map numbered lines)
-line_first lines i n line within each is =
-    drop_more (map numbered lines) i (0, []) (subst (λ k. i < k) (sym (length-map lines numbered ∙ each)) within) ∙ ap (λ x. x ∷ drop (i + 1) (map numbered lines)) (sym is)
+-- where the pieces and the lines beside them end, nothing is to come of one of the two
+pub none_ahead : {X Y B Z : Type 0} (f : Y → B) (ahead after : Zip (IntoIter X Z) (Iter Y)) → zip_steps into_iter_steps iter_steps ahead None after → (into_iter_items (zip_first ahead) ≡ []) ⊎ (map f (iter_rest (zip_second ahead)) ≡ [])
+none_ahead f ahead after (inl none) = inl (reached.none_ahead (zip_first ahead) none.1.0)
+none_ahead f ahead after (inr none) = inr (ap (map f) (nil_from_length (iter_rest (zip_second ahead)) none.1.0))
 
 module _ {P : Type 0} {E : Type 0} (rule : P → Rule) (plan : List Plan) (lines : List (ℕ × List ℕ)) (run : PlanState P) (left : List P) (old new : Option (List ℕ)) where
   -- what is printed over each setup and under all rules for which the run stands at the plan's beginning

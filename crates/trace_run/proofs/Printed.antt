@@ -1,5 +1,5 @@
 -- How far a run is, and what of it is written.
-use Rattle.std.proofs.Common.{◌≡◌, ◌≢◌, ℕ, ◌+◌, ◌<◌, ◌≤◌, true, false, List, [], ◌++◌, length, map, slice_index_or, Option, Some, Result, Ok, Err, refl, sym, ◌∙◌, ap, subst, append_assoc, append-nil}
+use Rattle.std.proofs.Common.{◌≡◌, ◌≢◌, ℕ, ◌+◌, ◌<◌, ◌≤◌, true, false, List, [], ◌∷◌, ◌++◌, length, map, slice_index_or, Option, Some, Result, Ok, Err, refl, sym, ◌∙◌, ap, subst, append_assoc, append-nil}
 use Rattle.std.specs.Prelude.{IfOk, OnErr, OnOk, is_some}
 use Rattle.std.specs.List.{AllByRecursion, count_by}
 use Rattle.std.specs.Io.KnownBytes.{Appends}
@@ -13,19 +13,19 @@ use Rattle.usb_model.specs.Text.{lines_text}
 use Rattle.usb_model.specs.World.Journal.{IsBeginning}
 use Rattle.usb_model.specs.World.Plans.{first_stage, is_submission}
 use Rattle.usb_purge.specs.Alone.{AreLeft, StartsBoth, TwinState, alone_of, shared_of}
-use Rattle.usb_purge.specs.Driving.{TakesNext}
+use Rattle.usb_purge.specs.Drives.{TakesNext}
 use Rattle.usb_purge.specs.PlanRuns.{Performs, PlanState, ShowsStage, entries_of, is_verdict, of_option}
 use Rattle.usb_purge.specs.declared.plan_run.Performed.{Performed}
 use Rattle.usb_purge.proofs.BothRuns as both
 use Rattle.usb_purge.proofs.BothRuns.{AreBeside}
 use Rattle.usb_purge.proofs.Reached as reached
 use Rattle.usb_purge.proofs.Reached.{Reached}
-use Rattle.trace_io.specs.Printing.{line_text, AppendsAllBut, AppendsSome}
+use Rattle.trace_io.specs.Output.{line_text, AppendsAllBut, AppendsSome}
 use Rattle.trace_io.proofs.Beginnings.{gathered_further, kept, some_behind, some_further, some_of_front, whole}
 use Rattle.trace_io.proofs.Printed.{lines_begun}
 use Rattle.trace_run.specs.Printed.{BeginsOwnPiece, BeginsPiece, PrintsOwnPiece, PrintsPiece, PrintsTo, StartsPlan, own_entries, plan_entries}
-use Rattle.trace_run.specs.declared.printing.Reach.{Reach}
-use Rattle.trace_run.specs.declared.printing.Reach.TheVariants.{End, NoMemory}
+use Rattle.trace_run.specs.declared.lines.Reach.{Reach}
+use Rattle.trace_run.specs.declared.lines.Reach.TheVariants.{End, NoMemory}
 
 -- no rule is Free
 abbrev AreFixed : List Rule → Type 0
@@ -73,80 +73,80 @@ begins_piece rule run run' piece callback x lines old new performs some = record
 
 -- old: what stood on the output before
 module _ {P : Type 0} (rule : P → Rule) (setup : Setup) (plan : List Plan) (rules : List Rule) (old : Option (List ℕ)) where
-  -- so many pieces were performed; of the lines of their entries all but these are written
-  pub record IsPrinted (v : PlanState P) (i : ℕ) (left : List P) (lines : List ℕ) (new : Option (List ℕ)) : Type 0 where
+  -- some pieces were performed, and these are to come; of the lines of their entries all but these are written
+  pub record IsPrinted (v : PlanState P) (ahead : List Plan) (left : List P) (lines : List ℕ) (new : Option (List ℕ)) : Type 0 where
     pub entries : List Entry
-    pub reached : Reached rule setup plan rules v entries i left
+    pub reached : Reached rule setup plan rules v entries ahead left
     pub appended : AppendsAllBut (lines_text entries) lines old new
 
   -- none was
-  pub none_yet : (v : PlanState P) (left : List P) (lines : List ℕ) → ((rs : List Rule) → ShowsStage rule setup v (first_stage setup rs)) → rules ≡ map rule left → length left ≡ count_by is_submission plan
-      → AllByRecursion (λ piece. is_verdict piece ≡ false) plan → lines ≡ [] → IsPrinted v 0 left lines old
-  none_yet v left lines shows under enough none empty = record {
+  pub none_yet : (v : PlanState P) (ahead : List Plan) (left : List P) (lines : List ℕ) → ahead ≡ plan → ((rs : List Rule) → ShowsStage rule setup v (first_stage setup rs)) → rules ≡ map rule left → length left ≡ count_by is_submission plan
+      → AllByRecursion (λ piece. is_verdict piece ≡ false) plan → lines ≡ [] → IsPrinted v ahead left lines old
+  none_yet v ahead left lines same shows under enough none empty = record {
     entries = [];
-    reached = reached.none_yet rule setup plan rules v left shows under enough none;
+    reached = reached.none_yet rule setup plan rules v ahead left same shows under enough none;
     appended = ([], sym empty, kept old);
   }
 
   -- a piece that submits has its callback
-  pub has_callback : (v : PlanState P) (i : ℕ) (left more : List P) (lines : List ℕ) (new : Option (List ℕ)) (piece : Plan) (callback : Option P) → i < length plan → piece ≡ slice_index_or plan i piece → IsPrinted v i left lines new
+  pub has_callback : (v : PlanState P) (ahead beyond : List Plan) (left more : List P) (lines : List ℕ) (new : Option (List ℕ)) (piece : Plan) (callback : Option P) → ahead ≡ piece ∷ beyond → IsPrinted v ahead left lines new
       → TakesNext (is_submission piece) left more callback → is_submission piece ≡ true → is_some callback ≡ true
-  has_callback v i left more lines new piece callback within item p next = reached.has_callback rule setup plan rules v p.entries i left more piece callback within item p.reached next
+  has_callback v ahead beyond left more lines new piece callback comes p next = reached.has_callback rule setup plan rules v p.entries ahead beyond left more piece callback comes p.reached next
 
   -- and is no verdict
-  pub is_no_verdict : (v : PlanState P) (i : ℕ) (left : List P) (lines : List ℕ) (new : Option (List ℕ)) (piece : Plan) → i < length plan → piece ≡ slice_index_or plan i piece → IsPrinted v i left lines new → is_verdict piece ≡ false
-  is_no_verdict v i left lines new piece within item p = reached.is_no_verdict rule setup plan rules v p.entries i left piece within item p.reached
+  pub is_no_verdict : (v : PlanState P) (ahead beyond : List Plan) (left : List P) (lines : List ℕ) (new : Option (List ℕ)) (piece : Plan) → ahead ≡ piece ∷ beyond → IsPrinted v ahead left lines new → is_verdict piece ≡ false
+  is_no_verdict v ahead beyond left lines new piece comes p = reached.is_no_verdict rule setup plan rules v p.entries ahead beyond left piece comes p.reached
 
   -- one more was performed
-  one_more : (v w : PlanState P) (i : ℕ) (left more : List P) (piece : Plan) (callback : Option P) (before entries : List Entry) → i < length plan → piece ≡ slice_index_or plan i piece → Reached rule setup plan rules v before i left
-      → TakesNext (is_submission piece) left more callback → Performs rule v piece callback entries w → Reached rule setup plan rules w (before ++ entries) (i + 1) more
-  one_more v w i left more piece callback before entries within item r next performs =
-      reached.one_more rule setup plan rules v w before (before ++ entries) i left more piece callback within item r next (entries, performs, refl)
+  one_more : (v w : PlanState P) (ahead beyond : List Plan) (left more : List P) (piece : Plan) (callback : Option P) (before entries : List Entry) → ahead ≡ piece ∷ beyond → Reached rule setup plan rules v before ahead left
+      → TakesNext (is_submission piece) left more callback → Performs rule v piece callback entries w → Reached rule setup plan rules w (before ++ entries) beyond more
+  one_more v w ahead beyond left more piece callback before entries comes r next performs =
+      reached.one_more rule setup plan rules v w before (before ++ entries) ahead beyond left more piece callback comes r next (entries, performs, refl)
 
   -- and its lines are put
-  pub piece_printed : (v w : PlanState P) (i : ℕ) (left more : List P) (lines gathered : List ℕ) (mid new : Option (List ℕ)) (piece : Plan) (callback : Option P) → i < length plan → piece ≡ slice_index_or plan i piece → IsPrinted v i left lines mid
-      → TakesNext (is_submission piece) left more callback → PrintsPiece rule lines_text End v piece callback w lines gathered mid new → IsPrinted w (i + 1) more gathered new
-  piece_printed v w i left more lines gathered mid new piece callback within item p next q = record {
+  pub piece_printed : (v w : PlanState P) (ahead beyond : List Plan) (left more : List P) (lines gathered : List ℕ) (mid new : Option (List ℕ)) (piece : Plan) (callback : Option P) → ahead ≡ piece ∷ beyond → IsPrinted v ahead left lines mid
+      → TakesNext (is_submission piece) left more callback → PrintsPiece rule lines_text End v piece callback w lines gathered mid new → IsPrinted w beyond more gathered new
+  piece_printed v w ahead beyond left more lines gathered mid new piece callback comes p next q = record {
     entries = p.entries ++ q.made;
-    reached = one_more v w i left more piece callback p.entries q.made within item p.reached next q.makes;
+    reached = one_more v w ahead beyond left more piece callback p.entries q.made comes p.reached next q.makes;
     appended = subst (λ text. AppendsAllBut text gathered old new) (sym (lines_append p.entries q.made)) (gathered_further (lines_text p.entries) lines (lines_text q.made) gathered old mid new p.appended q.put);
   }
 
   -- what was performed is a beginning of the run
-  begins : (v : PlanState P) (i : ℕ) (left : List P) (entries : List Entry) → AreFixed rules → Reached rule setup plan rules v entries i left → IsBeginning entries (plan_entries setup plan rules)
-  begins v i left entries fixed r = reached.begins_fixed rule setup plan rules v entries i left r fixed
+  begins : (v : PlanState P) (ahead : List Plan) (left : List P) (entries : List Entry) → AreFixed rules → Reached rule setup plan rules v entries ahead left → IsBeginning entries (plan_entries setup plan rules)
+  begins v ahead left entries fixed r = reached.begins_fixed rule setup plan rules v entries ahead left r fixed
 
   -- of its lines a beginning is written
-  pub piece_begun : (v w : PlanState P) (i : ℕ) (left more : List P) (lines : List ℕ) (mid new : Option (List ℕ)) (piece : Plan) (callback : Option P) → AreFixed rules → i < length plan → piece ≡ slice_index_or plan i piece → IsPrinted v i left lines mid
+  pub piece_begun : (v w : PlanState P) (ahead beyond : List Plan) (left more : List P) (lines : List ℕ) (mid new : Option (List ℕ)) (piece : Plan) (callback : Option P) → AreFixed rules → ahead ≡ piece ∷ beyond → IsPrinted v ahead left lines mid
       → TakesNext (is_submission piece) left more callback → BeginsPiece rule lines_text v piece callback w lines mid new → AppendsSome (lines_text (plan_entries setup plan rules)) old new
-  piece_begun v w i left more lines mid new piece callback fixed within item p next q =
+  piece_begun v w ahead beyond left more lines mid new piece callback fixed comes p next q =
       lines_begun (p.entries ++ q.made) (plan_entries setup plan rules) old new
-      (begins w (i + 1) more (p.entries ++ q.made) fixed (one_more v w i left more piece callback p.entries q.made within item p.reached next q.makes))
+      (begins w beyond more (p.entries ++ q.made) fixed (one_more v w ahead beyond left more piece callback p.entries q.made comes p.reached next q.makes))
       (subst (λ text. AppendsSome text old new) (sym (lines_append p.entries q.made)) (some_further (lines_text p.entries) lines (lines_text q.made) old mid new p.appended q.some))
 
   -- of those that were gathered a beginning is written
-  pub rest_begun : (v : PlanState P) (i : ℕ) (left : List P) (lines : List ℕ) (mid new : Option (List ℕ)) → AreFixed rules → IsPrinted v i left lines mid → AppendsSome lines mid new → AppendsSome (lines_text (plan_entries setup plan rules)) old new
-  rest_begun v i left lines mid new fixed p some =
-      lines_begun p.entries (plan_entries setup plan rules) old new (begins v i left p.entries fixed p.reached)
+  pub rest_begun : (v : PlanState P) (ahead : List Plan) (left : List P) (lines : List ℕ) (mid new : Option (List ℕ)) → AreFixed rules → IsPrinted v ahead left lines mid → AppendsSome lines mid new → AppendsSome (lines_text (plan_entries setup plan rules)) old new
+  rest_begun v ahead left lines mid new fixed p some =
+      lines_begun p.entries (plan_entries setup plan rules) old new (begins v ahead left p.entries fixed p.reached)
       (some_behind (lines_text p.entries) p.appended.0 lines old mid new p.appended.1 p.appended.2 some)
 
   -- all of them are, where a step found no memory
-  pub stopped : (v : PlanState P) (i : ℕ) (left : List P) (lines : List ℕ) (mid new : Option (List ℕ)) → AreFixed rules → IsPrinted v i left lines mid → Appends mid new lines → PrintsTo NoMemory (plan_entries setup plan rules) old new
-  stopped v i left lines mid new fixed p rest = (p.entries, begins v i left p.entries fixed p.reached, whole (lines_text p.entries) lines old mid new p.appended rest)
+  pub stopped : (v : PlanState P) (ahead : List Plan) (left : List P) (lines : List ℕ) (mid new : Option (List ℕ)) → AreFixed rules → IsPrinted v ahead left lines mid → Appends mid new lines → PrintsTo NoMemory (plan_entries setup plan rules) old new
+  stopped v ahead left lines mid new fixed p rest = (p.entries, begins v ahead left p.entries fixed p.reached, whole (lines_text p.entries) lines old mid new p.appended rest)
 
   -- and at the end of the plan
-  pub all : (v : PlanState P) (i : ℕ) (left : List P) (lines : List ℕ) (mid new : Option (List ℕ)) → length plan ≤ i → AreFixed rules → IsPrinted v i left lines mid → Appends mid new lines → PrintsTo End (plan_entries setup plan rules) old new
-  all v i left lines mid new past fixed p rest =
-      subst (λ es. Appends old new (lines_text es)) (reached.all_fixed rule setup plan rules v p.entries i left past p.reached fixed) (whole (lines_text p.entries) lines old mid new p.appended rest)
+  pub all : (v : PlanState P) (ahead : List Plan) (left : List P) (lines : List ℕ) (mid new : Option (List ℕ)) → ahead ≡ [] → AreFixed rules → IsPrinted v ahead left lines mid → Appends mid new lines → PrintsTo End (plan_entries setup plan rules) old new
+  all v ahead left lines mid new none fixed p rest =
+      subst (λ es. Appends old new (lines_text es)) (reached.all_fixed rule setup plan rules v p.entries ahead left none p.reached fixed) (whole (lines_text p.entries) lines old mid new p.appended rest)
 
   -- what is written at the end of a run that came so far
-  pub ended : (reach r : Reach) (v : PlanState P) (i : ℕ) (left : List P) (lines : List ℕ) (mid new : Option (List ℕ)) → r ≡ reach → (reach ≡ End → length plan ≤ i) → AreFixed rules → IsPrinted v i left lines mid → Appends mid new lines
+  pub ended : (reach r : Reach) (v : PlanState P) (ahead : List Plan) (left : List P) (lines : List ℕ) (mid new : Option (List ℕ)) → r ≡ reach → (reach ≡ End → ahead ≡ []) → AreFixed rules → IsPrinted v ahead left lines mid → Appends mid new lines
       → PrintsTo r (plan_entries setup plan rules) old new
-  ended reach r v i left lines mid new same past fixed p rest = subst (λ x. PrintsTo x (plan_entries setup plan rules) old new) (sym same) (by_reach reach past)
+  ended reach r v ahead left lines mid new same none fixed p rest = subst (λ x. PrintsTo x (plan_entries setup plan rules) old new) (sym same) (by_reach reach none)
     where
-      by_reach : (x : Reach) → (x ≡ End → length plan ≤ i) → PrintsTo x (plan_entries setup plan rules) old new
-      by_reach End past = all v i left lines mid new (past refl) fixed p rest
-      by_reach NoMemory past = stopped v i left lines mid new fixed p rest
+      by_reach : (x : Reach) → (x ≡ End → ahead ≡ []) → PrintsTo x (plan_entries setup plan rules) old new
+      by_reach End none = all v ahead left lines mid new (none refl) fixed p rest
+      by_reach NoMemory none = stopped v ahead left lines mid new fixed p rest
 
 module _ {P : Type 0} (rule : P → Rule) (setup : Setup) (plan : List Plan) (rules : List Rule) (h : ℕ) (old : Option (List ℕ)) where
   -- so many pieces were performed by two runs side by side; of the lines of what was told of the handle's own run all but these are written
@@ -215,43 +215,43 @@ no_end e = cc
 
 module _ {P : Type 0} (rule : P → Rule) (plan : List Plan) (first : PlanState P) (callbacks : List P) (old : Option (List ℕ)) where
   -- so it is of whatever plan the run stood at the beginning of
-  pub record IsPrintedFrom (v : PlanState P) (i : ℕ) (left : List P) (lines : List ℕ) (new : Option (List ℕ)) : Type 0 where
-    pub printed : (setup : Setup) (rules : List Rule) → StartsPlan rule setup plan rules first callbacks → IsPrinted rule setup plan rules old v i left lines new
+  pub record IsPrintedFrom (v : PlanState P) (ahead : List Plan) (left : List P) (lines : List ℕ) (new : Option (List ℕ)) : Type 0 where
+    pub printed : (setup : Setup) (rules : List Rule) → StartsPlan rule setup plan rules first callbacks → IsPrinted rule setup plan rules old v ahead left lines new
 
-  pub from_start : (lines : List ℕ) → lines ≡ [] → IsPrintedFrom first 0 callbacks lines old
-  from_start lines empty = record { printed = λ setup rules s. none_yet rule setup plan rules old first callbacks lines s.shows s.under s.enough s.no_verdict empty }
+  pub from_start : (ahead : List Plan) (lines : List ℕ) → ahead ≡ plan → lines ≡ [] → IsPrintedFrom first ahead callbacks lines old
+  from_start ahead lines same empty = record { printed = λ setup rules s. none_yet rule setup plan rules old first ahead callbacks lines same s.shows s.under s.enough s.no_verdict empty }
 
-  pub from_more : (v w : PlanState P) (i : ℕ) (left more : List P) (lines gathered : List ℕ) (mid new : Option (List ℕ)) (piece : Plan) (callback : Option P) → i < length plan → piece ≡ slice_index_or plan i piece → IsPrintedFrom v i left lines mid
-      → TakesNext (is_submission piece) left more callback → PrintsPiece rule lines_text End v piece callback w lines gathered mid new → IsPrintedFrom w (i + 1) more gathered new
-  from_more v w i left more lines gathered mid new piece callback within item p next puts = record {
-    printed = λ setup rules s. piece_printed rule setup plan rules old v w i left more lines gathered mid new piece callback within item (p.printed setup rules s) next puts;
+  pub from_more : (v w : PlanState P) (ahead beyond : List Plan) (left more : List P) (lines gathered : List ℕ) (mid new : Option (List ℕ)) (piece : Plan) (callback : Option P) → ahead ≡ piece ∷ beyond → IsPrintedFrom v ahead left lines mid
+      → TakesNext (is_submission piece) left more callback → PrintsPiece rule lines_text End v piece callback w lines gathered mid new → IsPrintedFrom w beyond more gathered new
+  from_more v w ahead beyond left more lines gathered mid new piece callback comes p next puts = record {
+    printed = λ setup rules s. piece_printed rule setup plan rules old v w ahead beyond left more lines gathered mid new piece callback comes (p.printed setup rules s) next puts;
   }
 
-  pub from_same : (v : PlanState P) (i : ℕ) (left : List P) (lines gathered : List ℕ) (mid new : Option (List ℕ)) → IsPrintedFrom v i left lines mid → (gathered ≡ lines) × (new ≡ mid) → IsPrintedFrom v i left gathered new
-  from_same v i left lines gathered mid new p same = subst (λ l. IsPrintedFrom v i left l new) (sym same.0) (subst (λ o. IsPrintedFrom v i left lines o) (sym same.1) p)
+  pub from_same : (v : PlanState P) (ahead : List Plan) (left : List P) (lines gathered : List ℕ) (mid new : Option (List ℕ)) → IsPrintedFrom v ahead left lines mid → (gathered ≡ lines) × (new ≡ mid) → IsPrintedFrom v ahead left gathered new
+  from_same v ahead left lines gathered mid new p same = subst (λ l. IsPrintedFrom v ahead left l new) (sym same.0) (subst (λ o. IsPrintedFrom v ahead left lines o) (sym same.1) p)
 
-  pub from_begun : (v w : PlanState P) (i : ℕ) (left more : List P) (lines : List ℕ) (mid new : Option (List ℕ)) (piece : Plan) (callback : Option P) → i < length plan → piece ≡ slice_index_or plan i piece → IsPrintedFrom v i left lines mid
+  pub from_begun : (v w : PlanState P) (ahead beyond : List Plan) (left more : List P) (lines : List ℕ) (mid new : Option (List ℕ)) (piece : Plan) (callback : Option P) → ahead ≡ piece ∷ beyond → IsPrintedFrom v ahead left lines mid
       → TakesNext (is_submission piece) left more callback → BeginsPiece rule lines_text v piece callback w lines mid new
       → (setup : Setup) (rules : List Rule) → StartsPlan rule setup plan rules first callbacks → AppendsSome (lines_text (plan_entries setup plan rules)) old new
-  from_begun v w i left more lines mid new piece callback within item p next begun setup rules s =
-      piece_begun rule setup plan rules old v w i left more lines mid new piece callback s.fixed within item (p.printed setup rules s) next begun
+  from_begun v w ahead beyond left more lines mid new piece callback comes p next begun setup rules s =
+      piece_begun rule setup plan rules old v w ahead beyond left more lines mid new piece callback s.fixed comes (p.printed setup rules s) next begun
 
-  pub from_rest : (v : PlanState P) (i : ℕ) (left : List P) (lines : List ℕ) (mid new : Option (List ℕ)) → IsPrintedFrom v i left lines mid → AppendsSome lines mid new
+  pub from_rest : (v : PlanState P) (ahead : List Plan) (left : List P) (lines : List ℕ) (mid new : Option (List ℕ)) → IsPrintedFrom v ahead left lines mid → AppendsSome lines mid new
       → (setup : Setup) (rules : List Rule) → StartsPlan rule setup plan rules first callbacks → AppendsSome (lines_text (plan_entries setup plan rules)) old new
-  from_rest v i left lines mid new p some setup rules s = rest_begun rule setup plan rules old v i left lines mid new s.fixed (p.printed setup rules s) some
+  from_rest v ahead left lines mid new p some setup rules s = rest_begun rule setup plan rules old v ahead left lines mid new s.fixed (p.printed setup rules s) some
 
-  from_ended : {E : Type 0} (reach : Reach) (r : Result Reach E) (v : PlanState P) (i : ℕ) (left : List P) (lines : List ℕ) (mid new : Option (List ℕ)) → (reach ≡ End → length plan ≤ i) → IsPrintedFrom v i left lines mid
+  from_ended : {E : Type 0} (reach : Reach) (r : Result Reach E) (v : PlanState P) (ahead : List Plan) (left : List P) (lines : List ℕ) (mid new : Option (List ℕ)) → (reach ≡ End → ahead ≡ []) → IsPrintedFrom v ahead left lines mid
       → IfOk r (λ x. x ≡ reach) → OnOk r (Appends mid new lines) → IfOk r (λ x. (setup : Setup) (rules : List Rule) → StartsPlan rule setup plan rules first callbacks → PrintsTo x (plan_entries setup plan rules) old new)
-  from_ended reach (Ok x) v i left lines mid new past p same rest = λ setup rules s. ended rule setup plan rules old reach x v i left lines mid new same past s.fixed (p.printed setup rules s) rest
-  from_ended reach (Err e) v i left lines mid new past p same rest = tt
+  from_ended reach (Ok x) v ahead left lines mid new none p same rest = λ setup rules s. ended rule setup plan rules old reach x v ahead left lines mid new same none s.fixed (p.printed setup rules s) rest
+  from_ended reach (Err e) v ahead left lines mid new none p same rest = tt
 
-  pub from_end : {E : Type 0} (r : Result Reach E) (v : PlanState P) (i : ℕ) (left : List P) (lines : List ℕ) (mid new : Option (List ℕ)) → length plan ≤ i → IsPrintedFrom v i left lines mid
+  pub from_end : {E : Type 0} (r : Result Reach E) (v : PlanState P) (ahead : List Plan) (left : List P) (lines : List ℕ) (mid new : Option (List ℕ)) → ahead ≡ [] → IsPrintedFrom v ahead left lines mid
       → IfOk r (λ x. x ≡ End) → OnOk r (Appends mid new lines) → IfOk r (λ x. (setup : Setup) (rules : List Rule) → StartsPlan rule setup plan rules first callbacks → PrintsTo x (plan_entries setup plan rules) old new)
-  from_end r v i left lines mid new past p same rest = from_ended End r v i left lines mid new (λ e. past) p same rest
+  from_end r v ahead left lines mid new none p same rest = from_ended End r v ahead left lines mid new (λ e. none) p same rest
 
-  pub from_stop : {E : Type 0} (r : Result Reach E) (v : PlanState P) (i : ℕ) (left : List P) (lines : List ℕ) (mid new : Option (List ℕ)) → IsPrintedFrom v i left lines mid
+  pub from_stop : {E : Type 0} (r : Result Reach E) (v : PlanState P) (ahead : List Plan) (left : List P) (lines : List ℕ) (mid new : Option (List ℕ)) → IsPrintedFrom v ahead left lines mid
       → IfOk r (λ x. x ≡ NoMemory) → OnOk r (Appends mid new lines) → IfOk r (λ x. (setup : Setup) (rules : List Rule) → StartsPlan rule setup plan rules first callbacks → PrintsTo x (plan_entries setup plan rules) old new)
-  from_stop r v i left lines mid new p same rest = from_ended NoMemory r v i left lines mid new (λ e. absurd (no_end e)) p same rest
+  from_stop r v ahead left lines mid new p same rest = from_ended NoMemory r v ahead left lines mid new (λ e. absurd (no_end e)) p same rest
 
   -- what is said of any plan holds of that one
   pub of_plan : {E : Type 0} (r : Result Reach E) (new : Option (List ℕ)) (setup : Setup) (rules : List Rule) → StartsPlan rule setup plan rules first callbacks

@@ -5,7 +5,7 @@ pub use Rattle.usb_model.specs.World.Journal
 pub use Rattle.usb_model.specs.World.Plans
 pub use Rattle.usb_model.specs.Text
 pub use Rattle.usb_model.specs.Machine.Turns
-pub use Rattle.trace_io.specs.Printing
+pub use Rattle.trace_io.specs.Output
 pub use Rattle.trace_scenario.specs.StepLines
 pub use Rattle.plain_run.specs.Left
 pub use Rattle.plain_run.specs.LeftText

@@ -13,10 +13,10 @@ use Rattle.usb_model.specs.World.Journal.{IsBeginning, own, world_run}
 use Rattle.usb_model.specs.World.Plans.{expand, first_stage, is_submission}
 use Rattle.usb_purge.specs.Alone.{AdvancesBoth, StartsBoth, TwinState, alone_of}
 use Rattle.usb_purge.specs.PlanRuns.{Performs, PlanState, ShowsStage, is_verdict}
-use Rattle.usb_purge.specs.declared.twins.Told.{Told}
-use Rattle.trace_io.specs.Printing.{AppendsAllBut, AppendsSome}
-use Rattle.trace_run.specs.declared.printing.Reach.{Reach}
-use Rattle.trace_run.specs.declared.printing.Reach.TheVariants.{End, NoMemory}
+use Rattle.usb_purge.specs.declared.twins.TwinPiece.{TwinPiece}
+use Rattle.trace_io.specs.Output.{AppendsAllBut, AppendsSome}
+use Rattle.trace_run.specs.declared.lines.Reach.{Reach}
+use Rattle.trace_run.specs.declared.lines.Reach.TheVariants.{End, NoMemory}
 
 -- what is written of a run with these entries: their lines, or those of a beginning where it came to a step that found no memory
 abbrev pub PrintsTo : Reach → List Entry → Option (List ℕ) → Option (List ℕ) → Type 0
@@ -71,10 +71,10 @@ module _ {P : Type 0} (rule : P → Rule) where
 
   -- the same of a piece that was performed by two runs side by side, and of the lines of what is told of the handle's own run
   abbrev pub PrintsOwnPiece : Reach → ℕ → (twins : TwinState P) → Plan → (twins' : TwinState P) → (lines lines' : List ℕ) → (old new : Option (List ℕ)) → Type 0
-  PrintsOwnPiece reach h twins piece twins' lines lines' old new = PrintsMade (AdvancesBoth rule h piece twins twins') (λ (told : Option (Told P)). lines_text (alone_of told)) reach lines lines' old new
+  PrintsOwnPiece reach h twins piece twins' lines lines' old new = PrintsMade (AdvancesBoth rule h piece twins twins') (λ (told : Option (TwinPiece P)). lines_text (alone_of told)) reach lines lines' old new
 
   abbrev pub BeginsOwnPiece : ℕ → (twins : TwinState P) → Plan → (twins' : TwinState P) → (lines : List ℕ) → (old new : Option (List ℕ)) → Type 0
-  BeginsOwnPiece h twins piece twins' lines old new = BeginsMade (AdvancesBoth rule h piece twins twins') (λ (told : Option (Told P)). lines_text (alone_of told)) lines old new
+  BeginsOwnPiece h twins piece twins' lines old new = BeginsMade (AdvancesBoth rule h piece twins twins') (λ (told : Option (TwinPiece P)). lines_text (alone_of told)) lines old new
 
   -- a run stands at the beginning of a plan: no piece was performed, and there is a callback for each submission, of these rules
   pub record StartsPlan (setup : Setup) (plan : List Plan) (rules : List Rule) (run : PlanState P) (left : List P) : Type 0 where

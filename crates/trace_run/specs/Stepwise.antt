@@ -10,9 +10,9 @@ use Rattle.usb_model.specs.Setup.{Setup}
 use Rattle.usb_model.specs.World.Journal.{run_from}
 use Rattle.usb_model.specs.World.Plans.{Stage, first_stage, stage_after, steps_of}
 use Rattle.usb_purge.specs.PlanRuns.{PlanState}
-use Rattle.trace_io.specs.Printing.{AppendsSome}
+use Rattle.trace_io.specs.Output.{AppendsSome}
 use Rattle.trace_run.specs.Printed.{PrintsText, StartsPlan}
-use Rattle.trace_run.specs.declared.printing.Reach.{Reach}
+use Rattle.trace_run.specs.declared.lines.Reach.{Reach}
 
 -- an entry behind a line: the line's number, the line, and the entry
 abbrev pub behind_line : ℕ × List ℕ → Entry → List ℕ

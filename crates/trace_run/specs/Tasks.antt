@@ -13,8 +13,8 @@ use Rattle.trace_scenario.specs.declared.scenario.Scenario.{Scenario}
 use Rattle.trace_scenario.specs.StepLines.{step_lines}
 use Rattle.plain_run.specs.Left.{all_left}
 use Rattle.plain_run.specs.LeftText.{lines_left}
-use Rattle.trace_run.specs.declared.printing.Reach.{Reach}
-use Rattle.trace_run.specs.declared.printing.Reach.TheVariants.{End, NoMemory}
+use Rattle.trace_run.specs.declared.lines.Reach.{Reach}
+use Rattle.trace_run.specs.declared.lines.Reach.TheVariants.{End, NoMemory}
 use Rattle.trace_run.specs.declared.tasks.Ending.{Ending}
 use Rattle.trace_run.specs.declared.tasks.Ending.TheVariants.{Good}
 use Rattle.trace_run.specs.Stepwise.{stepwise_text}

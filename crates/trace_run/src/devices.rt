@@ -2,10 +2,10 @@
 
 ghost use Rattle.std.specs.Prelude.{◌≡◌, ◌≤◌, ◌++◌, ◌∷◌, [], IfOk, OnOk, length, map};
 ghost use Rattle.std.specs.List.{AllByRecursion};
-ghost use Rattle.proof_core.specs.Making.{setup_of};
+ghost use Rattle.usb_core.specs.Public.{setup_of};
 ghost use Rattle.trace_scenario.specs.Runnable.{CanBeMade};
 
-use crate::printing::Parts;
+use crate::lines::Parts;
 use std::alloc::{AllocError, Global};
 use trace_scenario::ScriptedDevice;
 use usb_callback::{Callback, Ruled};

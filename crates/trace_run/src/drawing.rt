@@ -14,7 +14,7 @@ use usb_callback::Callback;
 use usb_core::Setup;
 use usb_device::Device;
 use usb_model::{Plan, Step, Verdict};
-use usb_purge::{Performed, PlanRun, next_callback};
+use usb_purge::{Performed, PlanRun, copy_of, next_callback};
 
 /// Draws a piece of a plan: its step; or where a callback returns its verdict, and the Stop behind it.
 fn tell<C>(
@@ -50,7 +50,7 @@ fn draw_all<C: Callback, D: Device>(
 {
     for piece in plan {
         let callback = next_callback(piece, left);
-        let performed = run.perform(piece, callback)?;
+        let performed = run.perform(copy_of(piece)?, callback)?;
         tell(drawing, piece, &performed)?;
     }
     Ok(())

@@ -6,7 +6,7 @@
 //! # Files
 //!
 //! - `devices.rt`: a scenario's devices and callbacks as the core has them
-//! - `printing.rt`, specs/Printed: the entries of a plan, all or one handle's alone, printed as the core comes to
+//! - `lines.rt`, specs/Printed: the entries of a plan, all or one handle's alone, printed as the core comes to
 //!   them
 //! - `stepwise.rt`, specs/Stepwise, proofs/Lined: the same, each entry behind its step's line
 //! - `drawing.rt`: a plan run by the core, and drawn
@@ -20,10 +20,10 @@
 
 mod devices;
 mod drawing;
-mod printing;
+mod lines;
 mod stepwise;
 mod tasks;
 
 pub use devices::devices_of;
-pub use printing::write_rest;
+pub use lines::write_rest;
 pub use tasks::{Ending, draw_run, print_left, print_steps, run, run_alone};

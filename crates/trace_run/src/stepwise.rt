@@ -1,19 +1,19 @@
 //! The entries of a run, each printed behind the line of its step.
 
-ghost use Rattle.std.specs.Prelude.{◌≡◌, ◌≢◌, ◌<◌, ◌++◌, [], true, false, length, map, is_some, slice_index_or, IfErr, IfOk, OnErr};
+ghost use Rattle.std.specs.Prelude.{◌≡◌, ◌≢◌, ◌++◌, true, false, length, map, is_some, IfErr, IfOk, OnErr};
 ghost use Rattle.std.specs.List.{AllByRecursion, count_by};
 ghost use Rattle.std.specs.Vec.Iter.{into_iter_items};
 ghost use Rattle.usb_model.specs.declared.verdict.Rule.TheVariants.{Free};
 ghost use Rattle.usb_model.specs.World.Plans.{is_submission};
-ghost use Rattle.proof_core.specs.Making.{setup_of};
+ghost use Rattle.usb_core.specs.Public.{setup_of};
 ghost use Rattle.usb_purge.specs.PlanRuns.{entries_of, is_verdict};
 ghost use Rattle.trace_io.specs.Faults.{IsOfRun};
-ghost use Rattle.trace_io.specs.Printing.{AppendsSome};
+ghost use Rattle.trace_io.specs.Output.{AppendsSome};
 ghost use Rattle.trace_scenario.specs.StepLines.{numbered};
 ghost use Rattle.trace_run.specs.Printed.{BeginsPiece, CanStart, PrintsPiece, PrintsText, Puts};
 ghost use Rattle.trace_run.specs.Stepwise.{behind_line, piece_text, stepwise_text, BeginsSteps, PrintsSteps};
 
-use crate::printing::{Parts, Reach, write_rest};
+use crate::lines::{Parts, Reach, write_rest};
 use std::alloc::{AllocError, Global};
 use std::io::Write;
 use std::vec::IntoIter;
@@ -21,7 +21,7 @@ use trace_io::{Fault, Lines};
 use trace_scenario::NumberedLine;
 use usb_callback::Callback;
 use usb_device::Device;
-use usb_model::{Entry, Plan};
+use usb_model::{Entry, Plan, Sequence};
 use usb_purge::{Performed, PlanRun, next_callback};
 
 /// Puts an entry behind a line, and both behind the text.
@@ -85,17 +85,17 @@ fn put_behind<C, W: Write>(
 fn print_behind<C: Callback, D: Device, W: Write>(
     alloc: Global,
     run: &mut PlanRun<C, D>,
-    piece: &Plan,
+    piece: Plan,
     callback: Option<C>,
     number: u64,
     line: &[u8],
     lines: &mut Lines,
     out: &mut W,
 ) -> Result<Reach, Fault>
-    requires submits { is_submission piece.now ≡ true → is_some callback ≡ true }
-    requires no_verdict { is_verdict piece.now ≡ false }
-    ensures printed { IfOk result (λ reach. PrintsPiece C.rule (piece_text (number, line.now)) reach run.old piece.now callback run.new lines.old lines.new (W.contents out.old) (W.contents out.new)) }
-    ensures begun { OnErr result (BeginsPiece C.rule (piece_text (number, line.now)) run.old piece.now callback run.new lines.old (W.contents out.old) (W.contents out.new)) }
+    requires submits { is_submission piece ≡ true → is_some callback ≡ true }
+    requires no_verdict { is_verdict piece ≡ false }
+    ensures printed { IfOk result (λ reach. PrintsPiece C.rule (piece_text (number, line.now)) reach run.old piece callback run.new lines.old lines.new (W.contents out.old) (W.contents out.new)) }
+    ensures begun { OnErr result (BeginsPiece C.rule (piece_text (number, line.now)) run.old piece callback run.new lines.old (W.contents out.old) (W.contents out.new)) }
     ensures fault { IfErr result (λ fault. IsOfRun fault) }
 {
     let Ok(performed) = run.perform(piece, callback) else {
@@ -105,35 +105,26 @@ fn print_behind<C: Callback, D: Device, W: Write>(
     Ok(reach)
 }
 
-/// The line at this place, of those that there are: its number and its bytes.
-fn line_of<'a>(step_lines: &[NumberedLine<'a>], at: usize) -> (u64, &'a [u8])
-    requires { at < length step_lines.now }
-    ensures { (result.0, result.1.now) ≡ slice_index_or (map numbered step_lines.now) at (0, []) }
-{
-    let NumberedLine { number, text } = step_lines[at];
-    (number, text)
-}
-
 /// Performs the pieces of a plan that stands at its beginning, and prints their entries as far as the run comes, each behind
 /// its piece's line. The run is lent, since each way out of its owner drops the core, which is dear to prove.
 fn print_steps<C: Callback, D: Device, W: Write>(
     alloc: Global,
     run: &mut PlanRun<C, D>,
     left: &mut IntoIter<C>,
-    plan: &[Plan],
+    plan: Sequence<Plan>,
     step_lines: &[NumberedLine<'_>],
     out: &mut W,
 ) -> Result<Reach, Fault>
-    requires each { length step_lines.now ≡ length plan.now }
-    requires start { CanStart C.rule plan.now run.old (into_iter_items left.old) }
-    ensures lines { IfOk result (λ reach. PrintsSteps C.rule reach plan.now (map numbered step_lines.now) run.old (into_iter_items left.old) (W.contents out.old) (W.contents out.new)) }
-    ensures begun { BeginsSteps C.rule plan.now (map numbered step_lines.now) run.old (into_iter_items left.old) (W.contents out.old) (W.contents out.new) }
+    requires each { length step_lines.now ≡ length plan }
+    requires start { CanStart C.rule plan run.old (into_iter_items left.old) }
+    ensures lines { IfOk result (λ reach. PrintsSteps C.rule reach plan (map numbered step_lines.now) run.old (into_iter_items left.old) (W.contents out.old) (W.contents out.new)) }
+    ensures begun { BeginsSteps C.rule plan (map numbered step_lines.now) run.old (into_iter_items left.old) (W.contents out.old) (W.contents out.new) }
     ensures fault { IfErr result (λ fault. IsOfRun fault) }
 {
     let mut lines = Lines::new(alloc);
-    for (at, piece) in plan.iter().enumerate() {
-        let (number, text) = line_of(step_lines, at);
-        let callback = next_callback(piece, left);
+    for (piece, line) in plan.into_vec().into_iter().zip(step_lines) {
+        let NumberedLine { number, text } = *line;
+        let callback = next_callback(&piece, left);
         match print_behind(alloc, run, piece, callback, number, text, &mut lines, out)? {
             Reach::End => {}
             Reach::NoMemory => return write_rest(lines, out, Reach::NoMemory),
@@ -147,16 +138,16 @@ fn print_steps<C: Callback, D: Device, W: Write>(
 pub fn print_stepwise<C: Callback, D: Device, W: Write>(
     alloc: Global,
     parts: Parts<C, D>,
-    plan: &[Plan],
+    plan: Sequence<Plan>,
     step_lines: &[NumberedLine<'_>],
     out: &mut W,
 ) -> Result<Reach, Fault>
-    requires each { length step_lines.now ≡ length plan.now }
-    requires callbacks { length parts.callbacks.items ≡ count_by is_submission plan.now }
+    requires each { length step_lines.now ≡ length plan }
+    requires callbacks { length parts.callbacks.items ≡ count_by is_submission plan }
     requires not_free { AllByRecursion (λ rule. rule ≢ Free) (map C.rule parts.callbacks.items) }
-    requires no_verdict { AllByRecursion (λ piece. is_verdict piece ≡ false) plan.now }
-    ensures lines { IfOk result (λ reach. PrintsText reach (stepwise_text (setup_of parts.setup) plan.now (map C.rule parts.callbacks.items) (map numbered step_lines.now)) (W.contents out.old) (W.contents out.new)) }
-    ensures begun { AppendsSome (stepwise_text (setup_of parts.setup) plan.now (map C.rule parts.callbacks.items) (map numbered step_lines.now)) (W.contents out.old) (W.contents out.new) }
+    requires no_verdict { AllByRecursion (λ piece. is_verdict piece ≡ false) plan }
+    ensures lines { IfOk result (λ reach. PrintsText reach (stepwise_text (setup_of parts.setup) plan (map C.rule parts.callbacks.items) (map numbered step_lines.now)) (W.contents out.old) (W.contents out.new)) }
+    ensures begun { AppendsSome (stepwise_text (setup_of parts.setup) plan (map C.rule parts.callbacks.items) (map numbered step_lines.now)) (W.contents out.old) (W.contents out.new) }
     ensures fault { IfErr result (λ fault. IsOfRun fault) }
 {
     let Parts { setup, callbacks } = parts;

@@ -4,7 +4,7 @@
 ghost use Rattle.std.specs.Prelude.{◌≡◌, IfErr, IfOk, OnOk, length, map};
 ghost use Rattle.std.specs.Io.KnownBytes.{Appends};
 ghost use Rattle.trace_io.specs.Faults.{IsOfRun};
-ghost use Rattle.trace_io.specs.Printing.{AppendsSome};
+ghost use Rattle.trace_io.specs.Output.{AppendsSome};
 ghost use Rattle.trace_scenario.specs.Runnable.{IsRunnable};
 ghost use Rattle.trace_scenario.specs.StepLines.{numbered};
 ghost use Rattle.trace_run.specs.Stepwise.{stepwise_text};
@@ -12,7 +12,7 @@ ghost use Rattle.trace_run.specs.Tasks.{AppendsAny, alone_text, ending_of, left_
 
 use crate::devices::{callbacks_of, devices_of, parts_of};
 use crate::drawing::draw;
-use crate::printing::{Reach, print_alone, print_plan};
+use crate::lines::{Reach, print_alone, print_plan};
 use crate::stepwise::print_stepwise;
 use plain_run::{left_behind, lines_of};
 use std::alloc::Global;
@@ -50,7 +50,7 @@ pub fn run<W: Write>(alloc: Global, scenario: Scenario, out: &mut W) -> Result<E
 {
     let Scenario { setup, plan, rules } = scenario;
     let parts = parts_of(alloc, setup, rules.as_slice())?;
-    ending_of(print_plan(alloc, parts, plan.as_slice(), out)?)
+    ending_of(print_plan(alloc, parts, plan, out)?)
 }
 
 /// Prints the entries of a scenario, each behind its line; where memory ran out, those before.
@@ -69,7 +69,7 @@ pub fn print_steps<W: Write>(
 {
     let Scenario { setup, plan, rules } = scenario;
     let parts = parts_of(alloc, setup, rules.as_slice())?;
-    ending_of(print_stepwise(alloc, parts, plan.as_slice(), lines, out)?)
+    ending_of(print_stepwise(alloc, parts, plan, lines, out)?)
 }
 
 /// Prints what the run of a scenario leaves behind, as the plain program runs it; nothing where memory ran out.

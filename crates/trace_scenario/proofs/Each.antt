@@ -5,7 +5,7 @@ use Rattle.std.proofs.lemmas.List.{take_more, get_or-map, length-map}
 use denote.Ref.{Bor}
 use Rattle.trace_scenario.specs.declared.fault.LineFault.{LineFault}
 use Rattle.trace_scenario.specs.declared.fault.LineFault.TheVariants.{Bad, Memory}
-use Rattle.trace_scenario.specs.Reading.{ReadsAs}
+use Rattle.trace_scenario.specs.LineResults.{ReadsAs}
 use Rattle.trace_scenario.specs.Words.{words_of}
 use Rattle.trace_scenario.specs.Line.{each_of}
 

@@ -5,7 +5,7 @@ pub mod Each
 pub mod Shapes
 pub mod Texts
 pub mod Scenarios
-pub mod Sifting
+pub mod GoodAndBad
 pub mod Places
 mod Lines
 mod Runnables

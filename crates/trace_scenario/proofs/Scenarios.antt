@@ -7,7 +7,7 @@ use Rattle.std.proofs.lemmas.List.{at_drop_more, at_drop_all}
 use Rattle.trace_scenario.specs.declared.fault.LineFault.{LineFault}
 use Rattle.trace_scenario.specs.declared.fault.LineFault.TheVariants.{Bad, Memory}
 use Rattle.trace_scenario.specs.declared.scenario.Scenario.{Scenario}
-use Rattle.trace_scenario.specs.TextReading.{Becomes, AnswersAs, fault_at}
+use Rattle.trace_scenario.specs.TextResults.{Becomes, AnswersAs, fault_at}
 use Rattle.trace_scenario.specs.Scenario.{scenario_from, taken_at, with_text}
 
 -- one line of those that are left

@@ -5,14 +5,14 @@ pub mod Prefix
 pub mod Words
 pub use Rattle.usb_model.specs.World.Plans
 pub mod Line
-pub mod Reading
+pub mod LineResults
 pub mod Step
 pub mod Verb
 pub use Rattle.usb_descriptors.specs.Grammar
 pub use Rattle.usb_model.specs.Setup
 pub mod Counts
 pub mod Findings
-pub mod TextReading
+pub mod TextResults
 pub mod Runnable
 pub mod Scenario
 pub mod StepLines

@@ -3,7 +3,7 @@
 ghost use Rattle.std.specs.Prelude.{◌≡◌, ◌==◌, IfOk, Some, length, not, slice_set, true};
 ghost use Rattle.trace_scenario.specs.Counts.{counts_of, scripts_of, written_scripts};
 ghost use Rattle.trace_scenario.specs.Scenario.{says_nothing, empty_scripts, is_free, takes_script};
-ghost use Rattle.trace_scenario.specs.TextReading.{Becomes, IsJudged};
+ghost use Rattle.trace_scenario.specs.TextResults.{Becomes, IsJudged};
 
 use crate::findings::Counts;
 use crate::scenario::Scenario;

@@ -5,7 +5,7 @@ ghost use Rattle.std.specs.Option.{option_copied};
 ghost use Rattle.std.specs.Result.{result_ok};
 ghost use Rattle.usb_descriptors.specs.Grammar.{reading};
 ghost use Rattle.trace_scenario.specs.Line.{is_ascii, ascii_of, device_line_of};
-ghost use Rattle.trace_scenario.specs.Reading.{ReadsAs};
+ghost use Rattle.trace_scenario.specs.LineResults.{ReadsAs};
 ghost use Rattle.trace_scenario.specs.Words.{words_of};
 
 use crate::Expected;

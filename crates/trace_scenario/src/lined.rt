@@ -1,7 +1,7 @@
 //! A scenario, with the lines that its steps stand in.
 
 ghost use Rattle.std.specs.Prelude.{◌≡◌, ◌++◌, ◌∷◌, [], IfErr, IfOk, Ok, length, map, if◌then◌else◌};
-ghost use Rattle.trace_scenario.specs.TextReading.{IsFaultOf};
+ghost use Rattle.trace_scenario.specs.TextResults.{IsFaultOf};
 ghost use Rattle.trace_scenario.specs.Runnable.{IsRunnable};
 ghost use Rattle.trace_scenario.specs.Scenario.{scenario_of};
 ghost use Rattle.trace_scenario.specs.StepLines.{has_grown, numbered, step_lines};
@@ -44,7 +44,8 @@ fn keep<'a>(
     Ok(())
 }
 
-/// The scenario of a text with the lines of its steps, or the fault in it, as `read_scenario` has it.
+/// The scenario of a text with the lines of its steps, or the fault in it: its first line that isn't taken, or want of memory.
+/// What it gives can be run.
 pub fn read_lined<'a>(alloc: Global, text: &'a [u8]) -> Result<Lined<'a>, TextFault>
     ensures scenario { IfOk result (λ read. scenario_of text.now ≡ Ok read.scenario) }
     ensures fault { IfErr result (λ fault. IsFaultOf fault (scenario_of text.now)) }

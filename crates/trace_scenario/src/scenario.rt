@@ -2,10 +2,10 @@
 
 ghost use Rattle.std.specs.Prelude.{IfOk};
 ghost use Rattle.trace_scenario.specs.Scenario.{scenario_of};
-ghost use Rattle.trace_scenario.specs.TextReading.{AnswersAs};
+ghost use Rattle.trace_scenario.specs.TextResults.{AnswersAs};
 ghost use Rattle.trace_scenario.specs.Runnable.{IsRunnable};
 
-use crate::draft::Draft;
+use crate::lined::{Lined, read_lined};
 use crate::scripted::ScriptedDevice;
 use crate::text_fault::TextFault;
 use std::alloc::Global;
@@ -27,13 +27,6 @@ pub fn read_scenario(alloc: Global, text: &[u8]) -> Result<Scenario, TextFault>
     ensures scenario { AnswersAs result (scenario_of text.now) }
     ensures runnable { IfOk result (λ s. IsRunnable s) }
 {
-    let mut draft = Draft::new(alloc);
-    let mut at: u64 = 0;
-    for line in text.split(|byte| *byte == b'\n') {
-        at = at.saturating_add(1);
-        if let Err(fault) = draft.read(alloc, line) {
-            return Err(TextFault::at(at, fault));
-        }
-    }
-    Ok(draft.into_scenario())
+    let Lined { scenario, .. } = read_lined(alloc, text)?;
+    Ok(scenario)
 }

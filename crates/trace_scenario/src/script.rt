@@ -4,7 +4,7 @@ ghost use Rattle.std.specs.Prelude.{codes};
 ghost use Rattle.std.specs.Option.{option_and_then};
 ghost use Rattle.trace_scenario.specs.Line.{script_of, answers_of, each_of, answer_of, packet_of};
 ghost use Rattle.trace_scenario.specs.Prefix.{behind};
-ghost use Rattle.trace_scenario.specs.Reading.{ReadsAs};
+ghost use Rattle.trace_scenario.specs.LineResults.{ReadsAs};
 ghost use Rattle.trace_scenario.specs.Words.{words_of};
 
 use crate::fault::LineFault;

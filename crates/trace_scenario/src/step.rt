@@ -1,6 +1,6 @@
 //! Lines that are pieces of a plan, but for submissions: a function for each first word, over the words behind it.
 
-ghost use Rattle.trace_scenario.specs.Reading.{ReadsAs};
+ghost use Rattle.trace_scenario.specs.LineResults.{ReadsAs};
 ghost use Rattle.trace_scenario.specs.Step.{bare_of, open_of, close_of, claim_of, release_of, reset_of, clear_of, cancel_of, expire_of, serve_of, unplug_of, return_of};
 ghost use Rattle.trace_scenario.specs.Words.{words_of};
 

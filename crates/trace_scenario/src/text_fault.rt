@@ -1,7 +1,7 @@
 //! Why a text isn't read.
 
 ghost use Rattle.std.specs.Prelude.{◌≡◌};
-ghost use Rattle.trace_scenario.specs.TextReading.{fault_at};
+ghost use Rattle.trace_scenario.specs.TextResults.{fault_at};
 
 use crate::LineFault;
 use thiserror::Error;

@@ -1,3 +1,2 @@
 pub mod Orders
-pub mod Outstanding
 pub mod Settlements

@@ -8,8 +8,8 @@ use Rattle.usb_model.specs.declared.reply.Reply.{Reply}
 use Rattle.usb_model.specs.declared.reply.Reply.TheVariants.{Settled}
 use Rattle.usb_model.specs.declared.result.TransferResult.{TransferResult}
 use Rattle.usb_design.specs.Kept.{KeptEndpoint, KeptTransfer}
-use Rattle.usb_design.specs.Handling.{Handled, posts}
-use Rattle.usb_design.specs.Settling.{kept_blanked, withdrawn_results}
+use Rattle.usb_design.specs.Events.{Handled, posts}
+use Rattle.usb_design.specs.Settlements.{kept_blanked, withdrawn_results}
 use Rattle.usb_cancel.specs.declared.ended.Mark.{Mark}
 use Rattle.usb_cancel.specs.declared.ended.Settlement.{Settlement}
 

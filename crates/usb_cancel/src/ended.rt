@@ -2,7 +2,7 @@
 
 ghost use Rattle.std.specs.Prelude.{◌≡◌, ◌≤◌, ◌||◌, ℕ, length, map, not};
 ghost use Rattle.usb_design.specs.Kept.{KeptEndpoint};
-ghost use Rattle.usb_design.specs.Settling as kept;
+ghost use Rattle.usb_design.specs.Settlements as kept;
 ghost use Rattle.usb_cancel.specs.Settlements.{fails_stop, leading, mark_of, resumed_at, settled_by};
 
 use usb_model::Errand;

@@ -25,8 +25,6 @@
 
 mod ended;
 mod order;
-mod outstanding;
 
 pub use ended::{Mark, Settlement, settle};
 pub use order::{ask, next_order};
-pub use outstanding::{Outstanding, Sent};

@@ -5,7 +5,7 @@ use Rattle.std.specs.Option.{option_and_then}
 use Rattle.usb_model.specs.Setup.{Setup, endpoint_id, interface_of}
 use Rattle.usb_model.specs.World.{holder}
 use Rattle.usb_claims.specs.Tables.{owner_at, is_plain, address_of_id, indexed, IsIndex}
-use Rattle.usb_claims.specs.Holding.{Holding, IsSetup, owner_of}
+use Rattle.usb_claims.specs.Holders.{Holding, IsSetup, owner_of}
 use Rattle.usb_claims.proofs.Owners.{nobody_past}
 use Rattle.usb_claims.proofs.Endpoints.{plain_parts, indexed_at}
 use Rattle.usb_claims.proofs.Setups.{interface-setup}

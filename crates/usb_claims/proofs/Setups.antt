@@ -6,7 +6,7 @@ use Rattle.std.proofs.lemmas.Option.{slice_get-map}
 use Rattle.usb_model.specs.declared.setup.DeviceSetup.{DeviceSetup}
 use Rattle.usb_model.specs.Setup.{Setup, is_device, info_of, interface_of}
 use Rattle.usb_claims.specs.Tables.{interface_at}
-use Rattle.usb_claims.specs.Holding.{Holding, IsSetup, has_device}
+use Rattle.usb_claims.specs.Holders.{Holding, IsSetup, has_device}
 
 -- a device's configuration
 config-setup : (v : Holding) (setup : Setup) → IsSetup v setup → (d : ℕ) → slice_get v.configs d ≡ option_map (λ x. x.config) (slice_get setup d)

@@ -5,7 +5,7 @@ ghost use Rattle.std.specs.Option.{option_copied};
 ghost use Rattle.usb_model.specs.declared.effect.Change.TheVariants.{Frees, Gains, Drops};
 ghost use Rattle.usb_model.specs.Setup.{Setup, endpoint_id, is_device};
 ghost use Rattle.usb_model.specs.World.{claims_after, holder};
-ghost use Rattle.usb_claims.specs.Holding.{IsSetup, device_of, owner_of, has_device, has_interface, interfaces_of, holds, others_hold, open_refusal, close_refusal, claim_refusal, release_refusal, answer_of};
+ghost use Rattle.usb_claims.specs.Holders.{IsSetup, device_of, owner_of, has_device, has_interface, interfaces_of, holds, others_hold, open_refusal, close_refusal, claim_refusal, release_refusal, answer_of};
 
 use crate::endpoint_table::{EndpointTable, endpoint_of_id};
 use crate::held::HeldEndpoint;
@@ -32,7 +32,7 @@ pub struct Claims {
 
 impl Model for Claims {
     ghost use Rattle.usb_claims.specs.Tables.{IsIndex};
-    ghost use Rattle.usb_claims.specs.Holding.{Holding};
+    ghost use Rattle.usb_claims.specs.Holders.{Holding};
 
     ghost Value = { Holding };
 

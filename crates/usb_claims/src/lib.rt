@@ -11,7 +11,7 @@
 //! - `held.rt`: `HeldEndpoint`: device, address and name, what `held_at` gives
 //! - `endpoint_table.rt`: the interface of each endpoint, by device and endpoint id, made from the configurations
 //! - `open_table.rt`, `owner_table.rt`: the device that each name has open; the name that holds each interface
-//! - specs/ Holding, Tables: what contracts see, and when each call is refused; how the tables are read
+//! - specs/ Holders, Tables: what contracts see, and when each call is refused; how the tables are read
 //!
 //! # Contracts
 //!

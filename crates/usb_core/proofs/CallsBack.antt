@@ -24,7 +24,7 @@ use Rattle.proof_lemmas.proofs.Lists.Parts.{each_append, each_behind, each_front
 use Rattle.proof_lemmas.proofs.Work.Lines.{Key, uncut_keys}
 use Rattle.proof_lemmas.proofs.Work.Moves.{keys_at, told, DoesWork, Submits, Takes, Moves}
 use Rattle.proof_lemmas.proofs.Work.StepMoves.{moves}
-use Rattle.usb_core.specs.Running.{CallsBackInOrder, CallsBackOnce, uncut_at}
+use Rattle.usb_core.specs.Runs.{CallsBackInOrder, CallsBackOnce, uncut_at}
 use Rattle.usb_core.proofs.Rises.{AllBelow, Rises, increasing, part_rises, below_more, below_up, rises_more, rises_front}
 
 -- the machine after a step of its own

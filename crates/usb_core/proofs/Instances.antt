@@ -13,8 +13,8 @@ use Rattle.usb_model.specs.Laws.Calls.{made, made_from}
 use Rattle.usb_model.specs.Laws.Places.{calls}
 use Rattle.usb_model.specs.Laws.Bound.{commands_in, delivers_in}
 use Rattle.proof_rows.specs.Rows.{bulk}
-use Rattle.proof_rows.specs.Rows.Halting.{stall_and_clear_halt}
-use Rattle.proof_rows.specs.Rows.Unplugging.{unplug_amid_transfers}
+use Rattle.proof_rows.specs.Rows.Halts.{stall_and_clear_halt}
+use Rattle.proof_rows.specs.Rows.Unplugs.{unplug_amid_transfers}
 use Rattle.proof_rows.proofs.Computed.{computed}
 use Rattle.proof_lemmas.proofs.Shares.Cuts.{ends_now}
 use Rattle.proof_lemmas.proofs.Shares.OpenShares.{open_if, outcome_nothing}

@@ -1,8 +1,9 @@
 mod Instances
-mod Turning
+mod Turns
 mod Reached
 mod Shown
-mod Carrying
+mod Payloads
 mod Unsized
 mod Rises
 pub mod CallsBack
+mod PlainSteps

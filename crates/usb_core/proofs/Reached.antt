@@ -11,10 +11,10 @@ use Rattle.proof_invariants.proofs.Bound.AskedEnds.{asked_ends}
 use Rattle.proof_invariants.proofs.Cut.Runs.{cuts_at}
 use Rattle.proof_invariants.proofs.Places.Runs.{keeps_places}
 use Rattle.proof_core.specs.State.{ShowsWorld, State}
-use Rattle.proof_core.specs.Steps.{Turns}
+use Rattle.proof_core.specs.Steps.{TurnsWorld}
 use Rattle.proof_design.specs.Lively.{IsFine}
-use Rattle.usb_core.specs.Running.{IsLawfulRun, ObeysLaws}
-use Rattle.usb_core.specs.Stepping.{Advances}
+use Rattle.usb_core.specs.Runs.{IsLawfulRun, ObeysLaws}
+use Rattle.usb_core.specs.Steps.{Advances}
 use Rattle.usb_core.proofs.CallsBack.{calls_back_in_order, calls_back_once}
 use Rattle.usb_core.proofs.Unsized.{cut_anywhere}
 
@@ -38,7 +38,7 @@ none_stopped setup steps es none = first_steps setup es steps (world_run setup s
 
 module _ {P A E : Type 0} where
   -- a step's entry that was put behind those before
-  pub advances : (r : Result A E) (old new : State P) (step its : Step) (entry : Entry) (before after : List Entry) → step ≡ its → Turns old its entry new → IfOk r (λ x. after ≡ before ++ entry ∷ []) → IfOk r (λ x. Advances old step new before after)
+  pub advances : (r : Result A E) (old new : State P) (step its : Step) (entry : Entry) (before after : List Entry) → step ≡ its → TurnsWorld old its entry new → IfOk r (λ x. after ≡ before ++ entry ∷ []) → IfOk r (λ x. Advances old step new before after)
   advances (Ok x) old new step its entry before after is turn pushed = (entry, pushed, rw is turn)
   advances (Err x) old new step its entry before after is turn pushed = tt
 

@@ -16,7 +16,7 @@ use Rattle.usb_steps.specs.declared.pending.Pending.{Pending}
 use Rattle.usb_steps.specs.Pending.{IsPending, does_something}
 use Rattle.usb_steps.specs.Homes.{can_expire, expires_now}
 use Rattle.usb_steps.specs.Packets.{taken_in}
-use Rattle.proof_design.specs.Calling.{KeptHome, ask_core, device_of, kept_home, step_core}
+use Rattle.proof_design.specs.Calls.{KeptHome, ask_core, device_of, kept_home, step_core}
 use Rattle.proof_design.specs.Shows.{Core, Shows}
 use Rattle.proof_design.proofs.Calls.Whole.{whole_steps}
 use Rattle.proof_controller.proofs.Ids.{has_device}

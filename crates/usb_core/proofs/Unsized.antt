@@ -40,7 +40,7 @@ use Rattle.proof_invariants.proofs.Machines.Well.{first_news, first_order, fit_a
 use Rattle.proof_design.specs.Lively.{IsFine, IsSized}
 use Rattle.proof_design.proofs.Lives.{IsSound, sound_at, sound_turn}
 use Rattle.proof_design.proofs.Sizes.{asked_sized, ordered_sized, submits_supported, told_sized}
-use Rattle.usb_core.specs.Running.{IsCutAt}
+use Rattle.usb_core.specs.Runs.{IsCutAt}
 
 -- nothing was accepted but that a halt ends, nothing came of it, and all answers of the script are left
 pub record IsUntouched (setup : Setup) (d e : ℕ) (a : Account) (end : Endpoint) : Type 0 where

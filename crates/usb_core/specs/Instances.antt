@@ -22,7 +22,7 @@ use Rattle.usb_model.specs.Laws.Calls.{made, returned, waiting}
 use Rattle.usb_model.specs.Laws.Places.{calls}
 use Rattle.proof_rows.specs.Rows.{Row, bulk}
 use Rattle.proof_rows.specs.Rows.Callbacks.{resubmit_three_rounds}
-use Rattle.proof_rows.specs.Rows.Cancelling.{cancel_at_its_bound}
+use Rattle.proof_rows.specs.Rows.Cancels.{cancel_at_its_bound}
 
 -- the steps of a worked row
 abbrev pub steps_of : Row → List Step

@@ -1,4 +1,5 @@
 pub mod Reads
 pub mod Instances
-pub mod Stepping
-pub mod Running
+pub mod Steps
+pub mod Runs
+pub mod Public

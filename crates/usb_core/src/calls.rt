@@ -1,27 +1,28 @@
 //! The core, call by call.
 
-ghost use Rattle.std.specs.Prelude.{◌≡◌, IfErr, IfOk, None, OnErr, Some, option_map, slice_get};
+ghost use Rattle.std.specs.Prelude.{◌≡◌, IfErr, IfOk, OnErr, Some, false, option_map, slice_get};
 ghost use Rattle.usb_model.specs.declared.refused.Refused.TheVariants.{NoMem};
 ghost use Rattle.usb_model.specs.declared.reply.Reply.TheVariants.{Number, Refused as IsRefused};
-ghost use Rattle.usb_model.specs.declared.step.Step.TheVariants.{Answer, Cancel, Claim, ClearHalt, Close, Command, Deliver, Expire, Open, Release, Reset, Serve, Submit, Take, Unplug};
+ghost use Rattle.usb_model.specs.declared.step.Step.TheVariants.{Answer, Deliver, Expire, Serve, Submit, Take};
 ghost use Rattle.usb_model.specs.declared.verdict.Verdict.TheVariants.{Again, AgainWith, Stop};
 ghost use Rattle.usb_model.specs.World.{new_world};
 ghost use Rattle.proof_core.specs.Calls.{Stays, called_entry};
-ghost use Rattle.proof_core.specs.Carrying.{Carries, CarriesMore, Kept, StillCarries};
-ghost use Rattle.proof_core.specs.Making.{setup_of};
+ghost use Rattle.proof_core.specs.Payloads.{Carries, CarriesMore, Kept, StillCarries};
+ghost use Rattle.proof_core.specs.Made.{setup_of};
 ghost use Rattle.proof_core.specs.State.{ShowsWorld};
-ghost use Rattle.proof_core.specs.Steps.{Turns};
-ghost use Rattle.usb_steps.specs.Taking.{CarriesOut};
+ghost use Rattle.proof_core.specs.Steps.{TurnsWorld};
+ghost use Rattle.usb_steps.specs.Calls.{takes_memory};
+ghost use Rattle.usb_steps.specs.Results.{CarriesOut};
 
 use std::alloc::{AllocError, Global};
 use std::marker::Model;
 use usb_device::Device;
-use usb_model::{Bytes, DeviceNo, Entry, EpAddr, Name, Reply, Request};
+use usb_model::{Bytes, DeviceNo, Entry, EpAddr, Name, Reply, Request, Step};
 use usb_steps::{Parts, Setup, Taken, Unaccepted};
 
 /// The library's core: every step of every name is made here, over the memory of real rings. Contracts see what it
 /// keeps, and say of it which world it shows (`ShowsWorld`); it always shows one. Each call is a turn of that world
-/// (`Turns`). What a caller keeps with a transfer, its payload, stays with it: whatever is kept under names and numbers
+/// (`TurnsWorld`). What a caller keeps with a transfer, its payload, stays with it: whatever is kept under names and numbers
 /// (`Carries`) is what goes out with the transfer of that name and number.
 ///
 /// Only `new`, `submit`, `again`, `again_with` and `take` take memory.
@@ -55,60 +56,14 @@ impl<P, D: Device> Core<P, D> {
         })
     }
 
-    /// Opens a device (libusb 1.0, `libusb_open`): the name has it open, and holds no interface. NotFound where there
-    /// is no such device, NoDevice where it is gone, Busy where the name has one open.
-    pub fn open(&mut self, h: Name, dev: DeviceNo) -> Reply
-        ensures turned { Turns self.old (Open h dev) (record { owner = Some h; reply = result }) self.new }
+    /// Makes a step that takes no memory: any but a submission, from within a callback or not, and a result that goes out.
+    /// It is the call that the step names (`Step`), with that call's refusals.
+    pub fn call(&mut self, step: Step) -> Entry
+        requires { takes_memory step ≡ false }
+        ensures turned { TurnsWorld self.old step result self.new }
         ensures carries { StillCarries self.old self.new }
     {
-        self.parts.open(h, dev)
-    }
-
-    /// Closes the name's device (libusb 1.0, `libusb_close`): the name has none open, and holds no interface. NotFound
-    /// where it has none open, Busy where something is under way at an endpoint of it.
-    pub fn close(&mut self, h: Name) -> Reply
-        ensures turned { Turns self.old (Close h) (record { owner = Some h; reply = result }) self.new }
-        ensures carries { StillCarries self.old self.new }
-    {
-        self.parts.close(h)
-    }
-
-    /// Claims an interface of the name's device (libusb 1.0, `libusb_claim_interface`): where it was nobody's its
-    /// endpoints are made new. NotFound where the name has no device open or this has no such interface, NoDevice where
-    /// the device is gone, HeldElsewhere where another name holds the interface.
-    pub fn claim(&mut self, h: Name, i: u8) -> Reply
-        ensures turned { Turns self.old (Claim h i) (record { owner = Some h; reply = result }) self.new }
-        ensures carries { StillCarries self.old self.new }
-    {
-        self.parts.claim(h, i)
-    }
-
-    /// Releases an interface (libusb 1.0, `libusb_release_interface`). NotFound where it isn't the name's, Busy where
-    /// something is under way at an endpoint of it.
-    pub fn release(&mut self, h: Name, i: u8) -> Reply
-        ensures turned { Turns self.old (Release h i) (record { owner = Some h; reply = result }) self.new }
-        ensures carries { StillCarries self.old self.new }
-    {
-        self.parts.release(h, i)
-    }
-
-    /// Resets the name's device (libusb 1.0, `libusb_reset_device`): the endpoints that it holds are made new. NotFound
-    /// where the name has no device open, NoDevice where the device is gone, Busy where something is under way at an
-    /// endpoint of it, HeldElsewhere where another name holds an interface of the device.
-    pub fn reset(&mut self, h: Name) -> Reply
-        ensures turned { Turns self.old (Reset h) (record { owner = Some h; reply = result }) self.new }
-        ensures carries { StillCarries self.old self.new }
-    {
-        self.parts.reset(h)
-    }
-
-    /// Ends the halt of a device's endpoint (libusb 1.0, `libusb_clear_halt`; USB 2.0, 9.4.1). NotFound where the
-    /// endpoint isn't the name's, NoDevice where the device is gone, Busy where a transfer is in the endpoint's line.
-    pub fn clear_halt(&mut self, h: Name, ep: EpAddr) -> Reply
-        ensures turned { Turns self.old (ClearHalt h ep) (record { owner = Some h; reply = result }) self.new }
-        ensures carries { StillCarries self.old self.new }
-    {
-        self.parts.clear_halt(h, ep)
+        self.parts.call(step)
     }
 
     /// Submits a transfer (libusb 1.0, `libusb_submit_transfer`), and gives its number. Refused where the endpoint
@@ -122,10 +77,10 @@ impl<P, D: Device> Core<P, D> {
         request: Request,
         payload: P,
     ) -> Result<u64, Unaccepted<Request, P>>
-        ensures accepted { IfOk result (λ n. Turns self.old (Submit h request) (record { owner = Some h; reply = Number n }) self.new) }
+        ensures accepted { IfOk result (λ n. TurnsWorld self.old (Submit h request) (record { owner = Some h; reply = Number n }) self.new) }
         ensures given { IfErr result (λ x. x.given ≡ request) }
         ensures back { IfErr result (λ x. x.payload ≡ payload) }
-        ensures refused { IfErr result (λ x. (x.why ≡ NoMem → ⊥) → Turns self.old (Submit h request) (record { owner = Some h; reply = IsRefused x.why }) self.new) }
+        ensures refused { IfErr result (λ x. (x.why ≡ NoMem → ⊥) → TurnsWorld self.old (Submit h request) (record { owner = Some h; reply = IsRefused x.why }) self.new) }
         ensures kept { OnErr result (Stays self.old self.new) }
         ensures carries { IfOk result (λ n. CarriesMore h n payload self.old self.new) }
         ensures still { OnErr result (StillCarries self.old self.new) }
@@ -133,19 +88,10 @@ impl<P, D: Device> Core<P, D> {
         self.parts.submit(h, request, payload)
     }
 
-    /// Asks a transfer to end (libusb 1.0, `libusb_cancel_transfer`). NotFound where the name has no such transfer in
-    /// progress, or it was asked before.
-    pub fn cancel(&mut self, h: Name, n: u64) -> Reply
-        ensures turned { Turns self.old (Cancel h n) (record { owner = Some h; reply = result }) self.new }
-        ensures carries { StillCarries self.old self.new }
-    {
-        self.parts.cancel(h, n)
-    }
-
     /// Asks a transfer to end whose time is over (libusb 1.0, `libusb_transfer`, `timeout`). NotFound as for `cancel`,
     /// and where it has no timeout.
     pub fn expire(&mut self, h: Name, n: u64) -> Reply
-        ensures turned { Turns self.old (Expire h n) (record { owner = Some h; reply = result }) self.new }
+        ensures turned { TurnsWorld self.old (Expire h n) (record { owner = Some h; reply = result }) self.new }
         ensures carries { StillCarries self.old self.new }
     {
         self.parts.expire(h, n)
@@ -155,25 +101,17 @@ impl<P, D: Device> Core<P, D> {
     /// is nothing to serve.
     #[inline(always)]
     pub fn serve(&mut self, dev: DeviceNo, ep: EpAddr) -> Entry
-        ensures turned { Turns self.old (Serve dev ep) result self.new }
+        ensures turned { TurnsWorld self.old (Serve dev ep) result self.new }
         ensures carries { StillCarries self.old self.new }
     {
         self.parts.serve(dev, ep)
-    }
-
-    /// The controller carries out the oldest order (xHCI 1.2, 4.6). Nobody's and Idle where none waits.
-    pub fn command(&mut self) -> Entry
-        ensures turned { Turns self.old Command result self.new }
-        ensures carries { StillCarries self.old self.new }
-    {
-        self.parts.command()
     }
 
     /// The oldest event is handled (xHCI 1.2, 4.11.3; libusb 1.0, `libusb_handle_events`): a transfer stands or it
     /// ended, or the errand of an order ended. Nobody's and Idle where none waits.
     #[inline(always)]
     pub fn deliver(&mut self) -> Entry
-        ensures turned { Turns self.old Deliver result self.new }
+        ensures turned { TurnsWorld self.old Deliver result self.new }
         ensures carries { StillCarries self.old self.new }
     {
         self.parts.deliver()
@@ -183,7 +121,7 @@ impl<P, D: Device> Core<P, D> {
     /// transfer; None where none waits. Nothing changes where memory is refused.
     #[inline(always)]
     pub fn take(&mut self) -> Result<Option<Taken<P>>, AllocError>
-        ensures taken { IfOk result (λ x. Turns self.old Take (called_entry (option_map (λ t. t.returned) x)) self.new) }
+        ensures taken { IfOk result (λ x. TurnsWorld self.old Take (called_entry (option_map (λ t. t.returned) x)) self.new) }
         ensures payload { IfOk result (λ x. option_map (λ t. t.payload) x ≡ option_map (λ y. y.transfer.payload) (slice_get self.old.flights.ended 0)) }
         ensures refused { OnErr result (Stays self.old self.new) }
         ensures carries { IfOk result (λ x. (kept : Kept P) → Carries kept self.old → CarriesOut kept x × Carries kept self.new) }
@@ -196,7 +134,7 @@ impl<P, D: Device> Core<P, D> {
     /// where the name has no such transfer in its callback.
     #[inline(always)]
     pub fn stop(&mut self, h: Name, n: u64) -> Reply
-        ensures turned { Turns self.old (Answer h n Stop) (record { owner = Some h; reply = result }) self.new }
+        ensures turned { TurnsWorld self.old (Answer h n Stop) (record { owner = Some h; reply = result }) self.new }
         ensures carries { StillCarries self.old self.new }
     {
         self.parts.stop(h, n)
@@ -207,9 +145,9 @@ impl<P, D: Device> Core<P, D> {
     /// no such transfer in its callback: the callback then goes on. NoMem, with nothing changed, where memory is
     /// refused. The payload then comes back.
     pub fn again(&mut self, h: Name, n: u64, payload: P) -> Result<u64, Unaccepted<(), P>>
-        ensures accepted { IfOk result (λ k. Turns self.old (Answer h n Again) (record { owner = Some h; reply = Number k }) self.new) }
+        ensures accepted { IfOk result (λ k. TurnsWorld self.old (Answer h n Again) (record { owner = Some h; reply = Number k }) self.new) }
         ensures back { IfErr result (λ x. x.payload ≡ payload) }
-        ensures refused { IfErr result (λ x. (x.why ≡ NoMem → ⊥) → Turns self.old (Answer h n Again) (record { owner = Some h; reply = IsRefused x.why }) self.new) }
+        ensures refused { IfErr result (λ x. (x.why ≡ NoMem → ⊥) → TurnsWorld self.old (Answer h n Again) (record { owner = Some h; reply = IsRefused x.why }) self.new) }
         ensures kept { OnErr result (Stays self.old self.new) }
         ensures carries { IfOk result (λ k. CarriesMore h k payload self.old self.new) }
         ensures still { OnErr result (StillCarries self.old self.new) }
@@ -225,22 +163,14 @@ impl<P, D: Device> Core<P, D> {
         bytes: Bytes,
         payload: P,
     ) -> Result<u64, Unaccepted<Bytes, P>>
-        ensures accepted { IfOk result (λ k. Turns self.old (Answer h n (AgainWith bytes)) (record { owner = Some h; reply = Number k }) self.new) }
+        ensures accepted { IfOk result (λ k. TurnsWorld self.old (Answer h n (AgainWith bytes)) (record { owner = Some h; reply = Number k }) self.new) }
         ensures given { IfErr result (λ x. x.given ≡ bytes) }
         ensures back { IfErr result (λ x. x.payload ≡ payload) }
-        ensures refused { IfErr result (λ x. (x.why ≡ NoMem → ⊥) → Turns self.old (Answer h n (AgainWith bytes)) (record { owner = Some h; reply = IsRefused x.why }) self.new) }
+        ensures refused { IfErr result (λ x. (x.why ≡ NoMem → ⊥) → TurnsWorld self.old (Answer h n (AgainWith bytes)) (record { owner = Some h; reply = IsRefused x.why }) self.new) }
         ensures kept { OnErr result (Stays self.old self.new) }
         ensures carries { IfOk result (λ k. CarriesMore h k payload self.old self.new) }
         ensures still { OnErr result (StillCarries self.old self.new) }
     {
         self.parts.again_with(h, n, bytes, payload)
-    }
-
-    /// A device is gone, for ever. NotFound where there is no such device, NoDevice where it is gone.
-    pub fn unplug(&mut self, dev: DeviceNo) -> Reply
-        ensures turned { Turns self.old (Unplug dev) (record { owner = None; reply = result }) self.new }
-        ensures carries { StillCarries self.old self.new }
-    {
-        self.parts.unplug(dev)
     }
 }

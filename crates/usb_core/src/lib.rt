@@ -7,12 +7,12 @@
 //! # Files
 //!
 //! - `calls.rt`: `Core`: its parts, of which the invariant is that they show some world; a function a step
-//! - `stepping.rt`: any step, with its payload
-//! - `running.rt`: a list of steps, from a core in which nothing is open; of its run the laws hold with nothing asked
+//! - `step.rt`: any step, with its payload
+//! - `runs.rt`: a list of steps, from a core in which nothing is open; of its run the laws hold with nothing asked
 //!   of the devices
 //! - `reads.rt`: what can be asked without a step; the controller, with its rings; the devices handed back
 //!   (`into_setup`)
-//! - specs/ Stepping, Running, Reads: what comes of a step and its payload; the laws of a run, together; what can be
+//! - specs/ Steps, Runs, Reads: what comes of a step and its payload; the laws of a run, together; what can be
 //!   asked of a world
 //! - `laws.rt`: the laws, and `instances`: bounds, calls and cuts, computed at worked rows
 //!
@@ -41,7 +41,7 @@
 //!
 //! The proofs of these laws stand in `proof_invariants` and `proof_lemmas`, which have no contracts of their own.
 //!
-//! The core: `ShowsWorld setup s w` is said of what it keeps. Its invariant: it shows some world. `Turns old step
+//! The core: `ShowsWorld setup s w` is said of what it keeps. Its invariant: it shows some world. `TurnsWorld old step
 //! entry new`: for each world that the core shows before the call, the entry is that of the world's turn, and the
 //! core then shows the world after it. `P` is what callers keep with their transfers: no code of these crates can
 //! drop or copy a value of it, so none is lost or doubled.
@@ -51,8 +51,9 @@
 //! - `Core::into_setup`: the devices are handed back: of each setup and world that the core shows, the setup is that
 //!   one again, and each endpoint that a device has, held or not, stands as the world has it: in its script, at its
 //!   halt, and by the packets that it took
-//! - `Core::open`, `close`, `claim`, `release`, `reset`, `clear_halt`, `cancel`, `expire`, `serve`, `command`,
-//!   `deliver`, `unplug`: each is a turn: Open, Close and so on; the reply is the world's, refusals and all
+//! - `Core::call`: a step that takes no memory (Open, Close, Claim and so on) is its turn; the entry is the world's,
+//!   refusals and all
+//! - `Core::expire`, `serve`, `deliver`: each is its turn
 //! - `Core::stop`: is the turn of an Answer with Stop
 //! - `Core::again`, `again_with`: accepted with a number, or refused, each is the turn of an Answer with Again, or
 //!   with AgainWith and the bytes; NoMem leaves each world that was shown shown; whatever is refused gives the
@@ -88,10 +89,10 @@
 mod calls;
 pub mod laws;
 mod reads;
-mod running;
-mod stepping;
+mod runs;
+mod step;
 
 pub use calls::Core;
-pub use running::{Stopped, run};
-pub use stepping::{NoMemory, Stepped};
+pub use runs::{Stopped, run};
+pub use step::{NoMemory, Stepped};
 pub use usb_steps::{Pending, Setup, Taken, Unaccepted, Unadded};

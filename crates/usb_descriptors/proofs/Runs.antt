@@ -8,7 +8,7 @@ use Rattle.usb_descriptors.specs.declared.reader.Reader.{Reader}
 use Rattle.usb_descriptors.specs.Pieces.{Piece, byte, pieces, extent, rest}
 use Rattle.usb_descriptors.specs.Grammar.{each_from, faults_of, faults_at_end, faults, configuration, read_by, header_length, total_length, body, reading}
 use Rattle.usb_descriptors.specs.Items.{items, opening}
-use Rattle.usb_descriptors.specs.Reading.{HasRead}
+use Rattle.usb_descriptors.specs.Reader.{HasRead}
 
 -- the first fault, or else this answer
 abbrev pub unless_fault : List DescFault → Result Configuration DescFault → Result Configuration DescFault

@@ -14,7 +14,7 @@ use Rattle.usb_descriptors.specs.Grammar.{type_of, is_interface, is_endpoint, in
 use Rattle.usb_descriptors.specs.Descriptors.{descriptor_of}
 use Rattle.usb_descriptors.specs.Table.{faults_beside}
 use Rattle.usb_descriptors.specs.declared.reader.Reader.{Reader}
-use Rattle.usb_descriptors.specs.Reading.{is_new, nearest_in, HasRead}
+use Rattle.usb_descriptors.specs.Reader.{is_new, nearest_in, HasRead}
 use Rattle.usb_descriptors.proofs.OneMore.{interfaces-push, endpoints-push, nearest-interface, nearest-other, numbers_used}
 
 -- what one more piece does: its fault, and what is read with it

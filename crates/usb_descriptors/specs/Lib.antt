@@ -3,4 +3,4 @@ pub mod Grammar
 pub mod Items
 pub mod Table
 pub mod Descriptors
-pub mod Reading
+pub mod Reader

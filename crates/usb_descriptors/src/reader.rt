@@ -28,7 +28,7 @@ pub(crate) struct Reader {
 }
 
 impl Reader {
-    ghost use Rattle.usb_descriptors.specs.Reading.{HasRead, ReadsOn, is_new};
+    ghost use Rattle.usb_descriptors.specs.Reader.{HasRead, ReadsOn, is_new};
 
     /// Nothing is read yet.
     pub(crate) fn new() -> Reader

@@ -1,7 +1,7 @@
 pub mod Stands
 pub mod Kept
-pub mod Handling
-pub mod Serving
-pub mod Commanding
-pub mod Settling
-pub mod Joining
+pub mod Events
+pub mod Packets
+pub mod Commands
+pub mod Settlements
+pub mod Joins

@@ -10,7 +10,7 @@
 //!   read off it
 //! - specs/ Kept: a transfer, an errand and an endpoint as they are kept, also as it is made; a line in a row; what
 //!   an event tells
-//! - specs/ Handling, Settling: an event of a transfer; a pause; the end of an errand
-//! - specs/ Serving, Commanding: a packet; an order that is carried out
-//! - specs/ Joining: a submission; an ask
+//! - specs/ Events, Settlements: an event of a transfer; a pause; the end of an errand
+//! - specs/ Packets, Commands: a packet; an order that is carried out
+//! - specs/ Joins: a submission; an ask
 #![tactic(auto)]

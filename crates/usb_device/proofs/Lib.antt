@@ -1,5 +1,5 @@
 pub mod Cuts
 pub mod Appends
-pub mod Fitting
-pub mod Filling
+pub mod Fits
+pub mod Filled
 pub mod Sizes

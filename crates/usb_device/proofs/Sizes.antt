@@ -11,7 +11,7 @@ use Rattle.usb_model.specs.Setup.{endpoint_id}
 use Rattle.usb_descriptors.specs.Table.{IsNumbered, addresses}
 use Rattle.usb_device.specs.Pipe.{Pipe, pipe_at}
 use Rattle.usb_device.specs.Scripts.{Takes, pipes_of}
-use Rattle.usb_device.proofs.Fitting.{pipe_is}
+use Rattle.usb_device.proofs.Fits.{pipe_is}
 
 -- numbered addresses of one id are one
 same_id : (e f : ℕ) → IsNumbered e → IsNumbered f → endpoint_id e ≡ endpoint_id f → e ≡ f

@@ -7,10 +7,8 @@ use Rattle.usb_model.specs.declared.request.Request.{Request}
 use Rattle.usb_model.specs.declared.step.Step.{Step}
 use Rattle.usb_model.specs.declared.step.Step.TheVariants.{Answer, Submit}
 use Rattle.usb_model.specs.declared.verdict.Verdict.TheVariants.{Again, AgainWith}
-use Rattle.usb_steps.specs.declared.submitting.Unaccepted.{Unaccepted}
-use Rattle.proof_core.specs.State.{State}
-use Rattle.proof_core.specs.Steps.{Turns}
-use Rattle.usb_journal.specs.declared.recording.NotRecorded.{NotRecorded}
+use Rattle.usb_core.specs.Public.{State, TurnsWorld, Unaccepted}
+use Rattle.usb_journal.specs.declared.record.NotRecorded.{NotRecorded}
 use Rattle.usb_journal.specs.declared.timer.Timer.{Timer}
 use Rattle.usb_journal.specs.Booked.{answer_entry, turned_down, unless_no_memory}
 use Rattle.usb_journal.specs.Timers.{started_again_if, started_if, timers_by}
@@ -34,19 +32,19 @@ module _ {G P : Type 0} where
 
 module _ {G P : Type 0} (core new : State P) (step : Step) (h : ℕ) where
   -- a refusal that isn't for want of memory
-  refused_turns : (why : Refused) (given : G) (payload : P) (a : Result ℕ (Unaccepted G P)) → turned_down why given payload ≡ Ok a → ((why ≡ NoMem → ⊥) → Turns core step (record { owner = Some h; reply = IsRefused why }) new) → Turns core step (answer_entry h a) new
+  refused_turns : (why : Refused) (given : G) (payload : P) (a : Result ℕ (Unaccepted G P)) → turned_down why given payload ≡ Ok a → ((why ≡ NoMem → ⊥) → TurnsWorld core step (record { owner = Some h; reply = IsRefused why }) new) → TurnsWorld core step (answer_entry h a) new
   refused_turns NoMem given payload a e turn = absurd (down_none a given payload e)
-  refused_turns InvalidParam given payload a e turn = subst (λ r. Turns core step (answer_entry h r) new) (same_answer _ a _ refl e) (turn (λ is. subst Other is tt))
-  refused_turns NoDevice given payload a e turn = subst (λ r. Turns core step (answer_entry h r) new) (same_answer _ a _ refl e) (turn (λ is. subst Other is tt))
-  refused_turns NotFound given payload a e turn = subst (λ r. Turns core step (answer_entry h r) new) (same_answer _ a _ refl e) (turn (λ is. subst Other is tt))
-  refused_turns Busy given payload a e turn = subst (λ r. Turns core step (answer_entry h r) new) (same_answer _ a _ refl e) (turn (λ is. subst Other is tt))
-  refused_turns HeldElsewhere given payload a e turn = subst (λ r. Turns core step (answer_entry h r) new) (same_answer _ a _ refl e) (turn (λ is. subst Other is tt))
-  refused_turns NotSupported given payload a e turn = subst (λ r. Turns core step (answer_entry h r) new) (same_answer _ a _ refl e) (turn (λ is. subst Other is tt))
+  refused_turns InvalidParam given payload a e turn = subst (λ r. TurnsWorld core step (answer_entry h r) new) (same_answer _ a _ refl e) (turn (λ is. subst Other is tt))
+  refused_turns NoDevice given payload a e turn = subst (λ r. TurnsWorld core step (answer_entry h r) new) (same_answer _ a _ refl e) (turn (λ is. subst Other is tt))
+  refused_turns NotFound given payload a e turn = subst (λ r. TurnsWorld core step (answer_entry h r) new) (same_answer _ a _ refl e) (turn (λ is. subst Other is tt))
+  refused_turns Busy given payload a e turn = subst (λ r. TurnsWorld core step (answer_entry h r) new) (same_answer _ a _ refl e) (turn (λ is. subst Other is tt))
+  refused_turns HeldElsewhere given payload a e turn = subst (λ r. TurnsWorld core step (answer_entry h r) new) (same_answer _ a _ refl e) (turn (λ is. subst Other is tt))
+  refused_turns NotSupported given payload a e turn = subst (λ r. TurnsWorld core step (answer_entry h r) new) (same_answer _ a _ refl e) (turn (λ is. subst Other is tt))
 
   -- what is answered is a turn
-  pub answer_turns : (r a : Result ℕ (Unaccepted G P)) → unless_no_memory r ≡ Ok a → IfOk r (λ n. Turns core step (record { owner = Some h; reply = Number n }) new)
-      → IfErr r (λ x. (x.why ≡ NoMem → ⊥) → Turns core step (record { owner = Some h; reply = IsRefused x.why }) new) → Turns core step (answer_entry h a) new
-  answer_turns (Ok n) a e accepted refused = subst (λ r. Turns core step (answer_entry h r) new) (same_answer (Ok n) a _ refl e) accepted
+  pub answer_turns : (r a : Result ℕ (Unaccepted G P)) → unless_no_memory r ≡ Ok a → IfOk r (λ n. TurnsWorld core step (record { owner = Some h; reply = Number n }) new)
+      → IfErr r (λ x. (x.why ≡ NoMem → ⊥) → TurnsWorld core step (record { owner = Some h; reply = IsRefused x.why }) new) → TurnsWorld core step (answer_entry h a) new
+  answer_turns (Ok n) a e accepted refused = subst (λ r. TurnsWorld core step (answer_entry h r) new) (same_answer (Ok n) a _ refl e) accepted
   answer_turns (Err x) a e accepted refused = refused_turns x.why x.given x.payload a e refused
 
 module _ {G P : Type 0} where

@@ -9,5 +9,5 @@ mod Steps
 mod Journals
 mod Due
 mod Loops
-mod Expiring
-mod Keeping
+mod Expiries
+mod KeptPlaces

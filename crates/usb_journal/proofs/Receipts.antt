@@ -32,7 +32,7 @@ receipts_one n xs x le =
     let rest = length-drop n xs in
     ap (receipts_from n) (drop_push n xs x le) ∙ receipts_push n (drop n xs) x (length xs) (omega arith)
 
--- one receipt more for a mark
-pub moved_more : (first : ℕ) (rs : List Receipted) (mark : ℕ) (r : Receipted) (new : ℕ) → AreMoved first rs mark → mark ≤ r.place → new ≡ r.place + 1 → AreMoved first (rs ++ r ∷ []) new
-moved_more first [] mark r new same le at = (subst (λ k. k ≤ r.place) same le, at)
-moved_more first (x ∷ xs) mark r new moved le at = (moved.0, moved_more (x.place + 1) xs mark r new moved.1 le at)
+-- one receipt more for a position
+pub moved_more : (first : ℕ) (rs : List Receipted) (position : ℕ) (r : Receipted) (new : ℕ) → AreMoved first rs position → position ≤ r.place → new ≡ r.place + 1 → AreMoved first (rs ++ r ∷ []) new
+moved_more first [] position r new same le at = (subst (λ k. k ≤ r.place) same le, at)
+moved_more first (x ∷ xs) position r new moved le at = (moved.0, moved_more (x.place + 1) xs position r new moved.1 le at)

@@ -24,16 +24,12 @@ use Rattle.proof_lemmas.proofs.Work.StepMoves.{moves}
 use Rattle.usb_model.specs.declared.request.Request.{Request}
 use Rattle.usb_model.specs.declared.verdict.Verdict.TheVariants.{Again, AgainWith, Stop}
 use Rattle.usb_core.specs.Reads.{is_done}
-use Rattle.usb_core.specs.Stepping.{kept_after, takes_memory}
-use Rattle.usb_steps.specs.declared.submitting.Unaccepted.{Unaccepted}
-use Rattle.proof_core.specs.Carrying.{Carries, CarriesMore, Kept, StillCarries}
-use Rattle.proof_core.specs.Calls.{called_entry}
-use Rattle.proof_core.specs.State.{State}
-use Rattle.proof_core.specs.Steps.{Turns}
+use Rattle.usb_core.specs.Steps.{kept_after}
+use Rattle.usb_core.specs.Public.{Carries, CarriesMore, Kept, State, StillCarries, TurnsWorld, Unaccepted, called_entry, takes_memory}
 use Rattle.usb_journal.specs.declared.place.Place.{Place}
 use Rattle.usb_journal.specs.declared.timer.Timer.{Timer}
 use Rattle.usb_journal.specs.Booked.{Replays, answer_entry, world_where}
-use Rattle.usb_journal.specs.Recording.{bytes_in}
+use Rattle.usb_journal.specs.Records.{bytes_in}
 use Rattle.usb_journal.specs.Timers.{ended, ending, numbered, stopped_if, timers_by}
 use Rattle.usb_journal.proofs.Runs.{next_is}
 
@@ -109,11 +105,11 @@ plain_takes _ e = refl
 
 module _ {P : Type 0} (setup : Setup) (places : List Place) (core new : State P) (entry : Entry) where
   -- its entry has no bytes
-  pub no_bytes_of : (step : Step) → takes_memory step ≡ false → Turns core step entry new → Replays setup places core → bytes_in entry.reply ≡ 0
+  pub no_bytes_of : (step : Step) → takes_memory step ≡ false → TurnsWorld core step entry new → Replays setup places core → bytes_in entry.reply ≡ 0
   no_bytes_of step plain turn r = ap (λ (e : Entry). bytes_in e.reply) (next_is setup places core new step entry turn r) ∙ plain_bytes setup (world_where setup places) step (plain_takes step plain)
 
   -- that of a Take has at most as many as the first result
-  pub taken_bytes : (n : ℕ) → Turns core Take entry new → Replays setup places core → n ≡ option_map_or (λ t. length t.piece.bytes) (slice_get (world_where setup places).results 0) 0 → bytes_in entry.reply ≤ n
+  pub taken_bytes : (n : ℕ) → TurnsWorld core Take entry new → Replays setup places core → n ≡ option_map_or (λ t. length t.piece.bytes) (slice_get (world_where setup places).results 0) 0 → bytes_in entry.reply ≤ n
   taken_bytes n turn r is =
       let same : bytes_in entry.reply ≡ n = ap (λ (e : Entry). bytes_in e.reply) (next_is setup places core new Take entry turn r) ∙ (take_bytes setup (world_where setup places) ∙ sym is) in
       omega (arith, same)

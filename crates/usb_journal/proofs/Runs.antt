@@ -6,10 +6,7 @@ use Rattle.usb_model.specs.declared.step.Step.{Step}
 use Rattle.usb_model.specs.Setup.{Setup}
 use Rattle.usb_model.specs.World.{World, new_world, turn, world_from}
 use Rattle.usb_model.specs.World.Journal.{entries_in, journal, journal_from, world_run}
-use Rattle.proof_core.specs.Calls.{Stays}
-use Rattle.proof_core.specs.Carrying.{StillCarries}
-use Rattle.proof_core.specs.State.{ShowsWorld, State}
-use Rattle.proof_core.specs.Steps.{Turns}
+use Rattle.usb_core.specs.Public.{ShowsWorld, State, Stays, StillCarries, TurnsWorld}
 use Rattle.usb_journal.specs.declared.place.Place.{Place}
 use Rattle.usb_journal.specs.declared.timer.Timer.{Timer}
 use Rattle.usb_journal.specs.Seen.{Receipted}
@@ -46,11 +43,11 @@ timers-push ts (x ∷ xs) p = timers-push (timers_by ts x.step x.entry.reply x.m
 
 module _ {P : Type 0} where
   -- the entry of a turn of what shows a journal's world
-  pub next_is : (setup : Setup) (places : List Place) (core new : State P) (step : Step) (entry : Entry) → Turns core step entry new → Replays setup places core → entry ≡ next_entry setup places step
+  pub next_is : (setup : Setup) (places : List Place) (core new : State P) (step : Step) (entry : Entry) → TurnsWorld core step entry new → Replays setup places core → entry ≡ next_entry setup places step
   next_is setup places core new step entry turn r = (turn setup (world_where setup places) r.1).0
 
   -- and a place with it goes behind the journal
-  pub replays-push : (setup : Setup) (places : List Place) (core new : State P) (p : Place) → Turns core p.step p.entry new → Replays setup places core → Replays setup (places ++ p ∷ []) new
+  pub replays-push : (setup : Setup) (places : List Place) (core new : State P) (p : Place) → TurnsWorld core p.step p.entry new → Replays setup places core → Replays setup (places ++ p ∷ []) new
   replays-push setup places core new p turn r =
       let made = turn setup (world_where setup places) r.1 in
       (is_run-push setup places p made.0 r.0, subst (ShowsWorld setup new) (sym (world_where-push setup places p)) made.1)
@@ -69,7 +66,7 @@ same_place step its caller entry told moment is are = ap (λ s. record { step = 
 
 module _ {P : Type 0} (setup : Setup) (journal prepared : List Place) (core new : State P) where
   -- a book stands with one place more
-  pub entered : (after : List Place) (ts later : List Timer) (p : Place) (receipt : Receipted) (place : ℕ) → prepared ≡ journal → after ≡ prepared ++ receipt.entry ∷ [] → receipt ≡ record { place = place; entry = p } → Turns core p.step p.entry new → later ≡ timers_by ts p.step p.entry.reply p.moment
+  pub entered : (after : List Place) (ts later : List Timer) (p : Place) (receipt : Receipted) (place : ℕ) → prepared ≡ journal → after ≡ prepared ++ receipt.entry ∷ [] → receipt ≡ record { place = place; entry = p } → TurnsWorld core p.step p.entry new → later ≡ timers_by ts p.step p.entry.reply p.moment
       → Replays setup journal core × (ts ≡ timers_of journal) → Replays setup after new × (later ≡ timers_of after)
   entered after ts later p receipt place same is told turn timers i =
       let journal_is : after ≡ journal ++ p ∷ [] = is ∙ (ap (λ l. l ++ receipt.entry ∷ []) same ∙ ap (λ (r : Receipted). journal ++ r.entry ∷ []) told) in

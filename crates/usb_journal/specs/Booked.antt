@@ -12,15 +12,11 @@ use Rattle.usb_model.specs.Setup.{Setup}
 use Rattle.usb_model.specs.World.{World, new_world, turn, world_from}
 use Rattle.usb_model.specs.World.Due.{Dated}
 use Rattle.usb_model.specs.World.Journal.{world_run}
-use Rattle.usb_steps.specs.declared.submitting.Unaccepted.{Unaccepted}
-use Rattle.usb_steps.specs.Pending.{does_something}
-use Rattle.proof_core.specs.Calls.{Stays}
-use Rattle.proof_core.specs.Carrying.{StillCarries}
-use Rattle.proof_core.specs.State.{ShowsWorld, State}
+use Rattle.usb_core.specs.Public.{ShowsWorld, State, Stays, StillCarries, Unaccepted, does_something}
 use Rattle.usb_journal.specs.declared.events.Events.{Events}
 use Rattle.usb_journal.specs.declared.place.Place.{Place}
-use Rattle.usb_journal.specs.declared.recording.NotRecorded.{NotRecorded}
-use Rattle.usb_journal.specs.Seen.{Marked, Receipted}
+use Rattle.usb_journal.specs.declared.record.NotRecorded.{NotRecorded}
+use Rattle.usb_journal.specs.Seen.{Positioned, Receipted}
 
 -- a book: its devices, the journal, the moment, and the core
 pub record Booked (P : Type 0) : Type 0 where
@@ -93,11 +89,11 @@ abbrev pub unless_no_memory : {G P : Type 0} → Result ℕ (Unaccepted G P) →
 unless_no_memory (Ok n) = Ok (Ok n)
 unless_no_memory (Err x) = turned_down x.why x.given x.payload
 
--- a mark was moved behind this place, which is its bearer's
-abbrev pub IsMoved : Marked → Receipted → Marked → Type 0
-IsMoved old receipt new = (old.mark ≤ receipt.place) × (new.mark ≡ receipt.place + 1) × (new.own ≡ old.own ++ receipt.entry ∷ [])
+-- a position was moved behind this place, which is its bearer's
+abbrev pub IsMoved : Positioned → Receipted → Positioned → Type 0
+IsMoved old receipt new = (old.position ≤ receipt.place) × (new.position ≡ receipt.place + 1) × (new.own ≡ old.own ++ receipt.entry ∷ [])
 
--- places that were entered for a mark one after another: each stands where the mark was or behind it, and the mark goes behind the last
+-- places that were entered for a position one after another: each stands where the position was or behind it, and the position goes behind the last
 abbrev pub AreMoved : ℕ → List Receipted → ℕ → Type 0
 AreMoved old [] new = new ≡ old
 AreMoved old (r ∷ rs) new = (old ≤ r.place) × AreMoved (r.place + 1) rs new

@@ -1,5 +1,5 @@
 pub mod Seen
 pub mod Booked
-pub mod Recording
-pub mod Keeping
+pub mod Records
+pub mod Kept
 pub mod Timers

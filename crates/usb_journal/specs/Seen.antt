@@ -1,17 +1,17 @@
--- What contracts see of receipts and marks.
+-- What contracts see of receipts and positions.
 use Rattle.std.specs.Prelude.{ℕ, List, [], ◌∷◌, map, suc, None}
 use Rattle.atomic_table.specs.Seated.{TableId}
 use Rattle.usb_model.specs.declared.reply.Reply.TheVariants.{Idle}
 use Rattle.usb_model.specs.declared.step.Step.TheVariants.{Command}
 use Rattle.usb_journal.specs.declared.place.Place.{Place}
 
--- the name of no roll
+-- the name of no log
 abbrev pub no_table : TableId
 no_table = record { words = 0; slots = 0; views_name = 0; atom = 0; block = 0; offset = 0; slot_names = [] }
 
--- a mark: how many places there were when it was last moved, and the places of its bearer, in order
-pub record Marked : Type 0 where
-  pub mark : ℕ
+-- a position: how many places there were when it was last moved, and the places of its bearer, in order
+pub record Positioned : Type 0 where
+  pub position : ℕ
   pub own : List Place
 
 -- a log: its places, and the recorder that was told them

@@ -3,27 +3,26 @@
 ghost use Rattle.std.specs.Prelude.{◌≡◌, ◌==◌, ℕ, ◌≤◌, All, IfOk, Some, [], count_by, length, slice_get};
 ghost use Rattle.std.specs.Option.{option_map_or};
 ghost use Rattle.usb_model.specs.declared.step.Step.TheVariants.{Command, Deliver, Take};
-ghost use Rattle.usb_steps.specs.Pending.{IsPending, does_something};
+ghost use Rattle.usb_core.specs.Public.{Carries, IsPending, Kept, does_something, setup_of};
 ghost use Rattle.usb_receipts.specs.Tokens.{new_keeper};
-ghost use Rattle.proof_core.specs.Carrying.{Carries, Kept};
-ghost use Rattle.proof_core.specs.Making.{setup_of};
 ghost use Rattle.usb_journal.specs.Booked.{HasEvents, IsRun, world_where};
 
 use crate::closed::Closed;
 use crate::events::Events;
 use crate::log::Log;
-use crate::mark::Mark;
 use crate::naming::Naming;
-use crate::place::Told;
+use crate::place::PlaceImage;
+use crate::position::Position;
 use crate::receipt::Receipt;
 use crate::recorder::Recorder;
 use crate::timer::Timer;
 use std::alloc::{AllocError, Global};
 use std::marker::Model;
+use std::sync::ledger::{self, Share};
 use usb_core::{Core, Pending, Setup};
 use usb_device::Device;
 use usb_model::{DeviceNo, EpAddr};
-use usb_receipts::{Keeper, Roll};
+use usb_receipts::Keeper;
 
 /// The core, the moment, and the journal of the core's steps. The journal stands in the proofs; at run time there is
 /// what the recorder keeps of it.
@@ -51,23 +50,25 @@ impl<L: Naming, P, D: Device, J: Recorder> Model for Book<L, P, D, J> {
 }
 
 impl<L: Naming, P, D: Device, J: Recorder> Book<L, P, D, J> {
-    /// No step was made, at moment 0. The roll is the library's, with nothing in it. An error where memory is wanting.
+    /// No step was made, at moment 0. Log and ledger are the library's, with nothing in them. An error where memory is wanting.
     pub fn new(
         alloc: Global,
         setup: Setup<D>,
-        roll: Roll<Told>,
-        keeper: Keeper<Told>,
+        log: usb_receipts::Log<PlaceImage>,
+        keeper: Keeper<PlaceImage>,
+        total: ledger::Book<L>,
     ) -> Result<Book<L, P, D, J>, AllocError>
         requires setup { setup_of setup ≡ L.setup }
-        requires roll { roll ≡ L.table }
-        requires keeper { keeper ≡ new_keeper roll }
+        requires log { log ≡ L.table }
+        requires keeper { keeper ≡ new_keeper log }
+        requires total { total.total ≡ 0 }
         ensures setup { IfOk result (λ b. b.setup ≡ L.setup) }
         ensures empty { IfOk result (λ b. b.journal ≡ []) }
         ensures moment { IfOk result (λ b. b.moment ≡ 0) }
         ensures carries { IfOk result (λ b. (kept : Kept P) → Carries kept b.core) }
     {
         let core = Core::new(alloc, setup)?;
-        let log = Log::new(alloc, roll, keeper);
+        let log = Log::new(alloc, log, keeper, total);
         let timers = Vec::new(alloc);
         Ok(Book {
             core,
@@ -103,6 +104,7 @@ impl<L: Naming, P, D: Device, J: Recorder> Book<L, P, D, J> {
     pub fn pending(&self, after: Option<(DeviceNo, EpAddr)>) -> Pending
         ensures pending { IsPending self.now.setup (world_where self.now.setup self.now.journal) after result }
         ensures run { IsRun self.now.setup self.now.journal }
+        ensures setup { self.now.setup ≡ L.setup }
     {
         self.core.pending(after)
     }
@@ -118,6 +120,7 @@ impl<L: Naming, P, D: Device, J: Recorder> Book<L, P, D, J> {
     pub fn events(&self) -> Events
         ensures events { HasEvents self.now.setup self.now.journal result }
         ensures run { IsRun self.now.setup self.now.journal }
+        ensures setup { self.now.setup ≡ L.setup }
     {
         Events {
             deliver: self.core.has_event(),
@@ -125,19 +128,21 @@ impl<L: Naming, P, D: Device, J: Recorder> Book<L, P, D, J> {
         }
     }
 
-    /// A mark at the end of the journal, whose bearer has no places yet.
-    pub fn mark(&mut self) -> Mark<L>
-        ensures mark { (result.mark ≡ length self.old.journal) × (result.own ≡ []) }
+    /// A position at the end of the journal, whose bearer has no places yet, with a share that counts none.
+    pub fn position(&mut self, share: Share<L>) -> Position<L>
+        requires { (share.parts ≡ 1) × (share.amount ≡ 0) }
+        ensures position { (result.position ≡ length self.old.journal) × (result.own ≡ []) }
         ensures same { self.new ≡ self.old }
     {
-        self.log.mark()
+        self.log.position(share)
     }
 
     /// The journal's end, compared with receipts.
-    pub fn finish(self, receipts: Vec<Receipt<L>>) -> Closed<P, D, J>
+    pub fn finish(self, receipts: Vec<Receipt<L>>) -> Closed<L, P, D, J>
         ensures journal { result.journal ≡ self.journal }
         ensures kept { J.stands result.recorder self.journal }
         ensures counted { result.places ≡ length self.journal }
+        ensures total { result.total.total ≡ length self.journal }
         ensures setup { self.setup ≡ L.setup }
         ensures run { IsRun L.setup self.journal }
         ensures core { result.core ≡ self.core }
@@ -145,11 +150,12 @@ impl<L: Naming, P, D: Device, J: Recorder> Book<L, P, D, J> {
         ensures apart { (p : ℕ) → count_by (λ r. r.place == p) receipts.items ≤ 1 }
     {
         let Book { core, log, .. } = self;
-        let (journal, recorder, places) = log.finish(receipts);
+        let (journal, recorder, places, total) = log.finish(receipts);
         Closed {
             journal,
             recorder,
             places,
+            total,
             core,
         }
     }

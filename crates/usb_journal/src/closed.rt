@@ -1,7 +1,9 @@
 //! What a book leaves.
 
-use crate::place::Told;
+use crate::naming::Naming;
+use crate::place::PlaceImage;
 use std::marker::Model;
+use std::sync::ledger;
 use usb_core::Core;
 use usb_device::Device;
 use usb_receipts::Keeper;
@@ -9,7 +11,7 @@ use usb_receipts::Keeper;
 /// A journal that has ended. It has no bytes; contracts see its places.
 #[derive(Drop)]
 pub struct Whole {
-    pub(crate) keeper: Keeper<Told>,
+    pub(crate) keeper: Keeper<PlaceImage>,
 }
 
 impl Model for Whole {
@@ -18,18 +20,20 @@ impl Model for Whole {
 
     ghost Value = { List Place };
 
-    ghost view = { λ w. w.keeper.log };
+    ghost view = { λ w. w.keeper.entries };
 }
 
 /// What is left where a book has ended.
 #[derive(Drop)]
-pub struct Closed<P, D: Device, J> {
+pub struct Closed<L: Naming, P, D: Device, J> {
     /// The journal, for contracts alone.
     pub journal: Whole,
     /// What was kept of it.
     pub recorder: J,
     /// How many places it has.
     pub places: u64,
+    /// The ledger that counts them. It has no bytes.
+    pub total: ledger::Book<L>,
     /// The core, with its devices.
     pub core: Core<P, D>,
 }

@@ -4,7 +4,7 @@ ghost use Rattle.std.specs.Prelude.{◌≡◌, ◌++◌, ◌+◌, ◌≤◌, ◌
 
 use crate::kept::{Asked, Kept, Replied, given_by, sent_by};
 use crate::place::Place;
-use crate::reading;
+use crate::reader;
 use crate::recorder::Recorder;
 use std::alloc::{AllocError, Global};
 use std::marker::Model;
@@ -27,7 +27,7 @@ pub struct Draft {
 /// Contracts see the places. Behind the bytes of these stand those of a step that is drafted.
 impl Model for Journal {
     ghost use Rattle.std.specs.Prelude.{◌≤◌, drop, map, vec_capacity, vec_len};
-    ghost use Rattle.usb_journal.specs.Keeping.{AreWithin, Journaled, place_of};
+    ghost use Rattle.usb_journal.specs.Kept.{AreWithin, Journaled, place_of};
 
     ghost Value = { Journaled };
 
@@ -57,7 +57,7 @@ impl Journal {
     {
         if number < self.kept.len() {
             let kept = self.kept[number];
-            let place = reading::place_of(alloc, &kept, self.bytes.as_slice())?;
+            let place = reader::place_of(alloc, &kept, self.bytes.as_slice())?;
             return Ok(Some(place));
         }
         Ok(None)
@@ -69,7 +69,7 @@ impl Journal {
     {
         let mut places = Vec::new(alloc);
         for kept in self.kept.iter() {
-            places.push(reading::place_of(alloc, kept, self.bytes.as_slice())?)?;
+            places.push(reader::place_of(alloc, kept, self.bytes.as_slice())?)?;
         }
         Ok(places)
     }
@@ -90,7 +90,7 @@ fn append(bytes: &mut Vec<u8>, more: &[u8])
 
 impl Recorder for Journal {
     ghost use Rattle.std.specs.Prelude.{◌≡◌, ◌+◌, ◌≤◌};
-    ghost use Rattle.usb_journal.specs.Keeping.{step_of};
+    ghost use Rattle.usb_journal.specs.Kept.{step_of};
 
     type Draft = Draft;
 

@@ -2,8 +2,8 @@
 
 ghost use Rattle.std.specs.Prelude.{◌≡◌};
 ghost use Rattle.usb_model.specs.declared.step.Step.TheVariants.{Submit};
-ghost use Rattle.usb_journal.specs.Keeping.{reply_of, step_of};
-ghost use Rattle.usb_journal.specs.Recording.{given_by, sent_by};
+ghost use Rattle.usb_journal.specs.Kept.{reply_of, step_of};
+ghost use Rattle.usb_journal.specs.Records.{given_by, sent_by};
 
 use usb_model::{
     Body, DeviceNo, EpAddr, Errand, Flags, Kind, Name, Refused, Reply, Request, Status, Step,

@@ -7,19 +7,19 @@
 //!
 //! - `book.rt`, `events.rt`, specs/Booked: the book, what contracts see of it, and what one place more is; what there
 //!   is to do with events
-//! - `submitting.rt`, `taking.rt`: the calls that give back what was given: `submit`, `again`, `again_with`; `take`
-//! - `serving.rt`: the other calls of every transfer: `serve`, `deliver`, `stop`
-//! - `recording.rt`: any step, with its payload
-//! - `ticking.rt`: time passes: an Expire for each transfer that is due
+//! - `submissions.rt`, `results.rt`: the calls that give back what was given: `submit`, `again`, `again_with`; `take`
+//! - `rounds.rt`: the other calls of every transfer: `serve`, `deliver`, `stop`
+//! - `record.rt`: any step, with its payload
+//! - `ticks.rt`: time passes: an Expire for each transfer that is due
 //! - `timer.rt`, specs/Timers: when each transfer was submitted whose callback hasn't ended
-//! - `log.rt`, `place.rt`, `receipt.rt`, `mark.rt`, specs/Seen: the journal on its roll; a place, a receipt, a
-//!   caller's mark
-//! - `recorder.rt`, specs/Recording: what is kept at run time: a draft of the step before it is made, and then its
+//! - `log.rt`, `place.rt`, `receipt.rt`, `position.rt`, specs/Seen: the journal on its log; a place, a receipt, a
+//!   caller's position
+//! - `recorder.rt`, specs/Records: what is kept at run time: a draft of the step before it is made, and then its
 //!   entry
-//! - `journal.rt`, `kept.rt`, `reading.rt`, specs/Keeping: the journal in memory; a place as it is kept; a place read
+//! - `journal.rt`, `kept.rt`, `reader.rt`, specs/Kept: the journal in memory; a place as it is kept; a place read
 //!   back
 //! - `naming.rt`, `closed.rt`: which library a value is of; what a book leaves
-//! - proofs/Keeping: what a kept place stands for stays, whatever bytes come behind its own
+//! - proofs/KeptPlaces: what a kept place stands for stays, whatever bytes come behind its own
 //! - proofs/Runs, Replies, Answers: one step more of a journal; how many bytes a reply has; what a submission is
 //!   answered
 //! - proofs/Known, Owns, Tracks, Steps, Journals, Due: the timers of a handle go with its transfers over any step,
@@ -33,13 +33,13 @@
 //!   core shows the world where that run ends (`ShowsWorld`)
 //! - `record`, `submit`, `again`, `again_with`, `take`: just one place behind the others: the step, the caller, the
 //!   moment, and the entry that the definitions have for the step in that world; the receipt has its number and all
-//!   that stands there, and the caller's mark moves behind it. What payload goes out, comes back or stays with its
+//!   that stands there, and the caller's position moves behind it. What payload goes out, comes back or stays with its
 //!   transfer, as of the core. After want of memory the journal, the moment and what the core shows are as before,
 //!   and what was given comes back
 //! - `tick`: the moment becomes the later of it and `now`; behind the others stand, at consecutive places, just the
 //!   steps that the definitions say are due at that moment (`due` of the journal with its moments), in their order,
-//!   as asked for by the caller; a receipt for each, whose place is where the caller's mark was or behind it, and the
-//!   mark goes behind it. After want of memory nothing changed
+//!   as asked for by the caller; a receipt for each, whose place is where the caller's position was or behind it, and the
+//!   position goes behind it. After want of memory nothing changed
 //! - `next_len`, `pending`, `has_order`, `events`: what the world where the journal's run ends says
 //! - `finish`: at each receipt's place stands what the receipt says, and no two have one place; the journal is a run
 //!   from the devices that `new` was given; the recorder can be what was told just these places (`Journal`: it has
@@ -54,27 +54,27 @@ mod events;
 mod journal;
 mod kept;
 mod log;
-mod mark;
 mod naming;
 mod place;
-mod reading;
+mod position;
+mod reader;
 mod receipt;
+mod record;
 mod recorder;
-mod recording;
-mod serving;
-mod submitting;
-mod taking;
-mod ticking;
+mod results;
+mod rounds;
+mod submissions;
+mod ticks;
 mod timer;
 
 pub use book::Book;
 pub use closed::{Closed, Whole};
 pub use events::Events;
 pub use journal::{Draft, Journal};
-pub use mark::Mark;
 pub use naming::Naming;
-pub use place::{Place, Told};
+pub use place::{Place, PlaceImage};
+pub use position::Position;
 pub use receipt::Receipt;
+pub use record::NotRecorded;
 pub use recorder::{Recorder, Unrecorded};
-pub use recording::NotRecorded;
 pub use usb_core::{Pending, Setup, Stepped, Taken, Unaccepted};

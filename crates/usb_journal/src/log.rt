@@ -3,29 +3,31 @@
 ghost use Rattle.std.specs.Prelude.{◌≡◌, ◌==◌, ◌++◌, ◌+◌, ◌-◌, ◌^◌, ◌<◌, ◌≤◌, ◌∷◌, ℕ, [], All, IfOk, OnOk, Some, count_by, length, slice_get};
 ghost use Rattle.usb_receipts.specs.Tokens.{new_keeper};
 ghost use Rattle.usb_journal.specs.Booked.{IsMoved};
-ghost use Rattle.usb_journal.specs.Recording.{bytes_in, sent_by};
+ghost use Rattle.usb_journal.specs.Records.{bytes_in, sent_by};
 ghost use Rattle.usb_journal.specs.Seen.{claims_of};
 
 use crate::closed::Whole;
 use crate::kept::sent_by;
-use crate::mark::Mark;
 use crate::naming::Naming;
-use crate::place::Told;
+use crate::place::PlaceImage;
+use crate::position::Position;
 use crate::receipt::Receipt;
 use crate::recorder::Recorder;
 use std::alloc::{AllocError, Global};
 use std::marker::{Model, PhantomData};
+use std::sync::ledger::{self, Share};
 use usb_model::{Entry, Step};
-use usb_receipts::{Image, Keeper, Roll};
+use usb_receipts::{Image, Keeper};
 
-/// What is kept of the places, how many there are, and the roll with its keeper, on which they all stand.
+/// What is kept of the places, how many there are, the log with its keeper, on which they all stand, and the ledger that counts
+/// them by those who made them.
 #[derive(Drop)]
 pub(crate) struct Log<L: Naming, J: Recorder> {
     recorder: J,
     places: u64,
-    roll: Roll<Told>,
-    keeper: Keeper<Told>,
-    library: PhantomData<L>,
+    log: usb_receipts::Log<PlaceImage>,
+    keeper: Keeper<PlaceImage>,
+    total: ledger::Book<L>,
 }
 
 /// Contracts see the places, and the recorder for the room that it has.
@@ -35,24 +37,30 @@ impl<L: Naming, J: Recorder> Model for Log<L, J> {
 
     ghost Value = { Logged J };
 
-    ghost view = { λ l. record { journal = l.keeper.log; recorder = l.recorder } };
+    ghost view = { λ l. record { journal = l.keeper.entries; recorder = l.recorder } };
 
-    ghost invariant = { λ l. (l.roll ≡ L.table) × (l.keeper.roll ≡ L.table) × (l.keeper.taken ≡ []) × (l.places ≡ length l.keeper.log) × J.stands l.recorder l.keeper.log };
+    ghost invariant = { λ l. (l.log ≡ L.table) × (l.keeper.log ≡ L.table) × (l.keeper.taken ≡ []) × (l.places ≡ length l.keeper.entries) × (l.total.total ≡ length l.keeper.entries) × J.stands l.recorder l.keeper.entries };
 }
 
 impl<L: Naming, J: Recorder> Log<L, J> {
     /// No place.
-    pub(crate) fn new(alloc: Global, roll: Roll<Told>, keeper: Keeper<Told>) -> Log<L, J>
-        requires roll { roll ≡ L.table }
-        requires keeper { keeper ≡ new_keeper roll }
+    pub(crate) fn new(
+        alloc: Global,
+        log: usb_receipts::Log<PlaceImage>,
+        keeper: Keeper<PlaceImage>,
+        total: ledger::Book<L>,
+    ) -> Log<L, J>
+        requires log { log ≡ L.table }
+        requires keeper { keeper ≡ new_keeper log }
+        requires total { total.total ≡ 0 }
         ensures { result.journal ≡ [] }
     {
         Log {
             recorder: J::new(alloc),
             places: 0,
-            roll,
+            log,
             keeper,
-            library: PhantomData,
+            total,
         }
     }
 
@@ -63,14 +71,15 @@ impl<L: Naming, J: Recorder> Log<L, J> {
         self.places
     }
 
-    /// A mark at the end, whose bearer has no places yet.
-    pub(crate) fn mark(&mut self) -> Mark<L>
-        ensures mark { (result.mark ≡ length self.old.journal) × (result.own ≡ []) }
+    /// A position at the end, whose bearer has no places yet, with a share that counts none.
+    pub(crate) fn position(&mut self, share: Share<L>) -> Position<L>
+        requires { (share.parts ≡ 1) × (share.amount ≡ 0) }
+        ensures position { (result.position ≡ length self.old.journal) × (result.own ≡ []) }
         ensures same { self.new ≡ self.old }
     {
-        Mark {
-            mark: self.roll.mark(&mut self.keeper),
-            library: PhantomData,
+        Position {
+            position: self.log.position(&mut self.keeper),
+            share,
         }
     }
 
@@ -97,13 +106,13 @@ impl<L: Naming, J: Recorder> Log<L, J> {
         Ok(self.recorder.draft(step))
     }
 
-    /// One place more, of the step that was drafted last, for the bearer of the mark. Takes no memory.
+    /// One place more, of the step that was drafted last, for the bearer of the position. Takes no memory.
     #[inline(always)]
     pub(crate) fn enter_drafted(
         &mut self,
-        mark: &mut Mark<L>,
+        position: &mut Position<L>,
         draft: J::Draft,
-        told: Told,
+        told: PlaceImage,
         entry: &Entry,
     ) -> Receipt<L>
         requires count { length self.old.journal + 1 < 2 ^ 64 }
@@ -112,12 +121,15 @@ impl<L: Naming, J: Recorder> Log<L, J> {
         requires draft { J.is_draft self.old.recorder draft told.step }
         ensures receipt { result ≡ record { place = length self.old.journal; entry = told } }
         ensures journal { self.new.journal ≡ self.old.journal ++ result.entry ∷ [] }
-        ensures mark { IsMoved mark.old result mark.new }
+        ensures position { IsMoved position.old result position.new }
         ensures room { (places bytes : ℕ) → J.has_room self.old.recorder places bytes → J.has_room self.new.recorder (places - 1) (bytes - bytes_in entry.now.reply) }
     {
         let place = self.places;
         let (caller, moment) = (told.caller(), told.moment());
-        let claim = self.roll.enter(&mut self.keeper, &mut mark.mark, told);
+        let claim = self
+            .log
+            .enter(&mut self.keeper, &mut position.position, told);
+        self.total.add(&mut position.share, 1);
         self.recorder.keep(draft, caller, entry, moment);
         self.places = place + 1;
         Receipt {
@@ -131,7 +143,7 @@ impl<L: Naming, J: Recorder> Log<L, J> {
     #[inline(always)]
     pub(crate) fn enter(
         &mut self,
-        mark: &mut Mark<L>,
+        position: &mut Position<L>,
         step: Step,
         caller: u32,
         entry: &Entry,
@@ -142,43 +154,48 @@ impl<L: Naming, J: Recorder> Log<L, J> {
         requires room { (places : ℕ) × (bytes : ℕ) × J.has_room self.old.recorder places bytes × (1 ≤ places) × (bytes_in entry.now.reply ≤ bytes) }
         ensures receipt { result ≡ record { place = length self.old.journal; entry = record { step = step; caller = caller; entry = entry.now; moment = moment } } }
         ensures journal { self.new.journal ≡ self.old.journal ++ result.entry ∷ [] }
-        ensures mark { IsMoved mark.old result mark.new }
+        ensures position { IsMoved position.old result position.new }
         ensures room { (places : ℕ) → J.has_room self.old.recorder places 0 → J.has_room self.new.recorder (places - 1) 0 }
     {
         let draft = self.recorder.draft(&step);
-        let told = Told::new(Image::of(&step), caller, entry, moment);
-        self.enter_drafted(mark, draft, told, entry)
+        let told = PlaceImage::new(Image::of(&step), caller, entry, moment);
+        self.enter_drafted(position, draft, told, entry)
     }
 
-    /// The end, compared with receipts: the journal, what was kept of it, and how many places it has.
-    pub(crate) fn finish(self, receipts: Vec<Receipt<L>>) -> (Whole, J, u64)
+    /// The end, compared with receipts: the journal, what was kept of it, how many places it has, and the ledger.
+    pub(crate) fn finish(self, receipts: Vec<Receipt<L>>) -> (Whole, J, u64, ledger::Book<L>)
         ensures journal { result.0 ≡ self.journal }
         ensures kept { J.stands result.1 self.journal }
         ensures counted { result.2 ≡ length self.journal }
+        ensures total { result.3.total ≡ length self.journal }
         ensures found { All (λ r. slice_get self.journal r.place ≡ Some r.entry) receipts.items }
         ensures apart { (p : ℕ) → count_by (λ r. r.place == p) receipts.items ≤ 1 }
     {
         let Log {
             recorder,
             places,
-            roll,
+            log,
             mut keeper,
-            ..
+            total,
         } = self;
-        take_all(&roll, &mut keeper, receipts);
-        roll.check(&mut keeper);
-        (Whole { keeper }, recorder, places)
+        take_all(&log, &mut keeper, receipts);
+        log.check(&mut keeper);
+        (Whole { keeper }, recorder, places, total)
     }
 }
 
 /// The keeper takes in the receipts' claims.
-fn take_all<L: Naming>(roll: &Roll<Told>, keeper: &mut Keeper<Told>, receipts: Vec<Receipt<L>>)
-    requires here { (keeper.old.roll ≡ roll.now) × (roll.now ≡ L.table) }
+fn take_all<L: Naming>(
+    log: &usb_receipts::Log<PlaceImage>,
+    keeper: &mut Keeper<PlaceImage>,
+    receipts: Vec<Receipt<L>>,
+)
+    requires here { (keeper.old.log ≡ log.now) × (log.now ≡ L.table) }
     requires none { keeper.old.taken ≡ [] }
-    ensures same { (keeper.new.roll ≡ keeper.old.roll) × (keeper.new.log ≡ keeper.old.log) }
+    ensures same { (keeper.new.log ≡ keeper.old.log) × (keeper.new.entries ≡ keeper.old.entries) }
     ensures taken { keeper.new.taken ≡ claims_of receipts.items }
 {
     for receipt in receipts {
-        roll.take_in(keeper, receipt.claim);
+        log.take_in(keeper, receipt.claim);
     }
 }

@@ -6,7 +6,7 @@ ghost use Rattle.atomic_table.specs.Seated.{TableId};
 use std::marker::Brand;
 use std::sync::ledger::Ledger;
 
-/// Names one library: the ledger that counts the places, the roll of its journal, and its devices.
+/// Names one library: the ledger that counts the places, the log of its journal, and its devices.
 pub trait Naming: Ledger {
     ghost use Rattle.usb_model.specs.Setup.{Setup};
     ghost use Rattle.atomic_table.specs.Seated.{TableId};

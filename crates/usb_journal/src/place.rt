@@ -19,16 +19,16 @@ pub struct Place {
     pub moment: u64,
 }
 
-/// A place as the roll is told of it. Contracts see the place; nothing of step and entry is copied.
+/// A place as the log is told of it. Contracts see the place; nothing of step and entry is copied.
 #[derive(Drop)]
-pub struct Told {
+pub struct PlaceImage {
     step: Image<Step>,
     caller: u32,
     entry: Image<Entry>,
     moment: u64,
 }
 
-impl Model for Told {
+impl Model for PlaceImage {
     ghost use Rattle.usb_journal.specs.declared.place.Place.{Place};
 
     ghost Value = { Place };
@@ -36,12 +36,12 @@ impl Model for Told {
     ghost view = { λ p. record { step = p.step.value; caller = p.caller; entry = p.entry.value; moment = p.moment } };
 }
 
-impl Told {
+impl PlaceImage {
     /// What is told of a step with this entry.
-    pub(crate) fn new(step: Image<Step>, caller: u32, entry: &Entry, moment: u64) -> Told
+    pub(crate) fn new(step: Image<Step>, caller: u32, entry: &Entry, moment: u64) -> PlaceImage
         ensures { result ≡ record { step = step.value; caller = caller; entry = entry.now; moment = moment } }
     {
-        Told {
+        PlaceImage {
             step,
             caller,
             entry: Image::of(entry),

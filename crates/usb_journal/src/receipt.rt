@@ -3,7 +3,7 @@
 ghost use Rattle.std.specs.Prelude.{◌≡◌};
 
 use crate::naming::Naming;
-use crate::place::Told;
+use crate::place::PlaceImage;
 use std::marker::{Model, PhantomData};
 use usb_receipts::Claim;
 
@@ -12,7 +12,7 @@ use usb_receipts::Claim;
 #[derive(Drop)]
 pub struct Receipt<L: Naming> {
     pub(crate) place: u64,
-    pub(crate) claim: Claim<Told>,
+    pub(crate) claim: Claim<PlaceImage>,
     pub(crate) library: PhantomData<L>,
 }
 
@@ -24,7 +24,7 @@ impl<L: Naming> Model for Receipt<L> {
 
     ghost view = { λ r. record { place = r.place; entry = told r.claim.claims } };
 
-    ghost invariant = { λ r. (r.claim.roll ≡ L.table) × (r.claim.claims ≡ (r.place, told r.claim.claims) ∷ []) };
+    ghost invariant = { λ r. (r.claim.log ≡ L.table) × (r.claim.claims ≡ (r.place, told r.claim.claims) ∷ []) };
 }
 
 impl<L: Naming> Receipt<L> {

@@ -1,7 +1,7 @@
 //! What a call gave.
 
 ghost use Rattle.std.specs.Prelude.{◌≡◌, IfErr, IfOk, None, Some};
-ghost use Rattle.usb_library.specs.Calling.{changes, refusal};
+ghost use Rattle.usb_library.specs.Calls.{changes, refusal};
 
 use usb_core::Unaccepted;
 use usb_journal::{Naming, Receipt};

@@ -3,27 +3,22 @@
 ghost use Rattle.std.specs.Prelude.{◌≡◌};
 
 use std::marker::Model;
-use std::sync::ledger::Share;
-use usb_journal::{Mark, Naming};
+use usb_journal::{Naming, Position};
 
 /// Makes calls: each thread has one of its own. Contracts see its number, how many places the journal had after its last
 /// call, and the places of its calls, in order. It has no bytes but its number.
 #[derive(Drop)]
 pub struct Caller<L: Naming> {
     pub(crate) number: u32,
-    pub(crate) mark: Mark<L>,
-    pub(crate) share: Share<L>,
+    pub(crate) position: Position<L>,
 }
 
 impl<L: Naming> Model for Caller<L> {
-    ghost use Rattle.std.specs.Prelude.{◌≡◌, length};
-    ghost use Rattle.usb_library.specs.Calling.{Calling};
+    ghost use Rattle.usb_library.specs.Calls.{Calling};
 
     ghost Value = { Calling };
 
-    ghost view = { λ c. record { number = c.number; mark = c.mark.mark; own = c.mark.own } };
-
-    ghost invariant = { λ c. (c.share.parts ≡ 1) × (c.share.amount ≡ length c.mark.own) };
+    ghost view = { λ c. record { number = c.number; position = c.position.position; own = c.position.own } };
 }
 
 impl<L: Naming> Caller<L> {

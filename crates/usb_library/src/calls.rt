@@ -5,17 +5,33 @@
 
 ghost use Rattle.std.specs.Prelude.{◌≡◌, IfOk, OnErr};
 ghost use Rattle.usb_model.specs.declared.step.Step.TheVariants.{Cancel, Claim, ClearHalt, Close, Command, Deliver, Open, Release, Reset, Serve, Unplug};
-ghost use Rattle.usb_library.specs.Calling.{Makes};
+ghost use Rattle.usb_core.specs.Public.{does_something};
+ghost use Rattle.usb_journal.specs.Booked.{world_where};
+ghost use Rattle.usb_library.specs.Calls.{Makes};
 
 use crate::answered::Answered;
 use crate::caller::Caller;
 use crate::library::Library;
-use crate::waking::{of_event, of_packet};
+use crate::wakes::{of_event, of_packet};
 use std::alloc::AllocError;
 use std::sync::Wait;
 use usb_device::Device;
-use usb_journal::{Naming, Recorder};
+use usb_journal::{Book, Naming, Recorder};
 use usb_model::{DeviceNo, EpAddr, Name, Step};
+
+/// The oldest event is handled, for a caller; and whether an order waits then.
+fn delivered<L: Naming, P: Drop, D: Device, J: Recorder>(
+    book: &mut Book<L, P, D, J>,
+    caller: &mut Caller<L>,
+) -> Result<(Answered<L>, bool), AllocError>
+    ensures made { IfOk result (λ x. Makes Deliver caller.old caller.new x.0.receipt) }
+    ensures entry { IfOk result (λ x. x.0.entry ≡ x.0.receipt.entry.entry) }
+    ensures order { IfOk result (λ x. x.1 ≡ does_something book.new.setup (world_where book.new.setup book.new.journal) Command) }
+    ensures refused { OnErr result (caller.new ≡ caller.old) }
+{
+    let (receipt, entry) = book.deliver(caller.number, &mut caller.position)?;
+    Ok((Answered { receipt, entry }, book.has_order()))
+}
 
 impl<L: Naming, P: Drop, D: Device, J: Recorder> Library<L, P, D, J> {
     /// Opens a device (libusb 1.0, `libusb_open`). NotFound where there is no such device, NoDevice where it is gone, Busy where
@@ -141,7 +157,13 @@ impl<L: Naming, P: Drop, D: Device, J: Recorder> Library<L, P, D, J> {
         ensures entry { IfOk result (λ x. x.entry ≡ x.receipt.entry.entry) }
         ensures refused { OnErr result (caller.new ≡ caller.old) }
     {
-        let answered = self.desk.lock(rt).serve(caller, dev, ep)?;
+        let mut guarded = self.guarded.lock(rt);
+        guarded.look.serve(dev, ep);
+        let (receipt, entry) = guarded
+            .book
+            .serve(dev, ep, caller.number, &mut caller.position)?;
+        drop(guarded);
+        let answered = Answered { receipt, entry };
         let work = of_packet(&answered.entry.reply);
         self.wake_if(rt, answered.has_changed(), work);
         Ok(answered)
@@ -170,7 +192,7 @@ impl<L: Naming, P: Drop, D: Device, J: Recorder> Library<L, P, D, J> {
         ensures entry { IfOk result (λ x. x.entry ≡ x.receipt.entry.entry) }
         ensures refused { OnErr result (caller.new ≡ caller.old) }
     {
-        let (answered, has_order) = self.desk.lock(rt).deliver(caller)?;
+        let (answered, has_order) = delivered(&mut self.guarded.lock(rt).book, caller)?;
         let work = of_event(&answered.entry.reply, has_order);
         self.wake_if(rt, answered.has_changed(), work);
         Ok(answered)

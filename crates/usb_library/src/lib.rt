@@ -8,12 +8,13 @@
 //! - `opening.rt`: what a library is made of, before a type names it
 //! - `library.rt`, `calls.rt`, `transfers.rt`: the library; its calls, those of handles and of the controller, those
 //!   of transfers and of time
-//! - `desk.rt`: what lies under the lock: the book, the callers' ledger, the endpoint that was served last
 //! - `caller.rt`, `answered.rt`: a caller; what a call gave
-//! - `waking.rt`: what there is to do; for which worker a step made work; who is unparked after a change; when all is
+//! - `callers.rt`, `look.rt`: how many callers were made, and the parts of the ledger for those to come; where the next packet
+//!   is looked for
+//! - `wakes.rt`: what there is to do; for which worker a step made work; who is unparked after a change; when all is
 //!   at rest
-//! - `finishing.rt`: the end: the journal, or which callers are missing
-//! - specs/Calling: what a call makes (`Makes`), and what a tick does (`Ticks`)
+//! - `finish.rt`: the end: the journal, or which callers are missing
+//! - specs/Calls: what a call makes (`Makes`), and what a tick does (`Ticks`)
 //!
 //! # Contracts
 //!
@@ -40,27 +41,28 @@
 //!
 //! What `watch`, `watch_part`, `rested` and `stop_workers` do has no contract: what a lock keeps is known by its type
 //! alone, so nothing can be said of it behind the call. That a worker is woken whenever a step made work for its part
-//! is argued in `waking.rt`, and shown by scenes alone.
+//! is argued in `wakes.rt`, and shown by scenes alone.
 //!
-//! A core under one lock (`Desk`), called by many threads, each with a `Caller` of its own. Callbacks are handed out
+//! A book under one lock (`Guarded`), called by many threads, each with a `Caller` of its own. Callbacks are handed out
 //! by `take`, and called by whoever took them, with no lock held. The comment at `Library` says what the lock is for,
 //! and what must not change.
 #![tactic(auto)]
 
 mod answered;
 mod caller;
+mod callers;
 mod calls;
-mod desk;
-mod finishing;
+mod finish;
 mod library;
+mod look;
 mod opening;
 mod transfers;
-mod waking;
+mod wakes;
 
 pub use answered::{Answered, Submitted};
 pub use caller::Caller;
-pub use desk::CALLERS;
-pub use finishing::{Ended, Missing};
+pub use callers::CALLERS;
+pub use finish::{Ended, Missing};
 pub use library::Library;
 pub use opening::Opening;
-pub use waking::Part;
+pub use wakes::Part;

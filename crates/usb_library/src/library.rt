@@ -3,32 +3,44 @@
 ghost use Rattle.std.specs.Prelude.{◌≡◌, [], IfErr, IfOk, OnErr, false};
 ghost use Rattle.usb_model.specs.declared.refused.Refused.TheVariants.{Busy};
 ghost use Rattle.usb_model.specs.Numbers.{takes_payload};
-ghost use Rattle.usb_library.specs.Calling.{Makes};
+ghost use Rattle.usb_library.specs.Calls.{Makes};
 
 use crate::answered::Answered;
 use crate::caller::Caller;
-use crate::desk::Desk;
+use crate::callers::Callers;
+use crate::look::Look;
 use crate::opening::Opening;
-use crate::waking::{Watchers, Work};
+use crate::wakes::{Watchers, Work};
 use std::alloc::{AllocError, Global};
 use std::sync::{Mutex, Wait};
 use usb_device::Device;
 use usb_journal::{Book, Naming, Recorder};
 use usb_model::{Refused, Step};
 
+/// What the lock guards.
+#[derive(Drop)]
+pub struct Guarded<L: Naming, P, D: Device, J: Recorder> {
+    /// The core with its journal.
+    pub(crate) book: Book<L, P, D, J>,
+    /// How many callers were made.
+    pub(crate) callers: Callers<L>,
+    /// Where the next packet is looked for.
+    pub(crate) look: Look,
+}
+
 /// A core under a lock, with what callers keep with their transfers (`P`), devices (`D`), and a recorder that keeps the
 /// journal, or nothing of it (`J`).
 ///
 /// # The one lock
 ///
-/// Each call takes the lock of the desk, makes one step at most, and lets go of it before it comes back. Whoever holds
+/// Each call takes the lock of what is guarded, makes one step at most, and lets go of it before it comes back. Whoever holds
 /// it takes no other lock, calls no callback and waits for nothing: a callback is handed out by `take`, and whoever took it
-/// calls it with no lock held. So a callback may call the library itself. After the desk's lock is free the watchers' own is
+/// calls it with no lock held. So a callback may call the library itself. After that lock is free the watchers' own is
 /// taken, to unpark them; the two are never held together. What must not change: the step and its place of the journal are
 /// made under one hold of the lock, else the journal's order isn't that of the core.
 #[derive(Drop)]
 pub struct Library<L: Naming, P, D: Device, J: Recorder> {
-    pub(crate) desk: Mutex<Desk<L, P, D, J>>,
+    pub(crate) guarded: Mutex<Guarded<L, P, D, J>>,
     pub(crate) watchers: Watchers,
 }
 
@@ -41,15 +53,19 @@ impl<L: Naming, P: Drop, D: Device, J: Recorder> Library<L, P, D, J> {
         requires setup { opening.setup ≡ L.setup }
     {
         let Opening {
-            roll,
+            log,
             keeper,
             blank,
             setup,
         } = opening;
         let (total, spare) = blank.open::<L>();
-        let book = Book::new(alloc, setup, roll, keeper)?;
+        let book = Book::new(alloc, setup, log, keeper, total)?;
         Ok(Library {
-            desk: Mutex::new(Desk::new(book, total, spare)),
+            guarded: Mutex::new(Guarded {
+                book,
+                callers: Callers::new(spare),
+                look: Look::new(),
+            }),
             watchers: Watchers::new(alloc),
         })
     }
@@ -60,7 +76,12 @@ impl<L: Naming, P: Drop, D: Device, J: Recorder> Library<L, P, D, J> {
         ensures made { IfOk result (λ c. c.own ≡ []) }
         ensures refused { IfErr result (λ why. why ≡ Busy) }
     {
-        self.desk.lock(rt).caller()
+        let mut guarded = self.guarded.lock(rt);
+        let Some((number, share)) = guarded.callers.one_more() else {
+            return Err(Refused::Busy);
+        };
+        let position = guarded.book.position(share);
+        Ok(Caller { number, position })
     }
 
     /// Makes a step that submits nothing and takes nothing out. An error where memory is refused: then nothing changed.
@@ -75,7 +96,18 @@ impl<L: Naming, P: Drop, D: Device, J: Recorder> Library<L, P, D, J> {
         ensures entry { IfOk result (λ x. x.entry ≡ x.receipt.entry.entry) }
         ensures refused { OnErr result (caller.new ≡ caller.old) }
     {
-        let answered = self.desk.lock(rt).call(caller, step)?;
+        let recorded = self
+            .guarded
+            .lock(rt)
+            .book
+            .record(step, caller.number, &mut caller.position, None);
+        let Ok((receipt, stepped)) = recorded else {
+            return Err(AllocError);
+        };
+        let answered = Answered {
+            receipt,
+            entry: stepped.entry,
+        };
         self.wake_if(rt, answered.has_changed(), Work::Any);
         Ok(answered)
     }

@@ -3,14 +3,14 @@
 ghost use Rattle.std.specs.Prelude.{◌≡◌, IfErr, IfOk, OnErr, option_map};
 ghost use Rattle.usb_model.specs.declared.step.Step.TheVariants.{Answer, Submit, Take};
 ghost use Rattle.usb_model.specs.declared.verdict.Verdict.TheVariants.{Again, AgainWith, Stop};
-ghost use Rattle.proof_core.specs.Calls.{called_entry};
+ghost use Rattle.usb_core.specs.Public.{called_entry};
 ghost use Rattle.usb_journal.specs.Booked.{answer_entry};
-ghost use Rattle.usb_library.specs.Calling.{Makes, Ticks};
+ghost use Rattle.usb_library.specs.Calls.{Makes, Ticks};
 
 use crate::answered::{Answered, Submitted};
 use crate::caller::Caller;
 use crate::library::Library;
-use crate::waking::{Part, Work};
+use crate::wakes::{Part, Work};
 use std::alloc::AllocError;
 use std::sync::Wait;
 use usb_core::Taken;
@@ -36,9 +36,13 @@ impl<L: Naming, P: Drop, D: Device, J: Recorder> Library<L, P, D, J> {
         ensures back { IfOk result (λ x. IfErr x.number (λ y. (y.given ≡ request) × (y.payload ≡ callback))) }
         ensures refused { IfErr result (λ x. (x.given ≡ request) × (x.payload ≡ callback) × (caller.new ≡ caller.old)) }
     {
-        let submitted = self.desk.lock(rt).submit(caller, h, request, callback)?;
-        self.wake_if(rt, submitted.number.is_ok(), Work::Of(Part::Controller));
-        Ok(submitted)
+        let (receipt, number) = self
+            .guarded
+            .lock(rt)
+            .book
+            .submit(h, request, callback, caller.number, &mut caller.position)?;
+        self.wake_if(rt, number.is_ok(), Work::Of(Part::Controller));
+        Ok(Submitted { receipt, number })
     }
 
     /// The oldest result goes out to its callback, which is handed over with what it is to be told (libusb 1.0,
@@ -53,7 +57,11 @@ impl<L: Naming, P: Drop, D: Device, J: Recorder> Library<L, P, D, J> {
         ensures entry { IfOk result (λ x. x.0.entry.entry ≡ called_entry (option_map (λ t. t.returned) x.1)) }
         ensures refused { OnErr result (caller.new ≡ caller.old) }
     {
-        let (receipt, taken) = self.desk.lock(rt).take(caller)?;
+        let (receipt, taken) = self
+            .guarded
+            .lock(rt)
+            .book
+            .take(caller.number, &mut caller.position)?;
         self.wake_if(rt, taken.is_some(), Work::None);
         Ok((receipt, taken))
     }
@@ -71,7 +79,12 @@ impl<L: Naming, P: Drop, D: Device, J: Recorder> Library<L, P, D, J> {
         ensures entry { IfOk result (λ x. x.entry ≡ x.receipt.entry.entry) }
         ensures refused { OnErr result (caller.new ≡ caller.old) }
     {
-        let answered = self.desk.lock(rt).stop(caller, h, n)?;
+        let (receipt, entry) = self
+            .guarded
+            .lock(rt)
+            .book
+            .stop(h, n, caller.number, &mut caller.position)?;
+        let answered = Answered { receipt, entry };
         self.wake_if(rt, answered.has_changed(), Work::None);
         Ok(answered)
     }
@@ -92,9 +105,13 @@ impl<L: Naming, P: Drop, D: Device, J: Recorder> Library<L, P, D, J> {
         ensures back { IfOk result (λ x. IfErr x.number (λ y. y.payload ≡ callback)) }
         ensures refused { IfErr result (λ x. (x.payload ≡ callback) × (caller.new ≡ caller.old)) }
     {
-        let submitted = self.desk.lock(rt).again(caller, h, n, callback)?;
-        self.wake_if(rt, submitted.number.is_ok(), Work::Of(Part::Controller));
-        Ok(submitted)
+        let (receipt, number) = self
+            .guarded
+            .lock(rt)
+            .book
+            .again(h, n, callback, caller.number, &mut caller.position)?;
+        self.wake_if(rt, number.is_ok(), Work::Of(Part::Controller));
+        Ok(Submitted { receipt, number })
     }
 
     /// The same with other bytes to be sent in the place of what the transfer had. Where it is refused they come back.
@@ -112,12 +129,13 @@ impl<L: Naming, P: Drop, D: Device, J: Recorder> Library<L, P, D, J> {
         ensures back { IfOk result (λ x. IfErr x.number (λ y. (y.given ≡ bytes) × (y.payload ≡ callback))) }
         ensures refused { IfErr result (λ x. (x.given ≡ bytes) × (x.payload ≡ callback) × (caller.new ≡ caller.old)) }
     {
-        let submitted = self
-            .desk
+        let (receipt, number) = self
+            .guarded
             .lock(rt)
-            .again_with(caller, h, n, bytes, callback)?;
-        self.wake_if(rt, submitted.number.is_ok(), Work::Of(Part::Controller));
-        Ok(submitted)
+            .book
+            .again_with(h, n, bytes, callback, caller.number, &mut caller.position)?;
+        self.wake_if(rt, number.is_ok(), Work::Of(Part::Controller));
+        Ok(Submitted { receipt, number })
     }
 
     /// Time passes (libusb 1.0, `libusb_handle_events_timeout`): the moment becomes `now`, in milliseconds, or stays where it is
@@ -132,7 +150,11 @@ impl<L: Naming, P: Drop, D: Device, J: Recorder> Library<L, P, D, J> {
         ensures ticked { IfOk result (λ given. Ticks L.setup now caller.old given.items caller.new) }
         ensures refused { OnErr result (caller.new ≡ caller.old) }
     {
-        let receipts = self.desk.lock(rt).tick(caller, now)?;
+        let receipts = self
+            .guarded
+            .lock(rt)
+            .book
+            .tick(caller.number, &mut caller.position, now)?;
         self.wake_if(rt, !receipts.is_empty(), Work::Any);
         Ok(receipts)
     }

@@ -1,2 +1,2 @@
-pub mod Living
+pub mod Life
 pub mod Steps

@@ -5,10 +5,10 @@
 //! # Files
 //!
 //! - `driver.rt`, `gates.rt`: what a driver is; the gates of both workers
-//! - `living.rt`: the library from its opening to its end
+//! - `life.rt`: the library from its opening to its end
 //! - `threads.rt`, `seat.rt`: the threads; a driver with its caller, on its way into one and back
-//! - `making.rt`: a handle's step, by the call that it is
-//! - specs/Living, Steps: what is left; which steps a handle makes by a call of its own
+//! - `calls.rt`: a handle's step, by the call that it is
+//! - specs/Life, Steps: what is left; which steps a handle makes by a call of its own
 //!
 //! # Contracts
 //!
@@ -24,14 +24,14 @@
 //! be made all that were made come to their end first.
 #![tactic(auto)]
 
+mod calls;
 mod driver;
 mod gates;
-mod living;
-mod making;
+mod life;
 mod seat;
 mod threads;
 
+pub use calls::{handle_of, make};
 pub use driver::Driver;
 pub use gates::Gates;
-pub use living::{Lived, live, live_gated};
-pub use making::{handle_of, make};
+pub use life::{Lived, live, live_gated};

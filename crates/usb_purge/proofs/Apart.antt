@@ -10,8 +10,7 @@ use Rattle.usb_model.specs.World.{World, new_world, turn}
 use Rattle.usb_model.specs.World.Journal.{entries, is_own, journal, journal_from, own, run_from, world_run}
 use Rattle.proof_lemmas.proofs.Handles.Isolation.{entries_from, entries_less, entries_more, own_from, own_less, own_more, sees_alone}
 use Rattle.proof_lemmas.proofs.Handles.Alone.{runs_alone}
-use Rattle.proof_core.specs.State.{ShowsWorld, State}
-use Rattle.proof_core.specs.Steps.{Turns}
+use Rattle.usb_core.specs.Public.{ShowsWorld, State, TurnsWorld}
 use Rattle.usb_purge.specs.declared.comparison.Comparison.{Comparison}
 use Rattle.usb_purge.specs.declared.comparison.Part.{Part}
 use Rattle.usb_purge.specs.Alone.{AreCalledInOrder, AreCalledOnce, IsNext, IsPart, MakesOwn, RunsPicked, Shares, ShowsSome, picked, place_of, with_own}
@@ -60,7 +59,7 @@ module _ {A : Type 0} where
 
 module _ {P : Type 0} (h : ℕ) (step : Step) (core core' : State P) (entry : Entry) (part : Part) (marks : List Bool) (mine : Bool) where
   -- a step of another was made
-  pub shares_others : Turns core step entry core' → mine ≡ is_own h (place_of step entry) → mine ≡ false → marks ≡ part.own ++ mine ∷ [] → Shares h step core core' part (record { entries = part.entries; own = marks })
+  pub shares_others : TurnsWorld core step entry core' → mine ≡ is_own h (place_of step entry) → mine ≡ false → marks ≡ part.own ++ mine ∷ [] → Shares h step core core' part (record { entries = part.entries; own = marks })
   shares_others turned tested others marked = (
     entry,
     turned,
@@ -69,7 +68,7 @@ module _ {P : Type 0} (h : ℕ) (step : Step) (core core' : State P) (entry : En
   )
 
   -- one of its own was
-  pub shares_own : (es : List Entry) → Turns core step entry core' → mine ≡ is_own h (place_of step entry) → mine ≡ true → marks ≡ part.own ++ mine ∷ [] → es ≡ part.entries ++ entry ∷ [] → Shares h step core core' part (record { entries = es; own = marks })
+  pub shares_own : (es : List Entry) → TurnsWorld core step entry core' → mine ≡ is_own h (place_of step entry) → mine ≡ true → marks ≡ part.own ++ mine ∷ [] → es ≡ part.entries ++ entry ∷ [] → Shares h step core core' part (record { entries = es; own = marks })
   shares_own es turned tested owned marked pushed = (
     entry,
     turned,

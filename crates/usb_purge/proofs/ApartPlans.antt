@@ -16,15 +16,15 @@ use Rattle.usb_model.specs.World.Plans.{Stage, expand, expand_from, first_stage,
 use Rattle.proof_lemmas.proofs.Handles.Alone.{only_new}
 use Rattle.proof_lemmas.proofs.Handles.Isolation.{entries_from}
 use Rattle.usb_purge.specs.Alone.{PerformsBoth, alone_of, is_own_by, place_of, shared_of}
-use Rattle.usb_purge.specs.Driving.{Advances, TakesNext}
+use Rattle.usb_purge.specs.Drives.{Advances, TakesNext}
 use Rattle.usb_purge.specs.PlanRuns.{Performs, PlanState, ShowsStage, StandsFor, entries_of, is_verdict}
 use Rattle.usb_purge.specs.declared.plan_run.Performed.{Performed}
-use Rattle.usb_purge.specs.declared.twins.Told.{Told}
+use Rattle.usb_purge.specs.declared.twins.TwinPiece.{TwinPiece}
 use Rattle.usb_purge.proofs.Expansion.{IsOthersPiece, IsOwnPiece, IsSame, others_piece, own_piece, same_after, same_past}
 use Rattle.usb_purge.proofs.Plans.{AreFixed, IsFixedStage, fixed_after, fixed_once, stands_only}
 use Rattle.usb_purge.proofs.Reached.{piece_rules, piece_world}
 use Rattle.usb_purge.proofs.Runs.{entries-append, entries_all, entries_none, told_again}
-use Rattle.usb_purge.proofs.Taking.{Takes, has_one, takes}
+use Rattle.usb_purge.proofs.TakenCallbacks.{Takes, has_one, takes}
 
 -- the same stage but for the rules to come
 abbrev ruled : Stage → List Rule → Stage
@@ -285,7 +285,7 @@ module _ {P : Type 0} (rule : P → Rule) (setup : Setup) (plan : List Plan) (ru
                   ∙ ap (λ w. entries_of x ++ entries_from setup h w later) (sym (piece_world setup s piece steps))))
 
   -- one piece more, whosever it is
-  pub one_more : (v v' u u' : PlanState P) (es apart : List Entry) (i : ℕ) (left its more its' : List P) (piece : Plan) (callback mine : Option P) (told : Option (Told P)) → i < length plan → piece ≡ slice_index_or plan i piece → Beside v u es apart i left its
+  pub one_more : (v v' u u' : PlanState P) (es apart : List Entry) (i : ℕ) (left its more its' : List P) (piece : Plan) (callback mine : Option P) (told : Option (TwinPiece P)) → i < length plan → piece ≡ slice_index_or plan i piece → Beside v u es apart i left its
       → TakesNext (is_submission piece) left more callback → TakesNext (is_submission piece) its its' mine → PerformsBoth rule h piece callback mine v v' u u' told → Beside v' u' (es ++ shared_of told) (apart ++ alone_of told) (i + 1) more its'
   one_more v v' u u' es apart i left its more its' piece callback mine None within item b next next_its (x, performs, others, stays) =
       subst (λ w. Beside v' w (es ++ []) (apart ++ []) (i + 1) more its') (sym stays)

@@ -14,8 +14,9 @@ use Rattle.proof_lemmas.proofs.Handles.Alone.{runs_alone}
 use Rattle.proof_lemmas.proofs.Handles.Isolation.{sees_alone}
 use Rattle.usb_purge.specs.Alone.{AdvancesBoth, AreLeft, Begins, PerformsTwice, StartsBoth, TellsPlan, TwinState, alone_of, is_own_by, shared_of}
 use Rattle.usb_purge.specs.declared.comparison.Comparison.{Comparison}
-use Rattle.usb_purge.specs.declared.twins.Told.{Told}
-use Rattle.usb_purge.specs.Driving.{TakesNext}
+use Rattle.usb_purge.specs.declared.plan_run.Performed.{Performed}
+use Rattle.usb_purge.specs.declared.twins.TwinPiece.{TwinPiece}
+use Rattle.usb_purge.specs.Drives.{TakesNext}
 use Rattle.usb_purge.specs.PlanRuns.{Performs, ShowsStage, entries_of, is_verdict}
 use Rattle.usb_purge.proofs.Apart.{entries_in_order, entries_once}
 use Rattle.usb_purge.proofs.ApartPlans as plans
@@ -37,12 +38,16 @@ module _ {P : Type 0} where
 
 module _ {P : Type 0} (rule : P → Rule) (h : ℕ) (piece : Plan) (callback mine : Option P) (v w : TwinState P) where
   -- a piece of the handle's own was performed by both
-  pub performs_two : (t : Told P) (own : Bool) → Performs rule v.run piece callback (entries_of t.shared) w.run → own ≡ is_own_by h piece t.shared.entry → own ≡ true → Performs rule v.own piece mine (entries_of t.alone) w.own → w.left ≡ v.left → w.its ≡ v.its
+  pub performs_two : (t : TwinPiece P) (own : Bool) → Performs rule v.run piece callback (entries_of t.shared) w.run → own ≡ is_own_by h piece t.shared.entry → own ≡ true → Performs rule v.own piece mine (entries_of t.alone) w.own → w.left ≡ v.left → w.its ≡ v.its
       → PerformsTwice rule h piece callback mine v w (Some t)
   performs_two t own performs tested owned again left its = record { both = (performs, sym tested ∙ owned, again); left = left; its = its }
 
+  -- a piece of another, by the first alone
+  pub performs_one : (x : Performed P) (own : Bool) → Performs rule v.run piece callback (entries_of x) w.run → own ≡ is_own_by h piece x.entry → own ≡ false → w.own ≡ v.own → w.left ≡ v.left → w.its ≡ v.its → PerformsTwice rule h piece callback mine v w None
+  performs_one x own performs tested others same left its = record { both = (x, performs, sym tested ∙ others, same); left = left; its = its }
+
   -- and so with the callbacks that were next
-  pub advances : {E : Type 0} (left its : List P) (r : Result (Option (Told P)) E) → TakesNext (is_submission piece) left v.left callback → TakesNext (is_submission piece) its v.its mine
+  pub advances : {E : Type 0} (left its : List P) (r : Result (Option (TwinPiece P)) E) → TakesNext (is_submission piece) left v.left callback → TakesNext (is_submission piece) its v.its mine
       → IfOk r (λ told. PerformsTwice rule h piece callback mine v w told) → IfOk r (λ told. AdvancesBoth rule h piece (record { run = v.run; own = v.own; left = left; its = its }) w told)
   advances left its (Ok told) next next_its twice = record {
     callback = callback;
@@ -77,7 +82,7 @@ module _ {P : Type 0} (rule : P → Rule) (setup : Setup) (plan : List Plan) (ru
   )
 
   -- one piece more
-  pub one_more : (v w : TwinState P) (shared apart : List Entry) (i : ℕ) (piece : Plan) (told : Option (Told P)) → i < length plan → piece ≡ slice_index_or plan i piece → AreBeside v shared apart i → AdvancesBoth rule h piece v w told
+  pub one_more : (v w : TwinState P) (shared apart : List Entry) (i : ℕ) (piece : Plan) (told : Option (TwinPiece P)) → i < length plan → piece ≡ slice_index_or plan i piece → AreBeside v shared apart i → AdvancesBoth rule h piece v w told
       → AreBeside w (shared ++ shared_of told) (apart ++ alone_of told) (i + 1)
   one_more v w shared apart i piece told within item b a =
       plans.one_more rule setup plan rules h v.run w.run v.own w.own shared apart i v.left v.its w.left w.its piece a.callback a.mine told within item b a.takes a.takes_its a.both

@@ -7,8 +7,8 @@ use Rattle.usb_model.specs.Machine.{endpoint_at}
 use Rattle.usb_model.specs.Setup.{Setup}
 use Rattle.usb_model.specs.World.{World, machine_of}
 use Rattle.proof_invariants.proofs.Bounds.Runs.{callback_each, callbacks_home}
-use Rattle.usb_purge.specs.Returning.{IsReached, callback_at}
-use Rattle.usb_purge.proofs.Returning.{machine_callbacks}
+use Rattle.usb_purge.specs.Returns.{IsReached, callback_at}
+use Rattle.usb_purge.proofs.Returns.{machine_callbacks}
 
 -- in every world that a run leads to
 pub homed : (setup : Setup) (w : World) → IsReached setup w → (h n : ℕ) (x : InCallback) → callback_at w h n ≡ Some x → is_some (endpoint_at (machine_of setup h w) x.request.ep) ≡ true

@@ -6,16 +6,16 @@ mod Gentle
 mod Verdicts
 mod Expansion
 pub mod Plans
-pub mod Taking
+pub mod TakenCallbacks
 mod Endpoints
 mod Held
 mod Owners
-mod Returning
+mod Returns
 mod Takes
 mod NoneRuns
 mod Stages
 mod Homes
-mod Answering
+mod ToldVerdicts
 pub mod Reached
 mod Apart
 mod ApartPlans

@@ -22,7 +22,7 @@ use Rattle.proof_lemmas.proofs.Handles.Runs.{run_append}
 use Rattle.usb_purge.specs.declared.comparison.Part.{Part}
 use Rattle.usb_purge.specs.declared.plan_run.Performed.{Performed}
 use Rattle.usb_purge.specs.Alone.{DrivesPicked, IsNext, IsPlanPart, PerformsOwn, SharesPiece, ShowsSomeStage, Starts, TellsPlan, TellsPlanPart, is_own_by, picked, picked_rules, with_own}
-use Rattle.usb_purge.specs.Driving.{TakesNext}
+use Rattle.usb_purge.specs.Drives.{TakesNext}
 use Rattle.usb_purge.specs.PlanRuns.{IsUnder, PlanState, Performs, ShowsStage, StandsFor, entries_of, is_verdict}
 use Rattle.usb_purge.proofs.Apart.{entries_in_order, entries_once, picked_first, picked_next, picked_none, picked_unmarked, with_first}
 use Rattle.usb_purge.proofs.ApartPlans.{own_by_first}
@@ -30,7 +30,7 @@ use Rattle.usb_purge.proofs.Expansion.{expands_alone, others_piece, rules_left}
 use Rattle.usb_purge.proofs.Plans.{AreFixed, IsFixedStage, fixed_after, fixed_first, fixed_left, fixed_once, stands_only}
 use Rattle.usb_purge.proofs.Reached.{piece_rules, piece_world}
 use Rattle.usb_purge.proofs.Runs.{AllOwn, NoneOwn, entries-append, entries_all, entries_none}
-use Rattle.usb_purge.proofs.Taking.{Takes, has_one, takes}
+use Rattle.usb_purge.proofs.TakenCallbacks.{Takes, has_one, takes}
 use Rattle.usb_purge.proofs.Verdicts.{answer_own}
 
 -- a return that names the handle stands for steps of its own

@@ -18,16 +18,13 @@ use Rattle.usb_model.specs.Machine.Calls.{callback_of}
 use Rattle.usb_model.specs.World.{World, new_world, turn, turn_of_nobody}
 use Rattle.usb_model.specs.Laws.Places.{call_of}
 use Rattle.usb_model.specs.World.Plans.{Book, Stage, first_stage, noted, noted_by, returning}
-use Rattle.usb_steps.specs.declared.taking.Taken.{Taken}
-use Rattle.proof_core.specs.Carrying.{Carries, Kept}
+use Rattle.usb_core.specs.Public.{Carries, Kept, ShowsWorld, State, Taken, TurnsWorld, result_of}
 use Rattle.usb_transfer.specs.declared.transfer.Transfer.{Transfer as InFlight}
-use Rattle.usb_flight.specs.Flights.{EndedOf}
-use Rattle.proof_core.specs.State.{ShowsWorld, State, result_of}
-use Rattle.proof_core.specs.Steps.{Turns}
-use Rattle.usb_core.specs.Stepping.{GoesOut, first_payload, handed_out, kept_after, kept_by}
+use Rattle.usb_tables.specs.Flights.{EndedOf}
+use Rattle.usb_core.specs.Steps.{GoesOut, first_payload, handed_out, kept_after, kept_by}
 use Rattle.usb_purge.specs.PlanRuns.{IsRunning, IsRunningBut, IsUnder, MakesAnswer, MakesStep, PlanState, RunBehindStep, RunsToo, ShowsBut, ShowsStage, nowhere, running_at, still_called}
-use Rattle.usb_purge.specs.Returning.{AnswerEnds, CallsBack, IsReached, IsTold, KeepsCallbacks, SameCallbacks, TakeCalls, callback_at, ends_callback, is_answer, is_of_callback, is_there}
-use Rattle.usb_purge.proofs.Returning.{keeps_callbacks}
+use Rattle.usb_purge.specs.Returns.{AnswerEnds, CallsBack, IsReached, IsTold, KeepsCallbacks, SameCallbacks, TakeCalls, callback_at, ends_callback, is_answer, is_of_callback, is_there}
+use Rattle.usb_purge.proofs.Returns.{keeps_callbacks}
 use Rattle.usb_purge.proofs.Takes.{is_take, no_call}
 
 -- a world that is shown is one that a run leads to
@@ -93,7 +90,7 @@ module _ {P : Type 0} (rule : P → Rule) where
 
   -- what a step of the core does to what is shown of a stage but its callbacks
   record StepsOn (setup : Setup) (old : State P) (step : Step) (callback : Option P) (entry : Entry) (new : State P) : Type 0 where
-    turned : Turns old step entry new
+    turned : TurnsWorld old step entry new
     carries : (kept : Kept P) → Carries kept old → Carries (kept_after kept step entry callback) new
     given : takes_payload step ≡ true → is_some callback ≡ true
 
@@ -130,7 +127,7 @@ module _ {P : Type 0} (rule : P → Rule) where
       (λ h n owned gives. none_runs (called h n) (running_at v.running h n) (callback_at s.world h n) (fresh h n owned gives).1 (shown.running h n)) shown.its
 
   -- a verdict that was made
-  pub answered : (old : PlanState P) (h n : ℕ) (verdict : Verdict) (callback : Option P) (entry : Entry) (new : PlanState P) → Turns old.core (Answer h n verdict) entry new.core
+  pub answered : (old : PlanState P) (h n : ℕ) (verdict : Verdict) (callback : Option P) (entry : Entry) (new : PlanState P) → TurnsWorld old.core (Answer h n verdict) entry new.core
       → ((kept : Kept P) → Carries kept old.core → Carries (kept_after kept (Answer h n verdict) entry callback) new.core) → (takes_payload (Answer h n verdict) ≡ true → is_some callback ≡ true)
       → new.running ≡ old.running → MakesAnswer rule old h n (Answer h n verdict) callback entry new
   answered old h n verdict callback entry new turned carries given same setup s r rules shown under = (
@@ -245,7 +242,7 @@ module _ {P : Type 0} (rule : P → Rule) where
   take_runs setup w after core _ None old new kept shown out_is goes reply_is calls more runs its = same_run w after old new kept more calls runs its
 
   -- a step that was made, and that is no verdict
-  pub made : (old : PlanState P) (step : Step) (callback out : Option P) (entry : Entry) (new : PlanState P) → is_answer step ≡ false → Turns old.core step entry new.core
+  pub made : (old : PlanState P) (step : Step) (callback out : Option P) (entry : Entry) (new : PlanState P) → is_answer step ≡ false → TurnsWorld old.core step entry new.core
       → ((kept : Kept P) → Carries kept old.core → Carries (kept_after kept step entry callback) new.core) → (takes_payload step ≡ true → is_some callback ≡ true) → out ≡ handed_out old.core step
       → ((kept : Kept P) → Carries kept old.core → GoesOut kept out entry.reply) → RunsToo entry.reply out old.running new.running → MakesStep rule old step callback entry new
   made old step callback out entry new apart turned carries given out_is goes runs setup s r rules shown under = (
@@ -288,7 +285,7 @@ module _ {P : Type 0} (rule : P → Rule) where
       behind = by_take step refl apart
 
 -- the callbacks that run behind a step: where it says that one was called, one came out
-pub comes_out : {P : Type 0} (old new : PlanState P) (step : Step) (out : Option P) (entry : Entry) (core : State P) → Turns old.core step entry core → out ≡ handed_out old.core step → ((kept : Kept P) → Carries kept old.core → GoesOut kept out entry.reply)
+pub comes_out : {P : Type 0} (old new : PlanState P) (step : Step) (out : Option P) (entry : Entry) (core : State P) → TurnsWorld old.core step entry core → out ≡ handed_out old.core step → ((kept : Kept P) → Carries kept old.core → GoesOut kept out entry.reply)
     → RunsToo entry.reply out old.running new.running → RunBehindStep entry.reply old new
 comes_out {P = P} old new step out entry core turned out_is goes runs = by_reply entry.reply out refl out_is goes runs
   where

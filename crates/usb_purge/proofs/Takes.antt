@@ -15,8 +15,8 @@ use Rattle.proof_lemmas.proofs.Handles.Isolation.{effect_to, turn_blocked, turn_
 use Rattle.proof_lemmas.proofs.Work.Replies.{asks_told, command_told, deliver_told, serve_told, told_plain}
 use Rattle.proof_invariants.proofs.Machines.Deeds.{IsDone, IsRest, IsWork, again, again_with, anew, asks_it, claims, claims_again, clears, closes, commands, delivers, idles, only_rests, opens, refuses, releases, resets, serves, stays, stops, submits, takes, unplugs, works}
 use Rattle.proof_invariants.proofs.Machines.Done.{is_done}
-use Rattle.usb_purge.specs.Returning.{IsReached}
-use Rattle.usb_purge.proofs.Returning.{kept}
+use Rattle.usb_purge.specs.Returns.{IsReached}
+use Rattle.usb_purge.proofs.Returns.{kept}
 
 -- whether a step is a Take
 abbrev pub is_take : Step → Bool

@@ -14,14 +14,13 @@ use Rattle.usb_model.specs.World.Journal.{Place, entries, is_own, own, world_run
 use Rattle.usb_model.specs.World.Plans.{Stage, expand, first_rule, first_stage, is_submission, own_plan, own_rules, rules_after}
 use Rattle.usb_model.specs.Laws.Cut.{times}
 use Rattle.usb_model.specs.Laws.Places.{calls, numbers_called}
-use Rattle.proof_core.specs.State.{ShowsWorld, State}
+use Rattle.usb_core.specs.Public.{ShowsWorld, State, TurnsWorld}
 use Rattle.usb_model.specs.World.{World, new_world}
-use Rattle.proof_core.specs.Steps.{Turns}
 use Rattle.usb_purge.specs.declared.comparison.Comparison.{Comparison}
 use Rattle.usb_purge.specs.declared.comparison.Part.{Part}
 use Rattle.usb_purge.specs.declared.plan_run.Performed.{Performed}
-use Rattle.usb_purge.specs.declared.twins.Told.{Told}
-use Rattle.usb_purge.specs.Driving.{TakesNext}
+use Rattle.usb_purge.specs.declared.twins.TwinPiece.{TwinPiece}
+use Rattle.usb_purge.specs.Drives.{TakesNext}
 use Rattle.usb_purge.specs.Laws.{uncut_numbers}
 use Rattle.usb_purge.specs.PlanRuns.{PlanState, Performs, ShowsStage, entries_of, is_verdict}
 
@@ -60,7 +59,7 @@ IsNext (mark ∷ marks) new mine = (mine ≡ mark) × (new ≡ marks)
 
 -- a step was made amid the others; whether it is the handle's own stands behind the rest, and so does its entry, if it is
 abbrev pub Shares : {P : Type 0} → ℕ → Step → (core core' : State P) → (part part' : Part) → Type 0
-Shares h step core core' part part' = (entry : Entry) × Turns core step entry core' × (part'.own ≡ part.own ++ is_own h (place_of step entry) ∷ [])
+Shares h step core core' part part' = (entry : Entry) × TurnsWorld core step entry core' × (part'.own ≡ part.own ++ is_own h (place_of step entry) ∷ [])
     × (part'.entries ≡ with_own (is_own h (place_of step entry)) (entry ∷ []) part.entries)
 
 -- a handle's part of a run of these steps: its entries, and which steps are its own
@@ -78,7 +77,7 @@ TellsPart steps h core core' part = (setup : Setup) → ShowsWorld setup core (n
 
 -- a step that is marked was made, and its entry stands behind the others
 abbrev pub MakesOwn : {P : Type 0} → (mine : Bool) → Step → (core core' : State P) → (before after : List Entry) → Type 0
-MakesOwn true step core core' before after = (entry : Entry) × Turns core step entry core' × (after ≡ before ++ entry ∷ [])
+MakesOwn true step core core' before after = (entry : Entry) × TurnsWorld core step entry core' × (after ≡ before ++ entry ∷ [])
 MakesOwn false step core core' before after = (core' ≡ core) × (after ≡ before)
 
 -- the steps that are marked were made by a core in which no name had a device open: their entries, over whichever devices
@@ -97,31 +96,31 @@ abbrev pub AreLeft : {P : Type 0} → TwinState P → Type 0
 AreLeft v = (0 < length v.left) × (0 < length v.its)
 
 -- the entries that are told of a piece, of the run amid the others
-abbrev pub shared_of : {P : Type 0} → Option (Told P) → List Entry
+abbrev pub shared_of : {P : Type 0} → Option (TwinPiece P) → List Entry
 shared_of None = []
 shared_of (Some t) = entries_of t.shared
 
 -- and of the run alone
-abbrev pub alone_of : {P : Type 0} → Option (Told P) → List Entry
+abbrev pub alone_of : {P : Type 0} → Option (TwinPiece P) → List Entry
 alone_of None = []
 alone_of (Some t) = entries_of t.alone
 
 module _ {P : Type 0} (rule : P → Rule) where
   -- a piece that isn't the handle's own was performed amid the others, and nothing is told of it; one that is was performed by either run, with a callback of its own, and what came of it in either is told
-  abbrev pub PerformsBoth : ℕ → Plan → (callback its : Option P) → (run run' own own' : PlanState P) → Option (Told P) → Type 0
+  abbrev pub PerformsBoth : ℕ → Plan → (callback its : Option P) → (run run' own own' : PlanState P) → Option (TwinPiece P) → Type 0
   PerformsBoth h piece callback its run run' own own' None =
       (x : Performed P) × Performs rule run piece callback (entries_of x) run' × (is_own_by h piece x.entry ≡ false) × (own' ≡ own)
   PerformsBoth h piece callback its run run' own own' (Some t) =
       Performs rule run piece callback (entries_of t.shared) run' × (is_own_by h piece t.shared.entry ≡ true) × Performs rule own piece its (entries_of t.alone) own'
 
   -- so it is of two runs side by side; the callbacks that are left to them stay
-  pub record PerformsTwice (h : ℕ) (piece : Plan) (callback mine : Option P) (old new : TwinState P) (told : Option (Told P)) : Type 0 where
+  pub record PerformsTwice (h : ℕ) (piece : Plan) (callback mine : Option P) (old new : TwinState P) (told : Option (TwinPiece P)) : Type 0 where
     pub both : PerformsBoth h piece callback mine old.run new.run old.own new.own told
     pub left : new.left ≡ old.left
     pub its : new.its ≡ old.its
 
   -- a piece was performed with the next callbacks of either, where it submits
-  pub record AdvancesBoth (h : ℕ) (piece : Plan) (old new : TwinState P) (told : Option (Told P)) : Type 0 where
+  pub record AdvancesBoth (h : ℕ) (piece : Plan) (old new : TwinState P) (told : Option (TwinPiece P)) : Type 0 where
     pub callback : Option P
     pub mine : Option P
     pub takes : TakesNext (is_submission piece) old.left new.left callback

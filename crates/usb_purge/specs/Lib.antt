@@ -1,7 +1,7 @@
 pub mod Holders
 pub mod Whose
 pub mod Laws
-pub mod Returning
+pub mod Returns
 pub mod PlanRuns
-pub mod Driving
+pub mod Drives
 pub mod Alone

@@ -16,11 +16,9 @@ use Rattle.usb_model.specs.Setup.{Setup}
 use Rattle.usb_model.specs.World.{World, turn}
 use Rattle.usb_model.specs.World.Journal.{run_from}
 use Rattle.usb_model.specs.World.Plans.{FitsReturn, Stage, first_rule, is_submission, noted, return_steps, returning, stage_after}
-use Rattle.usb_steps.specs.declared.taking.Taken.{Taken}
-use Rattle.proof_core.specs.Carrying.{Carries, Kept}
-use Rattle.proof_core.specs.State.{ShowsWorld, State}
+use Rattle.usb_core.specs.Public.{Carries, Kept, ShowsWorld, State, Taken}
 use Rattle.usb_purge.specs.declared.plan_run.Performed.{Performed}
-use Rattle.usb_purge.specs.Returning.{IsTold, ends_callback, is_answer, is_there}
+use Rattle.usb_purge.specs.Returns.{IsTold, ends_callback, is_answer, is_there}
 
 -- whether a piece of a plan is a verdict by itself, which no plan holds
 abbrev pub is_verdict : Plan → Bool

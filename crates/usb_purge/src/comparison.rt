@@ -4,8 +4,7 @@ ghost use Rattle.std.specs.Prelude.{◌≡◌, IfOk};
 ghost use Rattle.std.specs.Vec.Iter.{into_iter_items};
 ghost use Rattle.usb_model.specs.Machine.Turns.{alone};
 ghost use Rattle.usb_model.specs.World.Journal.{entries, own, world_run};
-ghost use Rattle.proof_core.specs.Making.{setup_of};
-ghost use Rattle.proof_core.specs.Steps.{Turns};
+ghost use Rattle.usb_core.specs.Public.{TurnsWorld, setup_of};
 ghost use Rattle.usb_purge.specs.Alone.{AreCalledInOrder, AreCalledOnce, IsNext, IsPart, MakesOwn, RunsPicked, Shares, TellsPart, picked};
 
 use std::alloc::{AllocError, Global};
@@ -44,7 +43,7 @@ pub(crate) fn is_next_own(own: &mut IntoIter<bool>) -> bool
 
 /// Makes a step, and gives its entry.
 fn turn<D: Device>(core: &mut Core<(), D>, step: &Step) -> Result<Entry, AllocError>
-    ensures { IfOk result (λ entry. Turns core.old step.now entry core.new) }
+    ensures { IfOk result (λ entry. TurnsWorld core.old step.now entry core.new) }
 {
     let payload = if step.takes_payload() { Some(()) } else { None };
     match core.step(step.clone()?, payload) {

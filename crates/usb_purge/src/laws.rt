@@ -6,7 +6,7 @@ ghost use Rattle.usb_model.specs.declared.verdict.Rule.{Rule};
 ghost use Rattle.usb_model.specs.declared.plan.Plan.{Plan};
 ghost use Rattle.usb_model.specs.Setup.{Setup};
 ghost use Rattle.usb_model.specs.World.{World};
-ghost use Rattle.usb_purge.specs.Returning.{IsReached, KeepsCallbacks};
+ghost use Rattle.usb_purge.specs.Returns.{IsReached, KeepsCallbacks};
 ghost use Rattle.usb_purge.specs.Laws.{SeesAlone, RunsAlone, StatesAlone, ExpandsAlone, MayExpand, ExpandsOnly, TellsOfAnother, ChangesNothingForAnother, NamesOwner, NamesNobody, IdlesForNobody, CallsOnce, CallsAfterNumber, CallsInOrder};
 
 /// What a handle sees of any run is what it sees alone over its own steps.

@@ -7,11 +7,11 @@
 //!
 //! - `laws.rt`, specs/Laws: the laws and their statements
 //! - specs/Holders, Whose: who holds what, and whose a step is, read off the world
-//! - specs/Returning: when a transfer is in its callback
-//! - `running.rt`: the callbacks that came out and haven't answered, by name and number
+//! - specs/Returns: when a transfer is in its callback
+//! - `running_callbacks.rt`: the callbacks that came out and haven't answered, by name and number
 //! - `plan_run.rt`, specs/PlanRuns: one piece of a plan: a step, or a callback that returns; the stage that is shown
 //! - `reads.rt`: what can be asked amid a plan, and how its devices are handed back
-//! - `driving.rt`, specs/Driving: a whole plan
+//! - `drives.rt`, specs/Drives: a whole plan
 //! - `comparison.rt`, `own_plan.rt`, specs/Alone: a handle amid the others, and then alone over the same devices: of
 //!   a list of steps; of a plan, with callbacks of its own
 //! - `twins.rt`, specs/Alone: the same of a plan, side by side and piece by piece
@@ -73,16 +73,16 @@
 #![tactic(auto)]
 
 mod comparison;
-mod driving;
+mod drives;
 pub mod laws;
 mod own_plan;
 mod plan_run;
 mod reads;
-mod running;
+mod running_callbacks;
 mod twins;
 
 pub use comparison::{Comparison, alone};
-pub use driving::{drive, next_callback};
+pub use drives::{drive, next_callback};
 pub use own_plan::drive_alone;
-pub use plan_run::{Performed, PlanRun};
-pub use twins::{Told, Twins};
+pub use plan_run::{Performed, PlanRun, copy_of};
+pub use twins::{TwinPiece, Twins};

@@ -6,13 +6,13 @@ ghost use Rattle.std.specs.Vec.Iter.{into_iter_items};
 ghost use Rattle.usb_model.specs.declared.verdict.Rule.TheVariants.{Free};
 ghost use Rattle.usb_model.specs.World.Journal.{world_run};
 ghost use Rattle.usb_model.specs.World.Plans.{expand, is_submission};
-ghost use Rattle.proof_core.specs.Making.{setup_of};
+ghost use Rattle.usb_core.specs.Public.{setup_of};
 ghost use Rattle.usb_purge.specs.Alone.{DrivesPicked, IsPlanPart, PerformsOwn, SharesPiece, TellsPlan, TellsPlanPart, picked, picked_rules};
 ghost use Rattle.usb_purge.specs.PlanRuns.{entries_of, is_verdict};
 
 use crate::comparison::{Comparison, Part, is_next_own};
-use crate::driving::next_callback;
-use crate::plan_run::{Performed, PlanRun};
+use crate::drives::next_callback;
+use crate::plan_run::{Performed, PlanRun, copy_of};
 use crate::twins::is_own;
 use std::alloc::{AllocError, Global};
 use std::vec::IntoIter;
@@ -46,7 +46,7 @@ fn share<C: Callback, D: Device>(
     requires no_verdict { is_verdict piece.now ≡ false }
     ensures { IfOk result (λ _. SharesPiece C.rule h piece.now callback run.old run.new part.old part.new) }
 {
-    let performed = run.perform(piece, callback)?;
+    let performed = run.perform(copy_of(piece)?, callback)?;
     let own = is_own(h, piece, &performed.entry);
     part.own.push(own)?;
     if !own {
@@ -116,7 +116,7 @@ fn perform_own<C: Callback, D: Device>(
     if !own {
         return Ok(());
     }
-    let performed = run.perform(piece, callback)?;
+    let performed = run.perform(copy_of(piece)?, callback)?;
     put(entries, performed)?;
     Ok(())
 }

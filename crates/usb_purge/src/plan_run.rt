@@ -7,11 +7,11 @@ ghost use Rattle.usb_model.specs.declared.plan.Plan.TheVariants.{Return};
 ghost use Rattle.usb_model.specs.declared.verdict.Rule.{Rule};
 ghost use Rattle.usb_model.specs.Numbers.{takes_payload};
 ghost use Rattle.usb_model.specs.World.Plans.{first_stage, is_submission};
-ghost use Rattle.proof_core.specs.Making.{setup_of};
-ghost use Rattle.usb_purge.specs.Returning.{is_answer};
+ghost use Rattle.usb_core.specs.Public.{setup_of};
+ghost use Rattle.usb_purge.specs.Returns.{is_answer};
 ghost use Rattle.usb_purge.specs.PlanRuns.{Calls, CallsThere, MakesAnswer, MakesStep, Performs, Returns, RunBehind, RunBehindReturn, RunBehindStep, RunsToo, ShowsStage, entries_of, is_verdict};
 
-use crate::running::RunningCallbacks;
+use crate::running_callbacks::RunningCallbacks;
 use std::alloc::{AllocError, Global};
 use std::marker::Model;
 use usb_callback::Callback;
@@ -63,6 +63,16 @@ fn copied(returned: &Returned) -> Result<Returned, AllocError>
     })
 }
 
+/// A copy of a piece of a plan, which can be performed where the piece itself is still needed.
+pub fn copy_of(piece: &Plan) -> Result<Plan, AllocError>
+    ensures { IfOk result (λ copy. copy ≡ piece.now) }
+{
+    match piece {
+        Plan::Do(step) => Ok(Plan::Do(step.clone()?)),
+        Plan::Return { h, n } => Ok(Plan::Return { h: *h, n: *n }),
+    }
+}
+
 /// Whether a callback has to be told that it ends all the same: its resubmission was refused.
 fn needs_stop(stops: bool, refused: bool) -> bool
     ensures { result ≡ (if stops then false else refused) }
@@ -86,16 +96,16 @@ impl<C: Callback, D: Device> PlanRun<C, D> {
     /// that came out with its transfer, with the result that came out, and makes the Answer of the verdict that it gives;
     /// where a resubmission is refused its callback ends by a Stop, with an entry of its own, and is dropped. A return of a
     /// number that isn't out is refused NotFound.
-    pub fn perform(&mut self, piece: &Plan, callback: Option<C>) -> Result<Performed<C>, AllocError>
-        requires submits { is_submission piece.now ≡ true → is_some callback ≡ true }
-        requires no_verdict { is_verdict piece.now ≡ false }
-        ensures performs { IfOk result (λ x. Performs C.rule self.old piece.now callback (entries_of x) self.new) }
-        ensures called { IfOk result (λ x. Calls C.rule C.may_answer self.old piece.now (entries_of x)) }
-        ensures out { IfOk result (λ x. RunBehind piece.now x.entry.reply self.old self.new) }
+    pub fn perform(&mut self, piece: Plan, callback: Option<C>) -> Result<Performed<C>, AllocError>
+        requires submits { is_submission piece ≡ true → is_some callback ≡ true }
+        requires no_verdict { is_verdict piece ≡ false }
+        ensures performs { IfOk result (λ x. Performs C.rule self.old piece callback (entries_of x) self.new) }
+        ensures called { IfOk result (λ x. Calls C.rule C.may_answer self.old piece (entries_of x)) }
+        ensures out { IfOk result (λ x. RunBehind piece x.entry.reply self.old self.new) }
     {
         match piece {
-            Plan::Do(step) => self.make(step.clone()?, callback),
-            Plan::Return { h, n } => self.return_callback(*h, *n, callback),
+            Plan::Do(step) => self.make(step, callback),
+            Plan::Return { h, n } => self.return_callback(h, n, callback),
         }
     }
 

@@ -4,7 +4,7 @@ ghost use Rattle.std.specs.Prelude.{◌≡◌, ℕ, Some, slice_get};
 ghost use Rattle.std.specs.Option.{option_copied};
 ghost use Rattle.usb_model.specs.Setup.{Setup as ModelSetup, interface_of};
 ghost use Rattle.usb_model.specs.World.Plans.{Stage};
-ghost use Rattle.proof_core.specs.Making.{setup_of};
+ghost use Rattle.usb_core.specs.Public.{setup_of};
 ghost use Rattle.usb_core.specs.Reads.{IsLeft};
 ghost use Rattle.usb_purge.specs.PlanRuns.{ShowsStage};
 

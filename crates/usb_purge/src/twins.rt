@@ -2,12 +2,12 @@
 
 ghost use Rattle.std.specs.Prelude.{◌≡◌, true, false, IfOk, is_some};
 ghost use Rattle.usb_model.specs.World.Plans.{is_submission};
-ghost use Rattle.proof_core.specs.Making.{setup_of};
+ghost use Rattle.usb_core.specs.Public.{setup_of};
 ghost use Rattle.usb_purge.specs.Alone.{AdvancesBoth, AreLeft, Begins, PerformsTwice, is_own_by};
 ghost use Rattle.usb_purge.specs.PlanRuns.{is_verdict};
 
-use crate::driving::next_callback;
-use crate::plan_run::{Performed, PlanRun};
+use crate::drives::next_callback;
+use crate::plan_run::{Performed, PlanRun, copy_of};
 use std::alloc::{AllocError, Global};
 use std::marker::Model;
 use std::vec::IntoIter;
@@ -18,7 +18,7 @@ use usb_model::{Entry, Name, Plan};
 
 /// What came of a piece that is the handle's own.
 #[derive(Drop)]
-pub struct Told<C> {
+pub struct TwinPiece<C> {
     /// Amid the others.
     pub shared: Performed<C>,
     /// In the handle's own run.
@@ -92,23 +92,23 @@ impl<C: Callback, D: Device> Twins<C, D> {
         piece: &Plan,
         callback: Option<C>,
         its: Option<C>,
-    ) -> Result<Option<Told<C>>, AllocError>
+    ) -> Result<Option<TwinPiece<C>>, AllocError>
         requires submits { is_submission piece.now ≡ true → is_some callback ≡ true }
         requires submits_its { is_submission piece.now ≡ true → is_some its ≡ true }
         requires no_verdict { is_verdict piece.now ≡ false }
         ensures { IfOk result (λ told. PerformsTwice C.rule h piece.now callback its self.old self.new told) }
     {
-        let shared = self.run.perform(piece, callback)?;
+        let shared = self.run.perform(copy_of(piece)?, callback)?;
         if !is_own(h, piece, &shared.entry) {
             return Ok(None);
         }
-        let alone = self.own.perform(piece, its)?;
-        Ok(Some(Told { shared, alone }))
+        let alone = self.own.perform(copy_of(piece)?, its)?;
+        Ok(Some(TwinPiece { shared, alone }))
     }
 
     /// One piece of the plan more, with the next callbacks where it submits. What is told is what came of it, by either
     /// run; nothing of a piece that isn't the handle's own.
-    pub fn advance(&mut self, h: Name, piece: &Plan) -> Result<Option<Told<C>>, AllocError>
+    pub fn advance(&mut self, h: Name, piece: &Plan) -> Result<Option<TwinPiece<C>>, AllocError>
         requires submits { is_submission piece.now ≡ true → AreLeft self.old }
         requires no_verdict { is_verdict piece.now ≡ false }
         ensures { IfOk result (λ told. AdvancesBoth C.rule h piece.now self.old self.new told) }

@@ -1,4 +1,4 @@
--- Each step keeps the rule of the roll.
+-- Each step keeps the rule of the log.
 use Rattle.std.proofs.Common.{◌≡◌, ◌≢◌, ◌==◌, ℕ, zero, suc, ◌+◌, ◌<◌, ◌≤◌, List, [], ◌∷◌, ◌++◌, length, set, Some, Bool, true, false, cond, refl, sym, ap, ◌∙◌, subst, ⊎_elim, arith, length-append, true≢false}
 use Rattle.std.specs.Prelude.{slice_get, slice_set, if◌then◌else◌}
 use Rattle.std.proofs.lemmas.Bool.Decides.{nat_tests}
@@ -32,8 +32,8 @@ module _ {E : Type 0} where
   -- the rule, of the views alone
   abbrev pub Ruled : List (Maybe (Slot E)) → List (Known E) → Type 0
   Ruled homes views =
-      (seat : ℕ) × (log : List E)
-      × ((by : ℕ) (v : Known E) → get_elem? views by ≡ some v → Fits seat log homes by v)
+      (seat : ℕ) × (entries : List E)
+      × ((by : ℕ) (v : Known E) → get_elem? views by ≡ some v → Fits seat entries homes by v)
       × ((p : ℕ) → total (λ v. claimed p v.claims) views ≤ 1)
 
   -- sums over the views
@@ -79,45 +79,45 @@ module _ {E : Type 0} where
   get_end (y ∷ xs) x = get_end xs x
 
   -- claims go on saying what stands there when the list grows
-  pub stand_more : (log : List E) (x : E) (cs : List (ℕ × E)) → Stand log cs → Stand (log ++ x ∷ []) cs
-  stand_more log x [] s = tt
-  stand_more log x (c ∷ cs) s = (get_front log (x ∷ []) c.0 c.1 s.0, stand_more log x cs s.1)
+  pub stand_more : (entries : List E) (x : E) (cs : List (ℕ × E)) → Stand entries cs → Stand (entries ++ x ∷ []) cs
+  stand_more entries x [] s = tt
+  stand_more entries x (c ∷ cs) s = (get_front entries (x ∷ []) c.0 c.1 s.0, stand_more entries x cs s.1)
 
   -- two lists of claims that stand are one that does
-  pub stand_append : (log : List E) (xs ys : List (ℕ × E)) → Stand log xs → Stand log ys → Stand log (xs ++ ys)
-  stand_append log [] ys s t = t
-  stand_append log (c ∷ cs) ys s t = (s.0, stand_append log cs ys s.1 t)
+  pub stand_append : (entries : List E) (xs ys : List (ℕ × E)) → Stand entries xs → Stand entries ys → Stand entries (xs ++ ys)
+  stand_append entries [] ys s t = t
+  stand_append entries (c ∷ cs) ys s t = (s.0, stand_append entries cs ys s.1 t)
 
   -- nobody claims a place behind the list
-  pub claimed_fresh : (log : List E) (p : ℕ) (cs : List (ℕ × E)) → Stand log cs → length log ≤ p → claimed p cs ≡ 0
-  claimed_fresh log p [] s le = refl
-  claimed_fresh log p (c ∷ cs) s le =
-      let within : c.0 < length log = slice_get_within log c.0 c.1 s.0 in
+  pub claimed_fresh : (entries : List E) (p : ℕ) (cs : List (ℕ × E)) → Stand entries cs → length entries ≤ p → claimed p cs ≡ 0
+  claimed_fresh entries p [] s le = refl
+  claimed_fresh entries p (c ∷ cs) s le =
+      let within : c.0 < length entries = slice_get_within entries c.0 c.1 s.0 in
       let here : unit c.0 p ≡ 0 = off c.0 p (λ e. omega arith) in
-      let r = claimed_fresh log p cs s.1 le in
+      let r = claimed_fresh entries p cs s.1 le in
       omega arith
 
   -- views
 
   -- where one view is replaced by one that fits
-  fits_set : (seat : ℕ) (log : List E) (homes : List (Maybe (Slot E))) (views : List (Known E)) (by : ℕ) (w : Known E)
-      → ((j : ℕ) (u : Known E) → j ≢ by → get_elem? views j ≡ some u → Fits seat log homes j u) → Fits seat log homes by w
-      → (j : ℕ) (u : Known E) → get_elem? (set views by w) j ≡ some u → Fits seat log homes j u
-  fits_set seat log homes views by w others mine j u e =
+  fits_set : (seat : ℕ) (entries : List E) (homes : List (Maybe (Slot E))) (views : List (Known E)) (by : ℕ) (w : Known E)
+      → ((j : ℕ) (u : Known E) → j ≢ by → get_elem? views j ≡ some u → Fits seat entries homes j u) → Fits seat entries homes by w
+      → (j : ℕ) (u : Known E) → get_elem? (set views by w) j ≡ some u → Fits seat entries homes j u
+  fits_set seat entries homes views by w others mine j u e =
       ⊎_elim
-      (λ (x : (j ≡ by) × (w ≡ u)). subst (λ (y : ℕ × Known E). Fits seat log homes y.0 y.1) (λ i. (sym x.0 i, x.1 i)) mine)
+      (λ (x : (j ≡ by) × (w ≡ u)). subst (λ (y : ℕ × Known E). Fits seat entries homes y.0 y.1) (λ i. (sym x.0 i, x.1 i)) mine)
       (λ (x : (j ≢ by) × (get_elem? views j ≡ some u)). others j u x.0 x.1)
       (at_set views by j w u e)
 
   -- where one view that fits is added
-  fits_snoc : (seat : ℕ) (log : List E) (homes : List (Maybe (Slot E))) (views : List (Known E)) (w : Known E)
-      → ((j : ℕ) (u : Known E) → get_elem? views j ≡ some u → Fits seat log homes j u) → ((j : ℕ) → Fits seat log homes j w)
-      → (j : ℕ) (u : Known E) → get_elem? (views ++ w ∷ []) j ≡ some u → Fits seat log homes j u
-  fits_snoc seat log homes views w others new j u e = ⊎_elim (λ was. others j u was) (λ (same : w ≡ u). subst (Fits seat log homes j) same (new j)) (at_snoc views w u j e)
+  fits_snoc : (seat : ℕ) (entries : List E) (homes : List (Maybe (Slot E))) (views : List (Known E)) (w : Known E)
+      → ((j : ℕ) (u : Known E) → get_elem? views j ≡ some u → Fits seat entries homes j u) → ((j : ℕ) → Fits seat entries homes j w)
+      → (j : ℕ) (u : Known E) → get_elem? (views ++ w ∷ []) j ≡ some u → Fits seat entries homes j u
+  fits_snoc seat entries homes views w others new j u e = ⊎_elim (λ was. others j u was) (λ (same : w ≡ u). subst (Fits seat entries homes j) same (new j)) (at_snoc views w u j e)
 
-  -- a token with claims that stand and a mark within the list fits
-  bears : (seat : ℕ) (log : List E) (homes : List (Maybe (Slot E))) (claims : List (ℕ × E)) (mark : ℕ) (own : List E) → Stand log claims → mark ≤ length log → (j : ℕ) → Fits seat log homes j (bearer claims mark own)
-  bears seat log homes claims mark own s m j = record { whole = λ k. absurd (no_keeper k); home = λ k. absurd (no_keeper k); claims = s; mark = m }
+  -- a token with claims that stand and a position within the list fits
+  bears : (seat : ℕ) (entries : List E) (homes : List (Maybe (Slot E))) (claims : List (ℕ × E)) (position : ℕ) (own : List E) → Stand entries claims → position ≤ length entries → (j : ℕ) → Fits seat entries homes j (bearer claims position own)
+  bears seat entries homes claims position own s m j = record { whole = λ k. absurd (no_keeper k); home = λ k. absurd (no_keeper k); claims = s; position = m }
 
   -- the moves
 
@@ -126,7 +126,7 @@ module _ {E : Type 0} where
   begins x = (0, [], first, λ p. omega arith)
     where
       first : (by : ℕ) (v : Known E) → get_elem? (opener ∷ []) by ≡ some v → Fits 0 [] (some x ∷ []) by v
-      first zero v e = subst (Fits 0 [] (some x ∷ []) 0) (some-injective _ _ e) (record { whole = λ _. (refl, refl); home = λ _. (refl, x, refl); claims = tt; mark = omega arith })
+      first zero v e = subst (Fits 0 [] (some x ∷ []) 0) (some-injective _ _ e) (record { whole = λ _. (refl, refl); home = λ _. (refl, x, refl); claims = tt; position = omega arith })
       first (suc by) v e = absurd (some-ne-none v (sym e))
 
   -- the first token takes the slot
@@ -145,8 +145,8 @@ module _ {E : Type 0} where
           fits_set h.0 h.1 after views by (keeper [])
               (λ j u apart e.
               let f = h.2 j u e in
-              record { whole = f.whole; home = λ k. absurd (apart ((f.home k).0 ∙ sym there.0)); claims = f.claims; mark = f.mark })
-              (record { whole = λ _. (there.0, same); home = λ k. absurd (no_keeper k); claims = tt; mark = omega arith }),
+              record { whole = f.whole; home = λ k. absurd (apart ((f.home k).0 ∙ sym there.0)); claims = f.claims; position = f.position })
+              (record { whole = λ _. (there.0, same); home = λ k. absurd (no_keeper k); claims = tt; position = omega arith }),
           λ p.
               let moved = total_set (λ u. claimed p u.claims) views by opener (keeper []) at in
               let bound = h.3 p in
@@ -159,33 +159,33 @@ module _ {E : Type 0} where
   appends homes views by v x keeps h at =
       let mine = h.2 by v at in
       let seat : by ≡ h.0 = (mine.whole keeps).0 in
-      let same : v.log ≡ h.1 = (mine.whole keeps).1 in
-      let log = h.1 ++ x ∷ [] in
-      let longer : length log ≡ length h.1 + 1 = omega (arith, length-append h.1 (x ∷ [])) in
-      let m = mine.mark in (
+      let same : v.entries ≡ h.1 = (mine.whole keeps).1 in
+      let entries = h.1 ++ x ∷ [] in
+      let longer : length entries ≡ length h.1 + 1 = omega (arith, length-append h.1 (x ∷ [])) in
+      let m = mine.position in (
         h.0,
-        log,
-        fits_set h.0 log homes views by (appended v x)
+        entries,
+        fits_set h.0 entries homes views by (appended v x)
             (λ j u apart e.
             let f = h.2 j u e in
-            let fm = f.mark in
-            record { whole = λ k. absurd (apart ((f.whole k).0 ∙ sym seat)); home = f.home; claims = stand_more h.1 x u.claims f.claims; mark = omega arith })
+            let fm = f.position in
+            record { whole = λ k. absurd (apart ((f.whole k).0 ∙ sym seat)); home = f.home; claims = stand_more h.1 x u.claims f.claims; position = omega arith })
             (record {
               whole = λ _. (seat, ap (λ l. l ++ x ∷ []) same);
               home = mine.home;
-              claims = stand_append log v.claims ((length v.log, x) ∷ []) (stand_more h.1 x v.claims mine.claims) (ap (λ l. slice_get log (length l)) same ∙ get_end h.1 x, tt);
-              mark = omega arith;
+              claims = stand_append entries v.claims ((length v.entries, x) ∷ []) (stand_more h.1 x v.claims mine.claims) (ap (λ l. slice_get entries (length l)) same ∙ get_end h.1 x, tt);
+              position = omega arith;
             }),
         λ p.
             let moved = total_set (λ u. claimed p u.claims) views by v (appended v x) at in
-            let more = claimed-append p v.claims ((length v.log, x) ∷ []) in
+            let more = claimed-append p v.claims ((length v.entries, x) ∷ []) in
             let bound = h.3 p in
-            dite (ℕ_discrete (length v.log) p)
+            dite (ℕ_discrete (length v.entries) p)
             (λ e.
             let none : total (λ u. claimed p u.claims) views ≡ 0 = total_zero (λ u. claimed p u.claims) views (λ j u g. claimed_fresh h.1 p u.claims (h.2 j u g).claims (let l = ap length same in omega arith)) in
-            let b = unit_small (length v.log == p) in
+            let b = unit_small (length v.entries == p) in
             omega arith)
-            (λ ne. let z = off (length v.log) p ne in omega arith),
+            (λ ne. let z = off (length v.entries) p ne in omega arith),
       )
 
   -- claims go to a token of their own
@@ -195,7 +195,7 @@ module _ {E : Type 0} where
         h.0,
         h.1,
         fits_snoc h.0 h.1 homes (set views by (cut v)) (bearer v.claims 0 [])
-            (fits_set h.0 h.1 homes views by (cut v) (λ j u apart e. h.2 j u e) (record { whole = mine.whole; home = mine.home; claims = tt; mark = mine.mark }))
+            (fits_set h.0 h.1 homes views by (cut v) (λ j u apart e. h.2 j u e) (record { whole = mine.whole; home = mine.home; claims = tt; position = mine.position }))
             (bears h.0 h.1 homes v.claims 0 [] mine.claims (omega arith)),
         λ p.
             let moved = total_set (λ u. claimed p u.claims) views by v (cut v) at in
@@ -204,19 +204,19 @@ module _ {E : Type 0} where
             omega arith,
       )
 
-  -- a mark at the end is made
-  pub marks : (homes : List (Maybe (Slot E))) (views : List (Known E)) (by : ℕ) (v : Known E) → v.keeps ≡ true → Ruled homes views → get_elem? views by ≡ some v → Ruled homes (set views by (bare v) ++ bearer [] (length v.log) v.own ∷ [])
-  marks homes views by v keeps h at =
+  -- a position at the end is made
+  pub positions : (homes : List (Maybe (Slot E))) (views : List (Known E)) (by : ℕ) (v : Known E) → v.keeps ≡ true → Ruled homes views → get_elem? views by ≡ some v → Ruled homes (set views by (bare v) ++ bearer [] (length v.entries) v.own ∷ [])
+  positions homes views by v keeps h at =
       let mine = h.2 by v at in
       let l = ap length (mine.whole keeps).1 in (
         h.0,
         h.1,
-        fits_snoc h.0 h.1 homes (set views by (bare v)) (bearer [] (length v.log) v.own)
-            (fits_set h.0 h.1 homes views by (bare v) (λ j u apart e. h.2 j u e) (record { whole = mine.whole; home = mine.home; claims = mine.claims; mark = mine.mark }))
-            (bears h.0 h.1 homes [] (length v.log) v.own tt (omega arith)),
+        fits_snoc h.0 h.1 homes (set views by (bare v)) (bearer [] (length v.entries) v.own)
+            (fits_set h.0 h.1 homes views by (bare v) (λ j u apart e. h.2 j u e) (record { whole = mine.whole; home = mine.home; claims = mine.claims; position = mine.position }))
+            (bears h.0 h.1 homes [] (length v.entries) v.own tt (omega arith)),
         λ p.
             let moved = total_set (λ u. claimed p u.claims) views by v (bare v) at in
-            let more = total_snoc (λ u. claimed p u.claims) (set views by (bare v)) (bearer [] (length v.log) v.own) in
+            let more = total_snoc (λ u. claimed p u.claims) (set views by (bare v)) (bearer [] (length v.entries) v.own) in
             let bound = h.3 p in
             omega arith,
       )
@@ -231,7 +231,7 @@ module _ {E : Type 0} where
         h.0,
         h.1,
         fits_set h.0 h.1 homes (set views by both) other (bearer [] 0 [])
-            (λ j u _ e. fits_set h.0 h.1 homes views by both (λ i y _ e'. h.2 i y e') (record { whole = mine.whole; home = mine.home; claims = stand_append h.1 v.claims w.claims mine.claims theirs.claims; mark = theirs.mark }) j u e)
+            (λ j u _ e. fits_set h.0 h.1 homes views by both (λ i y _ e'. h.2 i y e') (record { whole = mine.whole; home = mine.home; claims = stand_append h.1 v.claims w.claims mine.claims theirs.claims; position = theirs.position }) j u e)
             (bears h.0 h.1 homes [] 0 [] tt (omega arith) other),
         λ p.
             let first = total_set (λ u. claimed p u.claims) views by v both at in
@@ -249,10 +249,10 @@ module _ {E : Type 0} where
   pub checks : (homes : List (Maybe (Slot E))) (views : List (Known E)) (by : ℕ) (v : Known E) → v.keeps ≡ true → Ruled homes views → get_elem? views by ≡ some v → Checked v
   checks homes views by v keeps h at =
       let mine = h.2 by v at in
-      let same : v.log ≡ h.1 = (mine.whole keeps).1 in
+      let same : v.entries ≡ h.1 = (mine.whole keeps).1 in
       let l = ap length same in
-      let m = mine.mark in (
-        subst (λ log. Stand log v.claims) (sym same) mine.claims,
+      let m = mine.position in (
+        subst (λ entries. Stand entries v.claims) (sym same) mine.claims,
         (λ p. let part = total_part (λ u. claimed p u.claims) views by v at in let bound = h.3 p in omega arith),
         omega arith,
       )

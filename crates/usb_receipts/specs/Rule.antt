@@ -1,4 +1,4 @@
--- The rule of a roll: what its tokens know of the list, and what each step of them does.
+-- The rule of a log: what its tokens know of the list, and what each step of them does.
 use Rattle.std.specs.Prelude.{◌≡◌, ◌==◌, ℕ, ◌+◌, ◌≤◌, if◌then◌else◌, true, false, List, [], ◌∷◌, ◌++◌, length, Option, Some, None, slice_get}
 use mathlib.Core.Option.{some, Option as Maybe}
 use lib.ListN.{get_elem?}
@@ -13,15 +13,15 @@ Slot E = Image (Option E)
 module _ {E : Type 0} where
   -- the token that knows the list whole
   abbrev pub keeper : List E → Known E
-  keeper log = record { keeps = true; home = false; log = log; claims = []; mark = 0; own = [] }
+  keeper entries = record { keeps = true; home = false; entries = entries; claims = []; position = 0; own = [] }
 
   -- the first token: it knows the empty list whole, and that the slot lies in the table
   abbrev pub opener : Known E
-  opener = record { keeps = true; home = true; log = []; claims = []; mark = 0; own = [] }
+  opener = record { keeps = true; home = true; entries = []; claims = []; position = 0; own = [] }
 
-  -- a token that has claims, a mark and a list of its own alone
+  -- a token that has claims, a position and a list of its own alone
   abbrev pub bearer : List (ℕ × E) → ℕ → List E → Known E
-  bearer claims mark own = record { keeps = false; home = false; log = []; claims = claims; mark = mark; own = own }
+  bearer claims position own = record { keeps = false; home = false; entries = []; claims = claims; position = position; own = own }
 
   -- how many of the claims are to place p
   abbrev pub claimed : ℕ → List (ℕ × E) → ℕ
@@ -30,8 +30,8 @@ module _ {E : Type 0} where
 
   -- each claim's entry stands at its place
   abbrev pub Stand : List E → List (ℕ × E) → Type 0
-  Stand log [] = Unit {0}
-  Stand log (c ∷ cs) = (slice_get log c.0 ≡ Some c.1) × Stand log cs
+  Stand entries [] = Unit {0}
+  Stand entries (c ∷ cs) = (slice_get entries c.0 ≡ Some c.1) × Stand entries cs
 
   -- f of each, added up
   abbrev pub total : (Known E → ℕ) → List (Known E) → ℕ
@@ -39,34 +39,34 @@ module _ {E : Type 0} where
   total f (v ∷ vs) = f v + total f vs
 
   -- what the rule says of one token
-  pub record Fits (seat : ℕ) (log : List E) (homes : List (Maybe (Slot E))) (by : ℕ) (v : Known E) : Type 0 where
-    pub whole : v.keeps ≡ true → (by ≡ seat) × (v.log ≡ log)
+  pub record Fits (seat : ℕ) (entries : List E) (homes : List (Maybe (Slot E))) (by : ℕ) (v : Known E) : Type 0 where
+    pub whole : v.keeps ≡ true → (by ≡ seat) × (v.entries ≡ entries)
     pub home : v.home ≡ true → (by ≡ seat) × (x : Slot E) × (get_elem? homes 0 ≡ some (some x))
-    pub claims : Stand log v.claims
-    pub mark : v.mark ≤ length log
+    pub claims : Stand entries v.claims
+    pub position : v.position ≤ length entries
 
   -- there is one list, and no two claims have one place
   abbrev pub Kept : State (Slot E) (Known E) → Type 0
   Kept s =
-      (seat : ℕ) × (log : List E)
-      × ((by : ℕ) (v : Known E) → get_elem? s.views by ≡ some v → Fits seat log s.homes by v)
+      (seat : ℕ) × (entries : List E)
+      × ((by : ℕ) (v : Known E) → get_elem? s.views by ≡ some v → Fits seat entries s.homes by v)
       × ((p : ℕ) → total (λ v. claimed p v.claims) s.views ≤ 1)
 
   -- one more entry behind the list, with a claim to its place
   abbrev pub appended : Known E → E → Known E
-  appended v x = record { keeps = v.keeps; home = v.home; log = v.log ++ x ∷ []; claims = v.claims ++ (length v.log, x) ∷ []; mark = v.mark; own = v.own ++ x ∷ [] }
+  appended v x = record { keeps = v.keeps; home = v.home; entries = v.entries ++ x ∷ []; claims = v.claims ++ (length v.entries, x) ∷ []; position = v.position; own = v.own ++ x ∷ [] }
 
   -- without its claims
   abbrev pub cut : Known E → Known E
-  cut v = record { keeps = v.keeps; home = v.home; log = v.log; claims = []; mark = v.mark; own = v.own }
+  cut v = record { keeps = v.keeps; home = v.home; entries = v.entries; claims = []; position = v.position; own = v.own }
 
   -- without its own list
   abbrev pub bare : Known E → Known E
-  bare v = record { keeps = v.keeps; home = v.home; log = v.log; claims = v.claims; mark = v.mark; own = [] }
+  bare v = record { keeps = v.keeps; home = v.home; entries = v.entries; claims = v.claims; position = v.position; own = [] }
 
-  -- with another's claims, its mark and its own entries
+  -- with another's claims, its position and its own entries
   abbrev pub taken_in : Known E → Known E → Known E
-  taken_in v w = record { keeps = v.keeps; home = v.home; log = v.log; claims = v.claims ++ w.claims; mark = w.mark; own = v.own ++ w.own }
+  taken_in v w = record { keeps = v.keeps; home = v.home; entries = v.entries; claims = v.claims ++ w.claims; position = w.position; own = v.own ++ w.own }
 
   -- the same where an entry is said
   abbrev pub appended_if : Known E → Option E → Known E
@@ -90,9 +90,9 @@ module _ {E : Type 0} where
   abbrev pub Slotted : Step (Slot E) → Me (Slot E) (Known E) → ℕ → Me (Slot E) (Known E) → Type 0
   Slotted s before found after = (after.0 ≡ keeper []) × HasSlot after.1
 
-  -- what the keeper learns: its claims say what stands there, no two have one place, and its mark is within the list
+  -- what the keeper learns: its claims say what stands there, no two have one place, and its position is within the list
   abbrev pub Checked : Known E → Type 0
-  Checked v = Stand v.log v.claims × ((p : ℕ) → claimed p v.claims ≤ 1) × (v.mark ≤ length v.log)
+  Checked v = Stand v.entries v.claims × ((p : ℕ) → claimed p v.claims ≤ 1) × (v.position ≤ length v.entries)
 
   -- a look, which changes nothing
   abbrev pub Seen : Step (Slot E) → Me (Slot E) (Known E) → ℕ → Me (Slot E) (Known E) → Type 0

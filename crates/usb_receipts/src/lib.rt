@@ -1,12 +1,12 @@
-//! A roll: a list that only grows and exists in the proofs alone, on which the receipts of a log stand (our own).
+//! A log: a list that only grows and exists in the proofs alone, on which the receipts of a journal stand (our own).
 //!
 //! The one promise: each place is appended once; a claim to a place goes on saying what stands there, and no two claims
-//! have one place; a mark goes on saying how long the list was.
+//! have one place; a position goes on saying how long the list was.
 //!
 //! # Files
 //!
-//! - `roll.rt`: `Roll<E>`: open, mark, enter, take_in, check
-//! - `tokens.rt`: `Keeper`, `Claim`, `Mark`, which have no bytes
+//! - `log.rt`: `Log<E>`: open, position, enter, take_in, check
+//! - `tokens.rt`: `Keeper`, `Claim`, `Position`, which have no bytes
 //! - `rule.rt`, specs/Rule: what tokens know of the list, and what always holds of all of them
 //! - `seats.rt`: the steps of tokens, in terms of what each knows
 //! - `image.rt`: `Image<T>`: a value that clauses alone read, which crosses threads whatever it is
@@ -15,25 +15,25 @@
 //!
 //! # Contracts
 //!
-//! - `Roll::open`: the keeper is of this roll, its list is empty, and no claim is taken in
-//! - `Roll::mark`: a mark at the list's end, whose bearer has no entries; the keeper is as it was
-//! - `Roll::enter`: the entry stands behind the list, which is otherwise as it was; the claim is to that place, with
-//!   that entry; the mark stands behind it, and its bearer has one more entry; and the mark stood no further than the
+//! - `Log::open`: the keeper is of this log, its list is empty, and no claim is taken in
+//! - `Log::position`: a position at the list's end, whose bearer has no entries; the keeper is as it was
+//! - `Log::enter`: the entry stands behind the list, which is otherwise as it was; the claim is to that place, with
+//!   that entry; the position stands behind it, and its bearer has one more entry; and the position stood no further than the
 //!   list's end before, so the place is above all that its bearer had
-//! - `Roll::take_in`: the keeper has the claim, and everything else as it was; the claim is given up
-//! - `Roll::check`: the list has at the place of each claim that was taken in what the claim says, and no two of them
+//! - `Log::take_in`: the keeper has the claim, and everything else as it was; the claim is given up
+//! - `Log::check`: the list has at the place of each claim that was taken in what the claim says, and no two of them
 //!   have one place; the keeper is as it was
 //!
-//! A roll is told an entry by a reference and keeps none: no value holds the list. The list, the claims and the marks
+//! A log is told an entry by a reference and keeps none: no value holds the list. The list, the claims and the positions
 //! are what contracts see of tokens that have no bytes.
 #![tactic(auto)]
 
 mod image;
-mod roll;
+mod log;
 mod rule;
 mod seats;
 mod tokens;
 
 pub use image::Image;
-pub use roll::Roll;
-pub use tokens::{Claim, Keeper, Mark};
+pub use log::Log;
+pub use tokens::{Claim, Keeper, Position};

@@ -1,4 +1,4 @@
-//! The rule of a roll: what its tokens know, and what each step tells them.
+//! The rule of a log: what its tokens know, and what each step tells them.
 
 use crate::image::Image;
 use atomic_table::{Join, Play, Seat, Split, Table, TableRule};
@@ -12,19 +12,19 @@ pub struct Known<E> {
     /// Whether it knows that the slot lies in the table.
     pub home: bool,
     /// The list, where it does.
-    pub log: LinkedList<E>,
+    pub entries: LinkedList<E>,
     /// Places, each with what stands there.
     pub claims: LinkedList<(u64, E)>,
     /// So many places stand, or more.
-    pub mark: u64,
+    pub position: u64,
     /// What was appended for its bearer, in order.
     pub own: LinkedList<E>,
 }
 
 /// There is one list, which one token knows whole; what all others know of it is so, and no place is claimed twice.
-pub struct Enrolled;
+pub struct LogRule;
 
-impl<E> TableRule<Slot<E>, Known<E>, Enrolled> for Enrolled {
+impl<E> TableRule<Slot<E>, Known<E>, LogRule> for LogRule {
     ghost use Rattle.usb_receipts.specs.Rule.{Kept, opener};
 
     ghost holds = { λ _. Kept };
@@ -71,16 +71,16 @@ impl<E> Split<Known<E>> for CutsClaims {
     ghost right = { λ v. bearer v.claims 0 [] };
 }
 
-/// A token is made with a mark at the end, which gets the own entries.
-pub struct CutsMark;
+/// A token is made with a position at the end, which gets the own entries.
+pub struct CutsPosition;
 
-impl<E> Split<Known<E>> for CutsMark {
+impl<E> Split<Known<E>> for CutsPosition {
     ghost use Rattle.std.specs.Prelude.{[], length};
     ghost use Rattle.usb_receipts.specs.Rule.{bare, bearer};
 
     ghost left = { bare };
 
-    ghost right = { λ v. bearer [] (length v.log) v.own };
+    ghost right = { λ v. bearer [] (length v.entries) v.own };
 }
 
 /// A token takes in what another knows.
@@ -98,8 +98,8 @@ impl<E> Join<Known<E>> for TakesIn {
 /// What the keeper says before it appends: the entry. It has no bytes.
 pub type Slot<E> = Image<Option<E>>;
 
-/// The table that a roll stands on: one word, which stays 0, and one slot, which the keeper has.
-pub type Word<E> = Table<Slot<E>, Known<E>, Enrolled, Enrolled, Global>;
+/// The table that a log stands on: one word, which stays 0, and one slot, which the keeper has.
+pub type Word<E> = Table<Slot<E>, Known<E>, LogRule, LogRule, Global>;
 
 /// What one token is: its knowledge of that table. It has no bytes.
 pub type Token<E> = Seat<Slot<E>, Known<E>>;

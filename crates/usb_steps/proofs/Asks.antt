@@ -9,13 +9,13 @@ use Rattle.proof_design.specs.Shows.{Core}
 use Rattle.proof_core.specs.State.{IsState, Keeps, State}
 use Rattle.proof_core.specs.Steps.{AskedAt, AsksToEnd, CanAsk, IsHome}
 use Rattle.proof_core.proofs.Askable.{askable_is, asked_once, can_ask, its_live}
-use Rattle.proof_core.proofs.Asking.{asked_before, asks_now, none_to_ask}
+use Rattle.proof_core.proofs.Asks.{asked_before, asks_now, none_to_ask}
 use Rattle.proof_core.proofs.Held.{held_interface}
 use Rattle.std.specs.Option.{unwrap_or}
 use Rattle.usb_model.specs.Setup.{endpoints_of}
-use Rattle.proof_design.specs.Calling.{kept_home}
+use Rattle.proof_design.specs.Calls.{kept_home}
 use Rattle.usb_steps.specs.Homes.{HomeIs, can_expire, expires_now, is_askable}
-use Rattle.usb_steps.specs.declared.asking.Home.{Home}
+use Rattle.usb_steps.specs.declared.ask.Home.{Home}
 
 module _ {P : Type 0} where
   -- what the search for a transfer answers

@@ -11,17 +11,17 @@ use Rattle.usb_model.specs.declared.verdict.Verdict.TheVariants.{Again}
 use Rattle.proof_lemmas.proofs.Lists.Pieces.{same_name}
 use Rattle.usb_model.specs.Setup.{Setup}
 use Rattle.usb_model.specs.World.{World}
-use Rattle.usb_callers.specs.Caller.{Kept as Caller, is_one_of}
-use Rattle.usb_callers.specs.Callers.{SameCallbacks, SameCounts, SameNumbers, SameResults, callback_at, callbacks_at, is_there}
+use Rattle.usb_tables.specs.Caller.{Kept as Caller, is_one_of}
+use Rattle.usb_tables.specs.Callers.{SameCallbacks, SameCounts, SameNumbers, SameResults, callback_at, callbacks_at, is_there}
 use Rattle.proof_design.specs.Shows.{Core, Shows}
 use Rattle.proof_core.specs.Handles.{says}
 use Rattle.proof_core.specs.State.{Keeps, State}
-use Rattle.proof_core.specs.Steps.{Does}
-use Rattle.proof_core.specs.Submitting.{Admits}
+use Rattle.proof_core.specs.Steps.{DoesCoreStep}
+use Rattle.proof_core.specs.Submissions.{Admits}
 use Rattle.proof_core.proofs.Again.{again_none, again_refused}
-use Rattle.proof_core.proofs.Stopping.{Ended}
-use Rattle.usb_steps.specs.Submitting.{AgainAt, AgainIs}
-use Rattle.usb_steps.specs.declared.submitting.Place.{Place}
+use Rattle.proof_core.proofs.Stops.{Ended}
+use Rattle.usb_steps.specs.Submissions.{AgainAt, AgainIs}
+use Rattle.usb_steps.specs.declared.submission.Place.{Place}
 
 -- room is asked for, and the callback is taken
 pub ended_by : (old room new : List Caller) (h n : ℕ) (o : Option InCallback) → SameNumbers old room → SameCallbacks old room → SameResults old room → SameCounts old room → o ≡ callback_at room h n
@@ -36,13 +36,13 @@ ended_by old room new h n o numbers callbacks results counts is ended fewer numb
 
 module _ {P : Type 0} where
   -- what is refused
-  pub refuses_again : (s : State P) (h n : ℕ) (why : Why) → AgainIs s h n (Err why) → Does s (Answer h n Again) (says h (Refused why)) s
+  pub refuses_again : (s : State P) (h n : ℕ) (why : Why) → AgainIs s h n (Err why) → DoesCoreStep s (Answer h n Again) (says h (Refused why)) s
   refuses_again s h n why is = by_found (callback_at s.callers h n) refl is
     where
-      by_found : (o : Option InCallback) → callback_at s.callers h n ≡ o → AgainAt s h o (Err why) → Does s (Answer h n Again) (says h (Refused why)) s
+      by_found : (o : Option InCallback) → callback_at s.callers h n ≡ o → AgainAt s h o (Err why) → DoesCoreStep s (Answer h n Again) (says h (Refused why)) s
       by_found None none same =
           let one : NotFound ≡ why = cc in
-          subst (λ (r : Why). Does s (Answer h n Again) (says h (Refused r)) s) one (again_none s h n Again none)
+          subst (λ (r : Why). DoesCoreStep s (Answer h n Again) (says h (Refused r)) s) one (again_none s h n Again none)
       by_found (Some x) found refused = again_refused s h n Again x x.request why found refl refused
 
   -- what is accepted

@@ -7,7 +7,7 @@ use Rattle.usb_model.specs.declared.result.InCallback.{InCallback}
 use Rattle.usb_model.specs.Machine.Calls.{callback_of}
 use Rattle.usb_model.specs.Setup.{Setup}
 use Rattle.usb_model.specs.World.{World}
-use Rattle.usb_callers.specs.Callers.{IsOut, callback_at}
+use Rattle.usb_tables.specs.Callers.{IsOut, callback_at}
 use Rattle.proof_design.specs.Shows.{Core, Shows}
 use Rattle.proof_core.specs.State.{Keeps, State}
 

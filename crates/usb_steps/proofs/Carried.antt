@@ -1,15 +1,15 @@
 -- What is kept with transfers stays with them where the parts are these.
 use Rattle.std.proofs.Common.{◌≡◌, ℕ, refl, sym, subst, List, Option, Some, None}
 use Rattle.std.specs.Prelude.{IsSome}
-use Rattle.usb_callers.specs.Caller.{Kept as Caller}
-use Rattle.usb_callers.specs.Callers.{SameNumbers}
+use Rattle.usb_tables.specs.Caller.{Kept as Caller}
+use Rattle.usb_tables.specs.Callers.{SameNumbers}
 use Rattle.usb_transfer.specs.declared.transfer.Transfer.{Transfer as InFlight}
-use Rattle.usb_flight.specs.Flights.{Flights, item_at}
-use Rattle.usb_flight.specs.declared.ending.Ending.{Ending}
-use Rattle.proof_core.specs.Carrying.{StillCarries}
-use Rattle.proof_core.specs.Delivering.{asked_ending}
+use Rattle.usb_tables.specs.Flights.{Flights, item_at}
+use Rattle.usb_tables.specs.declared.ending.Ending.{Ending}
+use Rattle.proof_core.specs.Payloads.{StillCarries}
+use Rattle.proof_core.specs.Deliveries.{asked_ending}
 use Rattle.proof_core.specs.State.{State}
-use Rattle.proof_core.proofs.Carrying.{Follows, still_by}
+use Rattle.proof_core.proofs.Payloads.{Follows, still_by}
 
 module _ {P : Type 0} where
   -- nothing of it changed

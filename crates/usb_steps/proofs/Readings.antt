@@ -6,7 +6,7 @@ use Rattle.usb_model.specs.declared.status.Status.{Status}
 use Rattle.usb_model.specs.declared.status.Status.TheVariants.{Error}
 use Rattle.usb_model.specs.Completion.{stopped}
 use Rattle.usb_model.specs.Setup.{Setup}
-use Rattle.usb_design.specs.Handling.{kept_result}
+use Rattle.usb_design.specs.Events.{kept_result}
 use Rattle.usb_design.specs.Stands.{length_at, read_off}
 use Rattle.usb_model.specs.Endpoint.Status.{told_status}
 use Rattle.usb_model.specs.Requests.{is_short_not_ok, length_of}
@@ -15,15 +15,15 @@ use Rattle.usb_completion.specs.declared.target.Reading.{Reading}
 use Rattle.usb_completion.specs.declared.target.Reading.TheVariants.{Ended, Paused, Stray}
 use Rattle.usb_claims.specs.declared.held.HeldEndpoint.{HeldEndpoint}
 use Rattle.usb_xhc.specs.Context.{Context}
-use Rattle.usb_flight.specs.declared.ending.Ending.{Ending}
-use Rattle.proof_core.proofs.Telling.{IsFound, tells_all}
+use Rattle.usb_tables.specs.declared.ending.Ending.{Ending}
+use Rattle.proof_core.proofs.Reports.{IsFound, tells_all}
 use Rattle.proof_design.specs.Shows.{Core}
-use Rattle.proof_core.specs.Delivering.{Tells, ending_of, is_gone}
+use Rattle.proof_core.specs.Deliveries.{Tells, ending_of, is_gone}
 use Rattle.proof_core.specs.State.{State}
 use Rattle.usb_transfer.specs.Tds.{lengths, tds_of}
 use Rattle.usb_transfer.specs.declared.transfer.Transfer.{Transfer as InFlight}
-use Rattle.usb_steps.specs.declared.telling.Told.{Told}
-use Rattle.usb_steps.specs.Tellings.{IsTold, target_of}
+use Rattle.usb_steps.specs.declared.reports.Report.{Report}
+use Rattle.usb_steps.specs.Reports.{IsTold, target_of}
 
 -- what a transfer with these bytes moved tells
 abbrev told_by : {P : Type 0} → Bool → InFlight P → (item code actual : ℕ) → Reading
@@ -81,7 +81,7 @@ is_stray Stray = true
 
 module _ {P : Type 0} (setup : Setup) (s : State P) (c : Core) where
   -- it stands: at the place that was read, with the bytes that were read
-  pub stands_at : (x : Told) (item actual : ℕ) → IsTold setup s c stopped x → x.reading ≡ Paused item actual → Tells setup s c x.at.name x.at.dev x.at.ep item x.n actual stopped
+  pub stands_at : (x : Report) (item actual : ℕ) → IsTold setup s c stopped x → x.reading ≡ Paused item actual → Tells setup s c x.at.name x.at.dev x.at.ep item x.n actual stopped
   unfolding item_in actual_in
   stands_at x item actual told is =
       let same : Paused told.item told.actual ≡ Paused item actual = sym told.reading ∙ is in
@@ -90,7 +90,7 @@ module _ {P : Type 0} (setup : Setup) (s : State P) (c : Core) where
       subst₂ (λ i a. Tells setup s c x.at.name x.at.dev x.at.ep i x.n a stopped) item_is actual_is told.tells
 
   -- it stands by the code Stopped alone
-  pub stands_told : (x : Told) (item actual code : ℕ) → IsTold setup s c code x → x.reading ≡ Paused item actual → IsTold setup s c stopped x
+  pub stands_told : (x : Report) (item actual code : ℕ) → IsTold setup s c code x → x.reading ≡ Paused item actual → IsTold setup s c stopped x
   unfolding is_end
   stands_told x item actual code told is = by_test (code == stopped) refl
     where
@@ -105,7 +105,7 @@ module _ {P : Type 0} (setup : Setup) (s : State P) (c : Core) where
           absurd cc
 
   -- and no event is stray
-  pub never_stray : (x : Told) (code : ℕ) → IsTold setup s c code x → x.reading ≡ Stray → ⊥
+  pub never_stray : (x : Report) (code : ℕ) → IsTold setup s c code x → x.reading ≡ Stray → ⊥
   unfolding is_stray
   never_stray x code told is = by_test (code == stopped) refl
     where
@@ -117,12 +117,12 @@ module _ {P : Type 0} (setup : Setup) (s : State P) (c : Core) where
       by_test false e = let read : Stray ≡ Ended told.item result told.actual = sym is ∙ told.reading ∙ ap (λ (b : Bool). if b then Paused told.item told.actual else Ended told.item result told.actual) e in let no : true ≡ false = ap is_stray read in absurd cc
 
   -- it ended, and not by a stop; with the status of its code
-  pub record EndsAt (x : Told) (item : ℕ) (ending : Ending) (code : ℕ) : Type 0 where
+  pub record EndsAt (x : Report) (item : ℕ) (ending : Ending) (code : ℕ) : Type 0 where
     pub other : (code == stopped) ≡ false
     pub tells : Tells setup s c x.at.name x.at.dev x.at.ep item x.n ending.actual code
     pub told : ending ≡ ending_of c x.at.dev tells.kept ending.actual code
 
-  pub ends_at : (x : Told) (item : ℕ) (ending : Ending) (code : ℕ) → IsTold setup s c code x → x.reading ≡ Ended item ending.status ending.actual → EndsAt x item ending code
+  pub ends_at : (x : Report) (item : ℕ) (ending : Ending) (code : ℕ) → IsTold setup s c code x → x.reading ≡ Ended item ending.status ending.actual → EndsAt x item ending code
   unfolding item_in actual_in status_in is_end
   ends_at x item ending code told is = by_test (code == stopped) refl
     where

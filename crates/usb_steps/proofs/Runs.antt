@@ -11,15 +11,15 @@ use Rattle.usb_model.specs.declared.step.Step.TheVariants.{Command}
 use Rattle.usb_model.specs.Setup.{Setup, endpoint_id}
 use Rattle.usb_model.specs.World.{holder}
 use Rattle.usb_trb.specs.declared.kind.TrbKind.{TrbKind}
-use Rattle.usb_claims.specs.Holding.{Holding, IsSetup, owner_of}
+use Rattle.usb_claims.specs.Holders.{Holding, IsSetup, owner_of}
 use Rattle.usb_claims.specs.declared.held.HeldEndpoint.{HeldEndpoint}
 use Rattle.usb_xhc.specs.Controller.{Controller, run_of}
-use Rattle.proof_design.specs.Calling.{step_core}
+use Rattle.proof_design.specs.Calls.{step_core}
 use Rattle.proof_design.specs.Shows.{Core}
 use Rattle.proof_core.specs.State.{IsState, Keeps, State}
-use Rattle.proof_core.specs.Steps.{Does, order_in}
+use Rattle.proof_core.specs.Steps.{DoesCoreStep, order_in}
 use Rattle.proof_core.proofs.Held.{holder_same}
-use Rattle.proof_core.proofs.Running.{IsCommand, commanded, not_commanded, told_of}
+use Rattle.proof_core.proofs.Orders.{IsCommand, commanded, not_commanded, told_of}
 
 -- what is told of the endpoint of a slot and an id
 abbrev pub Tells : Holding → (slot id : ℕ) → Option HeldEndpoint → Type 0
@@ -28,7 +28,7 @@ Tells v slot id o = (setup : Setup) → IsSetup v setup → (d e h : ℕ) → sl
 module _ {P : Type 0} where
   -- none was run
   pub ran_none : (s : State P) (k : Controller) → option_map told_of (run_of s.controller s.controller.commands.waits) ≡ None → k ≡ option_map_or (λ x. x.controller) (run_of s.controller s.controller.commands.waits) s.controller
-      → Does s Command (record { owner = None; reply = Idle }) (record s { controller = k })
+      → DoesCoreStep s Command (record { owner = None; reply = Idle }) (record s { controller = k })
   unfolding step_core
   ran_none s k ran left = λ setup w c keeps shows. not_commanded setup w s c k keeps shows ran left
 
@@ -63,7 +63,7 @@ module _ {P : Type 0} where
   -- the step is the core's
   pub ran_one : (s : State P) (k : Controller) (order : TrbKind) (code slot id n m : ℕ) (errand : Errand) (o : Option HeldEndpoint) (at : HeldEndpoint) → option_map told_of (run_of s.controller s.controller.commands.waits) ≡ Some (order, code)
       → k ≡ option_map_or (λ x. x.controller) (run_of s.controller s.controller.commands.waits) s.controller → order_in order ≡ Some (slot, id, errand) → n ≡ slot → m ≡ id → Tells s.claims n m o → o ≡ Some at
-      → Does s Command (record { owner = Some at.name; reply = Ran at.ep errand (code == 1) }) (record s { controller = k })
+      → DoesCoreStep s Command (record { owner = Some at.name; reply = Ran at.ep errand (code == 1) }) (record s { controller = k })
   unfolding step_core
   ran_one s k order code slot id n m errand o at ran left says is_slot is_id tells found = λ setup w c keeps shows.
       let was = commanded setup w s c k order code keeps shows ran left in

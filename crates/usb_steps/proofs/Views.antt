@@ -1,11 +1,11 @@
 -- The parts as contracts see them.
 use Rattle.std.proofs.Common.{List, Option}
-use Rattle.usb_claims.specs.Holding.{Holding}
+use Rattle.usb_claims.specs.Holders.{Holding}
 use Rattle.usb_transfer.specs.declared.transfer.Transfer.{Transfer as InFlight}
-use Rattle.usb_cancel.specs.declared.outstanding.Sent.{Sent}
+use Rattle.usb_tables.specs.declared.outstanding.Sent.{Sent}
 use Rattle.usb_xhc.specs.Controller.{Controller}
-use Rattle.usb_flight.specs.Flights.{Flights}
-use Rattle.usb_callers.specs.Caller.{Kept as Caller}
+use Rattle.usb_tables.specs.Flights.{Flights}
+use Rattle.usb_tables.specs.Caller.{Kept as Caller}
 use Rattle.proof_core.specs.State.{State}
 
 -- the record of them

@@ -9,22 +9,22 @@ use Rattle.usb_model.specs.declared.response.Response.TheVariants as response
 use Rattle.usb_model.specs.Endpoint.Serve.{is_no_packet}
 use Rattle.usb_model.specs.Setup.{Setup}
 use Rattle.usb_model.specs.World.{Claims, World, holder}
-use Rattle.usb_design.specs.Serving.{Answered, Packet}
+use Rattle.usb_design.specs.Packets.{Answered, Packet}
 use Rattle.usb_device.specs.Pipe.{Pipe, answer_of, first_of, is_ready, pipe_at}
 use Rattle.usb_transfer.specs.declared.transfer.Transfer.{Transfer as InFlight}
-use Rattle.usb_xhc.specs.declared.packet.Packet.{Packet as Told}
+use Rattle.usb_xhc.specs.declared.packet.Packet.{Packet as ServedPacket}
 use Rattle.usb_xhc.specs.declared.packet.Packet.TheVariants as told
 use Rattle.usb_xhc.specs.declared.trb_at.TrbAt.{TrbAt}
 use Rattle.usb_xhc.specs.Context.{Context}
-use Rattle.usb_xhc.specs.Serving.{packet_in, served, served_by, served_gone, working}
+use Rattle.usb_xhc.specs.Transaction.{packet_in, served, served_by, served_gone, working}
 use Rattle.usb_xhc.specs.Controller.{Controller, told_at}
 use Rattle.usb_xhc.specs.Slots.{DeviceSlot, context_of, serving, serving_at}
-use Rattle.usb_flight.specs.Flights.{line_at}
-use Rattle.proof_controller.specs.Told.{reply_of}
+use Rattle.usb_tables.specs.Flights.{line_at}
+use Rattle.proof_controller.specs.Reports.{reply_of}
 use Rattle.proof_design.specs.Shows.{Core, Shows}
-use Rattle.proof_design.specs.Stepping.{serve_core, serve_held}
+use Rattle.proof_design.specs.Steps.{serve_core, serve_held}
 use Rattle.proof_design.proofs.Glue.{serve_steps}
-use Rattle.proof_design.proofs.Running.{fresh_while_running}
+use Rattle.proof_design.proofs.RunningEndpoints.{fresh_while_running}
 use Rattle.proof_controller.specs.Laws as slots
 use Rattle.proof_controller.proofs.SlotServes as slot
 use Rattle.proof_core.specs.State.{Keeps, State}
@@ -35,14 +35,14 @@ use Rattle.proof_core.proofs.Rings.{IsSlotOf, slot_of}
 use Rattle.usb_steps.specs.Pending.{can_answer, has_answers, serves, tells_work}
 
 -- whether what is told of a packet tells of something that was done; left: as of a reply
-abbrev told_work : Bool → Option Told → Bool
+abbrev told_work : Bool → Option ServedPacket → Bool
 told_work left None = false
 told_work left (Some told.Nak) = left
 told_work left (Some (told.Moved k)) = true
 told_work left (Some (told.Ended code)) = true
 
 -- so does its reply
-reply_tells : (left : Bool) (n : ℕ) (t : Told) → tells_work left (reply_of n t) ≡ told_work left (Some t)
+reply_tells : (left : Bool) (n : ℕ) (t : ServedPacket) → tells_work left (reply_of n t) ≡ told_work left (Some t)
 reply_tells left n told.Nak = refl
 reply_tells left n (told.Moved k) = refl
 reply_tells left n (told.Ended code) = refl
@@ -90,7 +90,7 @@ tells_it k d e s there =
     by_context (Some x) = at_work x s.gone (pipe_at s.pipes e) (working x)
 
 -- the core's reply is of what the controller tells
-reply_is : (left : Bool) (setup : Setup) (k : Controller) (c : Core) (d e : ℕ) (o : Option Told) (a : Answered) → slots.Serves setup k c.gone c.endpoints c.orders c.events c.posted d e o a → tells_work left a.reply ≡ told_work left o
+reply_is : (left : Bool) (setup : Setup) (k : Controller) (c : Core) (d e : ℕ) (o : Option ServedPacket) (a : Answered) → slots.Serves setup k c.gone c.endpoints c.orders c.events c.posted d e o a → tells_work left a.reply ≡ told_work left o
 reply_is left setup k c d e None a is = ap (λ (x : Answered). tells_work left x.reply) is.0
 reply_is left setup k c d e (Some t) a is = ap (tells_work left) is.reply ∙ reply_tells left is.y.n t
 

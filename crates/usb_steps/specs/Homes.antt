@@ -2,12 +2,12 @@
 use Rattle.std.specs.Prelude.{◌≡◌, ℕ, ◌==◌, Bool, false, not, ◌&&◌, ◌||◌, is_some, Option, Some, None}
 use Rattle.std.specs.Option.{option_map_or}
 use Rattle.usb_model.specs.Setup.{Setup, endpoints_of}
-use Rattle.usb_flight.specs.Flights.{item_at}
+use Rattle.usb_tables.specs.Flights.{item_at}
 use Rattle.proof_design.specs.Shows.{Core}
-use Rattle.proof_design.specs.Calling.{KeptHome, device_of, kept_home}
+use Rattle.proof_design.specs.Calls.{KeptHome, device_of, kept_home}
 use Rattle.proof_core.specs.State.{State}
 use Rattle.proof_core.specs.Steps.{IsHome}
-use Rattle.usb_steps.specs.declared.asking.Home.{Home}
+use Rattle.usb_steps.specs.declared.ask.Home.{Home}
 
 -- it is nowhere, or it is there
 abbrev pub HomeIs : Setup → Core → (h n : ℕ) → Option Home → Type 0

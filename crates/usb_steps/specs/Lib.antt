@@ -1,7 +1,8 @@
 pub mod Homes
-pub mod Tellings
-pub mod Submitting
+pub mod Reports
+pub mod Submissions
 pub mod Senders
-pub mod Taking
+pub mod Results
 pub mod Pending
 pub mod Packets
+pub mod Calls

@@ -7,7 +7,7 @@ use Rattle.usb_model.specs.declared.step.Step.{Step}
 use Rattle.usb_model.specs.declared.step.Step.TheVariants.{Command, Deliver, Serve, Take}
 use Rattle.usb_model.specs.Setup.{Setup, is_in}
 use Rattle.usb_model.specs.World.{World, turn}
-use Rattle.usb_xhc.specs.Serving.{working}
+use Rattle.usb_xhc.specs.Transaction.{working}
 use Rattle.usb_device.specs.Pipe.{is_ready, pipe_at}
 use Rattle.usb_xhc.specs.Controller.{Controller}
 use Rattle.usb_xhc.specs.Slots.{context_of}

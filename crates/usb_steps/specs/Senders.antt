@@ -4,7 +4,7 @@ use Rattle.usb_model.specs.declared.errand.Errand.{Errand}
 use Rattle.usb_model.specs.Setup.{Setup}
 use Rattle.usb_claims.specs.declared.held.HeldEndpoint.{HeldEndpoint}
 use Rattle.proof_design.specs.Shows.{Completes, Core, RingEvent}
-use Rattle.proof_core.specs.Delivering.{SentIs, Settles}
+use Rattle.proof_core.specs.Deliveries.{SentIs, Settles}
 use Rattle.proof_core.specs.State.{State}
 
 module _ {P : Type 0} where

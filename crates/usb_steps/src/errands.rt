@@ -1,15 +1,15 @@
 //! Errands at an endpoint: one is ordered, or the endpoint goes on without.
 
 ghost use Rattle.std.specs.Prelude.{◌≡◌, ◌≤◌, ℕ, IfSome, length, option_map};
-ghost use Rattle.usb_cancel.specs.Outstanding.{sent_at};
-ghost use Rattle.proof_core.specs.Carrying.{StillCarries};
+ghost use Rattle.usb_tables.specs.Outstanding.{sent_at};
+ghost use Rattle.proof_core.specs.Payloads.{StillCarries};
 ghost use Rattle.proof_core.specs.Steps.{CanPost};
 ghost use Rattle.proof_core.specs.Works.{Posts, context_in, order_by};
 
 use crate::parts::Parts;
-use usb_cancel::Sent;
 use usb_device::Device;
 use usb_model::{DeviceNo, EpAddr, Errand};
+use usb_tables::Sent;
 use usb_trb::TrbKind;
 
 impl<P, D: Device> Parts<P, D> {

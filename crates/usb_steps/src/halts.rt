@@ -2,9 +2,9 @@
 
 ghost use Rattle.std.specs.Prelude.{◌≡◌, Some};
 ghost use Rattle.usb_model.specs.declared.step.Step.TheVariants.{ClearHalt};
-ghost use Rattle.proof_core.specs.Carrying.{StillCarries};
+ghost use Rattle.proof_core.specs.Payloads.{StillCarries};
 ghost use Rattle.proof_core.specs.State.{IsState};
-ghost use Rattle.proof_core.specs.Steps.{Does};
+ghost use Rattle.proof_core.specs.Steps.{DoesCoreStep};
 
 use crate::parts::Parts;
 use usb_device::Device;
@@ -16,7 +16,7 @@ impl<P, D: Device> Parts<P, D> {
     /// line.
     pub fn clear_halt(&mut self, h: Name, ep: EpAddr) -> Reply
         requires { IsState self.old }
-        ensures done { Does self.old (ClearHalt h ep) (record { owner = Some h; reply = result }) self.new }
+        ensures done { DoesCoreStep self.old (ClearHalt h ep) (record { owner = Some h; reply = result }) self.new }
         ensures carries { StillCarries self.old self.new }
     {
         let Some(dev) = self.claims.device_of(h) else {

@@ -2,10 +2,10 @@
 
 ghost use Rattle.std.specs.Prelude.{◌≡◌, Some, None};
 ghost use Rattle.usb_model.specs.declared.step.Step.TheVariants.{Close, Open, Release, Unplug};
-ghost use Rattle.proof_core.specs.Carrying.{StillCarries};
+ghost use Rattle.proof_core.specs.Payloads.{StillCarries};
 ghost use Rattle.proof_core.specs.Handles.{gone_in, reply_to};
 ghost use Rattle.proof_core.specs.State.{IsState};
-ghost use Rattle.proof_core.specs.Steps.{Does};
+ghost use Rattle.proof_core.specs.Steps.{DoesCoreStep};
 
 use crate::parts::Parts;
 use usb_device::Device;
@@ -15,7 +15,7 @@ impl<P, D: Device> Parts<P, D> {
     /// A device is gone. NotFound where there is no such device, NoDevice where it is gone.
     pub fn unplug(&mut self, dev: DeviceNo) -> Reply
         requires { IsState self.old }
-        ensures done { Does self.old (Unplug dev) (record { owner = None; reply = result }) self.new }
+        ensures done { DoesCoreStep self.old (Unplug dev) (record { owner = None; reply = result }) self.new }
         ensures carries { StillCarries self.old self.new }
     {
         if !self.claims.is_device(dev) {
@@ -32,7 +32,7 @@ impl<P, D: Device> Parts<P, D> {
     /// is no such device, NoDevice where it is gone, Busy where the name has one open.
     pub fn open(&mut self, h: Name, dev: DeviceNo) -> Reply
         requires { IsState self.old }
-        ensures done { Does self.old (Open h dev) (record { owner = Some h; reply = result }) self.new }
+        ensures done { DoesCoreStep self.old (Open h dev) (record { owner = Some h; reply = result }) self.new }
         ensures carries { StillCarries self.old self.new }
     {
         if self.is_gone(dev) {
@@ -45,7 +45,7 @@ impl<P, D: Device> Parts<P, D> {
     /// where it has none open, Busy where something is under way at an endpoint of it.
     pub fn close(&mut self, h: Name) -> Reply
         requires { IsState self.old }
-        ensures done { Does self.old (Close h) (record { owner = Some h; reply = result }) self.new }
+        ensures done { DoesCoreStep self.old (Close h) (record { owner = Some h; reply = result }) self.new }
         ensures carries { StillCarries self.old self.new }
     {
         let Some(dev) = self.claims.device_of(h) else {
@@ -61,7 +61,7 @@ impl<P, D: Device> Parts<P, D> {
     /// doesn't hold it, Busy where something is under way at an endpoint of it.
     pub fn release(&mut self, h: Name, i: u8) -> Reply
         requires { IsState self.old }
-        ensures done { Does self.old (Release h i) (record { owner = Some h; reply = result }) self.new }
+        ensures done { DoesCoreStep self.old (Release h i) (record { owner = Some h; reply = result }) self.new }
         ensures carries { StillCarries self.old self.new }
     {
         let Some(dev) = self.claims.device_of(h) else {

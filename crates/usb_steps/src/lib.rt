@@ -5,25 +5,27 @@
 //!
 //! # Files
 //!
-//! - parts, setup, making: the parts: claims, controller, transfers in flight, callers, errands; devices, and the
+//! - parts, setup, made: the parts: claims, controller, transfers in flight, callers, errands; devices, and the
 //!   parts made of them
-//! - serving, commanding: a packet; the oldest order
-//! - delivering, telling, finishing, settling, sender: the oldest event; what it tells of a transfer; a transfer's
+//! - packets, orders: a packet; the oldest order
+//! - events, reports, ends, settlement, sender: the oldest event; what it tells of a transfer; a transfer's
 //!   end; the end of an errand; whose order an event is of
-//! - submitting, taking, answering: a transfer joins its line; the oldest result goes out to its callback; a callback
+//! - submission, results, verdicts: a transfer joins its line; the oldest result goes out to its callback; a callback
 //!   ends, or its transfer is submitted once more
-//! - asking: a transfer is looked for, and asked to end
+//! - ask: a transfer is looked for, and asked to end
 //! - handles, halts, quiet: opens, closes, releases; a halt is cleared; whether anything is under way
-//! - claiming, resetting, renewing: an interface is claimed; a device is reset; endpoints are made new
+//! - claim, reset, renewal: an interface is claimed; a device is reset; endpoints are made new
 //! - errands: an errand is ordered
+//! - call: a step that takes no memory, whichever it is
 //! - reads, pending: how long the next result is; whether a transfer can expire; what is to be done next
 //!
 //! # Contracts
 //!
-//! `Does`: for every core that the old parts keep and that shows a world, the entry is that of the core's step, and
+//! `DoesCoreStep`: for every core that the old parts keep and that shows a world, the entry is that of the core's step, and
 //! the new parts keep the core behind it. The only premise of each call is that the parts show some world, which each
 //! of them keeps.
 //!
+//! - `Parts::call`: a step that takes no memory is the call that it names
 //! - `Parts::serve`: a packet of the transfer where the controller works does as Serve does; nothing is asked at run
 //!   time: room for it, or its bytes, are there
 //! - `Parts::command`: the oldest order of the ring, whatever it is, is carried out as Command does: whose it was is
@@ -59,32 +61,33 @@
 //! - `Parts::new`: the parts show the new world of the setup
 #![tactic(auto)]
 
-mod answering;
-mod asking;
-mod claiming;
-mod commanding;
-mod delivering;
+mod ask;
+mod call;
+mod claim;
+mod ends;
 mod errands;
-mod finishing;
+mod events;
 mod halts;
 mod handles;
-mod making;
+mod made;
+mod orders;
+mod packets;
 mod parts;
 mod pending;
 mod quiet;
 mod reads;
-mod renewing;
-mod resetting;
+mod renewal;
+mod reports;
+mod reset;
+mod results;
 mod sender;
-mod serving;
-mod settling;
+mod settlement;
 mod setup;
-mod submitting;
-mod taking;
-mod telling;
+mod submission;
+mod verdicts;
 
 pub use parts::Parts;
 pub use pending::Pending;
+pub use results::Taken;
 pub use setup::{Setup, Unadded};
-pub use submitting::Unaccepted;
-pub use taking::Taken;
+pub use submission::Unaccepted;

@@ -2,11 +2,9 @@
 
 use std::alloc::Global;
 use std::marker::Model;
-use usb_callers::Callers;
-use usb_cancel::Outstanding;
 use usb_claims::Claims;
 use usb_device::Device;
-use usb_flight::Flights;
+use usb_tables::{Callers, Flights, Outstanding};
 use usb_xhc::Controller;
 
 /// Who holds what; the controller with its devices and rings; the transfers in flight; what is kept of each handle; the

@@ -4,7 +4,7 @@ ghost use Rattle.std.specs.Prelude.{◌≡◌, ℕ};
 ghost use Rattle.usb_model.specs.Setup.{Setup};
 ghost use Rattle.usb_trb.specs.declared.kind.TrbKind.TheVariants.{CommandCompletion};
 ghost use Rattle.proof_design.specs.Shows.{Core};
-ghost use Rattle.proof_core.specs.Delivering.{IsTaken, stands_at};
+ghost use Rattle.proof_core.specs.Deliveries.{IsTaken, stands_at};
 ghost use Rattle.usb_steps.specs.Senders.{EndIs, SenderIs};
 
 use crate::parts::Parts;

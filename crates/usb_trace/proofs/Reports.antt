@@ -10,7 +10,7 @@ use Rattle.clap.specs.Values.{kind_of}
 use Rattle.clap.specs.Walk.{Text}
 use Rattle.clap.specs.declared.error.Error.{Error}
 use Rattle.clap.specs.declared.error.kind.ErrorKind.TheVariants as kind
-use Rattle.trace_scenario.proofs.Sifting.{none_bad, scenario_good}
+use Rattle.trace_scenario.proofs.GoodAndBad.{none_bad, scenario_good}
 use Rattle.trace_scenario.specs.Counts.{counts_of}
 use Rattle.trace_scenario.specs.Findings.{bad_lines, good_lines}
 use Rattle.trace_scenario.specs.Scenario.{nothing_said, scenario_of}
@@ -29,7 +29,7 @@ use Rattle.trace_io.specs.declared.words.Task.{Task}
 use Rattle.trace_io.specs.declared.words.Task.TheVariants.{Run, Steps, Alone, Live, Left, Check, Draw}
 use Rattle.trace_scenario.specs.declared.findings.Counts.{Counts}
 use Rattle.trace_scenario.specs.declared.findings.Finding.{Finding}
-use Rattle.trace_io.specs.Printing.{finding_text, counts_line, AppendsReport, AppendsSome}
+use Rattle.trace_io.specs.Output.{finding_text, counts_line, AppendsReport, AppendsSome}
 
 -- where no line is bad, the counts alone
 pub counts_alone : (numbers : List ℕ) (counts : Counts) (old new : Option (List ℕ)) → AppendsReport numbers counts old new → numbers ≡ []

@@ -3,7 +3,7 @@ pub mod Program
 pub use Rattle.trace_io.specs.CommandLine
 pub use Rattle.trace_io.specs.Faults
 pub use Rattle.trace_io.specs.Input
-pub use Rattle.trace_io.specs.Printing
+pub use Rattle.trace_io.specs.Output
 pub use Rattle.usb_model.specs.World.Journal
 pub use Rattle.usb_model.specs.World.Plans
 pub use Rattle.usb_model.specs.Text

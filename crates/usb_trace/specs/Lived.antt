@@ -11,7 +11,7 @@ use Rattle.trace_scenario.specs.declared.line.Line.{Line}
 use Rattle.trace_scenario.specs.declared.line.Line.TheVariants.{Piece}
 use Rattle.trace_scenario.specs.Line.{line_of_text}
 use Rattle.trace_live.specs.Callbacks.{AreCallbacks}
-use Rattle.trace_io.specs.Printing.{AppendsSome}
+use Rattle.trace_io.specs.Output.{AppendsSome}
 use Rattle.trace_scenario.specs.declared.scenario.Scenario.{Scenario}
 use Rattle.trace_scenario.specs.Scenario.{scenario_of}
 

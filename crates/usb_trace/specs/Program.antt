@@ -13,7 +13,7 @@ use Rattle.trace_io.specs.declared.words.Task.{Task}
 use Rattle.trace_io.specs.declared.words.Task.TheVariants as task
 use Rattle.trace_io.specs.Faults.{message_of}
 use Rattle.trace_io.specs.Input.{longest_input}
-use Rattle.trace_io.specs.Printing.{counts_line, AppendsReport, AppendsSome, AppendsSomeReport}
+use Rattle.trace_io.specs.Output.{counts_line, AppendsReport, AppendsSome, AppendsSomeReport}
 use Rattle.trace_scenario.specs.Counts.{counts_of}
 use Rattle.trace_scenario.specs.Findings.{bad_lines, good_lines}
 use Rattle.trace_scenario.specs.Scenario.{scenario_of}

@@ -3,7 +3,7 @@
 ghost use Rattle.std.specs.Prelude.{◌≡◌, ◌==◌, IfOk, Some};
 ghost use Rattle.std.specs.List.{slice_split};
 ghost use Rattle.trace_scenario.specs.Line.{line_of_text};
-ghost use Rattle.trace_scenario.specs.TextReading.{AnswersAs};
+ghost use Rattle.trace_scenario.specs.TextResults.{AnswersAs};
 ghost use Rattle.trace_scenario.specs.Runnable.{IsRunnable};
 ghost use Rattle.usb_trace.specs.Lived.{first_unlived, is_unlived, lived_of};
 

@@ -10,7 +10,7 @@ ghost use Rattle.clap.specs.declared.error.kind.ErrorKind.TheVariants as ErrorKi
 ghost use Rattle.trace_io.specs.Faults.{message_of, IsOfRun};
 ghost use Rattle.trace_io.specs.declared.fault.Fault.{Fault};
 ghost use Rattle.trace_io.specs.Input.{longest_input};
-ghost use Rattle.trace_io.specs.Printing.{AppendsSome};
+ghost use Rattle.trace_io.specs.Output.{AppendsSome};
 ghost use Rattle.usb_trace.specs.Program.{status_of, Begins, IsDone, IsSilentAtBad, Performs, TellsWhy};
 ghost use Rattle.trace_io.specs.declared.words.Task.{Task};
 ghost use Rattle.trace_io.specs.declared.words.Task.TheVariants.{Check, Steps};

@@ -4,7 +4,7 @@ use Rattle.std.specs.List.{list_all}
 use Rattle.usb_model.specs.declared.step.Step.{Step}
 use Rattle.usb_journal.specs.declared.place.Place.{Place}
 use Rattle.usb_journal.specs.Seen.{Receipted}
-use Rattle.usb_library.specs.Calling.{Calling, Makes}
+use Rattle.usb_library.specs.Calls.{Calling, Makes}
 use Rattle.usb_workers.specs.Steps.{Works}
 
 -- nothing behind a list leaves it as it is

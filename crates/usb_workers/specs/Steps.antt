@@ -4,7 +4,7 @@ use Rattle.std.specs.List.{list_all}
 use Rattle.usb_model.specs.declared.step.Step.{Step}
 use Rattle.usb_model.specs.declared.step.Step.TheVariants.{Answer, Command, Deliver, Serve, Take}
 use Rattle.usb_journal.specs.declared.place.Place.{Place}
-use Rattle.usb_library.specs.Calling.{Calling}
+use Rattle.usb_library.specs.Calls.{Calling}
 
 -- the controller's part: packets and orders
 abbrev pub is_controllers : Step → Bool

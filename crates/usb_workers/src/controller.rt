@@ -4,7 +4,7 @@ ghost use Rattle.std.specs.Prelude.{◌≡◌};
 ghost use Rattle.usb_workers.specs.Steps.{Works, is_controllers};
 
 use crate::gate::{Gate, Point};
-use crate::parking::Parking;
+use crate::park::Parking;
 use std::alloc::Global;
 use std::sync::Wait;
 use usb_core::Pending;

@@ -3,9 +3,9 @@
 ghost use Rattle.std.specs.Prelude.{◌≡◌};
 ghost use Rattle.usb_workers.specs.Steps.{Works, is_events};
 
-use crate::answering::answer;
+use crate::answers::answer;
 use crate::gate::{Gate, Point};
-use crate::parking::Parking;
+use crate::park::Parking;
 use std::alloc::Global;
 use std::sync::Wait;
 use usb_callback::Callback;

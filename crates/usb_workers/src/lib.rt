@@ -5,8 +5,8 @@
 //! # Files
 //!
 //! - `controller.rt`, `event.rt`: the two loops
-//! - `answering.rt`: what a callback answered is told
-//! - `gate.rt`, `parking.rt`: what a worker passes before each act; how it waits
+//! - `answers.rt`: what a callback answered is told
+//! - `gate.rt`, `park.rt`: what a worker passes before each act; how it waits
 //! - `moments.rt`: a clock's milliseconds, for those who want to tick by one; nothing is promised of time
 //! - specs/Steps: which steps are whose
 //!
@@ -25,12 +25,12 @@
 //! refused it tries again; a callback that can't be submitted once more has ended.
 #![tactic(auto)]
 
-mod answering;
+mod answers;
 mod controller;
 mod event;
 mod gate;
 mod moments;
-mod parking;
+mod park;
 
 pub use controller::controller_loop;
 pub use event::event_loop;

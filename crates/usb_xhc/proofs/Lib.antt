@@ -1,6 +1,6 @@
 pub mod Scans
-pub mod Reaching
-pub mod Passing
+pub mod Extents
+pub mod DequeueParts
 pub mod Nexts
 pub mod Serves
 pub mod Moves

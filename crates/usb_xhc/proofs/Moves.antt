@@ -7,7 +7,7 @@ use Rattle.usb_tring.specs.Line.{Line, places, all_of, place_behind, moved_behin
 use Rattle.usb_segment.specs.Memory.{Memory}
 use Rattle.usb_tring.specs.View.{Ring}
 use Rattle.usb_xhc.specs.Context.{Context}
-use Rattle.usb_xhc.specs.Commanding.{before, before_by, moved_at}
+use Rattle.usb_xhc.specs.Commands.{before, before_by, moved_at}
 
 -- the address of a place
 abbrev pub at_place : Line → ℕ → ℕ

@@ -9,8 +9,8 @@ use Rattle.usb_segment.specs.Places.{after, address_of}
 use Rattle.usb_tring.specs.Line.{Line, places, contents, first_of, ahead_of}
 use Rattle.usb_xhc.specs.declared.trb_at.TrbAt.{TrbAt}
 use Rattle.usb_xhc.specs.Ahead.{trbs_ahead}
-use Rattle.usb_xhc.specs.Reading.{seen}
-use Rattle.usb_xhc.specs.Serving.{trb_in}
+use Rattle.usb_xhc.specs.NormalTrbs.{seen}
+use Rattle.usb_xhc.specs.Transaction.{trb_in}
 use Rattle.usb_xhc.proofs.Scans.{normal_first, behind, ahead-first, ahead-next, few-ahead}
 
 -- a transfer's TRB is there, and has its address

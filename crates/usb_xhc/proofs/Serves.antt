@@ -3,11 +3,11 @@ use Rattle.std.proofs.Common.{◌≡◌, ℕ, ap, sym, ◌∙◌, [], ◌∷◌,
 use Rattle.std.specs.Prelude.{Option, if◌then◌else◌}
 use Rattle.usb_model.specs.declared.response.Response.{Response}
 use Rattle.usb_model.specs.Endpoint.Serve.{is_no_packet}
-use Rattle.usb_design.specs.Serving.{Packet, packet_by}
+use Rattle.usb_design.specs.Packets.{Packet, packet_by}
 use Rattle.usb_xhc.specs.declared.packet.Packet.TheVariants as told
 use Rattle.usb_xhc.specs.Ahead.{Reaches}
 use Rattle.usb_xhc.specs.Context.{Context, trbs, stand_by, event_by, gone_on}
-use Rattle.usb_xhc.specs.Serving.{packet_in, served_by, served, ended_by}
+use Rattle.usb_xhc.specs.Transaction.{packet_in, served_by, served, ended_by}
 
 -- what an answer did, told by a reach
 pub packet-told : (c : Context) (a : Response) (size r : ℕ) (e : Bool) (k : ℕ) (o : Option ℕ) → size ≡ c.size → Reaches c.size (trbs c) c.within r e

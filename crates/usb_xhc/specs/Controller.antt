@@ -7,8 +7,8 @@ use Rattle.usb_segment.specs.Places.{index_of}
 use Rattle.usb_ering.specs.Ring.{Ring, dequeue_of, empty}
 use Rattle.usb_device.specs.Pipe.{IsLawful}
 use Rattle.usb_xhc.specs.declared.packet.Packet.{Packet as Told}
-use Rattle.usb_xhc.specs.Commanding.{carried, endpoint_not_enabled_error, trb_error}
-use Rattle.usb_xhc.specs.Posting.{posted_all, posted_one}
+use Rattle.usb_xhc.specs.Commands.{carried, endpoint_not_enabled_error, trb_error}
+use Rattle.usb_xhc.specs.Posts.{posted_all, posted_one}
 use Rattle.usb_xhc.specs.Slots.{DeviceSlot, changed, events_after, order_code, order_events, serving, slot_after, slot_renewed}
 
 -- slots: one a device, by number, slot 1 the first (xHCI 1.2, 4.5.3). commands, events: the two rings

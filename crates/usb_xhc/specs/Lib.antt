@@ -1,10 +1,10 @@
 pub mod Ahead
-pub mod Reading
+pub mod NormalTrbs
 pub mod Context
-pub mod Posting
-pub mod Serving
-pub mod Commanding
-pub mod Hosting
+pub mod Posts
+pub mod Transaction
+pub mod Commands
+pub mod Host
 pub mod Slots
-pub mod Making
+pub mod Made
 pub mod Controller

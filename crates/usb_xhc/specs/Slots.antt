@@ -8,9 +8,9 @@ use Rattle.usb_ering.specs.Ring.{Ring}
 use Rattle.usb_device.specs.Pipe.{Pipe, answer_of, bytes_after, pipe_after, pipe_at, rewound}
 use Rattle.usb_xhc.specs.declared.trb_at.TrbAt.{TrbAt}
 use Rattle.usb_xhc.specs.Context.{Context, configured}
-use Rattle.usb_xhc.specs.Commanding.{carried, endpoint_not_enabled_error}
-use Rattle.usb_xhc.specs.Posting.{posted_all}
-use Rattle.usb_xhc.specs.Serving.{Served, packet_out, packet_room, served, served_gone, working}
+use Rattle.usb_xhc.specs.Commands.{carried, endpoint_not_enabled_error}
+use Rattle.usb_xhc.specs.Posts.{posted_all}
+use Rattle.usb_xhc.specs.Transaction.{Served, packet_out, packet_room, served, served_gone, working}
 
 -- the device's endpoints, each by its id; whether the device is gone; and what the controller keeps of each, where it has a ring
 pub record DeviceSlot : Type 0 where

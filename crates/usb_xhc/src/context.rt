@@ -5,9 +5,9 @@ ghost use Rattle.usb_model.specs.declared.endpoint.EndpointState.TheVariants.{Ru
 ghost use Rattle.usb_tring.specs.Line.{capacity, normals, used};
 ghost use Rattle.usb_xhc.specs.Ahead.{Reaches, room};
 ghost use Rattle.usb_xhc.specs.Context.{Context, configured, trbs, stand_by, event_by, gone_on, gone_past};
-ghost use Rattle.usb_xhc.specs.Serving.{trb_at, working};
-ghost use Rattle.usb_xhc.specs.Commanding.{before, moved_at};
-ghost use Rattle.usb_xhc.specs.Hosting.{rung, with_ring, with_pushed, with_blank, without_first};
+ghost use Rattle.usb_xhc.specs.Transaction.{trb_at, working};
+ghost use Rattle.usb_xhc.specs.Commands.{before, moved_at};
+ghost use Rattle.usb_xhc.specs.Host.{rung, with_ring, with_pushed, with_blank, without_first};
 
 use crate::outcome::Reach;
 use crate::trb_at::TrbAt;

@@ -11,19 +11,19 @@
 //!   ring_doorbell, renew, renew_all, push, blank, drop_front, clear_halt, unplug; command_ring, event_ring
 //! - `slot.rt`: `DeviceSlot`: a device, whether it is gone, and its endpoints by their ids; the calls above at one
 //!   device, and context, ready, taken
-//! - `renewing.rt`: a device, its contexts and all slots are made new, piece by piece
-//! - `making.rt`: a ring for each bulk or interrupt endpoint of a configuration
+//! - `renewal.rt`: a device, its contexts and all slots are made new, piece by piece
+//! - `rings.rt`: a ring for each bulk or interrupt endpoint of a configuration
 //! - `context.rt`: `EndpointContext`: state, ring, and how far the transfer at dequeue has come. What is ahead of
 //!   dequeue: the transfer's first TRB, how far its bytes reach, where it stands some bytes on. The host's: push,
 //!   blank, drop_front, renew, ring_doorbell
-//! - `serving.rt`, `outcome.rt`, `packet.rt`: a packet: the bytes that it may have, what the device's act did, the
+//! - `transaction.rt`, `outcome.rt`, `packet.rt`: a packet: the bytes that it may have, what the device's act did, the
 //!   event where the transfer ended; `Packet`, what is told
-//! - `commanding.rt`: Stop Endpoint with its pause, Reset Endpoint, Set TR Dequeue Pointer, and their codes
+//! - `commands.rt`: Stop Endpoint with its pause, Reset Endpoint, Set TR Dequeue Pointer, and their codes
 //! - `trb_at.rt`: a Normal TRB and its address
-//! - specs/ Controller, Slots, Making: the whole; a device's slot; how it is made
-//! - specs/ Ahead, Context, Serving, Commanding, Hosting: the TRBs of the transfer at dequeue; the endpoint; a
+//! - specs/ Controller, Slots, Made: the whole; a device's slot; how it is made
+//! - specs/ Ahead, Context, Transaction, Commands, Host: the TRBs of the transfer at dequeue; the endpoint; a
 //!   packet; an order; what the host does
-//! - specs/ Reading, Posting: a TRB as it is read from a ring; TRBs that are posted one behind another
+//! - specs/ NormalTrbs, Posts: a TRB as it is read from a ring; TRBs that are posted one behind another
 //!
 //! # Contracts
 //!
@@ -62,22 +62,22 @@
 //! it), that an order names an endpoint that is there (another is answered with an error), when anything is served.
 #![tactic(auto)]
 
-mod commanding;
+mod commands;
 mod context;
 mod controller;
-mod making;
 mod outcome;
 mod packet;
-mod renewing;
-mod serving;
+mod renewal;
+mod rings;
 mod slot;
+mod transaction;
 mod trb_at;
 
-pub use commanding::{CONTEXT_STATE_ERROR, ENDPOINT_NOT_ENABLED_ERROR, TRB_ERROR};
+pub use commands::{CONTEXT_STATE_ERROR, ENDPOINT_NOT_ENABLED_ERROR, TRB_ERROR};
 pub use context::EndpointContext;
 pub use controller::Controller;
 pub use outcome::Reach;
 pub use packet::Packet;
-pub use serving::post;
 pub use slot::DeviceSlot;
+pub use transaction::post;
 pub use trb_at::TrbAt;

@@ -3,17 +3,17 @@
 ghost use Rattle.std.specs.Prelude.{◌≡◌, ◌+◌, ◌≤◌, ◌<◌, None, length, IfSome, option_map, slice_set, vec_capacity, vec_len, true, slice_get, IfOk, IfErr};
 ghost use Rattle.usb_model.specs.Setup.{endpoint_id};
 ghost use Rattle.usb_device.specs.Pipe.{IsLawful, pipe_at, cleared, is_ready};
-ghost use Rattle.usb_xhc.specs.Serving.{offset_by, packet_room, working};
+ghost use Rattle.usb_xhc.specs.Transaction.{offset_by, packet_room, working};
 ghost use Rattle.usb_xhc.specs.Slots.{context_of, serving, sends, slot_after, events_after, read_after, changed, order_code, order_events, renewed, slot_renewed};
-ghost use Rattle.usb_xhc.specs.Making.{slot_for};
+ghost use Rattle.usb_xhc.specs.Made.{slot_for};
 ghost use Rattle.std.specs.Option.{option_copied};
 ghost use Rattle.usb_tring.specs.Line.{capacity, normals, used};
-ghost use Rattle.usb_xhc.specs.Commanding.{carried};
-ghost use Rattle.usb_xhc.specs.Hosting.{rung, with_ring, with_pushed, with_blank, without_first};
-ghost use Rattle.usb_xhc.specs.Posting.{posted_all};
+ghost use Rattle.usb_xhc.specs.Commands.{carried};
+ghost use Rattle.usb_xhc.specs.Host.{rung, with_ring, with_pushed, with_blank, without_first};
+ghost use Rattle.usb_xhc.specs.Posts.{posted_all};
 
-use crate::making::make_contexts;
-use crate::renewing::{renew_contexts, rewind};
+use crate::renewal::{renew_contexts, rewind};
+use crate::rings::make_contexts;
 use crate::{ENDPOINT_NOT_ENABLED_ERROR, EndpointContext, Packet};
 use std::alloc::Global;
 use std::marker::Model;

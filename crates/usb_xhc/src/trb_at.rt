@@ -1,7 +1,7 @@
 //! A TRB of a transfer ring.
 
 ghost use Rattle.std.specs.Prelude.{◌≡◌, ◌≤◌};
-ghost use Rattle.usb_xhc.specs.Reading.{placed};
+ghost use Rattle.usb_xhc.specs.NormalTrbs.{placed};
 
 use usb_trb::{Normal, Pointer};
 

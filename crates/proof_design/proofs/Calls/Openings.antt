@@ -11,10 +11,10 @@ use Rattle.usb_model.specs.Machine.Calls.{close_effect, open_effect}
 use Rattle.usb_model.specs.Machine.Turns.{effect}
 use Rattle.usb_model.specs.Setup.{Setup, is_device}
 use Rattle.usb_model.specs.World.{World, is_blocked, machine_of}
-use Rattle.proof_design.specs.Calling.{are_quiet, close_core, is_open, open_core, rests}
+use Rattle.proof_design.specs.Calls.{are_quiet, close_core, is_open, open_core, rests}
 use Rattle.proof_design.specs.Lively.{IsFine}
 use Rattle.proof_design.specs.Shows.{Core, Shows}
-use Rattle.proof_design.specs.Stepping.{StepsTo}
+use Rattle.proof_design.specs.Steps.{StepsTo}
 use Rattle.proof_design.proofs.Calls.Refusals.{does_steps, unless_steps}
 use Rattle.proof_design.proofs.Calls.Tables.{with_tables}
 use Rattle.proof_design.proofs.Calls.Tests.{same_quiets}

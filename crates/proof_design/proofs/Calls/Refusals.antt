@@ -20,12 +20,12 @@ use Rattle.proof_lemmas.proofs.Handles.Isolation.{gone_stays, turn_free}
 use Rattle.proof_lemmas.proofs.Work.Moves.{SetsNone}
 use Rattle.proof_invariants.proofs.Machines.Deeds.{IsDone, IsRest, only_rests, works}
 use Rattle.proof_invariants.proofs.Machines.Done.{is_done}
-use Rattle.proof_design.specs.Calling.{refuses, rests, unless}
+use Rattle.proof_design.specs.Calls.{refuses, rests, unless}
 use Rattle.proof_design.specs.Lively.{IsFine}
 use Rattle.proof_design.specs.Shows.{Core, Shows}
-use Rattle.proof_design.specs.Stepping.{Stepped, StepsTo}
+use Rattle.proof_design.specs.Steps.{Stepped, StepsTo}
 use Rattle.proof_design.proofs.CallWorks.{IsCall}
-use Rattle.proof_design.proofs.Linking.{all_sound}
+use Rattle.proof_design.proofs.Links.{all_sound}
 use Rattle.proof_design.proofs.Rests.{blocked_steps, rest_steps}
 
 -- a call that only says something leaves the world as it was

@@ -22,10 +22,10 @@ use Rattle.usb_model.specs.Requests.{is_same_kind, is_unsupported, length_of}
 use Rattle.usb_model.specs.Setup.{Setup, is_in, kind_of, packet_size_of}
 use Rattle.usb_model.specs.World.{World, machine_of, owner_of}
 use Rattle.usb_design.specs.Kept.{KeptEndpoint}
-use Rattle.proof_design.specs.Calling.{calls, device_of, is_gone, joins, kept_at, places_at, results_of, submit_core}
+use Rattle.proof_design.specs.Calls.{calls, device_of, is_gone, joins, kept_at, places_at, results_of, submit_core}
 use Rattle.proof_design.specs.Lively.{IsFine}
 use Rattle.proof_design.specs.Shows.{Core, Shows}
-use Rattle.proof_design.specs.Stepping.{StepsTo}
+use Rattle.proof_design.specs.Steps.{StepsTo}
 use Rattle.proof_design.proofs.Calls.Refusals.{refused_steps, unless_steps}
 use Rattle.proof_design.proofs.Calls.Tables.{with_tables}
 use Rattle.proof_design.proofs.Calls.Tests.{AreSeen, are_seen, same_length, seen, unseen}

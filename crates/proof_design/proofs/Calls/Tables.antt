@@ -3,9 +3,9 @@ use Rattle.std.proofs.Common.{subst, sym, ◌≡◌}
 use Rattle.usb_model.specs.declared.step.Step.{Step}
 use Rattle.usb_model.specs.Setup.{Setup}
 use Rattle.usb_model.specs.World.{World}
-use Rattle.proof_design.specs.Calling.{step_core}
+use Rattle.proof_design.specs.Calls.{step_core}
 use Rattle.proof_design.specs.Shows.{Core, Shows}
-use Rattle.proof_design.specs.Stepping.{StepsTo}
+use Rattle.proof_design.specs.Steps.{StepsTo}
 
 -- the core with these of the world in the place of its own
 abbrev pub with_tables : World → Core → Core

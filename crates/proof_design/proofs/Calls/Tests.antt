@@ -10,7 +10,7 @@ use Rattle.usb_model.specs.Setup.{Setup, endpoints_of, packet_size_of}
 use Rattle.usb_model.specs.World.{World, holder, is_its, machine_of, own_endpoint}
 use Rattle.proof_lemmas.proofs.Handles.Alone.{is_its-some}
 use Rattle.usb_design.specs.Kept.{KeptEndpoint}
-use Rattle.proof_design.specs.Calling.{are_quiet, device_of, is_quiet, kept_at, own_kept, results_of}
+use Rattle.proof_design.specs.Calls.{are_quiet, device_of, is_quiet, kept_at, own_kept, results_of}
 use Rattle.proof_design.specs.Shows.{Core, Shows}
 use Rattle.proof_design.proofs.Bounds.{as_long}
 use Rattle.proof_design.proofs.Calls.Tables.{with_tables}

@@ -1,12 +1,12 @@
 -- The whole core, every step.
 use Rattle.usb_model.specs.declared.step.Step.TheVariants.{Answer, Cancel, Claim, ClearHalt, Close, Command, Deliver, Expire, Open, Release, Reset, Serve, Submit, Take, Unplug}
 use Rattle.usb_model.specs.Setup.{Setup}
-use Rattle.proof_design.specs.Calling.{StepsWhole, step_core, unplug_core}
+use Rattle.proof_design.specs.Calls.{StepsWhole, step_core, unplug_core}
 use Rattle.proof_design.specs.Lively.{IsFine}
-use Rattle.proof_design.proofs.Calls.Answering.{answer_steps}
-use Rattle.proof_design.proofs.Calls.Asking.{cancel_steps, expire_steps}
-use Rattle.proof_design.proofs.Calls.Claiming.{claim_steps, release_steps, reset_steps}
-use Rattle.proof_design.proofs.Calls.Clearing.{clear_call_steps}
+use Rattle.proof_design.proofs.Calls.Verdicts.{answer_steps}
+use Rattle.proof_design.proofs.Calls.Asks.{cancel_steps, expire_steps}
+use Rattle.proof_design.proofs.Calls.Claims.{claim_steps, release_steps, reset_steps}
+use Rattle.proof_design.proofs.Calls.ClearedHalts.{clear_call_steps}
 use Rattle.proof_design.proofs.Calls.Openings.{close_steps, open_steps}
 use Rattle.proof_design.proofs.Calls.Submissions.{submit_call_steps}
 use Rattle.proof_design.proofs.Calls.Tables.{by_tables}

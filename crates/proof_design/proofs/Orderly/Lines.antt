@@ -9,7 +9,7 @@ use Rattle.usb_model.specs.Endpoint.Deliver.{blanked, is_withdrawn, leads_blank}
 use Rattle.usb_model.specs.Endpoint.{first_waiting, is_blank, is_blank_state, is_transfer, is_waiting, is_waiting_state, past_blanks, past_number, with_first}
 use Rattle.usb_model.specs.Endpoint.Packets.{IsOpenAt, outcome}
 use Rattle.std.specs.List.{AllByRecursion}
-use Rattle.proof_design.specs.Showing.{AllNew, AllOpen, AllUncut, IsOrderly, NewBehind, known_by, new_by, uncut_by}
+use Rattle.proof_design.specs.ShownEndpoint.{AllNew, AllOpen, AllUncut, IsOrderly, NewBehind, known_by, new_by, uncut_by}
 
 -- transfers that are new are so behind the first
 pub behind_new : (xs : List Item) → AllNew xs → NewBehind xs

@@ -20,12 +20,12 @@ use Rattle.usb_model.specs.Direction.{is_of_direction, IsBody}
 use Rattle.usb_model.specs.Endpoint.Serve.{acknowledged, is_stall, next_answer, serve, serve_by, serve_first, serve_gone}
 use Rattle.proof_lemmas.proofs.Shares.Next.{next_there}
 use Rattle.proof_lemmas.proofs.Work.Sound.{first_waits}
-use Rattle.proof_design.specs.Keeping.{grown, outcome_now}
+use Rattle.proof_design.specs.Kept.{grown, outcome_now}
 use Rattle.proof_design.proofs.Tells.{first_new, first_open}
 use Rattle.proof_lemmas.proofs.Shares.OpenShares.{halted_outcome, open_at, open_if}
 use Rattle.usb_model.specs.Coherence.{IsCoherent, IsPhase, ended, move_ran, move_waits, reset_ran, reset_waits, runs, served_events, stop_failed, stop_ran, stop_ran_paused, stop_waits, stop_waits_halted}
 use Rattle.std.proofs.lemmas.Option.{same_Some}
-use Rattle.proof_design.specs.Showing.{IsOrderly, is_past, known_by, uncut_by}
+use Rattle.proof_design.specs.ShownEndpoint.{IsOrderly, is_past, known_by, uncut_by}
 use Rattle.proof_design.proofs.Orderly.Lines.{behind_new, new_served, behind_answered, each_first, OpenItem, UncutItem, opens_from, uncut_from, Fine, fine_of}
 
 -- a running endpoint's errand is no way out

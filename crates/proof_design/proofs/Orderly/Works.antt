@@ -28,7 +28,7 @@ use Rattle.proof_lemmas.proofs.Shares.OpenShares.{open_if, outcome_nothing}
 use Rattle.usb_model.specs.Setup.{Setup}
 use Rattle.usb_model.specs.Coherence.{IsCoherent, IsPhase, served_events}
 use Rattle.proof_design.proofs.Commands.{Ways, ways}
-use Rattle.proof_design.specs.Showing.{AllNew, IsOrderly, NewBehind, is_past, known_by, new_by}
+use Rattle.proof_design.specs.ShownEndpoint.{AllNew, IsOrderly, NewBehind, is_past, known_by, new_by}
 use Rattle.proof_lemmas.proofs.Work.Phases.{halted_if}
 use Rattle.proof_design.proofs.Orderly.Lines.{new_blanks, new_number, behind_number, new_blanked, behind_blanked, led_by_withdrawn, new_push, behind_push, each_map, each_push, OpenItem, UncutItem, opens_from, uncut_from, Fine, fine_of, fine_blanked, fine_blanks, fine_number, led_by_none}
 

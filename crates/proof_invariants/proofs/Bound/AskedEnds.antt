@@ -25,7 +25,7 @@ use Rattle.proof_invariants.proofs.Machines.Done.{is_done}
 use Rattle.proof_invariants.proofs.Bound.Due.{something_waits}
 use Rattle.proof_invariants.proofs.Bound.Steps.{IsDueAt, Opens, StaysDue, ask_opens, due_acts, due_lives}
 use Rattle.proof_invariants.proofs.Bound.Gone.{IsGone, dead_times, gone_elsewhere, gone_from, gone_is_dead, live_behind, live_once, next_from, next_rises}
-use Rattle.proof_invariants.proofs.Bound.Opening.{one_left}
+use Rattle.proof_invariants.proofs.Bound.Opens.{one_left}
 use Rattle.proof_invariants.proofs.Places.Placed.{called_by}
 use Rattle.proof_invariants.proofs.Coherence.Posts.{commands_now, delivers_now}
 use Rattle.proof_invariants.proofs.Places.Runs.{IsKept, kept_at, kept_step}

@@ -30,7 +30,7 @@ use Rattle.proof_invariants.proofs.Bound.Keeps.{due_ask, due_clear, due_submit}
 use Rattle.proof_invariants.proofs.Bound.Delivers.{due_deliver}
 use Rattle.proof_invariants.proofs.Bound.Serves.{due_serve}
 use Rattle.proof_invariants.proofs.Bound.Gone.{live_times}
-use Rattle.proof_invariants.proofs.Bound.Opening.{due_opens}
+use Rattle.proof_invariants.proofs.Bound.Opens.{due_opens}
 use Rattle.proof_invariants.proofs.Places.Placed.{none_idle}
 use Rattle.proof_invariants.proofs.Machines.Well.{fit_at, ask_takes, errands_behind, events_behind, first_news, first_order, nothing_taken, submission_takes}
 use Rattle.proof_invariants.proofs.Coherence.Posts.{commands_now, delivers_now}

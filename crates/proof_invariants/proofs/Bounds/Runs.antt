@@ -27,7 +27,7 @@ use Rattle.usb_model.specs.World.Shared.{past_first}
 use Rattle.usb_model.specs.World.{World, machine_of, new_world, turn, world_from}
 use Rattle.proof_invariants.proofs.Bounds.Items.{KeepsItems, OfItem, OfResult, keeps_work}
 use Rattle.proof_invariants.proofs.Bounds.Paused.{PausesWait, acts_wait}
-use Rattle.proof_invariants.proofs.Bounds.Waiting.{few_waits}
+use Rattle.proof_invariants.proofs.Bounds.Waits.{few_waits}
 use Rattle.proof_invariants.proofs.Calls.{each_without, work_callbacks}
 use Rattle.proof_invariants.proofs.Machines.Acts.{IsNewOrGone, Rests, acts, acts_at, end_set, rests_at, works_elsewhere}
 use Rattle.proof_invariants.proofs.Machines.Deeds.{IsDone, IsRest, IsUnused, IsSubmission, IsWork, again, again_with, anew, asks_it, claims, claims_again, clears, closes, commands, delivers, only_rests, opens, releases, resets, serves, stays, stops, submits, takes, works}

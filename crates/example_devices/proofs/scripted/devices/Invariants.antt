@@ -1,5 +1,5 @@
 use Rattle.std.proofs.Common.{◌≡◌, length}
-use Rattle.proof_core.specs.Making.{setup_of}
+use Rattle.usb_core.specs.Public.{setup_of}
 use Rattle.example_devices.proofs.scripted.devices.Given as goal
 
 abbrev pub invariant-loop-added : goal.invariant-loop-added

@@ -1,9 +1,9 @@
 -- The own part of a run is what the handle sees, and a run of its own steps is what it sees alone.
 use Rattle.std.proofs.Common.{◌∙◌, ap, sym}
 use Rattle.usb_model.specs.World.Journal.{world_run}
-use Rattle.plain_run.specs.Comparing.{own_entries, own_steps}
+use Rattle.plain_run.specs.Part.{own_entries, own_steps}
 use Rattle.proof_lemmas.proofs.Handles.Isolation.{sees_alone}
-use Rattle.plain_run.proofs.Comparing.{entries_are, run_is_alone, runs_as_alone}
+use Rattle.plain_run.proofs.PartSteps.{entries_are, run_is_alone, runs_as_alone}
 use Rattle.plain_run.proofs.comparison.compare.Goals as goal
 
 pub returns-clause-shared : goal.returns-clause-shared

@@ -1,4 +1,4 @@
-use Rattle.proof_core.proofs.Leaving.{finishes}
+use Rattle.proof_core.proofs.Leaves.{finishes}
 use Rattle.proof_core.proofs.laws.finishes.Goals as goal
 
 pub returns : goal.returns

@@ -1,4 +1,4 @@
-use Rattle.proof_core.proofs.Leaving.{leaves}
+use Rattle.proof_core.proofs.Leaves.{leaves}
 use Rattle.proof_core.proofs.laws.leaves.Goals as goal
 
 pub returns : goal.returns

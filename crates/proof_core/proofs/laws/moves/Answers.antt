@@ -1,4 +1,4 @@
-use Rattle.proof_core.proofs.Serving.{moves}
+use Rattle.proof_core.proofs.Serves.{moves}
 use Rattle.proof_core.proofs.laws.moves.Goals as goal
 
 pub returns : goal.returns

@@ -1,4 +1,4 @@
-use Rattle.proof_core.proofs.Starting.{starts}
+use Rattle.proof_core.proofs.Starts.{starts}
 use Rattle.proof_core.proofs.laws.starts.Goals as goal
 
 pub returns : goal.returns

@@ -1,4 +1,4 @@
-use Rattle.proof_core.proofs.Turning.{shows_again, turns}
+use Rattle.proof_core.proofs.Turns.{shows_again, turns}
 use Rattle.proof_core.proofs.laws.turns.Goals as goal
 
 pub returns : goal.returns

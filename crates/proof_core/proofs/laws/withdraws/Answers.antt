@@ -1,4 +1,4 @@
-use Rattle.proof_core.proofs.Leaving.{withdraws}
+use Rattle.proof_core.proofs.Leaves.{withdraws}
 use Rattle.proof_core.proofs.laws.withdraws.Goals as goal
 
 pub returns : goal.returns

@@ -1,4 +1,4 @@
-use Rattle.proof_design.proofs.Running.{fresh_while_running}
+use Rattle.proof_design.proofs.RunningEndpoints.{fresh_while_running}
 use Rattle.proof_design.proofs.laws.fresh_running.Goals as goal
 
 pub returns : goal.returns

@@ -1,4 +1,4 @@
-use Rattle.usb_design.proofs.Standing.{read_back}
+use Rattle.usb_design.proofs.Stands.{read_back}
 use Rattle.proof_design.proofs.laws.reads_back.Goals as goal
 
 pub returns : goal.returns

@@ -1,4 +1,4 @@
-use Rattle.proof_design.proofs.Running.{reads_so_far}
+use Rattle.proof_design.proofs.RunningEndpoints.{reads_so_far}
 use Rattle.proof_design.proofs.laws.reads_so_far.Goals as goal
 
 pub returns : goal.returns

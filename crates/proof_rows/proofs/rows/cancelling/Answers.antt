@@ -1,4 +1,4 @@
-use Rattle.proof_rows.proofs.WorkedRows.Cancelling.{cancel_amid_transfer_holds, cancel_after_served_holds, cancel_in_the_middle_holds, pause_before_the_zero_packet_holds, expire_without_timeout_holds, cancel_then_expire_holds, expire_then_cancel_holds, cancel_amid_move_holds, second_cancel_repeats_nothing_holds, cancel_at_its_bound_holds}
+use Rattle.proof_rows.proofs.WorkedRows.Cancels.{cancel_amid_transfer_holds, cancel_after_served_holds, cancel_in_the_middle_holds, pause_before_the_zero_packet_holds, expire_without_timeout_holds, cancel_then_expire_holds, expire_then_cancel_holds, cancel_amid_move_holds, second_cancel_repeats_nothing_holds, cancel_at_its_bound_holds}
 use Rattle.proof_rows.proofs.rows.cancelling.Goals as goal
 
 pub returns-clause-cancel_amid_transfer : goal.returns-clause-cancel_amid_transfer

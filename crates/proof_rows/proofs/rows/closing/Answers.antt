@@ -1,4 +1,4 @@
-use Rattle.proof_rows.proofs.WorkedRows.Closing.{close_frees_its_interfaces_holds, numbers_go_on_behind_a_close_holds, result_that_waits_is_in_the_way_holds, errand_is_in_the_way_holds, release_looks_at_one_interface_holds, claim_of_what_is_held_holds, reset_ends_a_halt_holds}
+use Rattle.proof_rows.proofs.WorkedRows.Closes.{close_frees_its_interfaces_holds, numbers_go_on_behind_a_close_holds, result_that_waits_is_in_the_way_holds, errand_is_in_the_way_holds, release_looks_at_one_interface_holds, claim_of_what_is_held_holds, reset_ends_a_halt_holds}
 use Rattle.proof_rows.proofs.rows.closing.Goals as goal
 
 pub returns-clause-close_frees_its_interfaces : goal.returns-clause-close_frees_its_interfaces

@@ -1,4 +1,4 @@
-use Rattle.proof_rows.proofs.WorkedRows.Halting.{babble_then_recovery_holds, three_babbles_holds, stall_and_clear_halt_holds, cancel_loses_to_stall_holds, stall_beside_cancel_holds}
+use Rattle.proof_rows.proofs.WorkedRows.Halts.{babble_then_recovery_holds, three_babbles_holds, stall_and_clear_halt_holds, cancel_loses_to_stall_holds, stall_beside_cancel_holds}
 use Rattle.proof_rows.proofs.rows.halting.Goals as goal
 
 pub returns-clause-babble_then_recovery : goal.returns-clause-babble_then_recovery

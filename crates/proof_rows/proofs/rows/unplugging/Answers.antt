@@ -1,4 +1,4 @@
-use Rattle.proof_rows.proofs.WorkedRows.Unplugging.{unplug_amid_transfers_holds, unplug_of_nothing_holds}
+use Rattle.proof_rows.proofs.WorkedRows.Unplugs.{unplug_amid_transfers_holds, unplug_of_nothing_holds}
 use Rattle.proof_rows.proofs.rows.unplugging.Goals as goal
 
 pub returns-clause-unplug_amid_transfers : goal.returns-clause-unplug_amid_transfers

@@ -1,7 +1,7 @@
 -- What was gathered and isn't written yet stands behind what was appended.
 use Rattle.std.proofs.Common.{take}
 use Rattle.usb_model.specs.Text.{lines_text}
-use Rattle.trace_io.specs.Printing.{AppendsAllBut}
+use Rattle.trace_io.specs.Output.{AppendsAllBut}
 use Rattle.trace_io.proofs.print.print.Given as goal
 
 abbrev pub invariant-loop-entry : goal.invariant-loop-entry

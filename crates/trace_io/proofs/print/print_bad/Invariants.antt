@@ -1,5 +1,5 @@
 use Rattle.std.proofs.Common.{map, take}
-use Rattle.trace_io.specs.Printing.{AppendsFindings}
+use Rattle.trace_io.specs.Output.{AppendsFindings}
 use Rattle.trace_io.proofs.print.print_bad.Given as goal
 
 abbrev pub invariant-loop-finding : goal.invariant-loop-finding

@@ -1,5 +1,5 @@
 -- Nothing is written where the line can't be made.
-use Rattle.trace_io.specs.Printing.{counts_line}
+use Rattle.trace_io.specs.Output.{counts_line}
 use Rattle.trace_io.proofs.Beginnings.{none_yet}
 use Rattle.trace_io.proofs.Printed.{on_error}
 use Rattle.trace_io.proofs.print.print_counts.Goals as goal

@@ -1,7 +1,7 @@
 -- The lines, the counts, and how far both came.
 use Rattle.std.proofs.Common.{ℕ, List, map}
 use Rattle.trace_scenario.specs.declared.findings.Finding.{Finding}
-use Rattle.trace_io.specs.Printing.{counts_line}
+use Rattle.trace_io.specs.Output.{counts_line}
 use Rattle.trace_io.proofs.Beginnings.{stays}
 use Rattle.trace_io.proofs.Findings.{counts_begun, findings_begun, report, report_begun}
 use Rattle.trace_io.proofs.print.print_findings.Goals as goal

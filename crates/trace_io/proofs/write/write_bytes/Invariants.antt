@@ -1,5 +1,5 @@
 -- What is gone from the rest was appended.
-use Rattle.trace_io.specs.Printing.{AppendsAllBut}
+use Rattle.trace_io.specs.Output.{AppendsAllBut}
 use Rattle.trace_io.proofs.write.write_bytes.Given as goal
 
 abbrev pub invariant-loop : goal.invariant-loop

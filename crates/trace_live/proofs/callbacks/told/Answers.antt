@@ -1,7 +1,7 @@
 use Rattle.std.proofs.Common.{◌∙◌, List, [], ◌∷◌, ◌++◌, ap, sym, if◌then◌else◌}
 use Rattle.usb_model.specs.declared.entry.Entry.{Entry}
 use Rattle.trace_live.specs.Callbacks.{is_callback}
-use Rattle.trace_live.proofs.Telling.{told_more}
+use Rattle.trace_live.proofs.Reports.{told_more}
 use Rattle.trace_live.proofs.callbacks.told.Goals as goal
 
 pub loop-place-preserved : goal.loop-place-preserved

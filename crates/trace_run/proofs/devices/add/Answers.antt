@@ -2,8 +2,8 @@
 use Rattle.std.proofs.Common.{◌∷◌, [], ◌++◌, ◌∙◌, List, ap, map}
 use Rattle.usb_device.specs.Pipe.{Pipe}
 use Rattle.usb_model.specs.declared.response.Response.{Response}
-use Rattle.proof_core.specs.Making.{setup_of}
-use Rattle.trace_run.proofs.Making.{scripts_of}
+use Rattle.usb_core.specs.Public.{setup_of}
+use Rattle.trace_run.proofs.MadeDevices.{scripts_of}
 use Rattle.trace_run.proofs.devices.add.Goals as goal
 
 pub returns : goal.returns

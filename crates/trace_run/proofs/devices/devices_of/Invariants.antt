@@ -1,6 +1,6 @@
 -- The devices so far.
 use Rattle.std.proofs.Common.{◌≡◌}
-use Rattle.proof_core.specs.Making.{setup_of}
+use Rattle.usb_core.specs.Public.{setup_of}
 use Rattle.trace_run.proofs.devices.devices_of.Given as goal
 
 abbrev pub invariant-loop-device : goal.invariant-loop-device

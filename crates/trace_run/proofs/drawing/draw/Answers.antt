@@ -1,6 +1,6 @@
 -- The run was made for the plan.
 use Rattle.std.proofs.Common.{length, ap, ◌∙◌}
-use Rattle.proof_core.specs.Making.{setup_of}
+use Rattle.usb_core.specs.Public.{setup_of}
 use Rattle.trace_run.proofs.drawing.draw.Goals as goal
 
 pub draw_all-requires-clause-new : goal.draw_all-requires-clause-new

@@ -1,5 +1,7 @@
 -- The plan so far, and what of its text is written, over whichever devices and under whichever rules.
-use Rattle.std.proofs.Common.{List, drop, map}
+use Rattle.std.proofs.Common.{List, map}
+use Rattle.std.specs.Iterator.Adapters.{zip_first, zip_second}
+use Rattle.std.specs.Slice.Iter.{iter_rest}
 use Rattle.std.specs.Vec.Iter.{into_iter_items}
 use Rattle.usb_model.specs.declared.verdict.Rule.{Rule}
 use Rattle.usb_model.specs.Setup.{Setup}
@@ -9,7 +11,7 @@ use Rattle.trace_run.specs.Stepwise.{stepwise_text}
 use Rattle.trace_run.proofs.Lined.{IsStepwise}
 use Rattle.trace_run.proofs.stepwise.print_steps.Given as goal
 
-abbrev pub invariant-loop-at : goal.invariant-loop-at
-invariant-loop-at g l = (setup : Setup) (rules : List Rule) → StartsPlan g.C.Callback.rule setup l.fn.plan rules l.fn.run (into_iter_items l.fn.left) →
-    IsStepwise g.C.Callback.rule setup l.fn.plan (stepwise_text setup l.fn.plan rules (map numbered l.fn.step_lines)) (g.W.Write.contents l.fn.out)
-    l.run l.at (into_iter_items l.left) (drop l.at (map numbered l.fn.step_lines)) l.lines (g.W.Write.contents l.out)
+abbrev pub invariant-loop-piece : goal.invariant-loop-piece
+invariant-loop-piece g l = (setup : Setup) (rules : List Rule) → StartsPlan g.C.Callback.rule setup l.fn.plan rules l.fn.run (into_iter_items l.fn.left) →
+    IsStepwise g.C.Callback.rule setup (stepwise_text setup l.fn.plan rules (map numbered l.fn.step_lines)) (g.W.Write.contents l.fn.out)
+    l.run (into_iter_items (zip_first l.piece-iterator)) (into_iter_items l.left) (map numbered (iter_rest (zip_second l.piece-iterator))) l.lines (g.W.Write.contents l.out)

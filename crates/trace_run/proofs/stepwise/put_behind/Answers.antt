@@ -1,6 +1,6 @@
 -- Of the text a beginning is written.
 use Rattle.std.proofs.Common.{◌++◌, ◌∙◌, subst}
-use Rattle.trace_io.specs.Printing.{AppendsSome}
+use Rattle.trace_io.specs.Output.{AppendsSome}
 use Rattle.trace_io.proofs.Printed.{on_error}
 use Rattle.trace_run.proofs.stepwise.put_behind.Goals as goal
 

@@ -5,12 +5,12 @@ use Rattle.std.proofs.lemmas.Iterator.Splits.{YieldsList-from_slice_split}
 use Rattle.std.proofs.lemmas.Iterator.Consumers.{YieldsList-turn, YieldsList-end}
 use Rattle.trace_scenario.specs.declared.findings.Finding.{Finding}
 use Rattle.trace_scenario.specs.declared.problem.Problem.{Problem}
-use Rattle.trace_scenario.specs.TextReading.{IsJudged}
+use Rattle.trace_scenario.specs.TextResults.{IsJudged}
 use Rattle.trace_scenario.specs.Scenario.{with_text}
 use Rattle.trace_scenario.specs.Counts.{counts_of}
 use Rattle.trace_scenario.specs.Findings.{bad_from, good_from, noted_number}
 use Rattle.trace_scenario.proofs.Scenarios.{counted}
-use Rattle.trace_scenario.proofs.Sifting.{bad-end, good-end, judged_as, noted-more, taken-more}
+use Rattle.trace_scenario.proofs.GoodAndBad.{bad-end, good-end, judged_as, noted-more, taken-more}
 use Rattle.trace_scenario.proofs.findings.check.Goals as goal
 
 pub loop-words-preserved-in-Continue-branch-3 : goal.loop-words-preserved-in-Continue-branch-3

@@ -1,7 +1,7 @@
 use Rattle.std.specs.List.{slice_split}
 use Rattle.std.proofs.Common.{◌==◌}
 use Rattle.trace_scenario.specs.Scenario.{nothing_said}
-use Rattle.trace_scenario.proofs.Sifting.{none_bad, scenario_good, first_bad}
+use Rattle.trace_scenario.proofs.GoodAndBad.{none_bad, scenario_good, first_bad}
 use Rattle.trace_scenario.proofs.laws.bad_lines.Goals as goal
 
 pub returns-clause-none : goal.returns-clause-none

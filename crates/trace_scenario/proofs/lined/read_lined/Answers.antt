@@ -5,7 +5,7 @@ use Rattle.std.proofs.lemmas.List.{length-map, length_push}
 use Rattle.std.proofs.lemmas.Iterator.Splits.{YieldsList-from_slice_split}
 use Rattle.std.proofs.lemmas.Iterator.Consumers.{YieldsList-turn, YieldsList-end}
 use Rattle.trace_scenario.specs.declared.scenario.Scenario.{Scenario}
-use Rattle.trace_scenario.specs.TextReading.{AnswersAs, fault_at}
+use Rattle.trace_scenario.specs.TextResults.{AnswersAs, fault_at}
 use Rattle.trace_scenario.specs.Scenario.{scenario_of, scenario_from, taken_at}
 use Rattle.trace_scenario.specs.StepLines.{numbered, step_lines, step_lines_from}
 use Rattle.trace_scenario.proofs.Runnables.{scenarios_runnable}

@@ -1,6 +1,6 @@
 use Rattle.std.proofs.Common.{ap, sym, ◌∙◌}
 use Rattle.usb_cancel.specs.Settlements.{resumed_at, settled_by}
-use Rattle.usb_cancel.proofs.Settling.{moved, stop_failed, stopped, was_reset}
+use Rattle.usb_cancel.proofs.Settlements.{moved, stop_failed, stopped, was_reset}
 use Rattle.usb_cancel.proofs.ended.settle.Goals as goal
 
 pub returns-in-Stop-clause-endpoint : goal.returns-in-Stop-clause-endpoint

@@ -1,7 +1,7 @@
 -- From one script to the next.
 use Rattle.std.proofs.Common.{◌≡◌, Bool, ◌&&◌, ap, sym, ◌∙◌, ◌+◌, drop, get_or}
 use Rattle.usb_device.specs.Scripts.{are_scripts_from, info_by, is_script}
-use Rattle.usb_device.proofs.Fitting.{scripts-next, scripts-end}
+use Rattle.usb_device.proofs.Fits.{scripts-next, scripts-end}
 use Rattle.usb_device.proofs.scripts.are_scripts.Goals as goal
 use Rattle.usb_device.proofs.scripts.are_scripts.Goals.{After-is_script}
 

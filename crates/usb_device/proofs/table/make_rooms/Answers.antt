@@ -4,7 +4,7 @@ use Rattle.std.specs.List.{range_with_len}
 use Rattle.std.proofs.lemmas.List.FromFn.{map-range_with_len_more}
 use Rattle.usb_device.specs.Scripts.{room_of, rooms_of}
 use Rattle.usb_device.specs.Taken.{Taken}
-use Rattle.usb_device.proofs.Fitting.{acks-few}
+use Rattle.usb_device.proofs.Fits.{acks-few}
 use Rattle.usb_device.proofs.table.make_rooms.Goals as goal
 
 pub new-requires : goal.new-requires

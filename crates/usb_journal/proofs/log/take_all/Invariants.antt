@@ -3,4 +3,4 @@ use Rattle.usb_journal.specs.Seen.{claims_of}
 use Rattle.usb_journal.proofs.log.take_all.Given as goal
 
 abbrev pub invariant-loop-receipt : goal.invariant-loop-receipt
-invariant-loop-receipt g l = (l.keeper.roll ≡ l.initial.keeper.roll) × (l.keeper.log ≡ l.initial.keeper.log) × (l.keeper.taken ≡ claims_of l.yielded)
+invariant-loop-receipt g l = (l.keeper.log ≡ l.initial.keeper.log) × (l.keeper.entries ≡ l.initial.keeper.entries) × (l.keeper.taken ≡ claims_of l.yielded)

@@ -1,5 +1,5 @@
 -- The handle's part of a run, and a run of just these steps.
-use Rattle.proof_core.specs.Making.{setup_of}
+use Rattle.usb_core.specs.Public.{setup_of}
 use Rattle.usb_purge.proofs.Apart.{compared}
 use Rattle.usb_purge.proofs.comparison.alone.Goals as goal
 

@@ -1,5 +1,5 @@
 -- The core that is made shows the new world, and hands back the devices that it shows.
-use Rattle.proof_core.specs.Making.{setup_of}
+use Rattle.usb_core.specs.Public.{setup_of}
 use Rattle.usb_purge.proofs.comparison.amid.Goals as goal
 
 pub returns-clause-part : goal.returns-clause-part

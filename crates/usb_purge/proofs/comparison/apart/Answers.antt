@@ -1,5 +1,5 @@
 -- The core that is made shows the new world.
-use Rattle.proof_core.specs.Making.{setup_of}
+use Rattle.usb_core.specs.Public.{setup_of}
 use Rattle.usb_purge.proofs.Apart.{ran}
 use Rattle.usb_purge.proofs.comparison.apart.Goals as goal
 

@@ -2,7 +2,7 @@
 use Rattle.std.specs.Vec.Iter.{into_iter_items}
 use Rattle.usb_model.specs.Setup.{Setup}
 use Rattle.usb_model.specs.World.{new_world}
-use Rattle.proof_core.specs.State.{ShowsWorld}
+use Rattle.usb_core.specs.Public.{ShowsWorld}
 use Rattle.usb_purge.proofs.Apart.{Again}
 use Rattle.usb_purge.proofs.comparison.make_all_own.Given as goal
 

@@ -1,7 +1,7 @@
 -- The steps so far, over whichever devices.
 use Rattle.usb_model.specs.Setup.{Setup}
 use Rattle.usb_model.specs.World.{new_world}
-use Rattle.proof_core.specs.State.{ShowsWorld}
+use Rattle.usb_core.specs.Public.{ShowsWorld}
 use Rattle.usb_purge.proofs.Apart.{Amid}
 use Rattle.usb_purge.proofs.comparison.share_all.Given as goal
 

@@ -1,4 +1,4 @@
-use Rattle.usb_purge.proofs.Returning.{keeps_callbacks}
+use Rattle.usb_purge.proofs.Returns.{keeps_callbacks}
 use Rattle.usb_purge.proofs.laws.in_callbacks.Goals as goal
 
 pub returns : goal.returns

@@ -1,7 +1,7 @@
 -- The run that is made stands at the plan's beginning.
 use Rattle.std.proofs.Common.{length, ap, ◌∙◌}
 use Rattle.std.specs.Vec.Iter.{into_iter_items}
-use Rattle.proof_core.specs.Making.{setup_of}
+use Rattle.usb_core.specs.Public.{setup_of}
 use Rattle.usb_purge.proofs.OwnPlans.{driven, starts}
 use Rattle.usb_purge.proofs.own_plan.apart.Goals as goal
 

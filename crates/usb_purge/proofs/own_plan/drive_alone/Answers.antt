@@ -3,7 +3,7 @@ use Rattle.std.proofs.Common.{sym, subst}
 use Rattle.std.specs.List.{count_by}
 use Rattle.std.specs.Prelude.{map}
 use Rattle.usb_model.specs.World.Plans.{is_submission}
-use Rattle.proof_core.specs.Making.{setup_of}
+use Rattle.usb_core.specs.Public.{setup_of}
 use Rattle.usb_purge.proofs.Plans.{AreFixed}
 use Rattle.usb_purge.proofs.OwnPlans.{as_many, compared}
 use Rattle.usb_purge.proofs.own_plan.drive_alone.Goals as goal

@@ -4,9 +4,9 @@ use Rattle.usb_purge.proofs.own_plan.share.Goals as goal
 
 pub returns-then-not-own : goal.returns-then-not-own
 returns-then-not-own g c =
-    shares_others g.C.Callback.rule c.args.h c.args.piece.now c.args.callback c.args.run.now c.perform.new.self c.in_ok-performed.performed c.args.part.now c.push.new.self c.is_own-own.result c.in_ok-performed.ensures.performs c.is_own-own.ensures c.if-not-own.true c.in_ok-push.ensures.pushed
+    shares_others g.C.Callback.rule c.args.h c.args.piece.now c.args.callback c.args.run.now c.perform.new.self c.in_ok-performed.performed c.args.part.now c.push.new.self c.is_own-own.result (rw c.in_ok-copy_of.ensures at c.in_ok-performed.ensures.performs) c.is_own-own.ensures c.if-not-own.true c.in_ok-push.ensures.pushed
 
 pub returns : goal.returns
 returns g c =
     shares_own g.C.Callback.rule c.args.h c.args.piece.now c.args.callback c.args.run.now c.perform.new.self c.in_ok-performed.performed c.args.part.now c.push.new.self c.is_own-own.result c.put.new.entries
-    c.in_ok-performed.ensures.performs c.is_own-own.ensures c.if-not-own.false c.in_ok-push.ensures.pushed c.in_ok-put.ensures
+    (rw c.in_ok-copy_of.ensures at c.in_ok-performed.ensures.performs) c.is_own-own.ensures c.if-not-own.false c.in_ok-push.ensures.pushed c.in_ok-put.ensures

@@ -5,7 +5,7 @@ use Rattle.usb_receipts.proofs.seats.check.Goals as goal
 
 pub load-found-requires : goal.load-found-requires
 load-found-requires g c = (
-  c.requires.roll.0,
+  c.requires.log.0,
   search rules,
   λ s h n at lt. (c.args.token.now.me.0, keeps, tt, stays s.homes s.views _ _ h at, (refl, checks s.homes s.views _ _ c.requires.keeper h at)),
 )

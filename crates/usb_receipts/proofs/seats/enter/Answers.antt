@@ -9,8 +9,8 @@ returns-clause-keeper g c = search rules
 pub returns-clause-claim : goal.returns-clause-claim
 returns-clause-claim g c = search rules
 
-pub returns-clause-mark : goal.returns-clause-mark
-returns-clause-mark g c = grind (arith, common_steps)
+pub returns-clause-position : goal.returns-clause-position
+returns-clause-position g c = grind (arith, common_steps)
 
 pub returns-clause-behind : goal.returns-clause-behind
 returns-clause-behind g c = search rules

@@ -1,8 +1,8 @@
 -- One place further each turn, as long as there is a step.
 use Rattle.std.proofs.Common.{◌≡◌, ◌∷◌, [], length, ◌∙◌, ap, arith}
 use Rattle.std.specs.Vec.Iter.{into_iter_items}
-use Rattle.plain_run.specs.Comparing.{own_entries, own_steps}
-use Rattle.plain_run.proofs.Comparing.{all_read, none_left, none_more, place_more}
+use Rattle.plain_run.specs.Part.{own_entries, own_steps}
+use Rattle.plain_run.proofs.PartSteps.{all_read, none_left, none_more, place_more}
 use Rattle.plain_run.proofs.comparison.Part.of.Goals as goal
 
 pub loop-entry-preserved-in-Some-split_first : goal.loop-entry-preserved-in-Some-split_first

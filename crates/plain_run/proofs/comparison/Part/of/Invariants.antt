@@ -1,8 +1,8 @@
 -- What was kept so far, with what is kept of the steps and the entries that are left, is all that is kept.
 use Rattle.std.proofs.Common.{◌≡◌, length}
 use Rattle.std.specs.Vec.Iter.{into_iter_items, into_iter_len}
-use Rattle.plain_run.specs.Comparing.{own_entries, own_steps}
-use Rattle.plain_run.proofs.Comparing.{IsSoFar}
+use Rattle.plain_run.specs.Part.{own_entries, own_steps}
+use Rattle.plain_run.proofs.PartSteps.{IsSoFar}
 use Rattle.plain_run.proofs.comparison.Part.of.Given as goal
 
 abbrev pub invariant-loop-entry : goal.invariant-loop-entry

@@ -1,6 +1,6 @@
 -- A place is kept or left out, by the test.
 use Rattle.std.proofs.Common.{rules, ◌≡◌, ◌++◌, ◌∷◌, [], ◌∙◌, sym, ap}
-use Rattle.plain_run.proofs.Comparing.{place_kept, place_left}
+use Rattle.plain_run.proofs.PartSteps.{place_kept, place_left}
 use Rattle.plain_run.proofs.comparison.Part.take.Goals as goal
 
 pub returns-in_ok-push-2-clause-steps : goal.returns-in_ok-push-2-clause-steps

@@ -1,6 +1,6 @@
 -- What was gathered is a beginning of it with one more line.
 use Rattle.std.proofs.Common.{◌≡◌, ◌++◌, ap, sym, rules}
-use Rattle.trace_io.specs.Printing.{line_text}
+use Rattle.trace_io.specs.Output.{line_text}
 use Rattle.trace_io.proofs.Beginnings.{some_of_front}
 use Rattle.trace_io.proofs.Printed.{on_error}
 use Rattle.trace_io.proofs.lines.Lines.put.Goals as goal

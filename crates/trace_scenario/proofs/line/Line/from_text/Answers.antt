@@ -3,7 +3,7 @@ use Rattle.std.specs.Option.{option_copied}
 use Rattle.std.specs.Result.{result_ok}
 use Rattle.std.proofs.lemmas.Iterator.Splits.{YieldsList-from_str_split}
 use Rattle.std.proofs.lemmas.Iterator.Consumers.{map_from_collect}
-use Rattle.trace_scenario.specs.Reading.{ReadsAs}
+use Rattle.trace_scenario.specs.LineResults.{ReadsAs}
 use Rattle.trace_scenario.specs.Words.{words_of, words_in}
 use Rattle.trace_scenario.specs.Line.{ascii_of}
 use Rattle.trace_scenario.proofs.Texts.{by_words}

@@ -1,7 +1,7 @@
 use Rattle.std.proofs.Common.{◌∙◌, ap, refl}
 use Rattle.usb_model.specs.declared.step.Step.TheVariants.{Answer}
 use Rattle.usb_model.specs.declared.verdict.Verdict.TheVariants.{Again, AgainWith}
-use Rattle.usb_core.proofs.Turning.{answered_turns, as_turn}
+use Rattle.usb_core.proofs.Turns.{answered_turns, as_turn}
 use Rattle.usb_core.proofs.calls.Core.step_answer.Goals as goal
 
 pub returns-in-Stop-clause-turned : goal.returns-in-Stop-clause-turned

@@ -1,10 +1,10 @@
 use Rattle.std.proofs.Common.{◌∙◌, ap, option_map, refl, sym, subst, Some}
 use Rattle.usb_model.specs.declared.step.Step.TheVariants.{Take}
 use Rattle.proof_core.specs.Calls.{called_entry}
-use Rattle.usb_core.proofs.Turning.{as_turn}
+use Rattle.usb_core.proofs.Turns.{as_turn}
 use Rattle.usb_model.specs.declared.entry.Entry.{Entry}
-use Rattle.usb_steps.specs.Taking.{CarriesOut}
-use Rattle.usb_core.specs.Stepping.{GoesOut}
+use Rattle.usb_steps.specs.Results.{CarriesOut}
+use Rattle.usb_core.specs.Steps.{GoesOut}
 use Rattle.usb_core.proofs.calls.Core.step_take.Goals as goal
 
 pub returns-in-Ok-Some-clause-turned : goal.returns-in-Ok-Some-clause-turned

@@ -4,7 +4,7 @@ use Rattle.std.proofs.lemmas.Result.{MatchResult-weaker}
 use Rattle.usb_descriptors.specs.declared.config.Config.{Config}
 use Rattle.usb_model.specs.declared.setup.EndpointInfo.{EndpointInfo}
 use Rattle.usb_descriptors.specs.Table.{faults_beside}
-use Rattle.usb_descriptors.specs.Reading.{nearest_in}
+use Rattle.usb_descriptors.specs.Reader.{nearest_in}
 use Rattle.usb_descriptors.proofs.Steps.{step_passed_over, step_kept, info_in, reads_on}
 use Rattle.usb_descriptors.proofs.reader.Reader.read_endpoint.Goals as goal
 

@@ -7,7 +7,7 @@ use Rattle.usb_descriptors.specs.declared.fault.DescFault.TheVariants.{TooMany}
 use Rattle.usb_descriptors.specs.declared.reader.Section.TheVariants.{Unused, Used}
 use Rattle.usb_descriptors.specs.Pieces.{Piece}
 use Rattle.usb_descriptors.specs.Grammar.{interfaces}
-use Rattle.usb_descriptors.specs.Reading.{HasRead, is_new}
+use Rattle.usb_descriptors.specs.Reader.{HasRead, is_new}
 use Rattle.usb_descriptors.proofs.Steps.{step_unused, step_used, reads_on}
 use Rattle.usb_descriptors.proofs.reader.Reader.read_interface.Goals as goal
 use Rattle.usb_descriptors.proofs.reader.Reader.read_interface.Goals.{After-is_new}

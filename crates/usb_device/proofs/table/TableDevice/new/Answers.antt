@@ -6,8 +6,8 @@ use Rattle.std.proofs.lemmas.List.FromFn.{length-map-range_with_len}
 use Rattle.usb_device.specs.Pipe.{IsLawful, Pipe}
 use Rattle.usb_device.specs.Scripts.{Takes, are_scripts, pipe_by, room_of, rooms_of, script_by}
 use Rattle.usb_device.specs.Taken.{Taken}
-use Rattle.usb_device.proofs.Filling.{IsFilling, all-filled, few-done, filled, left-is, next-room, next-script}
-use Rattle.usb_device.proofs.Fitting.{all-short, lawful}
+use Rattle.usb_device.proofs.Filled.{IsFilling, all-filled, few-done, filled, left-is, next-room, next-script}
+use Rattle.usb_device.proofs.Fits.{all-short, lawful}
 use Rattle.usb_device.proofs.Sizes.{table_takes}
 use Rattle.usb_device.proofs.table.TableDevice.new.Goals as goal
 use Rattle.usb_device.proofs.table.TableDevice.new.Goals.{After-next_script, In-None}

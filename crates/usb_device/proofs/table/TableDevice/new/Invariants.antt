@@ -1,7 +1,7 @@
 -- The endpoints so far, made of the rooms and scripts so far.
 use Rattle.std.proofs.Common.{◌≡◌, vec_capacity}
 use Rattle.std.specs.Vec.Iter.{into_iter_items}
-use Rattle.usb_device.proofs.Filling.{IsFilling}
+use Rattle.usb_device.proofs.Filled.{IsFilling}
 use Rattle.usb_device.proofs.table.TableDevice.new.Given as goal
 
 abbrev pub invariant-loop-room : goal.invariant-loop-room

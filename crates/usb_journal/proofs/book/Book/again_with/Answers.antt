@@ -7,7 +7,7 @@ use Rattle.usb_journal.specs.declared.place.Place.{Place}
 use Rattle.usb_journal.specs.Booked.{answer_entry}
 use Rattle.usb_journal.specs.Timers.{started_again_if}
 use Rattle.usb_journal.proofs.Answers.{again_with_timers, answer_turns, given_back, none_done, payload_comes_back, says_number}
-use Rattle.proof_core.specs.Carrying.{CarriesMore}
+use Rattle.usb_core.specs.Public.{CarriesMore}
 use Rattle.usb_journal.specs.Booked.{Booked}
 use Rattle.usb_journal.proofs.Runs.{entered, same_book, same_place, stands_still}
 use Rattle.usb_journal.proofs.book.Book.again_with.Goals as goal

@@ -1,6 +1,6 @@
-use Rattle.std.proofs.Common.{subst, ◌≡◌}
+use Rattle.std.proofs.Common.{◌≡◌, refl, subst}
 use Rattle.usb_model.specs.declared.step.Step.TheVariants.{Deliver, Take}
-use Rattle.usb_steps.specs.Pending.{does_something}
+use Rattle.usb_core.specs.Public.{does_something}
 use Rattle.usb_journal.specs.Booked.{Booked, IsRun, world_where}
 use Rattle.usb_journal.proofs.book.Book.events.Goals as goal
 
@@ -14,3 +14,6 @@ returns-clause-events g c = (
 
 pub returns-clause-run : goal.returns-clause-run
 returns-clause-run g c = subst (λ (b : Booked g.row.P.Denot). IsRun b.setup b.journal) c.self.view_is c.self.invariant.0.0
+
+pub returns-clause-setup : goal.returns-clause-setup
+returns-clause-setup g c = subst (λ (b : Booked g.row.P.Denot). b.setup ≡ g.L.Naming.setup) c.self.view_is refl

@@ -1,6 +1,6 @@
 use Rattle.std.proofs.Common.{subst, ◌≡◌}
 use Rattle.usb_model.specs.declared.step.Step.TheVariants.{Command}
-use Rattle.usb_steps.specs.Pending.{does_something}
+use Rattle.usb_core.specs.Public.{does_something}
 use Rattle.usb_journal.specs.Booked.{Booked, world_where}
 use Rattle.usb_journal.proofs.book.Book.has_order.Goals as goal
 

@@ -1,6 +1,6 @@
 use Rattle.std.proofs.Common.{◌≡◌, subst, sym}
 use Rattle.usb_model.specs.World.{new_world}
-use Rattle.proof_core.specs.State.{ShowsWorld}
+use Rattle.usb_core.specs.Public.{ShowsWorld}
 use Rattle.usb_journal.specs.Booked.{Replays}
 use Rattle.usb_journal.specs.Timers.{timers_of}
 use Rattle.usb_journal.proofs.Runs.{none_yet}

@@ -1,5 +1,5 @@
-use Rattle.std.proofs.Common.{subst}
-use Rattle.usb_steps.specs.Pending.{IsPending}
+use Rattle.std.proofs.Common.{◌≡◌, refl, subst}
+use Rattle.usb_core.specs.Public.{IsPending}
 use Rattle.usb_journal.specs.Booked.{Booked, IsRun, world_where}
 use Rattle.usb_journal.proofs.book.Book.pending.Goals as goal
 
@@ -10,3 +10,6 @@ returns-clause-pending g c =
 
 pub returns-clause-run : goal.returns-clause-run
 returns-clause-run g c = subst (λ (b : Booked g.row.P.Denot). IsRun b.setup b.journal) c.self.view_is c.self.invariant.0.0
+
+pub returns-clause-setup : goal.returns-clause-setup
+returns-clause-setup g c = subst (λ (b : Booked g.row.P.Denot). b.setup ≡ g.L.Naming.setup) c.self.view_is refl

@@ -1,4 +1,4 @@
-use Rattle.std.proofs.Common.{◌≡◌, ◌∙◌, ap, drop, length, map, max, subst, sym}
+use Rattle.std.proofs.Common.{◌≡◌, ◌∙◌, ap, drop, length, map, max, refl, subst, sym}
 use Rattle.std.specs.List.{filter}
 use Rattle.usb_model.specs.World.Due.{due}
 use Rattle.usb_journal.specs.Booked.{Booked, asked, asks, dated, world_where}
@@ -18,3 +18,6 @@ returns-clause-steps g c =
     (ap (λ l. map asked (drop (length l) c.expire_all.new.log.journal)) (sym c.reserve.ensures.same)
     ∙ (c.expire_all.ensures.steps ∙ (ap (λ l. asks c.args.caller later (expires l)) found ∙ (ap (asks c.args.caller later) (due_by_timers setup journal later i.0.0)
     ∙ ap (λ k. asks c.args.caller k (due setup (dated journal) k)) c.max-later.ensures))))
+
+pub returns-clause-library : goal.returns-clause-library
+returns-clause-library g c = subst (λ (b : Booked g.row.P.Denot). b.setup ≡ g.L.Naming.setup) c.self.view_is refl

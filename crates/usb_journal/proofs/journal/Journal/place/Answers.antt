@@ -1,7 +1,7 @@
 use Rattle.std.proofs.Common.{◌∙◌, ◌<◌, ◌≤◌, Some, ap, arith, length, slice_get}
 use Rattle.usb_journal.specs.declared.place.Place.{Place}
-use Rattle.usb_journal.specs.Keeping.{Journaled, place_of}
-use Rattle.usb_journal.proofs.Keeping.{place_at, place_past, within_item}
+use Rattle.usb_journal.specs.Kept.{Journaled, place_of}
+use Rattle.usb_journal.proofs.KeptPlaces.{place_at, place_past, within_item}
 use Rattle.usb_journal.proofs.journal.Journal.place.Goals as goal
 
 pub place_of-requires : goal.place_of-requires

@@ -1,6 +1,6 @@
 use Rattle.std.proofs.Common.{◌≤◌, arith, length, subst, sym}
-use Rattle.usb_journal.specs.Keeping.{AreWithin}
-use Rattle.usb_journal.proofs.Keeping.{within_item}
+use Rattle.usb_journal.specs.Kept.{AreWithin}
+use Rattle.usb_journal.proofs.KeptPlaces.{within_item}
 use Rattle.usb_journal.proofs.journal.Journal.places.Goals as goal
 
 pub place_of-requires : goal.place_of-requires

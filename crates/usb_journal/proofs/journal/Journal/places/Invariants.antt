@@ -1,5 +1,5 @@
 use Rattle.std.proofs.Common.{◌≡◌, map, take}
-use Rattle.usb_journal.specs.Keeping.{place_of}
+use Rattle.usb_journal.specs.Kept.{place_of}
 use Rattle.usb_journal.proofs.journal.Journal.places.Given as goal
 
 abbrev pub invariant-loop-kept : goal.invariant-loop-kept

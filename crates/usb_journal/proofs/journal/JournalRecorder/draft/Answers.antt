@@ -1,6 +1,6 @@
 use Rattle.std.proofs.Common.{◌∙◌, ◌++◌, ◌≤◌, List, ℕ, ap, arith, length, take}
-use Rattle.usb_journal.specs.Keeping.{Journaled}
-use Rattle.usb_journal.proofs.Keeping.{places_same, used_same}
+use Rattle.usb_journal.specs.Kept.{Journaled}
+use Rattle.usb_journal.proofs.KeptPlaces.{places_same, used_same}
 use Rattle.usb_journal.proofs.journal.JournalRecorder.draft.Goals as goal
 
 pub returns-clause-same : goal.returns-clause-same

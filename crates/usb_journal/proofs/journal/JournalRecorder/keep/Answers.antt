@@ -3,8 +3,8 @@ use Rattle.usb_model.specs.declared.reply.Reply.{Reply}
 use Rattle.usb_model.specs.declared.step.Step.{Step}
 use Rattle.usb_journal.specs.declared.kept.Kept.{Kept}
 use Rattle.usb_journal.specs.declared.place.Place.{Place}
-use Rattle.usb_journal.specs.Keeping.{AreWithin, Journaled, place_of, reply_of, step_of}
-use Rattle.usb_journal.proofs.Keeping.{kept_more, whole, within_more, within_push}
+use Rattle.usb_journal.specs.Kept.{AreWithin, Journaled, place_of, reply_of, step_of}
+use Rattle.usb_journal.proofs.KeptPlaces.{kept_more, whole, within_more, within_push}
 use Rattle.usb_journal.proofs.journal.JournalRecorder.keep.Goals as goal
 
 pub invariant_of-self : goal.invariant_of-self

@@ -7,7 +7,7 @@ returns-clause-found g c = rw c.finish-journal.ensures.journal c.finish-journal.
 pub returns-clause-counted : goal.returns-clause-counted
 returns-clause-counted g c =
     let journal = ap length c.finish-journal.ensures.journal in
-    let all = c.audit.ensures.whole (omega (arith, c.bring.ensures.parts.0, c.bring.ensures.parts.1, c.desk.invariant.2, c.desk.invariant.3, c.if-len-desk.false, c.len.ensures, c.requires.parts)) in (
-      omega (arith, journal, c.desk.invariant.1, c.desk.invariant.4, c.bring.ensures.amount, all),
+    let all = c.audit.ensures.whole (omega (arith, c.bring.ensures.parts.0, c.bring.ensures.parts.1, c.into_spare-spare.ensures.0, c.made-made.ensures, c.if-len-made.false, c.len.ensures, c.requires.parts)) in (
+      omega (arith, journal, c.finish-journal.ensures.total, c.into_spare-spare.ensures.1, c.bring.ensures.amount, all),
       c.finish-journal.ensures.counted ∙ sym journal,
     )

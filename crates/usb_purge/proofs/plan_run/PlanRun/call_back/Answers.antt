@@ -2,7 +2,7 @@
 use Rattle.std.proofs.Common.{◌≡◌, false, ◌∙◌, ap}
 use Rattle.std.specs.Prelude.{if◌then◌else◌}
 use Rattle.usb_model.specs.World.Plans.{needs_stop}
-use Rattle.usb_purge.proofs.Answering.{needs_by, returns_once, returns_twice, takes_back}
+use Rattle.usb_purge.proofs.ToldVerdicts.{needs_by, returns_once, returns_twice, takes_back}
 use Rattle.usb_purge.proofs.plan_run.PlanRun.call_back.Goals as goal
 
 pub answer-requires : goal.answer-requires

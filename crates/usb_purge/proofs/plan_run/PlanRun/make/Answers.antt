@@ -1,14 +1,13 @@
 use Rattle.std.proofs.Common.{sym, subst}
-use Rattle.proof_core.specs.Carrying.{Carries}
-use Rattle.proof_core.specs.Steps.{Turns}
-use Rattle.usb_core.specs.Stepping.{kept_after}
+use Rattle.usb_core.specs.Public.{Carries, TurnsWorld}
+use Rattle.usb_core.specs.Steps.{kept_after}
 use Rattle.usb_purge.proofs.Stages.{comes_out, made}
 use Rattle.usb_purge.proofs.plan_run.PlanRun.make.Goals as goal
 
 pub returns-clause-made : goal.returns-clause-made
 returns-clause-made g c = rw (← c.self.view_is)
     (made g.C.Callback.rule (record { core = c.self.inside.core; running = c.self.inside.running }) c.args.step c.args.callback c.in-Ok.field-0.out c.in-Ok.field-0.entry c.keep.new.self c.requires.no_verdict
-    (subst (λ k. Turns c.self.inside.core c.args.step c.in-Ok.field-0.entry k) (sym c.in_ok-keep.ensures.core) c.in-Ok.ensures.turned)
+    (subst (λ k. TurnsWorld c.self.inside.core c.args.step c.in-Ok.field-0.entry k) (sym c.in_ok-keep.ensures.core) c.in-Ok.ensures.turned)
     (λ kept carried. subst (λ k. Carries (kept_after kept c.args.step c.in-Ok.field-0.entry c.args.callback) k) (sym c.in_ok-keep.ensures.core) (c.in-Ok.ensures.carries kept carried))
     c.requires.submits c.in-Ok.ensures.out c.in-Ok.ensures.goes_out c.in_ok-keep.ensures.runs)
 

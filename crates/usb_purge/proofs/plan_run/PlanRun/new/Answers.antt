@@ -1,4 +1,4 @@
-use Rattle.proof_core.specs.Making.{setup_of}
+use Rattle.usb_core.specs.Public.{setup_of}
 use Rattle.usb_purge.proofs.Stages.{first_shown}
 use Rattle.usb_purge.proofs.plan_run.PlanRun.new.Goals as goal
 

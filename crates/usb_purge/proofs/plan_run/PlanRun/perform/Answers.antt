@@ -1,18 +1,17 @@
 use Rattle.std.proofs.Common.{sym, ap, ◌∙◌}
-use Rattle.usb_model.specs.declared.plan.Plan.TheVariants.{Do}
 use Rattle.usb_purge.specs.PlanRuns.{is_verdict}
-use Rattle.usb_purge.proofs.Answering.{calls_none, step_result}
+use Rattle.usb_purge.proofs.ToldVerdicts.{calls_none, step_result}
 use Rattle.usb_purge.proofs.plan_run.PlanRun.perform.Goals as goal
 
-pub returns-in_ok-clone-in-Do-clause-performs : goal.returns-in_ok-clone-in-Do-clause-performs
-returns-in_ok-clone-in-Do-clause-performs g c = rw (c.in-Do.is, ← c.in_ok-clone-in-Do.ensures.cases)
-    (step_result g.C.Callback.rule c.args.self.now c.make.new.self c.in_ok-clone-in-Do.field-0 c.args.callback c.make.result (ap is_verdict (ap Do c.in_ok-clone-in-Do.ensures.cases ∙ sym c.in-Do.is) ∙ c.requires.no_verdict) c.make.ensures.made c.make.ensures.once)
+pub returns-in-Do-clause-performs : goal.returns-in-Do-clause-performs
+returns-in-Do-clause-performs g c = rw c.in-Do.is
+    (step_result g.C.Callback.rule c.args.self.now c.make.new.self c.in-Do.step c.args.callback c.make.result (ap is_verdict (sym c.in-Do.is) ∙ c.requires.no_verdict) c.make.ensures.made c.make.ensures.once)
 
-pub returns-in_ok-clone-in-Do-clause-called : goal.returns-in_ok-clone-in-Do-clause-called
-returns-in_ok-clone-in-Do-clause-called g c = rw c.in-Do.is (calls_none c.make.result)
+pub returns-in-Do-clause-called : goal.returns-in-Do-clause-called
+returns-in-Do-clause-called g c = rw c.in-Do.is (calls_none c.make.result)
 
-pub returns-in_ok-clone-in-Do-clause-out : goal.returns-in_ok-clone-in-Do-clause-out
-returns-in_ok-clone-in-Do-clause-out g c = rw c.in-Do.is c.make.ensures.out
+pub returns-in-Do-clause-out : goal.returns-in-Do-clause-out
+returns-in-Do-clause-out g c = rw c.in-Do.is c.make.ensures.out
 
 pub returns-in-Return-clause-performs : goal.returns-in-Return-clause-performs
 returns-in-Return-clause-performs g c = rw c.in-Return.is c.return_callback.ensures.performs

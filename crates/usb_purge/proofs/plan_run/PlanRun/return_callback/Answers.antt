@@ -1,7 +1,7 @@
 -- One that is out, or none.
 use Rattle.std.proofs.Common.{refl, sym, ap, ◌∙◌}
 use Rattle.usb_purge.specs.PlanRuns.{running_at}
-use Rattle.usb_purge.proofs.Answering.{call_result, return_result, returns_none, run_result}
+use Rattle.usb_purge.proofs.ToldVerdicts.{call_result, return_result, returns_none, run_result}
 use Rattle.usb_purge.proofs.plan_run.PlanRun.return_callback.Goals as goal
 
 pub returns-in_ok-answer-in-None-clause-performs : goal.returns-in_ok-answer-in-None-clause-performs

@@ -4,20 +4,20 @@ use Rattle.usb_model.specs.declared.reply.Reply.TheVariants.{Number}
 use Rattle.usb_model.specs.declared.result.InCallback.{InCallback}
 use Rattle.usb_model.specs.declared.step.Step.TheVariants.{Answer}
 use Rattle.usb_model.specs.declared.verdict.Verdict.TheVariants.{Again}
-use Rattle.usb_callers.specs.Caller.{Kept as Caller}
-use Rattle.usb_callers.specs.Callers.{callback_at}
+use Rattle.usb_tables.specs.Caller.{Kept as Caller}
+use Rattle.usb_tables.specs.Callers.{callback_at}
 use Rattle.proof_core.specs.Calls.{Stays}
 use Rattle.proof_core.specs.Handles.{says}
 use Rattle.proof_core.specs.State.{IsState, State}
-use Rattle.proof_core.specs.Steps.{Does}
-use Rattle.proof_core.specs.Submitting.{CanStart}
+use Rattle.proof_core.specs.Steps.{DoesCoreStep}
+use Rattle.proof_core.specs.Submissions.{CanStart}
 use Rattle.proof_core.proofs.Again.{again_joins, can_again, number_found, put_back, round_fits}
-use Rattle.proof_core.proofs.Stopping.{Ended}
-use Rattle.usb_steps.specs.Submitting.{AgainIs}
+use Rattle.proof_core.proofs.Stops.{Ended}
+use Rattle.usb_steps.specs.Submissions.{AgainIs}
 use Rattle.usb_steps.proofs.Callbacks.{admits_again, ended_by, refuses_again}
 use Rattle.usb_steps.proofs.Views.{parts}
 use Rattle.usb_steps.proofs.Carried.{callers_follow}
-use Rattle.proof_core.proofs.Carrying.{more_on, still_on}
+use Rattle.proof_core.proofs.Payloads.{more_on, still_on}
 use Rattle.usb_steps.proofs.parts.Parts.again.Goals as goal
 
 pub returns-in-Err-clause-refused : goal.returns-in-Err-clause-refused
@@ -52,7 +52,7 @@ returns-in-Ok-start-clause-accepted g c =
     let ended : Ended old.callers c.remove_callback.new.self c.args.h c.args.n = ended_by old.callers c.reserve_callback.new.self c.remove_callback.new.self c.args.h c.args.n c.remove_callback.result
     c.reserve_callback.ensures.numbers c.reserve_callback.ensures.callbacks c.reserve_callback.ensures.results c.reserve_callback.ensures.counts
     c.remove_callback.ensures.value c.remove_callback.ensures.callbacks c.remove_callback.ensures.counts c.remove_callback.ensures.numbers c.remove_callback.ensures.results in
-    subst (λ (s : State g.row.P.Denot). Does s (Answer c.args.h c.args.n Again) (says c.args.h (Number c.in-Ok-start.k)) c.start.new.self) c.self.view_is
+    subst (λ (s : State g.row.P.Denot). DoesCoreStep s (Answer c.args.h c.args.n Again) (says c.args.h (Number c.in-Ok-start.k)) c.start.new.self) c.self.view_is
     (again_joins old c.start.new.self c.remove_callback.new.self c.args.h c.in-Ok.place.dev c.args.n c.in-Ok-start.k Again c.in-Some.called c.in-Some.called.request c.in-Ok.place.tds found refl ended
     (admits_again old c.args.h c.args.n c.in-Some.called c.in-Ok.place found again) c.in-Ok-start.ensures.started c.in-Ok-start.ensures.number)
 

@@ -4,22 +4,22 @@ use Rattle.usb_model.specs.declared.reply.Reply.TheVariants.{Number}
 use Rattle.usb_model.specs.declared.result.InCallback.{InCallback}
 use Rattle.usb_model.specs.declared.step.Step.TheVariants.{Answer}
 use Rattle.usb_model.specs.declared.verdict.Verdict.TheVariants.{AgainWith}
-use Rattle.usb_callers.specs.Caller.{Kept as Caller}
-use Rattle.usb_callers.specs.Callers.{callback_at}
+use Rattle.usb_tables.specs.Caller.{Kept as Caller}
+use Rattle.usb_tables.specs.Callers.{callback_at}
 use Rattle.proof_core.specs.Calls.{Stays}
 use Rattle.proof_core.specs.Handles.{says}
 use Rattle.proof_core.specs.State.{IsState, State}
-use Rattle.proof_core.specs.Steps.{Does}
-use Rattle.proof_core.specs.Submitting.{CanStart}
+use Rattle.proof_core.specs.Steps.{DoesCoreStep}
+use Rattle.proof_core.specs.Submissions.{CanStart}
 use Rattle.proof_core.proofs.Again.{again_joins, again_none, again_of, again_refused, can_again, number_found, put_back, round_fits}
-use Rattle.proof_core.proofs.Stopping.{Ended}
+use Rattle.proof_core.proofs.Stops.{Ended}
 use Rattle.std.specs.Option.{option_copied, option_map}
 use Rattle.usb_model.specs.declared.request.Body.TheVariants.{Out}
 use Rattle.usb_model.specs.declared.request.Request.{Request}
 use Rattle.usb_steps.proofs.Callbacks.{AdmitsIt, absent, ended_by}
 use Rattle.usb_steps.proofs.Views.{parts}
 use Rattle.usb_steps.proofs.Carried.{callers_follow}
-use Rattle.proof_core.proofs.Carrying.{more_on, still_on}
+use Rattle.proof_core.proofs.Payloads.{more_on, still_on}
 use Rattle.usb_steps.proofs.parts.Parts.again_with.Goals as goal
 
 pub returns-in-None-clause-refused : goal.returns-in-None-clause-refused
@@ -75,7 +75,7 @@ returns-in-Ok-start-clause-accepted g c =
     c.remove_callback.ensures.value c.remove_callback.ensures.callbacks c.remove_callback.ensures.counts c.remove_callback.ensures.numbers c.remove_callback.ensures.results in
     let made : again_of (AgainWith c.args.bytes) c.in-Some-remove_callback.called ≡ Some c.with_bytes-request.result =
     ap (option_map (λ (x : InCallback). record x.request { body = Out c.args.bytes })) (sym found ∙ sym c.callback.ensures ∙ ap option_copied c.in-Some.is) ∙ ap (λ (r : Request). Some r) (sym c.with_bytes-request.ensures) in
-    subst (λ (s : State g.row.P.Denot). Does s (Answer c.args.h c.args.n (AgainWith c.args.bytes)) (says c.args.h (Number c.in-Ok-start.k)) c.start.new.self) c.self.view_is
+    subst (λ (s : State g.row.P.Denot). DoesCoreStep s (Answer c.args.h c.args.n (AgainWith c.args.bytes)) (says c.args.h (Number c.in-Ok-start.k)) c.start.new.self) c.self.view_is
     (again_joins old c.start.new.self c.remove_callback.new.self c.args.h c.in-Ok.place.dev c.args.n c.in-Ok-start.k (AgainWith c.args.bytes) c.in-Some-remove_callback.called c.with_bytes-request.result c.in-Ok.place.tds found made ended admits c.in-Ok-start.ensures.started c.in-Ok-start.ensures.number)
 
 pub returns-in-Err-start-clause-kept : goal.returns-in-Err-start-clause-kept

@@ -1,5 +1,5 @@
 use Rattle.std.proofs.Common.{subst, sym, ap, ◌∙◌, Some, true}
-use Rattle.usb_cancel.specs.Outstanding.{sent_at}
+use Rattle.usb_tables.specs.Outstanding.{sent_at}
 use Rattle.proof_core.specs.Works.{IsHolder}
 use Rattle.proof_core.proofs.Senders.{done_at, stands_sends}
 use Rattle.usb_steps.proofs.parts.Parts.errand_at.Goals as goal

@@ -2,8 +2,8 @@
 use Rattle.std.proofs.Common.{◌≡◌, ℕ, Some, None, [], ap, refl, sym, subst, ◌∙◌, arith, Option}
 use Rattle.std.specs.Prelude.{slice_get, option_copied}
 use Rattle.usb_model.specs.Setup.{endpoints_of}
-use Rattle.usb_claims.specs.Holding.{device_of as device_at}
-use Rattle.proof_design.specs.Calling.{device_of}
+use Rattle.usb_claims.specs.Holders.{device_of as device_at}
+use Rattle.proof_design.specs.Calls.{device_of}
 use Rattle.proof_core.specs.State.{State}
 use Rattle.proof_core.specs.Steps.{InLine}
 use Rattle.proof_core.proofs.Homes.{device_is, endpoints_are, endpoints_none, home_closed, home_nowhere, searched_all, searched_here, searched_on, stands_there}

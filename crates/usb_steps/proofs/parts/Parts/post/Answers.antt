@@ -4,7 +4,7 @@ use Rattle.std.specs.Prelude.{IfSome, option_map, ◌≡◌}
 use Rattle.proof_core.specs.State.{State}
 use Rattle.proof_core.specs.Steps.{CanPost}
 use Rattle.proof_core.specs.Works.{Posts, context_in, order_by}
-use Rattle.proof_core.proofs.Posting.{can_post_blanks, can_post_order, can_post_room, post_is}
+use Rattle.proof_core.proofs.Posts.{can_post_blanks, can_post_order, can_post_room, post_is}
 use Rattle.usb_steps.proofs.Views.{parts}
 use Rattle.usb_steps.proofs.parts.Parts.post.Goals as goal
 

@@ -2,11 +2,11 @@
 use Rattle.std.proofs.Common.{Bool, None, true, ap, sym, subst, ◌∙◌}
 use Rattle.usb_model.specs.declared.reply.Reply.TheVariants.{Done}
 use Rattle.usb_model.specs.declared.step.Step.TheVariants.{Reset}
-use Rattle.usb_claims.specs.Holding.{device_of, others_hold}
+use Rattle.usb_claims.specs.Holders.{device_of, others_hold}
 use Rattle.proof_core.specs.Handles.{AreQuiet, gone_in, says}
 use Rattle.proof_core.specs.State.{State}
-use Rattle.proof_core.specs.Steps.{Does}
-use Rattle.proof_core.proofs.Resetting.{resets_busy, resets_gone, resets_none, resets_now, resets_others}
+use Rattle.proof_core.specs.Steps.{DoesCoreStep}
+use Rattle.proof_core.proofs.Resets.{resets_busy, resets_gone, resets_none, resets_now, resets_others}
 use Rattle.usb_steps.proofs.Views.{parts}
 use Rattle.usb_steps.proofs.parts.Parts.reset.Goals as goal
 
@@ -28,7 +28,7 @@ returns-then-others_hold-clause-done g c = resets_others c.args.self.now c.args.
 pub returns-clause-done : goal.returns-clause-done
 returns-clause-done g c =
     let old : State g.row.P.Denot = parts c.self.inside.claims c.self.inside.controller c.self.inside.flights c.self.inside.callers c.self.inside.outstanding in
-    subst (λ (s : State g.row.P.Denot). Does s (Reset c.args.h) (says c.args.h Done) (record old { controller = c.renew_held.new.controller })) c.self.view_is
+    subst (λ (s : State g.row.P.Denot). DoesCoreStep s (Reset c.args.h) (says c.args.h Done) (record old { controller = c.renew_held.new.controller })) c.self.view_is
     (resets_now old c.args.h c.in-Some.dev c.renew_held.new.controller (sym c.device_of.ensures ∙ c.in-Some.is)
     (ap (λ (s : State g.row.P.Denot). gone_in s.controller c.in-Some.dev) c.self.view_is ∙ sym c.is_gone.ensures ∙ c.if-is_gone.false)
     (subst (λ (s : State g.row.P.Denot). AreQuiet s c.args.h c.in-Some.dev None true) (sym c.self.view_is) (subst (λ (b : Bool). AreQuiet c.args.self.now c.args.h c.in-Some.dev None b) c.if-not-are_quiet.false c.are_quiet.ensures))

@@ -1,6 +1,6 @@
 use Rattle.std.proofs.Common.{sym, ◌∙◌, ap, ◌≡◌, Some, None}
 use Rattle.std.specs.Prelude.{option_copied}
-use Rattle.proof_core.proofs.Posting.{can_post_ring}
+use Rattle.proof_core.proofs.Posts.{can_post_ring}
 use Rattle.proof_core.proofs.Settleable.{resumes_by}
 use Rattle.usb_steps.proofs.parts.Parts.resume.Goals as goal
 

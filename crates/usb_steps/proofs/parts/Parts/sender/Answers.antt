@@ -3,9 +3,9 @@ use Rattle.std.specs.Prelude.{slice_get, option_copied}
 use Rattle.usb_model.specs.Setup.{endpoints_of}
 use Rattle.std.specs.List.{find}
 use Rattle.proof_design.specs.Shows.{Completes}
-use Rattle.proof_design.specs.Stepping.{has_sent}
+use Rattle.proof_design.specs.Steps.{has_sent}
 use Rattle.proof_core.specs.State.{State}
-use Rattle.proof_core.specs.Delivering.{SentIs}
+use Rattle.proof_core.specs.Deliveries.{SentIs}
 use Rattle.proof_core.proofs.Homes.{endpoints_are, endpoints_none, stands_there}
 use Rattle.proof_core.proofs.Senders.{done, done_at, looked_all, looked_here, looked_on, sender_there, settles_of}
 use Rattle.usb_steps.proofs.parts.Parts.sender.Goals as goal

@@ -1,21 +1,21 @@
 -- What joins line and ring is the transfer, as its TRBs.
 use Rattle.std.proofs.Common.{ap, refl, sym, subst, subst₂, ◌∙◌, List}
 use Rattle.usb_model.specs.Setup.{endpoint_id}
-use Rattle.usb_callers.specs.Callers.{number_of}
+use Rattle.usb_tables.specs.Callers.{number_of}
 use Rattle.usb_trb.specs.declared.kind.Normal.{Normal as NormalTrb}
 use Rattle.usb_tring.specs.Line.{normals}
 use Rattle.usb_transfer.specs.declared.transfer.Transfer.{Transfer as InFlight}
 use Rattle.usb_transfer.specs.Trbs.{normals_of}
-use Rattle.usb_xhc.specs.Hosting.{with_pushed, with_ring}
+use Rattle.usb_xhc.specs.Host.{with_pushed, with_ring}
 use Rattle.usb_xhc.specs.Controller.{slot_changed}
 use Rattle.usb_xhc.specs.Slots.{changed}
 use Rattle.proof_core.specs.State.{State}
-use Rattle.proof_core.specs.Submitting.{CanStart}
+use Rattle.proof_core.specs.Submissions.{CanStart}
 use Rattle.proof_core.specs.Works.{IsUnstarted, Starts}
-use Rattle.proof_core.proofs.Starting.{starts}
+use Rattle.proof_core.proofs.Starts.{starts}
 use Rattle.usb_steps.proofs.Views.{parts}
-use Rattle.proof_core.specs.Carrying.{CarriesMore}
-use Rattle.proof_core.proofs.Carrying.{joins_carried}
+use Rattle.proof_core.specs.Payloads.{CarriesMore}
+use Rattle.proof_core.proofs.Payloads.{joins_carried}
 use Rattle.usb_steps.proofs.parts.Parts.start.Goals as goal
 
 pub returns-clause-started : goal.returns-clause-started

@@ -5,12 +5,12 @@ use Rattle.usb_model.specs.declared.reply.Reply.{Reply}
 use Rattle.usb_model.specs.declared.result.InCallback.{InCallback}
 use Rattle.usb_model.specs.declared.step.Step.TheVariants.{Answer}
 use Rattle.usb_model.specs.declared.verdict.Verdict.TheVariants.{Stop}
-use Rattle.usb_callers.specs.Caller.{is_one_of}
-use Rattle.usb_callers.specs.Callers.{callbacks_at}
+use Rattle.usb_tables.specs.Caller.{is_one_of}
+use Rattle.usb_tables.specs.Callers.{callbacks_at}
 use Rattle.proof_core.specs.Handles.{says}
 use Rattle.proof_core.specs.State.{State}
-use Rattle.proof_core.specs.Steps.{Does}
-use Rattle.proof_core.proofs.Stopping.{stop_reply, stops}
+use Rattle.proof_core.specs.Steps.{DoesCoreStep}
+use Rattle.proof_core.proofs.Stops.{stop_reply, stops}
 use Rattle.usb_steps.proofs.Views.{parts}
 use Rattle.usb_steps.proofs.Carried.{callers_follow}
 use Rattle.usb_steps.proofs.parts.Parts.stop.Goals.{in-Some, in-None}
@@ -22,8 +22,8 @@ returns-clause-done g c =
     let new : State g.row.P.Denot = record old { callers = c.remove_callback.new.self } in
     let replied : c.match-remove_callback.result ≡ stop_reply c.remove_callback.result =
     elim c.match-remove_callback.branch [ in-Some w ↦ w.result-is ∙ ap stop_reply (sym w.in-Some.is) | in-None w ↦ w.result-is ∙ ap stop_reply (sym w.in-None.is) ] in
-    subst (λ (s : State g.row.P.Denot). Does s (Answer c.args.h c.args.n Stop) (says c.args.h c.match-remove_callback.result) new) c.self.view_is
-    (subst (λ (r : Reply). Does old (Answer c.args.h c.args.n Stop) (says c.args.h r) new) (sym replied)
+    subst (λ (s : State g.row.P.Denot). DoesCoreStep s (Answer c.args.h c.args.n Stop) (says c.args.h c.match-remove_callback.result) new) c.self.view_is
+    (subst (λ (r : Reply). DoesCoreStep old (Answer c.args.h c.args.n Stop) (says c.args.h r) new) (sym replied)
     (stops old new c.args.h c.args.n c.remove_callback.result refl refl refl refl c.remove_callback.ensures.value (record {
       callbacks = c.remove_callback.ensures.callbacks;
       counts = λ g id.

@@ -4,18 +4,18 @@ use Rattle.std.specs.Prelude.{OnErr, slice_get}
 use Rattle.std.proofs.lemmas.Option.{same_Some}
 use Rattle.usb_model.specs.declared.step.Step.TheVariants.{Take}
 use Rattle.usb_model.specs.Setup.{endpoint_id}
-use Rattle.usb_callers.specs.Callers.{callback_at, results_at}
+use Rattle.usb_tables.specs.Callers.{callback_at, results_at}
 use Rattle.usb_transfer.specs.declared.transfer.Transfer.{Transfer as InFlight}
-use Rattle.usb_flight.specs.Flights.{EndedOf, ended_of}
+use Rattle.usb_tables.specs.Flights.{EndedOf, ended_of}
 use Rattle.proof_core.specs.Calls.{Stays, called_entry, returned_of}
 use Rattle.proof_core.specs.State.{IsState, State, result_of}
-use Rattle.proof_core.specs.Steps.{Does}
-use Rattle.proof_core.proofs.Naming.{stays}
-use Rattle.proof_core.proofs.Taking.{calls_by, can_take, takes_first, takes_none}
+use Rattle.proof_core.specs.Steps.{DoesCoreStep}
+use Rattle.proof_core.proofs.Names.{stays}
+use Rattle.proof_core.proofs.Takes.{calls_by, can_take, takes_first, takes_none}
 use Rattle.usb_steps.proofs.Views.{parts}
 use Rattle.usb_steps.proofs.Carried.{callers_follow, parts_follow}
-use Rattle.proof_core.proofs.Carrying.{follows_take, goes_out}
-use Rattle.proof_core.specs.Carrying.{Carries, StillCarries}
+use Rattle.proof_core.proofs.Payloads.{follows_take, goes_out}
+use Rattle.proof_core.specs.Payloads.{Carries, StillCarries}
 use Rattle.usb_steps.proofs.parts.Parts.take.Goals as goal
 
 -- what holds whatever comes of a call holds where it fails
@@ -64,7 +64,7 @@ returns-clause-taken g c =
     let x : EndedOf (InFlight g.row.P.Denot) = ended_of c.in-Some-take.field-0 in
     let first : slice_get old.flights.ended 0 ≡ Some x = sym c.in-Some-take.ensures.value in
     let name : c.in-Some.first.now.name ≡ x.transfer.name = same_name _ x (c.in-Some.ensures ∙ first) in
-    subst (λ (s : State g.row.P.Denot). Does s Take (called_entry (Some (record (returned_of (result_of x)) { h = c.in-Some.first.now.name; bytes = c.from_vec.result }))) new) c.self.view_is
+    subst (λ (s : State g.row.P.Denot). DoesCoreStep s Take (called_entry (Some (record (returned_of (result_of x)) { h = c.in-Some.first.now.name; bytes = c.from_vec.result }))) new) c.self.view_is
     (takes_first old new x c.in-Some.first.now.name c.from_vec.result first name c.from_vec.ensures refl refl c.take.ensures.lines c.take.ensures.keys refl c.take.ensures.ended
     (calls_by old.callers c.reserve_callback.new.self c.result_taken.new.self c.put_callback.new.self c.in-Some.first.now.name _
     c.reserve_callback.ensures.numbers c.reserve_callback.ensures.callbacks c.reserve_callback.ensures.results c.reserve_callback.ensures.counts

@@ -2,11 +2,11 @@ use Rattle.std.proofs.Common.{◌≡◌, ◌∙◌, ap, ap₂, subst, sym, Some,
 use Rattle.std.proofs.lemmas.Option.{same_Some}
 use Rattle.usb_completion.specs.Events.{read_target}
 use Rattle.usb_completion.specs.declared.target.Target.{Target}
-use Rattle.usb_steps.specs.Tellings.{target_of}
+use Rattle.usb_steps.specs.Reports.{target_of}
 use Rattle.usb_steps.proofs.Readings.{is_told}
 use Rattle.usb_transfer.specs.Tds.{lengths, tds_of}
-use Rattle.usb_flight.specs.Flights.{item_at}
-use Rattle.proof_core.proofs.Telling.{FindsHeld, FindsPlace, at_held, at_place, found_by, no_held}
+use Rattle.usb_tables.specs.Flights.{item_at}
+use Rattle.proof_core.proofs.Reports.{FindsHeld, FindsPlace, at_held, at_place, found_by, no_held}
 use Rattle.usb_steps.proofs.parts.Parts.told.Goals as goal
 
 pub returns-in_err-at : goal.returns-in_err-at

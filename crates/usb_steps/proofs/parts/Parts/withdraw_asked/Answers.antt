@@ -1,11 +1,11 @@
 use Rattle.std.proofs.Common.{sym, subst, subst₂, ◌∙◌, ap, ◌≡◌, ◌+◌, length, suc, arith}
 use Rattle.std.proofs.lemmas.Option.{same_Some}
-use Rattle.usb_flight.specs.Flights.{line_at}
-use Rattle.proof_core.specs.Carrying.{StillCarries}
-use Rattle.proof_core.specs.Delivering.{CanSettle, WithdrawsTo}
+use Rattle.usb_tables.specs.Flights.{line_at}
+use Rattle.proof_core.specs.Payloads.{StillCarries}
+use Rattle.proof_core.specs.Deliveries.{CanSettle, WithdrawsTo}
 use Rattle.proof_core.specs.Works.{Withdraws}
-use Rattle.proof_core.proofs.Carrying.{still_on}
-use Rattle.proof_core.proofs.Withdrawing.{withdraws_all, withdraws_next, withdraws_none}
+use Rattle.proof_core.proofs.Payloads.{still_on}
+use Rattle.proof_core.proofs.Withdrawals.{withdraws_all, withdraws_next, withdraws_none}
 use Rattle.usb_steps.proofs.parts.Parts.withdraw_asked.Goals.{in-Some, in_default}
 use Rattle.usb_steps.proofs.parts.Parts.withdraw_asked.Goals as goal
 

@@ -1,5 +1,5 @@
 use Rattle.std.proofs.Common.{◌≡◌, ◌≤◌, ◌-◌, Some}
-use Rattle.usb_xhc.specs.Serving.{trb_at}
+use Rattle.usb_xhc.specs.Transaction.{trb_at}
 use Rattle.usb_xhc.proofs.context.EndpointContext.count.Given as goal
 
 abbrev pub invariant-loop-next : goal.invariant-loop-next

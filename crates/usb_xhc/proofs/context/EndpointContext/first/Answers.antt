@@ -1,7 +1,7 @@
 use Rattle.std.proofs.Common.{ap, ◌∙◌}
 use Rattle.usb_tring.specs.Line.{ahead_of}
 use Rattle.usb_xhc.specs.Context.{Context}
-use Rattle.usb_xhc.specs.Reading.{placed, seen}
+use Rattle.usb_xhc.specs.NormalTrbs.{placed, seen}
 use Rattle.usb_xhc.proofs.Nexts.{first-read}
 use Rattle.usb_xhc.proofs.context.EndpointContext.first.Goals as goal
 

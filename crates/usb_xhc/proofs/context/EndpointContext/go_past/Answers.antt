@@ -8,7 +8,7 @@ use Rattle.usb_xhc.specs.Ahead.{trbs_ahead, past}
 use Rattle.usb_xhc.specs.Context.{Context, gone_past}
 use Rattle.usb_xhc.proofs.Scans.{few-ahead}
 use Rattle.usb_xhc.proofs.Nexts.{there}
-use Rattle.usb_xhc.proofs.Passing.{contents-moved, past-is}
+use Rattle.usb_xhc.proofs.DequeueParts.{contents-moved, past-is}
 use Rattle.usb_xhc.proofs.context.EndpointContext.go_past.Goals as goal
 
 pub pass-requires : goal.pass-requires

@@ -1,7 +1,7 @@
 use Rattle.std.proofs.Common.{◌≡◌, ◌+◌, arith, ap, ◌∙◌, suc, ℕ}
 use Rattle.usb_tring.specs.Line.{ahead_of}
 use Rattle.usb_xhc.specs.Context.{Context}
-use Rattle.usb_xhc.specs.Reading.{placed, seen}
+use Rattle.usb_xhc.specs.NormalTrbs.{placed, seen}
 use Rattle.usb_xhc.proofs.Nexts.{next-done, next-read}
 use Rattle.usb_xhc.proofs.context.EndpointContext.next.Goals as goal
 

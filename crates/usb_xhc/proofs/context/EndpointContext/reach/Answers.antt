@@ -4,9 +4,9 @@ use Rattle.usb_trb.specs.declared.kind.Normal.{Normal as NormalTrb}
 use Rattle.usb_design.specs.Stands.{total}
 use Rattle.usb_xhc.specs.Ahead.{lengths, goes_on, Reaches}
 use Rattle.usb_xhc.specs.Context.{Context, trbs}
-use Rattle.usb_xhc.specs.Serving.{trb_at}
+use Rattle.usb_xhc.specs.Transaction.{trb_at}
 use Rattle.usb_xhc.proofs.Scans.{drop-at, drop-last, goes_on-goes}
-use Rattle.usb_xhc.proofs.Reaching.{reaches-far, reaches-all}
+use Rattle.usb_xhc.proofs.Extents.{reaches-far, reaches-all}
 use Rattle.usb_xhc.proofs.Nexts.{there, not-there}
 use Rattle.usb_xhc.proofs.context.EndpointContext.reach.Goals as goal
 use Rattle.usb_xhc.proofs.context.EndpointContext.reach.Goals.{then-extra, else-extra, else-loop-sum-test, then-loop-sum-test+in_default}

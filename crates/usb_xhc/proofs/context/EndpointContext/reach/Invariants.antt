@@ -2,7 +2,7 @@ use Rattle.std.proofs.Common.{◌≡◌, ◌≤◌, ◌+◌, ◌-◌, ◌||◌, 
 use Rattle.usb_design.specs.Stands.{total}
 use Rattle.usb_xhc.specs.Ahead.{lengths, goes_on}
 use Rattle.usb_xhc.specs.Context.{trbs}
-use Rattle.usb_xhc.specs.Serving.{trb_at}
+use Rattle.usb_xhc.specs.Transaction.{trb_at}
 use Rattle.usb_xhc.proofs.context.EndpointContext.reach.Given as goal
 
 abbrev pub invariant-loop-sum : goal.invariant-loop-sum

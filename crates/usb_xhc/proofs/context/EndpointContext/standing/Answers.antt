@@ -5,7 +5,7 @@ use Rattle.usb_trb.specs.declared.kind.Normal.{Normal as NormalTrb}
 use Rattle.usb_design.specs.Stands.{stand, total}
 use Rattle.usb_xhc.specs.Ahead.{lengths}
 use Rattle.usb_xhc.specs.Context.{trbs}
-use Rattle.usb_xhc.specs.Serving.{trb_at}
+use Rattle.usb_xhc.specs.Transaction.{trb_at}
 use Rattle.usb_xhc.proofs.Scans.{stand-stops, stand-goes, drop-at, drop-last, on_by}
 use Rattle.usb_xhc.proofs.Nexts.{there, not-there}
 use Rattle.usb_xhc.proofs.context.EndpointContext.standing.Goals as goal

@@ -2,7 +2,7 @@ use Rattle.std.proofs.Common.{◌≡◌, ◌≤◌, ◌-◌, Some, drop, ◌⊎�
 use Rattle.usb_design.specs.Stands.{stand, total}
 use Rattle.usb_xhc.specs.Ahead.{lengths}
 use Rattle.usb_xhc.specs.Context.{trbs, stand_by}
-use Rattle.usb_xhc.specs.Serving.{trb_at}
+use Rattle.usb_xhc.specs.Transaction.{trb_at}
 use Rattle.usb_xhc.proofs.Scans.{on_by}
 use Rattle.usb_xhc.proofs.context.EndpointContext.standing.Given as goal
 

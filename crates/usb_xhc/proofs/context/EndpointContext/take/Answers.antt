@@ -1,8 +1,8 @@
 use Rattle.std.proofs.Common.{◌∙◌, ap, sym, Some, None}
 use Rattle.usb_design.specs.Stands.{Stand}
 use Rattle.usb_xhc.specs.Context.{event_by}
-use Rattle.usb_xhc.specs.Posting.{posted_all, posted_one}
-use Rattle.usb_xhc.specs.Serving.{Served}
+use Rattle.usb_xhc.specs.Posts.{posted_all, posted_one}
+use Rattle.usb_xhc.specs.Transaction.{Served}
 use Rattle.usb_xhc.proofs.Serves.{packet-told, served-moved, served-ended}
 use Rattle.usb_xhc.proofs.context.EndpointContext.take.Goals as goal
 

@@ -1,0 +1,45 @@
+//! A plan from its devices to what its callbacks were told.
+
+ghost use Rattle.std.specs.Prelude.{IfOk, List};
+ghost use Rattle.usb_model.specs.declared.step.Step.{Step};
+ghost use Rattle.usb_core.specs.Public.{setup_of};
+ghost use Rattle.trace_live.specs.Callbacks.{AreCallbacks};
+
+use crate::callbacks::callbacks_of;
+use crate::handles::handles_of;
+use std::alloc::{AllocError, Global};
+use std::sync::Wait;
+use std::thread::Threads;
+use usb_callback::Ruled;
+use usb_core::Setup;
+use usb_device::Device;
+use usb_journal::Journal;
+use usb_live::{Lived, live};
+use usb_model::{Entry, Plan, Rule, Sequence};
+
+/// An error where a handle's thread was refused memory.
+fn are_made(left: Vec<Result<(), AllocError>>) -> Result<(), AllocError> {
+    for made in left {
+        made?;
+    }
+    Ok(())
+}
+
+/// Performs a plan over these devices: each handle that has lines has a thread of its own, which makes them in order, beside the two
+/// workers. What the workers do has no place in it and is passed over: packets, orders, events, results and callbacks that return.
+/// Gives what the callbacks were told, by handle and number. An error where memory is refused, to whichever thread, or a
+/// thread can't be made.
+pub fn perform<D: Device + Send, R: Threads + Wait + Sync>(
+    rt: &R,
+    alloc: Global,
+    setup: Setup<D>,
+    plan: Sequence<Plan>,
+    rules: &[Rule],
+) -> Result<Vec<Entry>, AllocError>
+    ensures { IfOk result (λ lines. (steps : List Step) × AreCallbacks (setup_of setup) steps lines.items) }
+{
+    let handles = handles_of(rt, alloc, plan, rules)?;
+    let Lived { kept, left, .. } = live::<Ruled, D, Journal, _, R>(rt, alloc, setup, handles)?;
+    are_made(left)?;
+    callbacks_of(alloc, kept.places(alloc)?)
+}

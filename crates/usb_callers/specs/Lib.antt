@@ -1,2 +1,0 @@
-pub mod Caller
-pub mod Callers

@@ -1,7 +1,0 @@
--- The run so far.
-use Rattle.proof_core.specs.Making.{setup_of}
-use Rattle.usb_core.proofs.Reached.{Reached}
-use Rattle.usb_core.proofs.running.run.Given as goal
-
-abbrev pub invariant-loop-step : goal.invariant-loop-step
-invariant-loop-step g l = Reached (setup_of l.fn.setup) l.fn.steps l.core l.entries l.step-index

@@ -1,6 +1,0 @@
--- What a submission leaves, accepted or refused.
-use Rattle.std.proofs.Common.{rules}
-use Rattle.usb_core.proofs.stepping.submitted.Goals as goal
-
-pub returns : goal.returns
-returns g c = search rules

@@ -1,0 +1,19 @@
+-- The words of the core that contracts of other crates cite: they take them from here.
+
+-- the definitions' setup of these devices
+pub use Rattle.proof_core.specs.Made.{setup_of}
+-- what a core keeps, and the world that it shows
+pub use Rattle.proof_core.specs.State.{State, ShowsWorld, result_of}
+-- a call is a turn of the world; one that ends a callback, or is refused
+pub use Rattle.proof_core.specs.Steps.{TurnsWorld}
+pub use Rattle.proof_core.specs.Calls.{Stays, called_entry}
+pub use Rattle.usb_steps.specs.declared.submission.Unaccepted.{Unaccepted}
+-- the steps that take memory
+pub use Rattle.usb_steps.specs.Calls.{takes_memory}
+-- what callers keep with their transfers: it stays, one more joins, one goes out
+pub use Rattle.proof_core.specs.Payloads.{Kept, Carries, StillCarries, CarriesMore}
+pub use Rattle.usb_steps.specs.Results.{CarriesOut}
+pub use Rattle.usb_steps.specs.declared.results.Taken.{Taken}
+-- what is to be done next
+pub use Rattle.usb_steps.specs.declared.pending.Pending.{Pending}
+pub use Rattle.usb_steps.specs.Pending.{IsPending, does_something}

@@ -1,0 +1,228 @@
+//! Who is woken when something changed, and when all is at rest.
+
+ghost use Rattle.std.specs.Prelude.{IfSome};
+ghost use Rattle.usb_library.specs.Calls.{HadEvents, WasPending};
+
+use crate::library::Library;
+use crossbeam_utils::sync::Unparker;
+use std::alloc::{AllocError, Global};
+use std::sync::atomic::{AtomicBool, Ordering};
+use std::sync::{Mutex, Wait};
+use usb_core::Pending;
+use usb_device::Device;
+use usb_journal::{Events, Naming, Recorder};
+use usb_model::Reply;
+
+/// A worker, by its part of the work.
+#[derive(Clone, Copy, PartialEq, Eq, Debug)]
+pub enum Part {
+    /// Packets and orders.
+    Controller,
+    /// Events, results and their callbacks.
+    Events,
+}
+
+/// For whom a step may have made work that wasn't there before it.
+#[derive(Clone, Copy, PartialEq, Eq, Debug)]
+pub(crate) enum Work {
+    /// For nobody: a packet that ends no transfer, a result that goes out, a callback that ends.
+    None,
+    /// For one of the workers: a submission for the controller's, a transfer that ended for that of events.
+    Of(Part),
+    /// For either: whatever isn't part of each transfer.
+    Any,
+}
+
+/// For whom a packet made work, by what came of it: a transfer that ended has its event.
+pub(crate) fn of_packet(reply: &Reply) -> Work {
+    match reply {
+        Reply::Ended { .. } => Work::Of(Part::Events),
+        _ => Work::None,
+    }
+}
+
+/// For whom an event made work that was handled: there is an order, or an errand ended and its endpoint runs again.
+pub(crate) fn of_event(reply: &Reply, has_order: bool) -> Work {
+    match reply {
+        Reply::Settled { .. } => Work::Of(Part::Controller),
+        _ if has_order => Work::Of(Part::Controller),
+        _ => Work::None,
+    }
+}
+
+/// Threads that wait for the same. Their lock is their own: whoever holds it takes no other.
+///
+/// As long as nobody waits it isn't taken. Whether somebody does is read after a call's step was made, and is said before
+/// `watch` comes back: so where a call finds nobody, whoever comes to wait looks later than its step, and finds that.
+#[derive(Drop)]
+struct Waiting {
+    any: AtomicBool,
+    unparkers: Mutex<Vec<Unparker>>,
+}
+
+impl Waiting {
+    /// Nobody waits.
+    fn new(alloc: Global) -> Waiting {
+        Waiting {
+            any: AtomicBool::new(false),
+            unparkers: Mutex::new(Vec::new(alloc)),
+        }
+    }
+
+    /// One more.
+    fn add<R: Wait>(&self, rt: &R, unparker: Unparker) -> Result<(), AllocError> {
+        self.unparkers.lock(rt).push(unparker)?;
+        self.any.store(true, Ordering::SeqCst);
+        Ok(())
+    }
+
+    /// All are woken, where there are any.
+    #[inline(always)]
+    fn wake<R: Wait>(&self, rt: &R) {
+        if self.any.load(Ordering::SeqCst) {
+            self.wake_all(rt);
+        }
+    }
+
+    /// All are woken.
+    #[inline(never)]
+    fn wake_all<R: Wait>(&self, rt: &R) {
+        let unparkers = self.unparkers.lock(rt);
+        for unparker in unparkers.iter() {
+            unparker.unpark();
+        }
+    }
+}
+
+/// Those who wait: for any change, or for work of their part.
+///
+/// A worker parks where one look showed nothing of its part. From then on its part has work only by a step that says so
+/// (`Work`), and who made that step unparks it afterwards: so it doesn't wait while there is work for it. It waits for
+/// the end too, which any step may bring: once the workers were asked to stop, each change wakes all.
+#[derive(Drop)]
+pub(crate) struct Watchers {
+    stopping: AtomicBool,
+    all: Waiting,
+    controllers: Waiting,
+    events: Waiting,
+}
+
+impl Watchers {
+    /// Nobody waits, and no worker is asked to stop.
+    pub(crate) fn new(alloc: Global) -> Watchers {
+        Watchers {
+            stopping: AtomicBool::new(false),
+            all: Waiting::new(alloc),
+            controllers: Waiting::new(alloc),
+            events: Waiting::new(alloc),
+        }
+    }
+
+    /// Those of one part.
+    fn of(&self, part: Part) -> &Waiting {
+        match part {
+            Part::Controller => &self.controllers,
+            Part::Events => &self.events,
+        }
+    }
+
+    /// Those are woken who wait for what a step did.
+    #[inline(always)]
+    pub(crate) fn wake<R: Wait>(&self, rt: &R, work: Work) {
+        self.all.wake(rt);
+        if self.stopping.load(Ordering::SeqCst) {
+            self.wake_workers(rt);
+            return;
+        }
+        match work {
+            Work::None => {}
+            Work::Of(part) => self.of(part).wake(rt),
+            Work::Any => self.wake_workers(rt),
+        }
+    }
+
+    /// The workers are woken.
+    fn wake_workers<R: Wait>(&self, rt: &R) {
+        self.controllers.wake(rt);
+        self.events.wake(rt);
+    }
+}
+
+/// Whether nothing is to be done, and no transfer is in its callback.
+fn is_nothing(pending: &Pending) -> bool {
+    let Pending {
+        serve,
+        command,
+        deliver,
+        take,
+        out,
+    } = pending;
+    serve.is_none() && !*command && !*deliver && !*take && !*out
+}
+
+impl<L: Naming, P: Drop, D: Device, J: Recorder> Library<L, P, D, J> {
+    /// What there is to do. Endpoints are looked at in a circle, from behind the one that was served last; from that one on
+    /// where the last look found no packet.
+    pub fn pending<R: Wait>(&self, rt: &R) -> Pending
+        ensures { WasPending L.setup result }
+    {
+        let mut guarded = self.guarded.lock(rt);
+        let pending = guarded.book.pending(guarded.look.after());
+        guarded.look.keep(&pending);
+        pending
+    }
+
+    /// From now on this is unparked after each call that changed something, and when the workers are asked to stop. A
+    /// thread that looks, finds nothing to do, and parks then misses no change: what comes between is a token that lets
+    /// it pass. An error where memory is refused.
+    pub fn watch<R: Wait>(&self, rt: &R, unparker: Unparker) -> Result<(), AllocError> {
+        self.watchers.all.add(rt, unparker)
+    }
+
+    /// The same for a worker, who is unparked only after a call that may have made work of its part, and after each
+    /// change since the workers were asked to stop.
+    pub fn watch_part<R: Wait>(
+        &self,
+        rt: &R,
+        part: Part,
+        unparker: Unparker,
+    ) -> Result<(), AllocError> {
+        self.watchers.of(part).add(rt, unparker)
+    }
+
+    /// Asks the workers to end as soon as there is nothing to do.
+    pub fn stop_workers<R: Wait>(&self, rt: &R) {
+        self.watchers.stopping.store(true, Ordering::SeqCst);
+        self.watchers.wake(rt, Work::Any);
+    }
+
+    /// What there is to do; None where the workers were asked to stop and there is nothing. Whether they were asked is
+    /// read first: so a submission before that is seen.
+    pub fn work<R: Wait>(&self, rt: &R) -> Option<Pending>
+        ensures { IfSome result (WasPending L.setup) }
+    {
+        let stopping = self.watchers.stopping.load(Ordering::SeqCst);
+        let pending = self.pending(rt);
+        if stopping && is_nothing(&pending) {
+            return None;
+        }
+        Some(pending)
+    }
+
+    /// What there is to do with events, which is known without a look at the endpoints; None where the workers were asked
+    /// to stop and there is nothing to do at all.
+    pub fn events<R: Wait>(&self, rt: &R) -> Option<Events>
+        ensures { IfSome result (HadEvents L.setup) }
+    {
+        let events = self.guarded.lock(rt).book.events();
+        if events.is_none() && self.watchers.stopping.load(Ordering::SeqCst) && self.rested(rt) {
+            return None;
+        }
+        Some(events)
+    }
+
+    /// Whether workers were asked to stop, and there is nothing to do.
+    pub fn rested<R: Wait>(&self, rt: &R) -> bool {
+        self.work(rt).is_none()
+    }
+}

@@ -1,0 +1,162 @@
+//! A library from its opening to its end.
+
+ghost use Rattle.std.specs.Prelude.{◌≡◌, IfOk};
+ghost use Rattle.usb_core.specs.Public.{setup_of};
+ghost use Rattle.usb_live.specs.Life.{KeepsRun};
+
+use crate::driver::Driver;
+use crate::gates::Gates;
+use crate::seat::{caller_of, seated};
+use crate::threads::{Back, Post, run_all};
+use std::alloc::{AllocError, Global};
+use std::marker::Brand;
+use std::sync::Wait;
+use std::thread::Threads;
+use usb_callback::Callback;
+use usb_core::{Core, Setup};
+use usb_device::Device;
+use usb_journal::{Naming, Recorder};
+use usb_library::{Caller, Library, Opening};
+use usb_workers::{Gate, Open};
+
+/// What a library that lived leaves, and its drivers.
+#[derive(Drop)]
+pub struct Lived<C, D: Device, J, X> {
+    /// What was kept of the journal.
+    pub kept: J,
+    /// How many places the journal has.
+    pub places: u64,
+    /// The core, with its devices.
+    pub core: Core<C, D>,
+    /// What each driver left, in the order of the drivers.
+    pub left: Vec<X>,
+}
+
+/// A library over these devices lives as long as its drivers do, and until all that they left in progress has ended. Each driver has a
+/// thread of its own, and so have the two workers. An error where memory is refused, or a thread can't be made.
+pub fn live<
+    C: Callback + Send,
+    D: Device + Send,
+    J: Recorder + Send,
+    T: Driver<C> + Drop + Send,
+    R: Threads + Wait + Sync,
+>(
+    rt: &R,
+    alloc: Global,
+    setup: Setup<D>,
+    drivers: Vec<T>,
+) -> Result<Lived<C, D, J, T::Left>, AllocError>
+where
+    J::Draft: Send,
+    T::Left: Drop + Send,
+    ensures { IfOk result (λ l. KeepsRun J.stands (setup_of setup) l.kept l.places) }
+{
+    live_gated::<C, D, J, Open, T, R>(rt, alloc, setup, Gates::open(), drivers)
+}
+
+/// The same with gates, which the workers pass before each of their acts.
+pub fn live_gated<
+    C: Callback + Send,
+    D: Device + Send,
+    J: Recorder + Send,
+    G: Gate + Drop + Send,
+    T: Driver<C> + Drop + Send,
+    R: Threads + Wait + Sync,
+>(
+    rt: &R,
+    alloc: Global,
+    setup: Setup<D>,
+    gates: Gates<G>,
+    drivers: Vec<T>,
+) -> Result<Lived<C, D, J, T::Left>, AllocError>
+where
+    J::Draft: Send,
+    T::Left: Drop + Send,
+    ensures { IfOk result (λ l. KeepsRun J.stands (setup_of setup) l.kept l.places) }
+{
+    let Ok(opening) = Opening::new(alloc, setup) else {
+        return Err(AllocError);
+    };
+    named::<Brand, C, D, J, G, T, R>(rt, alloc, opening, gates, drivers)
+}
+
+/// The same over what a library is made of, under its name.
+fn named<
+    L: Naming + Send + Sync,
+    C: Callback + Send,
+    D: Device + Send,
+    J: Recorder + Send,
+    G: Gate + Drop + Send,
+    T: Driver<C> + Drop + Send,
+    R: Threads + Wait + Sync,
+>(
+    rt: &R,
+    alloc: Global,
+    opening: Opening<D>,
+    gates: Gates<G>,
+    drivers: Vec<T>,
+) -> Result<Lived<C, D, J, T::Left>, AllocError>
+where
+    J::Draft: Send,
+    T::Left: Drop + Send,
+    requires name { opening.name ≡ L.name }
+    requires parts { (L.parts ≡ 1025) × (opening.parts ≡ L.parts) }
+    requires table { opening.table ≡ L.table }
+    requires setup { opening.setup ≡ L.setup }
+    ensures { IfOk result (λ l. KeepsRun J.stands L.setup l.kept l.places) }
+{
+    let library = Library::<L, C, D, J>::new(alloc, opening)?;
+    let controller = Post {
+        caller: caller_of(rt, &library)?,
+        gate: gates.controller,
+    };
+    let events = Post {
+        caller: caller_of(rt, &library)?,
+        gate: gates.events,
+    };
+    let seats = seated(rt, alloc, &library, drivers)?;
+    let back = run_all(rt, alloc, &library, controller, events, seats)?;
+    ended(alloc, library, back)
+}
+
+/// The library's end, once all its callers are back.
+fn ended<L: Naming, C: Drop, D: Device, J: Recorder, X: Drop>(
+    alloc: Global,
+    library: Library<L, C, D, J>,
+    back: Back<L, X>,
+) -> Result<Lived<C, D, J, X>, AllocError>
+    requires { L.parts ≡ 1025 }
+    ensures { IfOk result (λ l. KeepsRun J.stands L.setup l.kept l.places) }
+{
+    let (callers, left) = apart(alloc, back)?;
+    let Ok(ended) = library.finish(callers, Vec::new(alloc)) else {
+        return Err(AllocError);
+    };
+    Ok(Lived {
+        kept: ended.recorder,
+        places: ended.places,
+        core: ended.core,
+        left,
+    })
+}
+
+/// All callers, and what the drivers left.
+fn apart<L: Naming, X: Drop>(
+    alloc: Global,
+    back: Back<L, X>,
+) -> Result<(Vec<Caller<L>>, Vec<X>), AllocError> {
+    let Back {
+        controller,
+        events,
+        homes,
+    } = back;
+    let mut callers = Vec::new(alloc);
+    let mut left = Vec::with_capacity(alloc, homes.len())?;
+    callers.push(controller)?;
+    callers.push(events)?;
+    for home in homes {
+        callers.push(home.caller)?;
+        left.push(home.left)?;
+    }
+    Ok((callers, left))
+}

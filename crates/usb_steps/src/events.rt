@@ -1,0 +1,135 @@
+//! The oldest event is handled (xHCI 1.2, 4.11.3; libusb 1.0, `libusb_handle_events`).
+
+ghost use Rattle.std.specs.Prelude.{◌≡◌};
+ghost use Rattle.usb_model.specs.Completion.{stopped};
+ghost use Rattle.usb_completion.specs.declared.target.Reading.TheVariants.{Ended, Paused};
+ghost use Rattle.usb_trb.specs.declared.kind.TrbKind.TheVariants.{CommandCompletion, TransferEvent};
+ghost use Rattle.usb_model.specs.declared.step.Step.TheVariants.{Deliver};
+ghost use Rattle.proof_core.specs.Payloads.{StillCarries};
+ghost use Rattle.proof_core.specs.State.{IsState};
+ghost use Rattle.proof_core.specs.Steps.{DoesCoreStep};
+ghost use Rattle.proof_core.specs.Deliveries.{Delivers, IsEvent};
+ghost use Rattle.usb_steps.specs.Reports.{Handles, SomeTold};
+
+use crate::parts::Parts;
+use crate::reports::Report;
+use usb_cancel::next_order;
+use usb_claims::HeldEndpoint;
+use usb_completion::Reading;
+use usb_device::Device;
+use usb_model::{Entry, Reply};
+use usb_tables::Ending;
+use usb_trb::{EndpointId, Pointer, Residual, Slot, TrbKind};
+
+impl<P, D: Device> Parts<P, D> {
+    /// The oldest event is handled. Nobody's and Idle where none waits.
+    pub fn deliver(&mut self) -> Entry
+        requires { IsState self.old }
+        ensures done { DoesCoreStep self.old Deliver result self.new }
+        ensures carries { StillCarries self.old self.new }
+    {
+        match self.controller.take_event() {
+            Some(event) => self.event(event),
+            None => Entry {
+                owner: None,
+                reply: Reply::Idle,
+            },
+        }
+    }
+
+    /// An event that was taken is handled.
+    fn event(&mut self, event: TrbKind) -> Entry
+        requires { IsEvent self.old event }
+        ensures done { Delivers self.old event result self.new }
+        ensures carries { StillCarries self.old self.new }
+    {
+        match event {
+            TrbKind::TransferEvent {
+                pointer,
+                residual,
+                code,
+                slot,
+                id,
+            } => self.transfer_event(pointer, residual, code, slot, id),
+            TrbKind::CommandCompletion {
+                pointer,
+                code,
+                slot,
+            } => self.completion(pointer, code, slot),
+            _ => unreachable!(),
+        }
+    }
+
+    /// A Command Completion Event TRB that was taken is handled: the errand of its order ended.
+    fn completion(&mut self, pointer: Pointer, code: u8, slot: Slot) -> Entry
+        requires { IsEvent self.old (CommandCompletion pointer code slot) }
+        ensures done { Delivers self.old (CommandCompletion pointer code slot) result self.new }
+        ensures carries { StillCarries self.old self.new }
+    {
+        let Some((at, errand)) = self.sender(pointer, slot) else {
+            unreachable!()
+        };
+        let owner = Some(at.name);
+        let reply = self.settle(at, errand, code);
+        Entry { owner, reply }
+    }
+
+    /// A Transfer Event TRB that was taken is handled: its transfer stands, or it ended.
+    fn transfer_event(
+        &mut self,
+        pointer: Pointer,
+        residual: Residual,
+        code: u8,
+        slot: Slot,
+        id: EndpointId,
+    ) -> Entry
+        requires { IsEvent self.old (TransferEvent pointer residual code slot id) }
+        ensures done { Delivers self.old (TransferEvent pointer residual code slot id) result self.new }
+        ensures carries { StillCarries self.old self.new }
+    {
+        let Some(told) = self.told(pointer, residual, code, slot, id) else {
+            unreachable!()
+        };
+        let Report { at, reading, .. } = told;
+        let owner = Some(at.name);
+        let reply = match reading {
+            Reading::Paused { item, actual } => self.transfer_stands(told, item, actual),
+            Reading::Ended {
+                item,
+                status,
+                actual,
+            } => self.transfer_ended(told, item, Ending { status, actual }, code),
+            Reading::Stray => unreachable!(),
+        };
+        Entry { owner, reply }
+    }
+
+    /// A transfer stands: how much of it moved is kept.
+    fn transfer_stands(&mut self, told: Report, item: usize, actual: u32) -> Reply
+        requires told { SomeTold self.old stopped told }
+        requires stands { told.reading ≡ Paused item actual }
+        ensures done { Handles self.old stopped told result self.new }
+        ensures carries { StillCarries self.old self.new }
+    {
+        let Report { at, n, .. } = told;
+        self.flights.pause(at.dev, at.ep, item, actual);
+        Reply::Paused { n }
+    }
+
+    /// A transfer ended. Where its code halted the endpoint, and no errand is outstanding there, Reset is ordered (xHCI
+    /// 1.2, 4.8.3).
+    fn transfer_ended(&mut self, told: Report, item: usize, ending: Ending, code: u8) -> Reply
+        requires told { SomeTold self.old code told }
+        requires ended { told.reading ≡ Ended item ending.status ending.actual }
+        ensures done { Handles self.old code told result self.new }
+        ensures carries { StillCarries self.old self.new }
+    {
+        let Report { at, n, .. } = told;
+        let HeldEndpoint { dev, ep, .. } = at;
+        self.finish(at, item, ending, code);
+        if let Some(errand) = next_order(self.errand(dev, ep), code) {
+            self.post(dev, ep, errand);
+        }
+        Reply::Finished { n }
+    }
+}

@@ -1,0 +1,76 @@
+//! The oldest result goes out to its callback (libusb 1.0, `libusb_transfer_cb_fn`).
+
+ghost use Rattle.std.specs.Prelude.{◌≡◌, IfOk, OnErr, option_map, slice_get};
+ghost use Rattle.usb_model.specs.declared.step.Step.TheVariants.{Take};
+ghost use Rattle.proof_core.specs.Calls.{Stays, called_entry};
+ghost use Rattle.proof_core.specs.Payloads.{Carries, Kept, StillCarries};
+ghost use Rattle.proof_core.specs.State.{IsState};
+ghost use Rattle.proof_core.specs.Steps.{DoesCoreStep};
+ghost use Rattle.usb_steps.specs.Results.{CarriesOut};
+
+use crate::parts::Parts;
+use std::alloc::AllocError;
+use usb_device::Device;
+use usb_model::{Bytes, InCallback, Returned};
+use usb_tables::Ended;
+use usb_transfer::Transfer;
+
+/// A transfer that ended, as it goes out to its callback.
+#[derive(Drop)]
+pub struct Taken<P> {
+    /// What the callback is given.
+    pub returned: Returned,
+    /// What the caller kept with it.
+    pub payload: P,
+}
+
+impl<P, D: Device> Parts<P, D> {
+    /// The transfer that ended first of those that wait goes out to its callback, with the bytes that it read and with what
+    /// was kept with it from its submission on; None where none waits. Nothing changes where memory is refused.
+    pub fn take(&mut self) -> Result<Option<Taken<P>>, AllocError>
+        requires { IsState self.old }
+        ensures taken { IfOk result (λ x. DoesCoreStep self.old Take (called_entry (option_map (λ t. t.returned) x)) self.new) }
+        ensures payload { IfOk result (λ x. option_map (λ t. t.payload) x ≡ option_map (λ y. y.transfer.payload) (slice_get self.old.flights.ended 0)) }
+        ensures refused { OnErr result (Stays self.old self.new) }
+        ensures carries { IfOk result (λ x. (kept : Kept P) → Carries kept self.old → CarriesOut kept x × Carries kept self.new) }
+        ensures still { OnErr result (StillCarries self.old self.new) }
+    {
+        let Some((first, _)) = self.flights.first_ended() else {
+            return Ok(None);
+        };
+        let name = first.name;
+        self.callers.reserve_callback(name)?;
+        let Some(Ended { transfer, ending }) = self.flights.take() else {
+            unreachable!();
+        };
+        let Transfer {
+            n,
+            round,
+            request,
+            bytes,
+            payload,
+            ..
+        } = transfer;
+        let (ep, status) = (request.ep, ending.status);
+        self.callers.result_taken(name, ep);
+        let x = InCallback {
+            n,
+            request,
+            round,
+            status,
+        };
+        self.callers.put_callback(name, x);
+        Ok(Some(Taken {
+            returned: Returned {
+                h: name,
+                n,
+                ep,
+                round,
+                status,
+                actual: ending.actual,
+                bytes: Bytes::from_vec(bytes),
+            },
+            payload,
+        }))
+    }
+}

@@ -1,0 +1,9 @@
+pub mod Counts
+pub mod Names
+pub mod Out
+pub mod Kept
+pub mod Plain
+pub mod Seen
+pub mod Shown
+pub mod Stands
+pub mod Weights
