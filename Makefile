@@ -1,13 +1,15 @@
 # `make run` builds the program unproved, and shows the README's example; `make build` proves it; `make test` is the gate.
 # `make fmt` lays all files out, which the gate asks for; `make bench` prints nanoseconds, `make bench_threads` those of
 # threads; `make wrong_bodies` tries those that the gate leaves out; `make plant` makes definitions wrong, and says what
-# refuses that. `make doc` writes doc/index.html, the public items of all crates with their contracts.
+# refuses that. `make doc` writes doc/index.html, the public items of all crates with their contracts. `make c` builds the core
+# for C, proved, and tries it: bin/libtirnouch_core.a and .so, with c/include/tirnouch_core.h; `make bench_c` measures it. `make c-usb`
+# builds libusb's own interface over it, bin/libusb-1.0.so.0 and .a; `make c-test` tries it, and `make c-abi` compares the header with libusb's.
 
 SCENARIO = rows/cancel_amid_transfer.in
 
 KIT = $(shell dirname $$(dirname $$(readlink -f $$(command -v rt))))
 
-.PHONY: run build test fmt doc bench bench_threads wrong_bodies plant always
+.PHONY: run build test fmt doc bench bench_threads c c-usb c-test c-abi bench-usb bench_c wrong_bodies plant always
 
 run:
 	@tools/program.py try
@@ -22,6 +24,7 @@ test:
 	tools/rows.py check
 	tools/layers.py check
 	tools/pages.py check
+	tools/c_header.py check
 	RT_JOBS=$$(nproc) rt ci
 	@tools/program.py keep
 	@tools/pictures.py check
@@ -45,6 +48,64 @@ bin/bench: always
 	@tools/program.py build check_bench check_load
 	@rustc -O --edition 2021 -C target-cpu=x86-64-v2 bench/main.rs -o $@ \
 		-L native=bin -l static=check_bench -L native=$(KIT)/c -l static=libc_c
+
+C_FLAGS = -std=c11 -O2 -Wall -Wextra -pedantic -fPIC -Ic/include
+
+# One object, of which only the header's names are to be seen.
+bin/libtirnouch_core.a: always
+	@tools/program.py build tirnouch_c
+	@$(CC) $(C_FLAGS) -c c/heap.c -o bin/heap.o
+	@$(LD) -r --whole-archive bin/libtirnouch_c.a --no-whole-archive bin/heap.o -o bin/core.o
+	@objcopy --wildcard --keep-global-symbol='tirnouch_*' bin/core.o
+	@rm -f $@ && $(AR) rcs $@ bin/core.o
+	@rm -f bin/heap.o bin/core.o
+
+bin/libtirnouch_core.so: bin/libtirnouch_core.a
+	@$(CC) -shared -Wl,--version-script=c/core.map -Wl,--whole-archive $< -Wl,--no-whole-archive -o $@
+
+c: bin/libtirnouch_core.a bin/libtirnouch_core.so
+	@$(CC) $(C_FLAGS) c/tests/core.c $< -o bin/core_test
+	@bin/core_test | diff c/tests/core.expected -
+	@echo "the core behind C answers as c/tests/core.expected says"
+
+# libusb's own interface over it: of the library only the headers' names are to be seen.
+USB_OBJECTS = $(patsubst c/usb/%.c,bin/usb/%.o,$(wildcard c/usb/*.c))
+USB_NAMES = libusb_* tirnouch_plug tirnouch_on_control tirnouch_pull tirnouch_show tirnouch_took tirnouch_requests
+
+bin/usb/%.o: c/usb/%.c c/usb/bus.h $(wildcard c/include/*.h)
+	@mkdir -p bin/usb
+	@$(CC) $(C_FLAGS) -D_GNU_SOURCE -c $< -o $@
+
+bin/libusb-1.0.a: $(USB_OBJECTS) bin/libtirnouch_core.a
+	@$(LD) -r $(USB_OBJECTS) --whole-archive bin/libtirnouch_core.a --no-whole-archive -o bin/usb/all.o
+	@objcopy --wildcard $(foreach name,$(USB_NAMES),--keep-global-symbol='$(name)') bin/usb/all.o
+	@rm -f $@ && $(AR) rcs $@ bin/usb/all.o
+
+bin/libusb-1.0.so.0: bin/libusb-1.0.a c/usb.map
+	@$(CC) -shared -Wl,-soname,libusb-1.0.so.0 -Wl,--version-script=c/usb.map -Wl,--whole-archive $< -Wl,--no-whole-archive -pthread -o $@
+	@ln -sf libusb-1.0.so.0 bin/libusb-1.0.so
+
+c-usb: bin/libusb-1.0.a bin/libusb-1.0.so.0
+
+c-test: c c-usb
+	@tools/c_test.py
+
+c-abi: c-usb
+	@tools/c_abi.py --symbols bin/libusb-1.0.so.0
+	@tools/c_abi.py
+
+# Programs of Debian, unchanged, against scripted devices: CLIENTS=DIR names a folder into which packages were unpacked.
+.PHONY: c-clients
+c-clients: c-usb
+	@c/clients/run $(if $(CLIENTS),--root $(CLIENTS))
+
+# Beside libusb's own code over a faked kernel: LIBUSB=FILE names libusb, where it isn't installed.
+bench-usb: bin/libusb-1.0.a
+	@bench/usb/run $(if $(LIBUSB),--libusb $(LIBUSB))
+
+bench_c: bin/libtirnouch_core.a
+	@$(CC) $(C_FLAGS) -D_DEFAULT_SOURCE bench/core.c $< -o bin/bench_core
+	@bin/bench_core
 
 wrong_bodies:
 	tools/wrong_bodies.py try

@@ -48,7 +48,7 @@ def readme_faults():
 def link_faults():
     """Pages, tools and folders that a page names and that aren't there."""
     for page in PAGES:
-        for name in sorted(set(re.findall(r"\b(?:docs|tools|rows|crates)/[\w./]*\w", page.read_text()))):
+        for name in sorted(set(re.findall(r"\b(?:bench|c|docs|tools|rows|crates)/[\w./-]*\w", page.read_text()))):
             if "NAME" not in name and "CRATE" not in name and not (ROOT / name).exists():
                 yield f"{page.relative_to(ROOT)} names {name}, which isn't there"
 

@@ -4,14 +4,8 @@ use std::alloc::{AllocError, Global};
 
 /// A text in which `#` stands for a number.
 pub fn numbered(alloc: Global, text: &str, number: &str) -> Result<String, AllocError> {
-    let mut whole = String::new(alloc);
-    for (at, part) in text.split('#').enumerate() {
-        if at > 0 {
-            whole.push_str(number)?;
-        }
-        whole.push_str(part)?;
-    }
-    Ok(whole)
+    let parts: Vec<&str> = text.split('#').collect(alloc)?;
+    parts.as_slice().join(alloc, number)
 }
 
 /// Whether a text is what a pattern says, in which `*` at its end stands for any that are left.

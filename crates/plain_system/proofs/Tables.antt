@@ -1,72 +1,34 @@
--- Tables of cells, read and written.
-use Rattle.std.proofs.Common.{◌≡◌, ℕ, zero, suc, ◌+◌, ◌*◌, ◌<◌, ◌==◌, nat_lt, Bool, true, false, ◌&&◌, List, [], ◌∷◌, ◌++◌, length, slice_index_or, slice_set, refl, sym, ◌∙◌, arith}
+-- The plain program's tables of cells, read and written.
+use Rattle.std.proofs.Common.{◌≡◌, ℕ, zero, suc, ◌+◌, ◌*◌, ◌<◌, ◌==◌, ◌&&◌, List, [], ◌∷◌, ◌++◌, length, slice_index_or, slice_set, refl}
 use Rattle.std.specs.Prelude.{if◌then◌else◌}
-use Rattle.std.proofs.lemmas.Bool.{ltb-true, lt-ltb, eqb-true, eqb-false}
-use Rattle.std.proofs.lemmas.List.{get_or-set_same, get_or-set_other, get_or_read}
+use Rattle.proof_lemmas.proofs.Cells as cells
 use Rattle.plain_system.specs.Tables.{cell_at}
 
--- a cell within is read where it stands
-pub cell_read : {T : Type 0} (other : T) (cells : List T) (d k : ℕ) → d < 4 → k < 256 → cell_at other cells d k ≡ slice_index_or cells (256 * d + k) other
+-- what is read at a cell's place is the cell, whatever stands for the others
+pub cell_is : {T : Type 0} (other : T) (table : List T) (d k : ℕ) (x : T) → d < 4 → k < 256 → length table ≡ 1024 → x ≡ slice_index_or table (256 * d + k) x → cell_at other table d k ≡ x
 unfolding cell_at
-cell_read other cells d k p q = rw (lt-ltb d 4 p, lt-ltb k 256 q)
-
--- and what is read there is the cell, whatever stands for the others
-pub cell_is : {T : Type 0} (other : T) (cells : List T) (d k : ℕ) (x : T) → d < 4 → k < 256 → length cells ≡ 1024 → x ≡ slice_index_or cells (256 * d + k) x → cell_at other cells d k ≡ x
-cell_is other cells d k x p q len e = cell_read other cells d k p q ∙ sym (get_or_read cells (256 * d + k) x (omega arith) e other)
+cell_is other table d k x p q len e = cells.cell_is other table d k x p q len e
 
 -- a cell that is written changes, and no other
-pub cell_put : {T : Type 0} (other : T) (cells : List T) (v : T) (dev byte d k : ℕ) → dev < 4 → byte < 256 → length cells ≡ 1024
-    → cell_at other (slice_set cells (256 * dev + byte) v) d k ≡ (if (dev == d) && (byte == k) then v else cell_at other cells d k)
+pub cell_put : {T : Type 0} (other : T) (table : List T) (v : T) (dev byte d k : ℕ) → dev < 4 → byte < 256 → length table ≡ 1024
+    → cell_at other (slice_set table (256 * dev + byte) v) d k ≡ (if (dev == d) && (byte == k) then v else cell_at other table d k)
 unfolding cell_at
-cell_put other cells v dev byte d k p q len = by_device (nat_lt d 4) refl
-  where
-    outside : (a b : Bool) → (a ≡ true → b ≡ true → ⊥) → other ≡ (if a && b then v else other)
-    outside true true no_one = absurd (no_one refl refl)
-    outside true false no_one = refl
-    outside false b no_one = refl
-
-    same : (a b : Bool) → (dev == d) ≡ a → (byte == k) ≡ b → k < 256 → slice_index_or (slice_set cells (256 * dev + byte) v) (256 * d + k) other ≡ (if a && b then v else slice_index_or cells (256 * d + k) other)
-    same true true e f r = rw (← eqb-true dev d e, ← eqb-true byte k f) (get_or-set_same cells (256 * dev + byte) v other (omega arith))
-    same true false e f r = let e' = eqb-true dev d e in get_or-set_other cells (256 * dev + byte) (256 * d + k) v other (λ x. eqb-false byte k f (omega arith))
-    same false b e f r = get_or-set_other cells (256 * dev + byte) (256 * d + k) v other (λ x. eqb-false dev d e (omega arith))
-
-    past_byte : byte ≡ k → nat_lt k 256 ≡ false → ⊥
-    past_byte same_byte e = cc (lt-ltb k 256 (omega arith))
-
-    past_device : dev ≡ d → nat_lt d 4 ≡ false → ⊥
-    past_device same_device e = cc (lt-ltb d 4 (omega arith))
-
-    by_byte : (b : Bool) → nat_lt k 256 ≡ b → (if b then slice_index_or (slice_set cells (256 * dev + byte) v) (256 * d + k) other else other) ≡ (if (dev == d) && (byte == k) then v else (if b then slice_index_or cells (256 * d + k) other else other))
-    by_byte true e = same (dev == d) (byte == k) refl refl (ltb-true k 256 e)
-    by_byte false e = outside (dev == d) (byte == k) (λ x y. past_byte (eqb-true byte k y) e)
-
-    by_device : (a : Bool) → nat_lt d 4 ≡ a → (if a && nat_lt k 256 then slice_index_or (slice_set cells (256 * dev + byte) v) (256 * d + k) other else other) ≡ (if (dev == d) && (byte == k) then v else (if a && nat_lt k 256 then slice_index_or cells (256 * d + k) other else other))
-    by_device true e = by_byte (nat_lt k 256) refl
-    by_device false e = outside (dev == d) (byte == k) (λ x y. past_device (eqb-true dev d x) e)
+cell_put other table v dev byte d k p q len = cells.cell_put other table v dev byte d k p q len
 
 -- a list in which each place reads the same has it with one more of these
-pub one_more_same : {T : Type 0} (x : T) (cells : List T) → ((k : ℕ) → slice_index_or cells k x ≡ x) → (k : ℕ) → slice_index_or (cells ++ x ∷ []) k x ≡ x
+pub one_more_same : {T : Type 0} (x : T) (table : List T) → ((k : ℕ) → slice_index_or table k x ≡ x) → (k : ℕ) → slice_index_or (table ++ x ∷ []) k x ≡ x
 one_more_same x [] same zero = refl
 one_more_same x [] same (suc k) = refl
-one_more_same x (y ∷ cells) same zero = same zero
-one_more_same x (y ∷ cells) same (suc k) = one_more_same x cells (λ j. same (suc j)) k
+one_more_same x (y ∷ table) same zero = same zero
+one_more_same x (y ∷ table) same (suc k) = one_more_same x table (λ j. same (suc j)) k
 
 -- cells that are changed alike read changed, where what stands for the others is kept
-pub cells_changed : {T : Type 0} (f : T → T) (other : T) (cells after : List T) → f other ≡ other → ((k : ℕ) → k < 1024 → slice_index_or after k other ≡ f (slice_index_or cells k other))
-    → (d k : ℕ) → cell_at other after d k ≡ f (cell_at other cells d k)
+pub cells_changed : {T : Type 0} (f : T → T) (other : T) (table after : List T) → f other ≡ other → ((k : ℕ) → k < 1024 → slice_index_or after k other ≡ f (slice_index_or table k other))
+    → (d k : ℕ) → cell_at other after d k ≡ f (cell_at other table d k)
 unfolding cell_at
-cells_changed f other cells after kept same d k = by_device (nat_lt d 4) (nat_lt k 256) refl refl
-  where
-    by_device : (a b : Bool) → nat_lt d 4 ≡ a → nat_lt k 256 ≡ b → (if a && b then slice_index_or after (256 * d + k) other else other) ≡ f (if a && b then slice_index_or cells (256 * d + k) other else other)
-    by_device true true p q = same (256 * d + k) (let p' = ltb-true d 4 p in let q' = ltb-true k 256 q in omega arith)
-    by_device true false p q = sym kept
-    by_device false b p q = sym kept
+cells_changed f other table after kept same d k = cells.cells_changed f other table after kept same d k
 
 -- a table whose cells all read the same
-pub cells_same : {T : Type 0} (other : T) (cells : List T) → ((k : ℕ) → slice_index_or cells k other ≡ other) → (d k : ℕ) → cell_at other cells d k ≡ other
+pub cells_same : {T : Type 0} (other : T) (table : List T) → ((k : ℕ) → slice_index_or table k other ≡ other) → (d k : ℕ) → cell_at other table d k ≡ other
 unfolding cell_at
-cells_same other cells same d k = by_test (nat_lt d 4 && nat_lt k 256)
-  where
-    by_test : (b : Bool) → (if b then slice_index_or cells (256 * d + k) other else other) ≡ other
-    by_test true = same (256 * d + k)
-    by_test false = refl
+cells_same other table same d k = cells.cells_same other table same d k

@@ -9,44 +9,16 @@ use Rattle.std.proofs.lemmas.Nat.{div-add-mod'}
 use Rattle.std.proofs.lemmas.Bool.{ltb-false, ltb-true}
 use Rattle.usb_model.specs.declared.errand.Errand.{Errand}
 use Rattle.usb_model.specs.declared.endpoint.Endpoint.{Endpoint}
-use Rattle.usb_model.specs.declared.endpoint.EndpointState.{EndpointState}
-use Rattle.usb_model.specs.declared.item.Item.{Item}
-use Rattle.usb_model.specs.declared.item.ItemState.TheVariants.{Blank, Served, Waiting}
-use Rattle.usb_model.specs.declared.item.ItemState.{ItemState}
 use Rattle.usb_model.specs.declared.news.Event.{Event}
-use Rattle.usb_model.specs.Coherence.{IsCoherent, IsPhase, ended, event_by, move_ran, move_waits, reset_ran, reset_waits, runs, served_events, stop_failed, stop_ran, stop_ran_paused, stop_waits, stop_waits_halted}
+use Rattle.usb_model.specs.Coherence.{IsCoherent, served_events}
+use Rattle.proof_invariants.proofs.Bounds.Waits.{few_behind, few_ends}
 use Rattle.usb_design.specs.Kept.{InRow, KeptTransfer, first_place}
-
--- one order at most, and two events behind the ends
-few_waiting : (s : EndpointState) (er : Option Errand) (os : List Errand) (es tail : List Event) → IsPhase s er os es tail → (length os ≤ 1) × (length tail ≤ 2)
-few_waiting s er os es tail (runs g) = (omega arith, omega arith)
-few_waiting s er os es tail (ended g) = (omega arith, omega arith)
-few_waiting s er os es tail (stop_waits g) = (omega arith, omega arith)
-few_waiting s er os es tail (stop_waits_halted g) = (omega arith, omega arith)
-few_waiting s er os es tail (stop_ran g) = (omega arith, omega arith)
-few_waiting s er os es tail (stop_ran_paused g) = (omega arith, omega arith)
-few_waiting s er os es tail (stop_failed g) = (omega arith, omega arith)
-few_waiting s er os es tail reset_waits = (omega arith, omega arith)
-few_waiting s er os es tail reset_ran = (omega arith, omega arith)
-few_waiting s er os es tail move_waits = (omega arith, omega arith)
-few_waiting s er os es tail move_ran = (omega arith, omega arith)
-
--- an end for each transfer at most
-few_served : (line : List Item) → length (served_events line) ≤ length line
-unfolding served_events
-few_served [] = omega arith
-few_served (x ∷ xs) = by_state x.state (few_served xs)
-  where
-    by_state : (s : ItemState) → length (served_events xs) ≤ length xs → length (event_by x.n s (served_events xs)) ≤ suc (length xs)
-    by_state Waiting le = omega (arith, le)
-    by_state (Served code) le = omega (arith, le)
-    by_state Blank le = omega (arith, le)
 
 -- at most 18 events and 1 order wait for an endpoint of 16 places
 pub few_at_endpoint : (e : Endpoint) (os : List Errand) (ns : List Event) → IsCoherent e os ns → length e.line ≤ 16 → (length os ≤ 1) × (length ns ≤ 18)
 few_at_endpoint e os ns c short =
-    let w = few_waiting e.state e.errand os (served_events e.line) c.tail c.phase in
-    (w.0, omega (arith, ap length c.news, length-append (served_events e.line) c.tail, few_served e.line, w.1, short))
+    let w = few_behind e.state e.errand os (served_events e.line) c.tail c.phase in
+    (w.0, omega (arith, ap length c.news, length-append (served_events e.line) c.tail, few_ends e.line, w.1, short))
 
 -- a list is those that pass a test, and the others
 pub split_length : {A : Type 0} (test : A → Bool) (xs : List A) → length xs ≡ length (filter test xs) + length (filter (λ x. not (test x)) xs)

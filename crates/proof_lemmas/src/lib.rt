@@ -8,5 +8,6 @@
 //! - Handles: what a change does to each name's interfaces and endpoints; a turn of the world is a turn of its
 //!   owner's machine, and nothing to others
 //! - Shares: what an open share is, and what one more answer makes of it
+//! - Cells: a table of 4 devices times 256 cells, read and written
 //! - Work: what each kind of work does to a line, replies and moves; errands and what waits for them
 #![tactic(auto)]

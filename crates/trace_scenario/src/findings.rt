@@ -6,6 +6,7 @@ ghost use Rattle.trace_scenario.specs.Findings.{bad_lines, good_lines};
 
 use crate::Problem;
 use crate::draft::Draft;
+use crate::slip::Slip;
 use std::alloc::{AllocError, Global};
 use std::fmt;
 
@@ -59,6 +60,14 @@ pub struct Findings {
     pub counts: Counts,
 }
 
+/// What is told of a line that has this problem: the slip that it is, if it is one.
+fn told(line: &[u8], problem: Problem) -> Problem {
+    match Slip::of(line, &problem) {
+        Some(slip) => Problem::Slip(slip),
+        None => problem,
+    }
+}
+
 /// Reads a text as `read_scenario` does, but skips each bad line and tells of it. Each line is judged by what the good
 /// ones before it say.
 pub fn check(alloc: Global, text: &[u8]) -> Result<Findings, AllocError>
@@ -71,6 +80,7 @@ pub fn check(alloc: Global, text: &[u8]) -> Result<Findings, AllocError>
     for words in text.split(|byte| *byte == b'\n') {
         line = line.saturating_add(1);
         if let Some(problem) = draft.judge(alloc, words)? {
+            let problem = told(words, problem);
             bad.push(Finding { line, problem })?;
         }
     }

@@ -12,7 +12,8 @@
 //! - `expected.rt`: what a word had to be, in a sentence
 //! - `verb.rt`, `line.rt`: first words; one line
 //! - `script.rt`, `submit.rt`, `step.rt`: the lines of scripts, of submissions, of other pieces of a plan
-//! - `problem.rt`, `fault.rt`: what is wrong with a line, in a sentence; why it isn't taken
+//! - `problem.rt`, `slip.rt`, `fault.rt`: what is wrong with a line, in a sentence; slips of editors and other notations; why it
+//!   isn't taken
 //! - `draft.rt`, `scenario.rt`, `scripted.rt`: what the lines so far say; a scenario; a device of it
 //! - `lined.rt`, specs/StepLines: a scenario with the line of each piece of its plan
 //! - `findings.rt`: the bad lines of a text, and how much the others say
@@ -58,6 +59,7 @@ mod problem;
 mod scenario;
 mod script;
 mod scripted;
+mod slip;
 mod step;
 mod submit;
 mod text_fault;
@@ -73,5 +75,6 @@ pub use prefix::behind;
 pub use problem::{Misplaced, Problem};
 pub use scenario::{Scenario, read_scenario};
 pub use scripted::{ScriptedDevice, into_setups};
+pub use slip::Slip;
 pub use text_fault::TextFault;
 pub use verb::Verb;

@@ -2,6 +2,7 @@
 //! line.
 
 use crate::Expected;
+use crate::slip::Slip;
 use crate::verb::Verb;
 use std::fmt;
 use usb_descriptors::DescFault;
@@ -28,6 +29,8 @@ pub enum Problem {
     Descriptor(DescFault),
     /// The line may not stand here.
     Place(Misplaced),
+    /// It is a slip of an editor or of another notation.
+    Slip(Slip),
 }
 
 /// Why a line of a good form may not stand where it does.
@@ -58,6 +61,7 @@ impl fmt::Display for Problem {
             Problem::Packet => f.write_str("a packet has at most 2048 bytes"),
             Problem::Descriptor(fault) => write!(f, "the descriptor is refused: {fault}"),
             Problem::Place(misplaced) => write!(f, "{misplaced}"),
+            Problem::Slip(slip) => f.write_str(slip.sentence()),
         }
     }
 }

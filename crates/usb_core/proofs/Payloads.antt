@@ -1,14 +1,13 @@
 -- What is kept with transfers, over a call and over a step.
 use Rattle.std.proofs.Common.{◌≡◌, ℕ, Bool, true, false, Option, Some, Result, Ok, Err, IfErr, IfOk, OnErr, sym, ap, subst, ◌∙◌}
 use Rattle.usb_model.specs.declared.entry.Entry.{Entry}
-use Rattle.usb_model.specs.declared.refused.Refused.{Refused}
-use Rattle.usb_model.specs.declared.refused.Refused.TheVariants.{Busy, HeldElsewhere, InvalidParam, NoDevice, NoMem, NotFound, NotSupported}
 use Rattle.usb_model.specs.declared.step.Step.{Step}
 use Rattle.usb_model.specs.Numbers.{takes_payload}
 use Rattle.usb_steps.specs.declared.submission.Unaccepted.{Unaccepted}
 use Rattle.proof_core.specs.Payloads.{Carries, CarriesMore, Kept, StillCarries}
 use Rattle.proof_core.specs.State.{State}
 use Rattle.usb_core.specs.Steps.{answered, kept_after, kept_by, turned_down}
+use Rattle.usb_core.proofs.Turns.{turned_down_err, turned_down_ok}
 
 module _ {P : Type 0} where
   -- a step that takes no payload, by other names for what it is
@@ -26,30 +25,12 @@ module _ {P : Type 0} (old new : State P) (h : ℕ) where
   abbrev After : P → Entry → Type 0
   After payload entry = (kept : Kept P) → Carries kept old → Carries (kept_by kept true entry.owner entry.reply (Some payload)) new
 
-  turned_down_carries : (why : Refused) (payload : P) → StillCarries old new → IfOk (turned_down h why payload) (λ x. After payload x.entry)
-  turned_down_carries InvalidParam payload still = still
-  turned_down_carries NoDevice payload still = still
-  turned_down_carries NotFound payload still = still
-  turned_down_carries Busy payload still = still
-  turned_down_carries HeldElsewhere payload still = still
-  turned_down_carries NoMem payload still = tt
-  turned_down_carries NotSupported payload still = still
-
-  turned_down_still : (why : Refused) (payload : P) → StillCarries old new → OnErr (turned_down h why payload) (StillCarries old new)
-  turned_down_still InvalidParam payload still = tt
-  turned_down_still NoDevice payload still = tt
-  turned_down_still NotFound payload still = tt
-  turned_down_still Busy payload still = tt
-  turned_down_still HeldElsewhere payload still = tt
-  turned_down_still NoMem payload still = still
-  turned_down_still NotSupported payload still = tt
-
   -- what it gave says where it is kept
   pub answered_carries : {G : Type 0} → (payload : P) (r : Result ℕ (Unaccepted G P)) → IfErr r (λ x. x.payload ≡ payload) → IfOk r (λ n. CarriesMore h n payload old new) → OnErr r (StillCarries old new) → IfOk (answered h r) (λ x. After payload x.entry)
   answered_carries payload (Ok n) back more still = more
-  answered_carries payload (Err x) back more still = subst (λ (p : P). IfOk (turned_down h x.why x.payload) (λ y. After p y.entry)) back (turned_down_carries x.why x.payload still)
+  answered_carries payload (Err x) back more still = subst (λ (p : P). IfOk (turned_down h x.why x.payload) (λ y. After p y.entry)) back (turned_down_ok h (After x.payload) x.why x.payload (λ _. still))
 
   -- where it gave nothing, nothing of it changed
   pub answered_still : {G : Type 0} → (r : Result ℕ (Unaccepted G P)) → OnErr r (StillCarries old new) → OnErr (answered h r) (StillCarries old new)
   answered_still (Ok n) still = tt
-  answered_still (Err x) still = turned_down_still x.why x.payload still
+  answered_still (Err x) still = turned_down_err h (StillCarries old new) x.why x.payload still

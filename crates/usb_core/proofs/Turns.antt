@@ -38,38 +38,40 @@ abbrev Other : Refused → Type 0
 Other NoMem = ⊥
 Other why = Unit {0}
 
+module _ {P : Type 0} (h : ℕ) where
+  -- what holds of each refusal but want of memory holds of what was turned down
+  pub turned_down_ok : (Q : Entry → Type 0) (why : Refused) (payload : P) → ((why ≡ NoMem → ⊥) → Q (record { owner = Some h; reply = IsRefused why })) → IfOk (turned_down h why payload) (λ x. Q x.entry)
+  turned_down_ok Q InvalidParam payload it = it (λ is. subst Other is tt)
+  turned_down_ok Q NoDevice payload it = it (λ is. subst Other is tt)
+  turned_down_ok Q NotFound payload it = it (λ is. subst Other is tt)
+  turned_down_ok Q Busy payload it = it (λ is. subst Other is tt)
+  turned_down_ok Q HeldElsewhere payload it = it (λ is. subst Other is tt)
+  turned_down_ok Q NoMem payload it = tt
+  turned_down_ok Q NotSupported payload it = it (λ is. subst Other is tt)
+
+  -- and what holds anyway holds at want of memory
+  pub turned_down_err : (A : Type 0) (why : Refused) (payload : P) → A → OnErr (turned_down h why payload) A
+  turned_down_err A InvalidParam payload it = tt
+  turned_down_err A NoDevice payload it = tt
+  turned_down_err A NotFound payload it = tt
+  turned_down_err A Busy payload it = tt
+  turned_down_err A HeldElsewhere payload it = tt
+  turned_down_err A NoMem payload it = it
+  turned_down_err A NotSupported payload it = tt
+
 module _ {P : Type 0} where
   -- a turn by other names for what it is of
   pub as_turn : (old new other : State P) (step its : Step) (entry told : Entry) → step ≡ its → entry ≡ told → new ≡ other → TurnsWorld old its told other → TurnsWorld old step entry new
   as_turn old new other step its entry told step_is entry_is new_is turn = rw (step_is, entry_is, new_is) turn
 
 module _ {P : Type 0} (old new : State P) (step : Step) (h : ℕ) where
-  -- a refusal is a turn, but for want of memory
-  turned_down_turns : (why : Refused) (payload : P) → ((why ≡ NoMem → ⊥) → TurnsWorld old step (record { owner = Some h; reply = IsRefused why }) new) → IfOk (turned_down h why payload) (λ x. TurnsWorld old step x.entry new)
-  turned_down_turns InvalidParam payload turn = turn (λ is. subst Other is tt)
-  turned_down_turns NoDevice payload turn = turn (λ is. subst Other is tt)
-  turned_down_turns NotFound payload turn = turn (λ is. subst Other is tt)
-  turned_down_turns Busy payload turn = turn (λ is. subst Other is tt)
-  turned_down_turns HeldElsewhere payload turn = turn (λ is. subst Other is tt)
-  turned_down_turns NoMem payload turn = tt
-  turned_down_turns NotSupported payload turn = turn (λ is. subst Other is tt)
-
-  turned_down_stays : (why : Refused) (payload : P) → Stays old new → OnErr (turned_down h why payload) (Stays old new)
-  turned_down_stays InvalidParam payload kept = tt
-  turned_down_stays NoDevice payload kept = tt
-  turned_down_stays NotFound payload kept = tt
-  turned_down_stays Busy payload kept = tt
-  turned_down_stays HeldElsewhere payload kept = tt
-  turned_down_stays NoMem payload kept = kept
-  turned_down_stays NotSupported payload kept = tt
-
   -- what a submission gave is a turn, but for want of memory
   pub answered_turns : {G : Type 0} → (r : Result ℕ (Unaccepted G P)) → IfOk r (λ n. TurnsWorld old step (record { owner = Some h; reply = Number n }) new)
       → IfErr r (λ x. (x.why ≡ NoMem → ⊥) → TurnsWorld old step (record { owner = Some h; reply = IsRefused x.why }) new) → IfOk (answered h r) (λ x. TurnsWorld old step x.entry new)
   answered_turns (Ok n) accepted refused = accepted
-  answered_turns (Err x) accepted refused = turned_down_turns x.why x.payload refused
+  answered_turns (Err x) accepted refused = turned_down_ok h (λ e. TurnsWorld old step e new) x.why x.payload refused
 
   -- where it gave nothing, nothing changed
   pub answered_stays : {G : Type 0} → (r : Result ℕ (Unaccepted G P)) → OnErr r (Stays old new) → OnErr (answered h r) (Stays old new)
   answered_stays (Ok n) kept = tt
-  answered_stays (Err x) kept = turned_down_stays x.why x.payload kept
+  answered_stays (Err x) kept = turned_down_err h (Stays old new) x.why x.payload kept

@@ -27,6 +27,7 @@ impl<T> Model for ByEndpoint<T> {
 }
 
 /// The lane of a device's endpoint.
+#[inline(always)]
 fn lane_of(dev: DeviceNo, ep: EpAddr) -> usize
     ensures value { result ≡ lane_at dev ep }
     ensures below { result < 128 }
@@ -46,6 +47,7 @@ impl<T> ByEndpoint<T> {
     }
 
     /// The value of an endpoint.
+    #[inline(always)]
     pub(crate) fn get(&self, dev: DeviceNo, ep: EpAddr) -> &T
         ensures value { slice_get self.now (lane_at dev ep) ≡ Some result.now }
         ensures whole { length self.now ≡ 128 }
@@ -54,6 +56,7 @@ impl<T> ByEndpoint<T> {
     }
 
     /// The value of an endpoint, to be changed.
+    #[inline(always)]
     pub(crate) fn get_mut(&mut self, dev: DeviceNo, ep: EpAddr) -> &mut T
         ensures* writes_back { sem 𝓛 (lends_value T.row self.entry dev ep result) }
         ensures value { slice_get self.old (lane_at dev ep) ≡ Some result.now }

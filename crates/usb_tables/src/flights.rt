@@ -59,6 +59,7 @@ impl<P> Flights<P> {
     }
 
     /// How many items an endpoint's line has, 0 to 16.
+    #[inline(always)]
     pub fn len(&self, dev: DeviceNo, ep: EpAddr) -> usize
         ensures value { result ≡ length (line_at self.now dev ep) }
         ensures most { result ≤ 16 }
@@ -67,6 +68,7 @@ impl<P> Flights<P> {
     }
 
     /// The transfer at a place of an endpoint's line; None at a blank, and behind the line.
+    #[inline(always)]
     pub fn get(&self, dev: DeviceNo, ep: EpAddr, item: usize) -> Option<&Transfer<P>>
         ensures { option_copied result ≡ item_at self.now dev ep item }
     {
@@ -183,6 +185,7 @@ impl<P> Flights<P> {
     }
 
     /// The transfer at a place of an endpoint's line, to be changed; None at a blank, and behind the line.
+    #[inline(always)]
     pub fn get_mut(&mut self, dev: DeviceNo, ep: EpAddr, item: usize) -> Option<&mut Transfer<P>>
         ensures* writes_back { sem 𝓛 (lends_item P.row self.entry dev ep item result) }
         ensures value { option_copied_mut result ≡ item_at self.old dev ep item }

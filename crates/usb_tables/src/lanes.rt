@@ -39,6 +39,7 @@ impl Lanes {
     }
 
     /// The line of an endpoint.
+    #[inline(always)]
     pub(crate) fn line(&self, dev: DeviceNo, ep: EpAddr) -> &Line
         ensures value { result.now ≡ keys_at self.now dev ep }
         ensures lane { lane_at dev ep < length self.now }

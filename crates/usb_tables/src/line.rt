@@ -38,6 +38,7 @@ impl Line {
     }
 
     /// How many items, 0 to 16.
+    #[inline(always)]
     pub(crate) fn len(&self) -> usize
         ensures value { result ≡ length self.now }
         ensures most { result ≤ 16 }
@@ -46,6 +47,7 @@ impl Line {
     }
 
     /// The key of an item; None where it is a blank, or behind the line.
+    #[inline(always)]
     pub(crate) fn get(&self, item: usize) -> Option<usize>
         ensures { result ≡ slice_index_or self.now item None }
     {

@@ -50,6 +50,7 @@ impl Outstanding {
     }
 
     /// The errand that is outstanding at a device's endpoint.
+    #[inline(always)]
     pub fn get(&self, dev: DeviceNo, ep: EpAddr) -> Option<Sent>
         ensures { result ≡ sent_at self.now dev ep }
     {

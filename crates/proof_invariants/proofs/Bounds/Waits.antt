@@ -16,7 +16,7 @@ use Rattle.std.proofs.lemmas.List.Folds.{list_any-append}
 use Rattle.proof_invariants.proofs.Bounds.Paused.{PausesWait, has_pause, has_waiting, is_pause}
 
 -- one order at most, and two events behind the ends
-few_behind : (s : EndpointState) (er : Option Errand) (os : List Errand) (es tail : List Event) → IsPhase s er os es tail → (length os ≤ 1) × (length tail ≤ 2)
+pub few_behind : (s : EndpointState) (er : Option Errand) (os : List Errand) (es tail : List Event) → IsPhase s er os es tail → (length os ≤ 1) × (length tail ≤ 2)
 few_behind s er os es tail (runs g) = (omega arith, omega arith)
 few_behind s er os es tail (ended g) = (omega arith, omega arith)
 few_behind s er os es tail (stop_waits g) = (omega arith, omega arith)
@@ -30,7 +30,7 @@ few_behind s er os es tail move_waits = (omega arith, omega arith)
 few_behind s er os es tail move_ran = (omega arith, omega arith)
 
 -- an end for each transfer at most
-few_ends : (line : List Item) → length (served_events line) ≤ length line
+pub few_ends : (line : List Item) → length (served_events line) ≤ length line
 unfolding served_events
 few_ends [] = omega arith
 few_ends (x ∷ xs) = by_state x.state (few_ends xs)

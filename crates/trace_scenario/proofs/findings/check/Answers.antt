@@ -26,7 +26,7 @@ loop-words-preserved-in-Continue-branch-3 c =
     let after : List ℕ = map (λ finding. finding.line) c.push.new.self.items in
     let noted : after ≡ before ++ noted_number (i + 1) ((Some c.in-Some-2.problem)) =
     ap (map (λ finding. finding.line)) c.in_ok-push.ensures.items
-    ∙ map-append (λ (finding : Finding). finding.line) c.loop-words.bad.items (record { line = c.saturating_add-line.result; problem = c.in-Some-2.problem } ∷ [])
+    ∙ map-append (λ (finding : Finding). finding.line) c.loop-words.bad.items (record { line = c.saturating_add-line.result; problem = c.told-problem.result } ∷ [])
     ∙ ap (λ n. before ++ n ∷ []) at in
     record {
       counted = at ∙ sym grows;

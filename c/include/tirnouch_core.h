@@ -1,0 +1,139 @@
+/* Tirnouch's core, as the static library tirnouch_c has it: every step is proved, and so is what each function answers
+ * (crates/tirnouch_c). Made by tools/c_header.py.
+ *
+ * A slot begins as all zeros, and is passed by its address: one call at a time, from any thread. Buffers are as long as said,
+ * and may be NULL where they are empty; they don't overlap. `told` has what a call told; where it told nothing it is as it was.
+ * A slot without a session answers TIRNOUCH_NO_SESSION. */
+#ifndef TIRNOUCH_CORE_H
+#define TIRNOUCH_CORE_H
+
+#include <stdbool.h>
+#include <stddef.h>
+#include <stdint.h>
+
+#ifdef __cplusplus
+extern "C" {
+#endif
+
+#define TIRNOUCH_NO_SESSION (-99)
+
+/* The verbs of tirnouch_call. */
+enum tirnouch_verb {
+    TIRNOUCH_OPEN = 0, TIRNOUCH_CLOSE = 1, TIRNOUCH_CLAIM = 2, TIRNOUCH_RELEASE = 3, TIRNOUCH_RESET = 4,
+    TIRNOUCH_CLEAR_HALT = 5, TIRNOUCH_CANCEL = 6, TIRNOUCH_EXPIRE = 7, TIRNOUCH_UNPLUG = 11
+};
+
+/* What is told: the field `kind`. */
+enum tirnouch_kind {
+    TIRNOUCH_DONE = 0, TIRNOUCH_NUMBER = 1, TIRNOUCH_REFUSED = 2, TIRNOUCH_IDLE = 3, TIRNOUCH_NAK = 4,
+    TIRNOUCH_MOVED = 5, TIRNOUCH_ENDED = 6, TIRNOUCH_RAN = 7, TIRNOUCH_FINISHED = 8, TIRNOUCH_PAUSED = 9,
+    TIRNOUCH_SETTLED = 10, TIRNOUCH_CALLED = 11
+};
+
+/* What holds a session. Its fields are the library's. */
+struct tirnouch_slot {
+    void *at;
+    bool there;
+};
+
+/* What a call told, in numbers. */
+struct tirnouch_told {
+    /* The handle, 0 to 63; 255 for nobody's. Or a device, 0 to 3. */
+    uint8_t h;
+    /* 0 done, 1 number, 2 refused, 3 idle, 4 nak, 5 moved, 6 ended, 7 ran, 8 finished, 9 paused, 10 settled, 11
+     * called. */
+    uint8_t kind;
+    /* The endpoint. */
+    uint8_t ep;
+    /* The status of a transfer that is called back (libusb's `libusb_transfer_status`); the code with which one
+     * ended (xHCI 1.2, 6.4.5); 1 where an order ran or was settled without a fault. */
+    uint8_t status;
+    /* How many bytes, packets or steps. */
+    uint32_t amount;
+    /* The transfer's number, or a text's line. */
+    uint64_t n;
+    /* What C keeps with the transfer. */
+    uint64_t payload;
+};
+
+/* Makes a session with the devices of a text: 0. InvalidParam where a line of the text isn't taken, whose
+ * number is told; NoMem where memory is refused; Busy where the slot holds a session already. Then nothing
+ * changed. */
+int32_t tirnouch_create(struct tirnouch_slot *slot, const uint8_t *text, size_t text_length,
+    struct tirnouch_told *told);
+
+/* Frees the session of a slot. */
+int32_t tirnouch_destroy(struct tirnouch_slot *slot);
+
+/* A step of a handle, or that a device is unplugged. `verb`: 0 open (a: device), 1 close, 2 claim (a:
+ * interface), 3 release, 4 reset, 5 clear halt (a: endpoint), 6 cancel (n: transfer), 7 expire, 11 unplug (a:
+ * device). */
+int32_t tirnouch_call(struct tirnouch_slot *slot, uint8_t verb, uint8_t h, uint8_t a, uint64_t n,
+    struct tirnouch_told *told);
+
+/* Submits a transfer (libusb's `libusb_submit_transfer`); its number is told. It reads at most `room` bytes,
+ * where the endpoint is for IN, and else writes these. With it `payload` is kept, which is told when it goes
+ * out. */
+int32_t tirnouch_submit(struct tirnouch_slot *slot, uint8_t h, uint8_t ep, uint8_t kind, uint8_t flags,
+    uint32_t timeout, uint32_t room, const uint8_t *buffer, size_t buffer_length, uint64_t payload,
+    struct tirnouch_told *told);
+
+/* A device answers at most so many packets at an endpoint: until one ends a transfer, or it has no answer. The
+ * last one is told, and in `amount` how many they were. */
+int32_t tirnouch_serve(struct tirnouch_slot *slot, uint8_t dev, uint8_t ep, uint32_t most,
+    struct tirnouch_told *told);
+
+/* Makes what is to be done, at most so many steps: events are handled and orders run, and packets are served
+ * where `packets` isn't 0. How many they were is told in `amount`, and in `status` 1 where nothing is left. */
+int32_t tirnouch_settle(struct tirnouch_slot *slot, uint8_t packets, uint32_t most, struct tirnouch_told *told);
+
+/* What is to be done next: `kind` is 1 where a packet does something, and `h` and `ep` are the device and the
+ * endpoint, looked for from behind this one on; `status` has 1 for an order, 2 for an event, 4 for a result. */
+int32_t tirnouch_pending(struct tirnouch_slot *slot, uint8_t dev, uint8_t ep, struct tirnouch_told *told);
+
+/* The oldest result goes out, and its callback ends: 1, and it is told; 0 where none waits. NoMem where memory
+ * is refused, with nothing changed. */
+int32_t tirnouch_take(struct tirnouch_slot *slot, struct tirnouch_told *told);
+
+/* `tirnouch_serve`, `tirnouch_settle` without packets, and `tirnouch_take`, in one call: at most so many
+ * packets, and so many steps. The answer is that of the last, and so is what is told. */
+int32_t tirnouch_turn(struct tirnouch_slot *slot, uint8_t dev, uint8_t ep, uint32_t packets, uint32_t steps,
+    struct tirnouch_told *told);
+
+/* The bytes of the result that went out last, as far as there is room, just once; how many they were. */
+int32_t tirnouch_fetch(struct tirnouch_slot *slot, uint8_t *buffer, size_t buffer_room);
+
+/* The packet of this index, from 0 on, that a device took at an endpoint: its length, and its bytes, as far as
+ * there is room; -1 past the last. */
+int32_t tirnouch_taken(struct tirnouch_slot *slot, uint8_t dev, uint8_t ep, size_t i, uint8_t *buffer,
+    size_t buffer_room);
+
+/* A device answers a request on its default control endpoint (USB 2.0, 9.3), of which these are the 8 bytes of
+ * the setup packet. What is read stands in `buffer`, as far as there is room. `kind` is 4 where the device
+ * isn't ready, else 11, with `status` and `amount` as of a transfer. */
+int32_t tirnouch_request(struct tirnouch_slot *slot, uint8_t dev, const uint8_t setup[8], uint8_t *buffer,
+    size_t buffer_room, struct tirnouch_told *told);
+
+/* What a host has to hold for a request, of which these are the 8 bytes of the setup packet, as Linux has it:
+ * where a standard or class request is to an interface, that (`kind` 1, its number in `n`); where it is to an
+ * endpoint but 0, that (`kind` 2, its address in `ep`); else nothing (`kind` 0). */
+int32_t tirnouch_needs(const uint8_t setup[8], struct tirnouch_told *told);
+
+/* A descriptor of a device by its type (USB 2.0, 9.4): 1 its device descriptor, 2 its configuration, 3 the
+ * string of an index. How long it is, and its bytes, as far as there is room; NotFound where there is none. */
+int32_t tirnouch_describe(struct tirnouch_slot *slot, uint8_t dev, uint8_t kind, uint8_t index, uint8_t *buffer,
+    size_t buffer_room);
+
+/* What the text says of a device in numbers. `what`: 0 its speed in `kind` (libusb's `libusb_speed`), in
+ * `status` 1 where it isn't there yet, and in `amount` 1 where it begins anew with each claim; 1 the interface
+ * in `n` for which the system has a driver; 2 answers that wait: those of `ep` from place `amount` on, until
+ * `n` packets were taken at the endpoint in `status`; 3 when it is pulled out: behind `amount` answers of `ep`.
+ * Of several that of index `i`, from 0 on; NotFound past the last. */
+int32_t tirnouch_tell(struct tirnouch_slot *slot, uint8_t dev, uint8_t what, size_t i,
+    struct tirnouch_told *told);
+
+#ifdef __cplusplus
+}
+#endif
+
+#endif

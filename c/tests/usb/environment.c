@@ -1,0 +1,101 @@
+/* What the environment says: the file of devices, which a plugged text goes before, and time that passes at once. */
+#include "scene.h"
+
+#include <stdio.h>
+#include <stdlib.h>
+#include <unistd.h>
+
+static const char plugged[] = "device 0 " STANDARD_CONFIG "\nids 0 1209 0007\n";
+static char name[] = "/tmp/tirnouch_devices_XXXXXX";
+
+static void write_file(const char *text)
+{
+    FILE *file = fopen(name, "w");
+    if (!file || fputs(text, file) < 0 || fclose(file))
+        exit(1);
+}
+
+static void show_devices(const char *scene)
+{
+    libusb_device **list;
+    struct libusb_device_descriptor descriptor;
+    libusb_context *own = NULL;
+    puts(scene);
+    answer("init", libusb_init(&own));
+    number("devices", libusb_get_device_list(own, &list));
+    for (int i = 0; list[i]; i++) {
+        libusb_get_device_descriptor(list[i], &descriptor);
+        printf("  %04x:%04x\n", descriptor.idVendor, descriptor.idProduct);
+    }
+    libusb_free_device_list(list, 1);
+    libusb_exit(own);
+}
+
+static void files(void)
+{
+    int file = mkstemp(name);
+    if (file < 0 || close(file))
+        exit(1);
+    unsetenv("TIRNOUCH_DEVICES");
+    show_devices("without a file");
+    setenv("TIRNOUCH_DEVICES", "", 1);
+    show_devices("with an empty name");
+    setenv("TIRNOUCH_DEVICES", name, 1);
+    show_devices("with an empty file");
+    write_file("# two devices\n" STANDARD "\ndevice 1 " STANDARD_CONFIG "\n");
+    show_devices("with a file of two devices");
+    write_file(STANDARD);
+    show_devices("with another");
+    answer("plug", tirnouch_plug(plugged, sizeof plugged - 1));
+    show_devices("with a text that was plugged in");
+    unlink(name);
+    unsetenv("TIRNOUCH_DEVICES");
+}
+
+static void bad_texts(void)
+{
+    static const char *const texts[] = {
+        "ids 0 04a9 31c0\n", "device 1 " STANDARD_CONFIG "\n", "device 0 0902\n", STANDARD "script 0 85 d:01\n", STANDARD "script 0 81 a\n",
+        STANDARD "ids 0 4a9 31c0\n", STANDARD "speed 0 super\n", STANDARD "hidden 1\n", STANDARD "open 0 0\n",
+    };
+    libusb_context *own = NULL;
+    int refused = 0;
+    puts("texts that aren't taken");
+    fflush(stderr);
+    if (!freopen("/dev/null", "w", stderr))
+        exit(1);
+    for (size_t i = 0; i < sizeof texts / sizeof texts[0]; i++) {
+        size_t length = 0;
+        while (texts[i][length])
+            length++;
+        refused += tirnouch_plug(texts[i], length) == 0 && libusb_init(&own) < 0;
+    }
+    number("refused", refused);
+    number("texts", (long long)(sizeof texts / sizeof texts[0]));
+    tirnouch_plug(STANDARD, sizeof STANDARD - 1);
+    show_devices("a good one behind them");
+}
+
+static void times(void)
+{
+    struct libusb_transfer *transfer;
+    struct timeval hour = { 3600, 0 };
+    long long from = clock_now();
+    virtual_time(1);
+    begin("an hour at once", "");
+    transfer = submit_with(0, 0x81, 8, 0, 1800 * 1000);
+    answer("half of it", libusb_handle_events_timeout(context, &hour));
+    answer("nothing left", libusb_handle_events_timeout(context, &hour));
+    discard(transfer);
+    end();
+    virtual_time(0);
+    say(clock_now() - from < 5000 ? "at once" : "late");
+}
+
+int main(void)
+{
+    files();
+    bad_texts();
+    times();
+    return 0;
+}

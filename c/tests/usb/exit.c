@@ -1,0 +1,145 @@
+/* libusb_exit while another thread is inside libusb_handle_events, and while others wait for that thread; each thread returns, and the
+ * library begins again behind it. */
+#include "scene.h"
+
+#include <pthread.h>
+#include <stdatomic.h>
+#include <stdio.h>
+#include <stdlib.h>
+#include <unistd.h>
+
+#define THREADS 3
+#define ROUNDS 20
+
+static atomic_int inside, outside, stops;
+
+/* One call of a minute: nothing but the context's end, or an interruption, ends it. */
+static void *wait_long(void *user)
+{
+    struct timeval minute = { 60, 0 };
+    (void)user;
+    atomic_fetch_add(&inside, 1);
+    libusb_handle_events_timeout(context, &minute);
+    atomic_fetch_add(&outside, 1);
+    return NULL;
+}
+
+/* As the manual advises: a variable says when to stop, and an interruption, or a close, wakes the thread. */
+static void *wait_until_stopped(void *user)
+{
+    (void)user;
+    while (!atomic_load(&stops))
+        libusb_handle_events_completed(context, NULL);
+    atomic_fetch_add(&outside, 1);
+    return NULL;
+}
+
+static void start(pthread_t *thread, void *(*function)(void *))
+{
+    if (pthread_create(thread, NULL, function, NULL))
+        exit(1);
+}
+
+static void reset_counts(void)
+{
+    atomic_store(&inside, 0);
+    atomic_store(&outside, 0);
+    atomic_store(&stops, 0);
+}
+
+static void exit_amid_events(int threads)
+{
+    pthread_t all[THREADS];
+    long long from = clock_now();
+    reset_counts();
+    begin("exit while events are handled", "");
+    for (int i = 0; i < threads; i++)
+        start(&all[i], wait_long);
+    while (atomic_load(&inside) < threads)
+        usleep(1000);
+    usleep(50000);
+    number("threads inside", threads - atomic_load(&outside));
+    libusb_close(handle);
+    libusb_exit(context);
+    for (int i = 0; i < threads; i++)
+        pthread_join(all[i], NULL);
+    number("threads outside", atomic_load(&outside));
+    say(clock_now() - from < 20000 ? "at once" : "late");
+}
+
+static void exit_as_advised(void)
+{
+    pthread_t thread;
+    struct libusb_transfer *transfer;
+    long long from = clock_now();
+    reset_counts();
+    begin("stopped by a close", "");
+    start(&thread, wait_until_stopped);
+    transfer = submit(0, 0x81, 8);
+    usleep(50000);
+    atomic_store(&stops, 1);
+    libusb_close(handle);
+    handle = NULL;
+    pthread_join(thread, NULL);
+    discard(transfer);
+    end();
+    say(clock_now() - from < 20000 ? "at once" : "late");
+
+    from = clock_now();
+    reset_counts();
+    begin("stopped by an interruption", "");
+    start(&thread, wait_until_stopped);
+    usleep(50000);
+    atomic_store(&stops, 1);
+    libusb_interrupt_event_handler(context);
+    pthread_join(thread, NULL);
+    end();
+    say(clock_now() - from < 20000 ? "at once" : "late");
+}
+
+static void many_times(void)
+{
+    pthread_t thread;
+    int rounds = 0;
+    puts("many times, without a pause");
+    for (int i = 0; i < ROUNDS; i++) {
+        if (libusb_init(&context))
+            break;
+        reset_counts();
+        start(&thread, wait_until_stopped);
+        if (i % 2)
+            usleep(500);
+        atomic_store(&stops, 1);
+        libusb_interrupt_event_handler(context);
+        pthread_join(thread, NULL);
+        libusb_exit(context);
+        rounds++;
+    }
+    number("rounds", rounds);
+}
+
+static void open_at_exit(void)
+{
+    struct libusb_transfer *transfer;
+    begin("exit with an open handle and a transfer in flight", "");
+    transfer = submit(0, 0x81, 8);
+    libusb_exit(context);
+    handle = NULL;
+    number("calls", calls);
+    discard(transfer);
+    begin("again behind it", "script 0 81 d:01\n");
+    transfer = submit(0, 0x81, 8);
+    work();
+    discard(transfer);
+    end();
+}
+
+int main(void)
+{
+    exit_as_advised();
+    exit_amid_events(1);
+    exit_amid_events(THREADS);
+    many_times();
+    open_at_exit();
+    return 0;
+}

@@ -1,0 +1,105 @@
+/* A child of fork, of a process with one thread, uses the library by itself, with what was open and in flight before; the parent goes on
+ * as if there were no child. */
+#include "scene.h"
+
+#include <stdio.h>
+#include <stdlib.h>
+#include <string.h>
+#include <sys/wait.h>
+#include <unistd.h>
+
+static void read_one(const char *call)
+{
+    unsigned char data[8] = { 0 };
+    int moved = 0, result = libusb_bulk_transfer(handle, 0x81, data, 8, &moved, 1000);
+    if (result)
+        answer(call, result);
+    else
+        bytes(call, data, moved);
+}
+
+/* The child's own context, and devices of its own. */
+static void begin_in_child(void)
+{
+    libusb_context *own = NULL;
+    answer("the child's init", libusb_init(&own));
+    libusb_device_handle *other = open_standard(own);
+    answer("the child's claim", libusb_claim_interface(other, 0));
+    libusb_close(other);
+    libusb_exit(own);
+}
+
+static void in_child(struct libusb_transfer *transfer)
+{
+    struct libusb_transfer *more;
+    read_one("the child's second read");
+    answer("the child's cancel", libusb_cancel_transfer(transfer));
+    work();
+    more = submit(2, 0x02, 8);
+    work();
+    took(0x02);
+    libusb_release_interface(handle, 0);
+    begin_in_child();
+    discard(more);
+    discard(transfer);
+    end();
+    exit(0);
+}
+
+static void wait_for_child(pid_t child)
+{
+    int status = 0;
+    if (waitpid(child, &status, 0) != child || !WIFEXITED(status))
+        say("the child didn't end by itself");
+    else
+        number("the child's status", WEXITSTATUS(status));
+}
+
+static void both(void)
+{
+    struct libusb_transfer *transfer;
+    pid_t child;
+    begin("a child, and its parent behind it", "script 0 81 d:01 d:02 d:03\nscript 0 02 a a\n");
+    read_one("first read");
+    transfer = submit(1, 0x83, 8);
+    work();
+    fflush(stdout);
+    child = fork();
+    if (child == 0)
+        in_child(transfer);
+    wait_for_child(child);
+    read_one("the parent's second read");
+    number("calls", calls);
+    answer("the parent's cancel", libusb_cancel_transfer(transfer));
+    work();
+    took(0x02);
+    read_one("the parent's third read");
+    discard(transfer);
+    end();
+}
+
+static void before_the_library(void)
+{
+    pid_t child;
+    begin_text("a child that begins the library itself", STANDARD);
+    end();
+    fflush(stdout);
+    child = fork();
+    if (child == 0) {
+        begin("in the child", "script 0 81 d:07\n");
+        read_one("read");
+        end();
+        exit(0);
+    }
+    wait_for_child(child);
+    begin("in the parent", "script 0 81 d:08\n");
+    read_one("read");
+    end();
+}
+
+int main(void)
+{
+    both();
+    before_the_library();
+    return 0;
+}

@@ -1,0 +1,193 @@
+/* Interfaces: who holds them, and drivers of the system that do (libusb 1.0, `libusb_claim_interface`).
+ *
+ * An interface that was ever claimed has a handle of the core of its own, which keeps it: so a program that claims it again goes on
+ * where the device stands, unless its text says `anew`. What the program's handles hold is kept here. */
+#include "bus.h"
+
+static int name_interface(struct device *device, int interface)
+{
+    for (int name = 0; name < NAMES; name++) {
+        if (process.bus.named[name])
+            continue;
+        int r = core_call(TIRNOUCH_OPEN, name, (uint8_t)device->number, 0);
+        if (r)
+            return r;
+        r = core_call(TIRNOUCH_CLAIM, name, (uint8_t)interface, 0);
+        if (r) {
+            core_call(TIRNOUCH_CLOSE, name, 0, 0);
+            return r;
+        }
+        process.bus.named[name] = true;
+        device->interfaces[interface].name = name;
+        return 0;
+    }
+    return LIBUSB_ERROR_NO_MEM;
+}
+
+/* The endpoints of an interface begin anew, with their scripts. Nothing of it is in progress. */
+int make_new(struct device *device, int interface)
+{
+    int name = device->interfaces[interface].name;
+    if (name < 0)
+        return 0;
+    int r = core_call(TIRNOUCH_RELEASE, name, (uint8_t)interface, 0);
+    if (!r)
+        r = core_call(TIRNOUCH_CLAIM, name, (uint8_t)interface, 0);
+    for (int i = 0; !r && i < ENDPOINTS; i++) {
+        struct pipe *pipe = &device->pipes[i];
+        if (pipe->kind && pipe->interface == interface) {
+            pipe->answers = 0;
+            pipe->is_halted = false;
+        }
+    }
+    return r;
+}
+
+int claim(struct libusb_device_handle *handle, int interface)
+{
+    struct device *device = handle->device;
+    struct interface *it = &device->interfaces[interface];
+    if (device->is_gone)
+        return LIBUSB_ERROR_NO_DEVICE;
+    if (handle->claimed >> interface & 1)
+        return 0;
+    if (!it->is_there || !device->configuration)
+        return LIBUSB_ERROR_NOT_FOUND;
+    bool is_driven = it->has_driver && !it->is_detached;
+    if (it->holder || (is_driven && !handle->detaches))
+        return LIBUSB_ERROR_BUSY;
+    int r = it->name < 0 ? name_interface(device, interface) : device->begins_anew ? make_new(device, interface) : 0;
+    if (r)
+        return r;
+    it->is_detached |= is_driven;
+    it->holder = handle;
+    handle->claimed |= 1u << interface;
+    return 0;
+}
+
+/* An interface that is used before it was claimed is claimed, as Linux has it. */
+int claim_in_passing(struct libusb_device_handle *handle, int interface)
+{
+    if (handle->claimed >> interface & 1)
+        return 0;
+    int r = claim(handle, interface);
+    if (!r)
+        note(handle->context, LIBUSB_LOG_LEVEL_WARNING, "interface %d is used before it is claimed: it is claimed", interface);
+    return r;
+}
+
+/* Nothing of it is in progress. */
+void unclaim(struct libusb_device_handle *handle, int interface)
+{
+    struct interface *it = &handle->device->interfaces[interface];
+    it->holder = NULL;
+    handle->claimed &= ~(1u << interface);
+    if (handle->detaches)
+        it->is_detached = false;
+}
+
+int libusb_claim_interface(libusb_device_handle *handle, int interface)
+{
+    if (interface < 0 || interface >= INTERFACES)
+        return LIBUSB_ERROR_INVALID_PARAM;
+    lock();
+    shake();
+    int r = claim(handle, interface);
+    unlock();
+    return r;
+}
+
+int libusb_release_interface(libusb_device_handle *handle, int interface)
+{
+    int r = LIBUSB_ERROR_NOT_FOUND;
+    if (interface < 0 || interface >= INTERFACES)
+        return LIBUSB_ERROR_INVALID_PARAM;
+    lock();
+    shake();
+    if (handle->claimed >> interface & 1) {
+        withdraw(handle, interface, false);
+        unclaim(handle, interface);
+        wake(handle->context);
+        r = handle->device->is_gone ? LIBUSB_ERROR_NO_DEVICE : 0;
+    }
+    unlock();
+    return r;
+}
+
+/* The core has the endpoints of setting 0 alone. */
+static int set_setting(struct libusb_device_handle *handle, int interface, int setting)
+{
+    struct device *device = handle->device;
+    const uint8_t *config = device->config;
+    if (device->is_gone)
+        return LIBUSB_ERROR_NO_DEVICE;
+    if (!(handle->claimed >> interface & 1))
+        return LIBUSB_ERROR_NOT_FOUND;
+    for (int at = config[0]; at + 4 < device->config_length && config[at] >= 2; at += config[at]) {
+        const uint8_t *it = config + at;
+        if (it[1] != LIBUSB_DT_INTERFACE || it[2] != interface || it[3] != setting)
+            continue;
+        if (setting && it[4])
+            return LIBUSB_ERROR_NOT_SUPPORTED;
+        device->interfaces[interface].setting = (uint8_t)setting;
+        return 0;
+    }
+    return LIBUSB_ERROR_NOT_FOUND;
+}
+
+int libusb_set_interface_alt_setting(libusb_device_handle *handle, int interface, int setting)
+{
+    if (interface < 0 || interface >= INTERFACES || setting < 0 || setting > UINT8_MAX)
+        return LIBUSB_ERROR_INVALID_PARAM;
+    lock();
+    int r = set_setting(handle, interface, setting);
+    unlock();
+    return r;
+}
+
+int libusb_kernel_driver_active(libusb_device_handle *handle, int interface)
+{
+    if (interface < 0 || interface >= INTERFACES)
+        return LIBUSB_ERROR_INVALID_PARAM;
+    lock();
+    const struct interface *it = &handle->device->interfaces[interface];
+    int r = handle->device->is_gone ? LIBUSB_ERROR_NO_DEVICE : it->has_driver && !it->is_detached;
+    unlock();
+    return r;
+}
+
+int libusb_detach_kernel_driver(libusb_device_handle *handle, int interface)
+{
+    int r = libusb_kernel_driver_active(handle, interface);
+    if (r <= 0)
+        return r ? r : LIBUSB_ERROR_NOT_FOUND;
+    lock();
+    handle->device->interfaces[interface].is_detached = true;
+    unlock();
+    return 0;
+}
+
+int libusb_attach_kernel_driver(libusb_device_handle *handle, int interface)
+{
+    int r = libusb_kernel_driver_active(handle, interface);
+    if (r < 0)
+        return r;
+    lock();
+    struct interface *it = &handle->device->interfaces[interface];
+    if (!it->has_driver)
+        r = LIBUSB_ERROR_NOT_FOUND;
+    else if (it->holder || !it->is_detached)
+        r = LIBUSB_ERROR_BUSY;
+    else
+        r = it->is_detached = false;
+    unlock();
+    return r;
+}
+
+int libusb_set_auto_detach_kernel_driver(libusb_device_handle *handle, int enable)
+{
+    lock();
+    handle->detaches = enable;
+    unlock();
+    return 0;
+}

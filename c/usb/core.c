@@ -1,0 +1,136 @@
+/* The core's calls, each of which the trace has, and what of them is kept here. */
+#include "bus.h"
+
+#include <inttypes.h>
+
+static const uint8_t nothing[1];
+
+static void trace_call(enum tirnouch_verb verb, int name, uint8_t a, uint64_t n)
+{
+    switch (verb) {
+    case TIRNOUCH_OPEN: trace("open %d %u\n", name, a); break;
+    case TIRNOUCH_CLOSE: trace("close %d\n", name); break;
+    case TIRNOUCH_CLAIM: trace("claim %d %u\n", name, a); break;
+    case TIRNOUCH_RELEASE: trace("release %d %u\n", name, a); break;
+    case TIRNOUCH_RESET: trace("reset %d\n", name); break;
+    case TIRNOUCH_CLEAR_HALT: trace("clear %d %02x\n", name, a); break;
+    case TIRNOUCH_CANCEL: trace("cancel %d %" PRIu64 "\n", name, n); break;
+    case TIRNOUCH_EXPIRE: trace("expire %d %" PRIu64 "\n", name, n); break;
+    case TIRNOUCH_UNPLUG: trace("unplug %u\n", a); break;
+    }
+}
+
+int core_call(enum tirnouch_verb verb, int name, uint8_t a, uint64_t n)
+{
+    struct tirnouch_told told = { 0 };
+    int answer = tirnouch_call(&process.bus.core, (uint8_t)verb, (uint8_t)name, a, n, &told);
+    if (process.bus.trace) {
+        trace_call(verb, name, a, n);
+        trace_answer(answer);
+    }
+    return answer;
+}
+
+static int name_of(const struct pipe *pipe)
+{
+    return pipe->device->interfaces[pipe->interface].name;
+}
+
+static void trace_submission(const struct transfer *transfer, const uint8_t *bytes, int length, uint8_t flags)
+{
+    const struct pipe *pipe = transfer->pipe;
+    trace("submit %d %02x %s ", name_of(pipe), pipe->ep, pipe->kind == LIBUSB_TRANSFER_TYPE_INTERRUPT ? "int" : "bulk");
+    if (is_in(pipe->ep)) {
+        trace("%d", length);
+    } else {
+        trace("x:");
+        for (int i = 0; i < length; i++)
+            trace("%02x", bytes[i]);
+    }
+    if (flags & LIBUSB_TRANSFER_SHORT_NOT_OK)
+        trace(" flags=SHORT_NOT_OK%s", flags & LIBUSB_TRANSFER_ADD_ZERO_PACKET ? "+ADD_ZERO_PACKET" : "");
+    else if (flags & LIBUSB_TRANSFER_ADD_ZERO_PACKET)
+        trace(" flags=ADD_ZERO_PACKET");
+    if (transfer->deadline)
+        trace(" timeout=1");
+    trace("\n");
+}
+
+/* A transfer's next piece, of so many bytes. That its time is over is told by an expiry, so any timeout but 0 will do. */
+int core_submit(struct transfer *transfer, int length, uint8_t flags)
+{
+    const struct libusb_transfer *it = seen(transfer);
+    const struct pipe *pipe = transfer->pipe;
+    bool writes = !is_in(pipe->ep);
+    const uint8_t *bytes = writes && length ? it->buffer + transfer->moved : nothing;
+    struct tirnouch_told told = { 0 };
+    int answer = tirnouch_submit(&process.bus.core, (uint8_t)name_of(pipe), pipe->ep, pipe->kind, flags, transfer->deadline ? 1 : 0,
+                                 (uint32_t)length, bytes, writes ? (size_t)length : 0, (uint64_t)(uintptr_t)transfer, &told);
+    if (process.bus.trace) {
+        trace_submission(transfer, bytes, length, flags);
+        if (answer < 0)
+            trace_answer(answer);
+        else
+            trace("# number %" PRIu64 "\n", told.n);
+    }
+    if (!answer)
+        transfer->number = told.n;
+    return answer;
+}
+
+/* Whether a packet at an endpoint does something: it is the first that does, looked for from there on. */
+bool core_serves(const struct pipe *pipe)
+{
+    struct tirnouch_told told = { 0 };
+    uint8_t device = (uint8_t)pipe->device->number;
+    tirnouch_pending(&process.bus.core, device, (uint8_t)(pipe->ep - 1), &told);
+    return told.kind == 1 && told.h == device && told.ep == pipe->ep;
+}
+
+/* A device answers packets at an endpoint; whether something came of it. A device that has no answer left isn't ready. */
+bool core_serve(struct pipe *pipe, uint32_t most, struct tirnouch_told *told)
+{
+    tirnouch_serve(&process.bus.core, (uint8_t)pipe->device->number, pipe->ep, most, told);
+    trace("serve %d %02x\n", pipe->device->number, pipe->ep);
+    return told->amount > 1 || (told->kind != TIRNOUCH_IDLE && told->kind != TIRNOUCH_NAK);
+}
+
+/* Events are handled and orders run, at most so many; whether there were any. */
+bool core_settle(uint32_t most)
+{
+    struct tirnouch_told told = { 0 };
+    if (!process.bus.trace) {
+        tirnouch_settle(&process.bus.core, 0, most, &told);
+        return told.amount;
+    }
+    for (uint32_t done = 0; done < most; done++) {
+        tirnouch_pending(&process.bus.core, 255, 0, &told);
+        if (!(told.status & 3))
+            return done;
+        trace(told.status & 2 ? "deliver\n" : "command\n");
+        tirnouch_settle(&process.bus.core, 0, 1, &told);
+    }
+    return true;
+}
+
+static const char *const statuses[] = { "COMPLETED", "ERROR", "TIMED_OUT", "CANCELLED", "STALL", "NO_DEVICE", "OVERFLOW" };
+
+/* The oldest result goes out, and its bytes into the transfer's buffer; whether there was one. */
+bool core_take(struct tirnouch_told *told)
+{
+    if (tirnouch_take(&process.bus.core, told) != 1)
+        return false;
+    struct transfer *transfer = (struct transfer *)(uintptr_t)told->payload;
+    bool reads = is_in(transfer->pipe->ep) && !transfer->is_dropped && transfer->piece;
+    uint8_t none[1] = { 0 }, *to = reads ? seen(transfer)->buffer + transfer->moved : none;
+    int count = tirnouch_fetch(&process.bus.core, to, reads ? (size_t)transfer->piece : 0);
+    if (process.bus.trace) {
+        trace("take\n# called %" PRIu64 " ep %02x %s %" PRIu32 " ", told->n, told->ep, statuses[told->status], told->amount);
+        if (reads)
+            trace_bytes(to, count);
+        else
+            trace(is_in(transfer->pipe->ep) ? "?" : "-");
+        trace("\nreturn %u %" PRIu64 "\n# done\n", told->h, told->n);
+    }
+    return true;
+}

@@ -1,0 +1,245 @@
+/* Events are handled where the program calls for it, and nowhere else: here devices answer and callbacks run (libusb 1.0, "Polling and
+ * timing"). One thread of a context does it at a time; others wait until it called something back. */
+#include "bus.h"
+
+#include <errno.h>
+#include <poll.h>
+#include <sched.h>
+#include <unistd.h>
+
+#define MINUTE 60
+
+bool is_handler(const struct libusb_context *context)
+{
+    return context->is_handled && pthread_equal(context->handler, pthread_self());
+}
+
+bool is_set(int *completed)
+{
+    return completed && __atomic_load_n(completed, __ATOMIC_ACQUIRE);
+}
+
+/* Who sleeps over the context's events, or polls by itself, is told that there is something to do. */
+void wake(struct libusb_context *context)
+{
+    uint64_t one = 1;
+    if ((context->is_asleep || context->is_polled) && write(context->event, &one, sizeof one) < 0)
+        note(context, LIBUSB_LOG_LEVEL_DEBUG, "it was told already");
+}
+
+static void drain(struct libusb_context *context)
+{
+    uint64_t count;
+    if (context->is_polled && read(context->event, &count, sizeof count) < 0)
+        return;
+}
+
+void wait_for_move(struct libusb_context *context)
+{
+    context->waiting++;
+    pthread_cond_wait(&context->moved, &process.lock);
+    context->waiting--;
+}
+
+/* Whoever handles events, or waits for that, returns to the program. */
+void disturb(struct libusb_context *context)
+{
+    if (context->is_handled && !is_handler(context)) {
+        context->is_interrupted = true;
+        wake(context);
+    }
+    if (context->waiting)
+        pthread_cond_broadcast(&context->moved);
+}
+
+/* Those who wait by libusb_wait_for_event. The lock is let go meanwhile, and the context stays. */
+void tell_waiters(struct libusb_context *context)
+{
+    if (!__atomic_add_fetch(&context->lockers, 0, __ATOMIC_SEQ_CST))
+        return;
+    context->waiting++;
+    unlock();
+    pthread_mutex_lock(&context->waiters);
+    pthread_cond_broadcast(&context->happened);
+    pthread_mutex_unlock(&context->waiters);
+    lock();
+    context->waiting--;
+}
+
+void step_down(struct libusb_context *context)
+{
+    context->is_handled = false;
+    if (context->waiting)
+        pthread_cond_broadcast(&context->moved);
+    tell_waiters(context);
+}
+
+static void call_back(struct libusb_context *context, struct transfer *transfer)
+{
+    struct libusb_transfer *it = seen(transfer);
+    uint8_t flags = it->flags;
+    context->calling = transfer->handle;
+    context->is_calling = true;
+    unlock();
+    if (it->callback)
+        it->callback(it);
+    if (flags & LIBUSB_TRANSFER_FREE_TRANSFER)
+        libusb_free_transfer(it);
+    lock();
+    context->calling = NULL;
+    context->is_calling = false;
+    if (context->waiting)
+        pthread_cond_broadcast(&context->moved);
+    tell_waiters(context);
+}
+
+static bool call_ended(struct libusb_context *context)
+{
+    struct transfer *transfer;
+    bool any = false;
+    while ((transfer = context->ended.first)) {
+        leave(&context->ended, transfer);
+        transfer->stage = AT_REST;
+        call_back(context, transfer);
+        any = true;
+    }
+    return any;
+}
+
+/* Until then, or until it is woken. In virtual time that is now. Whether a signal ended it. */
+static bool sleep_until(struct libusb_context *context, uint64_t end)
+{
+    if (process.bus.is_virtual) {
+        unlock();
+        sched_yield();
+        lock();
+        if (!context->ended.first && !context->notices && process.bus.moment < end)
+            process.bus.moment = end;
+        return false;
+    }
+    uint64_t moment = now(), count;
+    struct timespec left = moment_of(end > moment ? end - moment : 0);
+    struct pollfd it = { .fd = context->event, .events = POLLIN };
+    context->is_asleep = true;
+    unlock();
+    int r = ppoll(&it, 1, &left, NULL), why = errno;
+    lock();
+    context->is_asleep = false;
+    if (r > 0 && read(context->event, &count, sizeof count) < 0)
+        return false;
+    return r < 0 && why == EINTR;
+}
+
+/* Until something was called back, that moment, or an interruption. With the lock, as the one who handles events. A moment of 0 is now. */
+int handle_events(struct libusb_context *context, uint64_t end)
+{
+    int r = 0;
+    for (;;) {
+        drain(context);
+        expire(context);
+        work_off();
+        bool any = call_hotplugs(context);
+        any |= call_ended(context);
+        if (any || context->is_interrupted || now() >= end)
+            break;
+        uint64_t until = context->earliest && context->earliest < end ? context->earliest : end;
+        if (sleep_until(context, until)) {
+            r = LIBUSB_ERROR_INTERRUPTED;
+            break;
+        }
+        if (context->is_interrupted)
+            break;
+    }
+    context->is_interrupted = false;
+    return r;
+}
+
+/* Another thread handles them: until it called something back, or that moment. `completed` is looked at while no callback runs. */
+static void await_handler(struct libusb_context *context, uint64_t end, int *completed)
+{
+    uint64_t moment = now();
+    struct timespec until = moment_in(end > moment ? end - moment : 0);
+    int r = 0;
+    context->waiting++;
+    while (context->is_calling && !r)
+        r = pthread_cond_timedwait(&context->moved, &process.lock, &until);
+    if (context->is_handled && !is_set(completed) && !r)
+        pthread_cond_timedwait(&context->moved, &process.lock, &until);
+    context->waiting--;
+}
+
+static int handle_or_wait(struct libusb_context *context, uint64_t end, int *completed)
+{
+    if (!context->is_open)
+        return LIBUSB_ERROR_OTHER;
+    if (is_handler(context) && context->is_calling)
+        return LIBUSB_ERROR_BUSY;
+    if (context->is_handled) {
+        if (end)
+            await_handler(context, end, completed);
+        return 0;
+    }
+    if (is_set(completed))
+        return 0;
+    context->is_handled = true;
+    context->handler = pthread_self();
+    int r = handle_events(context, end);
+    step_down(context);
+    return r;
+}
+
+static bool is_wait(const struct timeval *wait)
+{
+    return wait->tv_sec >= 0 && wait->tv_usec >= 0 && wait->tv_usec < 1000000;
+}
+
+static uint64_t end_or_now(const struct timeval *wait)
+{
+    return wait->tv_sec || wait->tv_usec ? end_of(wait) : 0;
+}
+
+int libusb_handle_events_timeout_completed(libusb_context *context, struct timeval *wait, int *completed)
+{
+    if (!is_wait(wait))
+        return LIBUSB_ERROR_INVALID_PARAM;
+    lock();
+    int r = handle_or_wait(context_of(context), end_or_now(wait), completed);
+    unlock();
+    return r;
+}
+
+int libusb_handle_events_timeout(libusb_context *context, struct timeval *wait)
+{
+    return libusb_handle_events_timeout_completed(context, wait, NULL);
+}
+
+int libusb_handle_events_completed(libusb_context *context, int *completed)
+{
+    struct timeval wait = { .tv_sec = MINUTE };
+    return libusb_handle_events_timeout_completed(context, &wait, completed);
+}
+
+int libusb_handle_events(libusb_context *context)
+{
+    return libusb_handle_events_completed(context, NULL);
+}
+
+int libusb_handle_events_locked(libusb_context *context, struct timeval *wait)
+{
+    if (!is_wait(wait))
+        return LIBUSB_ERROR_INVALID_PARAM;
+    lock();
+    struct libusb_context *x = context_of(context);
+    int r = x->is_calling ? LIBUSB_ERROR_BUSY : handle_events(x, end_or_now(wait));
+    unlock();
+    return r;
+}
+
+void libusb_interrupt_event_handler(libusb_context *context)
+{
+    lock();
+    struct libusb_context *x = context_of(context);
+    x->is_interrupted = true;
+    wake(x);
+    unlock();
+}

@@ -1,0 +1,175 @@
+/* Handles: devices are opened and closed, configured and reset (libusb 1.0, "Device handling and enumeration"). */
+#include "bus.h"
+
+#include <stdlib.h>
+
+int libusb_open(libusb_device *device, libusb_device_handle **out)
+{
+    struct libusb_device_handle *handle = calloc(1, sizeof *handle);
+    if (!handle)
+        return LIBUSB_ERROR_NO_MEM;
+    lock();
+    shake();
+    if (!is_present(device->device)) {
+        unlock();
+        free(handle);
+        return LIBUSB_ERROR_NO_DEVICE;
+    }
+    handle->context = device->context;
+    handle->of = libusb_ref_device(device);
+    handle->device = device->device;
+    handle->next = process.bus.handles;
+    process.bus.handles = handle;
+    unlock();
+    *out = handle;
+    return 0;
+}
+
+static bool fits(const struct libusb_device *device, unsigned vendor, unsigned product)
+{
+    const uint8_t *it = device->device->descriptor;
+    return two_bytes(it + 8) == vendor && two_bytes(it + 10) == product;
+}
+
+libusb_device_handle *libusb_open_device_with_vid_pid(libusb_context *context, uint16_t vendor, uint16_t product)
+{
+    libusb_device **list;
+    libusb_device_handle *handle = NULL;
+    if (libusb_get_device_list(context, &list) < 0)
+        return NULL;
+    for (size_t i = 0; list[i]; i++) {
+        if (!fits(list[i], vendor, product))
+            continue;
+        if (libusb_open(list[i], &handle))
+            handle = NULL;
+        break;
+    }
+    libusb_free_device_list(list, 1);
+    return handle;
+}
+
+libusb_device *libusb_get_device(libusb_device_handle *handle)
+{
+    return handle->of;
+}
+
+static void leave_handles(struct libusb_device_handle *handle)
+{
+    struct libusb_device_handle **at = &process.bus.handles;
+    while (*at && *at != handle)
+        at = &(*at)->next;
+    if (*at)
+        *at = handle->next;
+}
+
+/* New transfers are refused first; a callback of the handle that runs is waited for; then what is in progress is dropped. */
+void libusb_close(libusb_device_handle *handle)
+{
+    if (!handle)
+        return;
+    lock();
+    struct libusb_context *context = handle->context;
+    shake();
+    handle->is_closing = true;
+    while (context->calling == handle && !is_handler(context))
+        wait_for_move(context);
+    withdraw(handle, -1, true);
+    for (int i = 0; i < INTERFACES; i++)
+        if (handle->claimed >> i & 1)
+            unclaim(handle, i);
+    leave_handles(handle);
+    disturb(context);
+    unlock();
+    libusb_unref_device(handle->of);
+    free(handle);
+}
+
+int libusb_get_configuration(libusb_device_handle *handle, int *value)
+{
+    lock();
+    int r = handle->device->is_gone ? LIBUSB_ERROR_NO_DEVICE : 0;
+    if (!r)
+        *value = handle->device->configuration;
+    unlock();
+    return r;
+}
+
+static int set_configuration(struct device *device, int value)
+{
+    if (device->is_gone)
+        return LIBUSB_ERROR_NO_DEVICE;
+    if (value > 0 && value != device->config[5])
+        return LIBUSB_ERROR_NOT_FOUND;
+    for (int i = 0; i < INTERFACES; i++)
+        if (device->interfaces[i].holder)
+            return LIBUSB_ERROR_BUSY;
+    device->configuration = (uint8_t)(value > 0 ? value : 0);
+    return 0;
+}
+
+int libusb_set_configuration(libusb_device_handle *handle, int value)
+{
+    if (value < -1 || value > UINT8_MAX)
+        return LIBUSB_ERROR_INVALID_PARAM;
+    lock();
+    int r = set_configuration(handle->device, value);
+    unlock();
+    return r;
+}
+
+/* With a transfer in flight at the endpoint the core refuses it. */
+static int clear_halt(struct libusb_device_handle *handle, uint8_t ep)
+{
+    struct pipe *pipe = &handle->device->pipes[place_of(ep)];
+    if (handle->device->is_gone)
+        return LIBUSB_ERROR_NO_DEVICE;
+    if (!pipe->kind)
+        return LIBUSB_ERROR_NOT_FOUND;
+    int r = claim_in_passing(handle, pipe->interface);
+    if (r)
+        return r;
+    settle_all();
+    if (pipe->in_core || pipe->queue.first)
+        return LIBUSB_ERROR_BUSY;
+    r = core_call(TIRNOUCH_CLEAR_HALT, handle->device->interfaces[pipe->interface].name, ep, 0);
+    if (!r)
+        pipe->is_halted = false;
+    return r;
+}
+
+int libusb_clear_halt(libusb_device_handle *handle, unsigned char ep)
+{
+    lock();
+    shake();
+    int r = clear_halt(handle, ep);
+    unlock();
+    return r;
+}
+
+static int reset(struct libusb_device_handle *handle)
+{
+    struct device *device = handle->device;
+    if (device->is_gone)
+        return LIBUSB_ERROR_NOT_FOUND;
+    for (int i = 0; i < INTERFACES; i++)
+        if (device->interfaces[i].holder && device->interfaces[i].holder != handle)
+            return LIBUSB_ERROR_BUSY;
+    withdraw(handle, -1, false);
+    for (int i = 0; i < INTERFACES; i++) {
+        int r = make_new(device, i);
+        if (r)
+            return r;
+        device->interfaces[i].setting = 0;
+    }
+    wake(handle->context);
+    return 0;
+}
+
+int libusb_reset_device(libusb_device_handle *handle)
+{
+    lock();
+    shake();
+    int r = reset(handle);
+    unlock();
+    return r;
+}

@@ -1,0 +1,137 @@
+/* Devices that come and go (libusb 1.0, "Device hotplug event notification"). Callbacks run where events are handled, and at once for what
+ * is there already, where that is asked for. */
+#include "bus.h"
+
+#include <stdlib.h>
+
+static bool fits(const struct hotplug *it, const struct device *device, libusb_hotplug_event event)
+{
+    const uint8_t *bytes = device->descriptor;
+    if (it->is_over || !(it->events & (int)event))
+        return false;
+    return (it->vendor == LIBUSB_HOTPLUG_MATCH_ANY || it->vendor == (int)two_bytes(bytes + 8)) &&
+           (it->product == LIBUSB_HOTPLUG_MATCH_ANY || it->product == (int)two_bytes(bytes + 10)) &&
+           (it->class == LIBUSB_HOTPLUG_MATCH_ANY || it->class == bytes[4]);
+}
+
+/* Without the lock while it runs; one that answers 1 isn't called any more. */
+static void call(struct libusb_context *context, struct hotplug *it, struct libusb_device *device, libusb_hotplug_event event)
+{
+    bool is_nested = context->is_calling;
+    context->is_calling = true;
+    unlock();
+    int is_over = it->call(context, device, event, it->user);
+    lock();
+    context->is_calling = is_nested;
+    it->is_over |= is_over != 0;
+}
+
+/* Every context is told when it handles events next. */
+void tell_all(struct device *device, libusb_hotplug_event event)
+{
+    for (struct libusb_context *context = process.contexts; context; context = context->next) {
+        struct notice **at = &context->notices;
+        struct notice *it = &context->all_notices[device->number][event == LIBUSB_HOTPLUG_EVENT_DEVICE_LEFT];
+        wake(context);
+        *it = (struct notice){ .device = &context->devices[device->number], .event = event };
+        while (*at)
+            at = &(*at)->next;
+        *at = it;
+    }
+}
+
+/* Those that are over go where no callback of theirs can run. */
+static void sweep(struct libusb_context *context)
+{
+    for (struct hotplug **at = &context->hotplugs; *at;) {
+        struct hotplug *it = *at;
+        if (it->is_over) {
+            *at = it->next;
+            free(it);
+        } else {
+            at = &it->next;
+        }
+    }
+}
+
+/* As the one who handles events; whether one was called. */
+bool call_hotplugs(struct libusb_context *context)
+{
+    bool any = false;
+    struct notice *notice;
+    while ((notice = context->notices)) {
+        context->notices = notice->next;
+        for (struct hotplug *it = context->hotplugs; it; it = it->next) {
+            if (!fits(it, notice->device->device, notice->event))
+                continue;
+            call(context, it, notice->device, notice->event);
+            any = true;
+        }
+        sweep(context);
+    }
+    return any;
+}
+
+static void enumerate(struct libusb_context *context, struct hotplug *it)
+{
+    for (int i = 0; i < DEVICES; i++) {
+        struct libusb_device *device = &context->devices[i];
+        if (is_present(device->device) && fits(it, device->device, LIBUSB_HOTPLUG_EVENT_DEVICE_ARRIVED))
+            call(context, it, device, LIBUSB_HOTPLUG_EVENT_DEVICE_ARRIVED);
+    }
+}
+
+static bool is_number(int value, int most)
+{
+    return value == LIBUSB_HOTPLUG_MATCH_ANY || (value >= 0 && value <= most);
+}
+
+int libusb_hotplug_register_callback(libusb_context *context, int events, int flags, int vendor, int product, int class,
+                                     libusb_hotplug_callback_fn call, void *user, libusb_hotplug_callback_handle *out)
+{
+    int known = LIBUSB_HOTPLUG_EVENT_DEVICE_ARRIVED | LIBUSB_HOTPLUG_EVENT_DEVICE_LEFT;
+    if (!events || events & ~known || flags & ~LIBUSB_HOTPLUG_ENUMERATE || !call)
+        return LIBUSB_ERROR_INVALID_PARAM;
+    if (!is_number(vendor, 0xffff) || !is_number(product, 0xffff) || !is_number(class, 0xff))
+        return LIBUSB_ERROR_INVALID_PARAM;
+    struct hotplug *it = malloc(sizeof *it);
+    if (!it)
+        return LIBUSB_ERROR_NO_MEM;
+    lock();
+    struct libusb_context *x = context_of(context);
+    *it = (struct hotplug){ .next = x->hotplugs, .id = ++x->hotplug_ids, .events = events, .vendor = vendor, .product = product,
+                            .class = class, .call = call, .user = user };
+    x->hotplugs = it;
+    if (out)
+        *out = it->id;
+    if (flags & LIBUSB_HOTPLUG_ENUMERATE)
+        enumerate(x, it);
+    unlock();
+    return 0;
+}
+
+static struct hotplug *find(struct libusb_context *context, int id)
+{
+    struct hotplug *it = context->hotplugs;
+    while (it && (it->id != id || it->is_over))
+        it = it->next;
+    return it;
+}
+
+void libusb_hotplug_deregister_callback(libusb_context *context, libusb_hotplug_callback_handle id)
+{
+    lock();
+    struct hotplug *it = find(context_of(context), id);
+    if (it)
+        it->is_over = true;
+    unlock();
+}
+
+void *libusb_hotplug_get_user_data(libusb_context *context, libusb_hotplug_callback_handle id)
+{
+    lock();
+    struct hotplug *it = find(context_of(context), id);
+    void *user = it ? it->user : NULL;
+    unlock();
+    return user;
+}

@@ -1,0 +1,148 @@
+/* Endpoints' queues. The core has 16 places an endpoint and takes 262,144 bytes; libusb has no such bounds. So transfers wait here for a
+ * place, and longer ones go in pieces, with nobody between. */
+#include "bus.h"
+
+void join(struct transfers *queue, struct transfer *transfer)
+{
+    transfer->behind = NULL;
+    if (queue->last)
+        queue->last->behind = transfer;
+    else
+        queue->first = transfer;
+    queue->last = transfer;
+}
+
+static void join_first(struct transfers *queue, struct transfer *transfer)
+{
+    transfer->behind = queue->first;
+    queue->first = transfer;
+    if (!queue->last)
+        queue->last = transfer;
+}
+
+void leave(struct transfers *queue, struct transfer *transfer)
+{
+    struct transfer **at = &queue->first, *before = NULL;
+    while (*at && *at != transfer) {
+        before = *at;
+        at = &before->behind;
+    }
+    if (!*at)
+        return;
+    *at = transfer->behind;
+    if (queue->last == transfer)
+        queue->last = before;
+}
+
+static void activate(struct pipe *pipe)
+{
+    if (!pipe->is_active)
+        process.bus.active[process.bus.active_count++] = pipe;
+    pipe->is_active = true;
+}
+
+/* The bytes of a piece but the last: whole packets, so that no packet goes past a piece's end. */
+static int most_of(const struct pipe *pipe)
+{
+    return pipe->packet ? MOST_BYTES - MOST_BYTES % pipe->packet : MOST_BYTES;
+}
+
+static int left_of(struct transfer *transfer)
+{
+    return seen(transfer)->length - transfer->moved;
+}
+
+static bool is_whole(struct transfer *transfer)
+{
+    return left_of(transfer) <= most_of(transfer->pipe);
+}
+
+static bool may_go(const struct pipe *pipe, struct transfer *transfer)
+{
+    if (pipe->cut && pipe->cut != transfer)
+        return false;
+    return pipe->in_core < (is_whole(transfer) ? PLACES : 1);
+}
+
+/* Its next piece goes into the core. */
+static int submit_piece(struct transfer *transfer)
+{
+    struct pipe *pipe = transfer->pipe;
+    bool is_last = is_whole(transfer);
+    int piece = is_last ? left_of(transfer) : most_of(pipe);
+    uint8_t flags = LIBUSB_TRANSFER_SHORT_NOT_OK | (is_last ? LIBUSB_TRANSFER_ADD_ZERO_PACKET : 0);
+    int r = core_submit(transfer, piece, seen(transfer)->flags & flags);
+    if (r)
+        return r;
+    transfer->piece = piece;
+    transfer->stage = IN_CORE;
+    pipe->cut = is_last ? NULL : transfer;
+    pipe->in_core++;
+    activate(pipe);
+    return 0;
+}
+
+int submit_at_endpoint(struct transfer *transfer)
+{
+    struct pipe *pipe = transfer->pipe;
+    if (!pipe->queue.first && may_go(pipe, transfer)) {
+        int r = submit_piece(transfer);
+        if (r != LIBUSB_ERROR_BUSY)
+            return r;
+    }
+    transfer->stage = QUEUED;
+    join(&pipe->queue, transfer);
+    activate(pipe);
+    return 0;
+}
+
+/* Those that wait go on into the core, as far as there is room; whether one did. */
+bool feed(struct pipe *pipe)
+{
+    bool any = false;
+    struct transfer *transfer;
+    while ((transfer = pipe->queue.first) && may_go(pipe, transfer)) {
+        int r = submit_piece(transfer);
+        if (r == LIBUSB_ERROR_BUSY)
+            break;
+        any = true;
+        leave(&pipe->queue, transfer);
+        if (r)
+            end_transfer(transfer, r == LIBUSB_ERROR_NO_DEVICE ? LIBUSB_TRANSFER_NO_DEVICE : LIBUSB_TRANSFER_ERROR, transfer->moved);
+    }
+    return any;
+}
+
+static void finish_piece(struct transfer *transfer, const struct tirnouch_told *told)
+{
+    struct pipe *pipe = transfer->pipe;
+    bool is_cut = pipe->cut == transfer;
+    pipe->in_core--;
+    if (!is_cut || told->status != LIBUSB_TRANSFER_COMPLETED || (int)told->amount != transfer->piece || transfer->is_dropped) {
+        end_transfer(transfer, told->status, transfer->moved + (int)told->amount);
+        return;
+    }
+    transfer->moved += transfer->piece;
+    if (transfer->ask) {
+        bool is_late = transfer->ask == ASKED_TO_EXPIRE;
+        end_transfer(transfer, is_late ? LIBUSB_TRANSFER_TIMED_OUT : LIBUSB_TRANSFER_CANCELLED, transfer->moved);
+        return;
+    }
+    transfer->stage = QUEUED;
+    join_first(&pipe->queue, transfer);
+}
+
+/* Results go out of the core; whether there was one. */
+bool reap(void)
+{
+    struct tirnouch_told told;
+    bool any = false;
+    while (core_take(&told)) {
+        struct transfer *transfer = (struct transfer *)(uintptr_t)told.payload;
+        struct pipe *pipe = transfer->pipe;
+        finish_piece(transfer, &told);
+        feed(pipe);
+        any = true;
+    }
+    return any;
+}

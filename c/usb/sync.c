@@ -1,0 +1,116 @@
+/* Transfers that are waited for, over those that aren't (libusb 1.0, "Synchronous device I/O"). */
+#include "bus.h"
+
+#include <errno.h>
+#include <stdlib.h>
+#include <string.h>
+
+static void complete(struct libusb_transfer *transfer)
+{
+    __atomic_store_n((int *)transfer->user_data, 1, __ATOMIC_RELEASE);
+}
+
+/* A callback may not wait for another. */
+static bool is_in_callback(struct libusb_context *context)
+{
+    lock();
+    bool r = is_handler(context) && context->is_calling;
+    unlock();
+    return r;
+}
+
+/* Where the handle is closed meanwhile, the transfer was dropped. */
+static void await(struct libusb_transfer *transfer, struct libusb_context *context, int *completed)
+{
+    while (!is_set(completed)) {
+        int r = libusb_handle_events_completed(context, completed);
+        if (r < 0 && r != LIBUSB_ERROR_INTERRUPTED)
+            libusb_cancel_transfer(transfer);
+        if (!is_set(completed) && !__atomic_load_n(&transfer->dev_handle, __ATOMIC_ACQUIRE)) {
+            transfer->status = LIBUSB_TRANSFER_NO_DEVICE;
+            transfer->actual_length = 0;
+            return;
+        }
+    }
+}
+
+static int error_of(enum libusb_transfer_status status)
+{
+    switch (status) {
+    case LIBUSB_TRANSFER_COMPLETED: return 0;
+    case LIBUSB_TRANSFER_TIMED_OUT: return LIBUSB_ERROR_TIMEOUT;
+    case LIBUSB_TRANSFER_STALL: return LIBUSB_ERROR_PIPE;
+    case LIBUSB_TRANSFER_NO_DEVICE: return LIBUSB_ERROR_NO_DEVICE;
+    case LIBUSB_TRANSFER_OVERFLOW: return LIBUSB_ERROR_OVERFLOW;
+    case LIBUSB_TRANSFER_ERROR:
+    case LIBUSB_TRANSFER_CANCELLED: return LIBUSB_ERROR_IO;
+    }
+    return LIBUSB_ERROR_OTHER;
+}
+
+/* Submits it and waits for its end. What is left in errno is what libusb leaves there, which asks the system until nothing is left. */
+static int carry_out(struct libusb_transfer *transfer, struct libusb_context *context, int *completed)
+{
+    int r = libusb_submit_transfer(transfer);
+    if (r)
+        return r;
+    await(transfer, context, completed);
+    errno = EAGAIN;
+    return error_of(transfer->status);
+}
+
+int libusb_control_transfer(libusb_device_handle *handle, uint8_t type, uint8_t request, uint16_t value, uint16_t index,
+                            unsigned char *data, uint16_t length, unsigned int timeout)
+{
+    struct libusb_context *context = handle->context;
+    int completed = 0;
+    if (is_in_callback(context))
+        return LIBUSB_ERROR_BUSY;
+    struct libusb_transfer *transfer = libusb_alloc_transfer(0);
+    unsigned char *buffer = malloc(LIBUSB_CONTROL_SETUP_SIZE + length);
+    int r = transfer && buffer ? 0 : LIBUSB_ERROR_NO_MEM;
+    if (!r) {
+        libusb_fill_control_setup(buffer, type, request, value, index, length);
+        if (!(type & LIBUSB_ENDPOINT_IN) && length)
+            memcpy(buffer + LIBUSB_CONTROL_SETUP_SIZE, data, length);
+        libusb_fill_control_transfer(transfer, handle, buffer, complete, &completed, timeout);
+        r = carry_out(transfer, context, &completed);
+    }
+    if (!r) {
+        r = transfer->actual_length;
+        if (type & LIBUSB_ENDPOINT_IN && r)
+            memcpy(data, buffer + LIBUSB_CONTROL_SETUP_SIZE, (size_t)r);
+    }
+    free(buffer);
+    libusb_free_transfer(transfer);
+    return r;
+}
+
+static int move(libusb_device_handle *handle, uint8_t ep, uint8_t type, unsigned char *data, int length, int *moved, unsigned timeout)
+{
+    struct libusb_context *context = handle->context;
+    int completed = 0;
+    if (is_in_callback(context))
+        return LIBUSB_ERROR_BUSY;
+    struct libusb_transfer *transfer = libusb_alloc_transfer(0);
+    if (!transfer)
+        return LIBUSB_ERROR_NO_MEM;
+    libusb_fill_bulk_transfer(transfer, handle, ep, data, length, complete, &completed, timeout);
+    transfer->type = type;
+    int r = carry_out(transfer, context, &completed);
+    if (moved)
+        *moved = transfer->actual_length;
+    libusb_free_transfer(transfer);
+    return r;
+}
+
+int libusb_bulk_transfer(libusb_device_handle *handle, unsigned char ep, unsigned char *data, int length, int *moved, unsigned timeout)
+{
+    return move(handle, ep, LIBUSB_TRANSFER_TYPE_BULK, data, length, moved, timeout);
+}
+
+int libusb_interrupt_transfer(libusb_device_handle *handle, unsigned char ep, unsigned char *data, int length, int *moved,
+                              unsigned timeout)
+{
+    return move(handle, ep, LIBUSB_TRANSFER_TYPE_INTERRUPT, data, length, moved, timeout);
+}

@@ -1,0 +1,217 @@
+/* Transfers: they are made, submitted, cancelled and freed (libusb 1.0, "Asynchronous device I/O"). */
+#include "bus.h"
+
+#include <stdlib.h>
+
+struct libusb_transfer *libusb_alloc_transfer(int packets)
+{
+    if (packets < 0)
+        return NULL;
+    size_t seen_size = sizeof(struct libusb_transfer) + (size_t)packets * sizeof(struct libusb_iso_packet_descriptor);
+    struct transfer *transfer = calloc(1, sizeof *transfer + seen_size);
+    if (!transfer)
+        return NULL;
+    seen(transfer)->num_iso_packets = packets;
+    return seen(transfer);
+}
+
+static void take_off(struct transfer *transfer)
+{
+    struct transfers *flying = &transfer->context->flying;
+    if (transfer->previous)
+        transfer->previous->next = transfer->next;
+    else
+        flying->first = transfer->next;
+    if (transfer->next)
+        transfer->next->previous = transfer->previous;
+    else
+        flying->last = transfer->previous;
+}
+
+static void put_on(struct transfer *transfer)
+{
+    struct transfers *flying = &transfer->context->flying;
+    transfer->next = NULL;
+    transfer->previous = flying->last;
+    if (flying->last)
+        flying->last->next = transfer;
+    else
+        flying->first = transfer;
+    flying->last = transfer;
+}
+
+/* It isn't in progress any more, and will be called back, unless it was dropped. */
+void end_transfer(struct transfer *transfer, enum libusb_transfer_status status, int moved)
+{
+    struct libusb_context *context = transfer->context;
+    take_off(transfer);
+    if (transfer->pipe && transfer->pipe->cut == transfer)
+        transfer->pipe->cut = NULL;
+    transfer->stage = transfer->is_dropped ? AT_REST : ENDED;
+    if (transfer->is_freed) {
+        free(transfer);
+        return;
+    }
+    if (transfer->is_dropped)
+        return;
+    seen(transfer)->status = status;
+    seen(transfer)->actual_length = moved;
+    join(&context->ended, transfer);
+    wake(context);
+}
+
+/* Asks a transfer in progress to end: 0, or NOT_FOUND where it isn't in progress, or was asked before. */
+int cancel(struct transfer *transfer, enum ask ask)
+{
+    bool expires = ask == ASKED_TO_EXPIRE;
+    int r = LIBUSB_ERROR_NOT_FOUND;
+    if (transfer->ask)
+        return r;
+    if (transfer->stage == IN_CORE) {
+        const struct pipe *pipe = transfer->pipe;
+        int name = pipe->device->interfaces[pipe->interface].name;
+        r = core_call(expires ? TIRNOUCH_EXPIRE : TIRNOUCH_CANCEL, name, 0, transfer->number);
+        if (r == LIBUSB_ERROR_NOT_FOUND && pipe->cut == transfer)
+            r = 0;
+        if (!r)
+            transfer->ask = ask;
+        return r;
+    }
+    if (transfer->stage == QUEUED)
+        leave(&transfer->pipe->queue, transfer);
+    else if (transfer->stage == AT_CONTROL)
+        leave(&process.bus.controls, transfer);
+    else
+        return r;
+    end_transfer(transfer, expires ? LIBUSB_TRANSFER_TIMED_OUT : LIBUSB_TRANSFER_CANCELLED, transfer->moved);
+    return 0;
+}
+
+static void drop_ended(struct libusb_device_handle *handle)
+{
+    struct transfers *ended = &handle->context->ended;
+    for (struct transfer *it = ended->first, *behind; it; it = behind) {
+        behind = it->behind;
+        if (it->handle != handle)
+            continue;
+        leave(ended, it);
+        it->stage = AT_REST;
+        __atomic_store_n(&seen(it)->dev_handle, NULL, __ATOMIC_RELEASE);
+    }
+}
+
+/* What a handle has in progress at an interface, or at all (-1), is cancelled and ends here: it waits for its callback, or is
+ * dropped, as libusb has it where a handle is closed. */
+void withdraw(struct libusb_device_handle *handle, int interface, bool drops)
+{
+    struct libusb_context *context = handle->context;
+    for (struct transfer *it = context->flying.first, *next; it; it = next) {
+        next = it->next;
+        if (it->handle != handle || (interface >= 0 && (!it->pipe || it->pipe->interface != interface)))
+            continue;
+        if (drops) {
+            note(context, LIBUSB_LOG_LEVEL_ERROR, "a handle is closed with a transfer in progress: it is dropped");
+            it->is_dropped = true;
+            __atomic_store_n(&seen(it)->dev_handle, NULL, __ATOMIC_RELEASE);
+        }
+        cancel(it, ASKED_TO_CANCEL);
+    }
+    do
+        settle_all();
+    while (reap());
+    if (drops)
+        drop_ended(handle);
+}
+
+/* A transfer of bulk type may be at an interrupt endpoint, as Linux takes it. */
+static bool fits(const struct pipe *pipe, const struct libusb_transfer *it)
+{
+    return it->type == pipe->kind || (it->type == LIBUSB_TRANSFER_TYPE_BULK && pipe->kind == LIBUSB_TRANSFER_TYPE_INTERRUPT);
+}
+
+static int submit_to_pipe(struct transfer *transfer)
+{
+    const struct libusb_transfer *it = seen(transfer);
+    struct pipe *pipe = &transfer->handle->device->pipes[place_of(it->endpoint)];
+    if (it->endpoint != pipe->ep || !pipe->kind)
+        return LIBUSB_ERROR_NOT_FOUND;
+    if (!fits(pipe, it))
+        return LIBUSB_ERROR_INVALID_PARAM;
+    int r = claim_in_passing(transfer->handle, pipe->interface);
+    if (r)
+        return r;
+    transfer->pipe = pipe;
+    return submit_at_endpoint(transfer);
+}
+
+static int submit(struct transfer *transfer)
+{
+    struct libusb_transfer *it = seen(transfer);
+    struct libusb_device_handle *handle = it->dev_handle;
+    if (transfer->stage != AT_REST)
+        return LIBUSB_ERROR_BUSY;
+    if (handle->is_closing || handle->device->is_gone)
+        return LIBUSB_ERROR_NO_DEVICE;
+    if (it->length < 0 || (it->length && !it->buffer))
+        return LIBUSB_ERROR_INVALID_PARAM;
+    bool is_control = it->type == LIBUSB_TRANSFER_TYPE_CONTROL;
+    if (!is_control && it->type != LIBUSB_TRANSFER_TYPE_BULK && it->type != LIBUSB_TRANSFER_TYPE_INTERRUPT)
+        return LIBUSB_ERROR_NOT_SUPPORTED;
+    *transfer = (struct transfer){ .context = handle->context, .handle = handle, .deadline = deadline_of(it->timeout) };
+    int r = is_control ? submit_control(transfer) : submit_to_pipe(transfer);
+    if (r)
+        return r;
+    put_on(transfer);
+    uint64_t *earliest = &handle->context->earliest;
+    if (transfer->deadline && (!*earliest || transfer->deadline < *earliest))
+        *earliest = transfer->deadline;
+    wake(handle->context);
+    return 0;
+}
+
+int libusb_submit_transfer(struct libusb_transfer *transfer)
+{
+    if (!transfer->dev_handle)
+        return LIBUSB_ERROR_NO_DEVICE;
+    lock();
+    shake();
+    int r = submit(kept(transfer));
+    unlock();
+    return r;
+}
+
+int libusb_cancel_transfer(struct libusb_transfer *transfer)
+{
+    lock();
+    shake();
+    int r = cancel(kept(transfer), ASKED_TO_CANCEL);
+    if (!r)
+        wake(kept(transfer)->context);
+    unlock();
+    return r;
+}
+
+/* One that is in progress is the program's error. It is told, cancelled and dropped; its memory goes when it ended. */
+void libusb_free_transfer(struct libusb_transfer *transfer)
+{
+    if (!transfer)
+        return;
+    struct transfer *it = kept(transfer);
+    lock();
+    if (transfer->flags & LIBUSB_TRANSFER_FREE_BUFFER)
+        free(transfer->buffer);
+    transfer->buffer = NULL;
+    if (it->stage == AT_REST || it->stage == ENDED) {
+        if (it->stage == ENDED)
+            leave(&it->context->ended, it);
+        free(it);
+    } else {
+        note(it->context, LIBUSB_LOG_LEVEL_ERROR, "a transfer is freed in progress: it is cancelled and dropped");
+        it->is_dropped = it->is_freed = true;
+        cancel(it, ASKED_TO_CANCEL);
+        do
+            settle_all();
+        while (reap());
+    }
+    unlock();
+}

@@ -1,0 +1,14 @@
+pub mod Slots
+pub mod Told
+pub mod Sessions
+pub mod Calls
+pub mod Submission
+pub mod Packets
+pub mod Settling
+pub mod Buffers
+pub mod Results
+pub mod Reads
+pub mod Requests
+pub mod Descriptions
+pub mod Turn
+pub mod Exports

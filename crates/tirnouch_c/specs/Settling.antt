@@ -1,0 +1,60 @@
+-- What is to be done, until nothing is.
+use Rattle.std.specs.Prelude.{◌≡◌, ℕ, zero, suc, ◌<◌, ◌≤◌, Bool, true, false, find, Option, Some, None, if◌then◌else◌}
+use Rattle.std.specs.Option.{option_map}
+use Rattle.usb_core.specs.Public.{ShowsWorld, StillCarries, does_something}
+use Rattle.usb_steps.specs.Pending.{in_circle, serves}
+use Rattle.usb_model.specs.declared.step.Step.{Step}
+use Rattle.usb_model.specs.declared.step.Step.TheVariants.{Command, Deliver, Serve}
+use Rattle.usb_model.specs.Coherence.{has_asked}
+use Rattle.usb_model.specs.Laws.Bounds.{line_at}
+use Rattle.usb_model.specs.Machine.{endpoint_at}
+use Rattle.usb_model.specs.Setup.{Setup}
+use Rattle.usb_model.specs.World.{World, machine_of, turn}
+use Rattle.tirnouch_c.specs.declared.session.Session.{Session}
+use Rattle.tirnouch_c.specs.declared.told.Told.{Told}
+use Rattle.tirnouch_c.specs.Calls.{SameBeside}
+use Rattle.tirnouch_c.specs.Told.{bit, of_kind}
+
+-- the packet that is to be served next: the first that does something, by device and address
+abbrev pub next_packet : Setup → World → Option Step
+next_packet setup w = option_map (λ x. Serve x.0 x.1) (find (λ x. serves setup w x.0 x.1) (in_circle None))
+
+-- the step that is to be made next: an event is handled before an order runs, and an order runs before a packet is served
+abbrev pub next_step : Setup → Bool → World → Option Step
+next_step setup packets w =
+    if does_something setup w Deliver then Some Deliver
+    else if does_something setup w Command then Some Command
+    else if packets then next_packet setup w
+    else None
+
+-- whether there is none
+abbrev pub is_nothing : Option Step → Bool
+is_nothing None = true
+is_nothing (Some step) = false
+
+-- the world behind a step, if there is one
+abbrev pub behind_step : Setup → World → Option Step → World
+behind_step setup w None = w
+behind_step setup w (Some step) = (turn setup w step).world
+
+-- the world behind so many of them
+unfoldable pub worked : Setup → Bool → World → ℕ → World
+worked setup packets w zero = w
+worked setup packets w (suc k) = behind_step setup (worked setup packets w k) (next_step setup packets (worked setup packets w k))
+
+-- no transfer of any handle that was asked to end is in progress
+abbrev pub NoneAsked : Setup → World → Type 0
+NoneAsked setup w = (h ep : ℕ) → has_asked (line_at (endpoint_at (machine_of setup h w) ep)) ≡ false
+
+-- as many steps as are told, each of which was to be made; fewer than wanted only where nothing is left. Then each transfer that was asked to end has ended
+pub record Settles (packets : Bool) (most : ℕ) (told : Told) (s t : Session) : Type 0 where
+  pub quiet : Bool
+  pub told_is : told ≡ record (of_kind 255 0) { amount = told.amount; status = bit quiet }
+  pub within : told.amount ≤ most
+  pub shows : (setup : Setup) (w : World) → ShowsWorld setup s.core w → ShowsWorld setup t.core (worked setup packets w told.amount)
+  pub each : (setup : Setup) (w : World) (k : ℕ) → ShowsWorld setup s.core w → k < told.amount → next_step setup packets (worked setup packets w k) ≡ None → ⊥
+  pub nothing_left : (setup : Setup) (w : World) → ShowsWorld setup s.core w → quiet ≡ true → next_step setup packets (worked setup packets w told.amount) ≡ None
+  pub ended : (setup : Setup) (w : World) → ShowsWorld setup s.core w → quiet ≡ true → NoneAsked setup (worked setup packets w told.amount)
+  pub whole : quiet ≡ false → told.amount ≡ most
+  pub carries : StillCarries s.core t.core
+  pub same : SameBeside s t

@@ -1,0 +1,60 @@
+-- What a submission says.
+use Rattle.std.specs.Prelude.{◌≡◌, ℕ, ℤ, ◌==◌, nat_lt, List, Option, Some, None, if◌then◌else◌}
+use Rattle.std.specs.Option.{option_map}
+use Rattle.usb_core.specs.Public.{CarriesMore, State, Stays, StillCarries, TurnsWorld}
+use Rattle.usb_model.specs.declared.refused.Refused.TheVariants.{NoMem}
+use Rattle.usb_model.specs.declared.reply.Reply.{Reply}
+use Rattle.usb_model.specs.declared.reply.Reply.TheVariants.{Number, Refused as IsRefused}
+use Rattle.usb_model.specs.declared.request.Body.{Body}
+use Rattle.usb_model.specs.declared.request.Body.TheVariants.{In, Out}
+use Rattle.usb_model.specs.declared.request.Kind.{Kind}
+use Rattle.usb_model.specs.declared.request.Kind.TheVariants.{Bulk, Control, Interrupt, Isochronous}
+use Rattle.usb_model.specs.declared.request.Request.{Request}
+use Rattle.usb_model.specs.declared.step.Step.TheVariants.{Submit}
+use Rattle.usb_model.specs.Setup.{is_in}
+use Rattle.tirnouch_c.specs.declared.session.Session.{Session}
+use Rattle.tirnouch_c.specs.declared.told.Told.{Told}
+use Rattle.tirnouch_c.specs.Calls.{SameBeside, out_of_range}
+use Rattle.tirnouch_c.specs.Told.{code_of, told_of}
+
+-- the kind of libusb's number (libusb_transfer_type)
+unfoldable pub kind_by : ℕ → Option Kind
+kind_by number =
+    if number == 0 then Some Control
+    else if number == 1 then Some Isochronous
+    else if number == 2 then Some Bulk
+    else if number == 3 then Some Interrupt
+    else None
+
+-- room where an endpoint is for IN, else these bytes
+abbrev pub body_by : (ep room : ℕ) → List ℕ → Body
+body_by ep room bytes = if is_in ep then In room else Out bytes
+
+-- the request of these numbers
+abbrev pub request_by : (ep kind flags timeout room : ℕ) → List ℕ → Option Request
+request_by ep kind flags timeout room bytes = option_map (λ k. record { ep = ep; kind = k; flags = record { 0 = flags }; timeout = timeout; body = body_by ep room bytes }) (kind_by kind)
+
+-- what a submission makes of the core: accepted, it is the world's turn, and this is kept under its number; refused, the world's turn; without memory nothing changed
+abbrev pub SubmitsAs : ℕ → Request → ℕ → Reply → (s t : State ℕ) → Type 0
+SubmitsAs h request payload (Number n) s t = TurnsWorld s (Submit h request) (record { owner = Some h; reply = Number n }) t × CarriesMore h n payload s t
+SubmitsAs h request payload (IsRefused NoMem) s t = Stays s t × StillCarries s t
+SubmitsAs h request payload (IsRefused why) s t = TurnsWorld s (Submit h request) (record { owner = Some h; reply = IsRefused why }) t × StillCarries s t
+SubmitsAs h request payload reply s t = ⊥
+
+-- and what is answered and told of it
+pub record Submits (h : ℕ) (request : Request) (payload : ℕ) (answer : ℤ) (told : Told) (s t : Session) : Type 0 where
+  pub reply : Reply
+  pub answered : answer ≡ code_of reply
+  pub told_is : told ≡ told_of (record { owner = Some h; reply = reply })
+  pub made : SubmitsAs h request payload reply s.core t.core
+  pub same : SameBeside s t
+
+-- the same of a request that may be none
+abbrev pub SubmitsIf : ℕ → Option Request → ℕ → ℤ → Told → (s t : Session) → Type 0
+SubmitsIf h None payload answer told s t = (answer ≡ out_of_range) × (t ≡ s)
+SubmitsIf h (Some request) payload answer told s t = Submits h request payload answer told s t
+
+-- and of a number that may be no handle's
+abbrev pub SubmitsBy : (h ep kind flags timeout room : ℕ) → List ℕ → ℕ → ℤ → Told → (s t : Session) → Type 0
+SubmitsBy h ep kind flags timeout room bytes payload answer told s t =
+    SubmitsIf h (if nat_lt h 64 then request_by ep kind flags timeout room bytes else None) payload answer told s t

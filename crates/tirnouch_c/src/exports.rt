@@ -1,0 +1,457 @@
+//! What C calls: numbers and buffers, over a slot that holds a session.
+
+ghost use Rattle.std.specs.Prelude.{◌≡◌, IfErr, IfOk, IfSome, false, pos};
+ghost use Rattle.usb_core.specs.Public.{takes_memory};
+ghost use Rattle.usb_desk.specs.Packet.{needs_of, packet_of};
+ghost use Rattle.tirnouch_c.specs.Calls.{Calls, InSlot, ReadsSlot, step_of};
+ghost use Rattle.tirnouch_c.specs.Exports.{Creates, Destroys, PendsBy, ServesBy, SettlesBy, TakenBy, WorksBy, after, device_by};
+ghost use Rattle.tirnouch_c.specs.Sessions.{IsMade, IsUnmade};
+ghost use Rattle.tirnouch_c.specs.Descriptions.{Describes, Tells};
+ghost use Rattle.tirnouch_c.specs.Results.{Fetches, Takes};
+ghost use Rattle.tirnouch_c.specs.Requests.{Asks, needs_told};
+ghost use Rattle.tirnouch_c.specs.Submission.{SubmitsBy};
+
+use crate::calls::{make, step_by};
+use crate::held::Slot;
+use crate::session::Session;
+use crate::told::Told;
+use crate::{descriptions, packets, reads, requests, results, settling, submission, turn};
+use std::alloc::Global;
+use trace_scenario::TextFault;
+use usb_desk::SetupPacket;
+use usb_model::{DeviceNo, EpAddr, Name, Step};
+
+/// The answer of a slot that holds no session (libusb 1.0, `LIBUSB_ERROR_OTHER`).
+const NO_SESSION: i32 = -99;
+
+/// The answer of a call with a number that is out of range (libusb 1.0, `LIBUSB_ERROR_INVALID_PARAM`).
+const INVALID: i32 = -2;
+
+/// The answer of a slot that holds a session already (libusb 1.0, `LIBUSB_ERROR_BUSY`).
+const BUSY: i32 = -6;
+
+/// Want of memory (libusb 1.0, `LIBUSB_ERROR_NO_MEM`).
+const NO_MEM: i32 = -11;
+
+/// A box of a new session.
+fn boxed(alloc: Global, text: &[u8]) -> Result<Box<Session>, TextFault>
+    ensures made { IfOk result (λ session. IsMade text.now session.value) }
+    ensures unmade { IfErr result (λ fault. IsUnmade text.now fault) }
+{
+    let session = Session::new(alloc, text)?;
+    match Box::new(alloc, session) {
+        Ok(session) => Ok(session),
+        Err(_) => Err(TextFault::Memory),
+    }
+}
+
+/// Makes a session with the devices of a text: 0. InvalidParam where a line of the text isn't taken, whose number is told; NoMem
+/// where memory is refused; Busy where the slot holds a session already. Then nothing changed.
+#[unsafe(no_mangle)]
+pub extern "C" fn tirnouch_create(
+    alloc: Global,
+    slot: &mut Slot,
+    text: &[u8],
+    told: &mut Told,
+) -> i32
+    ensures { Creates text.now result told.new slot.old.held.value slot.new.held.value }
+{
+    if slot.is_full() {
+        return BUSY;
+    }
+    match boxed(alloc, text) {
+        Ok(session) => {
+            slot.put(alloc, session);
+            0
+        }
+        Err(TextFault::Line(line)) => {
+            *told = Told::line(line);
+            INVALID
+        }
+        Err(TextFault::Memory) => NO_MEM,
+    }
+}
+
+/// Frees the session of a slot.
+#[unsafe(no_mangle)]
+pub extern "C" fn tirnouch_destroy(alloc: Global, slot: &mut Slot) -> i32
+    ensures { Destroys result slot.old.held.value slot.new.held.value }
+{
+    match slot.take(alloc) {
+        Some(_) => 0,
+        None => NO_SESSION,
+    }
+}
+
+/// A step of a verb and a number that may be no handle's.
+fn call_in(session: &mut Session, verb: u8, h: u8, a: u8, n: u64, told: &mut Told) -> i32
+    ensures { Calls verb h a n result told.new session.old session.new }
+{
+    match step_of(verb, h, a, n) {
+        None => INVALID,
+        Some(step) => make(session, step, told),
+    }
+}
+
+/// The step of a verb and a number that may be no handle's.
+fn step_of(verb: u8, h: u8, a: u8, n: u64) -> Option<Step>
+    ensures step { result ≡ step_of verb h a n }
+    ensures free { IfSome result (λ step. takes_memory step ≡ false) }
+{
+    step_by(verb, Name::new(h)?, a, n)
+}
+
+/// A step of a handle, or that a device is unplugged. `verb`: 0 open (a: device), 1 close, 2 claim (a: interface), 3 release, 4
+/// reset, 5 clear halt (a: endpoint), 6 cancel (n: transfer), 7 expire, 11 unplug (a: device).
+#[unsafe(no_mangle)]
+pub extern "C" fn tirnouch_call(
+    alloc: Global,
+    slot: &mut Slot,
+    verb: u8,
+    h: u8,
+    a: u8,
+    n: u64,
+    told: &mut Told,
+) -> i32
+    ensures { InSlot slot.old.held.value slot.new.held.value result (Calls verb h a n result told.new) }
+{
+    let Some(mut session) = slot.take(alloc) else {
+        return NO_SESSION;
+    };
+    let answer = call_in(&mut session, verb, h, a, n, told);
+    slot.put(alloc, session);
+    answer
+}
+
+/// A submission of numbers of any kind.
+fn submit_in(
+    alloc: Global,
+    session: &mut Session,
+    h: u8,
+    ep: u8,
+    kind: u8,
+    flags: u8,
+    timeout: u32,
+    room: u32,
+    buffer: &[u8],
+    payload: u64,
+    told: &mut Told,
+) -> i32
+    ensures { SubmitsBy h ep kind flags timeout room buffer.now payload result told.new session.old session.new }
+{
+    let Some(name) = Name::new(h) else {
+        return INVALID;
+    };
+    let request = submission::request_by(
+        alloc,
+        EpAddr::new(ep),
+        kind,
+        flags,
+        timeout,
+        room,
+        buffer,
+    );
+    match request {
+        Ok(Some(request)) => submission::submit(session, name, request, payload, told),
+        Ok(None) => INVALID,
+        Err(_) => submission::refuse(name, told),
+    }
+}
+
+/// Submits a transfer (libusb 1.0, `libusb_submit_transfer`); its number is told. It reads at most `room` bytes, where the endpoint
+/// is for IN, and else writes these. With it `payload` is kept, which is told when it goes out.
+#[unsafe(no_mangle)]
+pub extern "C" fn tirnouch_submit(
+    alloc: Global,
+    slot: &mut Slot,
+    h: u8,
+    ep: u8,
+    kind: u8,
+    flags: u8,
+    timeout: u32,
+    room: u32,
+    buffer: &[u8],
+    payload: u64,
+    told: &mut Told,
+) -> i32
+    ensures { InSlot slot.old.held.value slot.new.held.value result (SubmitsBy h ep kind flags timeout room buffer.now payload result told.new) }
+{
+    let Some(mut session) = slot.take(alloc) else {
+        return NO_SESSION;
+    };
+    let answer = submit_in(
+        alloc,
+        &mut session,
+        h,
+        ep,
+        kind,
+        flags,
+        timeout,
+        room,
+        buffer,
+        payload,
+        told,
+    );
+    slot.put(alloc, session);
+    answer
+}
+
+/// Packets at an endpoint of a number that may be no device's.
+fn serve_in(session: &mut Session, dev: u8, ep: u8, most: u32, told: &mut Told) -> i32
+    ensures { ServesBy dev ep most result told.new session.old session.new }
+{
+    match device(dev) {
+        None => INVALID,
+        Some(dev) => {
+            packets::serve(session, dev, EpAddr::new(ep), most, told);
+            0
+        }
+    }
+}
+
+/// The device of a number, if there may be one.
+fn device(dev: u8) -> Option<DeviceNo>
+    ensures { result ≡ device_by dev }
+{
+    DeviceNo::new(dev)
+}
+
+/// A device answers at most so many packets at an endpoint: until one ends a transfer, or it has no answer. The last one is told,
+/// and in `amount` how many they were.
+#[unsafe(no_mangle)]
+pub extern "C" fn tirnouch_serve(
+    alloc: Global,
+    slot: &mut Slot,
+    dev: u8,
+    ep: u8,
+    most: u32,
+    told: &mut Told,
+) -> i32
+    ensures { InSlot slot.old.held.value slot.new.held.value result (ServesBy dev ep most result told.new) }
+{
+    let Some(mut session) = slot.take(alloc) else {
+        return NO_SESSION;
+    };
+    let answer = serve_in(&mut session, dev, ep, most, told);
+    slot.put(alloc, session);
+    answer
+}
+
+/// Makes what is to be done, at most so many steps: events are handled and orders run, and packets are served where `packets`
+/// isn't 0. How many they were is told in `amount`, and in `status` 1 where nothing is left.
+#[unsafe(no_mangle)]
+pub extern "C" fn tirnouch_settle(
+    alloc: Global,
+    slot: &mut Slot,
+    packets: u8,
+    most: u32,
+    told: &mut Told,
+) -> i32
+    ensures { InSlot slot.old.held.value slot.new.held.value result (SettlesBy packets most result told.new) }
+{
+    let Some(mut session) = slot.take(alloc) else {
+        return NO_SESSION;
+    };
+    settling::settle(&mut session, packets != 0, most, told);
+    slot.put(alloc, session);
+    0
+}
+
+/// What is to be done next: `kind` is 1 where a packet does something, and `h` and `ep` are the device and the endpoint, looked for
+/// from behind this one on; `status` has 1 for an order, 2 for an event, 4 for a result.
+#[unsafe(no_mangle)]
+pub extern "C" fn tirnouch_pending(
+    alloc: Global,
+    slot: &mut Slot,
+    dev: u8,
+    ep: u8,
+    told: &mut Told,
+) -> i32
+    ensures { ReadsSlot slot.old.held.value slot.new.held.value result (PendsBy dev ep result told.new) }
+{
+    let Some(session) = slot.take(alloc) else {
+        return NO_SESSION;
+    };
+    reads::pending(&session, after(dev, ep), told);
+    slot.put(alloc, session);
+    0
+}
+
+/// The endpoint behind which is looked; none where there is no such device.
+fn after(dev: u8, ep: u8) -> Option<(DeviceNo, EpAddr)>
+    ensures { result ≡ after dev ep }
+{
+    match device(dev) {
+        Some(dev) => Some((dev, EpAddr::new(ep))),
+        None => None,
+    }
+}
+
+/// The oldest result goes out, and its callback ends: 1, and it is told; 0 where none waits. NoMem where memory is refused, with
+/// nothing changed.
+#[unsafe(no_mangle)]
+pub extern "C" fn tirnouch_take(alloc: Global, slot: &mut Slot, told: &mut Told) -> i32
+    ensures { InSlot slot.old.held.value slot.new.held.value result (Takes result told.new) }
+{
+    let Some(mut session) = slot.take(alloc) else {
+        return NO_SESSION;
+    };
+    let answer = results::take(&mut session, told);
+    slot.put(alloc, session);
+    answer
+}
+
+/// Packets, what is to be done and the oldest result, of a number that may be no device's.
+fn turn_in(session: &mut Session, dev: u8, ep: u8, packets: u32, steps: u32, told: &mut Told) -> i32
+    ensures { WorksBy dev ep packets steps result told.new session.old session.new }
+{
+    match device(dev) {
+        None => INVALID,
+        Some(dev) => turn::work(session, dev, EpAddr::new(ep), packets, steps, told),
+    }
+}
+
+/// `tirnouch_serve`, `tirnouch_settle` without packets, and `tirnouch_take`, in one call: at most so many packets, and so many steps.
+/// The answer is that of the last, and so is what is told.
+#[unsafe(no_mangle)]
+pub extern "C" fn tirnouch_turn(
+    alloc: Global,
+    slot: &mut Slot,
+    dev: u8,
+    ep: u8,
+    packets: u32,
+    steps: u32,
+    told: &mut Told,
+) -> i32
+    ensures { InSlot slot.old.held.value slot.new.held.value result (WorksBy dev ep packets steps result told.new) }
+{
+    let Some(mut session) = slot.take(alloc) else {
+        return NO_SESSION;
+    };
+    let answer = turn_in(&mut session, dev, ep, packets, steps, told);
+    slot.put(alloc, session);
+    answer
+}
+
+/// The bytes of the result that went out last, as far as there is room, just once; how many they were.
+#[unsafe(no_mangle)]
+pub extern "C" fn tirnouch_fetch(alloc: Global, slot: &mut Slot, buffer: &mut [u8]) -> i32
+    ensures { InSlot slot.old.held.value slot.new.held.value result (Fetches result buffer.old buffer.new) }
+{
+    let Some(mut session) = slot.take(alloc) else {
+        return NO_SESSION;
+    };
+    let answer = results::fetch(&mut session, buffer);
+    slot.put(alloc, session);
+    answer
+}
+
+/// A packet that a device of any number took.
+fn taken_in(session: &Session, dev: u8, ep: u8, i: usize, buffer: &mut [u8]) -> i32
+    ensures { TakenBy dev ep i result buffer.old buffer.new session.now }
+{
+    match device(dev) {
+        None => INVALID,
+        Some(dev) => reads::taken(session, dev, EpAddr::new(ep), i, buffer),
+    }
+}
+
+/// The packet of this index, from 0 on, that a device took at an endpoint: its length, and its bytes, as far as there is room; -1
+/// past the last.
+#[unsafe(no_mangle)]
+pub extern "C" fn tirnouch_taken(
+    alloc: Global,
+    slot: &mut Slot,
+    dev: u8,
+    ep: u8,
+    i: usize,
+    buffer: &mut [u8],
+) -> i32
+    ensures { ReadsSlot slot.old.held.value slot.new.held.value result (TakenBy dev ep i result buffer.old buffer.new) }
+{
+    let Some(session) = slot.take(alloc) else {
+        return NO_SESSION;
+    };
+    let answer = taken_in(&session, dev, ep, i, buffer);
+    slot.put(alloc, session);
+    answer
+}
+
+/// A device answers a request on its default control endpoint (USB 2.0, 9.3), of which these are the 8 bytes of the setup packet.
+/// What is read stands in `buffer`, as far as there is room. `kind` is 4 where the device isn't ready, else 11, with `status` and
+/// `amount` as of a transfer.
+#[unsafe(no_mangle)]
+pub extern "C" fn tirnouch_request(
+    alloc: Global,
+    slot: &mut Slot,
+    dev: u8,
+    setup: &[u8; 8],
+    buffer: &mut [u8],
+    told: &mut Told,
+) -> i32
+    ensures { InSlot slot.old.held.value slot.new.held.value result (Asks dev (packet_of setup.now) result told.new buffer.old buffer.new) }
+{
+    let packet = SetupPacket::read(setup);
+    let Some(mut session) = slot.take(alloc) else {
+        return NO_SESSION;
+    };
+    let answer = requests::ask(alloc, &mut session, dev, &packet, buffer, told);
+    slot.put(alloc, session);
+    answer
+}
+
+/// What a host has to hold for a request, of which these are the 8 bytes of the setup packet, as Linux has it: where a standard or
+/// class request is to an interface, that (`kind` 1, its number in `n`); where it is to an endpoint but 0, that (`kind` 2, its
+/// address in `ep`); else nothing (`kind` 0).
+#[unsafe(no_mangle)]
+pub extern "C" fn tirnouch_needs(setup: &[u8; 8], told: &mut Told) -> i32
+    ensures told { told.new ≡ needs_told (needs_of (packet_of setup.now)) }
+    ensures answer { result ≡ pos 0 }
+{
+    *told = Told::needs(SetupPacket::read(setup).needs());
+    0
+}
+
+/// A descriptor of a device by its type (USB 2.0, 9.4): 1 its device descriptor, 2 its configuration, 3 the string of an index. How
+/// long it is, and its bytes, as far as there is room; NotFound where there is none.
+#[unsafe(no_mangle)]
+pub extern "C" fn tirnouch_describe(
+    alloc: Global,
+    slot: &mut Slot,
+    dev: u8,
+    kind: u8,
+    index: u8,
+    buffer: &mut [u8],
+) -> i32
+    ensures { ReadsSlot slot.old.held.value slot.new.held.value result (Describes dev kind index result buffer.old buffer.new) }
+{
+    let Some(session) = slot.take(alloc) else {
+        return NO_SESSION;
+    };
+    let answer = descriptions::describe(&session, dev, kind, index, buffer);
+    slot.put(alloc, session);
+    answer
+}
+
+/// What the text says of a device in numbers. `what`: 0 its speed in `kind` (libusb 1.0, `libusb_speed`), in `status` 1 where it
+/// isn't there yet, and in `amount` 1 where it begins anew with each claim; 1 the interface in `n` for which the system has a driver; 2
+/// answers that wait: those of `ep` from place `amount` on, until `n` packets were taken at the endpoint in `status`; 3 when it is
+/// pulled out: behind `amount` answers of `ep`. Of several that of index `i`, from 0 on; NotFound past the last.
+#[unsafe(no_mangle)]
+pub extern "C" fn tirnouch_tell(
+    alloc: Global,
+    slot: &mut Slot,
+    dev: u8,
+    what: u8,
+    i: usize,
+    told: &mut Told,
+) -> i32
+    ensures { ReadsSlot slot.old.held.value slot.new.held.value result (Tells dev what i result told.old told.new) }
+{
+    let Some(session) = slot.take(alloc) else {
+        return NO_SESSION;
+    };
+    let answer = descriptions::tell(&session, dev, what, i, told);
+    slot.put(alloc, session);
+    answer
+}

@@ -1,0 +1,56 @@
+//! The core behind a C interface: numbers, structs of numbers and buffers, over a slot that holds a session.
+//!
+//! The one promise: each call of a slot is a turn of the world that its core shows, or several of them in a fixed order; what C
+//! is answered and told is that, in libusb's numbers.
+//!
+//! # Files
+//!
+//! - `exports.rt`: what C calls. c/include/tirnouch_core.h has the same, and tools/c_header.py asks whether it is so
+//! - `session.rt`: a core with the devices of a text; `held.rt`, `loose.rt`: the slot that C holds, a pointer whose type it
+//!   doesn't see (five functions are proved by hand)
+//! - `turn.rt`: a packet, what it brings about, and a result, in one call; `told.rt`: replies in numbers
+//! - `calls.rt`, `submission.rt`, `packets.rt`, `settling.rt`, `results.rt`, `reads.rt`: steps that carry nothing; submissions;
+//!   packets; what is to be done until nothing is; results and their bytes; what can be asked without a step
+//! - `requests.rt`, `descriptions.rt`: requests on the default control endpoint; what the text says of a device
+//! - specs/ by the same names: what each call says of a session before and behind. proofs/ Progress, Quiet: packets one after
+//!   another; that where nothing is to be done each transfer that was asked to end has ended
+//!
+//! # Contracts
+//!
+//! - each export: of an empty slot -99 and nothing else; of a number out of range -2, with the session as it was
+//! - `tirnouch_create`: a session that shows the new world of the text's devices (`IsMade`), or the number of the line that isn't
+//!   taken; `tirnouch_destroy`: the slot is empty, and its session is freed
+//! - `tirnouch_call`: the world's turn: libusb's number of its reply, its entry told, the next world shown (`Makes`)
+//! - `tirnouch_submit`: the same of a submission, whose payload is kept under its handle and number (`CarriesMore`); NoMem where
+//!   memory is refused, and nothing changed (`Stays`)
+//! - `tirnouch_serve`: as many packets as are told, in turn; not behind one that ended a transfer (`Serves`)
+//! - `tirnouch_settle`: as many steps as are told, each the one that was to be made; fewer than wanted only where nothing is left,
+//!   and then no transfer that was asked to end is in progress (`Settles`)
+//! - `tirnouch_pending`: what is to be done next (`IsPending`)
+//! - `tirnouch_take`: the oldest result, with what was kept under its handle and number; its callback ends (`GoesOut`).
+//!   `tirnouch_fetch`: its bytes, just once
+//! - `tirnouch_turn`: packets, what is to be done, and the oldest result, one behind the other (`Works`)
+//! - `tirnouch_taken`: a packet that a device took
+//! - `tirnouch_request`: what `usb_desk` says that the device answers; `tirnouch_needs`: what a host has to hold for that; `tirnouch_describe`, `tirnouch_tell`: what it has of the text
+//!
+//! It doesn't say: what C does with a slot between two calls, nor that two calls don't overlap.
+#![tactic(auto)]
+
+mod calls;
+mod descriptions;
+mod exports;
+mod held;
+mod loose;
+mod packets;
+mod reads;
+mod requests;
+mod results;
+mod session;
+mod settling;
+mod submission;
+mod told;
+mod turn;
+
+pub use held::{Held, Slot};
+pub use session::Session;
+pub use told::Told;

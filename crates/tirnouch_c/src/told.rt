@@ -1,0 +1,293 @@
+//! What a call told, in numbers.
+
+ghost use Rattle.std.specs.Prelude.{◌≡◌};
+ghost use Rattle.tirnouch_c.specs.Descriptions.{departure_told, device_told, driver_told, gate_told};
+ghost use Rattle.tirnouch_c.specs.Requests.{ended_told, needs_told};
+ghost use Rattle.tirnouch_c.specs.Reads.{pending_told};
+ghost use Rattle.tirnouch_c.specs.Results.{told_taken};
+ghost use Rattle.tirnouch_c.specs.Told.{bit, code_of, line_told, of_kind, reply_told, status_number, told_of};
+
+use usb_core::{Pending, Taken};
+use usb_desk::{Departure, Gate, Needs};
+use usb_model::{Entry, Reply, Status};
+
+/// What a call told, in numbers.
+#[repr(C)]
+#[derive(Clone, Copy, Drop)]
+pub struct Told {
+    /// The handle, 0 to 63; 255 for nobody's. Or a device, 0 to 3.
+    pub h: u8,
+    /// 0 done, 1 number, 2 refused, 3 idle, 4 nak, 5 moved, 6 ended, 7 ran, 8 finished, 9 paused, 10 settled, 11 called.
+    pub kind: u8,
+    /// The endpoint.
+    pub ep: u8,
+    /// The status of a transfer that is called back (libusb 1.0, `libusb_transfer_status`); the code with which one ended (xHCI
+    /// 1.2, 6.4.5); 1 where an order ran or was settled without a fault.
+    pub status: u8,
+    /// How many bytes, packets or steps.
+    pub amount: u32,
+    /// The transfer's number, or a text's line.
+    pub n: u64,
+    /// What C keeps with the transfer.
+    pub payload: u64,
+}
+
+/// libusb's number of a status (libusb 1.0, `libusb_transfer_status`).
+#[tactic(auto, unfolding(crate::specs::Told::status_number))]
+pub fn status_number(status: Status) -> u8
+    ensures { result ≡ status_number status }
+{
+    match status {
+        Status::Completed => 0,
+        Status::Error => 1,
+        Status::TimedOut => 2,
+        Status::Cancelled => 3,
+        Status::Stall => 4,
+        Status::NoDevice => 5,
+        Status::Overflow => 6,
+    }
+}
+
+/// The answer of a call: libusb's number of a refusal, else 0.
+pub fn code_of(reply: &Reply) -> i32
+    ensures { result ≡ code_of reply.now }
+{
+    match reply {
+        Reply::Refused(refused) => refused.libusb_number(),
+        _ => 0,
+    }
+}
+
+impl Told {
+    /// Nothing but a kind.
+    fn of_kind(h: u8, kind: u8) -> Told
+        ensures { result ≡ of_kind h kind }
+    {
+        Told {
+            h,
+            kind,
+            ep: 0,
+            status: 0,
+            amount: 0,
+            n: 0,
+            payload: 0,
+        }
+    }
+
+    /// Nothing was done.
+    pub fn nothing() -> Told
+        ensures { result ≡ of_kind 255 3 }
+    {
+        Told::of_kind(255, 3)
+    }
+
+    /// So many steps were made; whether nothing is left.
+    pub fn settled(steps: u32, quiet: bool) -> Told
+        ensures { result ≡ record (of_kind 255 0) { amount = steps; status = bit quiet } }
+    {
+        Told {
+            amount: steps,
+            status: u8::from(quiet),
+            ..Told::of_kind(255, 0)
+        }
+    }
+
+    /// A line of this number isn't taken.
+    pub fn line(n: u64) -> Told
+        ensures { result ≡ line_told n }
+    {
+        Told {
+            n,
+            ..Told::of_kind(255, 2)
+        }
+    }
+
+    /// There was no memory.
+    pub fn refused() -> Told
+        ensures { result ≡ of_kind 255 2 }
+    {
+        Told::of_kind(255, 2)
+    }
+
+    /// A result that went out.
+    #[tactic(auto, unfolding(crate::specs::Told::reply_told))]
+    pub fn taken(taken: &Taken<u64>) -> Told
+        ensures { result ≡ told_taken taken.now }
+    {
+        let returned = &taken.returned;
+        Told {
+            h: returned.h.number(),
+            kind: 11,
+            ep: returned.ep.address(),
+            status: status_number(returned.status),
+            amount: returned.actual,
+            n: returned.n,
+            payload: taken.payload,
+        }
+    }
+
+    /// What is to be done next.
+    pub fn pending(pending: &Pending) -> Told
+        ensures { result ≡ pending_told pending.now }
+    {
+        let serve = match pending.serve {
+            None => Told::of_kind(255, 0),
+            Some((dev, ep)) => Told {
+                ep: ep.address(),
+                ..Told::of_kind(dev.number(), 1)
+            },
+        };
+        let command = u8::from(pending.command);
+        let deliver = u8::from(pending.deliver);
+        let take = u8::from(pending.take);
+        Told {
+            status: command + 2 * deliver + 4 * take,
+            ..serve
+        }
+    }
+
+    /// A request ended with this status, and so many bytes moved.
+    pub fn ended(status: u8, amount: u32) -> Told
+        ensures { result ≡ ended_told status amount }
+    {
+        Told {
+            status,
+            amount,
+            ..Told::of_kind(255, 11)
+        }
+    }
+
+    /// A request waits: the device isn't ready.
+    pub fn waits() -> Told
+        ensures { result ≡ of_kind 255 4 }
+    {
+        Told::of_kind(255, 4)
+    }
+
+    /// What a host has to hold for a request.
+    pub fn needs(needs: Needs) -> Told
+        ensures { result ≡ needs_told needs }
+    {
+        match needs {
+            Needs::Nothing => Told::of_kind(255, 0),
+            Needs::Interface(interface) => Told {
+                n: u64::from(interface),
+                ..Told::of_kind(255, 1)
+            },
+            Needs::Endpoint(ep) => Told {
+                ep,
+                ..Told::of_kind(255, 2)
+            },
+        }
+    }
+
+    /// The speed of a device, whether it isn't there yet, and whether it begins anew with each claim.
+    pub fn device(speed: u8, hidden: bool, anew: bool) -> Told
+        ensures { result ≡ device_told speed hidden anew }
+    {
+        Told {
+            status: u8::from(hidden),
+            amount: u32::from(anew),
+            ..Told::of_kind(255, speed)
+        }
+    }
+
+    /// An interface for which the system has a driver.
+    pub fn driver(interface: u8) -> Told
+        ensures { result ≡ driver_told interface }
+    {
+        Told {
+            n: u64::from(interface),
+            ..Told::of_kind(255, 0)
+        }
+    }
+
+    /// Answers that wait.
+    pub fn gate(gate: &Gate) -> Told
+        ensures { result ≡ gate_told gate.now }
+    {
+        Told {
+            ep: gate.ep.address(),
+            status: gate.other.address(),
+            amount: gate.place,
+            n: u64::from(gate.packets),
+            ..Told::of_kind(255, 0)
+        }
+    }
+
+    /// When a device is pulled out.
+    pub fn departure(departure: &Departure) -> Told
+        ensures { result ≡ departure_told departure.now }
+    {
+        Told {
+            ep: departure.ep.address(),
+            amount: departure.answers,
+            ..Told::of_kind(255, 0)
+        }
+    }
+
+    /// A reply, in numbers.
+    #[tactic(auto, unfolding(crate::specs::Told::reply_told))]
+    fn of_reply(h: u8, reply: &Reply) -> Told
+        ensures { result ≡ reply_told h reply.now }
+    {
+        match reply {
+            Reply::Done => Told::of_kind(h, 0),
+            Reply::Number(n) => Told {
+                n: *n,
+                ..Told::of_kind(h, 1)
+            },
+            Reply::Refused(_) => Told::of_kind(h, 2),
+            Reply::Idle => Told::of_kind(h, 3),
+            Reply::Nak { n } => Told {
+                n: *n,
+                ..Told::of_kind(h, 4)
+            },
+            Reply::Moved { n, bytes } => Told {
+                n: *n,
+                amount: *bytes,
+                ..Told::of_kind(h, 5)
+            },
+            Reply::Ended { n, code } => Told {
+                n: *n,
+                status: *code,
+                ..Told::of_kind(h, 6)
+            },
+            Reply::Ran { ep, ok, .. } => Told {
+                ep: ep.address(),
+                status: u8::from(*ok),
+                ..Told::of_kind(h, 7)
+            },
+            Reply::Finished { n } => Told {
+                n: *n,
+                ..Told::of_kind(h, 8)
+            },
+            Reply::Paused { n } => Told {
+                n: *n,
+                ..Told::of_kind(h, 9)
+            },
+            Reply::Settled { ep, ok, .. } => Told {
+                ep: ep.address(),
+                status: u8::from(*ok),
+                ..Told::of_kind(h, 10)
+            },
+            Reply::Called(returned) => Told {
+                ep: returned.ep.address(),
+                status: status_number(returned.status),
+                amount: returned.actual,
+                n: returned.n,
+                ..Told::of_kind(h, 11)
+            },
+        }
+    }
+
+    /// An entry, in numbers.
+    pub fn of(entry: &Entry) -> Told
+        ensures { result ≡ told_of entry.now }
+    {
+        match entry.owner {
+            None => Told::of_reply(255, &entry.reply),
+            Some(h) => Told::of_reply(h.number(), &entry.reply),
+        }
+    }
+}

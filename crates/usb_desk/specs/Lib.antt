@@ -1,0 +1,11 @@
+pub use Rattle.usb_descriptors.specs.Grammar
+pub mod Topic
+pub mod Word
+pub mod Answer
+pub mod Text
+pub mod Statement
+pub mod Line
+pub mod Device
+pub mod Packet
+pub mod Control
+pub mod Desk

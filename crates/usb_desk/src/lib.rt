@@ -1,0 +1,51 @@
+//! Devices as a text describes them, beside what they answer to transfers: what a host reads of a device, and its answers on
+//! the default control endpoint (USB 2.0, 9.3 to 9.6).
+//!
+//! The one promise: what `read_desk` gives is what the definition `desk_of` makes of the text, and what a device answers to a
+//! request is what `reply_of` says, by how often the same answers were asked before.
+//!
+//! # Files
+//!
+//! - `topic.rt`, `word.rt`: first words of lines; numbers, wildcards, speeds
+//! - `answer.rt`, `text.rt`, `statement.rt`: answers to requests; string descriptors; what a line says of a device, by each first
+//!   word
+//! - `line.rt`, `draft.rt`, `desk.rt`: one line; the devices that the lines so far describe; a text, whole
+//! - `device.rt`: a device behind one more line
+//! - `packet.rt`, `control.rt`: setup packets, and what a host has to hold for one; what a device answers to it
+//! - specs/ by the same names; Desk has the whole text
+//!
+//! # Contracts
+//!
+//! - `read_desk`: the devices of the text, or the number of the first line that isn't taken. A line that a scenario has too,
+//!   `device` and `script`, is read as a scenario's (`scenario_of` of the text whose other lines are empty); each device can be
+//!   made (`CanBeMade`). Want of memory leaves it open
+//! - `DeskDevice::reply`: of the first answers that a request fits the one of its turn, the last for ever; else what the
+//!   descriptors say of a standard request; any other stalls
+//! - `DeskDevice::count`: the answers that a request fits were asked once more, and nothing else changed
+//! - `SetupPacket::read`, `needs`: the fields of 8 bytes; the interface or the endpoint that a host has to hold
+//!
+//! It doesn't say: when answers that wait (`Gate`) go on, and when a device is pulled out (`Departure`): both are read, and are
+//! whoever serves packets to do.
+#![tactic(auto)]
+
+mod answer;
+mod control;
+mod desk;
+mod device;
+mod draft;
+mod line;
+mod packet;
+mod statement;
+mod text;
+mod topic;
+mod word;
+
+pub use answer::{ControlAnswer, MOST_DATA};
+pub use control::ControlReply;
+pub use desk::{Desk, read_desk};
+pub use device::DeskDevice;
+pub use line::DeskLine;
+pub use packet::{Needs, SetupPacket};
+pub use statement::{Class, Control, Departure, Gate, Ids, Pattern, Statement, Text};
+pub use topic::Topic;
+pub use word::Speed;

@@ -1,0 +1,149 @@
+#!/usr/bin/env python3
+"""c/include/tirnouch_core.h, made from the exports of crates/tirnouch_c.
+
+    tools/c_header.py write    writes the header anew
+    tools/c_header.py check    says whether it is current; the gate asks it
+
+Each export stands there with its documentation. An allocator is a value without bytes, which C doesn't pass; a slice is a pointer and
+a length."""
+import pathlib
+import re
+import sys
+import textwrap
+
+ROOT = pathlib.Path(__file__).resolve().parent.parent
+CRATE = ROOT / "crates" / "tirnouch_c" / "src"
+HEADER = ROOT / "c" / "include" / "tirnouch_core.h"
+WIDTH = 112
+NUMBERS = {"u8": "uint8_t", "u32": "uint32_t", "u64": "uint64_t", "i32": "int32_t", "usize": "size_t", "bool": "bool"}
+HEAD = """/* Tirnouch's core, as the static library tirnouch_c has it: every step is proved, and so is what each function answers
+ * (crates/tirnouch_c). Made by tools/c_header.py.
+ *
+ * A slot begins as all zeros, and is passed by its address: one call at a time, from any thread. Buffers are as long as said,
+ * and may be NULL where they are empty; they don't overlap. `told` has what a call told; where it told nothing it is as it was.
+ * A slot without a session answers TIRNOUCH_NO_SESSION. */
+#ifndef TIRNOUCH_CORE_H
+#define TIRNOUCH_CORE_H
+
+#include <stdbool.h>
+#include <stddef.h>
+#include <stdint.h>
+
+#ifdef __cplusplus
+extern "C" {
+#endif
+
+#define TIRNOUCH_NO_SESSION (-99)
+
+/* The verbs of tirnouch_call. */
+enum tirnouch_verb {
+    TIRNOUCH_OPEN = 0, TIRNOUCH_CLOSE = 1, TIRNOUCH_CLAIM = 2, TIRNOUCH_RELEASE = 3, TIRNOUCH_RESET = 4,
+    TIRNOUCH_CLEAR_HALT = 5, TIRNOUCH_CANCEL = 6, TIRNOUCH_EXPIRE = 7, TIRNOUCH_UNPLUG = 11
+};
+
+/* What is told: the field `kind`. */
+enum tirnouch_kind {
+    TIRNOUCH_DONE = 0, TIRNOUCH_NUMBER = 1, TIRNOUCH_REFUSED = 2, TIRNOUCH_IDLE = 3, TIRNOUCH_NAK = 4,
+    TIRNOUCH_MOVED = 5, TIRNOUCH_ENDED = 6, TIRNOUCH_RAN = 7, TIRNOUCH_FINISHED = 8, TIRNOUCH_PAUSED = 9,
+    TIRNOUCH_SETTLED = 10, TIRNOUCH_CALLED = 11
+};
+
+/* What holds a session. Its fields are the library's. */
+struct tirnouch_slot {
+    void *at;
+    bool there;
+};
+"""
+TAIL = """
+#ifdef __cplusplus
+}
+#endif
+
+#endif
+"""
+
+
+def comment(lines, indent=""):
+    """Lines of documentation as a comment of C."""
+    text = " ".join(lines).replace("libusb 1.0, ", "libusb's ")
+    body = textwrap.wrap(text, WIDTH - len(indent) - 3)
+    out = [f"{indent}/* {body[0]}"] + [f"{indent} * {line}" for line in body[1:]]
+    return "\n".join(out) + " */\n"
+
+
+def documented(text, pattern):
+    """What fits a pattern, each with the lines of documentation above it."""
+    docs = []
+    for line in text.splitlines():
+        mark = line.strip()
+        if mark.startswith("///"):
+            docs.append(mark[3:].strip())
+        elif mark.startswith("#["):
+            continue
+        else:
+            found = re.match(pattern, mark)
+            if found:
+                yield docs, found
+            docs = []
+
+
+def told():
+    """The struct of what is told."""
+    text = (CRATE / "told.rt").read_text()
+    body = re.search(r"pub struct Told \{\n(.*?)\n\}", text, re.S).group(1)
+    out = "\n/* What a call told, in numbers. */\nstruct tirnouch_told {\n"
+    for docs, field in documented(body, r"pub (\w+): (\w+),"):
+        out += comment(docs, "    ") + f"    {NUMBERS[field.group(2)]} {field.group(1)};\n"
+    return out + "};\n"
+
+
+def parameter(name, kind):
+    """A parameter as C has it; None where C doesn't pass it."""
+    if kind == "Global":
+        return None
+    if kind in NUMBERS:
+        return f"{NUMBERS[kind]} {name}"
+    shapes = {
+        "&mut Slot": "struct tirnouch_slot *{0}",
+        "&mut Told": "struct tirnouch_told *{0}",
+        "&[u8; 8]": "const uint8_t {0}[8]",
+        "&[u8]": "const uint8_t *{0}, size_t {0}_length",
+        "&mut [u8]": "uint8_t *{0}, size_t {0}_room",
+    }
+    return shapes[kind].format(name)
+
+
+def exports():
+    """The prototypes of the exports."""
+    text = (CRATE / "exports.rt").read_text()
+    out = ""
+    for found in re.finditer(r"((?:^///.*\n)+)#\[unsafe\(no_mangle\)\]\npub extern \"C\" fn (\w+)\(([^)]*)\) -> (\w+)", text, re.M):
+        docs = [line[3:].strip() for line in found.group(1).splitlines()]
+        given = [part.strip() for part in found.group(3).split(",\n") if part.strip()] if "\n" in found.group(3) else [
+            part.strip() for part in re.split(r",\s*(?![^\[]*\])", found.group(3)) if part.strip()]
+        passed = [parameter(*part.rstrip(",").split(": ", 1)) for part in given]
+        words = [one.replace(" ", "\0") for part in passed if part for one in part.split(", ")]
+        line = f"{NUMBERS[found.group(4)]}\0{found.group(2)}(" + ", ".join(words) + ");"
+        out += "\n" + comment(docs) + "\n".join(textwrap.wrap(line, WIDTH, subsequent_indent="    ")).replace("\0", " ") + "\n"
+    return out
+
+
+def header():
+    return HEAD + told() + exports() + TAIL
+
+
+def main():
+    made = header()
+    if sys.argv[1:] == ["write"]:
+        HEADER.parent.mkdir(parents=True, exist_ok=True)
+        HEADER.write_text(made)
+    elif sys.argv[1:] == ["check"]:
+        if not HEADER.is_file() or HEADER.read_text() != made:
+            sys.exit("c/include/tirnouch_core.h isn't that of the exports: run tools/c_header.py write")
+        print("c/include/tirnouch_core.h has the exports of tirnouch_c")
+    else:
+        sys.exit(__doc__)
+
+
+if __name__ == "__main__":
+    main()

@@ -1,0 +1,130 @@
+#!/usr/bin/env python3
+"""Tries libusb's interface over the core, bin/libusb-1.0.a: tools/c_test.py [--quick] [NAME ..].
+
+Each program of c/tests/usb that has an .expected file is built and run: by gcc and, where it is there, clang; and with c/usb under the
+address, undefined and thread sanitizers. Without a seed its lines are those of the file. With TIRNOUCH_SEED, where devices and controller
+go ahead by dice, it must end well. Each run is traced, and bin/usbtrace, where it is built, makes the same steps once more: every refusal,
+number and callback is compared, bytes too (tools/replay.py). Then the example of docs/C.md is run as that page says. `--quick` is gcc
+alone, with one seed."""
+import os
+import pathlib
+import shutil
+import subprocess
+import sys
+import tempfile
+from concurrent.futures import ThreadPoolExecutor
+
+ROOT = pathlib.Path(__file__).resolve().parent.parent
+TESTS = ROOT / "c" / "tests" / "usb"
+FLAGS = "-std=c11 -g -Wall -Wextra -pedantic -D_GNU_SOURCE".split() + ["-I", str(ROOT / "c" / "include")]
+MORE = {"memory": ["-Wl,--wrap=malloc,--wrap=calloc,--wrap=realloc"]}
+# A process that forks isn't looked at by the thread sanitizer; nor are allocations that are refused its own.
+LEFT_OUT = {"thread": {"fork", "memory"}}
+SECONDS = 120
+# How many seeds each program is tried with, and how many dice the program that has its own.
+SEEDS, DICE = {"plain": 6, "sanitized": 2}, {"plain": 12, "sanitized": 3}
+
+
+class Way:
+    """A way of building: compiler, sanitizers, and what the library is then."""
+
+    def __init__(self, folder, compiler, sanitizers=""):
+        self.name = compiler + (f" -fsanitize={sanitizers}" if sanitizers else "")
+        self.sanitizers, self.folder = sanitizers, folder / self.name.replace(" ", "_").replace(",", "_")
+        self.folder.mkdir()
+        self.words = [compiler, *FLAGS, "-O1" if sanitizers else "-O2", *([f"-fsanitize={sanitizers}"] if sanitizers else [])]
+        self.library = [str(ROOT / "bin" / "libusb-1.0.a")]
+        if sanitizers:
+            self.library = [str(self.object(it)) for it in sorted((ROOT / "c" / "usb").glob("*.c"))]
+            self.library.append(str(ROOT / "bin" / "libtirnouch_core.a"))
+
+    def object(self, source):
+        built = self.folder / f"{source.stem}.o"
+        subprocess.run([*self.words, "-c", source, "-o", built], check=True)
+        return built
+
+    def build(self, name):
+        built = self.folder / name
+        sources = [TESTS / f"{name}.c", TESTS / "scene.c"]
+        subprocess.run([*self.words, *MORE.get(name, []), *sources, *self.library, "-pthread", "-o", built], check=True)
+        return built
+
+    def kind(self):
+        return "sanitized" if self.sanitizers else "plain"
+
+
+def replay(traces):
+    """What differs between traces and the same steps made by usbtrace; nothing where that isn't built."""
+    usbtrace = ROOT / "bin" / "usbtrace"
+    if not usbtrace.is_file() or not traces:
+        return ""
+    ran = subprocess.run([sys.executable, ROOT / "tools" / "replay.py", usbtrace, *traces], capture_output=True, text=True)
+    return "" if ran.returncode == 0 else ran.stdout[-2000:] + ran.stderr[-2000:]
+
+
+def run(program, name, words, seed, label):
+    """Runs a program once: what is wrong with that, if something is."""
+    with tempfile.TemporaryDirectory() as folder:
+        env = {**os.environ, "TIRNOUCH_TRACE": str(pathlib.Path(folder) / "trace")}
+        if seed:
+            env["TIRNOUCH_SEED"] = str(seed)
+        try:
+            ran = subprocess.run([program, *words], cwd=TESTS, env=env, capture_output=True, text=True, timeout=SECONDS)
+        except subprocess.TimeoutExpired:
+            return f"{label}: doesn't end"
+        if ran.returncode:
+            return f"{label}: status {ran.returncode}\n{ran.stdout[-500:]}{ran.stderr[-3000:]}"
+        expected = (TESTS / f"{name}.expected").read_text()
+        if not seed and ran.stdout != expected:
+            pairs = zip([*ran.stdout.splitlines(), "(end)"], [*expected.splitlines(), "(end)"])
+            return f"{label}: " + next(f"expected {b!r}, got {a!r}" for a, b in pairs if a != b)
+        told = replay(sorted(str(it) for it in pathlib.Path(folder).iterdir()))
+        return f"{label}: {told}" if told else None
+
+
+def runs(way, names):
+    """The runs of a way: program, its name, its words, its seed, and what it is called."""
+    for name in names:
+        if name in LEFT_OUT.get(way.sanitizers, ()):
+            continue
+        program = way.build(name)
+        for dice in range(1, 1 + (DICE[way.kind()] if name == "races" else 1)):
+            yield program, name, [str(dice)], None, f"{name} {dice}, {way.name}"
+        for seed in range(1, 1 + (0 if name in ("memory", "races") else SEEDS[way.kind()])):
+            yield program, name, ["1"], seed, f"{name}, seed {seed}, {way.name}"
+
+
+def example():
+    """The example of docs/C.md, as that page runs it."""
+    at = ROOT / "c" / "example"
+    with tempfile.TemporaryDirectory() as folder:
+        driver = pathlib.Path(folder) / "driver"
+        subprocess.run(["gcc", "-I", ROOT / "c" / "include", at / "driver.c", "-L", ROOT / "bin", "-lusb-1.0", "-o", driver], check=True)
+        words = [ROOT / "tools" / "tirnouch-run", at / "devices.txt", "--", driver]
+        ran = subprocess.run(words, capture_output=True, text=True, timeout=SECONDS)
+    if ran.stdout != (at / "expected").read_text() or ran.returncode:
+        return f"the example: status {ran.returncode}, {ran.stdout!r} {ran.stderr!r}"
+    return None
+
+
+def main(words):
+    quick = "--quick" in words
+    names = [it for it in words if it != "--quick"] or sorted(it.stem for it in TESTS.glob("*.expected"))
+    with tempfile.TemporaryDirectory(prefix="c-test-") as folder:
+        folder = pathlib.Path(folder)
+        ways = [Way(folder, "gcc")]
+        if not quick:
+            ways += [Way(folder, "clang")] if shutil.which("clang") else []
+            ways += [Way(folder, "gcc", it) for it in ("address,undefined", "thread")]
+        all_runs = [it for way in ways for it in runs(way, names)]
+        with ThreadPoolExecutor(os.cpu_count()) as pool:
+            faults = [it for it in pool.map(lambda it: run(*it), all_runs) if it]
+    faults += [it for it in [example()] if it]
+    print("".join(f"{it}\n" for it in faults), end="")
+    if not (ROOT / "bin" / "usbtrace").is_file():
+        print("no trace was made once more: there is no bin/usbtrace (make run builds one)")
+    print(f"{len(all_runs) + 1 - len(faults)} passed, {len(faults)} failed")
+    return 1 if faults else 0
+
+
+sys.exit(main(sys.argv[1:]))
