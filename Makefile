@@ -4,6 +4,7 @@
 # refuses that. `make doc` writes doc/index.html, the public items of all crates with their contracts. `make c` builds the core
 # for C, proved, and tries it: bin/libtirnouch_core.a and .so, with c/include/tirnouch_core.h; `make bench_c` measures it. `make c-usb`
 # builds libusb's own interface over it, bin/libusb-1.0.so.0 and .a; `make c-test` tries it, and `make c-abi` compares the header with libusb's.
+# `make hostile` tries bin/usbtrace in hostile ways, some ten minutes of four processors; HOSTILE has options of tools/hostile.py, or parts.
 
 SCENARIO = rows/cancel_amid_transfer.in
 
@@ -28,6 +29,7 @@ test:
 	RT_JOBS=$$(nproc) rt ci
 	@tools/program.py keep
 	@tools/pictures.py check
+	@tools/hostile.py gate
 
 fmt:
 	@for crate in crates/*; do (cd $$crate && rt fmt); done
@@ -99,6 +101,11 @@ c-abi: c-usb
 c-clients: c-usb
 	@c/clients/run $(if $(CLIENTS),--root $(CLIENTS))
 
+# The scenes of c/tests/usb on libusb itself, over a faked kernel: CLIENTS=DIR names a folder into which libusb was unpacked.
+.PHONY: c-compare
+c-compare:
+	@tools/c_compare.py $(if $(CLIENTS),--root $(CLIENTS))
+
 # Beside libusb's own code over a faked kernel: LIBUSB=FILE names libusb, where it isn't installed.
 bench-usb: bin/libusb-1.0.a
 	@bench/usb/run $(if $(LIBUSB),--libusb $(LIBUSB))
@@ -106,6 +113,12 @@ bench-usb: bin/libusb-1.0.a
 bench_c: bin/libtirnouch_core.a
 	@$(CC) $(C_FLAGS) -D_DEFAULT_SOURCE bench/core.c $< -o bin/bench_core
 	@bin/bench_core
+
+# Tells what is wrong, and counts what came: docs/HOSTILE.md.
+.PHONY: hostile
+hostile:
+	@tools/program.py state
+	@tools/hostile.py $(HOSTILE)
 
 wrong_bodies:
 	tools/wrong_bodies.py try

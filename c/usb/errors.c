@@ -8,7 +8,7 @@ static const struct {
     int code;
     const char *name, *sentence;
 } errors[LIBUSB_ERROR_COUNT] = {
-    { LIBUSB_SUCCESS, "LIBUSB_SUCCESS", "Success" },
+    { LIBUSB_SUCCESS, "LIBUSB_SUCCESS / LIBUSB_TRANSFER_COMPLETED", "Success" },
     { LIBUSB_ERROR_IO, "LIBUSB_ERROR_IO", "Input/Output Error" },
     { LIBUSB_ERROR_INVALID_PARAM, "LIBUSB_ERROR_INVALID_PARAM", "Invalid parameter" },
     { LIBUSB_ERROR_ACCESS, "LIBUSB_ERROR_ACCESS", "Access denied (insufficient permissions)" },
@@ -24,8 +24,20 @@ static const struct {
     { LIBUSB_ERROR_OTHER, "LIBUSB_ERROR_OTHER", "Other error" },
 };
 
+/* A transfer's statuses have names too; that of 0 stands above. */
+static const char *const statuses[] = {
+    [LIBUSB_TRANSFER_ERROR] = "LIBUSB_TRANSFER_ERROR",
+    [LIBUSB_TRANSFER_TIMED_OUT] = "LIBUSB_TRANSFER_TIMED_OUT",
+    [LIBUSB_TRANSFER_CANCELLED] = "LIBUSB_TRANSFER_CANCELLED",
+    [LIBUSB_TRANSFER_STALL] = "LIBUSB_TRANSFER_STALL",
+    [LIBUSB_TRANSFER_NO_DEVICE] = "LIBUSB_TRANSFER_NO_DEVICE",
+    [LIBUSB_TRANSFER_OVERFLOW] = "LIBUSB_TRANSFER_OVERFLOW",
+};
+
 const char *libusb_error_name(int error_code)
 {
+    if (error_code > LIBUSB_TRANSFER_COMPLETED && error_code <= LIBUSB_TRANSFER_OVERFLOW)
+        return statuses[error_code];
     for (int i = 0; i < LIBUSB_ERROR_COUNT; i++)
         if (errors[i].code == error_code)
             return errors[i].name;

@@ -146,7 +146,7 @@ static void close_other(struct libusb_transfer *transfer)
     say("closed the other");
 }
 
-static void closing(void)
+static void closes_own(void)
 {
     struct libusb_transfer *transfer;
     begin("its own handle is closed", "script 0 81 d:01\n");
@@ -159,7 +159,11 @@ static void closing(void)
     discard(transfer);
     discard(other);
     end();
+}
 
+static void closes_other(void)
+{
+    struct libusb_transfer *transfer;
     begin("another handle is closed", "script 0 81 d:01\n");
     answer("release", libusb_release_interface(handle, 1));
     other_handle = open_standard(context);
@@ -296,7 +300,7 @@ static void wait_inside(struct libusb_transfer *transfer)
     answer("control", libusb_control_transfer(handle, 0x80, 0x06, 0x0100, 0, data, 18, 100));
 }
 
-static void forbidden(void)
+static void handles_events(void)
 {
     struct libusb_transfer *transfer;
     begin("events are handled in a callback", "script 0 81 d:01\n");
@@ -305,7 +309,11 @@ static void forbidden(void)
     work();
     discard(transfer);
     end();
+}
 
+static void waits(void)
+{
+    struct libusb_transfer *transfer;
     begin("a callback waits for transfers", "script 0 81 d:01\nscript 0 02 a\nscript 0 83 d:01\n");
     transfer = make_with(0, 0x81, 8, wait_inside);
     send_off(transfer);
@@ -341,12 +349,15 @@ static void freed_by(const char *name, int flags, libusb_transfer_cb_fn callback
 
 static void freeing(void)
 {
-    struct libusb_transfer *transfer;
     freed_by("freed by its flags", LIBUSB_TRANSFER_FREE_TRANSFER | LIBUSB_TRANSFER_FREE_BUFFER, tell);
     freed_by("its buffer is freed with it", LIBUSB_TRANSFER_FREE_BUFFER, tell);
     freed_by("freed in its callback", 0, free_inside);
     freed_by("freed by its flags without a callback", LIBUSB_TRANSFER_FREE_TRANSFER | LIBUSB_TRANSFER_FREE_BUFFER, NULL);
+}
 
+static void freed_in_flight(void)
+{
+    struct libusb_transfer *transfer;
     begin("freed in flight", "script 0 81 d:01\n");
     transfer = submit(0, 0x83, 8);
     transfer->flags = LIBUSB_TRANSFER_FREE_BUFFER;
@@ -357,7 +368,11 @@ static void freeing(void)
     work();
     discard(transfer);
     end();
+}
 
+static void freed_at_rest(void)
+{
+    struct libusb_transfer *transfer;
     begin("never submitted, freed with its buffer", "");
     transfer = make(0, 0x81, 8);
     transfer->flags = LIBUSB_TRANSFER_FREE_BUFFER;
@@ -373,13 +388,17 @@ int main(void)
     with_other("another is cancelled", cancel_other);
     with_other("the other's interface is released", release_other);
     with_other("its own interface is released", release_own);
-    closing();
+    closes_own();
+    closes_other();
     both_ended("another that has ended is cancelled", cancel_ended);
     both_ended("another that has ended, and their handle is closed", close_own);
     both_ended("another that has ended, and their interface is released", release_own);
     beside_a_callback();
     closed_beside_a_callback();
-    forbidden();
+    handles_events();
+    waits();
     freeing();
+    freed_in_flight();
+    freed_at_rest();
     return 0;
 }

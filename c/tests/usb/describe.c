@@ -154,6 +154,8 @@ static void errors(void)
     puts("errors");
     for (size_t i = 0; i < sizeof codes / sizeof codes[0]; i++)
         printf("  %d %s: %s\n", codes[i], libusb_error_name(codes[i]), libusb_strerror(codes[i]));
+    for (int i = 1; i < 8; i++)
+        printf("  status %d: %s\n", i, libusb_error_name(i));
     answer("setlocale en", libusb_setlocale("en"));
     answer("setlocale xx", libusb_setlocale("xx"));
     answer("setlocale none", libusb_setlocale(NULL));
@@ -164,9 +166,9 @@ static void library(void)
     const struct libusb_version *version = libusb_get_version();
     begin_text("the library", STANDARD);
     printf("  version %u.%u.%u\n", version->major, version->minor, version->micro);
-    number("asks for capabilities", libusb_has_capability(LIBUSB_CAP_HAS_CAPABILITY));
-    number("hotplug", libusb_has_capability(LIBUSB_CAP_HAS_HOTPLUG));
-    number("detaches drivers", libusb_has_capability(LIBUSB_CAP_SUPPORTS_DETACH_KERNEL_DRIVER));
+    number("asks for capabilities", libusb_has_capability(LIBUSB_CAP_HAS_CAPABILITY) != 0);
+    number("hotplug", libusb_has_capability(LIBUSB_CAP_HAS_HOTPLUG) != 0);
+    number("detaches drivers", libusb_has_capability(LIBUSB_CAP_SUPPORTS_DETACH_KERNEL_DRIVER) != 0);
     number("anything else", libusb_has_capability(0x7777));
     answer("log level", libusb_set_option(context, LIBUSB_OPTION_LOG_LEVEL, LIBUSB_LOG_LEVEL_NONE));
     answer("log level 5", libusb_set_option(context, LIBUSB_OPTION_LOG_LEVEL, 5));

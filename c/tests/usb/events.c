@@ -9,6 +9,7 @@
 #include <stdio.h>
 #include <stdlib.h>
 #include <string.h>
+#include <time.h>
 #include <unistd.h>
 
 #define THREADS 4
@@ -51,6 +52,30 @@ static void times(void)
     say(clock_now() - from < 1000 ? "at once" : "waited");
     answer("less than no time", libusb_handle_events_timeout(context, &wrong));
     answer("a second of microseconds", libusb_handle_events_timeout(context, &too_much));
+    end();
+}
+
+static long long processor_time(void)
+{
+    struct timespec used;
+    clock_gettime(CLOCK_PROCESS_CPUTIME_ID, &used);
+    return (long long)used.tv_sec * 1000 + used.tv_nsec / 1000000;
+}
+
+static void at_rest(void)
+{
+    struct timeval some = after(300);
+    struct libusb_transfer *transfer;
+    long long from;
+    begin("a wait with a transfer in flight", "");
+    transfer = submit(0, 0x81, 8);
+    work();
+    from = processor_time();
+    answer("300 ms", libusb_handle_events_timeout(context, &some));
+    say(processor_time() - from < 100 ? "asleep" : "busy");
+    libusb_cancel_transfer(transfer);
+    work();
+    discard(transfer);
     end();
 }
 
@@ -319,10 +344,14 @@ static void interruptions(void)
     end();
 }
 
-static int is_readable(const struct libusb_pollfd **fds, int milliseconds)
+/* Whether one of them has what it is polled for. */
+static int is_ready(const struct libusb_pollfd **fds, int milliseconds)
 {
-    struct pollfd fd = { fds[0]->fd, fds[0]->events, 0 };
-    return poll(&fd, 1, milliseconds);
+    struct pollfd polled[8];
+    nfds_t count = 0;
+    for (; fds[count] && count < 8; count++)
+        polled[count] = (struct pollfd){ fds[count]->fd, fds[count]->events, 0 };
+    return poll(polled, count, milliseconds) > 0;
 }
 
 static void polled(void)
@@ -338,18 +367,18 @@ static void polled(void)
     if (count < 1)
         exit(1);
     say(fds[0]->events == POLLIN ? "for reading" : "for something else");
-    number("readable", is_readable(fds, 0));
+    number("ready", is_ready(fds, 0));
     transfer = submit(0, 0x81, 8);
-    number("readable", is_readable(fds, 2000));
-    while (!calls && is_readable(fds, 2000) == 1)
+    number("ready", is_ready(fds, 2000));
+    while (!calls && is_ready(fds, 2000))
         work();
     work();
-    number("readable", is_readable(fds, 0));
+    number("ready", is_ready(fds, 0));
     send_off(transfer);
     work();
     answer("cancel", libusb_cancel_transfer(transfer));
-    number("readable", is_readable(fds, 2000));
-    while (calls < 2 && is_readable(fds, 2000) == 1)
+    number("ready", is_ready(fds, 2000));
+    while (calls < 2 && is_ready(fds, 2000))
         work();
     libusb_free_pollfds(fds);
     discard(transfer);
@@ -391,6 +420,7 @@ static void next_timeout(void)
 int main(void)
 {
     times();
+    at_rest();
     until_completed();
     locks();
     locked_out();

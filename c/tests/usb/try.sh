@@ -12,7 +12,7 @@ if [ -n "$SANITIZE" ]; then
     library="$root/c/usb/*.c $root/bin/libtirnouch_core.a"
 fi
 status=0
-for name in ${*:-statuses callbacks lines handles control events hotplug describe environment seeds memory fork exit races}; do
+for name in ${*:-statuses callbacks crossings lines handles control events hotplug describe environment seeds memory fork exit races}; do
     more=
     [ "$name" = memory ] && more=-Wl,--wrap=malloc,--wrap=calloc,--wrap=realloc
     # shellcheck disable=SC2086

@@ -1,0 +1,99 @@
+/* Tirnouch's own functions (c/include/tirnouch.h), over the faked bus. */
+#include "faked.h"
+
+#include "libusb.h"
+
+#include <stdlib.h>
+#include <string.h>
+
+static char *text;
+
+void begin_devices(void);
+
+int tirnouch_plug(const char *given, size_t length)
+{
+    char *copy = malloc(length + 1);
+    if (!copy)
+        return LIBUSB_ERROR_NO_MEM;
+    memcpy(copy, given, length);
+    copy[length] = 0;
+    pthread_mutex_lock(&faked_lock);
+    bool is_open = is_watched();
+    char *old = is_open ? copy : text;
+    text = is_open ? text : copy;
+    pthread_mutex_unlock(&faked_lock);
+    free(old);
+    return is_open ? LIBUSB_ERROR_BUSY : 0;
+}
+
+/* With libusb's first context. */
+void begin_devices(void)
+{
+    pthread_mutex_lock(&faked_lock);
+    read_devices(text ? text : "");
+    pthread_mutex_unlock(&faked_lock);
+}
+
+static struct device *find(int number)
+{
+    return number >= 0 && number < DEVICES && faked_devices[number].is_there ? &faked_devices[number] : NULL;
+}
+
+int tirnouch_pull(int number)
+{
+    int result = 0;
+    pthread_mutex_lock(&faked_lock);
+    struct device *device = find(number);
+    if (!device || device->is_hidden)
+        result = LIBUSB_ERROR_NOT_FOUND;
+    else if (device->is_gone)
+        result = LIBUSB_ERROR_NO_DEVICE;
+    else
+        pull_device(device);
+    pthread_mutex_unlock(&faked_lock);
+    if (!result)
+        wait_until_told();
+    return result;
+}
+
+int tirnouch_show(int number)
+{
+    pthread_mutex_lock(&faked_lock);
+    struct device *device = find(number);
+    bool is_hidden = device && device->is_hidden;
+    if (is_hidden) {
+        device->is_hidden = false;
+        tell_udev(device, true);
+    }
+    pthread_mutex_unlock(&faked_lock);
+    if (!is_hidden)
+        return LIBUSB_ERROR_NOT_FOUND;
+    wait_until_told();
+    return 0;
+}
+
+int tirnouch_took(int number, uint8_t endpoint, size_t index, uint8_t *data, size_t room)
+{
+    int length = -1;
+    pthread_mutex_lock(&faked_lock);
+    const struct device *device = find(number);
+    const struct pipe *pipe = device ? &device->pipes[place_of(endpoint)] : NULL;
+    if (pipe && index < pipe->taken_count) {
+        const struct packet *it = &pipe->taken[index];
+        length = it->length;
+        memcpy(data, it->bytes, (size_t)length < room ? (size_t)length : room);
+    }
+    pthread_mutex_unlock(&faked_lock);
+    return length;
+}
+
+int tirnouch_requests(int number, size_t index, uint8_t out[64])
+{
+    pthread_mutex_lock(&faked_lock);
+    const struct device *device = find(number);
+    int count = device ? (int)device->request_count : 0;
+    if (out && device && index < device->request_count && index < MOST_REQUESTS)
+        memcpy(out, device->requests[index], 64);
+    pthread_mutex_unlock(&faked_lock);
+    return count;
+}
