@@ -39,7 +39,15 @@ pub fn perform<D: Device + Send, R: Threads + Wait + Sync>(
     ensures { IfOk result (λ lines. (steps : List Step) × AreCallbacks (setup_of setup) steps lines.items) }
 {
     let handles = handles_of(rt, alloc, plan, rules)?;
-    let Lived { kept, left, .. } = live::<Ruled, D, Journal, _, R>(rt, alloc, setup, handles)?;
+    let Lived {
+        kept,
+        left,
+        lacked_memory,
+        ..
+    } = live::<Ruled, D, Journal, _, R>(rt, alloc, setup, handles)?;
     are_made(left)?;
+    if lacked_memory {
+        return Err(AllocError);
+    }
     callbacks_of(alloc, kept.places(alloc)?)
 }

@@ -1,8 +1,8 @@
 -- What the program does.
-use Rattle.std.specs.Prelude.{◌≡◌, ◌≢◌, ◌≤◌, ◌⊎◌, ℕ, length, ⊤, IfSome, List, [], Option, Result, Ok, Err}
+use Rattle.std.specs.Prelude.{◌≡◌, ◌≢◌, ◌≤◌, ◌<◌, ◌⊎◌, ℕ, length, ⊤, IfSome, List, [], Option, Result, Ok, Err}
 use Rattle.std.specs.Io.KnownBytes.{Appends, Keeps}
 use Rattle.trace_io.specs.declared.fault.Fault.{Fault}
-use Rattle.trace_io.specs.declared.fault.Fault.TheVariants.{Line, Memory, InputOutput}
+use Rattle.trace_io.specs.declared.fault.Fault.TheVariants.{Line, Memory, InputOutput, TooLong}
 use Rattle.trace_run.specs.declared.tasks.Ending.{Ending}
 use Rattle.trace_run.specs.declared.tasks.Ending.TheVariants.{Good, BadLines}
 use Rattle.trace_run.specs.Tasks.{AppendsAny, alone_text, left_lines, run_text, steps_text}
@@ -47,13 +47,14 @@ IsDone t text old new = (s : Scenario) × (scenario_for t text ≡ Ok s) × (len
 abbrev pub IsReported : List ℕ → Option (List ℕ) → Option (List ℕ) → Type 0
 IsReported text old new = (bad_lines text ≢ []) × (length text ≤ longest_input) × AppendsReport (bad_lines text) (counts_of (good_lines text)) old new
 
--- how a task over a text ends: it is done; or it is a check, and the bad lines are reported; or the text's first bad line is told of and nothing is written; or a stream or memory failed
+-- how a task over a text ends: it is done; or it is a check, and the bad lines are reported; or the text's first bad line is told of and nothing is written; or the text is too long, and nothing is written; or a stream or memory failed
 abbrev pub Performs : Task → List ℕ → Option (List ℕ) → Option (List ℕ) → Result Ending Fault → Type 0
 Performs t text old new (Ok Good) = IsDone t text old new
 Performs t text old new (Ok BadLines) = (t ≡ task.Check) × IsReported text old new
 Performs t text old new (Err (Line line)) = (scenario_for t text ≡ Err line) × Keeps old new × (t ≢ task.Check)
 Performs t text old new (Err Memory) = ⊤
 Performs t text old new (Err InputOutput) = ⊤
+Performs t text old new (Err TooLong) = (longest_input < length text) × Keeps old new
 
 -- what a task that prints such lines may have written, however it ends: a beginning of their text, and nothing where a line is bad
 abbrev pub BeginsEntries : (Scenario → List ℕ) → Result Scenario ℕ → Option (List ℕ) → Option (List ℕ) → Type 0
@@ -75,11 +76,12 @@ Begins task.Left text old new = BeginsEntries left_lines (scenario_of text) old 
 Begins task.Check text old new = AppendsSomeReport (bad_lines text) (counts_of (good_lines text)) old new
 Begins task.Draw text old new = BeginsPicture (scenario_of text) old new
 
--- whether this fault may be what ended a run with these words over this input: a line is one where the words ask for something else than a check and it is the first that is bad for that; memory and streams may fail always
+-- whether this fault may be what ended a run with these words over this input: a line is one where the words ask for something else than a check and it is the first that is bad for that; an input is too long where they ask for a task and it is; memory and streams may fail always
 abbrev pub MayEnd : List Text → Option (List ℕ) → Fault → Type 0
 MayEnd words input (Line line) = (t : Task) × AskFor words t × IfSome input (λ text. (scenario_for t text ≡ Err line) × (t ≢ task.Check))
 MayEnd words input Memory = ⊤
 MayEnd words input InputOutput = ⊤
+MayEnd words input TooLong = (t : Task) × AskFor words t × IfSome input (λ text. longest_input < length text)
 
 -- what stands behind status 1: a check reports bad lines, and nothing is told; or of the message of a fault that may be what ended the run a beginning is told
 abbrev pub TellsWhy : List Text → Option (List ℕ) → Option (List ℕ) → Option (List ℕ) → Option (List ℕ) → Option (List ℕ) → Type 0
