@@ -101,7 +101,7 @@ fn repeating(alloc: Global) -> Result<()> {
             ensures { result ≡ verdict_of rule returned.now.status returned.now.round }
         { rule.verdict(returned.status, returned.round) },
     )?;
-    let callback = crosses(StoredCallback::repeat(rule, code));
+    let callback = StoredCallback::repeat(rule, code);
     goes_on_once(alloc, callback, [0, 1])
 }
 

@@ -15,8 +15,8 @@ use std::{fmt, io};
 use thiserror::Error;
 use trace_scenario::TextFault;
 
-/// How many bytes a message may have. The longest, of an input that is too long, has 83.
-const ROOM: usize = 96;
+/// How many bytes a message may have. The longest, of a number of rounds with 20 digits, has 98.
+const ROOM: usize = 128;
 
 /// What ends a run, in the words of its message.
 #[derive(Clone, Copy, PartialEq, Eq, Debug, Error)]
@@ -29,6 +29,8 @@ pub enum Fault {
     InputOutput,
     /// The input has more bytes than one may have; it counts as one that can't be read.
     TooLong,
+    /// More callbacks than so many were called.
+    Rounds(u64),
 }
 
 /// The fault in words. They are written here, and not by the derive, whose text no contract knows.
@@ -42,6 +44,10 @@ impl fmt::Display for Fault {
             Fault::InputOutput => f.write_str("input or output failed"),
             Fault::TooLong => f.write_str(
                 "the input is longer than 67108864 bytes\nusbtrace: input or output failed",
+            ),
+            Fault::Rounds(rounds) => write!(
+                f,
+                "more than {rounds} callbacks are called: --rounds sets how many may be"
             ),
         }
     }

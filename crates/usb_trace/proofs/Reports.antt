@@ -18,10 +18,10 @@ use Rattle.trace_io.specs.CommandLine.{AreBad, AskFor, grammar}
 use Rattle.trace_io.specs.Faults.{message_of}
 use Rattle.trace_io.specs.Input.{longest_input}
 use Rattle.trace_io.specs.declared.fault.Fault.{Fault}
-use Rattle.trace_io.specs.declared.fault.Fault.TheVariants.{Line, Memory, InputOutput, TooLong}
+use Rattle.trace_io.specs.declared.fault.Fault.TheVariants.{Line, Memory, InputOutput, TooLong, Rounds}
 use Rattle.trace_scenario.specs.declared.scenario.Scenario.{Scenario}
 use Rattle.usb_trace.specs.Lived.{earlier, first_unlived}
-use Rattle.usb_trace.specs.Program.{scenario_for, status_of, Begins, IsDone, IsReported, Performs, TellsWhy}
+use Rattle.usb_trace.specs.Program.{scenario_for, status_of, Begins, EndsLate, IsDone, IsReported, Performs, TellsWhy}
 use Rattle.trace_run.specs.declared.tasks.Ending.{Ending}
 use Rattle.trace_run.specs.declared.tasks.Ending.TheVariants.{Good, BadLines}
 use Rattle.usb_trace.proofs.Begun.{keeps_same, nothing_begun}
@@ -67,7 +67,7 @@ said_for : (t : Task) (text : List ℕ) (s : Scenario) → scenario_for t text �
 said_for Run text s e = e
 said_for Steps text s e = e
 said_for (Alone h) text s e = e
-said_for Live text s e = earlier_good (first_unlived 1 (slice_split (λ b. b == 10) text)) (scenario_of text) s e
+said_for (Live rounds) text s e = earlier_good (first_unlived 1 (slice_split (λ b. b == 10) text)) (scenario_of text) s e
 said_for Left text s e = e
 said_for Check text s e = e
 said_for Draw text s e = e
@@ -110,6 +110,12 @@ length_of : (input : Option (List ℕ)) (t : Task) (old new : Option (List ℕ))
     → IfSome input (λ text. longest_input < length text)
 length_of None t old new ends = tt
 length_of (Some text) t old new ends = ends.0
+
+-- callbacks that ended a run were more than the words allow
+late_of : (words : List Text) (input : Option (List ℕ)) (t : Task) (rounds : ℕ) (old new : Option (List ℕ)) → AskFor words t
+    → IfSome input (λ text. Performs t text old new (Err (Rounds rounds))) → IfSome input (λ text. AskFor words (Live rounds) × EndsLate text rounds)
+late_of words None t rounds old new asks ends = tt
+late_of words (Some text) t rounds old new asks ends = (subst (λ (x : Task). AskFor words x) ends.0 asks, ends.2)
 
 -- what is told of a task that ended so
 pub told_of : (words : List Text) (input : Option (List ℕ)) (t : Task) (ended : Result Ending Fault) (status : ℕ) (old new err_old err_new : Option (List ℕ))
