@@ -10,8 +10,8 @@ use anyhow::Result;
 use std::alloc::Global;
 use std::sync::Arc;
 use std::sync::atomic::{AtomicU64, Ordering};
-use usb_callback::{Callback, Once, Repeat, StoredCallback};
-use usb_model::{Bytes, EpAddr, Name, Returned, Rule, Status, StatusSet, Verdict};
+use usb_callback::{Callback, End, Once, Repeat, StoredCallback, Told};
+use usb_model::{Bytes, EpAddr, Name, Refused, Returned, Rule, Status, StatusSet, Verdict};
 
 /// Plays the scenes of callbacks.
 pub fn play<P: Print>(rt: &P, alloc: Global) -> Result<()> {
@@ -21,6 +21,8 @@ pub fn play<P: Print>(rt: &P, alloc: Global) -> Result<()> {
     println!(rt; "a callback under no rule: it stops at the last round")?;
     called_once(alloc)?;
     println!(rt; "a callback that is called once: it adds once, and is used up")?;
+    told_of_its_end(alloc)?;
+    println!(rt; "a callback that isn't called again: it is told why")?;
     Ok(())
 }
 
@@ -99,7 +101,7 @@ fn repeating(alloc: Global) -> Result<()> {
             ensures { result ≡ verdict_of rule returned.now.status returned.now.round }
         { rule.verdict(returned.status, returned.round) },
     )?;
-    let callback = crosses(StoredCallback::repeat(rule, code));
+    let callback = StoredCallback::repeat(rule, code);
     goes_on_once(alloc, callback, [0, 1])
 }
 
@@ -137,4 +139,40 @@ fn called_once(alloc: Global) -> Result<()> {
         "a callback that is called once",
         "it adds another number",
     )
+}
+
+/// What a callback is told of its end, as a number.
+fn number_of(end: End) -> u64 {
+    match end {
+        End::ByVerdict => 1,
+        End::Refused(Refused::Busy) => 2,
+        End::Refused(_) => 3,
+        End::NoMemory => 4,
+    }
+}
+
+/// A callback that isn't called again is told this end, and no other.
+fn is_told(alloc: Global, end: End) -> Result<()> {
+    let heard = Arc::new(alloc, AtomicU64::new(0))?;
+    let hearing = heard.clone()?;
+    let code: Repeat = Box::new(alloc, |_: &Returned| -> Verdict { Verdict::Again })?;
+    let told: Told = Box::new(alloc, move |end: End| {
+        let _before = hearing.fetch_add(number_of(end), Ordering::SeqCst);
+    })?;
+    let callback = crosses(StoredCallback::repeat(Rule::Free, code).telling(told));
+    let (verdict, again) = answer(callback, completed(alloc, 0)?);
+    goes_on(&verdict)?;
+    present(again, "callback that comes back")?.ended(end);
+    expect(
+        heard.load(Ordering::SeqCst) == number_of(end),
+        "a callback that isn't called again",
+        "it is told something else",
+    )
+}
+
+/// Each end is told.
+fn told_of_its_end(alloc: Global) -> Result<()> {
+    is_told(alloc, End::ByVerdict)?;
+    is_told(alloc, End::Refused(Refused::Busy))?;
+    is_told(alloc, End::NoMemory)
 }

@@ -1,8 +1,9 @@
 //! The callbacks of a scene.
 
+use crate::flag::Flag;
 use crate::halt::Halt;
-use usb_callback::Callback;
-use usb_model::{Returned, Rule, Verdict};
+use usb_callback::{Callback, End};
+use usb_model::{Refused, Returned, Rule, Verdict};
 
 /// A callback that answers what its rule says, after a halt if it has one.
 #[derive(Drop)]
@@ -11,6 +12,8 @@ pub struct RuleCallback {
     pub rule: Rule,
     /// Where it is held.
     pub halt: Option<Halt>,
+    /// Raised when it is told that it ended since there was no place for its transfer.
+    pub cut: Option<Flag>,
 }
 
 impl RuleCallback {
@@ -19,6 +22,7 @@ impl RuleCallback {
         RuleCallback {
             rule: Rule::once_only(),
             halt: None,
+            cut: None,
         }
     }
 }
@@ -39,5 +43,11 @@ impl Callback for RuleCallback {
         }
         let verdict = self.rule.verdict(returned.status, returned.round);
         (verdict, Some(self))
+    }
+
+    fn ended(self, end: End) {
+        if let (Some(cut), End::Refused(Refused::Busy)) = (&self.cut, end) {
+            cut.raise();
+        }
     }
 }

@@ -2,6 +2,7 @@
 
 use crate::acts::{Acts, Signal};
 use crate::callback::RuleCallback;
+use crate::flag::Flag;
 use crate::halt::Halt;
 use crate::stage::{Stand, play_halted};
 use crate::turnstile::Turnstile;
@@ -29,6 +30,7 @@ fn held(halt: &Halt) -> Result<RuleCallback> {
     Ok(RuleCallback {
         rule: Rule::once_only(),
         halt: Some(halt.again()?),
+        cut: None,
     })
 }
 
@@ -76,20 +78,24 @@ pub fn two_loops<R: Threads + Wait + Sync>(rt: &R, alloc: Global) -> Result<()> 
     seen.is_told(alloc, TWO)
 }
 
-/// A callback that submits its transfer three times more.
-fn three_more() -> RuleCallback {
-    let rule = Rule::Again {
+/// The rule of a callback that submits its transfer three times more.
+fn three_more() -> Rule {
+    Rule::Again {
         on: StatusSet::COMPLETED,
         rounds: 3,
-    };
-    RuleCallback { rule, halt: None }
+    }
 }
 
 /// A thread that closes and releases while a callback's answer is held, and closes once it can.
 fn closing(alloc: Global, reader: Reader, halt: &Halt) -> Result<Acts> {
     let (h, i) = (reader.h, reader.i);
     let mut acts = Acts::claimed(alloc, reader)?;
-    acts.read(1, three_more())?;
+    let told = RuleCallback {
+        rule: three_more(),
+        halt: None,
+        cut: None,
+    };
+    acts.read(1, told)?;
     acts.wait(&halt.here)?;
     acts.make(Step::Close { h })?;
     acts.make(Step::Release { h, i })?;
@@ -106,6 +112,41 @@ pub fn close_amid_rounds<R: Threads + Wait + Sync>(rt: &R, alloc: Global) -> Res
     let seen = play_halted(rt, alloc, Stand::of_one(&[1, 1, 1, 1]), gates, &halt, acts)?;
     seen.is_answered(alloc, "done\ndone\nnumber 0\nrefused 4\nrefused 4\ndone\n")?;
     seen.is_told(alloc, ROUNDS)
+}
+
+/// How many transfers an endpoint has at most.
+const PLACES: u64 = 16;
+
+/// A thread that takes all places of an endpoint while the callback of its first transfer is held, and waits until that is told that its
+/// transfer wasn't submitted once more.
+fn crowding(alloc: Global, reader: Reader, halt: &Halt, cut: &Flag) -> Result<Acts> {
+    let mut acts = Acts::claimed(alloc, reader)?;
+    let told = RuleCallback {
+        rule: three_more(),
+        halt: Some(halt.again()?),
+        cut: Some(cut.again()?),
+    };
+    acts.read(1, told)?;
+    acts.wait(&halt.here)?;
+    for _ in 0..PLACES {
+        acts.read(1, RuleCallback::stop())?;
+    }
+    acts.raise(&halt.on)?;
+    acts.wait(cut)?;
+    Ok(acts)
+}
+
+/// A callback asks for one more round when another thread has taken the last place: it is told so, the library counts it, and the
+/// library ends though sixteen transfers stay in flight at a device that says no more.
+pub fn cut_short<R: Threads + Wait + Sync>(rt: &R, alloc: Global) -> Result<()> {
+    let (halt, cut) = (Halt::new(alloc)?, Flag::new(alloc)?);
+    let acts = crowding(alloc, Reader::new(1, 0, 0)?, &halt, &cut)?;
+    let gates = Turnstile::at(Point::Take, 0, &halt)?;
+    let seen = play_halted(rt, alloc, Stand::of_one(&[1]), gates, &halt, acts)?;
+    if seen.cuts != 1 || seen.lacked_memory {
+        return Err(anyhow!("{} callbacks are cut short", seen.cuts));
+    }
+    seen.is_told(alloc, "h1 called 0 ep 81 round 0 COMPLETED 1 data 01\n")
 }
 
 /// A thread that reads 20 bytes, cancels when a worker comes to a point, or the callback was called, and closes once it

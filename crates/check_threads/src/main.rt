@@ -56,6 +56,11 @@ fn play_gates<R: Threads + Wait + Sync + Print>(rt: &R, alloc: Global) -> Result
         rt,
         "close amid rounds: refused while a callback is out, done after the last",
     )?;
+    gates::cut_short(rt, alloc)?;
+    say(
+        rt,
+        "cut short: a callback whose next round finds no place is told so",
+    )?;
     gates::events_after_rest(rt, alloc)?;
     say(
         rt,

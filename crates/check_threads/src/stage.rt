@@ -14,7 +14,7 @@ use std::thread::Threads;
 use usb_core::Setup;
 use usb_device::Device;
 use usb_journal::{Journal, Place};
-use usb_live::{Gates, live_gated};
+use usb_live::{Gates, Lived, live_gated};
 use usb_model::{Entry, Reply};
 
 /// What a scene saw.
@@ -24,6 +24,10 @@ pub struct Seen {
     pub places: Vec<Place>,
     /// What each thread left.
     pub played: Vec<Played>,
+    /// How many callbacks ended early.
+    pub cuts: u64,
+    /// Whether a worker was refused memory.
+    pub lacked_memory: bool,
 }
 
 /// The threads that do this.
@@ -35,18 +39,17 @@ fn players(alloc: Global, threads: Vec<Vec<Act>>) -> Result<Vec<Player>> {
     Ok(players)
 }
 
-/// A library lives over the devices, with these players: its journal, and what each of them left.
+/// A library lives over the devices, with these players: what it leaves.
 fn lived<D: Device + Send, R: Threads + Wait + Sync>(
     rt: &R,
     alloc: Global,
     setup: Setup<D>,
     gates: Gates<Turnstile>,
     players: Vec<Player>,
-) -> Result<(Journal, Vec<result::Result<Played, AllocError>>)> {
-    let lived = live_gated::<RuleCallback, D, Journal, Turnstile, Player, R>(
+) -> Result<Lived<RuleCallback, D, Journal, result::Result<Played, AllocError>>> {
+    Ok(live_gated::<RuleCallback, D, Journal, Turnstile, Player, R>(
         rt, alloc, setup, gates, players,
-    )?;
-    Ok((lived.kept, lived.left))
+    )?)
 }
 
 /// What they saw. An error where one waited in vain.
@@ -66,10 +69,12 @@ pub fn play<D: Device + Send, R: Threads + Wait + Sync>(
     gates: Gates<Turnstile>,
     threads: Vec<Vec<Act>>,
 ) -> Result<Seen> {
-    let (journal, left) = lived(rt, alloc, setup, gates, players(alloc, threads)?)?;
+    let lived = lived(rt, alloc, setup, gates, players(alloc, threads)?)?;
     Ok(Seen {
-        places: journal.places(alloc)?,
-        played: all_played(alloc, left)?,
+        places: lived.kept.places(alloc)?,
+        played: all_played(alloc, lived.left)?,
+        cuts: lived.cuts,
+        lacked_memory: lived.lacked_memory,
     })
 }
 

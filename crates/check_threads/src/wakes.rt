@@ -98,6 +98,7 @@ fn passing(halt: Halt) -> RuleCallback {
     RuleCallback {
         rule: Rule::once_only(),
         halt: Some(halt),
+        cut: None,
     }
 }
 

@@ -18,29 +18,29 @@ use Rattle.clap.specs.declared.parser.matches.SubCommand.{SubCommand}
 use Rattle.clap.specs.declared.parser.matches.Found.{Found}
 use Rattle.clap.proofs.OnLiterals.{clap_on_literals}
 use Rattle.clap.proofs.WalkLemmas.{first_value-rows, one_text-rows}
-use Rattle.trace_io.specs.CommandLine.{grammar, handle_in, is_stepwise, task_named, task_of}
+use Rattle.trace_io.specs.CommandLine.{grammar, number_in, is_stepwise, task_named, task_of}
 use Rattle.trace_io.specs.declared.words.Task.{Task}
 
 -- a number that a getter reads is the number that the text says
-pub number_read : (t : List ℕ) (n : ℕ) (r : Option ℕ)
-    → ReadsOne (λ bs r. ParsesUnsigned 8 10 bs r × ExplainsUnsignedError 10 bs r × HasUnsignedDigitsIfOk bs r) t r
+pub number_read : (bits : ℕ) (t : List ℕ) (n : ℕ) (r : Option ℕ)
+    → ReadsOne (λ bs r. ParsesUnsigned bits 10 bs r × ExplainsUnsignedError 10 bs r × HasUnsignedDigitsIfOk bs r) t r
     → r ≡ Some n → n ≡ digits_value 10 (without_leading_plus t)
-number_read t n (Some m) read e = search rules
-number_read t n None read e = cc
+number_read bits t n (Some m) read e = search rules
+number_read bits t n None read e = cc
 
--- the handle's number is the one that a getter read from the rows
-pub handle_read : (f : Found) (n : ℕ) (r : Option ℕ)
-    → (one_text f (codes "H") ≡ None → r ≡ None)
-    → ((t : List ℕ) → one_text f (codes "H") ≡ Some t
-    → ReadsOne (λ bs r. ParsesUnsigned 8 10 bs r × ExplainsUnsignedError 10 bs r × HasUnsignedDigitsIfOk bs r) t r)
-    → r ≡ Some n → handle_in (rows_of f) ≡ Some n
-handle_read f n r none some e = by_text (one_text f (codes "H")) refl
+-- a word's number is the one that a getter read from the rows
+pub word_read : (id : List ℕ) (bits : ℕ) (f : Found) (n : ℕ) (r : Option ℕ)
+    → (one_text f id ≡ None → r ≡ None)
+    → ((t : List ℕ) → one_text f id ≡ Some t
+    → ReadsOne (λ bs r. ParsesUnsigned bits 10 bs r × ExplainsUnsignedError 10 bs r × HasUnsignedDigitsIfOk bs r) t r)
+    → r ≡ Some n → number_in id (rows_of f) ≡ Some n
+word_read id bits f n r none some e = by_text (one_text f id) refl
   where
-    by_text : (o : Option (List ℕ)) → one_text f (codes "H") ≡ o → handle_in (rows_of f) ≡ Some n
+    by_text : (o : Option (List ℕ)) → one_text f id ≡ o → number_in id (rows_of f) ≡ Some n
     by_text None at = let gone = none at in cc
     by_text (Some t) at =
-        let row = sym (one_text-rows f (codes "H")) ∙ at in
-        ap (option_map (λ text. digits_value 10 (without_leading_plus text))) row ∙ ap Some (sym (number_read t n r (some t at) e))
+        let row = sym (one_text-rows f id) ∙ at in
+        ap (option_map (λ text. digits_value 10 (without_leading_plus text))) row ∙ ap Some (sym (number_read bits t n r (some t at) e))
 
 -- clap reads the command line by its rules alone
 is_read : is_simple grammar ≡ true

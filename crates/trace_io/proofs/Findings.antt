@@ -1,12 +1,12 @@
 -- What a check prints, line by line.
-use Rattle.std.proofs.Common.{◌≡◌, ℕ, ◌+◌, ◌<◌, List, [], ◌∷◌, ◌++◌, length, take, drop, get_or, map, Option, refl, sym, ◌∙◌, ap, ap₂, take-append-drop}
+use Rattle.std.proofs.Common.{◌≡◌, ℕ, ◌+◌, ◌-◌, ◌<◌, List, [], ◌∷◌, ◌++◌, length, take, drop, get_or, map, Option, refl, sym, ◌∙◌, ap, ap₂, take-append-drop}
 use Rattle.std.specs.List.{flat_map}
 use Rattle.std.specs.Io.KnownBytes.{Appends}
 use Rattle.std.proofs.lemmas.Grind.{flat_map-append}
 use Rattle.std.proofs.lemmas.List.{flat_map_more, map-append, take_more}
 use Rattle.trace_scenario.specs.declared.findings.Counts.{Counts}
 use Rattle.trace_scenario.specs.declared.findings.Finding.{Finding}
-use Rattle.trace_io.specs.Output.{finding_text, counts_line, AppendsFindings, AppendsReport, AppendsSome, AppendsSomeFindings, AppendsSomeReport}
+use Rattle.trace_io.specs.Output.{finding_text, last_lines, most_findings, AppendsFindings, AppendsReport, AppendsSome, AppendsSomeFindings, AppendsSomeReport}
 use Rattle.trace_io.proofs.Beginnings.{all_of, joined, kept, none_yet, some_behind, some_of_front}
 
 -- no line yet
@@ -65,30 +65,38 @@ finding_begun bad i finding sentence old mid new low here before line =
           (sym (flat_map_more finding_text [] before.0 one)) before.2 line),
     )
 
--- the lines, and then the counts
+-- the lines, and then what stands behind them
 pub report : (numbers : List ℕ) (counts : Counts) (old mid new : Option (List ℕ))
-    → AppendsFindings numbers old mid → Appends mid new (counts_line counts) → AppendsReport numbers counts old new
+    → AppendsFindings (take most_findings numbers) old mid → Appends mid new (last_lines (length numbers - most_findings) counts) → AppendsReport numbers counts old new
 report numbers counts old mid new before line =
-    (before.0, before.1, joined old mid new (flat_map finding_text before.0) (counts_line counts) (flat_map finding_text before.0 ++ counts_line counts) refl before.2 line)
+    let last = last_lines (length numbers - most_findings) counts in
+    (before.0, before.1, joined old mid new (flat_map finding_text before.0) last (flat_map finding_text before.0 ++ last) refl before.2 line)
 
 -- a beginning of the lines is one of the report
-pub findings_begun : (numbers : List ℕ) (counts : Counts) (old new : Option (List ℕ)) → AppendsSomeFindings numbers old new → AppendsSomeReport numbers counts old new
+pub findings_begun : (numbers : List ℕ) (counts : Counts) (old new : Option (List ℕ)) → AppendsSomeFindings (take most_findings numbers) old new
+    → AppendsSomeReport numbers counts old new
 findings_begun numbers counts old new some =
-    (some.0, some.1, some_of_front (flat_map finding_text some.0 ++ counts_line counts) (flat_map finding_text some.0) (counts_line counts) old new refl some.2)
+    let last = last_lines (length numbers - most_findings) counts in
+    (some.0, some.1, some_of_front (flat_map finding_text some.0 ++ last) (flat_map finding_text some.0) last old new refl some.2)
 
--- the lines, and then a beginning of the counts
-pub counts_begun : (numbers : List ℕ) (counts : Counts) (old mid new : Option (List ℕ))
-    → AppendsFindings numbers old mid → AppendsSome (counts_line counts) mid new → AppendsSomeReport numbers counts old new
-counts_begun numbers counts old mid new before some =
-    (before.0, before.1, some_behind (flat_map finding_text before.0 ++ counts_line counts) (flat_map finding_text before.0) (counts_line counts) old mid new refl before.2 some)
+-- the lines, and then a beginning of what stands behind them
+pub last_begun : (numbers : List ℕ) (counts : Counts) (old mid new : Option (List ℕ))
+    → AppendsFindings (take most_findings numbers) old mid → AppendsSome (last_lines (length numbers - most_findings) counts) mid new
+    → AppendsSomeReport numbers counts old new
+last_begun numbers counts old mid new before some =
+    let last = last_lines (length numbers - most_findings) counts in
+    (before.0, before.1, some_behind (flat_map finding_text before.0 ++ last) (flat_map finding_text before.0) last old mid new refl before.2 some)
 
 -- the whole report
 pub report_begun : (numbers : List ℕ) (counts : Counts) (old new : Option (List ℕ)) → AppendsReport numbers counts old new → AppendsSomeReport numbers counts old new
-report_begun numbers counts old new written = (written.0, written.1, all_of (flat_map finding_text written.0 ++ counts_line counts) old new written.2)
+report_begun numbers counts old new written =
+    (written.0, written.1, all_of (flat_map finding_text written.0 ++ last_lines (length numbers - most_findings) counts) old new written.2)
 
 -- nothing is reported yet
 pub no_report : (numbers : List ℕ) (counts : Counts) (old : Option (List ℕ)) → AppendsSomeReport numbers counts old old
-no_report numbers counts old = (unworded numbers, numbers_unworded numbers, none_yet (flat_map finding_text (unworded numbers) ++ counts_line counts) old)
+no_report numbers counts old =
+    let told = take most_findings numbers in
+    (unworded told, numbers_unworded told, none_yet (flat_map finding_text (unworded told) ++ last_lines (length numbers - most_findings) counts) old)
   where
     unworded : List ℕ → List (ℕ × List ℕ)
     unworded ns = map (λ n. (n, [])) ns

@@ -20,9 +20,17 @@ pub steps_ask : (name : Text) → AskFor (name ∷ codes "run" ∷ codes "--step
 unfolding clap_on_literals
 steps_ask name = (refl, refl)
 
-pub live_asks : (name : Text) → AskFor (name ∷ codes "live" ∷ []) Live
+pub live_asks : (name : Text) → AskFor (name ∷ codes "live" ∷ []) (Live 1000000)
 unfolding clap_on_literals
 live_asks name = (refl, refl)
+
+pub rounds_ask : (name : Text) → AskFor (name ∷ codes "live" ∷ codes "--rounds" ∷ codes "25" ∷ []) (Live 25)
+unfolding clap_on_literals
+rounds_ask name = (refl, refl)
+
+pub no_rounds_are_bad : (name : Text) → AreBad (name ∷ codes "live" ∷ codes "--rounds" ∷ codes "many" ∷ [])
+unfolding clap_on_literals
+no_rounds_are_bad name = (kind.ValueValidation, inl refl, λ e. cc)
 
 pub left_asks : (name : Text) → AskFor (name ∷ codes "left" ∷ []) Left
 unfolding clap_on_literals
@@ -96,7 +104,7 @@ abbrev is_alone : ℕ → Option Task → Bool
 is_alone h (Some (Alone k)) = nat_eq k h
 is_alone h (Some Run) = false
 is_alone h (Some Steps) = false
-is_alone h (Some Live) = false
+is_alone h (Some (Live n)) = false
 is_alone h (Some Left) = false
 is_alone h (Some Check) = false
 is_alone h (Some Draw) = false
@@ -106,7 +114,7 @@ is_alone_says : (h : ℕ) (task : Option Task) → is_alone h task ≡ true → 
 is_alone_says h (Some (Alone k)) e = ap (λ (n : ℕ). Some (Alone n)) (eqb-true k h e)
 is_alone_says h (Some Run) e = let bad : false ≡ true = e in cc
 is_alone_says h (Some Steps) e = let bad : false ≡ true = e in cc
-is_alone_says h (Some Live) e = let bad : false ≡ true = e in cc
+is_alone_says h (Some (Live n)) e = let bad : false ≡ true = e in cc
 is_alone_says h (Some Left) e = let bad : false ≡ true = e in cc
 is_alone_says h (Some Check) e = let bad : false ≡ true = e in cc
 is_alone_says h (Some Draw) e = let bad : false ≡ true = e in cc

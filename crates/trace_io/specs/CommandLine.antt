@@ -35,9 +35,19 @@ is_stepwise rows = option_map_or (λ text. bytes_eq text (codes "true")) (first_
 abbrev pub alone_words : Shape
 alone_words = record (new_shape (codes "alone")) { rules = handle_word ∷ [] }
 
--- live
+-- the word --rounds N: how many callbacks are called at most, a million where it isn't said
+abbrev pub rounds_word : Rule
+rounds_word = record (new_rule (codes "rounds")) {
+  long = Some (codes "rounds");
+  action = Some Set;
+  value_names = 1;
+  defaults = codes "1000000" ∷ [];
+  parser = Some (Unsigned 0 18446744073709551615);
+}
+
+-- live, or live --rounds N
 abbrev pub live_words : Shape
-live_words = new_shape (codes "live")
+live_words = record (new_shape (codes "live")) { rules = rounds_word ∷ [] }
 
 -- left
 abbrev pub left_words : Shape
@@ -67,15 +77,23 @@ program_of_runs = record { top = first_words; subs = run_words ∷ alone_words �
 abbrev pub grammar : App
 grammar = record { top = first_words; subs = run_words ∷ alone_words ∷ live_words ∷ left_words ∷ check_words ∷ draw_words ∷ [] }
 
--- the number of the handle, as its word says it
+-- the number that a word says
+abbrev pub number_in : Text → List Row → Option ℕ
+number_in id rows = option_map (λ text. digits_value 10 (without_leading_plus text)) (one_of id rows)
+
+-- the number of the handle
 abbrev pub handle_in : List Row → Option ℕ
-handle_in rows = option_map (λ text. digits_value 10 (without_leading_plus text)) (one_of (codes "H") rows)
+handle_in rows = number_in (codes "H") rows
+
+-- how many callbacks are called at most
+abbrev pub rounds_in : List Row → Option ℕ
+rounds_in rows = number_in (codes "rounds") rows
 
 -- the task of a subcommand, by its name and what stands behind it
 abbrev pub task_named : Text → List Row → Option Task
 task_named name rows =
     if bytes_eq name (codes "alone") then option_map Alone (handle_in rows)
-    else (if bytes_eq name (codes "live") then Some Live
+    else (if bytes_eq name (codes "live") then option_map Live (rounds_in rows)
     else (if bytes_eq name (codes "left") then Some Left
     else (if bytes_eq name (codes "check") then Some Check
     else (if bytes_eq name (codes "draw") then Some Draw

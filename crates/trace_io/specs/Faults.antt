@@ -1,12 +1,13 @@
 -- Why a run of the program ends early, and its message.
-use Rattle.std.specs.Prelude.{◌++◌, ℕ, List, ⊤, codes}
+use Rattle.std.specs.Prelude.{◌++◌, ◌<◌, ℕ, List, Option, ⊤, IfSome, codes, length}
 use Rattle.std.specs.Fmt.{decimal}
 use Rattle.std.specs.declared.io.ErrorKind.{ErrorKind}
 use Rattle.std.specs.declared.io.ErrorKind.TheVariants.{OutOfMemory}
 use Rattle.trace_scenario.specs.declared.text_fault.TextFault.{TextFault}
 use Rattle.trace_scenario.specs.declared.text_fault.TextFault.TheVariants as text
 use Rattle.trace_io.specs.declared.fault.Fault.{Fault}
-use Rattle.trace_io.specs.declared.fault.Fault.TheVariants.{Line, Memory, InputOutput}
+use Rattle.trace_io.specs.declared.fault.Fault.TheVariants.{Line, Memory, InputOutput, TooLong, Rounds}
+use Rattle.trace_io.specs.Input.{longest_input}
 
 -- the fault of a run whose text has this one
 abbrev pub fault_of_text : TextFault → Fault
@@ -23,13 +24,22 @@ abbrev pub fault_text : Fault → List ℕ
 fault_text (Line line) = codes "line " ++ decimal line ++ codes " refused"
 fault_text Memory = codes "out of memory"
 fault_text InputOutput = codes "input or output failed"
+fault_text TooLong = codes "the input is longer than 67108864 bytes\nusbtrace: input or output failed"
+fault_text (Rounds rounds) = codes "more than " ++ decimal rounds ++ codes " callbacks are called: --rounds sets how many may be"
 
 -- the message of a fault on standard error
 abbrev pub message_of : Fault → List ℕ
 message_of fault = codes "usbtrace: " ++ fault_text fault ++ codes "\n"
 
--- a fault of memory or of a stream, and not of a line
+-- a fault of memory or of a stream, and not of a line, of the whole input, or of the callbacks
 abbrev pub IsOfRun : Fault → Type 0
 IsOfRun (Line line) = ⊥
 IsOfRun Memory = ⊤
 IsOfRun InputOutput = ⊤
+IsOfRun TooLong = ⊥
+IsOfRun (Rounds rounds) = ⊥
+
+-- a fault of reading this input, of which perhaps the bytes are known: of memory or of a stream, or the input is too long
+abbrev pub IsOfInput : Option (List ℕ) → Fault → Type 0
+IsOfInput given TooLong = IfSome given (λ bytes. longest_input < length bytes)
+IsOfInput given fault = IsOfRun fault

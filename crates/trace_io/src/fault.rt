@@ -15,8 +15,8 @@ use std::{fmt, io};
 use thiserror::Error;
 use trace_scenario::TextFault;
 
-/// How many bytes a message may have. The longest, of a line whose number has 20 digits, has 44.
-const ROOM: usize = 64;
+/// How many bytes a message may have. The longest, of a number of rounds with 20 digits, has 98.
+const ROOM: usize = 128;
 
 /// What ends a run, in the words of its message.
 #[derive(Clone, Copy, PartialEq, Eq, Debug, Error)]
@@ -27,6 +27,10 @@ pub enum Fault {
     Memory,
     /// The input can't be read, or the output not written.
     InputOutput,
+    /// The input has more bytes than one may have; it counts as one that can't be read.
+    TooLong,
+    /// More callbacks than so many were called.
+    Rounds(u64),
 }
 
 /// The fault in words. They are written here, and not by the derive, whose text no contract knows.
@@ -38,6 +42,13 @@ impl fmt::Display for Fault {
             Fault::Line(line) => write!(f, "line {line} refused"),
             Fault::Memory => f.write_str("out of memory"),
             Fault::InputOutput => f.write_str("input or output failed"),
+            Fault::TooLong => f.write_str(
+                "the input is longer than 67108864 bytes\nusbtrace: input or output failed",
+            ),
+            Fault::Rounds(rounds) => write!(
+                f,
+                "more than {rounds} callbacks are called: --rounds sets how many may be"
+            ),
         }
     }
 }

@@ -1,18 +1,21 @@
 //! Printed lines.
 
-ghost use Rattle.std.specs.Prelude.{ℕ, List, map, IfErr, OnErr, OnOk};
+ghost use Rattle.std.specs.Prelude.{◌≡◌, ◌-◌, ℕ, List, length, map, take, string_bytes, IfErr, IfOk, OnErr, OnOk};
 ghost use Rattle.std.specs.Io.KnownBytes.{Appends};
 ghost use Rattle.usb_model.specs.Text.{lines_text};
 ghost use Rattle.trace_io.specs.Faults.{IsOfRun};
-ghost use Rattle.trace_io.specs.Output.{finding_text, counts_line, AppendsFindings, AppendsReport, AppendsSome, AppendsSomeFindings, AppendsSomeReport};
+ghost use Rattle.trace_io.specs.Output.{finding_text, last_lines, most_findings, AppendsFindings, AppendsReport, AppendsSome, AppendsSomeFindings, AppendsSomeReport};
 
 use crate::fault::Fault;
 use crate::lines::Lines;
 use crate::write::write_bytes;
-use std::alloc::Global;
+use std::alloc::{AllocError, Global};
 use std::io::Write;
 use trace_scenario::{Counts, Finding, Findings};
 use usb_model::Entry;
+
+/// Of how many bad lines a line is printed at most.
+const MOST_FINDINGS: usize = 1_000;
 
 /// Prints the entries, one line each and many lines a write. Where that fails, a beginning of their text is printed.
 pub fn print<W: Write>(alloc: Global, out: &mut W, entries: &[Entry]) -> Result<(), Fault>
@@ -27,8 +30,8 @@ pub fn print<W: Write>(alloc: Global, out: &mut W, entries: &[Entry]) -> Result<
     lines.end(out)
 }
 
-/// Prints what a check found: a line for each bad line, and then the counts. Where that fails, a beginning of it is
-/// printed.
+/// Prints what a check found: a line for each bad line, of the first 1,000; how many more there are, if so; and then the counts. Where
+/// that fails, a beginning of it is printed.
 pub fn print_findings<W: Write>(
     alloc: Global,
     out: &mut W,
@@ -39,10 +42,25 @@ pub fn print_findings<W: Write>(
     ensures begun { AppendsSomeReport (map (λ finding. finding.line) findings.now.bad.items) findings.now.counts (W.contents out.old) (W.contents out.new) }
     ensures fault { IfErr result (λ fault. IsOfRun fault) }
 {
-    print_bad(alloc, out, findings.bad.as_slice())?;
-    print_counts(alloc, out, &findings.counts)?;
+    let bad = findings.bad.as_slice();
+    print_bad(alloc, out, told_of(bad))?;
+    print_last(alloc, out, untold_of(bad), &findings.counts)?;
     out.flush()?;
     Ok(())
+}
+
+/// The bad lines that are told.
+fn told_of(bad: &[Finding]) -> &[Finding]
+    ensures { map (λ finding. finding.line) result.now ≡ take most_findings (map (λ finding. finding.line) bad.now) }
+{
+    &bad[..MOST_FINDINGS.min(bad.len())]
+}
+
+/// How many bad lines aren't told.
+fn untold_of(bad: &[Finding]) -> usize
+    ensures { result ≡ length (map (λ finding. finding.line) bad.now) - most_findings }
+{
+    bad.len().saturating_sub(MOST_FINDINGS)
 }
 
 /// Prints the bad lines, one line each.
@@ -69,12 +87,27 @@ fn print_finding<W: Write>(alloc: Global, out: &mut W, finding: &Finding) -> Res
     write_bytes(out, line.as_bytes())
 }
 
-/// Prints the counts.
-fn print_counts<W: Write>(alloc: Global, out: &mut W, counts: &Counts) -> Result<(), Fault>
-    ensures line { OnOk result (Appends (W.contents out.old) (W.contents out.new) (counts_line counts.now)) }
-    ensures begun { OnErr result (AppendsSome (counts_line counts.now) (W.contents out.old) (W.contents out.new)) }
+/// How many more bad lines there are, if there are any, and the counts. An error where memory is refused.
+fn last_lines(alloc: Global, more: usize, counts: &Counts) -> Result<String, AllocError>
+    ensures { IfOk result (λ lines. string_bytes lines ≡ last_lines more counts.now) }
+{
+    if more == 0 {
+        return format!(in alloc; "{counts}\n");
+    }
+    format!(in alloc; "more bad lines: {more}\n{counts}\n")
+}
+
+/// Prints how many more bad lines there are, if there are any, and the counts.
+fn print_last<W: Write>(
+    alloc: Global,
+    out: &mut W,
+    more: usize,
+    counts: &Counts,
+) -> Result<(), Fault>
+    ensures lines { OnOk result (Appends (W.contents out.old) (W.contents out.new) (last_lines more counts.now)) }
+    ensures begun { OnErr result (AppendsSome (last_lines more counts.now) (W.contents out.old) (W.contents out.new)) }
     ensures fault { IfErr result (λ fault. IsOfRun fault) }
 {
-    let line = format!(in alloc; "{counts}\n")?;
-    write_bytes(out, line.as_bytes())
+    let lines = last_lines(alloc, more, counts)?;
+    write_bytes(out, lines.as_bytes())
 }

@@ -9,7 +9,7 @@ ghost use Rattle.clap.specs.Matches.{found_of};
 ghost use Rattle.clap.specs.Simple.{app_of, shape_of};
 ghost use Rattle.clap.specs.declared.builder.command.Command.TheViews.{out-Command as fields_of};
 ghost use Rattle.clap.specs.Walk.{rows_of, rule_of};
-ghost use Rattle.trace_io.specs.CommandLine.{AskFor, alone_words, check_words, draw_words, grammar, handle_in, handle_word, is_stepwise, left_words, live_words, program_alone, program_of_runs, run_words, steps_word};
+ghost use Rattle.trace_io.specs.CommandLine.{AskFor, alone_words, check_words, draw_words, grammar, handle_in, handle_word, is_stepwise, left_words, live_words, program_alone, program_of_runs, rounds_in, rounds_word, run_words, steps_word};
 ghost use Rattle.trace_scenario.specs.Words.{words_of};
 ghost use Rattle.trace_io.specs.declared.words.Task.TheVariants.{Run, Steps};
 
@@ -28,8 +28,8 @@ pub enum Task {
     Steps,
     /// Print the entries of this handle alone.
     Alone(Name),
-    /// Run the scenario in threads, and print what its callbacks were told.
-    Live,
+    /// Run the scenario in threads, and print what its callbacks were told, of which at most so many are called.
+    Live(u64),
     /// Print what the run of the scenario leaves behind.
     Left,
     /// Print what is wrong with the scenario.
@@ -37,6 +37,9 @@ pub enum Task {
     /// Draw the run of the scenario.
     Draw,
 }
+
+/// The largest number of callbacks.
+const LAST_ROUNDS: u64 = u64::MAX;
 
 /// The last name of a handle.
 const LAST_HANDLE: u64 = 63;
@@ -50,8 +53,8 @@ pub fn read_words(alloc: Global, words: &[&str]) -> Result<Task, Error>
     if let Some(found) = matches.subcommand_matches("alone") {
         return Ok(Task::Alone(handle_of(found)?));
     }
-    if matches.subcommand_matches("live").is_some() {
-        return Ok(Task::Live);
+    if let Some(found) = matches.subcommand_matches("live") {
+        return Ok(Task::Live(rounds_of(found)?));
     }
     if matches.subcommand_matches("left").is_some() {
         return Ok(Task::Left);
@@ -86,7 +89,7 @@ fn runs<'a>(alloc: Global) -> Result<Command<'a>, AllocError>
     program(alloc)
         .subcommand(run(alloc)?)?
         .subcommand(alone(alloc)?)?
-        .subcommand(live(alloc))
+        .subcommand(live(alloc)?)
 }
 
 /// The program's name, with what holds for all its words.
@@ -161,14 +164,37 @@ fn alone<'a>(alloc: Global) -> Result<Command<'a>, AllocError>
         .arg(handle(alloc))
 }
 
-/// The words `live`.
-fn live<'a>(alloc: Global) -> Command<'a>
-    ensures words { shape_of result ≡ live_words }
-    ensures local { (fields_of result).has_globals ≡ false }
+/// The words `live` and `live --rounds N`.
+fn live<'a>(alloc: Global) -> Result<Command<'a>, AllocError>
+    ensures words { IfOk result (λ command. shape_of command ≡ live_words) }
+    ensures local { IfOk result (λ command. (fields_of command).has_globals ≡ false) }
 {
     Command::new(alloc, "live")
         .about("Runs the scenario in threads, and prints what its callbacks were told")
         .after_help(help::LIVE)
+        .arg(rounds(alloc))
+}
+
+/// The word `--rounds`.
+fn rounds<'a>(alloc: Global) -> Arg<'a>
+    ensures word { rule_of result ≡ rounds_word }
+    ensures local { result.global ≡ false }
+{
+    Arg::new(alloc, "rounds")
+        .long("rounds")
+        .action(ArgAction::Set)
+        .value_name("N")
+        .value_parser(ValueParser::unsigned(0, LAST_ROUNDS))
+        .default_value("1000000")
+        .help("How many callbacks are called at most; where more would be, it ends with status 1")
+}
+
+/// How many callbacks are called at most. clap has seen that it is a number; but no contract of clap's says so of what stands behind a
+/// subcommand, so where it is missing memory counts as wanting.
+fn rounds_of(found: &ArgMatches<'_>) -> Result<u64, AllocError>
+    ensures { IfOk result (λ rounds. rounds_in (rows_of (found_of found.now)) ≡ Some rounds) }
+{
+    found.get_one::<u64>("rounds").ok_or(AllocError)
 }
 
 /// The words `left`.

@@ -1,10 +1,10 @@
 //! The handles of a plan, each with its lines in a channel.
 
+use crate::counted::{Budget, Counted};
 use crate::line::Line;
 use crossbeam_channel::{Receiver, bounded};
 use std::alloc::{AllocError, Global};
 use std::sync::Wait;
-use usb_callback::Ruled;
 use usb_device::Device;
 use usb_journal::{Naming, Recorder};
 use usb_library::{Caller, Library};
@@ -20,13 +20,13 @@ pub(crate) struct Handle {
     lines: Receiver<Line>,
 }
 
-impl Driver<Ruled> for Handle {
+impl Driver<Counted> for Handle {
     type Left = Result<(), AllocError>;
 
     fn drive<L: Naming, D: Device, J: Recorder, R: Wait>(
         self,
         rt: &R,
-        library: &Library<L, Ruled, D, J>,
+        library: &Library<L, Counted, D, J>,
         caller: &mut Caller<L>,
     ) -> Result<(), AllocError> {
         for _ in rt.forever() {
@@ -44,6 +44,7 @@ fn lines_of(
     alloc: Global,
     plan: Sequence<Plan>,
     rules: &[Rule],
+    budget: &Budget,
 ) -> Result<Vec<Vec<Line>>, AllocError> {
     let mut handles = Vec::with_capacity(alloc, HANDLES)?;
     for _ in 0..HANDLES {
@@ -51,7 +52,7 @@ fn lines_of(
     }
     let mut left = rules;
     for piece in plan.into_vec() {
-        if let Some((h, line)) = Line::of(piece, &mut left) {
+        if let Some((h, line)) = Line::of(piece, &mut left, budget)? {
             if let Some(lines) = handles.get_mut(usize::from(h.number())) {
                 lines.push(line)?;
             }
@@ -77,9 +78,10 @@ pub(crate) fn handles_of<R: Wait>(
     alloc: Global,
     plan: Sequence<Plan>,
     rules: &[Rule],
+    budget: &Budget,
 ) -> Result<Vec<Handle>, AllocError> {
     let mut handles = Vec::new(alloc);
-    for lines in lines_of(alloc, plan, rules)? {
+    for lines in lines_of(alloc, plan, rules, budget)? {
         if !lines.is_empty() {
             handles.push(filled(rt, alloc, lines)?)?;
         }

@@ -6,6 +6,7 @@
 //!
 //! - `performance.rt`: a plan from its devices to what its callbacks were told
 //! - `handles.rt`, `line.rt`: each handle with its channel, and its thread; a line
+//! - `counted.rt`: callbacks that answer by their rules, until as many were called as may be
 //! - `callbacks.rt`: what callbacks were told, out of a journal, and sorted
 //! - specs/Callbacks: the same as definitions
 //!
@@ -19,6 +20,7 @@
 #![tactic(auto)]
 
 mod callbacks;
+mod counted;
 mod handles;
 mod line;
 mod performance;

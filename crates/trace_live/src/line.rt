@@ -1,8 +1,8 @@
 //! A line of a handle.
 
+use crate::counted::{Budget, Counted};
 use std::alloc::AllocError;
 use std::sync::Wait;
-use usb_callback::Ruled;
 use usb_device::Device;
 use usb_journal::{Naming, Recorder};
 use usb_library::{Caller, Library};
@@ -16,33 +16,40 @@ pub(crate) enum Line {
     Submit {
         h: Name,
         request: Request,
-        callback: Ruled,
+        callback: Counted,
     },
     /// Another call.
     Call(Step),
 }
 
 impl Line {
-    /// The handle that does it, and what it does; None of what the workers do. `rules` are those of the submissions from here on.
-    pub(crate) fn of(piece: Plan, rules: &mut &[Rule]) -> Option<(Name, Line)> {
+    /// The handle that does it, and what it does; None of what the workers do. `rules` are those of the submissions from here on, and
+    /// callbacks are called within the budget. An error where memory is refused.
+    pub(crate) fn of(
+        piece: Plan,
+        rules: &mut &[Rule],
+        budget: &Budget,
+    ) -> Result<Option<(Name, Line)>, AllocError> {
         let Plan::Do(step) = piece else {
-            return None;
+            return Ok(None);
         };
         match step {
             Step::Submit { h, request } => {
-                let (rule, rest) = rules.split_first()?;
+                let Some((rule, rest)) = rules.split_first() else {
+                    return Ok(None);
+                };
                 *rules = rest;
-                let callback = Ruled::new(*rule);
-                Some((
+                let callback = budget.callback(*rule)?;
+                Ok(Some((
                     h,
                     Line::Submit {
                         h,
                         request,
                         callback,
                     },
-                ))
+                )))
             }
-            step => Some((handle_of(&step)?, Line::Call(step))),
+            step => Ok(handle_of(&step).map(|h| (h, Line::Call(step)))),
         }
     }
 
@@ -50,7 +57,7 @@ impl Line {
     pub(crate) fn make<L: Naming, D: Device, J: Recorder, R: Wait>(
         self,
         rt: &R,
-        library: &Library<L, Ruled, D, J>,
+        library: &Library<L, Counted, D, J>,
         caller: &mut Caller<L>,
     ) -> Result<(), AllocError> {
         match self {

@@ -6,11 +6,11 @@ ghost use Rattle.usb_core.specs.Public.{setup_of};
 ghost use Rattle.trace_live.specs.Callbacks.{AreCallbacks};
 
 use crate::callbacks::callbacks_of;
+use crate::counted::{Budget, Counted};
 use crate::handles::handles_of;
 use std::alloc::{AllocError, Global};
 use std::sync::Wait;
 use std::thread::Threads;
-use usb_callback::Ruled;
 use usb_core::Setup;
 use usb_device::Device;
 use usb_journal::Journal;
@@ -27,19 +27,30 @@ fn are_made(left: Vec<Result<(), AllocError>>) -> Result<(), AllocError> {
 
 /// Performs a plan over these devices: each handle that has lines has a thread of its own, which makes them in order, beside the two
 /// workers. What the workers do has no place in it and is passed over: packets, orders, events, results and callbacks that return.
-/// Gives what the callbacks were told, by handle and number. An error where memory is refused, to whichever thread, or a
-/// thread can't be made.
+/// Gives what the callbacks were told, by handle and number. When `rounds` callbacks were called, each that is called then is at its end,
+/// whatever its rule: so a run that would go on for ever ends, and more than `rounds` lines are given. An error where memory is refused,
+/// to whichever thread, or a thread can't be made.
 pub fn perform<D: Device + Send, R: Threads + Wait + Sync>(
     rt: &R,
     alloc: Global,
     setup: Setup<D>,
     plan: Sequence<Plan>,
     rules: &[Rule],
+    rounds: u64,
 ) -> Result<Vec<Entry>, AllocError>
     ensures { IfOk result (λ lines. (steps : List Step) × AreCallbacks (setup_of setup) steps lines.items) }
 {
-    let handles = handles_of(rt, alloc, plan, rules)?;
-    let Lived { kept, left, .. } = live::<Ruled, D, Journal, _, R>(rt, alloc, setup, handles)?;
+    let budget = Budget::new(alloc, rounds)?;
+    let handles = handles_of(rt, alloc, plan, rules, &budget)?;
+    let Lived {
+        kept,
+        left,
+        lacked_memory,
+        ..
+    } = live::<Counted, D, Journal, _, R>(rt, alloc, setup, handles)?;
     are_made(left)?;
+    if lacked_memory {
+        return Err(AllocError);
+    }
     callbacks_of(alloc, kept.places(alloc)?)
 }

@@ -1,5 +1,6 @@
 //! What the crates above know of a callback.
 
+use crate::end::End;
 use usb_model::{Returned, Verdict};
 
 /// What is stored with a transfer, and called when the transfer returns. Its law: each verdict fits its rule, and a
@@ -28,4 +29,10 @@ pub trait Callback: Drop {
         ensures back { is_some result.1 ≡ repeats self }
         ensures stops { repeats self ≡ false → result.0 ≡ Stop }
         ensures same { IfSome result.1 (λ c. c ≡ self) };
+
+    /// Is told how it ended, where it could be called again and isn't. An implementation that leaves this out does nothing.
+    fn ended(self, _end: End)
+    where
+        Self: Sized,
+    {}
 }

@@ -6,6 +6,7 @@
 //! # Files
 //!
 //! - `callback.rt`: `Callback`: the law of what is stored with a transfer; what runs callbacks is generic in it
+//! - `end.rt`: `End`: how a callback ended, which it is told
 //! - `stored.rt`: `StoredCallback`, `Repeat`, `Once`: boxed closures beside their rule
 //! - `ruled.rt`: `Ruled`: a callback without code, which answers by its rule
 //! - specs/Callbacks: numbers in their types' range; a verdict that fits the rule
@@ -29,9 +30,11 @@
 #![tactic(auto)]
 
 mod callback;
+mod end;
 mod ruled;
 mod stored;
 
 pub use callback::Callback;
+pub use end::End;
 pub use ruled::Ruled;
-pub use stored::{Once, Repeat, StoredCallback};
+pub use stored::{Once, Repeat, StoredCallback, Told};

@@ -6,6 +6,7 @@ ghost use Rattle.usb_callback.specs.Callbacks.{Fits, InRange};
 ghost use Rattle.usb_model.specs.World.Plans.{once_only};
 
 use crate::callback::Callback;
+use crate::end::End;
 use usb_model::{Returned, Rule, Verdict};
 
 /// The code of a repeating callback, which is lent what it is told.
@@ -14,13 +15,34 @@ pub type Repeat = Box<dyn Fn(&Returned) -> Verdict + Send>;
 /// The code of a callback that is called once, which is given what it is told.
 pub type Once = Box<dyn FnOnce(Returned) + Send>;
 
+/// What is told how a callback ended that could be called again and isn't.
+pub type Told = Box<dyn FnOnce(End) + Send>;
+
+/// Code that may be told of any end.
+#[derive(Drop)]
+pub struct Telling {
+    code: Told,
+    ghost callable: { (e : _) → Told.pre code e },
+}
+
 /// Code that may be called on every `Returned` whose numbers are in range, and whose verdict then fits the rule.
 #[derive(Drop)]
 pub struct Repeating {
     rule: Rule,
     code: Repeat,
+    told: Option<Telling>,
     ghost callable: { (r : _) → InRange r.now → Repeat.pre code r },
     ghost meets: { (r : _) (v : _) → InRange r.now → Repeat.post code r v → Fits rule r.now v } by { Prim.hlevel FitsRule-prop },
+}
+
+impl Repeating {
+    /// Tells how it ended, if somebody is to be told.
+    fn ended(self, end: End) {
+        let Repeating { told, .. } = self;
+        if let Some(telling) = told {
+            (telling.code)(end);
+        }
+    }
 }
 
 /// Code that may be called on every `Returned` whose numbers are in range.
@@ -46,7 +68,30 @@ impl StoredCallback {
         ensures repeats { ⟦<StoredCallback as Callback>⟧.repeats result ≡ true }
         ensures code { (r : _) (v : _) → ⟦<StoredCallback as Callback>⟧.may_answer result r v → (lent : _) × (lent.now ≡ r) × Repeat.post code lent v }
     {
-        StoredCallback::Repeating(Repeating { rule, code })
+        StoredCallback::Repeating(Repeating {
+            rule,
+            code,
+            told: None,
+        })
+    }
+
+    /// The same callback, and this is told how it ended, where it could be called again and isn't. One that is called once tells nothing.
+    pub fn telling(self, told: Told) -> StoredCallback
+        requires callable { (e : _) → Told.pre told e }
+        ensures rule { ⟦<StoredCallback as Callback>⟧.rule result ≡ ⟦<StoredCallback as Callback>⟧.rule self }
+        ensures repeats { ⟦<StoredCallback as Callback>⟧.repeats result ≡ ⟦<StoredCallback as Callback>⟧.repeats self }
+        ensures code { (r : _) (v : _) → ⟦<StoredCallback as Callback>⟧.may_answer result r v → ⟦<StoredCallback as Callback>⟧.may_answer self r v }
+    {
+        match self {
+            StoredCallback::Repeating(Repeating { rule, code, .. }) => {
+                StoredCallback::Repeating(Repeating {
+                    rule,
+                    code,
+                    told: Some(Telling { code: told }),
+                })
+            }
+            once => once,
+        }
     }
 
     /// A callback that is called once, and then used up. Its verdict is Stop.
@@ -81,6 +126,12 @@ impl Callback for StoredCallback {
                 code(returned);
                 (Verdict::Stop, None)
             }
+        }
+    }
+
+    fn ended(self, end: End) {
+        if let StoredCallback::Repeating(repeating) = self {
+            repeating.ended(end);
         }
     }
 }

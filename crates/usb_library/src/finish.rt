@@ -10,6 +10,7 @@ ghost use Rattle.usb_journal.specs.Booked.{IsRun};
 
 use crate::caller::Caller;
 use crate::library::{Guarded, Library};
+use crate::met::Met;
 use crate::wakes::Watchers;
 use std::alloc::{AllocError, Global};
 use std::sync::Mutex;
@@ -29,6 +30,10 @@ pub struct Ended<L: Naming, P, D: Device, J> {
     pub places: u64,
     /// The core, with its devices.
     pub core: Core<P, D>,
+    /// Whether a worker was refused memory.
+    pub lacked_memory: bool,
+    /// How many callbacks ended early, since they couldn't be submitted once more.
+    pub cuts: u64,
     /// How many callers were made.
     pub made: u32,
     /// All parts of the ledger: no caller is left anywhere. It has no bytes.
@@ -67,11 +72,15 @@ impl<L: Naming, P: Drop, D: Device, J: Recorder> Library<L, P, D, J> {
         ensures missing { IfErr result (λ m. vec_len callers < m.made) }
         ensures back { IfErr result (λ m. (m.callers.items ≡ callers.items) × (m.receipts.items ≡ receipts.items)) }
     {
-        let Library { guarded, watchers } = self;
+        let Library {
+            guarded,
+            watchers,
+            met,
+        } = self;
         let guarded = guarded.into_inner();
         let made = guarded.callers.made();
         if callers.len() < made as usize {
-            return Err(handed_back(guarded, watchers, callers, receipts));
+            return Err(handed_back(guarded, watchers, met, callers, receipts));
         }
         let Guarded {
             book,
@@ -93,6 +102,8 @@ impl<L: Naming, P: Drop, D: Device, J: Recorder> Library<L, P, D, J> {
             recorder,
             places,
             core,
+            lacked_memory: met.has_lacked_memory(),
+            cuts: met.cuts(),
             made,
             all: spare,
         })
@@ -124,6 +135,7 @@ impl<L: Naming, P, D: Device> Ended<L, P, D, Journal> {
 fn handed_back<L: Naming, P: Drop, D: Device, J: Recorder>(
     guarded: Guarded<L, P, D, J>,
     watchers: Watchers,
+    met: Met,
     callers: Vec<Caller<L>>,
     receipts: Vec<Receipt<L>>,
 ) -> Missing<L, P, D, J>
@@ -135,6 +147,7 @@ fn handed_back<L: Naming, P: Drop, D: Device, J: Recorder>(
         library: Library {
             guarded: Mutex::new(guarded),
             watchers,
+            met,
         },
         made,
         callers,

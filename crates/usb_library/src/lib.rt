@@ -13,6 +13,7 @@
 //!   is looked for
 //! - `wakes.rt`: what there is to do; for which worker a step made work; who is unparked after a change; when all is
 //!   at rest
+//! - `met.rt`: want of memory that a worker met, and callbacks that ended early
 //! - `finish.rt`: the end: the journal, or which callers are missing
 //! - specs/Calls: what a call makes (`Makes`), and what a tick does (`Ticks`)
 //!
@@ -39,7 +40,7 @@
 //! - `Ended::to_places`, `Ended::into_setup`: copies of the very places that the recorder has; the devices, as
 //!   `Core::into_setup` hands them back
 //!
-//! What `watch`, `watch_part`, `rested` and `stop_workers` do has no contract: what a lock keeps is known by its type
+//! What `watch`, `watch_part`, `rested`, `stop_workers` and `end_workers` do, and what `has_lacked_memory` and `cuts` tell, has no contract: what a lock keeps is known by its type
 //! alone, so nothing can be said of it behind the call. That a worker is woken whenever a step made work for its part
 //! is argued in `wakes.rt`, and shown by scenes alone.
 //!
@@ -55,6 +56,7 @@ mod calls;
 mod finish;
 mod library;
 mod look;
+mod met;
 mod opening;
 mod transfers;
 mod wakes;

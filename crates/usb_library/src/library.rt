@@ -9,6 +9,7 @@ use crate::answered::Answered;
 use crate::caller::Caller;
 use crate::callers::Callers;
 use crate::look::Look;
+use crate::met::Met;
 use crate::opening::Opening;
 use crate::wakes::{Watchers, Work};
 use std::alloc::{AllocError, Global};
@@ -42,6 +43,7 @@ pub struct Guarded<L: Naming, P, D: Device, J: Recorder> {
 pub struct Library<L: Naming, P, D: Device, J: Recorder> {
     pub(crate) guarded: Mutex<Guarded<L, P, D, J>>,
     pub(crate) watchers: Watchers,
+    pub(crate) met: Met,
 }
 
 impl<L: Naming, P: Drop, D: Device, J: Recorder> Library<L, P, D, J> {
@@ -67,6 +69,7 @@ impl<L: Naming, P: Drop, D: Device, J: Recorder> Library<L, P, D, J> {
                 look: Look::new(),
             }),
             watchers: Watchers::new(alloc),
+            met: Met::new(),
         })
     }
 

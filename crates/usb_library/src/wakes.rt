@@ -102,6 +102,7 @@ impl Waiting {
 #[derive(Drop)]
 pub(crate) struct Watchers {
     stopping: AtomicBool,
+    ending: AtomicBool,
     all: Waiting,
     controllers: Waiting,
     events: Waiting,
@@ -112,6 +113,7 @@ impl Watchers {
     pub(crate) fn new(alloc: Global) -> Watchers {
         Watchers {
             stopping: AtomicBool::new(false),
+            ending: AtomicBool::new(false),
             all: Waiting::new(alloc),
             controllers: Waiting::new(alloc),
             events: Waiting::new(alloc),
@@ -196,12 +198,26 @@ impl<L: Naming, P: Drop, D: Device, J: Recorder> Library<L, P, D, J> {
         self.watchers.wake(rt, Work::Any);
     }
 
-    /// What there is to do; None where the workers were asked to stop and there is nothing. Whether they were asked is
-    /// read first: so a submission before that is seen.
+    /// Whether the workers were asked to end, now or as soon as there is nothing to do.
+    pub fn is_stopping(&self) -> bool {
+        self.watchers.stopping.load(Ordering::SeqCst)
+    }
+
+    /// Asks the workers to end at once, whatever there is to do: one of them can't do its part.
+    pub fn end_workers<R: Wait>(&self, rt: &R) {
+        self.watchers.ending.store(true, Ordering::SeqCst);
+        self.stop_workers(rt);
+    }
+
+    /// What there is to do; None where the workers were asked to stop and there is nothing, or to end at once. Whether they were asked
+    /// is read first: so a submission before that is seen.
     pub fn work<R: Wait>(&self, rt: &R) -> Option<Pending>
         ensures { IfSome result (WasPending L.setup) }
     {
-        let stopping = self.watchers.stopping.load(Ordering::SeqCst);
+        if self.watchers.ending.load(Ordering::SeqCst) {
+            return None;
+        }
+        let stopping = self.is_stopping();
         let pending = self.pending(rt);
         if stopping && is_nothing(&pending) {
             return None;
@@ -210,18 +226,21 @@ impl<L: Naming, P: Drop, D: Device, J: Recorder> Library<L, P, D, J> {
     }
 
     /// What there is to do with events, which is known without a look at the endpoints; None where the workers were asked
-    /// to stop and there is nothing to do at all.
+    /// to stop and there is nothing to do at all, or to end at once.
     pub fn events<R: Wait>(&self, rt: &R) -> Option<Events>
         ensures { IfSome result (HadEvents L.setup) }
     {
+        if self.watchers.ending.load(Ordering::SeqCst) {
+            return None;
+        }
         let events = self.guarded.lock(rt).book.events();
-        if events.is_none() && self.watchers.stopping.load(Ordering::SeqCst) && self.rested(rt) {
+        if events.is_none() && self.is_stopping() && self.rested(rt) {
             return None;
         }
         Some(events)
     }
 
-    /// Whether workers were asked to stop, and there is nothing to do.
+    /// Whether workers were asked to stop and there is nothing to do, or they were asked to end at once.
     pub fn rested<R: Wait>(&self, rt: &R) -> bool {
         self.work(rt).is_none()
     }

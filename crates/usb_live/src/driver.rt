@@ -6,7 +6,7 @@ use usb_journal::{Naming, Recorder};
 use usb_library::{Caller, Library};
 
 /// A driver: what one thread does with the library, by calls of its own. The library's workers run beside it. It is not to wait
-/// for ever: all that it left in progress goes on to its end after it.
+/// for ever: what it left in progress goes on after it, as far as its device lets it.
 pub trait Driver<C> {
     /// What it leaves.
     type Left: Drop;

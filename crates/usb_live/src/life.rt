@@ -30,10 +30,17 @@ pub struct Lived<C, D: Device, J, X> {
     pub core: Core<C, D>,
     /// What each driver left, in the order of the drivers.
     pub left: Vec<X>,
+    /// Whether a worker was refused memory. It tried again; but a callback may have ended early for it, or a transfer be in flight
+    /// still.
+    pub lacked_memory: bool,
+    /// How many callbacks ended early: their verdict was to submit the transfer once more, and that was refused, or there was no memory.
+    pub cuts: u64,
 }
 
-/// A library over these devices lives as long as its drivers do, and until all that they left in progress has ended. Each driver has a
-/// thread of its own, and so have the two workers. An error where memory is refused, or a thread can't be made.
+/// A library over these devices lives as long as its drivers do, and until nothing that they left in progress can go on: packets,
+/// orders, events and callbacks. A transfer that its device doesn't end stays in flight, and the core that comes back has it. Each
+/// driver has a thread of its own, and so have the two workers. An error where memory is refused to what isn't a worker, or a thread
+/// can't be made; what workers met is told in `Lived`.
 pub fn live<
     C: Callback + Send,
     D: Device + Send,
@@ -137,6 +144,8 @@ fn ended<L: Naming, C: Drop, D: Device, J: Recorder, X: Drop>(
         places: ended.places,
         core: ended.core,
         left,
+        lacked_memory: ended.lacked_memory,
+        cuts: ended.cuts,
     })
 }
 

@@ -50,7 +50,7 @@ nothing_of : (t : Task) (text : List ℕ) (old : Option (List ℕ)) → Begins t
 nothing_of Run text old = no_entries run_text (scenario_of text) old
 nothing_of Steps text old = no_entries (steps_text text) (scenario_of text) old
 nothing_of (Alone h) text old = no_entries (alone_text h) (scenario_of text) old
-nothing_of Live text old = no_callbacks (lived_of text) old
+nothing_of (Live rounds) text old = no_callbacks (lived_of text) old
 nothing_of Left text old = no_entries left_lines (scenario_of text) old
 nothing_of Check text old = no_report (bad_lines text) (counts_of (good_lines text)) old
 nothing_of Draw text old = no_picture (scenario_of text) old

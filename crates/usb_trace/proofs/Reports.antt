@@ -1,5 +1,5 @@
 -- What a check that finds nothing bad says.
-use Rattle.std.proofs.Common.{◌≡◌, ◌≢◌, ◌⊎◌, ◌==◌, inl, inr, IfSome, IfErr, OnOk, ℕ, ◌≤◌, List, [], ◌∷◌, ◌++◌, length, map, Option, Some, None, Result, Ok, Err, sym, ◌∙◌, ap, subst, arith}
+use Rattle.std.proofs.Common.{◌≡◌, ◌≢◌, ◌⊎◌, ◌==◌, ◌<◌, inl, inr, IfSome, IfErr, OnOk, ℕ, ◌≤◌, List, [], ◌∷◌, ◌++◌, length, map, Option, Some, None, Result, Ok, Err, sym, ◌∙◌, ap, subst, arith}
 use Rattle.std.specs.List.{flat_map}
 use Rattle.std.specs.Io.KnownBytes.{Appends, Keeps}
 use Rattle.std.specs.List.{slice_split}
@@ -18,10 +18,10 @@ use Rattle.trace_io.specs.CommandLine.{AreBad, AskFor, grammar}
 use Rattle.trace_io.specs.Faults.{message_of}
 use Rattle.trace_io.specs.Input.{longest_input}
 use Rattle.trace_io.specs.declared.fault.Fault.{Fault}
-use Rattle.trace_io.specs.declared.fault.Fault.TheVariants.{Line, Memory, InputOutput}
+use Rattle.trace_io.specs.declared.fault.Fault.TheVariants.{Line, Memory, InputOutput, TooLong, Rounds}
 use Rattle.trace_scenario.specs.declared.scenario.Scenario.{Scenario}
 use Rattle.usb_trace.specs.Lived.{earlier, first_unlived}
-use Rattle.usb_trace.specs.Program.{scenario_for, status_of, Begins, IsDone, IsReported, Performs, TellsWhy}
+use Rattle.usb_trace.specs.Program.{scenario_for, status_of, Begins, EndsLate, IsDone, IsReported, Performs, TellsWhy}
 use Rattle.trace_run.specs.declared.tasks.Ending.{Ending}
 use Rattle.trace_run.specs.declared.tasks.Ending.TheVariants.{Good, BadLines}
 use Rattle.usb_trace.proofs.Begun.{keeps_same, nothing_begun}
@@ -34,12 +34,13 @@ use Rattle.trace_io.specs.Output.{finding_text, counts_line, AppendsReport, Appe
 -- where no line is bad, the counts alone
 pub counts_alone : (numbers : List ℕ) (counts : Counts) (old new : Option (List ℕ)) → AppendsReport numbers counts old new → numbers ≡ []
     → Appends old new (counts_line counts)
-counts_alone numbers counts old new written none = by_found written.0 (written.1 ∙ none) written.2
+counts_alone [] counts old new written none = by_found written.0 written.1 written.2
   where
     by_found : (found : List (ℕ × List ℕ)) → map (λ (f : ℕ × List ℕ). f.0) found ≡ []
         → Appends old new (flat_map finding_text found ++ counts_line counts) → Appends old new (counts_line counts)
     by_found [] same line = line
     by_found (f ∷ fs) same line = cc
+counts_alone (n ∷ ns) counts old new written none = cc
 
 -- a check that finds nothing bad: the text is that of a scenario, and its counts are written
 pub all_good : (text : List ℕ) (bad : List Finding) (counts : Counts) (old new : Option (List ℕ))
@@ -66,7 +67,7 @@ said_for : (t : Task) (text : List ℕ) (s : Scenario) → scenario_for t text �
 said_for Run text s e = e
 said_for Steps text s e = e
 said_for (Alone h) text s e = e
-said_for Live text s e = earlier_good (first_unlived 1 (slice_split (λ b. b == 10) text)) (scenario_of text) s e
+said_for (Live rounds) text s e = earlier_good (first_unlived 1 (slice_split (λ b. b == 10) text)) (scenario_of text) s e
 said_for Left text s e = e
 said_for Check text s e = e
 said_for Draw text s e = e
@@ -104,6 +105,18 @@ line_of : (input : Option (List ℕ)) (t : Task) (line : ℕ) (old new : Option 
 line_of None t line old new ends = tt
 line_of (Some text) t line old new ends = (ends.0, ends.2)
 
+-- an input that ended a run by its length is longer than one may be
+length_of : (input : Option (List ℕ)) (t : Task) (old new : Option (List ℕ)) → IfSome input (λ text. Performs t text old new (Err TooLong))
+    → IfSome input (λ text. longest_input < length text)
+length_of None t old new ends = tt
+length_of (Some text) t old new ends = ends.0
+
+-- callbacks that ended a run were more than the words allow
+late_of : (words : List Text) (input : Option (List ℕ)) (t : Task) (rounds : ℕ) (old new : Option (List ℕ)) → AskFor words t
+    → IfSome input (λ text. Performs t text old new (Err (Rounds rounds))) → IfSome input (λ text. AskFor words (Live rounds) × EndsLate text rounds)
+late_of words None t rounds old new asks ends = tt
+late_of words (Some text) t rounds old new asks ends = (subst (λ (x : Task). AskFor words x) ends.0 asks, ends.2)
+
 -- what is told of a task that ended so
 pub told_of : (words : List Text) (input : Option (List ℕ)) (t : Task) (ended : Result Ending Fault) (status : ℕ) (old new err_old err_new : Option (List ℕ))
     → AskFor words t → IfSome input (λ text. Performs t text old new ended) → status ≡ status_of ended
@@ -115,6 +128,8 @@ told_of words input t (Err (Line line)) status old new err_old err_new asks ends
     inr (Line line, (t, asks, line_of input t line old new ends), told)
 told_of words input t (Err Memory) status old new err_old err_new asks ends same quiet told one = inr (Memory, tt, told)
 told_of words input t (Err InputOutput) status old new err_old err_new asks ends same quiet told one = inr (InputOutput, tt, told)
+told_of words input t (Err TooLong) status old new err_old err_new asks ends same quiet told one =
+    inr (TooLong, (t, asks, length_of input t old new ends), told)
 
 -- words that are refused are bad
 pub words_are_bad : (words : List Text) (error : Error) → HasKind (fault_of grammar words) error

@@ -1,5 +1,5 @@
 -- What a scenario says that is run in threads, and what is written of it.
-use Rattle.std.specs.Prelude.{ℕ, ◌+◌, ◌==◌, min, Bool, true, false, List, [], ◌∷◌, Option, Some, None, Result, Ok, Err, if◌then◌else◌}
+use Rattle.std.specs.Prelude.{ℕ, ◌≡◌, ◌+◌, ◌==◌, ◌<◌, length, min, Bool, true, false, List, [], ◌∷◌, Option, Some, None, Result, Ok, Err, if◌then◌else◌}
 use Rattle.std.specs.Io.KnownBytes.{Appends, Keeps}
 use Rattle.std.specs.List.{slice_split}
 use Rattle.usb_model.specs.declared.entry.Entry.{Entry}
@@ -11,7 +11,10 @@ use Rattle.trace_scenario.specs.declared.line.Line.{Line}
 use Rattle.trace_scenario.specs.declared.line.Line.TheVariants.{Piece}
 use Rattle.trace_scenario.specs.Line.{line_of_text}
 use Rattle.trace_live.specs.Callbacks.{AreCallbacks}
+use Rattle.trace_io.specs.Faults.{IsOfRun}
 use Rattle.trace_io.specs.Output.{AppendsSome}
+use Rattle.trace_io.specs.declared.fault.Fault.{Fault}
+use Rattle.trace_io.specs.declared.fault.Fault.TheVariants.{Rounds}
 use Rattle.trace_scenario.specs.declared.scenario.Scenario.{Scenario}
 use Rattle.trace_scenario.specs.Scenario.{scenario_of}
 
@@ -43,6 +46,15 @@ AppendsCallbacks s old new = (steps : List Step) × (lines : List Entry) × AreC
 -- a beginning of that
 abbrev pub AppendsSomeCallbacks : Scenario → Option (List ℕ) → Option (List ℕ) → Type 0
 AppendsSomeCallbacks s old new = (steps : List Step) × (lines : List Entry) × AreCallbacks s.setup steps lines × AppendsSome (lines_text lines) old new
+
+-- more than so many callbacks are told something, in some run over the scenario's devices
+abbrev pub GoesOn : Scenario → ℕ → Type 0
+GoesOn s rounds = (steps : List Step) × (lines : List Entry) × AreCallbacks s.setup steps lines × (rounds < length lines)
+
+-- a fault of a run in threads with so many callbacks at most: of memory or of a stream, or there are more
+abbrev pub IsOfLive : Scenario → ℕ → Fault → Type 0
+IsOfLive s rounds (Rounds told) = (told ≡ rounds) × GoesOn s rounds
+IsOfLive s rounds fault = IsOfRun fault
 
 -- what may have been written, however it ends: a beginning of that, and nothing where a line is bad
 abbrev pub BeginsCallbacks : Result Scenario ℕ → Option (List ℕ) → Option (List ℕ) → Type 0

@@ -1,11 +1,12 @@
 //! A scenario that is run in threads.
 
 ghost use Rattle.std.specs.Prelude.{◌≡◌, ◌≤◌, IfErr, IfOk, OnOk, length};
-ghost use Rattle.trace_io.specs.Faults.{IsOfRun};
 ghost use Rattle.trace_io.specs.Input.{longest_input};
 ghost use Rattle.trace_scenario.specs.Runnable.{IsRunnable};
+ghost use Rattle.std.specs.Io.KnownBytes.{Keeps};
+ghost use Rattle.trace_io.specs.declared.fault.Fault.TheVariants.{Rounds};
 ghost use Rattle.trace_io.specs.declared.words.Task.TheVariants.{Live};
-ghost use Rattle.usb_trace.specs.Lived.{AppendsCallbacks, AppendsSomeCallbacks};
+ghost use Rattle.usb_trace.specs.Lived.{AppendsCallbacks, AppendsSomeCallbacks, IsOfLive};
 ghost use Rattle.usb_trace.specs.Program.{Begins, IsSilentAtBad, Performs};
 
 use crate::lived::read_lived;
@@ -19,38 +20,45 @@ use trace_live::perform;
 use trace_run::{Ending, devices_of};
 use trace_scenario::Scenario;
 
-/// Runs a scenario in threads, and prints what its callbacks were told, by handle and number.
+/// Runs a scenario in threads, and prints what its callbacks were told, by handle and number; nothing where more than so many are
+/// called.
 fn live_scenario<T: Threads + Wait + Sync, W: Write>(
     rt: &T,
     alloc: Global,
     scenario: Scenario,
+    rounds: u64,
     out: &mut W,
 ) -> Result<Ending, Fault>
     requires { IsRunnable scenario }
     ensures lines { OnOk result (AppendsCallbacks scenario (W.contents out.old) (W.contents out.new)) }
     ensures begun { AppendsSomeCallbacks scenario (W.contents out.old) (W.contents out.new) }
     ensures good { IfOk result (λ ending. ending ≡ Ending.Good) }
-    ensures fault { IfErr result (λ fault. IsOfRun fault) }
+    ensures fault { IfErr result (IsOfLive scenario rounds) }
+    ensures silent { IfErr result (λ fault. fault ≡ Rounds rounds → Keeps (W.contents out.old) (W.contents out.new)) }
 {
     let Scenario { setup, plan, rules } = scenario;
     let devices = devices_of(alloc, setup)?;
-    let lines = perform(rt, alloc, devices, plan, rules.as_slice())?;
+    let lines = perform(rt, alloc, devices, plan, rules.as_slice(), rounds)?;
+    if lines.len() as u64 > rounds {
+        return Err(Fault::Rounds(rounds));
+    }
     print(alloc, out, lines.as_slice())?;
     Ok(Ending::Good)
 }
 
 /// Runs the scenario of a text in threads, and prints what its callbacks were told, by handle and number; nothing where a
-/// line is bad.
+/// line is bad, or more than so many are called.
 pub(crate) fn live<T: Threads + Wait + Sync, W: Write>(
     rt: &T,
     alloc: Global,
     text: &[u8],
+    rounds: u64,
     out: &mut W,
 ) -> Result<Ending, Fault>
     requires { length text.now ≤ longest_input }
-    ensures ends { Performs Live text.now (W.contents out.old) (W.contents out.new) result }
+    ensures ends { Performs (Live rounds) text.now (W.contents out.old) (W.contents out.new) result }
     ensures silent { IsSilentAtBad text.now (W.contents out.old) (W.contents out.new) }
-    ensures begun { Begins Live text.now (W.contents out.old) (W.contents out.new) }
+    ensures begun { Begins (Live rounds) text.now (W.contents out.old) (W.contents out.new) }
 {
-    live_scenario(rt, alloc, read_lived(alloc, text)?, out)
+    live_scenario(rt, alloc, read_lived(alloc, text)?, rounds, out)
 }

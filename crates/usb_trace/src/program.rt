@@ -124,7 +124,7 @@ fn perform<T: Threads + Wait + Sync, R: Read, W: Write>(
             let scenario = read_scenario(alloc, text.as_slice())?;
             run_alone(alloc, scenario, setup, h, out)
         }
-        Task::Live => live(rt, alloc, text.as_slice(), out),
+        Task::Live(rounds) => live(rt, alloc, text.as_slice(), rounds, out),
         Task::Left => print_left(alloc, read_scenario(alloc, text.as_slice())?, out),
         Task::Check => report(alloc, text.as_slice(), out),
         Task::Draw => draw_run(alloc, read_scenario(alloc, text.as_slice())?, out),

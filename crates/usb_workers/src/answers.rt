@@ -3,14 +3,22 @@
 ghost use Rattle.std.specs.Prelude.{◌≡◌};
 ghost use Rattle.usb_workers.specs.Steps.{Works, is_events};
 
+use crate::tries::Tries;
 use std::sync::Wait;
-use usb_callback::Callback;
+use usb_callback::{Callback, End};
 use usb_device::Device;
 use usb_journal::{Naming, Recorder};
 use usb_library::{Caller, Library};
 use usb_model::{Bytes, Name, Verdict};
 
-/// The transfer is submitted once more; false where it was refused, or there was no memory.
+/// A callback that isn't called again, and how it ended.
+#[derive(Drop)]
+struct Over<C> {
+    callback: C,
+    end: End,
+}
+
+/// The transfer is submitted once more; where it is refused, or there is no memory, its callback comes back.
 fn again<L: Naming, C: Callback, D: Device, J: Recorder, R: Wait>(
     rt: &R,
     library: &Library<L, C, D, J>,
@@ -18,12 +26,21 @@ fn again<L: Naming, C: Callback, D: Device, J: Recorder, R: Wait>(
     h: Name,
     n: u64,
     callback: C,
-) -> bool
+) -> Option<Over<C>>
     ensures { Works is_events caller.old caller.new }
 {
     match library.again(rt, caller, h, n, callback) {
-        Ok(submitted) => submitted.number.is_ok(),
-        Err(_) => false,
+        Ok(submitted) => {
+            let refused = submitted.number.err()?;
+            Some(Over {
+                callback: refused.payload,
+                end: End::Refused(refused.why),
+            })
+        }
+        Err(back) => Some(Over {
+            callback: back.payload,
+            end: End::NoMemory,
+        }),
     }
 }
 
@@ -36,16 +53,25 @@ fn again_with<L: Naming, C: Callback, D: Device, J: Recorder, R: Wait>(
     n: u64,
     bytes: Bytes,
     callback: C,
-) -> bool
+) -> Option<Over<C>>
     ensures { Works is_events caller.old caller.new }
 {
     match library.again_with(rt, caller, h, n, bytes, callback) {
-        Ok(submitted) => submitted.number.is_ok(),
-        Err(_) => false,
+        Ok(submitted) => {
+            let refused = submitted.number.err()?;
+            Some(Over {
+                callback: refused.payload,
+                end: End::Refused(refused.why),
+            })
+        }
+        Err(back) => Some(Over {
+            callback: back.payload,
+            end: End::NoMemory,
+        }),
     }
 }
 
-/// Whether the transfer of a callback was submitted once more, as its verdict asks.
+/// The transfer of a callback is submitted once more, if its verdict asks for that; a callback that isn't called again comes back.
 fn resubmit<L: Naming, C: Callback, D: Device, J: Recorder, R: Wait>(
     rt: &R,
     library: &Library<L, C, D, J>,
@@ -54,21 +80,25 @@ fn resubmit<L: Naming, C: Callback, D: Device, J: Recorder, R: Wait>(
     n: u64,
     verdict: Verdict,
     callback: C,
-) -> bool
+) -> Option<Over<C>>
     ensures { Works is_events caller.old caller.new }
 {
     match verdict {
-        Verdict::Stop => false,
+        Verdict::Stop => Some(Over {
+            callback,
+            end: End::ByVerdict,
+        }),
         Verdict::Again => again(rt, library, caller, h, n, callback),
         Verdict::AgainWith(bytes) => again_with(rt, library, caller, h, n, bytes, callback),
     }
 }
 
-/// The end of a callback. Where memory is refused it is told once more, until it is told.
+/// The end of a callback. Where memory is refused it is told once more, until it is told, or the worker gives up.
 fn stop<L: Naming, C: Callback, D: Device, J: Recorder, R: Wait>(
     rt: &R,
     library: &Library<L, C, D, J>,
     caller: &mut Caller<L>,
+    tries: &mut Tries,
     h: Name,
     n: u64,
 )
@@ -76,17 +106,35 @@ fn stop<L: Naming, C: Callback, D: Device, J: Recorder, R: Wait>(
 {
     for _ in rt.forever() {
         if library.stop(rt, caller, h, n).is_ok() {
+            tries.done();
+            break;
+        }
+        tries.refused(rt, library);
+        if tries.are_over(library) {
             break;
         }
     }
 }
 
+/// The library is told of a callback that ended early, and why.
+fn note<L: Naming, C: Callback, D: Device, J: Recorder>(library: &Library<L, C, D, J>, end: End) {
+    match end {
+        End::ByVerdict => {}
+        End::Refused(_) => library.note_cut(),
+        End::NoMemory => {
+            library.note_cut();
+            library.note_lack();
+        }
+    }
+}
+
 /// Tells the verdict of the callback of this transfer, with the callback if it can be called again. Where the transfer isn't
-/// submitted once more, for whatever cause, its callback has ended: Stop is told.
+/// submitted once more, for whatever cause, its callback has ended: Stop is told, and the callback is told how it ended.
 pub(crate) fn answer<L: Naming, C: Callback, D: Device, J: Recorder, R: Wait>(
     rt: &R,
     library: &Library<L, C, D, J>,
     caller: &mut Caller<L>,
+    tries: &mut Tries,
     h: Name,
     n: u64,
     verdict: Verdict,
@@ -94,11 +142,13 @@ pub(crate) fn answer<L: Naming, C: Callback, D: Device, J: Recorder, R: Wait>(
 )
     ensures { Works is_events caller.old caller.new }
 {
-    let submitted = match callback {
-        None => false,
-        Some(callback) => resubmit(rt, library, caller, h, n, verdict, callback),
+    let Some(callback) = callback else {
+        stop(rt, library, caller, tries, h, n);
+        return;
     };
-    if !submitted {
-        stop(rt, library, caller, h, n);
+    if let Some(Over { callback, end }) = resubmit(rt, library, caller, h, n, verdict, callback) {
+        stop(rt, library, caller, tries, h, n);
+        note(library, end);
+        callback.ended(end);
     }
 }

@@ -5,6 +5,7 @@ ghost use Rattle.usb_workers.specs.Steps.{Works, is_controllers};
 
 use crate::gate::{Gate, Point};
 use crate::park::Parking;
+use crate::tries::Tries;
 use std::alloc::Global;
 use std::sync::Wait;
 use usb_core::Pending;
@@ -12,19 +13,23 @@ use usb_device::Device;
 use usb_journal::{Naming, Recorder};
 use usb_library::{Caller, Library, Part};
 
-/// A device answers one packet at the endpoint that the look showed. Want of memory is met by the next look.
+/// A device answers one packet at the endpoint that the look showed. Where memory is refused, the next look shows it again.
 fn serve<L: Naming, P: Drop, D: Device, J: Recorder, G: Gate, R: Wait>(
     rt: &R,
     library: &Library<L, P, D, J>,
     gate: &mut G,
     caller: &mut Caller<L>,
+    tries: &mut Tries,
     pending: &Pending,
 )
     ensures { Works is_controllers caller.old caller.new }
 {
     if let Some((dev, ep)) = pending.serve {
         gate.pass(rt, Point::Serve);
-        let _receipt = library.serve(rt, caller, dev, ep);
+        match library.serve(rt, caller, dev, ep) {
+            Ok(_) => tries.done(),
+            Err(_) => tries.refused(rt, library),
+        }
     }
 }
 
@@ -34,13 +39,17 @@ fn command<L: Naming, P: Drop, D: Device, J: Recorder, G: Gate, R: Wait>(
     library: &Library<L, P, D, J>,
     gate: &mut G,
     caller: &mut Caller<L>,
+    tries: &mut Tries,
     pending: &Pending,
 )
     ensures { Works is_controllers caller.old caller.new }
 {
     if pending.command {
         gate.pass(rt, Point::Command);
-        let _receipt = library.command(rt, caller);
+        match library.command(rt, caller) {
+            Ok(_) => tries.done(),
+            Err(_) => tries.refused(rt, library),
+        }
     }
 }
 
@@ -50,6 +59,7 @@ fn turn<L: Naming, P: Drop, D: Device, J: Recorder, G: Gate, R: Wait>(
     library: &Library<L, P, D, J>,
     gate: &mut G,
     caller: &mut Caller<L>,
+    tries: &mut Tries,
     parking: &Parking,
     pending: &Pending,
 )
@@ -59,13 +69,14 @@ fn turn<L: Naming, P: Drop, D: Device, J: Recorder, G: Gate, R: Wait>(
         parking.park(rt);
         return;
     }
-    serve(rt, library, gate, caller, pending);
-    command(rt, library, gate, caller, pending);
+    serve(rt, library, gate, caller, tries, pending);
+    command(rt, library, gate, caller, tries, pending);
 }
 
 /// Does the controller's part (xHCI 1.2, 4.6 and 4.10) until the library is rested: a packet or an order only where
-/// `pending` showed one, each behind the gate. With nothing to do it parks. The caller comes back; its steps grew by Serve
-/// and Command alone.
+/// `pending` showed one, each behind the gate. With nothing to do it parks. Where memory is refused it says so (`has_lacked_memory`) and
+/// tries again; but once it was asked to stop, and a hundred tries in a row were refused, it gives up, and asks the other worker to
+/// end too. The caller comes back; its steps grew by Serve and Command alone.
 pub fn controller_loop<L: Naming, P: Drop, D: Device, J: Recorder, G: Gate, R: Wait>(
     rt: &R,
     alloc: Global,
@@ -76,12 +87,25 @@ pub fn controller_loop<L: Naming, P: Drop, D: Device, J: Recorder, G: Gate, R: W
     ensures works { Works is_controllers caller result }
 {
     let mut caller = caller;
+    let mut tries = Tries::new();
     let parking = Parking::new(rt, alloc, library, Part::Controller);
     for _ in rt.forever() {
         let Some(pending) = library.work(rt) else {
             break;
         };
-        turn(rt, library, gate, &mut caller, &parking, &pending);
+        turn(
+            rt,
+            library,
+            gate,
+            &mut caller,
+            &mut tries,
+            &parking,
+            &pending,
+        );
+        if tries.are_over(library) {
+            library.end_workers(rt);
+            break;
+        }
     }
     caller
 }

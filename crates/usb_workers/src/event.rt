@@ -6,6 +6,7 @@ ghost use Rattle.usb_workers.specs.Steps.{Works, is_events};
 use crate::answers::answer;
 use crate::gate::{Gate, Point};
 use crate::park::Parking;
+use crate::tries::Tries;
 use std::alloc::Global;
 use std::sync::Wait;
 use usb_callback::Callback;
@@ -14,19 +15,23 @@ use usb_device::Device;
 use usb_journal::{Events, Naming, Recorder};
 use usb_library::{Caller, Library, Part};
 
-/// An event is handled, if the look showed one. Want of memory is met by the next look.
+/// An event is handled, if the look showed one. Where memory is refused, the next look shows it again.
 fn deliver<L: Naming, C: Callback, D: Device, J: Recorder, G: Gate, R: Wait>(
     rt: &R,
     library: &Library<L, C, D, J>,
     gate: &mut G,
     caller: &mut Caller<L>,
+    tries: &mut Tries,
     events: &Events,
 )
     ensures { Works is_events caller.old caller.new }
 {
     if events.deliver {
         gate.pass(rt, Point::Deliver);
-        let _answered = library.deliver(rt, caller);
+        match library.deliver(rt, caller) {
+            Ok(_) => tries.done(),
+            Err(_) => tries.refused(rt, library),
+        }
     }
 }
 
@@ -35,12 +40,19 @@ fn take<L: Naming, C: Callback, D: Device, J: Recorder, R: Wait>(
     rt: &R,
     library: &Library<L, C, D, J>,
     caller: &mut Caller<L>,
+    tries: &mut Tries,
 ) -> Option<Taken<C>>
     ensures { Works is_events caller.old caller.new }
 {
     match library.take(rt, caller) {
-        Ok((_receipt, taken)) => taken,
-        Err(_) => None,
+        Ok((_receipt, taken)) => {
+            tries.done();
+            taken
+        }
+        Err(_) => {
+            tries.refused(rt, library);
+            None
+        }
     }
 }
 
@@ -50,6 +62,7 @@ fn call_back<L: Naming, C: Callback, D: Device, J: Recorder, G: Gate, R: Wait>(
     library: &Library<L, C, D, J>,
     gate: &mut G,
     caller: &mut Caller<L>,
+    tries: &mut Tries,
     taken: Taken<C>,
 )
     ensures { Works is_events caller.old caller.new }
@@ -62,7 +75,7 @@ fn call_back<L: Naming, C: Callback, D: Device, J: Recorder, G: Gate, R: Wait>(
     gate.pass(rt, Point::Call);
     let (verdict, callback) = callback.call(returned);
     gate.pass(rt, Point::Answer);
-    answer(rt, library, caller, h, n, verdict, callback);
+    answer(rt, library, caller, tries, h, n, verdict, callback);
 }
 
 /// A result that the look showed goes out, and its callback is called.
@@ -71,6 +84,7 @@ fn take_and_call<L: Naming, C: Callback, D: Device, J: Recorder, G: Gate, R: Wai
     library: &Library<L, C, D, J>,
     gate: &mut G,
     caller: &mut Caller<L>,
+    tries: &mut Tries,
     events: &Events,
 )
     ensures { Works is_events caller.old caller.new }
@@ -79,8 +93,8 @@ fn take_and_call<L: Naming, C: Callback, D: Device, J: Recorder, G: Gate, R: Wai
         return;
     }
     gate.pass(rt, Point::Take);
-    if let Some(taken) = take(rt, library, caller) {
-        call_back(rt, library, gate, caller, taken);
+    if let Some(taken) = take(rt, library, caller, tries) {
+        call_back(rt, library, gate, caller, tries, taken);
     }
 }
 
@@ -90,6 +104,7 @@ fn turn<L: Naming, C: Callback, D: Device, J: Recorder, G: Gate, R: Wait>(
     library: &Library<L, C, D, J>,
     gate: &mut G,
     caller: &mut Caller<L>,
+    tries: &mut Tries,
     parking: &Parking,
     events: &Events,
 )
@@ -99,13 +114,15 @@ fn turn<L: Naming, C: Callback, D: Device, J: Recorder, G: Gate, R: Wait>(
         parking.park(rt);
         return;
     }
-    deliver(rt, library, gate, caller, events);
-    take_and_call(rt, library, gate, caller, events);
+    deliver(rt, library, gate, caller, tries, events);
+    take_and_call(rt, library, gate, caller, tries, events);
 }
 
 /// Handles events (libusb 1.0, `libusb_handle_events`), takes results out, calls their callbacks with no lock held and tells their
 /// verdicts, until the library is rested: a Deliver or Take only where a look showed one, each behind the gate.
-/// With nothing to do it parks. The caller comes back; its steps grew by Deliver, Take and Answer alone.
+/// With nothing to do it parks. A callback that can't be submitted once more has ended, and is told so (`Callback::ended`). Where memory
+/// is refused it says so (`has_lacked_memory`) and tries again; but once it was asked to stop, and a hundred tries in a row were refused,
+/// it gives up, and asks the other worker to end too. The caller comes back; its steps grew by Deliver, Take and Answer alone.
 pub fn event_loop<L: Naming, C: Callback, D: Device, J: Recorder, G: Gate, R: Wait>(
     rt: &R,
     alloc: Global,
@@ -116,12 +133,25 @@ pub fn event_loop<L: Naming, C: Callback, D: Device, J: Recorder, G: Gate, R: Wa
     ensures works { Works is_events caller result }
 {
     let mut caller = caller;
+    let mut tries = Tries::new();
     let parking = Parking::new(rt, alloc, library, Part::Events);
     for _ in rt.forever() {
         let Some(events) = library.events(rt) else {
             break;
         };
-        turn(rt, library, gate, &mut caller, &parking, &events);
+        turn(
+            rt,
+            library,
+            gate,
+            &mut caller,
+            &mut tries,
+            &parking,
+            &events,
+        );
+        if tries.are_over(library) {
+            library.end_workers(rt);
+            break;
+        }
     }
     caller
 }

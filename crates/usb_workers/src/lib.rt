@@ -6,7 +6,7 @@
 //!
 //! - `controller.rt`, `event.rt`: the two loops
 //! - `answers.rt`: what a callback answered is told
-//! - `gate.rt`, `park.rt`: what a worker passes before each act; how it waits
+//! - `gate.rt`, `park.rt`, `tries.rt`: what a worker passes before each act; how it waits; how often it tries again
 //! - `moments.rt`: a clock's milliseconds, for those who want to tick by one; nothing is promised of time
 //! - specs/Steps: which steps are whose
 //!
@@ -22,7 +22,8 @@
 //! The library unparks it after a step that may have made work for that part, and no other: a submission is the
 //! controller's, a transfer that ended that of events, and an event is the controller's where it orders something or
 //! sets an endpoint going again. It ends where the workers were asked to stop and nothing is left. Where memory is
-//! refused it tries again; a callback that can't be submitted once more has ended.
+//! refused it says so and tries again, until it gives up once it was asked to stop; a callback that can't be submitted once more has
+//! ended, and is told how.
 #![tactic(auto)]
 
 mod answers;
@@ -31,6 +32,7 @@ mod event;
 mod gate;
 mod moments;
 mod park;
+mod tries;
 
 pub use controller::controller_loop;
 pub use event::event_loop;

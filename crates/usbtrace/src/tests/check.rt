@@ -1,7 +1,7 @@
 //! What a check says: a sentence for each kind of bad line, and the counts.
 
 use super::fakes::{Input, run};
-use super::texts::Part::{Once, Times};
+use super::texts::Part::{Counted, Once, Times};
 use super::texts::{End, Part, ends};
 use std::alloc::Global;
 use std::sync::Wait;
@@ -174,6 +174,22 @@ fn a_packet_past_2048_bytes_is_told(rt: HostRuntime) {
     ];
     let said = [Once("line 5: a packet has at most 2048 bytes\n1 device, 2 scripts, 0 steps\n")];
     assert!(rt; checks_as(&rt, rt.alloc(), &text, 1, &said));
+}
+
+/// What is said of a line without a verb, behind its number.
+const NO_VERB: &str = ": the first word is no verb, as `device`, `open` or `submit`\n";
+
+#[test]
+fn a_thousand_bad_lines_are_told_and_then_how_many_more(rt: HostRuntime) {
+    let none = "0 devices, 0 scripts, 0 steps\n";
+    let all = [Counted(1_000, "line ", NO_VERB), Once(none)];
+    assert!(rt; checks_as(&rt, rt.alloc(), &[Times(1_000, "x\n")], 1, &all));
+    let more = [
+        Counted(1_000, "line ", NO_VERB),
+        Once("more bad lines: 2\n"),
+        Once(none),
+    ];
+    assert!(rt; checks_as(&rt, rt.alloc(), &[Times(1_002, "x\n")], 1, &more));
 }
 
 #[test]

@@ -11,6 +11,10 @@ const WORDS: &[&str] = &["usbtrace", "run"];
 /// How many bytes an input may have.
 const LONGEST: usize = 67_108_864;
 
+/// What is said of a longer one.
+const TOO_LONG: &str =
+    "usbtrace: the input is longer than 67108864 bytes\nusbtrace: input or output failed\n";
+
 /// Whether a line of this input is refused.
 fn refuses<X: Threads + Wait + Sync>(rt: &X, alloc: Global, input: &[u8], said: &str) -> bool {
     run(rt, alloc, WORDS, Input::new(input, 4)).only_says(1, said)
@@ -52,8 +56,15 @@ fn reads_of<X: Threads + Wait + Sync>(
 #[test]
 fn the_longest_input_is_taken_and_none_longer(rt: HostRuntime) {
     assert!(rt; reads_of(&rt, rt.alloc(), Comment::new(LONGEST, LONGEST), 0, "") > 0);
-    let said = "usbtrace: input or output failed\n";
-    assert!(rt; reads_of(&rt, rt.alloc(), Comment::new(LONGEST + 1, LONGEST), 1, said) > 0);
+    assert!(rt;
+        reads_of(
+            &rt,
+            rt.alloc(),
+            Comment::new(LONGEST + 1, LONGEST),
+            1,
+            TOO_LONG
+        ) > 0
+    );
 }
 
 /// One read a byte, and one at the end; and where there are more bytes, none behind the first that is too many.
@@ -61,6 +72,5 @@ fn the_longest_input_is_taken_and_none_longer(rt: HostRuntime) {
 fn an_input_is_read_67_108_865_times_at_most(rt: HostRuntime) {
     let most = 67_108_865;
     assert!(rt; reads_of(&rt, rt.alloc(), Comment::new(LONGEST, 1), 0, "") == most);
-    let said = "usbtrace: input or output failed\n";
-    assert!(rt; reads_of(&rt, rt.alloc(), Comment::new(LONGEST + 1, 1), 1, said) == most);
+    assert!(rt; reads_of(&rt, rt.alloc(), Comment::new(LONGEST + 1, 1), 1, TOO_LONG) == most);
 }

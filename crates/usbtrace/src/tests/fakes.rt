@@ -50,6 +50,33 @@ impl Read for Input<'_> {
     }
 }
 
+/// Gives what an input gives, but each second read is interrupted, the first among them.
+#[derive(Drop)]
+pub(crate) struct Interrupted<'a> {
+    input: Input<'a>,
+    was_interrupted: bool,
+}
+
+impl<'a> Interrupted<'a> {
+    /// The reads of this input, and as many that are interrupted.
+    pub(crate) fn new(input: Input<'a>) -> Interrupted<'a> {
+        Interrupted {
+            input,
+            was_interrupted: false,
+        }
+    }
+}
+
+impl Read for Interrupted<'_> {
+    fn read(&mut self, buf: &mut [u8]) -> io::Result<usize> {
+        self.was_interrupted = !self.was_interrupted;
+        if self.was_interrupted {
+            return Err(io::Error::from(ErrorKind::Interrupted));
+        }
+        self.input.read(buf)
+    }
+}
+
 /// Gives one comment, which is so many times `#`, and counts how often it is read.
 #[derive(Drop)]
 pub(crate) struct Comment {

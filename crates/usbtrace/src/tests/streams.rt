@@ -1,6 +1,6 @@
 //! Streams that fail.
 
-use super::fakes::{Input, Output, run, run_into, run_until_flushed};
+use super::fakes::{Input, Interrupted, Output, run, run_into, run_until_flushed};
 use std::alloc::Global;
 use std::io::ErrorKind;
 use std::sync::Wait;
@@ -73,6 +73,20 @@ fn a_read_that_fails_in_midstream_ends_the_run(rt: HostRuntime) {
             "{count}"
         );
     }
+}
+
+#[test]
+fn a_read_that_is_interrupted_is_made_again(rt: HostRuntime) {
+    let alloc = rt.alloc();
+    let outcome = run_into(
+        &rt,
+        alloc,
+        WORDS,
+        &mut Interrupted::new(Input::new(TEXT, 3)),
+        Output::new(alloc, usize::MAX, ErrorKind::BrokenPipe),
+        Output::new(alloc, usize::MAX, ErrorKind::BrokenPipe),
+    );
+    assert!(rt; outcome.is(0, LINES, ""));
 }
 
 #[test]

@@ -15,6 +15,8 @@ pub(crate) enum Part {
     Times(u32, &'static str),
     /// For each number below this one the texts, with the number behind each, and then a last text.
     Numbered(u32, &'static [&'static str], &'static str),
+    /// For each number from 1 to this one a text, the number, and another text.
+    Counted(u32, &'static str, &'static str),
     /// The digits of so many packets of 512 bytes, each byte the packet's number modulo 251, with this before each.
     Packets(u32, &'static str),
 }
@@ -57,6 +59,13 @@ fn write(alloc: Global, text: &mut String, part: Part) -> Result<(), AllocError>
         Part::Numbered(count, parts, last) => {
             for number in 0..count {
                 write_numbered(text, parts, last, number.to_string(alloc)?.as_str())?;
+            }
+        }
+        Part::Counted(count, before, behind) => {
+            for number in 1..=count {
+                text.push_str(before)?;
+                text.push_str(number.to_string(alloc)?.as_str())?;
+                text.push_str(behind)?;
             }
         }
         Part::Packets(count, before) => {

@@ -24,7 +24,11 @@ For more information, try '--help'.
 === usbtrace live 1
 error: unexpected argument '1' found
 
-Usage: usbtrace live
+Usage: usbtrace live [OPTIONS]
+
+For more information, try '--help'.
+=== usbtrace live --rounds many
+error: invalid value 'many' for '--rounds <N>': invalid digit found in string
 
 For more information, try '--help'.
 === usbtrace help
@@ -79,7 +83,7 @@ fn are_told<X: Threads + Wait + Sync>(
     )
 }
 
-/// The first bad words that aren't told so; or nothing, where there aren't nine of them.
+/// The first bad words that aren't told so; or nothing, where there aren't ten of them.
 fn first_to_differ<X: Threads + Wait + Sync>(
     rt: &X,
     alloc: Global,
@@ -96,7 +100,7 @@ fn first_to_differ<X: Threads + Wait + Sync>(
         }
         count = count.saturating_add(1);
     }
-    if count == 9 { None } else { Some("") }
+    if count == 10 { None } else { Some("") }
 }
 
 #[test]

@@ -21,6 +21,19 @@ returns-in-Some-clause-task c =
           (search rules) c.in-Some.ensures.rows,
     )
 
+pub returns-in-Some-subcommand_matches-clause-fault : goal.returns-in-Some-subcommand_matches-clause-fault
+returns-in-Some-subcommand_matches-clause-fault c = without_fault (app_of c.in_ok-command.field-0) (words_of c.args.words.now) c.in_ok-command.ensures c.in_ok-matches.ensures.kinds
+
+pub returns-in-Some-subcommand_matches-clause-task : goal.returns-in-Some-subcommand_matches-clause-task
+returns-in-Some-subcommand_matches-clause-task c =
+    let words = words_of c.args.words.now in
+    let a = app_of c.in_ok-command.field-0 in (
+      without_fault a words c.in_ok-command.ensures c.in_ok-matches.ensures.kinds,
+      asks_behind (codes "live") (rows_of (found_of c.in-Some-subcommand_matches.found.now)) (Live c.in_ok-rounds_of.field-0) (ap (option_map Live) c.in_ok-rounds_of.ensures) words
+          c.in_ok-matches.matches (met a words c.in_ok-matches.matches c.in_ok-command.ensures c.in_ok-matches.ensures.matches)
+          (search rules) c.in-Some-subcommand_matches.ensures.rows,
+    )
+
 pub returns-then-is_some-clause-fault : goal.returns-then-is_some-clause-fault
 returns-then-is_some-clause-fault c = without_fault (app_of c.in_ok-command.field-0) (words_of c.args.words.now) c.in_ok-command.ensures c.in_ok-matches.ensures.kinds
 
@@ -29,7 +42,7 @@ returns-then-is_some-clause-task c =
     let words = words_of c.args.words.now in
     let a = app_of c.in_ok-command.field-0 in (
       without_fault a words c.in_ok-command.ensures c.in_ok-matches.ensures.kinds,
-      asks_for (codes "live") Live (λ rows. refl) words c.in_ok-matches.matches (met a words c.in_ok-matches.matches c.in_ok-command.ensures c.in_ok-matches.ensures.matches)
+      asks_for (codes "left") Left (λ rows. refl) words c.in_ok-matches.matches (met a words c.in_ok-matches.matches c.in_ok-command.ensures c.in_ok-matches.ensures.matches)
           (search rules),
     )
 
@@ -41,7 +54,7 @@ returns-then-is_some-2-clause-task c =
     let words = words_of c.args.words.now in
     let a = app_of c.in_ok-command.field-0 in (
       without_fault a words c.in_ok-command.ensures c.in_ok-matches.ensures.kinds,
-      asks_for (codes "left") Left (λ rows. refl) words c.in_ok-matches.matches (met a words c.in_ok-matches.matches c.in_ok-command.ensures c.in_ok-matches.ensures.matches)
+      asks_for (codes "check") Check (λ rows. refl) words c.in_ok-matches.matches (met a words c.in_ok-matches.matches c.in_ok-command.ensures c.in_ok-matches.ensures.matches)
           (search rules),
     )
 
@@ -53,33 +66,21 @@ returns-then-is_some-3-clause-task c =
     let words = words_of c.args.words.now in
     let a = app_of c.in_ok-command.field-0 in (
       without_fault a words c.in_ok-command.ensures c.in_ok-matches.ensures.kinds,
-      asks_for (codes "check") Check (λ rows. refl) words c.in_ok-matches.matches (met a words c.in_ok-matches.matches c.in_ok-command.ensures c.in_ok-matches.ensures.matches)
-          (search rules),
-    )
-
-pub returns-then-is_some-4-clause-fault : goal.returns-then-is_some-4-clause-fault
-returns-then-is_some-4-clause-fault c = without_fault (app_of c.in_ok-command.field-0) (words_of c.args.words.now) c.in_ok-command.ensures c.in_ok-matches.ensures.kinds
-
-pub returns-then-is_some-4-clause-task : goal.returns-then-is_some-4-clause-task
-returns-then-is_some-4-clause-task c =
-    let words = words_of c.args.words.now in
-    let a = app_of c.in_ok-command.field-0 in (
-      without_fault a words c.in_ok-command.ensures c.in_ok-matches.ensures.kinds,
       asks_for (codes "draw") Draw (λ rows. refl) words c.in_ok-matches.matches (met a words c.in_ok-matches.matches c.in_ok-command.ensures c.in_ok-matches.ensures.matches)
           (search rules),
     )
 
-pub returns-in-Some-subcommand_matches-clause-fault : goal.returns-in-Some-subcommand_matches-clause-fault
-returns-in-Some-subcommand_matches-clause-fault c = without_fault (app_of c.in_ok-command.field-0) (words_of c.args.words.now) c.in_ok-command.ensures c.in_ok-matches.ensures.kinds
+pub returns-in-Some-subcommand_matches-2-clause-fault : goal.returns-in-Some-subcommand_matches-2-clause-fault
+returns-in-Some-subcommand_matches-2-clause-fault c = without_fault (app_of c.in_ok-command.field-0) (words_of c.args.words.now) c.in_ok-command.ensures c.in_ok-matches.ensures.kinds
 
-pub returns-in-Some-subcommand_matches-clause-task : goal.returns-in-Some-subcommand_matches-clause-task
-returns-in-Some-subcommand_matches-clause-task c =
+pub returns-in-Some-subcommand_matches-2-clause-task : goal.returns-in-Some-subcommand_matches-2-clause-task
+returns-in-Some-subcommand_matches-2-clause-task c =
     let words = words_of c.args.words.now in
     let a = app_of c.in_ok-command.field-0 in (
       without_fault a words c.in_ok-command.ensures c.in_ok-matches.ensures.kinds,
-      asks_behind (codes "run") (rows_of (found_of c.in-Some-subcommand_matches.found.now)) c.run_task.result (ap Some (sym c.run_task.ensures)) words c.in_ok-matches.matches
+      asks_behind (codes "run") (rows_of (found_of c.in-Some-subcommand_matches-2.found.now)) c.run_task.result (ap Some (sym c.run_task.ensures)) words c.in_ok-matches.matches
           (met a words c.in_ok-matches.matches c.in_ok-command.ensures c.in_ok-matches.ensures.matches)
-          (search rules) c.in-Some-subcommand_matches.ensures.rows,
+          (search rules) c.in-Some-subcommand_matches-2.ensures.rows,
     )
 
 pub returns-clause-fault : goal.returns-clause-fault

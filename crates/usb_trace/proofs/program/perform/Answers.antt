@@ -15,5 +15,5 @@ returns-in-Steps-clause-begun g c =
 
 pub returns-in-Live-clause-begun : goal.returns-in-Live-clause-begun
 returns-in-Live-clause-begun g c =
-    bytes_begun (g.R.Read.remaining c.args.input.now) c.args.task Live c.as_slice-in-Live.result.now (g.W.Write.contents c.args.out.now) (g.W.Write.contents c.live.new.out)
+    bytes_begun (g.R.Read.remaining c.args.input.now) c.args.task (Live c.in-Live.rounds) c.as_slice-in-Live.result.now (g.W.Write.contents c.args.out.now) (g.W.Write.contents c.live.new.out)
     c.in-Live.is (rw c.as_slice-in-Live.ensures.value c.in_ok-text.ensures.whole) c.live.ensures.begun

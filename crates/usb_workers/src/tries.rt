@@ -1,0 +1,55 @@
+//! How often a worker tries again where memory is refused.
+
+use std::sync::Wait;
+use std::thread::Parker;
+use std::time::Duration;
+use usb_device::Device;
+use usb_journal::{Naming, Recorder};
+use usb_library::Library;
+
+/// How often in a row a worker that was asked to stop is refused memory before it gives up.
+const MOST: u32 = 100;
+
+/// How many milliseconds it waits before it tries again.
+const PAUSE: u64 = 1;
+
+/// How often in a row a worker was refused memory.
+#[derive(Drop)]
+pub(crate) struct Tries {
+    refused: u32,
+    parker: Parker,
+}
+
+impl Tries {
+    /// Not yet.
+    pub(crate) fn new() -> Tries {
+        Tries {
+            refused: 0,
+            parker: Parker::new(),
+        }
+    }
+
+    /// A step was made.
+    pub(crate) fn done(&mut self) {
+        self.refused = 0;
+    }
+
+    /// Memory was refused for a step: the library is told. The worker waits a moment, and then it may be tried again.
+    pub(crate) fn refused<L: Naming, P: Drop, D: Device, J: Recorder, R: Wait>(
+        &mut self,
+        rt: &R,
+        library: &Library<L, P, D, J>,
+    ) {
+        self.refused = self.refused.saturating_add(1);
+        library.note_lack();
+        self.parker.park_timeout(rt, Duration::from_millis(PAUSE));
+    }
+
+    /// Whether the worker gives up: it was asked to stop, and there is no memory for what is still to be done.
+    pub(crate) fn are_over<L: Naming, P: Drop, D: Device, J: Recorder>(
+        &self,
+        library: &Library<L, P, D, J>,
+    ) -> bool {
+        self.refused >= MOST && library.is_stopping()
+    }
+}
