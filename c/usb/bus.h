@@ -109,7 +109,8 @@ struct libusb_device_handle {
     struct libusb_context *context;
     struct libusb_device *of;
     struct device *device;
-    uint32_t claimed;                 /* a bit an interface */
+    uint32_t claimed;                 /* a bit an interface that it holds */
+    uint32_t asked;                   /* of these, those that the program claimed itself */
     bool is_closing, detaches;
 };
 

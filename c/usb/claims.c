@@ -65,7 +65,8 @@ int claim(struct libusb_device_handle *handle, int interface)
     return 0;
 }
 
-/* An interface that is used before it was claimed is claimed, as Linux has it. */
+/* An interface that is used before it was claimed is claimed, as Linux has it: the handle holds it until it is closed, or claims it itself
+ * and releases it. */
 int claim_in_passing(struct libusb_device_handle *handle, int interface)
 {
     if (handle->claimed >> interface & 1)
@@ -82,6 +83,7 @@ void unclaim(struct libusb_device_handle *handle, int interface)
     struct interface *it = &handle->device->interfaces[interface];
     it->holder = NULL;
     handle->claimed &= ~(1u << interface);
+    handle->asked &= ~(1u << interface);
     if (handle->detaches)
         it->is_detached = false;
 }
@@ -93,6 +95,8 @@ int libusb_claim_interface(libusb_device_handle *handle, int interface)
     lock();
     shake();
     int r = claim(handle, interface);
+    if (!r)
+        handle->asked |= 1u << interface;
     unlock();
     return r;
 }
@@ -104,7 +108,7 @@ int libusb_release_interface(libusb_device_handle *handle, int interface)
         return LIBUSB_ERROR_INVALID_PARAM;
     lock();
     shake();
-    if (handle->claimed >> interface & 1) {
+    if (handle->asked >> interface & 1) {
         withdraw(handle, interface, false);
         unclaim(handle, interface);
         wake(handle->context);
@@ -121,7 +125,7 @@ static int set_setting(struct libusb_device_handle *handle, int interface, int s
     const uint8_t *config = device->config;
     if (device->is_gone)
         return LIBUSB_ERROR_NO_DEVICE;
-    if (!(handle->claimed >> interface & 1))
+    if (!(handle->asked >> interface & 1))
         return LIBUSB_ERROR_NOT_FOUND;
     for (int at = config[0]; at + 4 < device->config_length && config[at] >= 2; at += config[at]) {
         const uint8_t *it = config + at;
