@@ -40,9 +40,17 @@ pub check_asks : (name : Text) → AskFor (name ∷ codes "check" ∷ []) Check
 unfolding clap_on_literals
 check_asks name = (refl, refl)
 
-pub draw_asks : (name : Text) → AskFor (name ∷ codes "draw" ∷ []) Draw
+pub draw_asks : (name : Text) → AskFor (name ∷ codes "draw" ∷ []) (Draw 1 18446744073709551615)
 unfolding clap_on_literals
 draw_asks name = (refl, refl)
+
+pub part_asks : (name : Text) → AskFor (name ∷ codes "draw" ∷ codes "--from" ∷ codes "11" ∷ codes "--to" ∷ codes "20" ∷ []) (Draw 11 20)
+unfolding clap_on_literals
+part_asks name = (refl, refl)
+
+pub step_0_is_bad : (name : Text) → AreBad (name ∷ codes "draw" ∷ codes "--from" ∷ codes "0" ∷ [])
+unfolding clap_on_literals
+step_0_is_bad name = (kind.ValueValidation, inl refl, λ e. cc)
 
 pub check_of_a_file_is_bad : (name : Text) → AreBad (name ∷ codes "check" ∷ codes "1" ∷ [])
 unfolding clap_on_literals
@@ -107,7 +115,7 @@ is_alone h (Some Steps) = false
 is_alone h (Some (Live n)) = false
 is_alone h (Some Left) = false
 is_alone h (Some Check) = false
-is_alone h (Some Draw) = false
+is_alone h (Some (Draw from to)) = false
 is_alone h None = false
 
 is_alone_says : (h : ℕ) (task : Option Task) → is_alone h task ≡ true → task ≡ Some (Alone h)
@@ -117,7 +125,7 @@ is_alone_says h (Some Steps) e = let bad : false ≡ true = e in cc
 is_alone_says h (Some (Live n)) e = let bad : false ≡ true = e in cc
 is_alone_says h (Some Left) e = let bad : false ≡ true = e in cc
 is_alone_says h (Some Check) e = let bad : false ≡ true = e in cc
-is_alone_says h (Some Draw) e = let bad : false ≡ true = e in cc
+is_alone_says h (Some (Draw from to)) e = let bad : false ≡ true = e in cc
 is_alone_says h None e = let bad : false ≡ true = e in cc
 
 is_empty_says : (kinds : Kinds) → is_empty kinds ≡ true → kinds ≡ []

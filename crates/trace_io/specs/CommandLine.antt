@@ -1,6 +1,6 @@
 -- The command line: which words mean which task, by the reading of clap's documentation.
 use Rattle.std.specs.Prelude.{◌≡◌, ◌≢◌, ℕ, Bool, ◌∷◌, [], List, Option, Some, None, true, false, codes, if◌then◌else◌, option_map}
-use Rattle.std.specs.Option.{option_map_or}
+use Rattle.std.specs.Option.{option_and_then, option_map_or}
 use Rattle.std.specs.Str.{bytes_eq}
 use Rattle.std.specs.Str.Parse.{digits_value, without_leading_plus}
 use Rattle.clap.specs.Walk.{Row, Rule, Text, first_of, one_of}
@@ -57,9 +57,29 @@ left_words = new_shape (codes "left")
 abbrev pub check_words : Shape
 check_words = new_shape (codes "check")
 
--- draw
+-- the word --from A: the first step that is drawn, counted from 1
+abbrev pub from_word : Rule
+from_word = record (new_rule (codes "from")) {
+  long = Some (codes "from");
+  action = Some Set;
+  value_names = 1;
+  defaults = codes "1" ∷ [];
+  parser = Some (Unsigned 1 18446744073709551615);
+}
+
+-- the word --to B: the last
+abbrev pub to_word : Rule
+to_word = record (new_rule (codes "to")) {
+  long = Some (codes "to");
+  action = Some Set;
+  value_names = 1;
+  defaults = codes "18446744073709551615" ∷ [];
+  parser = Some (Unsigned 1 18446744073709551615);
+}
+
+-- draw, with --from A or --to B or both
 abbrev pub draw_words : Shape
-draw_words = new_shape (codes "draw")
+draw_words = record (new_shape (codes "draw")) { rules = from_word ∷ to_word ∷ [] }
 
 -- usbtrace, and then one of the six; there is no subcommand for help
 abbrev pub first_words : Shape
@@ -85,18 +105,18 @@ number_in id rows = option_map (λ text. digits_value 10 (without_leading_plus t
 abbrev pub handle_in : List Row → Option ℕ
 handle_in rows = number_in (codes "H") rows
 
--- how many callbacks are called at most
-abbrev pub rounds_in : List Row → Option ℕ
-rounds_in rows = number_in (codes "rounds") rows
+-- which picture is asked for
+abbrev pub drawing_in : List Row → Option Task
+drawing_in rows = option_and_then (λ from. option_map (λ to. Draw from to) (number_in (codes "to") rows)) (number_in (codes "from") rows)
 
 -- the task of a subcommand, by its name and what stands behind it
 abbrev pub task_named : Text → List Row → Option Task
 task_named name rows =
     if bytes_eq name (codes "alone") then option_map Alone (handle_in rows)
-    else (if bytes_eq name (codes "live") then option_map Live (rounds_in rows)
+    else (if bytes_eq name (codes "live") then option_map Live (number_in (codes "rounds") rows)
     else (if bytes_eq name (codes "left") then Some Left
     else (if bytes_eq name (codes "check") then Some Check
-    else (if bytes_eq name (codes "draw") then Some Draw
+    else (if bytes_eq name (codes "draw") then drawing_in rows
     else (if bytes_eq name (codes "run") then Some (if is_stepwise rows then Steps else Run) else None)))))
 
 -- the task of the subcommand that the words name

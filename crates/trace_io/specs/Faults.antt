@@ -6,7 +6,7 @@ use Rattle.std.specs.declared.io.ErrorKind.TheVariants.{OutOfMemory}
 use Rattle.trace_scenario.specs.declared.text_fault.TextFault.{TextFault}
 use Rattle.trace_scenario.specs.declared.text_fault.TextFault.TheVariants as text
 use Rattle.trace_io.specs.declared.fault.Fault.{Fault}
-use Rattle.trace_io.specs.declared.fault.Fault.TheVariants.{Line, Memory, InputOutput, TooLong, Rounds}
+use Rattle.trace_io.specs.declared.fault.Fault.TheVariants.{Line, Memory, InputOutput, TooLong, Rounds, Wide}
 use Rattle.trace_io.specs.Input.{longest_input}
 
 -- the fault of a run whose text has this one
@@ -26,20 +26,36 @@ fault_text Memory = codes "out of memory"
 fault_text InputOutput = codes "input or output failed"
 fault_text TooLong = codes "the input is longer than 67108864 bytes\nusbtrace: input or output failed"
 fault_text (Rounds rounds) = codes "more than " ++ decimal rounds ++ codes " callbacks are called: --rounds sets how many may be"
+fault_text (Wide steps) = decimal steps ++ codes " steps are too many for a picture, which has 2000: choose some by --from and --to"
 
 -- the message of a fault on standard error
 abbrev pub message_of : Fault → List ℕ
 message_of fault = codes "usbtrace: " ++ fault_text fault ++ codes "\n"
 
--- a fault of memory or of a stream, and not of a line, of the whole input, or of the callbacks
+-- a fault of memory or of a stream, and not of a line, of the whole input, of the callbacks or of a picture
 abbrev pub IsOfRun : Fault → Type 0
 IsOfRun (Line line) = ⊥
 IsOfRun Memory = ⊤
 IsOfRun InputOutput = ⊤
 IsOfRun TooLong = ⊥
 IsOfRun (Rounds rounds) = ⊥
+IsOfRun (Wide steps) = ⊥
+
+-- how many steps a picture has at most
+abbrev pub most_drawn : ℕ
+most_drawn = 2000
+
+-- a fault of a picture: of memory or of a stream, or there are too many steps
+abbrev pub IsOfPicture : Fault → Type 0
+IsOfPicture (Wide steps) = most_drawn < steps
+IsOfPicture fault = IsOfRun fault
 
 -- a fault of reading this input, of which perhaps the bytes are known: of memory or of a stream, or the input is too long
 abbrev pub IsOfInput : Option (List ℕ) → Fault → Type 0
 IsOfInput given TooLong = IfSome given (λ bytes. longest_input < length bytes)
 IsOfInput given fault = IsOfRun fault
+
+-- what holds of a picture that is too wide, of its number of steps
+abbrev pub IfWide : Fault → (ℕ → Type 0) → Type 0
+IfWide (Wide steps) holds = holds steps
+IfWide fault holds = ⊤

@@ -15,7 +15,7 @@ use std::{fmt, io};
 use thiserror::Error;
 use trace_scenario::TextFault;
 
-/// How many bytes a message may have. The longest, of a number of rounds with 20 digits, has 98.
+/// How many bytes a message may have. The longest, of steps whose number has 20 digits, has 116.
 const ROOM: usize = 128;
 
 /// What ends a run, in the words of its message.
@@ -31,6 +31,8 @@ pub enum Fault {
     TooLong,
     /// More callbacks than so many were called.
     Rounds(u64),
+    /// So many steps were to be drawn, more than a picture has.
+    Wide(u64),
 }
 
 /// The fault in words. They are written here, and not by the derive, whose text no contract knows.
@@ -48,6 +50,10 @@ impl fmt::Display for Fault {
             Fault::Rounds(rounds) => write!(
                 f,
                 "more than {rounds} callbacks are called: --rounds sets how many may be"
+            ),
+            Fault::Wide(steps) => write!(
+                f,
+                "{steps} steps are too many for a picture, which has 2000: choose some by --from and --to"
             ),
         }
     }

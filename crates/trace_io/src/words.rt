@@ -9,7 +9,7 @@ ghost use Rattle.clap.specs.Matches.{found_of};
 ghost use Rattle.clap.specs.Simple.{app_of, shape_of};
 ghost use Rattle.clap.specs.declared.builder.command.Command.TheViews.{out-Command as fields_of};
 ghost use Rattle.clap.specs.Walk.{rows_of, rule_of};
-ghost use Rattle.trace_io.specs.CommandLine.{AskFor, alone_words, check_words, draw_words, grammar, handle_in, handle_word, is_stepwise, left_words, live_words, program_alone, program_of_runs, rounds_in, rounds_word, run_words, steps_word};
+ghost use Rattle.trace_io.specs.CommandLine.{AskFor, alone_words, check_words, draw_words, drawing_in, from_word, grammar, handle_in, handle_word, is_stepwise, left_words, live_words, number_in, program_alone, program_of_runs, rounds_word, run_words, steps_word, to_word};
 ghost use Rattle.trace_scenario.specs.Words.{words_of};
 ghost use Rattle.trace_io.specs.declared.words.Task.TheVariants.{Run, Steps};
 
@@ -34,12 +34,17 @@ pub enum Task {
     Left,
     /// Print what is wrong with the scenario.
     Check,
-    /// Draw the run of the scenario.
-    Draw,
+    /// Draw the run of the scenario, from one step to another, both counted from 1.
+    Draw {
+        /// The first that is drawn.
+        from: u64,
+        /// The last, where there are as many.
+        to: u64,
+    },
 }
 
-/// The largest number of callbacks.
-const LAST_ROUNDS: u64 = u64::MAX;
+/// The largest number of callbacks, and of a step.
+const LAST: u64 = u64::MAX;
 
 /// The last name of a handle.
 const LAST_HANDLE: u64 = 63;
@@ -54,7 +59,7 @@ pub fn read_words(alloc: Global, words: &[&str]) -> Result<Task, Error>
         return Ok(Task::Alone(handle_of(found)?));
     }
     if let Some(found) = matches.subcommand_matches("live") {
-        return Ok(Task::Live(rounds_of(found)?));
+        return Ok(Task::Live(number_of(found, "rounds")?));
     }
     if matches.subcommand_matches("left").is_some() {
         return Ok(Task::Left);
@@ -62,8 +67,8 @@ pub fn read_words(alloc: Global, words: &[&str]) -> Result<Task, Error>
     if matches.subcommand_matches("check").is_some() {
         return Ok(Task::Check);
     }
-    if matches.subcommand_matches("draw").is_some() {
-        return Ok(Task::Draw);
+    if let Some(found) = matches.subcommand_matches("draw") {
+        return Ok(draw_task(found)?);
     }
     if let Some(found) = matches.subcommand_matches("run") {
         return Ok(run_task(found));
@@ -79,7 +84,7 @@ fn command<'a>(alloc: Global) -> Result<Command<'a>, AllocError>
     runs(alloc)?
         .subcommand(left(alloc))?
         .subcommand(check(alloc))?
-        .subcommand(draw(alloc))
+        .subcommand(draw(alloc)?)
 }
 
 /// The words that run a scenario and print entries.
@@ -184,17 +189,26 @@ fn rounds<'a>(alloc: Global) -> Arg<'a>
         .long("rounds")
         .action(ArgAction::Set)
         .value_name("N")
-        .value_parser(ValueParser::unsigned(0, LAST_ROUNDS))
+        .value_parser(ValueParser::unsigned(0, LAST))
         .default_value("1000000")
         .help("How many callbacks are called at most; where more would be, it ends with status 1")
 }
 
-/// How many callbacks are called at most. clap has seen that it is a number; but no contract of clap's says so of what stands behind a
+/// The number that a word says. clap has seen that it is one; but no contract of clap's says so of what stands behind a
 /// subcommand, so where it is missing memory counts as wanting.
-fn rounds_of(found: &ArgMatches<'_>) -> Result<u64, AllocError>
-    ensures { IfOk result (λ rounds. rounds_in (rows_of (found_of found.now)) ≡ Some rounds) }
+fn number_of(found: &ArgMatches<'_>, id: &str) -> Result<u64, AllocError>
+    ensures { IfOk result (λ number. number_in id.now (rows_of (found_of found.now)) ≡ Some number) }
 {
-    found.get_one::<u64>("rounds").ok_or(AllocError)
+    found.get_one::<u64>(id).ok_or(AllocError)
+}
+
+/// Which picture the words behind `draw` ask for.
+fn draw_task(found: &ArgMatches<'_>) -> Result<Task, AllocError>
+    ensures { IfOk result (λ task. drawing_in (rows_of (found_of found.now)) ≡ Some task) }
+{
+    let from = number_of(found, "from")?;
+    let to = number_of(found, "to")?;
+    Ok(Task::Draw { from, to })
 }
 
 /// The words `left`.
@@ -217,14 +231,45 @@ fn check<'a>(alloc: Global) -> Command<'a>
         .after_help(help::CHECK)
 }
 
-/// The words `draw`.
-fn draw<'a>(alloc: Global) -> Command<'a>
-    ensures words { shape_of result ≡ draw_words }
-    ensures local { (fields_of result).has_globals ≡ false }
+/// The words `draw`, `draw --from A` and so on.
+fn draw<'a>(alloc: Global) -> Result<Command<'a>, AllocError>
+    ensures words { IfOk result (λ command. shape_of command ≡ draw_words) }
+    ensures local { IfOk result (λ command. (fields_of command).has_globals ≡ false) }
 {
     Command::new(alloc, "draw")
         .about("Prints a picture of the scenario's run, an SVG document")
         .after_help(help::DRAW)
+        .arg(from(alloc))?
+        .arg(to(alloc))
+}
+
+/// The word `--from`.
+fn from<'a>(alloc: Global) -> Arg<'a>
+    ensures word { rule_of result ≡ from_word }
+    ensures local { result.global ≡ false }
+{
+    Arg::new(alloc, "from")
+        .long("from")
+        .action(ArgAction::Set)
+        .value_name("A")
+        .value_parser(ValueParser::unsigned(1, LAST))
+        .default_value("1")
+        .help("The first step that is drawn, by its column's number")
+}
+
+/// The word `--to`.
+fn to<'a>(alloc: Global) -> Arg<'a>
+    ensures word { rule_of result ≡ to_word }
+    ensures local { result.global ≡ false }
+{
+    Arg::new(alloc, "to")
+        .long("to")
+        .action(ArgAction::Set)
+        .value_name("B")
+        .value_parser(ValueParser::unsigned(1, LAST))
+        .default_value("18446744073709551615")
+        .hide_default_value(true)
+        .help("The last step that is drawn; the run's last where it isn't said")
 }
 
 /// The word of a handle.

@@ -53,8 +53,19 @@ impl Drawing {
         }
     }
 
+    /// How many columns there are: one for each step, and one for each Stop behind a submission that is refused.
+    pub fn width(&self) -> u64 {
+        self.picture.width()
+    }
+
     /// The picture, an SVG document.
     pub fn page(&self) -> Result<String, AllocError> {
         paint(self.alloc, &self.picture)
+    }
+
+    /// The columns from one number to another, both counted from 1, as a picture.
+    pub fn part(&self, from: u64, to: u64) -> Result<String, AllocError> {
+        let part = self.picture.part(self.alloc, from.saturating_sub(1), to)?;
+        paint(self.alloc, &part)
     }
 }

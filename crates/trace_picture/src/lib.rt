@@ -5,6 +5,7 @@
 //! # Files
 //!
 //! - `drawing.rt`, `calls.rt`, `turns.rt`, `known.rt`: what a step and its entry add, by what was told before
+//! - `part.rt`: some columns of a picture
 //! - `picture.rt`, `lane.rt`, `track.rt`, `sign.rt`, `caption.rt`, `words.rt`: what stands in a picture
 //! - `layout.rt`, `paint.rt`, `page.rt`, `style.rt`, `legend.rt`: where it stands, and how it is written (SVG 1.1)
 #![tactic(auto)]
@@ -18,6 +19,7 @@ mod layout;
 mod legend;
 mod page;
 mod paint;
+mod part;
 mod picture;
 mod sign;
 mod style;

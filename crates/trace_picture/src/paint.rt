@@ -46,7 +46,7 @@ fn ground(page: &mut Page, layout: &Layout, picture: &Picture) -> Result<(), All
     }
     page.line("edge", (0, layout.bottom), (layout.width, layout.bottom))?;
     for column in 0..picture.width() {
-        grid(page, layout.bottom, column)?;
+        grid(page, layout.bottom, picture.first, column)?;
     }
     captions(page, layout.bottom, picture)
 }
@@ -66,11 +66,11 @@ fn lane(page: &mut Page, width: u64, track: &Track, is_shaded: bool) -> Result<(
     )
 }
 
-/// A column's line and number.
-fn grid(page: &mut Page, bottom: u64, column: u64) -> Result<(), AllocError> {
+/// A column's line and number; so many stand before the first.
+fn grid(page: &mut Page, bottom: u64, first: u64, column: u64) -> Result<(), AllocError> {
     let x = column_middle(column);
     page.line("grid", (x, TOP), (x, bottom))?;
-    let number = Words::number(column.saturating_add(1));
+    let number = Words::number(first.saturating_add(column).saturating_add(1));
     page.words("number", (x, TOP.saturating_sub(12)), number)
 }
 

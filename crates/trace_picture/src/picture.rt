@@ -88,6 +88,8 @@ pub struct Picture {
     pub labels: Vec<Label>,
     /// The columns in which a device went.
     pub unplugs: Vec<u64>,
+    /// How many columns of the run stand before the first.
+    pub first: u64,
 }
 
 impl Spot {
@@ -121,6 +123,7 @@ impl Picture {
             joins: Vec::new(alloc),
             labels: Vec::new(alloc),
             unplugs: Vec::new(alloc),
+            first: 0,
         }
     }
 
@@ -146,13 +149,18 @@ impl Picture {
 
     /// Begins a bar, and gives its number.
     pub fn begin_bar(&mut self, lane: Lane, from: u64) -> Result<usize, AllocError> {
-        let number = self.bars.len();
-        self.add_lane(lane)?;
-        self.bars.push(Bar {
+        self.add_bar(Bar {
             lane,
             from,
             to: None,
-        })?;
+        })
+    }
+
+    /// Adds a bar, and gives its number.
+    pub fn add_bar(&mut self, bar: Bar) -> Result<usize, AllocError> {
+        let number = self.bars.len();
+        self.add_lane(bar.lane)?;
+        self.bars.push(bar)?;
         Ok(number)
     }
 

@@ -3,7 +3,8 @@
 
 ghost use Rattle.std.specs.Prelude.{◌≡◌, IfErr, IfOk, OnOk, length, map};
 ghost use Rattle.std.specs.Io.KnownBytes.{Appends};
-ghost use Rattle.trace_io.specs.Faults.{IsOfRun};
+ghost use Rattle.std.specs.Io.KnownBytes.{Keeps};
+ghost use Rattle.trace_io.specs.Faults.{IfWide, IsOfPicture, IsOfRun};
 ghost use Rattle.trace_io.specs.Output.{AppendsSome};
 ghost use Rattle.trace_scenario.specs.Runnable.{IsRunnable};
 ghost use Rattle.trace_scenario.specs.StepLines.{numbered};
@@ -18,6 +19,7 @@ use plain_run::{left_behind, lines_of};
 use std::alloc::Global;
 use std::io::Write;
 use trace_io::{Fault, write_bytes};
+use trace_picture::Drawing;
 use trace_scenario::{NumberedLine, Scenario, ScriptedDevice, into_setups};
 use usb_model::{Name, Sequence};
 
@@ -110,17 +112,43 @@ pub fn run_alone<W: Write>(
     ending_of(print_alone(alloc, parts, other_parts, plan.as_slice(), h, out)?)
 }
 
-/// Prints a picture of a scenario's run. What it shows is no matter of contracts.
-pub fn draw_run<W: Write>(alloc: Global, scenario: Scenario, out: &mut W) -> Result<Ending, Fault>
+/// How many steps a picture has at most.
+const MOST_DRAWN: u64 = 2_000;
+
+/// The page of a drawing's steps from one to another; refused where they are too many.
+fn page_of(drawing: &Drawing, from: u64, to: u64) -> Result<String, Fault>
+    ensures fault { IfErr result (λ fault. IsOfPicture fault) }
+{
+    let steps = drawing
+        .width()
+        .min(to)
+        .saturating_sub(from.saturating_sub(1));
+    if steps > MOST_DRAWN {
+        return Err(Fault::Wide(steps));
+    }
+    Ok(drawing.part(from, to)?)
+}
+
+/// Prints a picture of a scenario's run, of the steps from one to another, both counted from 1. Refused, and nothing is printed, where they
+/// are more than 2,000. What it shows is no matter of contracts.
+pub fn draw_run<W: Write>(
+    alloc: Global,
+    scenario: Scenario,
+    from: u64,
+    to: u64,
+    out: &mut W,
+) -> Result<Ending, Fault>
     requires { IsRunnable scenario }
     ensures drawn { AppendsAny (W.contents out.old) (W.contents out.new) }
     ensures good { IfOk result (λ ending. ending ≡ Ending.Good) }
-    ensures fault { IfErr result (λ fault. IsOfRun fault) }
+    ensures fault { IfErr result (λ fault. IsOfPicture fault) }
+    ensures silent { IfErr result (λ fault. IfWide fault (λ _. Keeps (W.contents out.old) (W.contents out.new))) }
 {
     let Scenario { setup, plan, rules } = scenario;
     let devices = devices_of(alloc, setup)?;
     let callbacks = callbacks_of(alloc, rules.as_slice())?;
-    let page = draw(alloc, devices, plan.as_slice(), callbacks)?.page()?;
+    let drawing = draw(alloc, devices, plan.as_slice(), callbacks)?;
+    let page = page_of(&drawing, from, to)?;
     write_bytes(out, page.as_bytes())?;
     out.flush()?;
     Ok(Ending::Good)

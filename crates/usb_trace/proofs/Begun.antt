@@ -53,7 +53,7 @@ nothing_of (Alone h) text old = no_entries (alone_text h) (scenario_of text) old
 nothing_of (Live rounds) text old = no_callbacks (lived_of text) old
 nothing_of Left text old = no_entries left_lines (scenario_of text) old
 nothing_of Check text old = no_report (bad_lines text) (counts_of (good_lines text)) old
-nothing_of Draw text old = no_picture (scenario_of text) old
+nothing_of (Draw from to) text old = no_picture (scenario_of text) old
 
 -- nothing is written, whatever the input has
 pub nothing_begun : (input : Option (List ℕ)) (t : Task) (old : Option (List ℕ)) → IfSome input (λ text. Begins t text old old)

@@ -15,13 +15,13 @@ use Rattle.trace_scenario.specs.Counts.{counts_of}
 use Rattle.trace_scenario.specs.Findings.{bad_lines, good_lines}
 use Rattle.trace_scenario.specs.Scenario.{nothing_said, scenario_of}
 use Rattle.trace_io.specs.CommandLine.{AreBad, AskFor, grammar}
-use Rattle.trace_io.specs.Faults.{message_of}
+use Rattle.trace_io.specs.Faults.{message_of, most_drawn}
 use Rattle.trace_io.specs.Input.{longest_input}
 use Rattle.trace_io.specs.declared.fault.Fault.{Fault}
-use Rattle.trace_io.specs.declared.fault.Fault.TheVariants.{Line, Memory, InputOutput, TooLong, Rounds}
+use Rattle.trace_io.specs.declared.fault.Fault.TheVariants.{Line, Memory, InputOutput, TooLong, Rounds, Wide}
 use Rattle.trace_scenario.specs.declared.scenario.Scenario.{Scenario}
 use Rattle.usb_trace.specs.Lived.{earlier, first_unlived}
-use Rattle.usb_trace.specs.Program.{scenario_for, status_of, Begins, EndsLate, IsDone, IsReported, Performs, TellsWhy}
+use Rattle.usb_trace.specs.Program.{scenario_for, status_of, Begins, Draws, EndsLate, IsDone, IsReported, Performs, TellsWhy}
 use Rattle.trace_run.specs.declared.tasks.Ending.{Ending}
 use Rattle.trace_run.specs.declared.tasks.Ending.TheVariants.{Good, BadLines}
 use Rattle.usb_trace.proofs.Begun.{keeps_same, nothing_begun}
@@ -70,7 +70,7 @@ said_for (Alone h) text s e = e
 said_for (Live rounds) text s e = earlier_good (first_unlived 1 (slice_split (λ b. b == 10) text)) (scenario_of text) s e
 said_for Left text s e = e
 said_for Check text s e = e
-said_for Draw text s e = e
+said_for (Draw from to) text s e = e
 
 -- a check of a text with a bad line isn't done
 done_is_good : (t : Task) (text : List ℕ) (old new : Option (List ℕ)) → IsDone t text old new → bad_lines text ≡ []
@@ -112,10 +112,16 @@ length_of None t old new ends = tt
 length_of (Some text) t old new ends = ends.0
 
 -- callbacks that ended a run were more than the words allow
-late_of : (words : List Text) (input : Option (List ℕ)) (t : Task) (rounds : ℕ) (old new : Option (List ℕ)) → AskFor words t
-    → IfSome input (λ text. Performs t text old new (Err (Rounds rounds))) → IfSome input (λ text. AskFor words (Live rounds) × EndsLate text rounds)
-late_of words None t rounds old new asks ends = tt
-late_of words (Some text) t rounds old new asks ends = (subst (λ (x : Task). AskFor words x) ends.0 asks, ends.2)
+late_of : (input : Option (List ℕ)) (t : Task) (rounds : ℕ) (old new : Option (List ℕ)) → IfSome input (λ text. Performs t text old new (Err (Rounds rounds)))
+    → IfSome input (λ text. (t ≡ Live rounds) × EndsLate text rounds)
+late_of None t rounds old new ends = tt
+late_of (Some text) t rounds old new ends = (ends.0, ends.2)
+
+-- a picture that is too wide was asked for
+wide_of : (input : Option (List ℕ)) (t : Task) (steps : ℕ) (old new : Option (List ℕ)) → IfSome input (λ text. Performs t text old new (Err (Wide steps)))
+    → IfSome input (λ text. (most_drawn < steps) × Draws t)
+wide_of None t steps old new ends = tt
+wide_of (Some text) t steps old new ends = (ends.0, ends.2)
 
 -- what is told of a task that ended so
 pub told_of : (words : List Text) (input : Option (List ℕ)) (t : Task) (ended : Result Ending Fault) (status : ℕ) (old new err_old err_new : Option (List ℕ))
@@ -130,6 +136,10 @@ told_of words input t (Err Memory) status old new err_old err_new asks ends same
 told_of words input t (Err InputOutput) status old new err_old err_new asks ends same quiet told one = inr (InputOutput, tt, told)
 told_of words input t (Err TooLong) status old new err_old err_new asks ends same quiet told one =
     inr (TooLong, (t, asks, length_of input t old new ends), told)
+told_of words input t (Err (Rounds rounds)) status old new err_old err_new asks ends same quiet told one =
+    inr (Rounds rounds, (t, asks, late_of input t rounds old new ends), told)
+told_of words input t (Err (Wide steps)) status old new err_old err_new asks ends same quiet told one =
+    inr (Wide steps, (t, asks, wide_of input t steps old new ends), told)
 
 -- words that are refused are bad
 pub words_are_bad : (words : List Text) (error : Error) → HasKind (fault_of grammar words) error

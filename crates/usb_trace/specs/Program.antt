@@ -2,7 +2,7 @@
 use Rattle.std.specs.Prelude.{◌≡◌, ◌≢◌, ◌≤◌, ◌<◌, ◌⊎◌, ℕ, length, ⊤, IfSome, List, [], Option, Result, Ok, Err}
 use Rattle.std.specs.Io.KnownBytes.{Appends, Keeps}
 use Rattle.trace_io.specs.declared.fault.Fault.{Fault}
-use Rattle.trace_io.specs.declared.fault.Fault.TheVariants.{Line, Memory, InputOutput, TooLong, Rounds}
+use Rattle.trace_io.specs.declared.fault.Fault.TheVariants.{Line, Memory, InputOutput, TooLong, Rounds, Wide}
 use Rattle.trace_run.specs.declared.tasks.Ending.{Ending}
 use Rattle.trace_run.specs.declared.tasks.Ending.TheVariants.{Good, BadLines}
 use Rattle.trace_run.specs.Tasks.{AppendsAny, alone_text, left_lines, run_text, steps_text}
@@ -11,7 +11,7 @@ use Rattle.clap.specs.Walk.{Text}
 use Rattle.trace_io.specs.CommandLine.{AskFor}
 use Rattle.trace_io.specs.declared.words.Task.{Task}
 use Rattle.trace_io.specs.declared.words.Task.TheVariants as task
-use Rattle.trace_io.specs.Faults.{message_of}
+use Rattle.trace_io.specs.Faults.{message_of, most_drawn}
 use Rattle.trace_io.specs.Input.{longest_input}
 use Rattle.trace_io.specs.Output.{counts_line, AppendsReport, AppendsSome, AppendsSomeReport}
 use Rattle.trace_scenario.specs.Counts.{counts_of}
@@ -27,7 +27,7 @@ scenario_for (task.Alone h) text = scenario_of text
 scenario_for (task.Live rounds) text = lived_of text
 scenario_for task.Left text = scenario_of text
 scenario_for task.Check text = scenario_of text
-scenario_for task.Draw text = scenario_of text
+scenario_for (task.Draw from to) text = scenario_of text
 
 -- what a task writes of the scenario of a text: all entries, perhaps behind their lines, those of one handle alone, what callbacks were told in threads, what is left behind, how much the scenario says, or a picture, of which no more is said
 abbrev pub Writes : Task → List ℕ → Scenario → Option (List ℕ) → Option (List ℕ) → Type 0
@@ -37,7 +37,7 @@ Writes (task.Alone h) text s old new = Appends old new (alone_text h s)
 Writes (task.Live rounds) text s old new = AppendsCallbacks s old new
 Writes task.Left text s old new = Appends old new (left_lines s)
 Writes task.Check text s old new = Appends old new (counts_line (counts_of s))
-Writes task.Draw text s old new = AppendsAny old new
+Writes (task.Draw from to) text s old new = AppendsAny old new
 
 -- what a task does that ends well: the text is a scenario of the longest length at most, and what the task makes of it is written
 abbrev pub IsDone : Task → List ℕ → Option (List ℕ) → Option (List ℕ) → Type 0
@@ -51,7 +51,12 @@ IsReported text old new = (bad_lines text ≢ []) × (length text ≤ longest_in
 abbrev pub EndsLate : List ℕ → ℕ → Type 0
 EndsLate text rounds = (s : Scenario) × (lived_of text ≡ Ok s) × GoesOn s rounds
 
--- how a task over a text ends: it is done; or it is a check, and the bad lines are reported; or the text's first bad line is told of and nothing is written; or the text is too long, and nothing is written; or it is run in threads, and more callbacks are told something than may be, and nothing is written; or a stream or memory failed
+-- a task draws
+abbrev pub Draws : Task → Type 0
+Draws (task.Draw from to) = ⊤
+Draws t = ⊥
+
+-- how a task over a text ends: it is done; or it is a check, and the bad lines are reported; or the text's first bad line is told of and nothing is written; or the text is too long, and nothing is written; or it is run in threads, and more callbacks are told something than may be, and nothing is written; or it draws, there are too many steps, and nothing is written; or a stream or memory failed
 abbrev pub Performs : Task → List ℕ → Option (List ℕ) → Option (List ℕ) → Result Ending Fault → Type 0
 Performs t text old new (Ok Good) = IsDone t text old new
 Performs t text old new (Ok BadLines) = (t ≡ task.Check) × IsReported text old new
@@ -60,6 +65,7 @@ Performs t text old new (Err Memory) = ⊤
 Performs t text old new (Err InputOutput) = ⊤
 Performs t text old new (Err TooLong) = (longest_input < length text) × Keeps old new
 Performs t text old new (Err (Rounds rounds)) = (t ≡ task.Live rounds) × Keeps old new × EndsLate text rounds
+Performs t text old new (Err (Wide steps)) = (most_drawn < steps) × Keeps old new × Draws t
 
 -- what a task that prints such lines may have written, however it ends: a beginning of their text, and nothing where a line is bad
 abbrev pub BeginsEntries : (Scenario → List ℕ) → Result Scenario ℕ → Option (List ℕ) → Option (List ℕ) → Type 0
@@ -79,15 +85,16 @@ Begins (task.Alone h) text old new = BeginsEntries (alone_text h) (scenario_of t
 Begins (task.Live rounds) text old new = BeginsCallbacks (lived_of text) old new
 Begins task.Left text old new = BeginsEntries left_lines (scenario_of text) old new
 Begins task.Check text old new = AppendsSomeReport (bad_lines text) (counts_of (good_lines text)) old new
-Begins task.Draw text old new = BeginsPicture (scenario_of text) old new
+Begins (task.Draw from to) text old new = BeginsPicture (scenario_of text) old new
 
--- whether this fault may be what ended a run with these words over this input: a line is one where the words ask for something else than a check and it is the first that is bad for that; an input is too long where they ask for a task and it is; callbacks are too many where they ask for so many at most and a run has more; memory and streams may fail always
+-- whether this fault may be what ended a run with these words over this input: a line is one where the words ask for something else than a check and it is the first that is bad for that; an input is too long where they ask for a task and it is; callbacks are too many where they ask for so many at most and a run has more; steps are too many where they ask for a picture; memory and streams may fail always
 abbrev pub MayEnd : List Text → Option (List ℕ) → Fault → Type 0
 MayEnd words input (Line line) = (t : Task) × AskFor words t × IfSome input (λ text. (scenario_for t text ≡ Err line) × (t ≢ task.Check))
 MayEnd words input Memory = ⊤
 MayEnd words input InputOutput = ⊤
 MayEnd words input TooLong = (t : Task) × AskFor words t × IfSome input (λ text. longest_input < length text)
-MayEnd words input (Rounds rounds) = AskFor words (task.Live rounds) × IfSome input (λ text. EndsLate text rounds)
+MayEnd words input (Rounds rounds) = (t : Task) × AskFor words t × IfSome input (λ text. (t ≡ task.Live rounds) × EndsLate text rounds)
+MayEnd words input (Wide steps) = (t : Task) × AskFor words t × IfSome input (λ text. (most_drawn < steps) × Draws t)
 
 -- what stands behind status 1: a check reports bad lines, and nothing is told; or of the message of a fault that may be what ended the run a beginning is told
 abbrev pub TellsWhy : List Text → Option (List ℕ) → Option (List ℕ) → Option (List ℕ) → Option (List ℕ) → Option (List ℕ) → Type 0

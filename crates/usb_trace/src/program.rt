@@ -127,7 +127,9 @@ fn perform<T: Threads + Wait + Sync, R: Read, W: Write>(
         Task::Live(rounds) => live(rt, alloc, text.as_slice(), rounds, out),
         Task::Left => print_left(alloc, read_scenario(alloc, text.as_slice())?, out),
         Task::Check => report(alloc, text.as_slice(), out),
-        Task::Draw => draw_run(alloc, read_scenario(alloc, text.as_slice())?, out),
+        Task::Draw { from, to } => {
+            draw_run(alloc, read_scenario(alloc, text.as_slice())?, from, to, out)
+        }
     }
 }
 

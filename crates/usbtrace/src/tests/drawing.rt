@@ -1,6 +1,8 @@
 //! Pictures of runs.
 
 use super::fakes::{Input, run};
+use super::texts::Part::{Once, Times};
+use super::texts::{End, ends, spell};
 
 /// A read that is cancelled after its first packet.
 const CANCELLED: &str = "\
@@ -37,4 +39,49 @@ fn a_run_is_drawn_whole_or_not_at_all(rt: HostRuntime) {
         Input::new(b"open 1 0\nno line\n", 100),
     );
     assert!(rt; bad.only_says(1, "usbtrace: line 2 refused\n"));
+}
+
+#[test]
+fn some_steps_are_drawn_with_their_numbers(rt: HostRuntime) {
+    let drawn = run(
+        &rt,
+        rt.alloc(),
+        &["usbtrace", "draw", "--from", "5", "--to", "6"],
+        Input::new(CANCELLED.as_bytes(), 100),
+    );
+    assert!(rt; drawn.ends_well());
+    for part in [
+        ">5</text>",
+        ">6</text>",
+        ">cancel</text>",
+        ">command</text>",
+    ] {
+        assert!(rt; drawn.shows(part), "{part}");
+    }
+    for part in [">4</text>", ">7</text>", ">serve</text>", ">deliver</text>"] {
+        assert!(rt; !drawn.shows(part), "{part}");
+    }
+}
+
+/// What is said of 2,001 steps.
+const TOO_WIDE: &str =
+    "usbtrace: 2001 steps are too many for a picture, which has 2000: choose some by --from and --to\n";
+
+#[test]
+fn at_most_2000_steps_are_drawn(rt: HostRuntime) {
+    let (alloc, text) = (rt.alloc(), [Times(2_001, "take\n")]);
+    let refused = End {
+        status: 1,
+        out: &[],
+        err: &[Once(TOO_WIDE)],
+    };
+    assert!(rt; ends(&rt, alloc, &["usbtrace", "draw"], &text, 10_007, &refused));
+    let input = spell(alloc, &text).unwrap_or(String::new(alloc));
+    for words in [
+        ["usbtrace", "draw", "--from", "2"],
+        ["usbtrace", "draw", "--to", "2000"],
+    ] {
+        let drawn = run(&rt, alloc, &words, Input::new(input.as_bytes(), 10_007));
+        assert!(rt; drawn.ends_well());
+    }
 }

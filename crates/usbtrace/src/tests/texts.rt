@@ -79,7 +79,7 @@ fn write(alloc: Global, text: &mut String, part: Part) -> Result<(), AllocError>
 }
 
 /// The text of these parts.
-fn spell(alloc: Global, parts: &[Part]) -> Result<String, AllocError> {
+pub(crate) fn spell(alloc: Global, parts: &[Part]) -> Result<String, AllocError> {
     let mut text = String::new(alloc);
     for part in parts {
         write(alloc, &mut text, *part)?;

@@ -1,4 +1,4 @@
-use Rattle.trace_io.proofs.WordsRead.{alone_asks, check_asks, check_of_a_file_is_bad, draw_asks, handle_64_is_bad, help_asks, help_is_no_word, leading_zeros_ask, left_asks, left_with_a_word_is_bad, live_asks, live_with_a_word_is_bad, no_handle_is_bad, no_rounds_are_bad, no_words_are_bad, plus_sign_asks, rounds_ask, run_asks, steps_ask, too_many_are_bad}
+use Rattle.trace_io.proofs.WordsRead.{alone_asks, check_asks, check_of_a_file_is_bad, draw_asks, handle_64_is_bad, help_asks, help_is_no_word, leading_zeros_ask, left_asks, left_with_a_word_is_bad, live_asks, live_with_a_word_is_bad, no_handle_is_bad, no_rounds_are_bad, no_words_are_bad, part_asks, plus_sign_asks, rounds_ask, run_asks, step_0_is_bad, steps_ask, too_many_are_bad}
 use Rattle.trace_io.proofs.laws.words.Goals as goal
 
 pub returns-clause-run : goal.returns-clause-run
@@ -60,3 +60,9 @@ returns-clause-rounds c = rounds_ask
 
 pub returns-clause-no_rounds : goal.returns-clause-no_rounds
 returns-clause-no_rounds c = no_rounds_are_bad
+
+pub returns-clause-part : goal.returns-clause-part
+returns-clause-part c = part_asks
+
+pub returns-clause-step_0 : goal.returns-clause-step_0
+returns-clause-step_0 c = step_0_is_bad

@@ -4,7 +4,7 @@ use Rattle.clap.specs.Matches.{found_of}
 use Rattle.clap.specs.Simple.{app_of}
 use Rattle.clap.specs.Walk.{rows_of}
 use Rattle.trace_scenario.specs.Words.{words_of}
-use Rattle.trace_io.specs.declared.words.Task.TheVariants.{Alone, Check, Draw, Left, Live, Run}
+use Rattle.trace_io.specs.declared.words.Task.TheVariants.{Alone, Check, Left, Live, Run}
 use Rattle.trace_io.proofs.CommandLines.{asks_behind, asks_for, has_one, met, without_fault}
 use Rattle.trace_io.proofs.words.read_words.Goals as goal
 
@@ -29,7 +29,7 @@ returns-in-Some-subcommand_matches-clause-task c =
     let words = words_of c.args.words.now in
     let a = app_of c.in_ok-command.field-0 in (
       without_fault a words c.in_ok-command.ensures c.in_ok-matches.ensures.kinds,
-      asks_behind (codes "live") (rows_of (found_of c.in-Some-subcommand_matches.found.now)) (Live c.in_ok-rounds_of.field-0) (ap (option_map Live) c.in_ok-rounds_of.ensures) words
+      asks_behind (codes "live") (rows_of (found_of c.in-Some-subcommand_matches.found.now)) (Live c.in_ok-number_of.field-0) (ap (option_map Live) c.in_ok-number_of.ensures) words
           c.in_ok-matches.matches (met a words c.in_ok-matches.matches c.in_ok-command.ensures c.in_ok-matches.ensures.matches)
           (search rules) c.in-Some-subcommand_matches.ensures.rows,
     )
@@ -58,18 +58,6 @@ returns-then-is_some-2-clause-task c =
           (search rules),
     )
 
-pub returns-then-is_some-3-clause-fault : goal.returns-then-is_some-3-clause-fault
-returns-then-is_some-3-clause-fault c = without_fault (app_of c.in_ok-command.field-0) (words_of c.args.words.now) c.in_ok-command.ensures c.in_ok-matches.ensures.kinds
-
-pub returns-then-is_some-3-clause-task : goal.returns-then-is_some-3-clause-task
-returns-then-is_some-3-clause-task c =
-    let words = words_of c.args.words.now in
-    let a = app_of c.in_ok-command.field-0 in (
-      without_fault a words c.in_ok-command.ensures c.in_ok-matches.ensures.kinds,
-      asks_for (codes "draw") Draw (λ rows. refl) words c.in_ok-matches.matches (met a words c.in_ok-matches.matches c.in_ok-command.ensures c.in_ok-matches.ensures.matches)
-          (search rules),
-    )
-
 pub returns-in-Some-subcommand_matches-2-clause-fault : goal.returns-in-Some-subcommand_matches-2-clause-fault
 returns-in-Some-subcommand_matches-2-clause-fault c = without_fault (app_of c.in_ok-command.field-0) (words_of c.args.words.now) c.in_ok-command.ensures c.in_ok-matches.ensures.kinds
 
@@ -78,9 +66,22 @@ returns-in-Some-subcommand_matches-2-clause-task c =
     let words = words_of c.args.words.now in
     let a = app_of c.in_ok-command.field-0 in (
       without_fault a words c.in_ok-command.ensures c.in_ok-matches.ensures.kinds,
-      asks_behind (codes "run") (rows_of (found_of c.in-Some-subcommand_matches-2.found.now)) c.run_task.result (ap Some (sym c.run_task.ensures)) words c.in_ok-matches.matches
-          (met a words c.in_ok-matches.matches c.in_ok-command.ensures c.in_ok-matches.ensures.matches)
+      asks_behind (codes "draw") (rows_of (found_of c.in-Some-subcommand_matches-2.found.now)) c.in_ok-draw_task.field-0 c.in_ok-draw_task.ensures words
+          c.in_ok-matches.matches (met a words c.in_ok-matches.matches c.in_ok-command.ensures c.in_ok-matches.ensures.matches)
           (search rules) c.in-Some-subcommand_matches-2.ensures.rows,
+    )
+
+pub returns-in-Some-subcommand_matches-3-clause-fault : goal.returns-in-Some-subcommand_matches-3-clause-fault
+returns-in-Some-subcommand_matches-3-clause-fault c = without_fault (app_of c.in_ok-command.field-0) (words_of c.args.words.now) c.in_ok-command.ensures c.in_ok-matches.ensures.kinds
+
+pub returns-in-Some-subcommand_matches-3-clause-task : goal.returns-in-Some-subcommand_matches-3-clause-task
+returns-in-Some-subcommand_matches-3-clause-task c =
+    let words = words_of c.args.words.now in
+    let a = app_of c.in_ok-command.field-0 in (
+      without_fault a words c.in_ok-command.ensures c.in_ok-matches.ensures.kinds,
+      asks_behind (codes "run") (rows_of (found_of c.in-Some-subcommand_matches-3.found.now)) c.run_task.result (ap Some (sym c.run_task.ensures)) words c.in_ok-matches.matches
+          (met a words c.in_ok-matches.matches c.in_ok-command.ensures c.in_ok-matches.ensures.matches)
+          (search rules) c.in-Some-subcommand_matches-3.ensures.rows,
     )
 
 pub returns-clause-fault : goal.returns-clause-fault
