@@ -1,5 +1,5 @@
 -- What a check that finds nothing bad says.
-use Rattle.std.proofs.Common.{◌≡◌, ◌≢◌, ◌⊎◌, ◌==◌, ◌<◌, inl, inr, IfSome, IfErr, OnOk, ℕ, ◌≤◌, List, [], ◌∷◌, ◌++◌, length, map, Option, Some, None, Result, Ok, Err, sym, ◌∙◌, ap, subst, arith}
+use Rattle.std.proofs.Common.{◌≡◌, ◌≢◌, ◌⊎◌, ◌==◌, ◌<◌, inl, inr, IfSome, IfErr, IfOk, OnOk, refl, ℕ, ◌≤◌, List, [], ◌∷◌, ◌++◌, length, map, Option, Some, None, Result, Ok, Err, sym, ◌∙◌, ap, subst, arith}
 use Rattle.std.specs.List.{flat_map}
 use Rattle.std.specs.Io.KnownBytes.{Appends, Keeps}
 use Rattle.std.specs.List.{slice_split}
@@ -20,7 +20,7 @@ use Rattle.trace_io.specs.Input.{longest_input}
 use Rattle.trace_io.specs.declared.fault.Fault.{Fault}
 use Rattle.trace_io.specs.declared.fault.Fault.TheVariants.{Line, Memory, InputOutput, TooLong, Rounds, Wide}
 use Rattle.trace_scenario.specs.declared.scenario.Scenario.{Scenario}
-use Rattle.usb_trace.specs.Lived.{earlier, first_unlived}
+use Rattle.usb_trace.specs.Lived.{earlier, first_unlived, lived_of, AppendsCallbacks, GoesOn, IsOfLive}
 use Rattle.usb_trace.specs.Program.{scenario_for, status_of, Begins, Draws, EndsLate, IsDone, IsReported, Performs, TellsWhy}
 use Rattle.trace_run.specs.declared.tasks.Ending.{Ending}
 use Rattle.trace_run.specs.declared.tasks.Ending.TheVariants.{Good, BadLines}
@@ -55,6 +55,28 @@ all_good text bad counts old new numbers said empty short written =
       short,
       subst (λ (c : Counts). Appends old new (counts_line c)) said line,
     )
+
+-- where a bad line was found, there is one
+pub some_bad : (text : List ℕ) (bad : List Finding) → map (λ (f : Finding). f.line) bad ≡ bad_lines text → length bad ≢ 0 → bad_lines text ≢ []
+some_bad text [] numbers some = absurd (some refl)
+some_bad text (f ∷ fs) numbers some = λ none. let gone : f.line ∷ map (λ (g : Finding). g.line) fs ≡ [] = numbers ∙ none in cc
+
+-- a run in threads ends as it may
+pub lived : (text : List ℕ) (rounds : ℕ) (s : Scenario) (old new : Option (List ℕ)) (r : Result Ending Fault) → lived_of text ≡ Ok s
+    → length text ≤ longest_input → OnOk r (AppendsCallbacks s old new) → IfOk r (λ ending. ending ≡ Good) → IfErr r (IsOfLive s rounds)
+    → IfErr r (λ fault. fault ≡ Rounds rounds → Keeps old new) → Performs (Live rounds) text old new r
+lived text rounds s old new (Ok Good) read short lines good fault silent = (s, read, short, lines)
+lived text rounds s old new (Ok BadLines) read short lines good fault silent = cc
+lived text rounds s old new (Err (Line line)) read short lines good fault silent = absurd fault
+lived text rounds s old new (Err Memory) read short lines good fault silent = tt
+lived text rounds s old new (Err InputOutput) read short lines good fault silent = tt
+lived text rounds s old new (Err TooLong) read short lines good fault silent = absurd fault
+lived text rounds s old new (Err (Rounds told)) read short lines good fault silent = (
+  ap (λ (n : ℕ). Live n) (sym fault.0),
+  silent (ap (λ (n : ℕ). Rounds n) fault.0),
+  (s, read, subst (λ (n : ℕ). GoesOn s n) (sym fault.0) fault.1),
+)
+lived text rounds s old new (Err (Wide steps)) read short lines good fault silent = absurd fault
 
 -- where nothing is unlived, what is read is the scenario
 earlier_good : (o : Option ℕ) (said : Result Scenario ℕ) (s : Scenario) → earlier o said ≡ Ok s → said ≡ Ok s

@@ -1,7 +1,13 @@
 -- Nothing is written of a text that isn't read.
 use Rattle.usb_trace.specs.Lived.{lived_of}
 use Rattle.usb_trace.proofs.Begun.{no_callbacks}
+use Rattle.usb_trace.proofs.Reports.{lived}
 use Rattle.usb_trace.proofs.live.live.Goals as goal
 
 pub returns-in_err-read_lived-clause-begun : goal.returns-in_err-read_lived-clause-begun
 returns-in_err-read_lived-clause-begun g c = no_callbacks (lived_of c.args.text.now) (g.W.Write.contents c.args.out.now)
+
+pub returns-clause-ends : goal.returns-clause-ends
+returns-clause-ends g c =
+    lived c.args.text.now c.args.rounds c.in_ok-read_lived.field-0 (g.W.Write.contents c.args.out.now) (g.W.Write.contents c.live_scenario.new.out) c.live_scenario.result
+    c.in_ok-read_lived.ensures.scenario c.requires c.live_scenario.ensures.lines c.live_scenario.ensures.good c.live_scenario.ensures.fault c.live_scenario.ensures.silent
