@@ -40,6 +40,7 @@ static void learn_endpoints(struct device *device)
             pipe->kind = it[3] & 3;
             pipe->interface = (uint8_t)(interface - device->interfaces);
             pipe->packet = (uint16_t)(two_bytes(it + 4) & 0x7ff);
+            pipe->most = pipe->packet ? MOST_BYTES - MOST_BYTES % pipe->packet : MOST_BYTES;
         }
     }
 }

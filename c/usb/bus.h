@@ -59,6 +59,7 @@ struct pipe {
     struct device *device;
     uint8_t ep, kind, interface;      /* kind: libusb_transfer_type; 0 where the device has no such endpoint */
     uint16_t packet;
+    int most;                         /* bytes of a piece but the last: whole packets, so that none goes past a piece's end */
     struct transfers queue;
     struct transfer *cut;             /* the one that goes in pieces, while there are more than the one in the core */
     int in_core;
@@ -164,6 +165,7 @@ struct bus {
     bool named[NAMES];
     struct pipe *active[DEVICES * ENDPOINTS]; /* where something waits or is in the core */
     size_t active_count;
+    int in_core;                     /* transfers, or pieces of them */
     struct transfers controls;
     struct libusb_device_handle *handles;
     uint64_t seed;                    /* 0 for none */

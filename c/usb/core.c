@@ -91,7 +91,8 @@ bool core_serves(const struct pipe *pipe)
 bool core_serve(struct pipe *pipe, uint32_t most, struct tirnouch_told *told)
 {
     tirnouch_serve(&process.bus.core, (uint8_t)pipe->device->number, pipe->ep, most, told);
-    trace("serve %d %02x\n", pipe->device->number, pipe->ep);
+    if (process.bus.trace)
+        trace("serve %d %02x\n", pipe->device->number, pipe->ep);
     return told->amount > 1 || (told->kind != TIRNOUCH_IDLE && told->kind != TIRNOUCH_NAK);
 }
 

@@ -24,8 +24,8 @@ static const struct {
     { LIBUSB_ERROR_OTHER, "LIBUSB_ERROR_OTHER", "Other error" },
 };
 
-/* A transfer's statuses have names too; that of 0 stands above. */
-static const char *const statuses[] = {
+/* A transfer's status_names have names too; that of 0 stands above. */
+static const char *const status_names[] = {
     [LIBUSB_TRANSFER_ERROR] = "LIBUSB_TRANSFER_ERROR",
     [LIBUSB_TRANSFER_TIMED_OUT] = "LIBUSB_TRANSFER_TIMED_OUT",
     [LIBUSB_TRANSFER_CANCELLED] = "LIBUSB_TRANSFER_CANCELLED",
@@ -37,7 +37,7 @@ static const char *const statuses[] = {
 const char *libusb_error_name(int error_code)
 {
     if (error_code > LIBUSB_TRANSFER_COMPLETED && error_code <= LIBUSB_TRANSFER_OVERFLOW)
-        return statuses[error_code];
+        return status_names[error_code];
     for (int i = 0; i < LIBUSB_ERROR_COUNT; i++)
         if (errors[i].code == error_code)
             return errors[i].name;

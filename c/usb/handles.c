@@ -25,7 +25,7 @@ int libusb_open(libusb_device *device, libusb_device_handle **out)
     return 0;
 }
 
-static bool fits(const struct libusb_device *device, unsigned vendor, unsigned product)
+static bool has_numbers(const struct libusb_device *device, unsigned vendor, unsigned product)
 {
     const uint8_t *it = device->device->descriptor;
     return two_bytes(it + 8) == vendor && two_bytes(it + 10) == product;
@@ -38,7 +38,7 @@ libusb_device_handle *libusb_open_device_with_vid_pid(libusb_context *context, u
     if (libusb_get_device_list(context, &list) < 0)
         return NULL;
     for (size_t i = 0; list[i]; i++) {
-        if (!fits(list[i], vendor, product))
+        if (!has_numbers(list[i], vendor, product))
             continue;
         if (libusb_open(list[i], &handle))
             handle = NULL;

@@ -4,7 +4,7 @@
 
 #include <stdlib.h>
 
-static bool fits(const struct hotplug *it, const struct device *device, libusb_hotplug_event event)
+static bool is_asked_for(const struct hotplug *it, const struct device *device, libusb_hotplug_event event)
 {
     const uint8_t *bytes = device->descriptor;
     if (it->is_over || !(it->events & (int)event))
@@ -62,7 +62,7 @@ bool call_hotplugs(struct libusb_context *context)
     while ((notice = context->notices)) {
         context->notices = notice->next;
         for (struct hotplug *it = context->hotplugs; it; it = it->next) {
-            if (!fits(it, notice->device->device, notice->event))
+            if (!is_asked_for(it, notice->device->device, notice->event))
                 continue;
             call(context, it, notice->device, notice->event);
             any = true;
@@ -76,7 +76,7 @@ static void enumerate(struct libusb_context *context, struct hotplug *it)
 {
     for (int i = 0; i < DEVICES; i++) {
         struct libusb_device *device = &context->devices[i];
-        if (is_present(device->device) && fits(it, device->device, LIBUSB_HOTPLUG_EVENT_DEVICE_ARRIVED))
+        if (is_present(device->device) && is_asked_for(it, device->device, LIBUSB_HOTPLUG_EVENT_DEVICE_ARRIVED))
             call(context, it, device, LIBUSB_HOTPLUG_EVENT_DEVICE_ARRIVED);
     }
 }

@@ -41,35 +41,29 @@ static void activate(struct pipe *pipe)
     pipe->is_active = true;
 }
 
-/* The bytes of a piece but the last: whole packets, so that no packet goes past a piece's end. */
-static int most_of(const struct pipe *pipe)
-{
-    return pipe->packet ? MOST_BYTES - MOST_BYTES % pipe->packet : MOST_BYTES;
-}
-
 static int left_of(struct transfer *transfer)
 {
     return seen(transfer)->length - transfer->moved;
 }
 
-static bool is_whole(struct transfer *transfer)
+static bool is_last_piece(struct transfer *transfer)
 {
-    return left_of(transfer) <= most_of(transfer->pipe);
+    return left_of(transfer) <= transfer->pipe->most;
 }
 
 static bool may_go(const struct pipe *pipe, struct transfer *transfer)
 {
     if (pipe->cut && pipe->cut != transfer)
         return false;
-    return pipe->in_core < (is_whole(transfer) ? PLACES : 1);
+    return pipe->in_core < (is_last_piece(transfer) ? PLACES : 1);
 }
 
 /* Its next piece goes into the core. */
 static int submit_piece(struct transfer *transfer)
 {
     struct pipe *pipe = transfer->pipe;
-    bool is_last = is_whole(transfer);
-    int piece = is_last ? left_of(transfer) : most_of(pipe);
+    bool is_last = is_last_piece(transfer);
+    int piece = is_last ? left_of(transfer) : pipe->most;
     uint8_t flags = LIBUSB_TRANSFER_SHORT_NOT_OK | (is_last ? LIBUSB_TRANSFER_ADD_ZERO_PACKET : 0);
     int r = core_submit(transfer, piece, seen(transfer)->flags & flags);
     if (r)
@@ -78,6 +72,7 @@ static int submit_piece(struct transfer *transfer)
     transfer->stage = IN_CORE;
     pipe->cut = is_last ? NULL : transfer;
     pipe->in_core++;
+    process.bus.in_core++;
     activate(pipe);
     return 0;
 }
@@ -118,6 +113,7 @@ static void finish_piece(struct transfer *transfer, const struct tirnouch_told *
     struct pipe *pipe = transfer->pipe;
     bool is_cut = pipe->cut == transfer;
     pipe->in_core--;
+    process.bus.in_core--;
     if (!is_cut || told->status != LIBUSB_TRANSFER_COMPLETED || (int)told->amount != transfer->piece || transfer->is_dropped) {
         end_transfer(transfer, told->status, transfer->moved + (int)told->amount);
         return;
@@ -137,7 +133,7 @@ bool reap(void)
 {
     struct tirnouch_told told;
     bool any = false;
-    while (core_take(&told)) {
+    while (process.bus.in_core && core_take(&told)) {
         struct transfer *transfer = (struct transfer *)(uintptr_t)told.payload;
         struct pipe *pipe = transfer->pipe;
         finish_piece(transfer, &told);
