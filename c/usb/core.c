@@ -66,7 +66,9 @@ int core_submit(struct transfer *transfer, int length, uint8_t flags)
     struct tirnouch_told told = { 0 };
     int answer = tirnouch_submit(&process.bus.core, (uint8_t)name_of(pipe), pipe->ep, pipe->kind, flags, transfer->deadline ? 1 : 0,
                                  (uint32_t)length, bytes, writes ? (size_t)length : 0, (uint64_t)(uintptr_t)transfer, &told);
-    if (process.bus.trace) {
+    if (process.bus.trace && answer == LIBUSB_ERROR_NO_MEM)
+        trace("# no memory, and no step\n");
+    else if (process.bus.trace) {
         trace_submission(transfer, bytes, length, flags);
         if (answer < 0)
             trace_answer(answer);
