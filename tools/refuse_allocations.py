@@ -21,6 +21,7 @@ import math
 import mmap
 import os
 import pathlib
+import shutil
 import signal
 import struct
 import subprocess
@@ -197,14 +198,14 @@ class Room:
     """A folder with the library that fails calls, for as long as programs run with it."""
 
     def __enter__(self):
-        self.folder = tempfile.TemporaryDirectory(prefix="failing-")
-        self.library = f"{self.folder.name}/failing.so"
+        self.folder = tempfile.mkdtemp(prefix="failing-")
+        self.library = f"{self.folder}/failing.so"
         words = ["cc", "-O1", "-shared", "-fPIC", "-x", "c", "-o", self.library, "-", "-ldl"]
         subprocess.run(words, input=FAILING.encode(), check=True)
         return self
 
     def __exit__(self, *_):
-        self.folder.cleanup()
+        shutil.rmtree(self.folder)
 
     def names(self, counts, failing, seconds):
         """The environment of a run."""
@@ -214,11 +215,13 @@ class Room:
         return {**os.environ, "LD_PRELOAD": self.library, "FAIL_COUNTS": counts, **told}
 
     def ran(self, words, given, failing=NOTHING, seconds=SECONDS):
-        """How a program ends over an input, where this fails."""
-        with tempfile.NamedTemporaryFile(dir=self.folder.name) as counts:
+        """How a program ends over an input, where this fails. The input is a file: a pipe may be read in any number of reads."""
+        with tempfile.NamedTemporaryFile(dir=self.folder) as counts, tempfile.TemporaryFile(dir=self.folder) as source:
             counts.write(bytes(mmap.PAGESIZE))
             counts.flush()
-            it = ended(words, seconds, input=given, env=self.names(counts.name, failing, seconds))
+            source.write(given)
+            source.seek(0)
+            it = ended(words, seconds, stdin=source, env=self.names(counts.name, failing, seconds))
             counts.seek(0)
             return it._replace(made=dict(zip(KINDS, COUNTS.unpack(counts.read(COUNTS.size)))))
 

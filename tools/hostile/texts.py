@@ -1,0 +1,110 @@
+"""Every word over random scenarios and over damaged ones: the words agree with each other."""
+import random
+import re
+import xml.etree.ElementTree
+
+from runs import Part, has_too_many, is_refusal, wrong_unless
+from scenarios import damaged, scenario
+
+# How many texts the gate tries of each part.
+GATE_COUNT = 60
+# How many callbacks are called: a rule of a row has no end.
+ROUNDS = 1_000
+LIVE = f"live --rounds {ROUNDS}"
+# What the lines of some words look like, where the scenario is good.
+SHAPES = {
+    "left": rb"(h\d+ ((open|held|ep [0-9a-f]{2}) .+|open)\n)*",
+    LIVE: rb"(h\d+ called \d+ ep [0-9a-f]{2} round \d+ [A-Z_]+ \d+ data ([0-9a-f]+|-)\n)*",
+    "check": rb"\d+ devices?, \d+ scripts?, \d+ steps?\n",
+}
+
+
+def first_refused(it):
+    """The number of the line that a run refused."""
+    found = re.fullmatch(rb"usbtrace: line (\d+) refused\n", it.err)
+    return int(found[1]) if found else None
+
+
+def first_unlived(given):
+    """The number of the first line that `live` doesn't take, and other words do."""
+    return next((k for k, line in enumerate(given.split(b"\n"), 1) if line.startswith((b"expire ", b"unplug "))), None)
+
+
+def is_stepwise(steps, run, given):
+    """Whether the lines of `--steps` are those of `run`, each behind the number and the text of a line, in their order."""
+    lines, found, last = given.split(b"\n"), [], 0
+    for line in steps.splitlines():
+        number, _, rest = line.partition(b" ")
+        at = int(number) if number.isdigit() else 0
+        if not max(last, 1) <= at <= len(lines) or not rest.startswith(lines[at - 1] + b" | "):
+            return False
+        found.append(rest[len(lines[at - 1]) + 3 :])
+        last = at
+    return found == run.splitlines()
+
+
+def own_lines(text, h):
+    """What a run says to a handle and of unplugged devices, but for claims that another's hold refused."""
+    mine, held = (b"h%d " % h, b"- done", b"- refused"), b"h%d refused 5" % h
+    return [line for line in text.splitlines() if line.startswith(mine) and line != held]
+
+
+def is_alone(alone, run, h):
+    """Whether all that a handle says alone is its own, and the same as amid the others."""
+    own = own_lines(alone, h)
+    return own == own_lines(run, h) and len(own) == alone.count(b"\n")
+
+
+def is_picture(text):
+    try:
+        return xml.etree.ElementTree.fromstring(text).tag.endswith("svg")
+    except xml.etree.ElementTree.ParseError:
+        return False
+
+
+def is_taken(word, it, run, given):
+    """Whether a run of a good scenario ended well, and what it printed agrees with what `run` did."""
+    if (it.status, it.err) != (0, b""):
+        return word == LIVE and has_too_many(it, ROUNDS)
+    if word in SHAPES:
+        return re.fullmatch(SHAPES[word], it.out) is not None
+    if word.startswith("alone"):
+        return is_alone(it.out, run.out, int(word.split()[1]))
+    if word == "draw":
+        return is_picture(it.out)
+    return word == "run" or is_stepwise(it.out, run.out, given)
+
+
+def is_refused(word, it, k):
+    """Whether a run refuses this line, which is the first bad one; `check` tells of it."""
+    if word == "check":
+        return (it.status, it.err) == (1, b"") and it.out.startswith(b"line %d: " % k)
+    return is_refusal(it, k)
+
+
+def tried_text(runs, name, given, h):
+    """Every word over a text, which agree on its first bad line."""
+    run = runs.of("run", given)
+    k, unlived = first_refused(run), first_unlived(given)
+    for word in ("run", "run --steps", f"alone {h}", "left", "draw", "check", LIVE):
+        first = min(filter(None, (k, unlived)), default=None) if word == LIVE else k
+        it = run if word == "run" else runs.of(word, given)
+        right = is_refused(word, it, first) if first else is_taken(word, it, run, given)
+        yield wrong_unless(right, "refused" if first else "taken", f"{word}: {name}", it)
+
+
+def part(text_of):
+    """The part of the texts that are made in this way, each from its seed."""
+    def tried(runs, seed):
+        dice = random.Random(seed)
+        yield from tried_text(runs, f"--seed {seed}", text_of(dice), dice.randint(0, 3))
+
+    return Part(lambda asked: seeds(asked, asked.count), lambda asked: seeds(asked, GATE_COUNT), tried)
+
+
+def seeds(asked, count):
+    return [(asked.seed + number,) for number in range(count)]
+
+
+# How the texts of a part are made.
+TEXTS = {"random": scenario, "damaged": damaged}
