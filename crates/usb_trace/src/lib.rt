@@ -18,10 +18,12 @@
 //!   over its devices, all of it, by handle and number (`live`; no contract says which steps that run had), what is
 //!   left behind (`left`), or, of a check, the counts; of `draw` no contract says what is written; or the words asked
 //!   for help, and the input wasn't read. Nothing is on standard error
-//! - `trace`, status 1: a check wrote a line with the number of each bad line, in order, and then the counts, and
-//!   nothing is on standard error; or what is on standard error is a beginning of the message of a fault that fits:
-//!   of a line, only where the words ask for no check and it is the text's first bad line (under `live` an `expire`
-//!   or `unplug` line is bad too). Want of memory and a failed stream fit always
+//! - `trace`, status 1: a check wrote a line with the number of each bad line, in order, of 1,000 at most, then how
+//!   many more there are, if so, and then the counts, and nothing is on standard error; or what is on standard error
+//!   is a beginning of the message of a fault that fits: of a line, only where the words ask for no check and it is
+//!   the text's first bad line (under `live` an `expire` or `unplug` line is bad too); of an input that is too long,
+//!   only where it is; of more callbacks than `live` may call, only where some run over the devices has more; of a
+//!   picture with too many steps, only under `draw`. Want of memory and a failed stream fit always
 //! - `trace`, status 2: the words are bad; nothing is written on standard output, and the input isn't read
 //! - `trace`, any status: at a bad line, all but `check` write nothing on standard output (help, where it is asked
 //!   for, is written), and `check` doesn't answer 0. Where the words ask for no task the input isn't read. The status
