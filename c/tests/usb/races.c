@@ -1,10 +1,9 @@
 /* races N: six threads, each with a handle of its own, submit, cancel, let time out, submit again in callbacks, release, reset and close
  * in flight, by dice of which N is the seed, while another thread handles events. Each accepted transfer is called back just once, or
  * never where its handle was closed; what is completed comes in order, with the bytes that the device's script has in that order. */
-#include "libusb.h"
+#include "races.h"
 #include "tirnouch.h"
 
-#include <pthread.h>
 #include <stdarg.h>
 #include <stdatomic.h>
 #include <stdio.h>
@@ -12,45 +11,6 @@
 #include <string.h>
 #include <time.h>
 #include <unistd.h>
-
-#define WORKERS 6
-#define SLOTS 20
-#define ROUNDS 120
-#define ANSWERS 4000
-#define FEW_ANSWERS 600
-#define PATIENCE 20
-
-struct line;
-
-/* A transfer, and whether it is in flight. `again`: how often its callback submits it again. */
-struct slot {
-    struct line *line;
-    struct libusb_transfer *transfer;
-    unsigned char buffer[8];
-    uint64_t ticket;
-    int is_in_flight, is_asked, again;
-};
-
-/* An endpoint of a worker. `after`: the least ticket that may be completed next; `next`: the answer that comes next, or one of as many
- * behind it as a close dropped. */
-struct line {
-    struct worker *worker;
-    unsigned char ep;
-    uint64_t tickets, after;
-    uint32_t next, slack, completed;
-    struct slot slots[SLOTS];
-};
-
-struct worker {
-    pthread_t thread;
-    pthread_mutex_t lock;
-    int number, device, interface;
-    unsigned dice;
-    libusb_device_handle *handle;
-    int in_flight, is_closed, is_ending, is_pausing, is_pulled;
-    int line_count;
-    struct line lines[2];
-};
 
 static libusb_context *context;
 static struct worker workers[WORKERS];
