@@ -55,3 +55,6 @@ pub mod Called
 pub mod Stops
 pub mod Again
 pub mod Payloads
+pub mod FirstEvents
+pub mod Inventory
+pub mod HeldEnds

@@ -2,6 +2,7 @@ mod Instances
 mod Turns
 mod Reached
 mod Shown
+mod Unfinished
 mod Payloads
 mod Unsized
 mod Rises

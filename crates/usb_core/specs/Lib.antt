@@ -1,4 +1,5 @@
 pub mod Reads
+pub mod Inventory
 pub mod Instances
 pub mod Steps
 pub mod Runs

@@ -17,3 +17,7 @@ pub use Rattle.usb_steps.specs.declared.results.Taken.{Taken}
 -- what is to be done next
 pub use Rattle.usb_steps.specs.declared.pending.Pending.{Pending}
 pub use Rattle.usb_steps.specs.Pending.{IsPending, does_something}
+-- what handles haven't finished, part by part
+pub use Rattle.usb_core.specs.declared.inventory.WaitingResult.{WaitingResult}
+pub use Rattle.usb_core.specs.Inventory.{waiting_result, number_in, halted}
+pub use Rattle.usb_steps.specs.declared.events.Delivered.{Delivered}

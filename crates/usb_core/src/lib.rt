@@ -10,10 +10,11 @@
 //! - `step.rt`: any step, with its payload
 //! - `runs.rt`: a list of steps, from a core in which nothing is open; of its run the laws hold with nothing asked
 //!   of the devices
+//! - `inventory.rt`: what handles haven't finished, part by part
 //! - `reads.rt`: what can be asked without a step; the controller, with its rings; the devices handed back
 //!   (`into_setup`)
-//! - specs/ Steps, Runs, Reads: what comes of a step and its payload; the laws of a run, together; what can be
-//!   asked of a world
+//! - specs/ Steps, Runs, Reads, Inventory: what comes of a step and its payload; the laws of a run, together; what
+//!   can be asked of a world; what handles haven't finished in it
 //! - `laws.rt`: the laws, and `instances`: bounds, calls and cuts, computed at worked rows
 //!
 //! # Contracts
@@ -53,7 +54,7 @@
 //!   halt, and by the packets that it took
 //! - `Core::call`: a step that takes no memory (Open, Close, Claim and so on) is its turn; the entry is the world's,
 //!   refusals and all
-//! - `Core::expire`, `serve`, `deliver`: each is its turn
+//! - `Core::expire`, `serve`, `deliver`: each is its turn; `deliver_at` tells of which endpoint the event was, too
 //! - `Core::stop`: is the turn of an Answer with Stop
 //! - `Core::again`, `again_with`: accepted with a number, or refused, each is the turn of an Answer with Again, or
 //!   with AgainWith and the bytes; NoMem leaves each world that was shown shown; whatever is refused gives the
@@ -78,6 +79,12 @@
 //!   its callback
 //! - `Core::has_order`, `has_event`, `has_result`: the same of Command, of Deliver and of Take alone, without a look
 //!   at the endpoints
+//! - `Core::device_of`, `owner`, `holder`, `config`, `next_number`, `callback_at`, `result_at`, `orders_waiting`,
+//!   `events_waiting`: who has and holds what in the world, a transfer in its callback, a result that waits, and how
+//!   many orders and events wait
+//! - `Core::line_len`, `number_at`: of an endpoint that is held: its line, and the number at each place of it
+//! - `Core::is_halted`, `answers_left`, of devices that tell how far they are (`Scripted`): of an endpoint that is held:
+//!   whether it is halted, at its device or at the controller; how many answers its device has left
 //! - `run`: at Ok the entries are `world_run` of the setup and the steps; at Err those of `Stopped` are the entries
 //!   of the first so many steps, as many as there are entries, and a step is left, or no entry is there. Every run
 //!   obeys `laws::cut`, `places` and `asked_ends`. At Ok, and at Err for the steps so far where there is an entry,
@@ -87,12 +94,14 @@
 #![tactic(auto)]
 
 mod calls;
+mod inventory;
 pub mod laws;
 mod reads;
 mod runs;
 mod step;
 
 pub use calls::Core;
+pub use inventory::WaitingResult;
 pub use runs::{Stopped, run};
 pub use step::{NoMemory, Stepped};
-pub use usb_steps::{Pending, Setup, Taken, Unaccepted, Unadded};
+pub use usb_steps::{Delivered, Pending, Setup, Taken, Unaccepted, Unadded};

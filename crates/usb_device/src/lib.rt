@@ -7,6 +7,7 @@
 //! - `device.rt`: `Device`, the trait, and `Act`. `answer`: one transaction, whose packet for the host is put into a
 //!   buffer; `answer_in` appends it, by `answer` where a device doesn't say how; `ready`, `taken`, `rewind`,
 //!   `clear_halt`
+//! - `scripted.rt`: `Scripted`: a device that tells how far it is in its scripts
 //! - `table.rt`, `pipe.rt`: `TableDevice`: a place in each script, so that nothing is copied
 //! - `taken.rt`, `scripts.rt`: packets that were taken, in one buffer an endpoint; scripts that a configuration may
 //!   have
@@ -23,6 +24,8 @@
 //! - `Device::ready`, `taken`, `rewind`, `clear_halt`: whether an answer is left or it is halted; packet i of those
 //!   taken; the script from its beginning, without halt and packets; the halt goes and the script goes on. A device
 //!   has 32 endpoints, and no answer of the wrong direction (clause `lawful`)
+//! - `Scripted::answers_left`, `is_halted`: of a device that tells it: how many answers an endpoint's script has left,
+//!   and whether it is halted; `TableDevice` does
 //! - `TableDevice::new`: the endpoints of the configuration with the scripts, at their beginning; InvalidParam just
 //!   where a script isn't fit, else NoMem; refused, the scripts come back as they were
 //! - `TableDevice::packet_size`, `BoxedDevice::new`: the most bytes of a packet that an endpoint takes; a box answers
@@ -36,11 +39,13 @@ mod append;
 mod boxed;
 mod device;
 mod pipe;
+mod scripted;
 mod scripts;
 mod table;
 mod taken;
 
 pub use boxed::BoxedDevice;
 pub use device::{Act, Device};
+pub use scripted::Scripted;
 pub use scripts::info_by;
 pub use table::{TableDevice, Unmade};

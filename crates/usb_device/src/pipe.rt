@@ -165,6 +165,20 @@ impl TablePipe {
         self.halted || self.place < self.script.len()
     }
 
+    /// How many answers are left.
+    pub(crate) fn answers_left(&self) -> usize
+        ensures { result ≡ length self.now.left }
+    {
+        self.script.len() - self.place
+    }
+
+    /// Whether it is halted.
+    pub(crate) fn is_halted(&self) -> bool
+        ensures { result ≡ self.now.halted }
+    {
+        self.halted
+    }
+
     /// The packet of this index among those taken; None past the last.
     pub(crate) fn taken(&self, i: usize) -> Option<&[u8]>
         ensures { option_copied result ≡ slice_get self.now.taken i }

@@ -9,6 +9,7 @@ ghost use Rattle.usb_device.specs.Scripts.{Takes, are_scripts, pipes_of, rooms_o
 
 use crate::device::{Act, Device};
 use crate::pipe::TablePipe;
+use crate::scripted::Scripted;
 use crate::scripts::{acks, are_scripts, script_by, size_by};
 use crate::taken::TakenPackets;
 use std::alloc::{AllocError, Global};
@@ -148,5 +149,15 @@ impl Device for TableDevice {
     fn clear_halt(&mut self, ep: EpAddr) {
         let pipe = &mut self.pipes[usize::from(ep.id())];
         pipe.clear_halt();
+    }
+}
+
+impl Scripted for TableDevice {
+    fn answers_left(&self, ep: EpAddr) -> usize {
+        self.pipes[usize::from(ep.id())].answers_left()
+    }
+
+    fn is_halted(&self, ep: EpAddr) -> bool {
+        self.pipes[usize::from(ep.id())].is_halted()
     }
 }

@@ -5,7 +5,7 @@
 //!
 //! # Files
 //!
-//! - `ring.rt`: `Ring<N>`: room, post, take, bytes_at, address
+//! - `ring.rt`: `Ring<N>`: len, room, post, take, bytes_at, address
 //! - `made.rt`: `CommandRing`, `EventRing`: where they lie, how they are made
 //! - `laws.rt`, specs/Chain: the Link of a ring to which nothing with CH was posted has none
 //! - specs/Ring: the record that contracts see, and what is read of its bytes (`IsRing`)
@@ -16,6 +16,7 @@
 //! - `Ring`: `post`, `take`, `room`, `address`: a list: `post` puts behind and gives the index, `take` gives the
 //!   first with its index, None just where nothing waits, and then nothing has changed; 254 commands or 4,095 events
 //!   fit
+//! - `Ring::len`: how many TRBs wait
 //! - `bytes_at` of these: as of a transfer ring; the event ring has no Link
 //! - `Ring::renew`: the ring is as it was made: nothing waits, nothing was posted, and the bytes are those of no turn
 //! - `usb_ering::laws::a_link_behind_commands_has_no_chain_bit`: the Link of a ring to which nothing with CH was

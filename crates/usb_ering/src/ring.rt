@@ -91,6 +91,14 @@ impl<const N: usize> Ring<N> {
         }
     }
 
+    /// How many TRBs wait, 0 to `N - 1`.
+    pub fn len(&self) -> usize
+        ensures value { result ≡ length self.now.waits }
+        ensures most { result ≤ capacity N }
+    {
+        waiting::<N>(self.dequeue, self.enqueue)
+    }
+
     /// How many TRBs more fit, 0 to `N - 1`.
     pub fn room(&self) -> usize
         ensures { result ≡ capacity N - length self.now.waits }

@@ -6,3 +6,4 @@ pub mod Results
 pub mod Pending
 pub mod Packets
 pub mod Calls
+pub mod Inventory

@@ -1,14 +1,17 @@
 //! The oldest event is handled (xHCI 1.2, 4.11.3; libusb 1.0, `libusb_handle_events`).
 
-ghost use Rattle.std.specs.Prelude.{◌≡◌};
+ghost use Rattle.std.specs.Prelude.{◌≡◌, option_map, slice_get};
 ghost use Rattle.usb_model.specs.Completion.{stopped};
 ghost use Rattle.usb_completion.specs.declared.target.Reading.TheVariants.{Ended, Paused};
 ghost use Rattle.usb_trb.specs.declared.kind.TrbKind.TheVariants.{CommandCompletion, TransferEvent};
 ghost use Rattle.usb_model.specs.declared.step.Step.TheVariants.{Deliver};
+ghost use Rattle.usb_model.specs.Setup.{Setup};
+ghost use Rattle.usb_model.specs.World.{World};
+ghost use Rattle.proof_design.specs.Shows.{Core, Shows};
 ghost use Rattle.proof_core.specs.Payloads.{StillCarries};
-ghost use Rattle.proof_core.specs.State.{IsState};
+ghost use Rattle.proof_core.specs.State.{IsState, Keeps};
 ghost use Rattle.proof_core.specs.Steps.{DoesCoreStep};
-ghost use Rattle.proof_core.specs.Deliveries.{Delivers, IsEvent};
+ghost use Rattle.proof_core.specs.Deliveries.{Delivers, IsEvent, IsTaken};
 ghost use Rattle.usb_steps.specs.Reports.{Handles, SomeTold};
 
 use crate::parts::Parts;
@@ -17,9 +20,18 @@ use usb_cancel::next_order;
 use usb_claims::HeldEndpoint;
 use usb_completion::Reading;
 use usb_device::Device;
-use usb_model::{Entry, Reply};
+use usb_model::{Entry, EpAddr, Reply};
 use usb_tables::Ending;
 use usb_trb::{EndpointId, Pointer, Residual, Slot, TrbKind};
+
+/// What was handled.
+#[derive(Debug, Drop)]
+pub struct Delivered {
+    /// The entry of the step.
+    pub entry: Entry,
+    /// The endpoint that the event was of; None where none waited.
+    pub ep: Option<EpAddr>,
+}
 
 impl<P, D: Device> Parts<P, D> {
     /// The oldest event is handled. Nobody's and Idle where none waits.
@@ -34,6 +46,46 @@ impl<P, D: Device> Parts<P, D> {
                 owner: None,
                 reply: Reply::Idle,
             },
+        }
+    }
+
+    /// The same, and the endpoint that the event was of. None where none waits.
+    pub fn deliver_at(&mut self) -> Delivered
+        requires { IsState self.old }
+        ensures done { DoesCoreStep self.old Deliver result.entry self.new }
+        ensures carries { StillCarries self.old self.new }
+        ensures at { (setup : Setup) (w : World) (c : Core) → Keeps setup self.old c → Shows setup w c → result.ep ≡ option_map (λ x. x.piece.ep) (slice_get w.news 0) }
+    {
+        match self.controller.take_event() {
+            Some(event) => {
+                let ep = self.endpoint_of(&event);
+                let entry = self.event(event);
+                Delivered { entry, ep }
+            }
+            None => Delivered {
+                entry: Entry {
+                    owner: None,
+                    reply: Reply::Idle,
+                },
+                ep: None,
+            },
+        }
+    }
+
+    /// The endpoint that an event which was taken is of.
+    fn endpoint_of(&self, event: &TrbKind) -> Option<EpAddr>
+        ensures { (setup : Setup) (w : World) (c : Core) → IsTaken setup self.now c event.now → Shows setup w c → result ≡ option_map (λ x. x.piece.ep) (slice_get w.news 0) }
+    {
+        match *event {
+            TrbKind::TransferEvent { slot, id, .. } => {
+                let at = self.claims.held_at(slot.number(), id.number())?;
+                Some(at.ep)
+            }
+            TrbKind::CommandCompletion { pointer, slot, .. } => {
+                let (at, _) = self.sender(pointer, slot)?;
+                Some(at.ep)
+            }
+            _ => None,
         }
     }
 

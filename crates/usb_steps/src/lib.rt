@@ -18,6 +18,7 @@
 //! - errands: an errand is ordered
 //! - call: a step that takes no memory, whichever it is
 //! - reads, pending: how long the next result is; whether a transfer can expire; what is to be done next
+//! - inventory: who holds what, and what isn't finished at an endpoint or waits in a ring
 //!
 //! # Contracts
 //!
@@ -52,6 +53,10 @@
 //! - `Parts::pending`: what is to be done next, by the world: the first endpoint, by device and address in a circle
 //!   from behind one, where a packet does something; whether Command, Deliver and Take do; whether a transfer is in
 //!   its callback
+//! - `Parts::deliver_at`: as `deliver`, and the endpoint of the world's oldest event
+//! - `Parts::device_of`, `owner`, `holder`, `config`, `next_number`, `callback`, `ended_at`, `line_len`, `number_at`,
+//!   `orders_waiting`, `events_waiting`: what the parts keep there; `is_halted`, `answers_left`: of a device that tells
+//!   how far it is
 //! - `Parts::has_order`, `has_event`, `has_result`: the same of Command, of Deliver and of Take alone
 //! - `Setup::add`: a device joins the setup, with the scripts that it has, wherever it stands in them; refused, it
 //!   comes back as it is, with its configuration: InvalidParam just where there are four already, and NoMem else.
@@ -69,6 +74,7 @@ mod errands;
 mod events;
 mod halts;
 mod handles;
+mod inventory;
 mod made;
 mod orders;
 mod packets;
@@ -86,6 +92,7 @@ mod setup;
 mod submission;
 mod verdicts;
 
+pub use events::Delivered;
 pub use parts::Parts;
 pub use pending::Pending;
 pub use results::Taken;

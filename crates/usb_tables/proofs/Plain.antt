@@ -19,6 +19,12 @@ pub zero-is : (n : ℕ) → (0 < n → false ≡ true) → n ≡ 0
 zero-is zero not_above = refl
 zero-is (suc n) not_above = let wrong : false ≡ true = not_above (omega arith) in absurd cc
 
+-- nor is it below another
+pub not-below : (n m : ℕ) → (n < m → false ≡ true) → m ≤ n
+not-below n zero isnt = omega arith
+not-below zero (suc m) isnt = let wrong : false ≡ true = isnt (omega arith) in absurd cc
+not-below (suc n) (suc m) isnt = omega (arith, not-below n m (λ lt. isnt (omega arith)))
+
 -- a list by its first
 pub first-is : {A : Type 0} (xs : List A) (x : A) → 0 < length xs → x ≡ slice_index_or xs 0 x → xs ≡ x ∷ drop 1 xs
 first-is [] x some e = absurd (omega arith)

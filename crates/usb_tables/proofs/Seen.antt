@@ -1,5 +1,6 @@
 -- What a caller sees of lines and of those that ended, as they change and the store stays.
-use Rattle.std.proofs.Common.{◌≡◌, ℕ, zero, suc, List, [], ◌∷◌, ◌++◌, length, drop, replicate, Option, Some, None, slice_index_or, slice_set, refl, ap}
+use Rattle.std.proofs.Common.{◌≡◌, ◌≤◌, ℕ, zero, suc, List, [], ◌∷◌, ◌++◌, length, drop, replicate, Option, Some, None, slice_index_or, slice_set, refl, ap, arith}
+use Rattle.std.specs.Prelude.{slice_get}
 use Rattle.usb_transfer.specs.Store.{Slots, transfer_at}
 use Rattle.usb_tables.specs.declared.ending.Waiting.{Waiting}
 use Rattle.usb_tables.specs.Places.{seen, seen_line, seen_lines, joins, seen_ended}
@@ -75,6 +76,31 @@ module _ {T : Type 0} (s : Slots T) where
       → seen_ended s (w ∷ ws) ≡ record { transfer = t; ending = w.ending } ∷ seen_ended s ws
   unfolding seen_ended
   ended-head ws w t e = rw e refl
+
+  -- each that ended is seen at its place, where each has a transfer
+  pub ended-at : (ws : List Waiting) (i : ℕ) (w : Waiting) (t : T) → ((k : ℕ) (v : Waiting) → slice_get ws k ≡ Some v → transfer_at s v.key ≡ None → ⊥) → slice_get ws i ≡ Some w → transfer_at s w.key ≡ Some t
+      → slice_get (seen_ended s ws) i ≡ Some (record { transfer = t; ending = w.ending })
+  unfolding seen_ended
+  ended-at [] i w t live at there = absurd cc
+  ended-at (x ∷ ws) zero w t live at there =
+      let here : transfer_at s x.key ≡ Some t = cc in
+      rw here cc
+  ended-at (x ∷ ws) (suc i) w t live at there = by_case (transfer_at s x.key) refl (ended-at ws i w t (λ k v e none. live (suc k) v e none) at there)
+    where
+      by_case : (o : Option T) → transfer_at s x.key ≡ o → slice_get (seen_ended s ws) i ≡ Some (record { transfer = t; ending = w.ending })
+          → slice_get (joins o x (seen_ended s ws)) (suc i) ≡ Some (record { transfer = t; ending = w.ending })
+      by_case None gone rest = absurd (live 0 x refl gone)
+      by_case (Some u) is rest = rest
+
+  -- no more are seen than ended
+  pub ended-most : (ws : List Waiting) → length (seen_ended s ws) ≤ length ws
+  unfolding seen_ended
+  ended-most [] = omega arith
+  ended-most (x ∷ ws) = by_case (transfer_at s x.key) (ended-most ws)
+    where
+      by_case : (o : Option T) → length (seen_ended s ws) ≤ length ws → length (joins o x (seen_ended s ws)) ≤ suc (length ws)
+      by_case None few = omega arith
+      by_case (Some u) few = omega arith
 
   -- nothing is seen where nothing ended
   pub ended-none : seen_ended s [] ≡ []

@@ -1,6 +1,6 @@
 -- Each transfer goes on standing at one place, as items come, end and leave.
 use Rattle.std.proofs.Common.{◌≡◌, ℕ, zero, suc, ◌+◌, ◌<◌, ◌≤◌, ◌==◌, Bool, true, false, List, [], ◌∷◌, ◌++◌, length, drop, replicate, Option, Some, None, is_some, count_by, cond, slice_index_or, slice_set, refl, sym, ap, ◌∙◌, arith}
-use Rattle.std.specs.Prelude.{if◌then◌else◌}
+use Rattle.std.specs.Prelude.{if◌then◌else◌, slice_get}
 use Rattle.std.proofs.lemmas.Bool.{eqb-true, eqb-false}
 use Rattle.std.proofs.lemmas.List.{get_or-set_same, get_or-set_other}
 use Rattle.std.proofs.lemmas.List.Sums.{sum_by-cons}
@@ -8,9 +8,10 @@ use Rattle.usb_transfer.specs.Store.{Slots, count, transfer_at, Updates, with_tr
 use Rattle.usb_tables.specs.declared.ending.Waiting.{Waiting}
 use Rattle.usb_tables.specs.ByEndpoint.{lane_at}
 use Rattle.usb_tables.specs.Flights.{keys_at, with_keys}
-use Rattle.usb_tables.specs.Places.{Stands, lines_weight, ended_weight, one_at, one_each, seen}
+use Rattle.usb_tables.specs.Places.{Stands, lines_weight, ended_weight, one_at, one_each, seen, seen_ended}
 use Rattle.usb_tables.proofs.Kept.{one-same}
-use Rattle.usb_tables.proofs.Weights.{all-pushed, all-blanked, all-left, ended-push, ended-first, ended-length, item-within, lines-none}
+use Rattle.usb_tables.proofs.Seen.{ended-at}
+use Rattle.usb_tables.proofs.Weights.{all-pushed, all-blanked, all-left, ended-counted, ended-push, ended-first, ended-length, item-within, lines-none}
 
 -- what a key that is there counts is no more than one
 present : {T : Type 0} (o : Option T) → (if is_some o then 1 else 0) ≤ 1
@@ -32,6 +33,18 @@ module _ {T : Type 0} (s : Slots T) (lanes : List (List (Option ℕ))) (waits : 
   -- as many ended as transfers of the store, at most
   pub ended-few : length waits ≤ count s
   ended-few = let a = ended-length waits in let b = stands.all in omega arith
+
+  -- each that ended has a transfer
+  pub ended-live : (i : ℕ) (w : Waiting) → slice_get waits i ≡ Some w → transfer_at s w.key ≡ None → ⊥
+  ended-live i w at none =
+      let a = ended-counted (one_at w.key) waits i w at in
+      let b = one-same w.key in
+      let c = stands.once w.key in
+      some-there (transfer_at s w.key) (omega arith) none
+
+  -- and is seen at its place
+  pub ended-shown : (i : ℕ) (w : Waiting) (t : T) → slice_get waits i ≡ Some w → transfer_at s w.key ≡ Some t → slice_get (seen_ended s waits) i ≡ Some (record { transfer = t; ending = w.ending })
+  ended-shown i w t at there = ended-at s waits i w t ended-live at there
 
   module _ (d e : ℕ) (within : lane_at d e < length lanes) where
     -- a key of a line has a transfer

@@ -1,5 +1,6 @@
 -- What lines and those that ended count, as items change.
-use Rattle.std.proofs.Common.{◌≡◌, ℕ, zero, suc, ◌+◌, ◌<◌, List, [], ◌∷◌, ◌++◌, length, drop, replicate, Option, Some, None, slice_index_or, slice_set, refl, ap, arith}
+use Rattle.std.proofs.Common.{◌≡◌, ℕ, zero, suc, ◌+◌, ◌<◌, ◌≤◌, List, [], ◌∷◌, ◌++◌, length, drop, replicate, Option, Some, None, slice_index_or, slice_set, refl, ap, arith}
+use Rattle.std.specs.Prelude.{slice_get}
 use Rattle.usb_tables.specs.declared.ending.Waiting.{Waiting}
 use Rattle.usb_tables.specs.Places.{weight, line_weight, lines_weight, ended_weight, one_each}
 
@@ -57,6 +58,15 @@ ended-push f (x ∷ ws) w = omega (arith, ended-push f ws w)
 pub ended-first : (f : ℕ → ℕ) (ws : List Waiting) (w : Waiting) → ended_weight f (w ∷ ws) ≡ f w.key + ended_weight f ws
 unfolding ended_weight
 ended-first f ws w = refl
+
+-- one that ended is counted
+pub ended-counted : (f : ℕ → ℕ) (ws : List Waiting) (i : ℕ) (w : Waiting) → slice_get ws i ≡ Some w → f w.key ≤ ended_weight f ws
+unfolding ended_weight
+ended-counted f [] i w at = absurd cc
+ended-counted f (x ∷ ws) zero w at =
+    let same : f x.key ≡ f w.key = cc in
+    omega arith
+ended-counted f (x ∷ ws) (suc i) w at = omega (arith, ended-counted f ws i w at)
 
 -- as many as ended
 pub ended-length : (ws : List Waiting) → ended_weight one_each ws ≡ length ws

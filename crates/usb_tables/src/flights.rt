@@ -194,6 +194,16 @@ impl<P> Flights<P> {
         self.store.get_mut(key)
     }
 
+    /// The transfer of index `i`, from 0 on, of those that ended and wait, the oldest first, and what came of it; None past
+    /// the last.
+    pub fn ended_at(&self, i: usize) -> Option<(&Transfer<P>, Ending)>
+        ensures { option_map (λ x. record { transfer = x.0.now; ending = x.1 }) result ≡ slice_get self.now.ended i }
+    {
+        let waiting = self.ended.get(i)?;
+        let transfer = self.store.get(waiting.key)?;
+        Some((transfer, waiting.ending))
+    }
+
     /// The transfer that ended first of those that wait, and what came of it; None where none waits.
     pub fn first_ended(&self) -> Option<(&Transfer<P>, Ending)>
         ensures { option_map (λ x. record { transfer = x.0.now; ending = x.1 }) result ≡ slice_get self.now.ended 0 }

@@ -22,6 +22,7 @@
 //! - `Outstanding::get`, `set`: the errand that is outstanding at an endpoint is the one that was set last
 //! - `Flights`: contracts see the lines of transfers and blanks, the keys of both, and those that ended. `push`, `end`,
 //!   `leave`, `ask`, `pause`, `take`: the lines with their keys and the list of the ended, whole, behind the call
+//! - `Flights::ended_at`, `first_ended`: one of those that ended, by its place, and the first
 //! - `Flights::get_mut`: the item is what was last written through the loan, and nothing else changes
 //! - invariant of `Flights`: each key of the store stands at exactly one place, and no other does; there is room for
 //!   each transfer to end

@@ -265,6 +265,20 @@ impl<D: Device> Controller<D> {
         }
     }
 
+    /// How many orders wait in the command ring.
+    pub fn orders_waiting(&self) -> usize
+        ensures { result ≡ length self.now.commands.waits }
+    {
+        self.commands.len()
+    }
+
+    /// How many events wait in the event ring.
+    pub fn events_waiting(&self) -> usize
+        ensures { result ≡ length self.now.events.waits }
+    {
+        self.events.len()
+    }
+
     /// The command ring.
     pub fn command_ring(&self) -> &CommandRing
         ensures { result.now ≡ self.now.commands }

@@ -8,9 +8,10 @@
 //! # Files
 //!
 //! - `controller.rt`: `Controller`: new, add, slot, into_slots; serve_in, serve_out; order, run_command, take_event;
-//!   ring_doorbell, renew, renew_all, push, blank, drop_front, clear_halt, unplug; command_ring, event_ring
+//!   ring_doorbell, renew, renew_all, push, blank, drop_front, clear_halt, unplug; orders_waiting, events_waiting,
+//!   command_ring, event_ring
 //! - `slot.rt`: `DeviceSlot`: a device, whether it is gone, and its endpoints by their ids; the calls above at one
-//!   device, and context, ready, taken
+//!   device, and context, ready, taken, answers_left, is_halted
 //! - `renewal.rt`: a device, its contexts and all slots are made new, piece by piece
 //! - `rings.rt`: a ring for each bulk or interrupt endpoint of a configuration
 //! - `context.rt`: `EndpointContext`: state, ring, and how far the transfer at dequeue has come. What is ahead of
@@ -49,6 +50,7 @@
 //!   configured, and the command and event rings are as they were made
 //! - `Controller::new`, `add`: empty rings at their addresses; one slot more, with a ring for each bulk or interrupt
 //!   endpoint; the device comes back, and nothing changed, where there are four or memory is refused
+//! - `orders_waiting`, `events_waiting`: how many TRBs wait in the two rings
 //! - `slot`, `into_slots`; `DeviceSlot`: `context`, `ready`, `taken`, `is_gone`, `into_device`; `EndpointContext`:
 //!   `ring`, `state`, `slot`, `id`: what stands there
 //!

@@ -18,7 +18,7 @@ use crate::{ENDPOINT_NOT_ENABLED_ERROR, EndpointContext, Packet};
 use std::alloc::Global;
 use std::marker::Model;
 use usb_descriptors::Config;
-use usb_device::Device;
+use usb_device::{Device, Scripted};
 use usb_ering::EventRing;
 use usb_model::EpAddr;
 use usb_trb::{EndpointId, Normal, Slot, TrbKind};
@@ -234,5 +234,21 @@ impl<D: Device> DeviceSlot<D> {
     {
         let DeviceSlot { device, .. } = self;
         device
+    }
+}
+
+impl<D: Scripted> DeviceSlot<D> {
+    /// How many answers the device has left for an endpoint.
+    pub fn answers_left(&self, ep: EpAddr) -> usize
+        ensures { result ≡ length (pipe_at self.now.pipes ep).left }
+    {
+        self.device.answers_left(ep)
+    }
+
+    /// Whether the device has an endpoint halted (USB 2.0, 9.4.5, ENDPOINT_HALT).
+    pub fn is_halted(&self, ep: EpAddr) -> bool
+        ensures { result ≡ (pipe_at self.now.pipes ep).halted }
+    {
+        self.device.is_halted(ep)
     }
 }

@@ -1,0 +1,7 @@
+use Rattle.std.proofs.Common.{subst, sym, ◌∙◌}
+use Rattle.proof_core.specs.State.{ShowsWorld, State}
+use Rattle.proof_core.proofs.Inventory.{device_shown}
+use Rattle.usb_core.proofs.calls.Core.device_of.Goals as goal
+
+pub returns : goal.returns
+returns g c = λ setup w shown. c.device_of.ensures ∙ device_shown setup c.self.inside.parts w (subst (λ (s : State g.row.P.Denot). ShowsWorld setup s w) (sym c.self.view_is) shown) c.args.h

@@ -1,0 +1,7 @@
+use Rattle.std.proofs.Common.{subst, sym, ◌∙◌}
+use Rattle.proof_core.specs.State.{ShowsWorld, State}
+use Rattle.proof_core.proofs.Inventory.{owner_shown}
+use Rattle.usb_core.proofs.calls.Core.owner.Goals as goal
+
+pub returns : goal.returns
+returns g c = λ setup w shown. c.owner.ensures ∙ owner_shown setup c.self.inside.parts w (subst (λ (s : State g.row.P.Denot). ShowsWorld setup s w) (sym c.self.view_is) shown) c.args.dev c.args.i
