@@ -61,7 +61,7 @@ def is_too_wide(it):
 
 
 def tells_of_open_and_held(it):
-    return ends_well(it) and re.search(rb"^h1 open\b", it.out, re.M) and re.search(rb"^h1 held\b", it.out, re.M)
+    return ends_well(it) and it.out.startswith(b"h1 device 0 open\nh1 interface 0 held\n")
 
 
 # Inputs.

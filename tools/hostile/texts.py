@@ -13,7 +13,7 @@ ROUNDS = 1_000
 LIVE = f"live --rounds {ROUNDS}"
 # What the lines of some words look like, where the scenario is good.
 SHAPES = {
-    "left": rb"(h\d+ ((open|held|ep [0-9a-f]{2}) .+|open)\n)*",
+    "left": rb"(h\d+ (device \d open|interface \d+ held|ep [0-9a-f]{2} .+)\n)*",
     LIVE: rb"(h\d+ called \d+ ep [0-9a-f]{2} round \d+ [A-Z_]+ \d+ data ([0-9a-f]+|-)\n)*",
     "check": rb"\d+ devices?, \d+ scripts?, \d+ steps?\n",
 }

@@ -13,7 +13,7 @@ use Rattle.usb_model.specs.World.{World, Turn, turn, world_from}
 use Rattle.usb_model.specs.World.Journal.{journal_from}
 use Rattle.usb_model.specs.World.Plans.{Stage, stage_after, needs_stop, return_steps, steps_of, noted, rule_for, rules_after, expand_from}
 use Rattle.usb_model.specs.World.Journal.{IsBeginning, run_from}
-use Rattle.proof_lemmas.proofs.Handles.Runs.{run_append, world_append}
+use Rattle.proof_lemmas.proofs.Handles.Runs.{run_append}
 use Rattle.plain_run.specs.PlanRuns.{Made, kept_with}
 
 -- one step's entry
@@ -137,23 +137,3 @@ unfolding expand_from
 steps_end setup s plan i None all past so_far = so_far
 steps_end setup s plan i (Some made) all past so_far =
     sym (ap Some (ap (λ l. made ++ expand_from setup s l) (drop_all i plan past) ∙ append-nil made)) ∙ so_far
-
--- the world to which the rest of the plan leads
-pub world_further : (setup : Setup) (s t : Stage) (piece : Plan) (plan : List Plan) (i : ℕ) (all : World) → i < length plan → piece ≡ slice_index_or plan i piece
-    → world_from setup s.world (expand_from setup s (drop i plan)) ≡ all → t ≡ stage_after setup s piece (steps_of setup s piece)
-    → world_from setup t.world (expand_from setup t (drop (i + 1) plan)) ≡ all
-unfolding expand_from
-world_further setup s t piece plan i all within item so_far at =
-    let rest : drop i plan ≡ piece ∷ drop (i + 1) plan = drop_more plan i piece within ∙ ap (λ y. y ∷ drop (i + 1) plan) (sym item) in
-    let steps : List Step = steps_of setup s piece in
-    let u : Stage = stage_after setup s piece steps in
-    let more : List Step = expand_from setup u (drop (i + 1) plan) in
-    let split : world_from setup s.world (expand_from setup s (drop i plan)) ≡ world_from setup u.world more =
-    ap (λ l. world_from setup s.world (expand_from setup s l)) rest
-    ∙ (world_append setup s.world steps more ∙ ap (λ (w : World). world_from setup w more) (sym (world_after_piece setup s piece steps))) in
-    rw at (sym split ∙ so_far)
-
--- at the end of the plan that is where it stands
-pub world_ends : (setup : Setup) (s : Stage) (plan : List Plan) (i : ℕ) (all : World) → length plan ≤ i → world_from setup s.world (expand_from setup s (drop i plan)) ≡ all → s.world ≡ all
-unfolding expand_from world_from
-world_ends setup s plan i all past so_far = sym (ap (λ l. world_from setup s.world (expand_from setup s l)) (drop_all i plan past)) ∙ so_far

@@ -1,3 +1,2 @@
 mod PartSteps
 mod Drives
-mod Pieces

@@ -2,7 +2,7 @@
 
 ghost use Rattle.std.specs.Prelude.{◌≡◌, ℕ, ◌+◌, ◌<◌, ◌⊎◌, ◌++◌, ◌∷◌, [], length, take, IfOk, OnErr, List, false, IfErr, if◌then◌else◌};
 ghost use Rattle.usb_model.specs.World.Plans.{is_other_refusal, noted, expand, first_rule, first_stage, is_submit, needs_stop, rules_after, stage_after, steps_of, verdict_by, verdict_of};
-ghost use Rattle.usb_model.specs.World.{new_world, turn, world_from};
+ghost use Rattle.usb_model.specs.World.{turn};
 ghost use Rattle.plain_run.specs.RuleBooks.{book_at};
 ghost use Rattle.plain_system.specs.System.{world_of};
 ghost use Rattle.std.specs.Option.{option_copied};
@@ -254,34 +254,18 @@ pub fn drive_alone(
 {
     let made = Some(Sequence::new(alloc));
     match drive_on(alloc, setup, plan, rules, made) {
-        Ok(PlanSteps { steps, entries, .. }) => {
+        Ok(PlanSteps { steps, entries }) => {
             compare(alloc, setup, steps.unwrap().as_slice(), entries, h)
         }
         Err(_) => Err(AllocError),
     }
 }
 
-/// The system where the run of a plan under rules ends, as `drive` runs it.
-pub fn end_of(
-    alloc: Global,
-    setup: &Setup,
-    plan: &[Plan],
-    rules: &[Rule],
-) -> Result<System, AllocError>
-    ensures { IfOk result (λ s. world_of setup.now s ≡ world_from setup.now (new_world setup.now) (expand setup.now plan.now rules.now)) }
-{
-    match drive_on(alloc, setup, plan, rules, None) {
-        Ok(PlanSteps { system, .. }) => Ok(system),
-        Err(_) => Err(AllocError),
-    }
-}
-
-/// What came of a plan: the steps that it stood for, where they were kept, their entries, and the system behind them.
+/// What came of a plan: the steps that it stood for, where they were kept, and their entries.
 #[derive(Drop)]
 struct PlanSteps {
     steps: Option<Sequence<Step>>,
     entries: Sequence<Entry>,
-    system: System,
 }
 
 /// The entries of a plan, and its steps behind these, where there are any.
@@ -294,7 +278,6 @@ fn drive_on(
 ) -> Result<PlanSteps, Stopped>
     ensures steps { IfOk result (λ driven. driven.steps ≡ kept_with made (expand setup.now plan.now rules.now)) }
     ensures entries { IfOk result (λ driven. driven.entries ≡ world_run setup.now (expand setup.now plan.now rules.now)) }
-    ensures world { IfOk result (λ driven. world_of setup.now driven.system ≡ world_from setup.now (new_world setup.now) (expand setup.now plan.now rules.now)) }
     ensures stopped { IfErr result (λ stopped. IsBeginning stopped.entries (world_run setup.now (expand setup.now plan.now rules.now))) }
     ensures reached { IfErr result (λ stopped. stopped.entries ≡ world_run setup.now (take (length stopped.entries) (expand setup.now plan.now rules.now))) }
     ensures left { IfErr result (λ stopped. (stopped.entries ≡ []) ⊎ (length stopped.entries < length (expand setup.now plan.now rules.now))) }
@@ -310,10 +293,9 @@ fn drive_on(
         };
         left = piece.rules_after(left);
     }
-    let PlanRun { system, made, .. } = run;
+    let PlanRun { made, .. } = run;
     Ok(PlanSteps {
         steps: made,
         entries,
-        system,
     })
 }

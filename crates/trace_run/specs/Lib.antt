@@ -7,5 +7,5 @@ pub use Rattle.usb_model.specs.Text
 pub use Rattle.usb_model.specs.Machine.Turns
 pub use Rattle.trace_io.specs.Output
 pub use Rattle.trace_scenario.specs.StepLines
-pub use Rattle.plain_run.specs.Left
-pub use Rattle.plain_run.specs.LeftText
+pub use Rattle.usb_left.specs.Left
+pub use Rattle.usb_left.specs.LeftText

@@ -9,8 +9,9 @@ use Rattle.usb_model.specs.declared.verdict.Rule.TheVariants.{Free}
 use Rattle.usb_model.specs.Text.{lines_text}
 use Rattle.usb_model.specs.Machine.Turns.{alone}
 use Rattle.usb_model.specs.Setup.{Setup}
+use Rattle.usb_model.specs.World.{new_world, world_from}
 use Rattle.usb_model.specs.World.Journal.{IsBeginning, own, world_run}
-use Rattle.usb_model.specs.World.Plans.{expand, first_stage, is_submission}
+use Rattle.usb_model.specs.World.Plans.{Stage, expand, first_stage, is_submission}
 use Rattle.usb_purge.specs.Alone.{AdvancesBoth, StartsBoth, TwinState, alone_of}
 use Rattle.usb_purge.specs.PlanRuns.{Performs, PlanState, ShowsStage, is_verdict}
 use Rattle.usb_purge.specs.declared.twins.TwinPiece.{TwinPiece}
@@ -95,6 +96,10 @@ module _ {P : Type 0} (rule : P → Rule) where
   -- over whichever devices it did, and under whichever rules: the plan's entries are printed as far as the run came
   abbrev pub PrintsFrom : Reach → List Plan → (run : PlanState P) → (left : List P) → (old new : Option (List ℕ)) → Type 0
   PrintsFrom reach plan run left old new = (setup : Setup) (rules : List Rule) → StartsPlan setup plan rules run left → PrintsTo reach (plan_entries setup plan rules) old new
+
+  -- and where it was performed to its end, it shows a stage with the world where the run of the plan's steps ends
+  abbrev pub EndsFrom : List Plan → (run : PlanState P) → (left : List P) → (run' : PlanState P) → Type 0
+  EndsFrom plan run left run' = (setup : Setup) (rules : List Rule) → StartsPlan setup plan rules run left → (s : Stage) × ShowsStage rule setup run' s × (s.world ≡ world_from setup (new_world setup) (expand setup plan rules))
 
   -- or a beginning of their lines
   abbrev pub BeginsFrom : List Plan → (run : PlanState P) → (left : List P) → (old new : Option (List ℕ)) → Type 0

@@ -11,8 +11,8 @@ use Rattle.trace_io.specs.declared.fault.Fault.{Fault}
 use Rattle.trace_io.specs.declared.fault.Fault.TheVariants.{Memory}
 use Rattle.trace_scenario.specs.declared.scenario.Scenario.{Scenario}
 use Rattle.trace_scenario.specs.StepLines.{step_lines}
-use Rattle.plain_run.specs.Left.{all_left}
-use Rattle.plain_run.specs.LeftText.{lines_left}
+use Rattle.usb_left.specs.Left.{all_left}
+use Rattle.usb_left.specs.LeftText.{lines_left}
 use Rattle.trace_run.specs.declared.lines.Reach.{Reach}
 use Rattle.trace_run.specs.declared.lines.Reach.TheVariants.{End, NoMemory}
 use Rattle.trace_run.specs.declared.tasks.Ending.{Ending}

@@ -10,16 +10,18 @@
 //!   them
 //! - `stepwise.rt`, specs/Stepwise, proofs/Lined: the same, each entry behind its step's line
 //! - `drawing.rt`: a plan run by the core, and drawn
+//! - `ending.rt`: a plan run by the core to its end, for what is left there
 //! - proofs/Printed: how far a run is, and what of its lines is written
 //!
 //! The part of `usb_trace` that needs no threads: it doesn't wait for the library's proofs. A run's lines are
 //! gathered as its steps are made, and no entry is kept; `print_alone` runs two cores side by side. Stands on
-//! `usb_purge`, `usb_callback`, `usb_core` with what it stands on, `trace_io`, `trace_scenario`, and on
+//! `usb_purge`, `usb_left`, `usb_callback`, `usb_core` with what it stands on, `trace_io`, `trace_scenario`, and on
 //! `trace_picture` for pictures.
 #![tactic(auto)]
 
 mod devices;
 mod drawing;
+mod ending;
 mod lines;
 mod stepwise;
 mod tasks;

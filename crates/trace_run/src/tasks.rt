@@ -13,14 +13,15 @@ ghost use Rattle.trace_run.specs.Tasks.{AppendsAny, alone_text, ending_of, left_
 
 use crate::devices::{callbacks_of, devices_of, parts_of};
 use crate::drawing::draw;
+use crate::ending::run_to_end;
 use crate::lines::{Reach, print_alone, print_plan};
 use crate::stepwise::print_stepwise;
-use plain_run::{left_behind, lines_of};
-use std::alloc::Global;
+use std::alloc::{AllocError, Global};
 use std::io::Write;
 use trace_io::{Fault, write_bytes};
 use trace_picture::Drawing;
-use trace_scenario::{NumberedLine, Scenario, ScriptedDevice, into_setups};
+use trace_scenario::{NumberedLine, Scenario, ScriptedDevice};
+use usb_left::{left_behind, lines_of};
 use usb_model::{Name, Sequence};
 
 /// How a task ends that no fault ends.
@@ -74,17 +75,27 @@ pub fn print_steps<W: Write>(
     ending_of(print_stepwise(alloc, parts, plan, lines, out)?)
 }
 
-/// Prints what the run of a scenario leaves behind, as the plain program runs it; nothing where memory ran out.
+/// The lines of what the run of a scenario leaves behind, as the core on rings runs it.
+fn lines_left(alloc: Global, scenario: Scenario) -> Result<Vec<u8>, AllocError>
+    requires { IsRunnable scenario }
+    ensures { IfOk result (λ lines. lines.items ≡ left_lines scenario) }
+{
+    let Scenario { setup, plan, rules } = scenario;
+    let parts = parts_of(alloc, setup, rules.as_slice())?;
+    let core = run_to_end(alloc, parts, plan)?;
+    let left = left_behind(alloc, core)?;
+    lines_of(alloc, left.as_slice())
+}
+
+/// Prints what the run of a scenario leaves behind; nothing where memory ran out.
 pub fn print_left<W: Write>(alloc: Global, scenario: Scenario, out: &mut W) -> Result<Ending, Fault>
+    requires { IsRunnable scenario }
     ensures lines { OnOk result (Appends (W.contents out.old) (W.contents out.new) (left_lines scenario)) }
     ensures begun { AppendsSome (left_lines scenario) (W.contents out.old) (W.contents out.new) }
     ensures good { IfOk result (λ ending. ending ≡ Ending.Good) }
     ensures fault { IfErr result (λ fault. IsOfRun fault) }
 {
-    let Scenario { setup, plan, rules } = scenario;
-    let setup = into_setups(alloc, setup)?;
-    let left = left_behind(alloc, &setup, plan.as_slice(), rules.as_slice())?;
-    let lines = lines_of(alloc, left.as_slice())?;
+    let lines = lines_left(alloc, scenario)?;
     write_bytes(out, lines.as_slice())?;
     out.flush()?;
     Ok(Ending::Good)

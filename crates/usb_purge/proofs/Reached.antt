@@ -162,6 +162,11 @@ module _ {P : Type 0} (rule : P → Rule) (setup : Setup) (plan : List Plan) (ru
   pub all_fixed : (v : PlanState P) (es : List Entry) (ahead : List Plan) (left : List P) → ahead ≡ [] → Reached v es ahead left → AreFixed rules → es ≡ world_run setup (expand setup plan rules)
   all_fixed v es ahead left none r fixed = let driven = all v es ahead left none r in driven.run ∙ ap (world_run setup) (driven.only fixed)
 
+  -- and the world that is shown is the one where these steps end
+  pub ends_fixed : (v : PlanState P) (es : List Entry) (ahead : List Plan) (left : List P) → ahead ≡ [] → (r : Reached v es ahead left) → AreFixed rules → r.stage.world ≡ world_from setup (new_world setup) (expand setup plan rules)
+  unfolding all
+  ends_fixed v es ahead left none r fixed = r.world ∙ ap (world_from setup (new_world setup)) ((all v es ahead left none r).only fixed)
+
   -- and before its end they are a beginning of these
   pub begins_fixed : (v : PlanState P) (es : List Entry) (ahead : List Plan) (left : List P) → Reached v es ahead left → AreFixed rules → IsBeginning es (world_run setup (expand setup plan rules))
   unfolding journal

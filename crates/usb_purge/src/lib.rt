@@ -10,7 +10,7 @@
 //! - specs/Returns: when a transfer is in its callback
 //! - `running_callbacks.rt`: the callbacks that came out and haven't answered, by name and number
 //! - `plan_run.rt`, specs/PlanRuns: one piece of a plan: a step, or a callback that returns; the stage that is shown
-//! - `reads.rt`: what can be asked amid a plan, and how its devices are handed back
+//! - `reads.rt`: what can be asked amid a plan, and how its devices or its core are handed back
 //! - `drives.rt`, specs/Drives: a whole plan
 //! - `comparison.rt`, `own_plan.rt`, specs/Alone: a handle amid the others, and then alone over the same devices: of
 //!   a list of steps; of a plan, with callbacks of its own
@@ -47,6 +47,7 @@
 //! - `PlanRun::into_setup`: the devices that are handed back are those over which the run showed its stages: a core
 //!   or a run that is made of them begins anew. Each endpoint that a device has stands as the stage's world has it,
 //!   as by `Core::into_setup`
+//! - `PlanRun::into_core`: the core shows the worlds of the stages that the run showed
 //! - `drive`: the entries of a plan are the run of steps that it may stand for under its callbacks' rules
 //!   (`Expands`); of the only ones, `expand`, where no rule is Free. Of these steps all laws hold: what each handle
 //!   sees is what it sees alone, each transfer is called back at most once, after its number, in order; the cut, the

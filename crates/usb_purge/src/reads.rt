@@ -1,16 +1,16 @@
-//! What can be asked amid a plan, and how its devices are handed back.
+//! What can be asked amid a plan, and how its devices or its core are handed back.
 
 ghost use Rattle.std.specs.Prelude.{◌≡◌, ℕ, Some, slice_get};
 ghost use Rattle.std.specs.Option.{option_copied};
 ghost use Rattle.usb_model.specs.Setup.{Setup as ModelSetup, interface_of};
 ghost use Rattle.usb_model.specs.World.Plans.{Stage};
-ghost use Rattle.usb_core.specs.Public.{setup_of};
+ghost use Rattle.usb_core.specs.Public.{ShowsWorld, setup_of};
 ghost use Rattle.usb_core.specs.Reads.{IsLeft};
 ghost use Rattle.usb_purge.specs.PlanRuns.{ShowsStage};
 
 use crate::plan_run::PlanRun;
 use usb_callback::Callback;
-use usb_core::Setup;
+use usb_core::{Core, Setup};
 use usb_device::Device;
 use usb_model::{DeviceNo, EpAddr};
 
@@ -31,5 +31,13 @@ impl<C: Callback, D: Device> PlanRun<C, D> {
     {
         let PlanRun { core, .. } = self;
         core.into_setup()
+    }
+
+    /// The core as the pieces left it. The callbacks that run are dropped. Takes no memory.
+    pub fn into_core(self) -> Core<C, D>
+        ensures { (setup : ModelSetup) (s : Stage) → ShowsStage C.rule setup self s → ShowsWorld setup result s.world }
+    {
+        let PlanRun { core, .. } = self;
+        core
     }
 }

@@ -1,11 +1,10 @@
 -- A piece further each turn.
 use Rattle.std.proofs.Common.{ap, inr}
-use Rattle.usb_model.specs.World.{new_world, world_from}
 use Rattle.usb_model.specs.World.Journal.{world_run, journal}
 use Rattle.usb_model.specs.World.Plans.{Stage, expand, expand_from}
 use Rattle.usb_model.specs.World.Journal.{run_from}
 use Rattle.plain_run.specs.PlanRuns.{kept_with, stage_of}
-use Rattle.plain_run.proofs.Drives.{piece_further, plan_ends, begun_all, steps_further, steps_end, world_further, world_ends}
+use Rattle.plain_run.proofs.Drives.{piece_further, plan_ends, begun_all, steps_further, steps_end}
 use Rattle.proof_lemmas.proofs.Handles.Beginnings.{first_steps, piece_left}
 use Rattle.plain_run.proofs.plan_run.drive_on.Goals as goal
 
@@ -17,7 +16,6 @@ unfolding journal
 loop-piece-init c = record {
   entries = rw c.new-entries.ensures (ap (λ (s : Stage). run_from c.args.setup.now s.world (expand_from c.args.setup.now s c.args.plan.now)) (c.in-Ok.ensures.stage c.args.rules.now));
   steps = rw c.in-Ok.ensures.kept (ap (λ (s : Stage). kept_with c.args.made (expand_from c.args.setup.now s c.args.plan.now)) (c.in-Ok.ensures.stage c.args.rules.now));
-  world = ap (λ (s : Stage). world_from c.args.setup.now s.world (expand_from c.args.setup.now s c.args.plan.now)) (c.in-Ok.ensures.stage c.args.rules.now);
 }
 
 pub returns-in_default-perform-clause-stopped : goal.returns-in_default-perform-clause-stopped
@@ -48,10 +46,6 @@ loop-piece-preserved c = record {
       rw c.rules_after-left.ensures
       (steps_further c.args.setup.now (stage_of c.args.setup.now c.loop-piece.run c.loop-piece.left.now) _ c.piece-item.result c.args.plan.now c.loop-piece.piece-index c.loop-piece.run.made _
       (kept_with c.args.made (expand c.args.setup.now c.args.plan.now c.args.rules.now)) c.loop-piece-test.true c.piece-item.is c.loop-piece.invariant.steps c.in-Ok-perform.ensures.noted c.in-Ok-perform.ensures.made.1);
-  world =
-      rw c.rules_after-left.ensures
-      (world_further c.args.setup.now (stage_of c.args.setup.now c.loop-piece.run c.loop-piece.left.now) _ c.piece-item.result c.args.plan.now c.loop-piece.piece-index
-      (world_from c.args.setup.now (new_world c.args.setup.now) (expand c.args.setup.now c.args.plan.now c.args.rules.now)) c.loop-piece-test.true c.piece-item.is c.loop-piece.invariant.world c.in-Ok-perform.ensures.made.1);
 }
 
 pub returns-clause-steps : goal.returns-clause-steps
@@ -63,8 +57,3 @@ pub returns-clause-entries : goal.returns-clause-entries
 returns-clause-entries c =
     plan_ends c.args.setup.now (stage_of c.args.setup.now c.loop-piece.run c.loop-piece.left.now) c.args.plan.now c.loop-piece.piece-index c.loop-piece.entries
     (world_run c.args.setup.now (expand c.args.setup.now c.args.plan.now c.args.rules.now)) c.loop-piece-test.false c.loop-piece.invariant.entries
-
-pub returns-clause-world : goal.returns-clause-world
-returns-clause-world c =
-    world_ends c.args.setup.now (stage_of c.args.setup.now c.loop-piece.run c.loop-piece.left.now) c.args.plan.now c.loop-piece.piece-index
-    (world_from c.args.setup.now (new_world c.args.setup.now) (expand c.args.setup.now c.args.plan.now c.args.rules.now)) c.loop-piece-test.false c.loop-piece.invariant.world

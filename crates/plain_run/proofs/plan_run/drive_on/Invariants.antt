@@ -1,6 +1,5 @@
--- The entries so far, and those from here on, are those of the plan; and from here on it leads to the same world.
+-- The entries so far, and those from here on, are those of the plan.
 use Rattle.std.proofs.Common.{◌≡◌, ◌++◌, drop}
-use Rattle.usb_model.specs.World.{new_world, world_from}
 use Rattle.usb_model.specs.World.Journal.{world_run}
 use Rattle.usb_model.specs.World.Plans.{expand, expand_from}
 use Rattle.plain_run.specs.PlanRuns.{kept_with, stage_of}
@@ -12,5 +11,4 @@ abbrev pub invariant-loop-piece : goal.invariant-loop-piece
 invariant-loop-piece l = record {
   entries : l.entries ++ run_from l.fn.setup (world_of l.fn.setup l.run.system) (expand_from l.fn.setup (stage_of l.fn.setup l.run l.left) (drop l.piece-index l.fn.plan)) ≡ world_run l.fn.setup (expand l.fn.setup l.fn.plan l.fn.rules);
   steps : kept_with l.run.made (expand_from l.fn.setup (stage_of l.fn.setup l.run l.left) (drop l.piece-index l.fn.plan)) ≡ kept_with l.fn.made (expand l.fn.setup l.fn.plan l.fn.rules);
-  world : world_from l.fn.setup (world_of l.fn.setup l.run.system) (expand_from l.fn.setup (stage_of l.fn.setup l.run l.left) (drop l.piece-index l.fn.plan)) ≡ world_from l.fn.setup (new_world l.fn.setup) (expand l.fn.setup l.fn.plan l.fn.rules);
 }
