@@ -9,7 +9,7 @@ use crate::bench::read_steps;
 use crate::kinds::EitherDevice;
 use crate::stand::both_kinds;
 use crate::told::{add_line, expect, is_told};
-use anyhow::Result;
+use anyhow::{Result, anyhow};
 use example_devices::Reader;
 use std::alloc::Global;
 use std::marker::Brand;
@@ -54,10 +54,12 @@ fn booked<L: Naming, D: Device>(
 {
     let (total, share) = blank.open::<L>();
     let mut book = Book::<L, u8, D, Journal>::new(alloc, setup, log, keeper, total)?;
-    let mut position = book.position(share);
+    let Some(mut position) = book.position(share) else {
+        return Err(anyhow!("no number is left"));
+    };
     let mut receipts = Vec::new(alloc);
     record_all(alloc, &mut book, &mut position, &mut receipts)?;
-    let Closed { recorder, .. } = book.finish(receipts);
+    let Closed { recorder, .. } = book.close().finish(receipts);
     are_read(alloc, &recorder)
 }
 
@@ -73,7 +75,7 @@ fn record<L: Naming, D: Device>(
     } else {
         None
     };
-    let (receipt, Stepped { out, .. }) = book.record(step, 0, position, payload)?;
+    let (receipt, Stepped { out, .. }) = book.record(step, position, payload)?;
     receipts.push(receipt)?;
     Ok(out)
 }

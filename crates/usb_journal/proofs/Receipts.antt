@@ -4,7 +4,6 @@ use Rattle.std.proofs.lemmas.Grind.{common_steps}
 use Rattle.std.specs.Prelude.{slice_get}
 use Rattle.usb_journal.specs.declared.place.Place.{Place}
 use Rattle.usb_receipts.specs.Rule.{Stand, claimed}
-use Rattle.usb_journal.specs.Booked.{AreMoved}
 use Rattle.usb_journal.specs.Seen.{Receipted, claims_of, receipts_from}
 
 pub all_stand : (log : List Place) (rs : List Receipted) → Stand log (claims_of rs) → (k : ℕ) (d : Receipted) → k < length rs → slice_get log (get_or rs k d).place ≡ Some (get_or rs k d).entry
@@ -31,8 +30,3 @@ pub receipts_one : (n : ℕ) (xs : List Place) (x : Place) → n ≤ length xs �
 receipts_one n xs x le =
     let rest = length-drop n xs in
     ap (receipts_from n) (drop_push n xs x le) ∙ receipts_push n (drop n xs) x (length xs) (omega arith)
-
--- one receipt more for a position
-pub moved_more : (first : ℕ) (rs : List Receipted) (position : ℕ) (r : Receipted) (new : ℕ) → AreMoved first rs position → position ≤ r.place → new ≡ r.place + 1 → AreMoved first (rs ++ r ∷ []) new
-moved_more first [] position r new same le at = (subst (λ k. k ≤ r.place) same le, at)
-moved_more first (x ∷ xs) position r new moved le at = (moved.0, moved_more (x.place + 1) xs position r new moved.1 le at)

@@ -16,6 +16,7 @@ use Rattle.usb_core.specs.Public.{ShowsWorld, State, Stays, StillCarries, Unacce
 use Rattle.usb_journal.specs.declared.events.Events.{Events}
 use Rattle.usb_journal.specs.declared.place.Place.{Place}
 use Rattle.usb_journal.specs.declared.record.NotRecorded.{NotRecorded}
+use Rattle.usb_receipts.specs.Rule.{BeginsWith}
 use Rattle.usb_journal.specs.Seen.{Positioned, Receipted}
 
 -- a book: its devices, the journal, the moment, and the core
@@ -24,6 +25,13 @@ pub record Booked (P : Type 0) : Type 0 where
   pub journal : List Place
   pub moment : ℕ
   pub core : State P
+
+-- a book that is closed: its devices, the journal, the core, and the positions that came back, each by its number with what it had seen
+pub record Closes (P : Type 0) : Type 0 where
+  pub setup : Setup
+  pub journal : List Place
+  pub core : State P
+  pub back : List (ℕ × List Place)
 
 abbrev pub steps_of : List Place → List Step
 steps_of journal = map (λ p. p.step) journal
@@ -89,14 +97,22 @@ abbrev pub unless_no_memory : {G P : Type 0} → Result ℕ (Unaccepted G P) →
 unless_no_memory (Ok n) = Ok (Ok n)
 unless_no_memory (Err x) = turned_down x.why x.given x.payload
 
+-- a journal began with what was seen for a position before, and all of it is seen afterwards
+abbrev pub Sees : Positioned → (before : List Place) → Positioned → (after : List Place) → Type 0
+Sees old before new after = BeginsWith old.seen before × (new.seen ≡ after)
+
+-- a position was moved to the end of a journal: the bearer's own places are what they were, and all that is seen is the run of its steps
+pub record Looks (setup : Setup) (old new : Positioned) : Type 0 where
+  pub number : new.number ≡ old.number
+  pub own : new.own ≡ old.own
+  pub began : BeginsWith old.seen new.seen
+  pub run : IsRun setup new.seen
+
 -- a position was moved behind this place, which is its bearer's
 abbrev pub IsMoved : Positioned → Receipted → Positioned → Type 0
-IsMoved old receipt new = (old.position ≤ receipt.place) × (new.position ≡ receipt.place + 1) × (new.own ≡ old.own ++ receipt.entry ∷ [])
-
--- places that were entered for a position one after another: each stands where the position was or behind it, and the position goes behind the last
-abbrev pub AreMoved : ℕ → List Receipted → ℕ → Type 0
-AreMoved old [] new = new ≡ old
-AreMoved old (r ∷ rs) new = (old ≤ r.place) × AreMoved (r.place + 1) rs new
+IsMoved old receipt new =
+    (old.position ≤ receipt.place) × (new.position ≡ receipt.place + 1) × (new.own ≡ old.own ++ receipt.entry ∷ [])
+    × (new.number ≡ old.number)
 
 -- nothing changed that anybody sees
 pub record IsSame {P : Type 0} (old new : Booked P) : Type 0 where

@@ -1,13 +1,13 @@
 //! The book, from its first place to its end.
 
-ghost use Rattle.std.specs.Prelude.{◌≡◌, ◌==◌, ℕ, ◌≤◌, All, IfOk, Some, [], count_by, length, slice_get};
+ghost use Rattle.std.specs.Prelude.{◌≡◌, IfOk, IfSome, [], length, slice_get};
 ghost use Rattle.std.specs.Option.{option_map_or};
 ghost use Rattle.usb_model.specs.declared.step.Step.TheVariants.{Command, Deliver, Take};
 ghost use Rattle.usb_core.specs.Public.{Carries, IsPending, Kept, does_something, setup_of};
 ghost use Rattle.usb_receipts.specs.Tokens.{new_keeper};
-ghost use Rattle.usb_journal.specs.Booked.{HasEvents, IsRun, world_where};
+ghost use Rattle.usb_journal.specs.Booked.{HasEvents, IsRun, Looks, world_where};
 
-use crate::closed::Closed;
+use crate::closed::Closing;
 use crate::events::Events;
 use crate::log::Log;
 use crate::naming::Naming;
@@ -116,45 +116,58 @@ impl<L: Naming, P, D: Device, J: Recorder> Book<L, P, D, J> {
         self.core.has_order()
     }
 
-    /// Whether an event waits to be handled, and whether a result waits to go out. Takes no memory.
-    pub fn events(&self) -> Events
-        ensures events { HasEvents self.now.setup self.now.journal result }
-        ensures run { IsRun self.now.setup self.now.journal }
-        ensures setup { self.now.setup ≡ L.setup }
+    /// A position at the end of the journal, with a share that counts nothing; its bearer has no places yet, and a number of its own.
+    /// None where no number is left.
+    pub fn position(&mut self, share: Share<L>) -> Option<Position<L>>
+        requires { (share.parts ≡ 1) × (share.amount ≡ 0) }
+        ensures position { IfSome result (λ p. (p.seen ≡ self.old.journal) × (p.own ≡ [])) }
+        ensures same { self.new ≡ self.old }
     {
+        self.log.position(share)
+    }
+
+    /// A position is moved to the end of the journal, and what is to be done next is looked for, from behind this endpoint on: in the
+    /// world where the run of all that it has seen ends. Takes no memory.
+    pub fn look(&mut self, position: &mut Position<L>, after: Option<(DeviceNo, EpAddr)>) -> Pending
+        ensures pending { IsPending L.setup (world_where L.setup position.new.seen) after result }
+        ensures looks { Looks L.setup position.old position.new }
+        ensures same { self.new ≡ self.old }
+    {
+        self.log.look(position);
+        self.core.pending(after)
+    }
+
+    /// The same, and whether an event waits to be handled, and whether a result waits to go out, there.
+    pub fn look_for_events(&mut self, position: &mut Position<L>) -> Events
+        ensures events { HasEvents L.setup position.new.seen result }
+        ensures looks { Looks L.setup position.old position.new }
+        ensures same { self.new ≡ self.old }
+    {
+        self.log.look(position);
         Events {
             deliver: self.core.has_event(),
             take: self.core.has_result(),
         }
     }
 
-    /// A position at the end of the journal, whose bearer has no places yet, with a share that counts none.
-    pub fn position(&mut self, share: Share<L>) -> Position<L>
-        requires { (share.parts ≡ 1) × (share.amount ≡ 0) }
-        ensures position { (result.position ≡ length self.old.journal) × (result.own ≡ []) }
-        ensures same { self.new ≡ self.old }
-    {
-        self.log.position(share)
-    }
-
-    /// The journal's end, compared with receipts.
-    pub fn finish(self, receipts: Vec<Receipt<L>>) -> Closed<L, P, D, J>
-        ensures journal { result.journal ≡ self.journal }
-        ensures kept { J.stands result.recorder self.journal }
-        ensures counted { result.places ≡ length self.journal }
-        ensures total { result.total.total ≡ length self.journal }
-        ensures setup { self.setup ≡ L.setup }
-        ensures run { IsRun L.setup self.journal }
-        ensures core { result.core ≡ self.core }
-        ensures found { All (λ r. slice_get self.journal r.place ≡ Some r.entry) receipts.items }
-        ensures apart { (p : ℕ) → count_by (λ r. r.place == p) receipts.items ≤ 1 }
+    /// No step is made any more.
+    pub fn close(self) -> Closing<L, P, D, J>
+        ensures { result ≡ record { setup = L.setup; journal = self.journal; core = self.core; back = [] } }
     {
         let Book { core, log, .. } = self;
-        let (journal, recorder, places, total) = log.finish(receipts);
-        Closed {
-            journal,
+        let Log {
             recorder,
             places,
+            log,
+            keeper,
+            total,
+            ..
+        } = log;
+        Closing {
+            recorder,
+            places,
+            log,
+            keeper,
             total,
             core,
         }

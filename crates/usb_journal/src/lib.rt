@@ -18,7 +18,7 @@
 //!   entry
 //! - `journal.rt`, `kept.rt`, `reader.rt`, specs/Kept: the journal in memory; a place as it is kept; a place read
 //!   back
-//! - `naming.rt`, `closed.rt`: which library a value is of; what a book leaves
+//! - `naming.rt`, `closed.rt`: which library a value is of; a book that is closed, and what it leaves
 //! - proofs/KeptPlaces: what a kept place stands for stays, whatever bytes come behind its own
 //! - proofs/Runs, Replies, Answers: one step more of a journal; how many bytes a reply has; what a submission is
 //!   answered
@@ -33,17 +33,20 @@
 //!   core shows the world where that run ends (`ShowsWorld`)
 //! - `record`, `submit`, `again`, `again_with`, `take`: just one place behind the others: the step, the caller, the
 //!   moment, and the entry that the definitions have for the step in that world; the receipt has its number and all
-//!   that stands there, and the caller's position moves behind it. What payload goes out, comes back or stays with its
+//!   that stands there, and the caller's position moves behind it, from where all of the journal so far is seen (`Sees`).
+//!   What payload goes out, comes back or stays with its
 //!   transfer, as of the core. After want of memory the journal, the moment and what the core shows are as before,
 //!   and what was given comes back
 //! - `tick`: the moment becomes the later of it and `now`; behind the others stand, at consecutive places, just the
 //!   steps that the definitions say are due at that moment (`due` of the journal with its moments), in their order,
-//!   as asked for by the caller; a receipt for each, whose place is where the caller's position was or behind it, and the
-//!   position goes behind it. After want of memory nothing changed
-//! - `next_len`, `pending`, `has_order`, `events`: what the world where the journal's run ends says
-//! - `finish`: at each receipt's place stands what the receipt says, and no two have one place; the journal is a run
-//!   from the devices that `new` was given; the recorder can be what was told just these places (`Journal`: it has
-//!   them), and their number. The core comes back
+//!   as asked for by the caller; a receipt for each; and the position goes behind them. After want of memory nothing changed
+//! - `next_len`, `pending`, `has_order`: what the world where the journal's run ends says
+//! - `look`, `look_for_events`: the same, for a caller whose position then has seen all of the journal so far (`Looks`)
+//! - `position`: each has a number of its own, from 0 on, and no places yet
+//! - `close`, `Closing::take_back`, `Closing::finish`: at each receipt's place stands what the receipt says, and no two have
+//!   one place; the journal is a run from the devices that `new` was given; each position that came back had seen a
+//!   beginning of it and all places of its number, which no other has; the recorder can be what was told just these places
+//!   (`Journal`: it has them), and their number. The core comes back, and shows the world where the run ends
 //!
 //! A body that gives up at once with want of memory is right by contract.
 #![tactic(auto)]
@@ -68,7 +71,7 @@ mod ticks;
 mod timer;
 
 pub use book::Book;
-pub use closed::{Closed, Whole};
+pub use closed::{Closed, Closing, Whole};
 pub use events::Events;
 pub use journal::{Draft, Journal};
 pub use naming::Naming;

@@ -1,12 +1,12 @@
 //! The journal, as a book has it.
 
-ghost use Rattle.std.specs.Prelude.{◌≡◌, ◌==◌, ◌++◌, ◌+◌, ◌-◌, ◌^◌, ◌<◌, ◌≤◌, ◌∷◌, ℕ, [], All, IfOk, OnOk, Some, count_by, length, slice_get};
+ghost use Rattle.std.specs.Prelude.{◌≡◌, ◌++◌, ◌+◌, ◌-◌, ◌^◌, ◌<◌, ◌≤◌, ◌∷◌, ℕ, [], IfOk, IfSome, OnOk, length};
 ghost use Rattle.usb_receipts.specs.Tokens.{new_keeper};
-ghost use Rattle.usb_journal.specs.Booked.{IsMoved};
+ghost use Rattle.usb_journal.specs.Booked.{IsMoved, Sees};
 ghost use Rattle.usb_journal.specs.Records.{bytes_in, sent_by};
-ghost use Rattle.usb_journal.specs.Seen.{claims_of};
+ghost use Rattle.usb_receipts.specs.Rule.{BeginsWith};
+ghost use Rattle.usb_journal.specs.Seen.{claims_of, positioned};
 
-use crate::closed::Whole;
 use crate::kept::sent_by;
 use crate::naming::Naming;
 use crate::place::PlaceImage;
@@ -19,15 +19,16 @@ use std::sync::ledger::{self, Share};
 use usb_model::{Entry, Step};
 use usb_receipts::{Image, Keeper};
 
-/// What is kept of the places, how many there are, the log with its keeper, on which they all stand, and the ledger that counts
-/// them by those who made them.
+/// What is kept of the places, how many there are, how many positions were given, the log with its keeper, on which they all stand,
+/// and the ledger that counts the places by those who made them.
 #[derive(Drop)]
 pub(crate) struct Log<L: Naming, J: Recorder> {
-    recorder: J,
-    places: u64,
-    log: usb_receipts::Log<PlaceImage>,
-    keeper: Keeper<PlaceImage>,
-    total: ledger::Book<L>,
+    pub(crate) recorder: J,
+    pub(crate) places: u64,
+    bearers: u32,
+    pub(crate) log: usb_receipts::Log<PlaceImage>,
+    pub(crate) keeper: Keeper<PlaceImage>,
+    pub(crate) total: ledger::Book<L>,
 }
 
 /// Contracts see the places, and the recorder for the room that it has.
@@ -39,7 +40,7 @@ impl<L: Naming, J: Recorder> Model for Log<L, J> {
 
     ghost view = { λ l. record { journal = l.keeper.entries; recorder = l.recorder } };
 
-    ghost invariant = { λ l. (l.log ≡ L.table) × (l.keeper.log ≡ L.table) × (l.keeper.taken ≡ []) × (l.places ≡ length l.keeper.entries) × (l.total.total ≡ length l.keeper.entries) × J.stands l.recorder l.keeper.entries };
+    ghost invariant = { λ l. (l.log ≡ L.table) × (l.keeper.log ≡ L.table) × (l.keeper.taken ≡ []) × (l.keeper.back ≡ []) × (l.keeper.next ≡ l.bearers) × (l.places ≡ length l.keeper.entries) × (l.total.total ≡ length l.keeper.entries) × J.stands l.recorder l.keeper.entries };
 }
 
 impl<L: Naming, J: Recorder> Log<L, J> {
@@ -58,6 +59,7 @@ impl<L: Naming, J: Recorder> Log<L, J> {
         Log {
             recorder: J::new(alloc),
             places: 0,
+            bearers: 0,
             log,
             keeper,
             total,
@@ -71,16 +73,30 @@ impl<L: Naming, J: Recorder> Log<L, J> {
         self.places
     }
 
-    /// A position at the end, whose bearer has no places yet, with a share that counts none.
-    pub(crate) fn position(&mut self, share: Share<L>) -> Position<L>
+    /// A position at the end, with a share that counts nothing; its bearer has no places yet, and a number of its own. None where no
+    /// number is left.
+    pub(crate) fn position(&mut self, share: Share<L>) -> Option<Position<L>>
         requires { (share.parts ≡ 1) × (share.amount ≡ 0) }
-        ensures position { (result.position ≡ length self.old.journal) × (result.own ≡ []) }
+        ensures position { IfSome result (λ p. (p.seen ≡ self.old.journal) × (p.own ≡ [])) }
         ensures same { self.new ≡ self.old }
     {
-        Position {
+        let number = self.bearers;
+        self.bearers = number.checked_add(1)?;
+        Some(Position {
+            number,
             position: self.log.position(&mut self.keeper),
             share,
-        }
+        })
+    }
+
+    /// Moves a position to the end of the journal, which began with what was seen there, and has no place of its bearer's since.
+    pub(crate) fn look(&mut self, position: &mut Position<L>)
+        ensures position { position.new ≡ positioned position.old.number self.old.journal }
+        ensures own { position.new.own ≡ position.old.own }
+        ensures began { BeginsWith position.old.seen self.old.journal }
+        ensures same { self.new ≡ self.old }
+    {
+        self.log.look(&mut self.keeper, &mut position.position);
     }
 
     /// Makes room for so many more places, with so many bytes in all. The last number of a place is 2^64 - 2.
@@ -118,10 +134,12 @@ impl<L: Naming, J: Recorder> Log<L, J> {
         requires count { length self.old.journal + 1 < 2 ^ 64 }
         requires room { (places : ℕ) × (bytes : ℕ) × J.has_room self.old.recorder places bytes × (1 ≤ places) × (bytes_in entry.now.reply ≤ bytes) }
         requires told { told.entry ≡ entry.now }
+        requires bearer { told.caller ≡ position.old.number }
         requires draft { J.is_draft self.old.recorder draft told.step }
         ensures receipt { result ≡ record { place = length self.old.journal; entry = told } }
         ensures journal { self.new.journal ≡ self.old.journal ++ result.entry ∷ [] }
         ensures position { IsMoved position.old result position.new }
+        ensures saw { Sees position.old self.old.journal position.new self.new.journal }
         ensures room { (places bytes : ℕ) → J.has_room self.old.recorder places bytes → J.has_room self.new.recorder (places - 1) (bytes - bytes_in entry.now.reply) }
     {
         let place = self.places;
@@ -151,48 +169,29 @@ impl<L: Naming, J: Recorder> Log<L, J> {
     ) -> Receipt<L>
         requires count { length self.old.journal + 1 < 2 ^ 64 }
         requires step { length (sent_by step) ≡ 0 }
+        requires bearer { caller ≡ position.old.number }
         requires room { (places : ℕ) × (bytes : ℕ) × J.has_room self.old.recorder places bytes × (1 ≤ places) × (bytes_in entry.now.reply ≤ bytes) }
         ensures receipt { result ≡ record { place = length self.old.journal; entry = record { step = step; caller = caller; entry = entry.now; moment = moment } } }
         ensures journal { self.new.journal ≡ self.old.journal ++ result.entry ∷ [] }
         ensures position { IsMoved position.old result position.new }
+        ensures saw { Sees position.old self.old.journal position.new self.new.journal }
         ensures room { (places : ℕ) → J.has_room self.old.recorder places 0 → J.has_room self.new.recorder (places - 1) 0 }
     {
         let draft = self.recorder.draft(&step);
         let told = PlaceImage::new(Image::of(&step), caller, entry, moment);
         self.enter_drafted(position, draft, told, entry)
     }
-
-    /// The end, compared with receipts: the journal, what was kept of it, how many places it has, and the ledger.
-    pub(crate) fn finish(self, receipts: Vec<Receipt<L>>) -> (Whole, J, u64, ledger::Book<L>)
-        ensures journal { result.0 ≡ self.journal }
-        ensures kept { J.stands result.1 self.journal }
-        ensures counted { result.2 ≡ length self.journal }
-        ensures total { result.3.total ≡ length self.journal }
-        ensures found { All (λ r. slice_get self.journal r.place ≡ Some r.entry) receipts.items }
-        ensures apart { (p : ℕ) → count_by (λ r. r.place == p) receipts.items ≤ 1 }
-    {
-        let Log {
-            recorder,
-            places,
-            log,
-            mut keeper,
-            total,
-        } = self;
-        take_all(&log, &mut keeper, receipts);
-        log.check(&mut keeper);
-        (Whole { keeper }, recorder, places, total)
-    }
 }
 
 /// The keeper takes in the receipts' claims.
-fn take_all<L: Naming>(
+pub(crate) fn take_all<L: Naming>(
     log: &usb_receipts::Log<PlaceImage>,
     keeper: &mut Keeper<PlaceImage>,
     receipts: Vec<Receipt<L>>,
 )
     requires here { (keeper.old.log ≡ log.now) × (log.now ≡ L.table) }
     requires none { keeper.old.taken ≡ [] }
-    ensures same { (keeper.new.log ≡ keeper.old.log) × (keeper.new.entries ≡ keeper.old.entries) }
+    ensures same { (keeper.new.log ≡ keeper.old.log) × (keeper.new.entries ≡ keeper.old.entries) × (keeper.new.next ≡ keeper.old.next) × (keeper.new.back ≡ keeper.old.back) }
     ensures taken { keeper.new.taken ≡ claims_of receipts.items }
 {
     for receipt in receipts {

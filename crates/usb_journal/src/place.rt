@@ -4,7 +4,7 @@ ghost use Rattle.std.specs.Prelude.{◌≡◌};
 
 use std::marker::Model;
 use usb_model::{Entry, Step};
-use usb_receipts::Image;
+use usb_receipts::{Borne, Image};
 
 /// A step of the core, as the journal has it.
 #[derive(Drop)]
@@ -34,6 +34,11 @@ impl Model for PlaceImage {
     ghost Value = { Place };
 
     ghost view = { λ p. record { step = p.step.value; caller = p.caller; entry = p.entry.value; moment = p.moment } };
+}
+
+/// It is entered for its caller.
+impl Borne for PlaceImage {
+    ghost bearer = { λ p. p.caller };
 }
 
 impl PlaceImage {

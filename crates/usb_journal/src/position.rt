@@ -7,26 +7,34 @@ use crate::place::PlaceImage;
 use std::marker::Model;
 use std::sync::ledger::Share;
 
-/// How many places the journal had when the position was last moved, and the places of its bearer, whose number its share of
-/// the journal's ledger counts. It has no bytes.
+/// The number of its bearer, which no other has; what the journal began with when the position was last moved; and which of that are
+/// the bearer's places, whose number its share of the journal's ledger counts. It has the bytes of the number alone.
 #[derive(Drop)]
 pub struct Position<L: Naming> {
+    pub(crate) number: u32,
     pub(crate) position: usb_receipts::Position<PlaceImage>,
     pub(crate) share: Share<L>,
 }
 
 impl<L: Naming> Model for Position<L> {
-    ghost use Rattle.std.specs.Prelude.{◌≡◌, length};
-    ghost use Rattle.usb_journal.specs.Seen.{Positioned};
+    ghost use Rattle.std.specs.Prelude.{◌≡◌, [], ◌∷◌, length};
+    ghost use Rattle.usb_journal.specs.Seen.{Positioned, places_of, positioned, seen_by};
 
     ghost Value = { Positioned };
 
-    ghost view = { λ m. record { position = m.position.position; own = m.position.own } };
+    ghost view = { λ m. positioned m.number (seen_by m.position.positions) };
 
-    ghost invariant = { λ m. (m.position.log ≡ L.table) × (m.share.parts ≡ 1) × (m.share.amount ≡ length m.position.own) };
+    ghost invariant = { λ m. (m.position.log ≡ L.table) × (m.position.positions ≡ (m.number, seen_by m.position.positions) ∷ []) × (m.share.parts ≡ 1) × (m.share.amount ≡ length (places_of m.number (seen_by m.position.positions))) };
 }
 
 impl<L: Naming> Position<L> {
+    /// The number of its bearer, from 0 on, in the order in which positions were given.
+    pub fn number(&self) -> u32
+        ensures { result ≡ self.now.number }
+    {
+        self.number
+    }
+
     /// Its share of the ledger, which counts its bearer's places.
     pub fn into_share(self) -> Share<L>
         ensures { (result.parts ≡ 1) × (result.amount ≡ length self.own) }

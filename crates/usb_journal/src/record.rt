@@ -5,7 +5,7 @@ ghost use Rattle.usb_model.specs.declared.step.Step.TheVariants.{Answer, Take};
 ghost use Rattle.usb_model.specs.Numbers.{takes_payload};
 ghost use Rattle.usb_core.specs.Steps.{GoesOut, first_payload, handed_out, kept_after, left_over};
 ghost use Rattle.usb_core.specs.Public.{Carries, Kept, StillCarries, called_entry, takes_memory};
-ghost use Rattle.usb_journal.specs.Booked.{IsMoved, IsSame, answer_entry, next_entry, next_receipt, payload_back};
+ghost use Rattle.usb_journal.specs.Booked.{IsMoved, IsSame, Sees, answer_entry, next_entry, next_receipt, payload_back};
 ghost use Rattle.usb_journal.specs.Timers.{ending};
 
 use crate::book::Book;
@@ -45,15 +45,16 @@ impl<L: Naming, P: Drop, D: Device, J: Recorder> Book<L, P, D, J> {
     pub fn record(
         &mut self,
         step: Step,
-        caller: u32,
         position: &mut Position<L>,
         payload: Option<P>,
     ) -> Result<(Receipt<L>, Stepped<P>), NotRecorded<Step, Option<P>>>
         requires { takes_payload step ≡ true → is_some payload ≡ true }
-        ensures receipt { IfOk result (λ r. r.0 ≡ next_receipt self.old step caller r.1.entry) }
+        ensures receipt { IfOk result (λ r. r.0 ≡ next_receipt self.old step position.old.number r.1.entry) }
         ensures journal { IfOk result (λ r. self.new.journal ≡ self.old.journal ++ r.0.entry ∷ []) }
         ensures entry { IfOk result (λ r. r.1.entry ≡ next_entry self.old.setup self.old.journal step) }
         ensures position { IfOk result (λ r. IsMoved position.old r.0 position.new) }
+        ensures saw { IfOk result (λ r. Sees position.old self.old.journal position.new self.new.journal) }
+        ensures library { self.old.setup ≡ L.setup }
         ensures rest { (self.new.setup ≡ self.old.setup) × (self.new.moment ≡ self.old.moment) }
         ensures out { IfOk result (λ r. r.1.out ≡ handed_out self.old.core step) }
         ensures back { IfOk result (λ r. r.1.back ≡ left_over (takes_payload step) r.1.entry.reply payload) }
@@ -66,7 +67,7 @@ impl<L: Naming, P: Drop, D: Device, J: Recorder> Book<L, P, D, J> {
                 let Some(payload) = payload else {
                     unreachable!()
                 };
-                match self.submit(h, request, payload, caller, position) {
+                match self.submit(h, request, payload, position) {
                     Ok((receipt, answer)) => Ok((receipt, answered(h, answer))),
                     Err(NotRecorded { given, payload }) => Err(NotRecorded {
                         given: Step::Submit { h, request: given },
@@ -74,25 +75,26 @@ impl<L: Naming, P: Drop, D: Device, J: Recorder> Book<L, P, D, J> {
                     }),
                 }
             }
-            Step::Take => self.record_take(caller, position, payload),
+            Step::Take => self.record_take(position, payload),
             Step::Answer { h, n, verdict } => {
-                self.record_answer(h, n, verdict, caller, position, payload)
+                self.record_answer(h, n, verdict, position, payload)
             }
-            _ => self.record_plain(step, caller, position, payload),
+            _ => self.record_plain(step, position, payload),
         }
     }
 
     /// The oldest result goes out to its callback.
     fn record_take(
         &mut self,
-        caller: u32,
         position: &mut Position<L>,
         payload: Option<P>,
     ) -> Result<(Receipt<L>, Stepped<P>), NotRecorded<Step, Option<P>>>
-        ensures receipt { IfOk result (λ r. r.0 ≡ next_receipt self.old Take caller r.1.entry) }
+        ensures receipt { IfOk result (λ r. r.0 ≡ next_receipt self.old Take position.old.number r.1.entry) }
         ensures journal { IfOk result (λ r. self.new.journal ≡ self.old.journal ++ r.0.entry ∷ []) }
         ensures entry { IfOk result (λ r. r.1.entry ≡ next_entry self.old.setup self.old.journal Take) }
         ensures position { IfOk result (λ r. IsMoved position.old r.0 position.new) }
+        ensures saw { IfOk result (λ r. Sees position.old self.old.journal position.new self.new.journal) }
+        ensures library { self.old.setup ≡ L.setup }
         ensures rest { (self.new.setup ≡ self.old.setup) × (self.new.moment ≡ self.old.moment) }
         ensures out { IfOk result (λ r. r.1.out ≡ first_payload self.old.core) }
         ensures back { IfOk result (λ r. r.1.back ≡ payload) }
@@ -100,7 +102,7 @@ impl<L: Naming, P: Drop, D: Device, J: Recorder> Book<L, P, D, J> {
         ensures goes_out { IfOk result (λ r. (kept : Kept P) → Carries kept self.old.core → GoesOut kept r.1.out r.1.entry.reply) }
         ensures err { IfErr result (λ x. (x.given ≡ Take) × (x.payload ≡ payload) × IsSame self.old self.new × (position.new ≡ position.old)) }
     {
-        match self.take(caller, position) {
+        match self.take(position) {
             Ok((receipt, taken)) => Ok((receipt, called(taken, payload))),
             Err(_) => Err(NotRecorded {
                 given: Step::Take,
@@ -115,15 +117,16 @@ impl<L: Naming, P: Drop, D: Device, J: Recorder> Book<L, P, D, J> {
         h: Name,
         n: u64,
         verdict: Verdict,
-        caller: u32,
         position: &mut Position<L>,
         payload: Option<P>,
     ) -> Result<(Receipt<L>, Stepped<P>), NotRecorded<Step, Option<P>>>
         requires { takes_payload (Answer h n verdict) ≡ true → is_some payload ≡ true }
-        ensures receipt { IfOk result (λ r. r.0 ≡ next_receipt self.old (Answer h n verdict) caller r.1.entry) }
+        ensures receipt { IfOk result (λ r. r.0 ≡ next_receipt self.old (Answer h n verdict) position.old.number r.1.entry) }
         ensures journal { IfOk result (λ r. self.new.journal ≡ self.old.journal ++ r.0.entry ∷ []) }
         ensures entry { IfOk result (λ r. r.1.entry ≡ next_entry self.old.setup self.old.journal (Answer h n verdict)) }
         ensures position { IfOk result (λ r. IsMoved position.old r.0 position.new) }
+        ensures saw { IfOk result (λ r. Sees position.old self.old.journal position.new self.new.journal) }
+        ensures library { self.old.setup ≡ L.setup }
         ensures rest { (self.new.setup ≡ self.old.setup) × (self.new.moment ≡ self.old.moment) }
         ensures out { IfOk result (λ r. r.1.out ≡ None) }
         ensures back { IfOk result (λ r. r.1.back ≡ left_over (takes_payload (Answer h n verdict)) r.1.entry.reply payload) }
@@ -137,7 +140,6 @@ impl<L: Naming, P: Drop, D: Device, J: Recorder> Book<L, P, D, J> {
                     n,
                     verdict: Verdict::Stop,
                 },
-                caller,
                 position,
                 payload,
             ),
@@ -145,7 +147,7 @@ impl<L: Naming, P: Drop, D: Device, J: Recorder> Book<L, P, D, J> {
                 let Some(payload) = payload else {
                     unreachable!()
                 };
-                match self.again(h, n, payload, caller, position) {
+                match self.again(h, n, payload, position) {
                     Ok((receipt, answer)) => Ok((receipt, answered(h, answer))),
                     Err(NotRecorded { payload, .. }) => Err(NotRecorded {
                         given: Step::Answer {
@@ -161,7 +163,7 @@ impl<L: Naming, P: Drop, D: Device, J: Recorder> Book<L, P, D, J> {
                 let Some(payload) = payload else {
                     unreachable!()
                 };
-                match self.again_with(h, n, bytes, payload, caller, position) {
+                match self.again_with(h, n, bytes, payload, position) {
                     Ok((receipt, answer)) => Ok((receipt, answered(h, answer))),
                     Err(NotRecorded { given, payload }) => Err(NotRecorded {
                         given: Step::Answer {
@@ -180,15 +182,16 @@ impl<L: Naming, P: Drop, D: Device, J: Recorder> Book<L, P, D, J> {
     fn record_plain(
         &mut self,
         step: Step,
-        caller: u32,
         position: &mut Position<L>,
         payload: Option<P>,
     ) -> Result<(Receipt<L>, Stepped<P>), NotRecorded<Step, Option<P>>>
         requires { takes_memory step ≡ false }
-        ensures receipt { IfOk result (λ r. r.0 ≡ next_receipt self.old step caller r.1.entry) }
+        ensures receipt { IfOk result (λ r. r.0 ≡ next_receipt self.old step position.old.number r.1.entry) }
         ensures journal { IfOk result (λ r. self.new.journal ≡ self.old.journal ++ r.0.entry ∷ []) }
         ensures entry { IfOk result (λ r. r.1.entry ≡ next_entry self.old.setup self.old.journal step) }
         ensures position { IfOk result (λ r. IsMoved position.old r.0 position.new) }
+        ensures saw { IfOk result (λ r. Sees position.old self.old.journal position.new self.new.journal) }
+        ensures library { self.old.setup ≡ L.setup }
         ensures rest { (self.new.setup ≡ self.old.setup) × (self.new.moment ≡ self.old.moment) }
         ensures out { IfOk result (λ r. r.1.out ≡ handed_out self.old.core step) }
         ensures back { IfOk result (λ r. r.1.back ≡ left_over (takes_payload step) r.1.entry.reply payload) }
@@ -196,6 +199,7 @@ impl<L: Naming, P: Drop, D: Device, J: Recorder> Book<L, P, D, J> {
         ensures goes_out { IfOk result (λ r. (kept : Kept P) → Carries kept self.old.core → GoesOut kept r.1.out r.1.entry.reply) }
         ensures err { IfErr result (λ x. (x.given ≡ step) × (x.payload ≡ payload) × IsSame self.old self.new × (position.new ≡ position.old)) }
     {
+        let caller = position.number();
         let Book {
             core,
             moment,

@@ -5,7 +5,7 @@ ghost use Rattle.usb_model.specs.declared.step.Step.TheVariants.{Take};
 ghost use Rattle.usb_core.specs.Steps.{first_payload};
 ghost use Rattle.usb_core.specs.Public.{Carries, CarriesOut, Kept, called_entry};
 ghost use Rattle.usb_journal.specs.Records.{bytes_in};
-ghost use Rattle.usb_journal.specs.Booked.{IsMoved, IsSame, next_entry, next_receipt};
+ghost use Rattle.usb_journal.specs.Booked.{IsMoved, IsSame, Sees, next_entry, next_receipt};
 
 use crate::book::Book;
 use crate::log::Log;
@@ -25,18 +25,20 @@ impl<L: Naming, P, D: Device, J: Recorder> Book<L, P, D, J> {
     #[inline(always)]
     pub fn take(
         &mut self,
-        caller: u32,
         position: &mut Position<L>,
     ) -> Result<(Receipt<L>, Option<Taken<P>>), AllocError>
-        ensures receipt { IfOk result (λ r. r.0 ≡ next_receipt self.old Take caller (called_entry (option_map (λ t. t.returned) r.1))) }
+        ensures receipt { IfOk result (λ r. r.0 ≡ next_receipt self.old Take position.old.number (called_entry (option_map (λ t. t.returned) r.1))) }
         ensures journal { IfOk result (λ r. self.new.journal ≡ self.old.journal ++ r.0.entry ∷ []) }
         ensures entry { IfOk result (λ r. called_entry (option_map (λ t. t.returned) r.1) ≡ next_entry self.old.setup self.old.journal Take) }
         ensures position { IfOk result (λ r. IsMoved position.old r.0 position.new) }
+        ensures saw { IfOk result (λ r. Sees position.old self.old.journal position.new self.new.journal) }
+        ensures library { self.old.setup ≡ L.setup }
         ensures rest { (self.new.setup ≡ self.old.setup) × (self.new.moment ≡ self.old.moment) }
         ensures payload { IfOk result (λ r. option_map (λ t. t.payload) r.1 ≡ first_payload self.old.core) }
         ensures carries { IfOk result (λ r. (kept : Kept P) → Carries kept self.old.core → CarriesOut kept r.1 × Carries kept self.new.core) }
         ensures err { OnErr result (IsSame self.old self.new × (position.new ≡ position.old)) }
     {
+        let caller = position.number();
         let Book {
             core,
             moment,
@@ -60,12 +62,14 @@ fn enter<L: Naming, P, J: Recorder>(
     moment: u64,
     taken: Option<Taken<P>>,
 ) -> (Receipt<L>, Option<Taken<P>>)
+    requires bearer { caller ≡ position.old.number }
     requires count { length log.old.journal + 1 < 2 ^ 64 }
     requires room { (places : ℕ) × (bytes : ℕ) × J.has_room log.old.recorder places bytes × (1 ≤ places) × (bytes_in (called_entry (option_map (λ t. t.returned) taken)).reply ≤ bytes) }
     ensures receipt { result.0 ≡ record { place = length log.old.journal; entry = record { step = Take; caller = caller; entry = called_entry (option_map (λ t. t.returned) taken); moment = moment } } }
     ensures taken { result.1 ≡ taken }
     ensures journal { log.new.journal ≡ log.old.journal ++ result.0.entry ∷ [] }
     ensures position { IsMoved position.old result.0 position.new }
+    ensures saw { Sees position.old log.old.journal position.new log.new.journal }
 {
     let Some(Taken { returned, payload }) = taken else {
         let entry = Entry {

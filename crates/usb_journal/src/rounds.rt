@@ -4,7 +4,7 @@ ghost use Rattle.std.specs.Prelude.{◌≡◌, ◌++◌, ◌∷◌, [], IfOk, On
 ghost use Rattle.usb_model.specs.declared.step.Step.TheVariants.{Answer, Deliver, Serve};
 ghost use Rattle.usb_model.specs.declared.verdict.Verdict.TheVariants.{Stop};
 ghost use Rattle.usb_core.specs.Public.{StillCarries};
-ghost use Rattle.usb_journal.specs.Booked.{IsMoved, IsSame, next_entry, next_receipt};
+ghost use Rattle.usb_journal.specs.Booked.{IsMoved, IsSame, Sees, next_entry, next_receipt};
 
 use crate::book::Book;
 use crate::naming::Naming;
@@ -23,17 +23,19 @@ impl<L: Naming, P, D: Device, J: Recorder> Book<L, P, D, J> {
         &mut self,
         dev: DeviceNo,
         ep: EpAddr,
-        caller: u32,
         position: &mut Position<L>,
     ) -> Result<(Receipt<L>, Entry), AllocError>
-        ensures receipt { IfOk result (λ r. r.0 ≡ next_receipt self.old (Serve dev ep) caller r.1) }
+        ensures receipt { IfOk result (λ r. r.0 ≡ next_receipt self.old (Serve dev ep) position.old.number r.1) }
         ensures journal { IfOk result (λ r. self.new.journal ≡ self.old.journal ++ r.0.entry ∷ []) }
         ensures entry { IfOk result (λ r. r.1 ≡ next_entry self.old.setup self.old.journal (Serve dev ep)) }
         ensures position { IfOk result (λ r. IsMoved position.old r.0 position.new) }
+        ensures saw { IfOk result (λ r. Sees position.old self.old.journal position.new self.new.journal) }
+        ensures library { self.old.setup ≡ L.setup }
         ensures rest { (self.new.setup ≡ self.old.setup) × (self.new.moment ≡ self.old.moment) }
         ensures carries { StillCarries self.old.core self.new.core }
         ensures err { OnErr result (IsSame self.old self.new × (position.new ≡ position.old)) }
     {
+        let caller = position.number();
         let Book {
             core,
             moment,
@@ -48,19 +50,18 @@ impl<L: Naming, P, D: Device, J: Recorder> Book<L, P, D, J> {
 
     /// The oldest event is handled (xHCI 1.2, 4.11.3), at the next place of the journal. Where memory is wanting nothing
     /// changed.
-    pub fn deliver(
-        &mut self,
-        caller: u32,
-        position: &mut Position<L>,
-    ) -> Result<(Receipt<L>, Entry), AllocError>
-        ensures receipt { IfOk result (λ r. r.0 ≡ next_receipt self.old Deliver caller r.1) }
+    pub fn deliver(&mut self, position: &mut Position<L>) -> Result<(Receipt<L>, Entry), AllocError>
+        ensures receipt { IfOk result (λ r. r.0 ≡ next_receipt self.old Deliver position.old.number r.1) }
         ensures journal { IfOk result (λ r. self.new.journal ≡ self.old.journal ++ r.0.entry ∷ []) }
         ensures entry { IfOk result (λ r. r.1 ≡ next_entry self.old.setup self.old.journal Deliver) }
         ensures position { IfOk result (λ r. IsMoved position.old r.0 position.new) }
+        ensures saw { IfOk result (λ r. Sees position.old self.old.journal position.new self.new.journal) }
+        ensures library { self.old.setup ≡ L.setup }
         ensures rest { (self.new.setup ≡ self.old.setup) × (self.new.moment ≡ self.old.moment) }
         ensures carries { StillCarries self.old.core self.new.core }
         ensures err { OnErr result (IsSame self.old self.new × (position.new ≡ position.old)) }
     {
+        let caller = position.number();
         let Book {
             core,
             moment,
@@ -79,17 +80,19 @@ impl<L: Naming, P, D: Device, J: Recorder> Book<L, P, D, J> {
         &mut self,
         h: Name,
         n: u64,
-        caller: u32,
         position: &mut Position<L>,
     ) -> Result<(Receipt<L>, Entry), AllocError>
-        ensures receipt { IfOk result (λ r. r.0 ≡ next_receipt self.old (Answer h n Stop) caller r.1) }
+        ensures receipt { IfOk result (λ r. r.0 ≡ next_receipt self.old (Answer h n Stop) position.old.number r.1) }
         ensures journal { IfOk result (λ r. self.new.journal ≡ self.old.journal ++ r.0.entry ∷ []) }
         ensures entry { IfOk result (λ r. r.1 ≡ next_entry self.old.setup self.old.journal (Answer h n Stop)) }
         ensures position { IfOk result (λ r. IsMoved position.old r.0 position.new) }
+        ensures saw { IfOk result (λ r. Sees position.old self.old.journal position.new self.new.journal) }
+        ensures library { self.old.setup ≡ L.setup }
         ensures rest { (self.new.setup ≡ self.old.setup) × (self.new.moment ≡ self.old.moment) }
         ensures carries { StillCarries self.old.core self.new.core }
         ensures err { OnErr result (IsSame self.old self.new × (position.new ≡ position.old)) }
     {
+        let caller = position.number();
         let Book {
             core,
             moment,

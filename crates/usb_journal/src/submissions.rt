@@ -5,7 +5,7 @@ ghost use Rattle.usb_model.specs.declared.step.Step.TheVariants.{Answer, Submit}
 ghost use Rattle.usb_model.specs.declared.verdict.Verdict.TheVariants.{Again, AgainWith};
 ghost use Rattle.usb_core.specs.Public.{CarriesMore, StillCarries};
 ghost use Rattle.usb_journal.specs.Records.{bytes_in};
-ghost use Rattle.usb_journal.specs.Booked.{IsMoved, IsSame, answer_entry, new_bytes_in, next_entry, next_receipt, request_in, unless_no_memory};
+ghost use Rattle.usb_journal.specs.Booked.{IsMoved, IsSame, Sees, answer_entry, new_bytes_in, next_entry, next_receipt, request_in, unless_no_memory};
 
 use crate::book::Book;
 use crate::log::Log;
@@ -30,19 +30,21 @@ impl<L: Naming, P, D: Device, J: Recorder> Book<L, P, D, J> {
         h: Name,
         request: Request,
         payload: P,
-        caller: u32,
         position: &mut Position<L>,
     ) -> Result<(Receipt<L>, Result<u64, Unaccepted<Request, P>>), NotRecorded<Request, P>>
-        ensures receipt { IfOk result (λ r. r.0 ≡ next_receipt self.old (Submit h request) caller (answer_entry h r.1)) }
+        ensures receipt { IfOk result (λ r. r.0 ≡ next_receipt self.old (Submit h request) position.old.number (answer_entry h r.1)) }
         ensures journal { IfOk result (λ r. self.new.journal ≡ self.old.journal ++ r.0.entry ∷ []) }
         ensures entry { IfOk result (λ r. answer_entry h r.1 ≡ next_entry self.old.setup self.old.journal (Submit h request)) }
         ensures position { IfOk result (λ r. IsMoved position.old r.0 position.new) }
+        ensures saw { IfOk result (λ r. Sees position.old self.old.journal position.new self.new.journal) }
+        ensures library { self.old.setup ≡ L.setup }
         ensures rest { (self.new.setup ≡ self.old.setup) × (self.new.moment ≡ self.old.moment) }
         ensures back { IfOk result (λ r. IfErr r.1 (λ x. (x.given ≡ request) × (x.payload ≡ payload))) }
         ensures carries { IfOk result (λ r. IfOk r.1 (λ n. CarriesMore h n payload self.old.core self.new.core)) }
         ensures still { IfOk result (λ r. OnErr r.1 (StillCarries self.old.core self.new.core)) }
         ensures err { IfErr result (λ x. (x.given ≡ request) × (x.payload ≡ payload) × IsSame self.old self.new × (position.new ≡ position.old)) }
     {
+        let caller = position.number();
         let Book {
             core,
             moment,
@@ -80,19 +82,21 @@ impl<L: Naming, P, D: Device, J: Recorder> Book<L, P, D, J> {
         h: Name,
         n: u64,
         payload: P,
-        caller: u32,
         position: &mut Position<L>,
     ) -> Result<(Receipt<L>, Result<u64, Unaccepted<(), P>>), NotRecorded<(), P>>
-        ensures receipt { IfOk result (λ r. r.0 ≡ next_receipt self.old (Answer h n Again) caller (answer_entry h r.1)) }
+        ensures receipt { IfOk result (λ r. r.0 ≡ next_receipt self.old (Answer h n Again) position.old.number (answer_entry h r.1)) }
         ensures journal { IfOk result (λ r. self.new.journal ≡ self.old.journal ++ r.0.entry ∷ []) }
         ensures entry { IfOk result (λ r. answer_entry h r.1 ≡ next_entry self.old.setup self.old.journal (Answer h n Again)) }
         ensures position { IfOk result (λ r. IsMoved position.old r.0 position.new) }
+        ensures saw { IfOk result (λ r. Sees position.old self.old.journal position.new self.new.journal) }
+        ensures library { self.old.setup ≡ L.setup }
         ensures rest { (self.new.setup ≡ self.old.setup) × (self.new.moment ≡ self.old.moment) }
         ensures back { IfOk result (λ r. IfErr r.1 (λ x. x.payload ≡ payload)) }
         ensures carries { IfOk result (λ r. IfOk r.1 (λ k. CarriesMore h k payload self.old.core self.new.core)) }
         ensures still { IfOk result (λ r. OnErr r.1 (StillCarries self.old.core self.new.core)) }
         ensures err { IfErr result (λ x. (x.payload ≡ payload) × IsSame self.old self.new × (position.new ≡ position.old)) }
     {
+        let caller = position.number();
         let Book {
             core,
             moment,
@@ -125,19 +129,21 @@ impl<L: Naming, P, D: Device, J: Recorder> Book<L, P, D, J> {
         n: u64,
         bytes: Bytes,
         payload: P,
-        caller: u32,
         position: &mut Position<L>,
     ) -> Result<(Receipt<L>, Result<u64, Unaccepted<Bytes, P>>), NotRecorded<Bytes, P>>
-        ensures receipt { IfOk result (λ r. r.0 ≡ next_receipt self.old (Answer h n (AgainWith bytes)) caller (answer_entry h r.1)) }
+        ensures receipt { IfOk result (λ r. r.0 ≡ next_receipt self.old (Answer h n (AgainWith bytes)) position.old.number (answer_entry h r.1)) }
         ensures journal { IfOk result (λ r. self.new.journal ≡ self.old.journal ++ r.0.entry ∷ []) }
         ensures entry { IfOk result (λ r. answer_entry h r.1 ≡ next_entry self.old.setup self.old.journal (Answer h n (AgainWith bytes))) }
         ensures position { IfOk result (λ r. IsMoved position.old r.0 position.new) }
+        ensures saw { IfOk result (λ r. Sees position.old self.old.journal position.new self.new.journal) }
+        ensures library { self.old.setup ≡ L.setup }
         ensures rest { (self.new.setup ≡ self.old.setup) × (self.new.moment ≡ self.old.moment) }
         ensures back { IfOk result (λ r. IfErr r.1 (λ x. (x.given ≡ bytes) × (x.payload ≡ payload))) }
         ensures carries { IfOk result (λ r. IfOk r.1 (λ k. CarriesMore h k payload self.old.core self.new.core)) }
         ensures still { IfOk result (λ r. OnErr r.1 (StillCarries self.old.core self.new.core)) }
         ensures err { IfErr result (λ x. (x.given ≡ bytes) × (x.payload ≡ payload) × IsSame self.old self.new × (position.new ≡ position.old)) }
     {
+        let caller = position.number();
         let Book {
             core,
             moment,
@@ -198,12 +204,14 @@ pub(crate) fn enter<L: Naming, J: Recorder>(
     entry: &Entry,
     moment: u64,
 ) -> Receipt<L>
+    requires bearer { caller ≡ position.old.number }
     requires room { (length log.old.journal + 1 < 2 ^ 64) × J.has_room log.old.recorder 1 0 }
     requires draft { J.is_draft log.old.recorder draft asked.value }
     requires bytes { bytes_in entry.now.reply ≡ 0 }
     ensures receipt { result ≡ record { place = length log.old.journal; entry = record { step = asked.value; caller = caller; entry = entry.now; moment = moment } } }
     ensures journal { log.new.journal ≡ log.old.journal ++ result.entry ∷ [] }
     ensures position { IsMoved position.old result position.new }
+    ensures saw { Sees position.old log.old.journal position.new log.new.journal }
 {
     let told = PlaceImage::new(asked, caller, entry, moment);
     log.enter_drafted(position, draft, told, entry)
@@ -221,11 +229,13 @@ fn enter_answer<L: Naming, J: Recorder, G, P>(
     answer: &Result<u64, Unaccepted<G, P>>,
     moment: u64,
 ) -> Receipt<L>
+    requires bearer { caller ≡ position.old.number }
     requires room { (length log.old.journal + 1 < 2 ^ 64) × J.has_room log.old.recorder 1 0 }
     requires draft { J.is_draft log.old.recorder draft asked.value }
     ensures receipt { result ≡ record { place = length log.old.journal; entry = record { step = asked.value; caller = caller; entry = answer_entry h answer.now; moment = moment } } }
     ensures journal { log.new.journal ≡ log.old.journal ++ result.entry ∷ [] }
     ensures position { IsMoved position.old result position.new }
+    ensures saw { Sees position.old log.old.journal position.new log.new.journal }
 {
     let entry = answer_entry(h, answer);
     enter(log, position, draft, asked, caller, &entry, moment)

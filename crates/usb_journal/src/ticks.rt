@@ -6,7 +6,7 @@ ghost use Rattle.usb_model.specs.Setup.{Setup as IsSetup};
 ghost use Rattle.usb_model.specs.World.{World};
 ghost use Rattle.usb_model.specs.World.Due.{due};
 ghost use Rattle.usb_core.specs.Public.{ShowsWorld, StillCarries};
-ghost use Rattle.usb_journal.specs.Booked.{AreMoved, IsSame, Replays, asked, asks, dated};
+ghost use Rattle.usb_journal.specs.Booked.{IsSame, Replays, Sees, asked, asks, dated};
 ghost use Rattle.usb_journal.specs.Seen.{receipts_from};
 ghost use Rattle.usb_journal.specs.Timers.{by_name, expires, is_over, timers_of};
 
@@ -28,25 +28,27 @@ impl<L: Naming, P, D: Device, J: Recorder> Book<L, P, D, J> {
     /// places. Where memory is wanting nothing changed.
     pub fn tick(
         &mut self,
-        caller: u32,
         position: &mut Position<L>,
         now: u64,
     ) -> Result<Vec<Receipt<L>>, AllocError>
         ensures receipts { IfOk result (λ rs. rs.items ≡ receipts_from (length self.old.journal) (drop (length self.old.journal) self.new.journal)) }
         ensures begins { take (length self.old.journal) self.new.journal ≡ self.old.journal }
         ensures moment { OnOk result (self.new.moment ≡ max self.old.moment now) }
-        ensures steps { OnOk result (map asked (drop (length self.old.journal) self.new.journal) ≡ asks caller (max self.old.moment now) (due self.old.setup (dated self.old.journal) (max self.old.moment now))) }
+        ensures steps { OnOk result (map asked (drop (length self.old.journal) self.new.journal) ≡ asks position.old.number (max self.old.moment now) (due self.old.setup (dated self.old.journal) (max self.old.moment now))) }
         ensures own { OnOk result (position.new.own ≡ position.old.own ++ drop (length self.old.journal) self.new.journal) }
-        ensures position { IfOk result (λ rs. AreMoved position.old.position rs.items position.new.position) }
+        ensures number { OnOk result (position.new.number ≡ position.old.number) }
+        ensures saw { OnOk result (Sees position.old self.old.journal position.new self.new.journal) }
         ensures setup { self.new.setup ≡ self.old.setup }
         ensures library { self.old.setup ≡ L.setup }
         ensures carries { StillCarries self.old.core self.new.core }
         ensures err { OnErr result (IsSame self.old self.new × (position.new ≡ position.old)) }
     {
+        let caller = position.number();
         let later = self.moment.max(now);
         let due = due_now(self.alloc, &self.core, &self.timers, later)?;
         let mut receipts = Vec::with_capacity(self.alloc, due.len())?;
         self.log.reserve(due.len(), 0)?;
+        self.log.look(position);
         self.moment = later;
         let Book { core, log, .. } = self;
         expire_all(core, log, position, caller, later, &due, &mut receipts);
@@ -143,6 +145,8 @@ fn expire_all<L: Naming, P, D: Device, J: Recorder>(
     due: &[Timer],
     receipts: &mut Vec<Receipt<L>>,
 )
+    requires bearer { caller ≡ position.old.number }
+    requires seen { position.old.seen ≡ log.old.journal }
     requires room { (length log.old.journal + length due.now < 2 ^ 64) × J.has_room log.old.recorder (length due.now) 0 }
     requires run { Replays L.setup log.old.journal core.old }
     requires receipts { (receipts.old.items ≡ []) × (vec_len receipts.old ≡ 0) × (length due.now ≤ vec_capacity receipts.old) }
@@ -151,8 +155,9 @@ fn expire_all<L: Naming, P, D: Device, J: Recorder>(
     ensures begins { take (length log.old.journal) log.new.journal ≡ log.old.journal }
     ensures steps { map asked (drop (length log.old.journal) log.new.journal) ≡ asks caller moment (expires due.now) }
     ensures own { position.new.own ≡ position.old.own ++ drop (length log.old.journal) log.new.journal }
+    ensures number { position.new.number ≡ position.old.number }
+    ensures seen { position.new.seen ≡ log.new.journal }
     ensures receipts { receipts.new.items ≡ receipts_from (length log.old.journal) (drop (length log.old.journal) log.new.journal) }
-    ensures position { AreMoved position.old.position receipts.new.items position.new.position }
     ensures carries { StillCarries core.old core.new }
 {
     for timer in due {

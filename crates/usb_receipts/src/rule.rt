@@ -1,5 +1,6 @@
 //! The rule of a log: what its tokens know, and what each step tells them.
 
+use crate::borne::Borne;
 use crate::image::Image;
 use atomic_table::{Join, Play, Seat, Split, Table, TableRule};
 use std::alloc::Global;
@@ -13,21 +14,22 @@ pub struct Known<E> {
     pub home: bool,
     /// The list, where it does.
     pub entries: LinkedList<E>,
+    /// The number that the next bearer is given, where it does.
+    pub next: u64,
     /// Places, each with what stands there.
     pub claims: LinkedList<(u64, E)>,
-    /// So many places stand, or more.
-    pub position: u64,
-    /// What was appended for its bearer, in order.
-    pub own: LinkedList<E>,
+    /// Numbers of bearers, each with the beginning of the list that was seen for it last.
+    pub positions: LinkedList<(u64, LinkedList<E>)>,
 }
 
-/// There is one list, which one token knows whole; what all others know of it is so, and no place is claimed twice.
+/// There is one list, which one token knows whole; what all others know of it is so, no place is claimed twice, and no number is
+/// given twice.
 pub struct LogRule;
 
-impl<E> TableRule<Slot<E>, Known<E>, LogRule> for LogRule {
+impl<E: Borne> TableRule<Slot<E>, Known<E>, LogRule> for LogRule {
     ghost use Rattle.usb_receipts.specs.Rule.{Kept, opener};
 
-    ghost holds = { λ _. Kept };
+    ghost holds = { λ _. Kept E.bearer };
 
     ghost first = { λ _. opener };
 }
@@ -41,7 +43,7 @@ impl<E> Play<Slot<E>, Known<E>> for TakesSlot {
     ghost then = { Slotted };
 }
 
-/// The entry that the slot says is put behind the list, with a claim to its place.
+/// The entry that the slot says is put behind the list, with a claim to its place; the positions stand behind it.
 pub struct Appends;
 
 impl<E> Play<Slot<E>, Known<E>> for Appends {
@@ -50,13 +52,13 @@ impl<E> Play<Slot<E>, Known<E>> for Appends {
     ghost then = { Appended };
 }
 
-/// What is known is compared with the list.
+/// What is known is compared with the list, and the positions stand at its end.
 pub struct Checks;
 
-impl<E> Play<Slot<E>, Known<E>> for Checks {
+impl<E: Borne> Play<Slot<E>, Known<E>> for Checks {
     ghost use Rattle.usb_receipts.specs.Rule.{Seen};
 
-    ghost then = { Seen };
+    ghost then = { Seen E.bearer };
 }
 
 /// The claims go to a token of their own.
@@ -68,19 +70,31 @@ impl<E> Split<Known<E>> for CutsClaims {
 
     ghost left = { cut };
 
-    ghost right = { λ v. bearer v.claims 0 [] };
+    ghost right = { λ v. bearer v.claims [] };
 }
 
-/// A token is made with a position at the end, which gets the own entries.
-pub struct CutsPosition;
+/// The positions go to a token of their own.
+pub struct CutsPositions;
 
-impl<E> Split<Known<E>> for CutsPosition {
-    ghost use Rattle.std.specs.Prelude.{[], length};
+impl<E> Split<Known<E>> for CutsPositions {
+    ghost use Rattle.std.specs.Prelude.{[]};
     ghost use Rattle.usb_receipts.specs.Rule.{bare, bearer};
 
     ghost left = { bare };
 
-    ghost right = { λ v. bearer [] (length v.entries) v.own };
+    ghost right = { λ v. bearer [] v.positions };
+}
+
+/// A token is made with a number of its own, and a position at the end.
+pub struct GivesNumber;
+
+impl<E> Split<Known<E>> for GivesNumber {
+    ghost use Rattle.std.specs.Prelude.{[], ◌∷◌};
+    ghost use Rattle.usb_receipts.specs.Rule.{bearer, numbered};
+
+    ghost left = { numbered };
+
+    ghost right = { λ v. bearer [] ((v.next, v.entries) ∷ []) };
 }
 
 /// A token takes in what another knows.
@@ -92,7 +106,7 @@ impl<E> Join<Known<E>> for TakesIn {
 
     ghost both = { taken_in };
 
-    ghost spent = { bearer [] 0 [] };
+    ghost spent = { bearer [] [] };
 }
 
 /// What the keeper says before it appends: the entry. It has no bytes.

@@ -9,13 +9,13 @@ pub struct Keeper<E> {
     pub(crate) token: Token<E>,
 }
 
-/// Contracts see the log, the list, and the claims that were taken in.
+/// Contracts see the log, the list, the number that is given next, and the claims and positions that were taken in.
 impl<E> Model for Keeper<E> {
     ghost use Rattle.usb_receipts.specs.Tokens.{IsKeeper, Keeps};
 
     ghost Value = { Keeps E };
 
-    ghost view = { λ k. record { log = k.token.table_id; entries = k.token.me.0.entries; taken = k.token.me.0.claims } };
+    ghost view = { λ k. record { log = k.token.table_id; entries = k.token.me.0.entries; next = k.token.me.0.next; taken = k.token.me.0.claims; back = k.token.me.0.positions } };
 
     ghost invariant = { λ k. IsKeeper k.token.me };
 }
@@ -37,19 +37,20 @@ impl<E> Model for Claim<E> {
     ghost invariant = { λ c. IsClaim c.token.me };
 }
 
-/// A position: the list had so many places or more when it was last moved; and what was appended for its bearer.
+/// A position: the number of its bearer, which no other has, and the beginning of the list that was seen for it last. Nothing was
+/// entered for that number since.
 #[derive(Drop)]
 pub struct Position<E> {
     pub(crate) token: Token<E>,
 }
 
-/// Contracts see the log, how many places there were, and what was appended for its bearer, in order.
+/// Contracts see the log, and the number with what was seen as a list of one.
 impl<E> Model for Position<E> {
-    ghost use Rattle.usb_receipts.specs.Tokens.{IsPosition, Positioned};
+    ghost use Rattle.usb_receipts.specs.Tokens.{IsPosition, Positions};
 
-    ghost Value = { Positioned E };
+    ghost Value = { Positions E };
 
-    ghost view = { λ m. record { log = m.token.table_id; position = m.token.me.0.position; own = m.token.me.0.own } };
+    ghost view = { λ m. record { log = m.token.table_id; positions = m.token.me.0.positions } };
 
     ghost invariant = { λ m. IsPosition m.token.me };
 }

@@ -2,10 +2,10 @@ use Rattle.std.proofs.Common.{◌≡◌, ◌∙◌, ◌+◌, ◌-◌, ◌<◌, �
 use Rattle.std.proofs.lemmas.List.{length_push, map-append, take-append-le}
 use Rattle.usb_model.specs.declared.step.Step.TheVariants.{Expire}
 use Rattle.usb_journal.specs.declared.place.Place.{Place}
-use Rattle.usb_journal.specs.Booked.{AreMoved, asked, Asked}
+use Rattle.usb_journal.specs.Booked.{asked, Asked}
 use Rattle.usb_journal.specs.Seen.{Receipted}
 use Rattle.usb_journal.proofs.Replies.{no_bytes_of}
-use Rattle.usb_journal.proofs.Receipts.{drop_push, moved_more, receipts_one}
+use Rattle.usb_journal.proofs.Receipts.{drop_push, receipts_one}
 use Rattle.usb_journal.proofs.Runs.{replays-push}
 use Rattle.usb_journal.proofs.Expiries.{asks_next, expire_timers}
 use Rattle.usb_journal.proofs.ticks.expire_all.Goals as goal
@@ -16,7 +16,7 @@ enter-receipt-requires g c =
     let count : length c.loop-timer.log.journal + 1 < 18446744073709551616 = omega (arith, at, c.requires.room.0, c.loop-timer.invariant.count) in
     let t = c.timer-item.result in
     let none = no_bytes_of g.L.Naming.setup c.loop-timer.log.journal c.loop-timer.core c.expire-reply.new.self (record { owner = Some t.h; reply = c.expire-reply.result }) (Expire t.h t.n) refl c.expire-reply.ensures.turned c.loop-timer.invariant.run in
-    record { count = count; step = refl; room = (length c.args.due.now - c.loop-timer.timer-index, 0, c.loop-timer.invariant.left, omega (arith, at), omega (arith, none)) }
+    record { count = count; step = refl; bearer = c.requires.bearer ∙ sym c.loop-timer.invariant.number; room = (length c.args.due.now - c.loop-timer.timer-index, 0, c.loop-timer.invariant.left, omega (arith, at), omega (arith, none)) }
 
 pub loop-timer-preserved : goal.loop-timer-preserved
 loop-timer-preserved g c =
@@ -40,7 +40,8 @@ loop-timer-preserved g c =
       begins = rw made (take-append-le first log (p ∷ []) counts ∙ i.begins);
       steps = rw made (ap (map asked) (drop_push first log p counts) ∙ (map-append asked (drop first log) (p ∷ []) ∙ (ap (λ (l : List Asked). l ++ asked p ∷ []) i.steps ∙ asks_next c.args.caller c.args.moment c.args.due.now c.loop-timer.timer-index t at c.timer-item.is)));
       own = rw made (e.position.2 ∙ (ap (λ (r : Receipted). c.loop-timer.position.own ++ r.entry ∷ []) e.receipt ∙ (ap (λ l. l ++ p ∷ []) i.own ∙ (append_assoc c.args.position.now.own (drop first log) (p ∷ []) ∙ ap (λ l. c.args.position.now.own ++ l) (sym (drop_push first log p counts))))));
+      number = e.position.3 ∙ i.number;
+      seen = e.saw.1;
       receipts = rw made (c.push_reserved.ensures.items ∙ (ap (λ r. c.loop-timer.receipts.items ++ r ∷ []) e.receipt ∙ (ap (λ l. l ++ at_place (length log) ∷ []) i.receipts ∙ sym (receipts_one first log p counts))));
-      moved = subst (λ rs. AreMoved c.args.position.now.position rs c.enter-receipt.new.position.position) (sym c.push_reserved.ensures.items) (moved_more c.args.position.now.position c.loop-timer.receipts.items c.loop-timer.position.position c.enter-receipt.result c.enter-receipt.new.position.position i.moved e.position.0 e.position.1);
       carries = λ kept has. c.expire-reply.ensures.carries kept (i.carries kept has);
     }

@@ -1,6 +1,6 @@
 use Rattle.std.proofs.Common.{◌≡◌, ◌+◌, ◌-◌, ◌++◌, take, drop, map, length, vec_len, vec_capacity}
 use Rattle.usb_core.specs.Public.{StillCarries}
-use Rattle.usb_journal.specs.Booked.{AreMoved, Replays, asked, asks}
+use Rattle.usb_journal.specs.Booked.{Replays, asked, asks}
 use Rattle.usb_journal.specs.Seen.{receipts_from}
 use Rattle.usb_journal.specs.Timers.{expires, timers_of}
 use Rattle.usb_journal.proofs.ticks.expire_all.Given as goal
@@ -15,7 +15,8 @@ invariant-loop-timer g l = record {
   begins : take (length l.initial.log.journal) l.log.journal ≡ l.initial.log.journal;
   steps : map asked (drop (length l.initial.log.journal) l.log.journal) ≡ asks l.fn.caller l.fn.moment (expires (take l.timer-index l.fn.due));
   own : l.position.own ≡ l.initial.position.own ++ drop (length l.initial.log.journal) l.log.journal;
+  number : l.position.number ≡ l.initial.position.number;
+  seen : l.position.seen ≡ l.log.journal;
   receipts : l.receipts.items ≡ receipts_from (length l.initial.log.journal) (drop (length l.initial.log.journal) l.log.journal);
-  moved : AreMoved l.initial.position.position l.receipts.items l.position.position;
   carries : StillCarries l.initial.core l.core;
 }

@@ -29,11 +29,11 @@ invariant_of-self-2 g c =
     let same : c.args.bytes ≡ c.in-Some.bytes = same_Some _ _ (sym c.new_bytes_in.ensures ∙ c.in-Some.is) in
     let a = c.in-Ok-unless_no_memory.answer in
     let step : Step = Answer c.args.h c.args.n (AgainWith c.in-Some.bytes) in
-    let p : Place = record { step = step; caller = c.args.caller; entry = answer_entry c.args.h a; moment = c.self.inside.moment } in
+    let p : Place = record { step = step; caller = c.number-caller.result; entry = answer_entry c.args.h a; moment = c.self.inside.moment } in
     let turn = answer_turns c.self.inside.core c.again_with.new.self step c.args.h c.again_with.result a (sym c.unless_no_memory.ensures ∙ c.in-Ok-unless_no_memory.is) c.again_with.ensures.accepted c.again_with.ensures.refused in
     entered g.L.Naming.setup c.self.inside.log.journal c.prepare-prepared.new.log.journal c.self.inside.core c.again_with.new.self c.enter_answer-receipt.new.log.journal c.self.inside.timers.items c.start_again_if.new.timers.items p c.enter_answer-receipt.result (length c.prepare-prepared.new.log.journal)
     c.prepare-prepared.ensures.same c.enter_answer-receipt.ensures.journal
-    (c.enter_answer-receipt.ensures.receipt ∙ ap (λ (x : Place). record { place = length c.prepare-prepared.new.log.journal; entry = x }) (same_place _ step c.args.caller _ _ c.self.inside.moment (c.of-asked.ensures ∙ ap (λ (b : List ℕ). Answer c.args.h c.args.n (AgainWith b)) same) refl))
+    (c.enter_answer-receipt.ensures.receipt ∙ ap (λ (x : Place). record { place = length c.prepare-prepared.new.log.journal; entry = x }) (same_place _ step c.number-caller.result _ _ c.self.inside.moment (c.of-asked.ensures ∙ ap (λ (b : List ℕ). Answer c.args.h c.args.n (AgainWith b)) same) refl))
     turn
     (c.start_again_if.ensures ∙ (ap (started_again_if c.args.h c.args.n c.self.inside.moment a) c.prepare-prepared.ensures.timers ∙ again_with_timers c.args.h c.args.n c.in-Some.bytes c.self.inside.moment a c.self.inside.timers.items))
     c.self.invariant

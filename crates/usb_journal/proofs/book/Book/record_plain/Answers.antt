@@ -14,10 +14,10 @@ enter-receipt-requires-clause-bytes g c = no_bytes_of g.L.Naming.setup c.self.in
 pub invariant_of-self-2 : goal.invariant_of-self-2
 invariant_of-self-2 g c =
     let entry = c.in-Ok-step.stepped.entry in
-    let p : Place = record { step = c.args.step; caller = c.args.caller; entry = entry; moment = c.self.inside.moment } in
+    let p : Place = record { step = c.args.step; caller = c.number-caller.result; entry = entry; moment = c.self.inside.moment } in
     entered g.L.Naming.setup c.self.inside.log.journal c.prepare.new.self.journal c.self.inside.core c.step.new.self c.enter-receipt.new.log.journal c.self.inside.timers.items c.stop_if.new.timers.items p c.enter-receipt.result (length c.prepare.new.self.journal)
     c.prepare.ensures.same c.enter-receipt.ensures.journal
-    (c.enter-receipt.ensures.receipt ∙ ap (λ (s : Step). record { place = length c.prepare.new.self.journal; entry = record { step = s; caller = c.args.caller; entry = entry; moment = c.self.inside.moment } }) c.of-asked.ensures)
+    (c.enter-receipt.ensures.receipt ∙ ap (λ (s : Step). record { place = length c.prepare.new.self.journal; entry = record { step = s; caller = c.number-caller.result; entry = entry; moment = c.self.inside.moment } }) c.of-asked.ensures)
     c.in-Ok-step.ensures.turned
     (c.stop_if.ensures ∙ (ap (λ o. stopped_if o entry.reply c.self.inside.timers.items) c.ending-ending.ensures ∙ plain_timers c.self.inside.timers.items c.args.step entry.reply c.self.inside.moment c.requires))
     c.self.invariant

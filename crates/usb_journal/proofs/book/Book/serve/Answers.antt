@@ -17,7 +17,7 @@ pub invariant_of-self-2 : goal.invariant_of-self-2
 invariant_of-self-2 g c =
     let entry : Entry = c.serve-entry.result in
     let step : Step = Serve c.args.dev c.args.ep in
-    let p : Place = record { step = step; caller = c.args.caller; entry = entry; moment = c.self.inside.moment } in
+    let p : Place = record { step = step; caller = c.number-caller.result; entry = entry; moment = c.self.inside.moment } in
     entered g.L.Naming.setup c.self.inside.log.journal c.reserve.new.self.journal c.self.inside.core c.serve-entry.new.self c.enter-receipt.new.self.journal c.self.inside.timers.items c.self.inside.timers.items p c.enter-receipt.result (length c.reserve.new.self.journal)
     c.reserve.ensures.same c.enter-receipt.ensures.journal c.enter-receipt.ensures.receipt c.serve-entry.ensures.turned
     (plain_timers c.self.inside.timers.items step entry.reply c.self.inside.moment refl)

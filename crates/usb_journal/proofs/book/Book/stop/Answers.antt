@@ -18,7 +18,7 @@ pub invariant_of-self-2 : goal.invariant_of-self-2
 invariant_of-self-2 g c =
     let entry : Entry = record { owner = Some c.args.h; reply = c.stop.result } in
     let step : Step = Answer c.args.h c.args.n Stop in
-    let p : Place = record { step = step; caller = c.args.caller; entry = entry; moment = c.self.inside.moment } in
+    let p : Place = record { step = step; caller = c.number-caller.result; entry = entry; moment = c.self.inside.moment } in
     entered g.L.Naming.setup c.self.inside.log.journal c.reserve.new.self.journal c.self.inside.core c.stop.new.self c.enter-receipt.new.self.journal c.self.inside.timers.items c.stop_if.new.timers.items p c.enter-receipt.result (length c.reserve.new.self.journal)
     c.reserve.ensures.same c.enter-receipt.ensures.journal c.enter-receipt.ensures.receipt c.stop.ensures.turned
     (c.stop_if.ensures ∙ plain_timers c.self.inside.timers.items step entry.reply c.self.inside.moment refl)

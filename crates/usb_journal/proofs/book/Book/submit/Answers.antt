@@ -27,11 +27,11 @@ invariant_of-self-2 g c =
     let same : c.args.request ≡ c.in-Some.request = same_Some _ _ (sym c.request_in.ensures ∙ c.in-Some.is) in
     let a = c.in-Ok-unless_no_memory.answer in
     let step : Step = Submit c.args.h c.in-Some.request in
-    let p : Place = record { step = step; caller = c.args.caller; entry = answer_entry c.args.h a; moment = c.self.inside.moment } in
+    let p : Place = record { step = step; caller = c.number-caller.result; entry = answer_entry c.args.h a; moment = c.self.inside.moment } in
     let turn = answer_turns c.self.inside.core c.submit.new.self step c.args.h c.submit.result a (sym c.unless_no_memory.ensures ∙ c.in-Ok-unless_no_memory.is) c.submit.ensures.accepted c.submit.ensures.refused in
     entered g.L.Naming.setup c.self.inside.log.journal c.prepare-prepared.new.log.journal c.self.inside.core c.submit.new.self c.enter_answer-receipt.new.log.journal c.self.inside.timers.items c.start_if.new.timers.items p c.enter_answer-receipt.result (length c.prepare-prepared.new.log.journal)
     c.prepare-prepared.ensures.same c.enter_answer-receipt.ensures.journal
-    (c.enter_answer-receipt.ensures.receipt ∙ ap (λ (x : Place). record { place = length c.prepare-prepared.new.log.journal; entry = x }) (same_place _ step c.args.caller _ _ c.self.inside.moment (c.of-asked.ensures ∙ ap (λ (r : Request). Submit c.args.h r) same) refl))
+    (c.enter_answer-receipt.ensures.receipt ∙ ap (λ (x : Place). record { place = length c.prepare-prepared.new.log.journal; entry = x }) (same_place _ step c.number-caller.result _ _ c.self.inside.moment (c.of-asked.ensures ∙ ap (λ (r : Request). Submit c.args.h r) same) refl))
     turn
     (c.start_if.ensures ∙ (ap (started_if c.args.h c.in-Some.request.timeout c.self.inside.moment a) c.prepare-prepared.ensures.timers ∙ submitted_timers c.args.h c.in-Some.request c.self.inside.moment a c.self.inside.timers.items))
     c.self.invariant

@@ -16,7 +16,7 @@ enter-requires-clause-room g c =
 pub invariant_of-self-2 : goal.invariant_of-self-2
 invariant_of-self-2 g c =
     let entry = called_entry (option_map (λ t. t.returned) c.in-Ok.taken) in
-    let p : Place = record { step = Take; caller = c.args.caller; entry = entry; moment = c.self.inside.moment } in
+    let p : Place = record { step = Take; caller = c.number-caller.result; entry = entry; moment = c.self.inside.moment } in
     entered g.L.Naming.setup c.self.inside.log.journal c.reserve.new.self.journal c.self.inside.core c.take.new.self c.enter.new.log.journal c.self.inside.timers.items c.self.inside.timers.items p c.enter.result.0 (length c.reserve.new.self.journal)
     c.reserve.ensures.same c.enter.ensures.journal c.enter.ensures.receipt c.in-Ok.ensures.taken (take_timers c.self.inside.timers.items (option_map (λ t. t.returned) c.in-Ok.taken) c.self.inside.moment) c.self.invariant
 

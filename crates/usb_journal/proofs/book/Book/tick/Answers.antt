@@ -14,10 +14,11 @@ returns-clause-steps g c =
     let later = c.max-later.result in
     let w = world_where setup journal in
     let found = c.deref-2.ensures.value ∙ (c.in_ok-due.ensures setup w i.0.1 ∙ ap (λ ts. by_name (filter (is_over setup w later) ts)) (c.deref.ensures.value ∙ i.1)) in
-    subst (λ (b : Booked g.row.P.Denot). map asked (drop (length b.journal) c.expire_all.new.log.journal) ≡ asks c.args.caller (max b.moment c.args.now) (due b.setup (dated b.journal) (max b.moment c.args.now))) c.self.view_is
-    (ap (λ l. map asked (drop (length l) c.expire_all.new.log.journal)) (sym c.reserve.ensures.same)
-    ∙ (c.expire_all.ensures.steps ∙ (ap (λ l. asks c.args.caller later (expires l)) found ∙ (ap (asks c.args.caller later) (due_by_timers setup journal later i.0.0)
-    ∙ ap (λ k. asks c.args.caller k (due setup (dated journal) k)) c.max-later.ensures))))
+    subst (λ (b : Booked g.row.P.Denot). map asked (drop (length b.journal) c.expire_all.new.log.journal) ≡ asks c.args.position.now.number (max b.moment c.args.now) (due b.setup (dated b.journal) (max b.moment c.args.now))) c.self.view_is
+    (ap (λ l. map asked (drop (length l) c.expire_all.new.log.journal)) (sym (ap (λ l. l.journal) c.look.ensures.same ∙ c.reserve.ensures.same))
+    ∙ (c.expire_all.ensures.steps ∙ (ap (λ l. asks c.number-caller.result later (expires l)) found ∙ (ap (asks c.number-caller.result later) (due_by_timers setup journal later i.0.0)
+    ∙ (ap (λ k. asks c.number-caller.result k (due setup (dated journal) k)) c.max-later.ensures
+    ∙ ap (λ n. asks n (max c.self.inside.moment c.args.now) (due setup (dated journal) (max c.self.inside.moment c.args.now))) c.number-caller.ensures)))))
 
 pub returns-clause-library : goal.returns-clause-library
 returns-clause-library g c = subst (λ (b : Booked g.row.P.Denot). b.setup ≡ g.L.Naming.setup) c.self.view_is refl
