@@ -62,9 +62,9 @@ fn end<L: Naming, D: Device>(
 ) -> Result<()>
     requires { L.parts ≡ 1025 }
 {
-    let mut callers = missing.callers;
+    let (library, mut callers, receipts) = missing.into_library();
     callers.push(held)?;
-    match missing.library.finish(callers, missing.receipts) {
+    match library.finish(callers, receipts) {
         Ok(ended) if ended.made == 2 && ended.places == 1 => Ok(()),
         _ => Err(anyhow!("the end doesn't come")),
     }

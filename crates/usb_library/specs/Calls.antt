@@ -1,5 +1,5 @@
 -- What contracts see of the library's values, and what a call makes.
-use Rattle.std.specs.Prelude.{◌≡◌, ◌≤◌, ◌+◌, ℕ, Bool, true, false, List, [], ◌∷◌, ◌++◌, length, map, Option, Some, None}
+use Rattle.std.specs.Prelude.{◌≡◌, ◌≤◌, ◌+◌, ◌-◌, ◌^◌, min, ℕ, Bool, true, false, List, [], ◌∷◌, ◌++◌, length, map, Option, Some, None}
 use Rattle.atomic_table.specs.Seated.{TableId}
 use Rattle.usb_model.specs.declared.refused.Refused.{Refused}
 use Rattle.usb_model.specs.declared.reply.Reply.{Reply}
@@ -10,8 +10,9 @@ use Rattle.usb_model.specs.World.Due.{due}
 use Rattle.usb_journal.specs.declared.events.Events.{Events}
 use Rattle.usb_journal.specs.declared.place.Place.{Place}
 use Rattle.usb_core.specs.Public.{IsPending, Pending}
-use Rattle.usb_journal.specs.Booked.{AreMoved, Booked, HasEvents, IsRun, asked, asks, dated, world_where}
-use Rattle.usb_journal.specs.Seen.{Receipted, receipts_from}
+use Rattle.usb_journal.specs.Booked.{HasEvents, IsRun, asked, asks, dated, next_entry, world_where}
+use Rattle.usb_journal.specs.Seen.{Receipted, places_of, receipts_from}
+use Rattle.usb_receipts.specs.Rule.{BeginsWith}
 
 -- what a library is made of: the name and the parts of its ledger, the log of its journal, and its devices
 pub record Opened : Type 0 where
@@ -20,22 +21,43 @@ pub record Opened : Type 0 where
   pub table : TableId
   pub setup : Setup
 
--- a caller: its number, how many places the journal had after its last call, and the places of its own calls, in order
+-- a caller: its number, what the journal began with when it was last called or looked, how many places that is, which of them are its own, and how many of its calls have no place, since memory was refused
 pub record Calling : Type 0 where
   pub number : ℕ
+  pub seen : List Place
   pub position : ℕ
   pub own : List Place
+  pub missed : ℕ
 
--- a call makes a step: the receipt's place is above the caller's earlier ones, and has this step of this caller, as the last of its own
-pub record Makes (step : Step) (old new : Calling) (r : Receipted) : Type 0 where
+-- memory was refused to a call, which is counted; a u64 counts no further than to its last number
+abbrev pub misses : Calling → Calling
+misses c = record c { missed = min (c.missed + 1) (2 ^ 64 - 1) }
+
+-- a call makes a step: the receipt's place is above the caller's earlier ones, and has this step of this caller, as the last of its own, with the entry of the definitions' turn where the run of the journal before it ends
+pub record Makes (setup : Setup) (step : Step) (old new : Calling) (r : Receipted) : Type 0 where
   pub asked : r.entry.step ≡ step
   pub by : r.entry.caller ≡ old.number
   pub above : old.position ≤ r.place
   pub position : new.position ≡ r.place + 1
   pub own : new.own ≡ old.own ++ r.entry ∷ []
   pub number : new.number ≡ old.number
+  pub missed : new.missed ≡ old.missed
+  pub before : List Place
+  pub began : BeginsWith old.seen before
+  pub place : r.place ≡ length before
+  pub saw : new.seen ≡ before ++ r.entry ∷ []
+  pub entry : r.entry.entry ≡ next_entry setup before step
 
--- time is moved on to now, or it is later: one Expire for each transfer that is due then, at consecutive places behind a journal, which are the caller's last
+-- what a caller had seen, by its number
+abbrev pub position_of : Calling → ℕ × List Place
+position_of c = (c.number, c.seen)
+
+-- a caller's own places are those of its number in a journal, which began with what the caller had seen
+pub record Knows (journal : List Place) (c : Calling) : Type 0 where
+  pub own : c.own ≡ places_of c.number journal
+  pub began : BeginsWith c.seen journal
+
+-- time is moved on to now, or it is later: one Expire for each transfer that is due then, at consecutive places behind the journal so far, which are the caller's last
 pub record Ticks (setup : Setup) (now : ℕ) (old : Calling) (given : List Receipted) (new : Calling) : Type 0 where
   pub before : List Place
   pub moment : ℕ
@@ -43,17 +65,30 @@ pub record Ticks (setup : Setup) (now : ℕ) (old : Calling) (given : List Recei
   pub late : now ≤ moment
   pub each : map asked places ≡ asks old.number moment (due setup (dated before) moment)
   pub receipts : given ≡ receipts_from (length before) places
-  pub position : AreMoved old.position given new.position
   pub own : new.own ≡ old.own ++ places
   pub number : new.number ≡ old.number
+  pub missed : new.missed ≡ old.missed
+  pub began : BeginsWith old.seen before
+  pub saw : new.seen ≡ before ++ places
+
+-- a caller looks: it sees the journal so far, and its own places are what they were
+pub record LooksOn (old new : Calling) : Type 0 where
+  pub number : new.number ≡ old.number
+  pub own : new.own ≡ old.own
+  pub missed : new.missed ≡ old.missed
+  pub began : BeginsWith old.seen new.seen
+
+-- what is to be done where the run of a journal's steps ends
+abbrev pub ShowsPending : Setup → List Place → Pending → Type 0
+ShowsPending setup seen pending = IsRun setup seen × ((after : Option (ℕ × ℕ)) × IsPending setup (world_where setup seen) after pending)
+
+-- what there is to do with events there
+abbrev pub ShowsEvents : Setup → List Place → Events → Type 0
+ShowsEvents setup seen events = IsRun setup seen × HasEvents setup seen events
 
 -- what was to be done at some moment of a library over these devices: by the world where the run of its steps so far ended
 abbrev pub WasPending : Setup → Pending → Type 0
 WasPending setup pending = (journal : List Place) × (after : Option (ℕ × ℕ)) × IsRun setup journal × IsPending setup (world_where setup journal) after pending
-
--- what there was to do with events at some moment
-abbrev pub HadEvents : Setup → Events → Type 0
-HadEvents setup events = (journal : List Place) × IsRun setup journal × HasEvents setup journal events
 
 -- why a step was refused
 abbrev pub refusal : Reply → Option Refused

@@ -43,18 +43,17 @@ impl<L: Naming> Callers<L> {
         self.made
     }
 
-    /// The number of one more, from 0 on, and its part of the ledger. None where there are 1,024.
-    pub(crate) fn one_more(&mut self) -> Option<(u32, Share<L>)>
-        ensures number { IfSome result (λ x. (x.0 ≡ self.old) × (self.new ≡ self.old + 1)) }
-        ensures share { IfSome result (λ x. (x.1.parts ≡ 1) × (x.1.amount ≡ 0)) }
+    /// One more, by its part of the ledger. None where there are 1,024.
+    pub(crate) fn one_more(&mut self) -> Option<Share<L>>
+        ensures number { IfSome result (λ _. self.new ≡ self.old + 1) }
+        ensures share { IfSome result (λ share. (share.parts ≡ 1) × (share.amount ≡ 0)) }
         ensures none { IfNone result ((self.old ≡ CALLERS) × (self.new ≡ self.old)) }
     {
         if self.made == CALLERS {
             return None;
         }
-        let number = self.made;
-        self.made = number + 1;
-        Some((number, self.spare.split_off(1, 0)))
+        self.made += 1;
+        Some(self.spare.split_off(1, 0))
     }
 
     /// The parts that no caller has.

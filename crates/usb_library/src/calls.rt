@@ -7,7 +7,7 @@ ghost use Rattle.std.specs.Prelude.{◌≡◌, IfOk, OnErr};
 ghost use Rattle.usb_model.specs.declared.step.Step.TheVariants.{Cancel, Claim, ClearHalt, Close, Command, Deliver, Open, Release, Reset, Serve, Unplug};
 ghost use Rattle.usb_core.specs.Public.{does_something};
 ghost use Rattle.usb_journal.specs.Booked.{world_where};
-ghost use Rattle.usb_library.specs.Calls.{Makes};
+ghost use Rattle.usb_library.specs.Calls.{Makes, misses};
 
 use crate::answered::Answered;
 use crate::caller::Caller;
@@ -24,12 +24,13 @@ fn delivered<L: Naming, P: Drop, D: Device, J: Recorder>(
     book: &mut Book<L, P, D, J>,
     caller: &mut Caller<L>,
 ) -> Result<(Answered<L>, bool), AllocError>
-    ensures made { IfOk result (λ x. Makes Deliver caller.old caller.new x.0.receipt) }
+    ensures made { IfOk result (λ x. Makes L.setup Deliver caller.old caller.new x.0.receipt) }
     ensures entry { IfOk result (λ x. x.0.entry ≡ x.0.receipt.entry.entry) }
     ensures order { IfOk result (λ x. x.1 ≡ does_something book.new.setup (world_where book.new.setup book.new.journal) Command) }
-    ensures refused { OnErr result (caller.new ≡ caller.old) }
+    ensures refused { OnErr result (caller.new ≡ misses caller.old) }
 {
-    let (receipt, entry) = book.deliver(caller.number, &mut caller.position)?;
+    let made = book.deliver(&mut caller.position);
+    let (receipt, entry) = caller.counted(made)?;
     Ok((Answered { receipt, entry }, book.has_order()))
 }
 
@@ -43,9 +44,9 @@ impl<L: Naming, P: Drop, D: Device, J: Recorder> Library<L, P, D, J> {
         h: Name,
         dev: DeviceNo,
     ) -> Result<Answered<L>, AllocError>
-        ensures made { IfOk result (λ x. Makes (Open h dev) caller.old caller.new x.receipt) }
+        ensures made { IfOk result (λ x. Makes L.setup (Open h dev) caller.old caller.new x.receipt) }
         ensures entry { IfOk result (λ x. x.entry ≡ x.receipt.entry.entry) }
-        ensures refused { OnErr result (caller.new ≡ caller.old) }
+        ensures refused { OnErr result (caller.new ≡ misses caller.old) }
     {
         self.call(rt, caller, Step::Open { h, dev })
     }
@@ -58,9 +59,9 @@ impl<L: Naming, P: Drop, D: Device, J: Recorder> Library<L, P, D, J> {
         caller: &mut Caller<L>,
         h: Name,
     ) -> Result<Answered<L>, AllocError>
-        ensures made { IfOk result (λ x. Makes (Close h) caller.old caller.new x.receipt) }
+        ensures made { IfOk result (λ x. Makes L.setup (Close h) caller.old caller.new x.receipt) }
         ensures entry { IfOk result (λ x. x.entry ≡ x.receipt.entry.entry) }
-        ensures refused { OnErr result (caller.new ≡ caller.old) }
+        ensures refused { OnErr result (caller.new ≡ misses caller.old) }
     {
         self.call(rt, caller, Step::Close { h })
     }
@@ -74,9 +75,9 @@ impl<L: Naming, P: Drop, D: Device, J: Recorder> Library<L, P, D, J> {
         h: Name,
         i: u8,
     ) -> Result<Answered<L>, AllocError>
-        ensures made { IfOk result (λ x. Makes (Claim h i) caller.old caller.new x.receipt) }
+        ensures made { IfOk result (λ x. Makes L.setup (Claim h i) caller.old caller.new x.receipt) }
         ensures entry { IfOk result (λ x. x.entry ≡ x.receipt.entry.entry) }
-        ensures refused { OnErr result (caller.new ≡ caller.old) }
+        ensures refused { OnErr result (caller.new ≡ misses caller.old) }
     {
         self.call(rt, caller, Step::Claim { h, i })
     }
@@ -90,9 +91,9 @@ impl<L: Naming, P: Drop, D: Device, J: Recorder> Library<L, P, D, J> {
         h: Name,
         i: u8,
     ) -> Result<Answered<L>, AllocError>
-        ensures made { IfOk result (λ x. Makes (Release h i) caller.old caller.new x.receipt) }
+        ensures made { IfOk result (λ x. Makes L.setup (Release h i) caller.old caller.new x.receipt) }
         ensures entry { IfOk result (λ x. x.entry ≡ x.receipt.entry.entry) }
-        ensures refused { OnErr result (caller.new ≡ caller.old) }
+        ensures refused { OnErr result (caller.new ≡ misses caller.old) }
     {
         self.call(rt, caller, Step::Release { h, i })
     }
@@ -106,9 +107,9 @@ impl<L: Naming, P: Drop, D: Device, J: Recorder> Library<L, P, D, J> {
         caller: &mut Caller<L>,
         h: Name,
     ) -> Result<Answered<L>, AllocError>
-        ensures made { IfOk result (λ x. Makes (Reset h) caller.old caller.new x.receipt) }
+        ensures made { IfOk result (λ x. Makes L.setup (Reset h) caller.old caller.new x.receipt) }
         ensures entry { IfOk result (λ x. x.entry ≡ x.receipt.entry.entry) }
-        ensures refused { OnErr result (caller.new ≡ caller.old) }
+        ensures refused { OnErr result (caller.new ≡ misses caller.old) }
     {
         self.call(rt, caller, Step::Reset { h })
     }
@@ -122,9 +123,9 @@ impl<L: Naming, P: Drop, D: Device, J: Recorder> Library<L, P, D, J> {
         h: Name,
         ep: EpAddr,
     ) -> Result<Answered<L>, AllocError>
-        ensures made { IfOk result (λ x. Makes (ClearHalt h ep) caller.old caller.new x.receipt) }
+        ensures made { IfOk result (λ x. Makes L.setup (ClearHalt h ep) caller.old caller.new x.receipt) }
         ensures entry { IfOk result (λ x. x.entry ≡ x.receipt.entry.entry) }
-        ensures refused { OnErr result (caller.new ≡ caller.old) }
+        ensures refused { OnErr result (caller.new ≡ misses caller.old) }
     {
         self.call(rt, caller, Step::ClearHalt { h, ep })
     }
@@ -138,9 +139,9 @@ impl<L: Naming, P: Drop, D: Device, J: Recorder> Library<L, P, D, J> {
         h: Name,
         n: u64,
     ) -> Result<Answered<L>, AllocError>
-        ensures made { IfOk result (λ x. Makes (Cancel h n) caller.old caller.new x.receipt) }
+        ensures made { IfOk result (λ x. Makes L.setup (Cancel h n) caller.old caller.new x.receipt) }
         ensures entry { IfOk result (λ x. x.entry ≡ x.receipt.entry.entry) }
-        ensures refused { OnErr result (caller.new ≡ caller.old) }
+        ensures refused { OnErr result (caller.new ≡ misses caller.old) }
     {
         self.call(rt, caller, Step::Cancel { h, n })
     }
@@ -153,16 +154,15 @@ impl<L: Naming, P: Drop, D: Device, J: Recorder> Library<L, P, D, J> {
         dev: DeviceNo,
         ep: EpAddr,
     ) -> Result<Answered<L>, AllocError>
-        ensures made { IfOk result (λ x. Makes (Serve dev ep) caller.old caller.new x.receipt) }
+        ensures made { IfOk result (λ x. Makes L.setup (Serve dev ep) caller.old caller.new x.receipt) }
         ensures entry { IfOk result (λ x. x.entry ≡ x.receipt.entry.entry) }
-        ensures refused { OnErr result (caller.new ≡ caller.old) }
+        ensures refused { OnErr result (caller.new ≡ misses caller.old) }
     {
         let mut guarded = self.guarded.lock(rt);
         guarded.look.serve(dev, ep);
-        let (receipt, entry) = guarded
-            .book
-            .serve(dev, ep, caller.number, &mut caller.position)?;
+        let made = guarded.book.serve(dev, ep, &mut caller.position);
         drop(guarded);
+        let (receipt, entry) = caller.counted(made)?;
         let answered = Answered { receipt, entry };
         let work = of_packet(&answered.entry.reply);
         self.wake_if(rt, answered.has_changed(), work);
@@ -175,9 +175,9 @@ impl<L: Naming, P: Drop, D: Device, J: Recorder> Library<L, P, D, J> {
         rt: &R,
         caller: &mut Caller<L>,
     ) -> Result<Answered<L>, AllocError>
-        ensures made { IfOk result (λ x. Makes Command caller.old caller.new x.receipt) }
+        ensures made { IfOk result (λ x. Makes L.setup Command caller.old caller.new x.receipt) }
         ensures entry { IfOk result (λ x. x.entry ≡ x.receipt.entry.entry) }
-        ensures refused { OnErr result (caller.new ≡ caller.old) }
+        ensures refused { OnErr result (caller.new ≡ misses caller.old) }
     {
         self.call(rt, caller, Step::Command)
     }
@@ -188,9 +188,9 @@ impl<L: Naming, P: Drop, D: Device, J: Recorder> Library<L, P, D, J> {
         rt: &R,
         caller: &mut Caller<L>,
     ) -> Result<Answered<L>, AllocError>
-        ensures made { IfOk result (λ x. Makes Deliver caller.old caller.new x.receipt) }
+        ensures made { IfOk result (λ x. Makes L.setup Deliver caller.old caller.new x.receipt) }
         ensures entry { IfOk result (λ x. x.entry ≡ x.receipt.entry.entry) }
-        ensures refused { OnErr result (caller.new ≡ caller.old) }
+        ensures refused { OnErr result (caller.new ≡ misses caller.old) }
     {
         let (answered, has_order) = delivered(&mut self.guarded.lock(rt).book, caller)?;
         let work = of_event(&answered.entry.reply, has_order);
@@ -205,9 +205,9 @@ impl<L: Naming, P: Drop, D: Device, J: Recorder> Library<L, P, D, J> {
         caller: &mut Caller<L>,
         dev: DeviceNo,
     ) -> Result<Answered<L>, AllocError>
-        ensures made { IfOk result (λ x. Makes (Unplug dev) caller.old caller.new x.receipt) }
+        ensures made { IfOk result (λ x. Makes L.setup (Unplug dev) caller.old caller.new x.receipt) }
         ensures entry { IfOk result (λ x. x.entry ≡ x.receipt.entry.entry) }
-        ensures refused { OnErr result (caller.new ≡ caller.old) }
+        ensures refused { OnErr result (caller.new ≡ misses caller.old) }
     {
         self.call(rt, caller, Step::Unplug { dev })
     }

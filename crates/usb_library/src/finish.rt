@@ -1,12 +1,15 @@
 //! The end of a library: the journal, once all callers are back.
 
-ghost use Rattle.std.specs.Prelude.{◌≡◌, ◌==◌, ℕ, ◌+◌, ◌<◌, ◌≤◌, All, IfErr, IfOk, Some, count_by, length, slice_get, vec_len};
+ghost use Rattle.std.specs.Prelude.{◌≡◌, ◌==◌, ℕ, ◌+◌, ◌<◌, ◌≤◌, ◌++◌, All, IfErr, IfOk, Some, count_by, length, map, slice_get, vec_len};
 ghost use Rattle.std.specs.List.{sum_by};
 ghost use Rattle.usb_model.specs.Setup.{Setup as ModelSetup, interface_of};
 ghost use Rattle.usb_model.specs.World.{World};
 ghost use Rattle.usb_core.specs.Public.{ShowsWorld, setup_of};
 ghost use Rattle.usb_core.specs.Reads.{IsLeft};
-ghost use Rattle.usb_journal.specs.Booked.{IsRun};
+ghost use Rattle.usb_receipts.specs.Rule.{BeginsWith};
+ghost use Rattle.usb_journal.specs.Booked.{IsRun, world_where};
+ghost use Rattle.usb_journal.specs.Seen.{places_of};
+ghost use Rattle.usb_library.specs.Calls.{Knows, position_of};
 
 use crate::caller::Caller;
 use crate::library::{Guarded, Library};
@@ -17,7 +20,7 @@ use std::sync::Mutex;
 use std::sync::ledger::Share;
 use usb_core::{Core, Setup};
 use usb_device::Device;
-use usb_journal::{Closed, Journal, Naming, Place, Receipt, Recorder, Whole};
+use usb_journal::{Closed, Closing, Journal, Naming, Place, Receipt, Recorder, Whole};
 
 /// What a library leaves.
 #[derive(Drop)]
@@ -40,11 +43,12 @@ pub struct Ended<L: Naming, P, D: Device, J> {
     pub all: Share<L>,
 }
 
-/// Callers are missing. The library, and all that was brought, is handed back.
+/// Callers are missing. The library, and all that was brought, is handed back (`into_library`).
 #[derive(Drop)]
 pub struct Missing<L: Naming, P, D: Device, J: Recorder> {
-    /// The library, which goes on.
-    pub library: Library<L, P, D, J>,
+    guarded: Guarded<L, P, D, J>,
+    watchers: Watchers,
+    met: Met,
     /// How many callers were made.
     pub made: u32,
     /// Those that were brought.
@@ -55,8 +59,9 @@ pub struct Missing<L: Naming, P, D: Device, J: Recorder> {
 
 impl<L: Naming, P: Drop, D: Device, J: Recorder> Library<L, P, D, J> {
     /// Ends the library, once all its callers are back: the journal is the definitions' run of its steps, and at each receipt's
-    /// place it has what the receipt says; no two receipts have one place; it has as many places as the callers made steps.
-    /// Missing where fewer callers come than were made. It waits for nothing.
+    /// place it has what the receipt says; no two receipts have one place; it has as many places as the callers made steps, and each
+    /// caller's are those of its number, which no other has; it began with what each caller had seen. The core shows the world where it
+    /// ends. Missing where fewer callers come than were made. It waits for nothing.
     pub fn finish(
         self,
         callers: Vec<Caller<L>>,
@@ -67,9 +72,12 @@ impl<L: Naming, P: Drop, D: Device, J: Recorder> Library<L, P, D, J> {
         ensures apart { IfOk result (λ _. (p : ℕ) → count_by (λ r. r.place == p) receipts.items ≤ 1) }
         ensures counted { IfOk result (λ e. (length e.journal ≡ sum_by (λ c. length c.own) callers.items) × (e.places ≡ length e.journal)) }
         ensures run { IfOk result (λ e. IsRun L.setup e.journal) }
+        ensures core { IfOk result (λ e. ShowsWorld L.setup e.core (world_where L.setup e.journal)) }
         ensures kept { IfOk result (λ e. J.stands e.recorder e.journal) }
         ensures all { IfOk result (λ e. (vec_len callers ≡ e.made) × (e.all.parts ≡ L.parts)) }
-        ensures missing { IfErr result (λ m. vec_len callers < m.made) }
+        ensures own { IfOk result (λ e. All (Knows e.journal) callers.items) }
+        ensures numbers { IfOk result (λ _. (n : ℕ) → count_by (λ c. c.number == n) callers.items ≤ 1) }
+        ensures missing { IfErr result (λ m. (vec_len callers < m.made) × (m.guarded.callers ≡ m.made)) }
         ensures back { IfErr result (λ m. (m.callers.items ≡ callers.items) × (m.receipts.items ≡ receipts.items)) }
     {
         let Library {
@@ -80,22 +88,30 @@ impl<L: Naming, P: Drop, D: Device, J: Recorder> Library<L, P, D, J> {
         let guarded = guarded.into_inner();
         let made = guarded.callers.made();
         if callers.len() < made as usize {
-            return Err(handed_back(guarded, watchers, met, callers, receipts));
+            return Err(Missing {
+                guarded,
+                watchers,
+                met,
+                made,
+                callers,
+                receipts,
+            });
         }
         let Guarded {
             book,
             callers: made_callers,
             ..
         } = guarded;
+        let mut closing = book.close();
+        let mut spare = made_callers.into_spare();
+        bring(&mut closing, &mut spare, callers);
         let Closed {
             journal,
             recorder,
             places,
             mut total,
             core,
-        } = book.finish(receipts);
-        let mut spare = made_callers.into_spare();
-        bring(&mut spare, callers);
+        } = closing.finish(receipts);
         total.audit(&mut spare);
         Ok(Ended {
             journal,
@@ -131,38 +147,42 @@ impl<L: Naming, P, D: Device> Ended<L, P, D, Journal> {
     }
 }
 
-/// The library again, with what was brought.
-fn handed_back<L: Naming, P: Drop, D: Device, J: Recorder>(
-    guarded: Guarded<L, P, D, J>,
-    watchers: Watchers,
-    met: Met,
-    callers: Vec<Caller<L>>,
-    receipts: Vec<Receipt<L>>,
-) -> Missing<L, P, D, J>
-    ensures made { result.made ≡ guarded.callers }
-    ensures back { (result.callers ≡ callers) × (result.receipts ≡ receipts) }
-{
-    let made = guarded.callers.made();
-    Missing {
-        library: Library {
+impl<L: Naming, P: Drop, D: Device, J: Recorder> Missing<L, P, D, J> {
+    /// The library, which goes on, with the callers and the receipts that were brought.
+    pub fn into_library(self) -> (Library<L, P, D, J>, Vec<Caller<L>>, Vec<Receipt<L>>)
+        ensures { (result.1 ≡ self.callers) × (result.2 ≡ self.receipts) }
+    {
+        let Missing {
+            guarded,
+            watchers,
+            met,
+            callers,
+            receipts,
+            ..
+        } = self;
+        let library = Library {
             guarded: Mutex::new(guarded),
             watchers,
             met,
-        },
-        made,
-        callers,
-        receipts,
+        };
+        (library, callers, receipts)
     }
 }
 
-/// All parts of the ledger that callers have come together.
-fn bring<L: Naming>(spare: &mut Share<L>, callers: Vec<Caller<L>>)
+/// The callers' positions come back, and all parts of the ledger that they have come together.
+fn bring<L: Naming, P: Drop, D: Device, J: Recorder>(
+    closing: &mut Closing<L, P, D, J>,
+    spare: &mut Share<L>,
+    callers: Vec<Caller<L>>,
+)
     requires { spare.old.parts ≤ L.parts }
     ensures parts { (spare.new.parts ≡ spare.old.parts + vec_len callers) × (spare.new.parts ≤ L.parts) }
     ensures amount { spare.new.amount ≡ spare.old.amount + sum_by (λ c. length c.own) callers.items }
+    ensures back { closing.new ≡ record closing.old { back = closing.old.back ++ map position_of callers.items } }
+    ensures own { All (λ c. c.own ≡ places_of c.number c.seen) callers.items }
 {
     for caller in callers {
         let Caller { position, .. } = caller;
-        spare.merge(position.into_share());
+        spare.merge(closing.take_back(position));
     }
 }

@@ -15,26 +15,31 @@
 //!   at rest
 //! - `met.rt`: want of memory that a worker met, and callbacks that ended early
 //! - `finish.rt`: the end: the journal, or which callers are missing
-//! - specs/Calls: what a call makes (`Makes`), and what a tick does (`Ticks`)
+//! - specs/Calls: what a call makes (`Makes`), what a tick does (`Ticks`), and what a caller sees who looks (`LooksOn`)
 //!
 //! # Contracts
 //!
 //! - `Library::finish`: where all callers come back: at each receipt's place the journal has what the receipt says
 //!   (`found`); no two receipts have one place (`apart`); the journal has as many places as the callers' own lists
 //!   together (`counted`); its entries are the definitions' run of its steps, from the devices that the library was
-//!   made of (`run`); what was kept is that journal (`kept`). Missing exactly where fewer callers come than were
-//!   made, with the library and all that was brought
+//!   made of (`run`), and the core that is handed back shows the world where that ends (`core`); what was kept is that
+//!   journal (`kept`); each caller's places are those of its number, which no other has, and the journal began with all
+//!   that the caller had seen (`own`, `numbers`). Missing exactly where fewer callers come than were made, with the library
+//!   and all that was brought
 //! - `open` to `unplug`, `submit`, `take`, `stop`, `again`, `again_with`: the call makes a step (`Makes`): its
 //!   receipt's place is above the caller's earlier ones; it has the step that was asked for and this caller's number,
-//!   as the last of the caller's own; what is answered is the entry there. A refused step has its place too. An error
-//!   is want of memory: the caller is as it was, and what was given comes back
+//!   as the last of the caller's own; what is answered is the entry there, which is that of the definitions' turn where
+//!   the run of the journal before it ends. A refused step has its place too. An error is want of memory: the caller is
+//!   as it was, but that it counts it (`Caller::missed`), and what was given comes back
 //! - `tick`: `Ticks`: one Expire for each transfer that is due at the moment, which is `now` or later, in the
-//!   definitions' order, at consecutive places, which are above the caller's earlier ones and below those of its
-//!   later calls, and no other step
-//! - `Library::pending`, `work`, `events`: what was to be done at some moment: in the world where the run of the
-//!   library's steps until then ended (`WasPending`; of `events`, whether an event or a result waited, `HadEvents`).
-//!   Which moment that was, no contract can say
-//! - `Library::caller`, `Caller::number`, `Opening::new`, `Answered::granted`: a caller has no places yet, and what
+//!   definitions' order, at consecutive places behind the journal so far, which began with all that the caller had seen,
+//!   and no other step
+//! - `Library::work`, `events`: what is to be done where the run of the journal so far ends, which the caller then has
+//!   seen (`ShowsPending`, `ShowsEvents`): so it is at or behind its last call, and `finish` says that it was the journal's.
+//!   That None is answered only where the workers were asked to end is no clause
+//! - `Library::pending`: what was to be done at some moment: in the world where the run of the library's steps until then
+//!   ended (`WasPending`). Which moment that was, no contract says, since it has no caller
+//! - `Library::caller`, `Caller::number`, `missed`, `Opening::new`, `Answered::granted`: a caller has no places yet, and what
 //!   is refused is refused as Busy (that there are 1,024 then is a clause behind the lock, and a scene); its number;
 //!   the devices are those given; the receipt exactly where the step wasn't refused
 //! - `Ended::to_places`, `Ended::into_setup`: copies of the very places that the recorder has; the devices, as

@@ -3,7 +3,7 @@
 ghost use Rattle.std.specs.Prelude.{◌≡◌, [], IfErr, IfOk, OnErr, false};
 ghost use Rattle.usb_model.specs.declared.refused.Refused.TheVariants.{Busy};
 ghost use Rattle.usb_model.specs.Numbers.{takes_payload};
-ghost use Rattle.usb_library.specs.Calls.{Makes};
+ghost use Rattle.usb_library.specs.Calls.{Makes, misses};
 
 use crate::answered::Answered;
 use crate::caller::Caller;
@@ -73,18 +73,23 @@ impl<L: Naming, P: Drop, D: Device, J: Recorder> Library<L, P, D, J> {
         })
     }
 
-    /// One more caller. It has no places yet. Busy where there are 1,024: a library has no more, since each is counted at its
+    /// One more caller. It has no places yet, and memory was refused to none of its calls. Busy where there are 1,024: a library has no more, since each is counted at its
     /// end.
     pub fn caller<R: Wait>(&self, rt: &R) -> Result<Caller<L>, Refused>
-        ensures made { IfOk result (λ c. c.own ≡ []) }
+        ensures made { IfOk result (λ c. (c.own ≡ []) × (c.missed ≡ 0)) }
         ensures refused { IfErr result (λ why. why ≡ Busy) }
     {
         let mut guarded = self.guarded.lock(rt);
-        let Some((number, share)) = guarded.callers.one_more() else {
+        let Some(share) = guarded.callers.one_more() else {
             return Err(Refused::Busy);
         };
-        let position = guarded.book.position(share);
-        Ok(Caller { number, position })
+        let Some(position) = guarded.book.position(share) else {
+            return Err(Refused::Busy);
+        };
+        Ok(Caller {
+            position,
+            missed: 0,
+        })
     }
 
     /// Makes a step that submits nothing and takes nothing out. An error where memory is refused: then nothing changed.
@@ -95,16 +100,16 @@ impl<L: Naming, P: Drop, D: Device, J: Recorder> Library<L, P, D, J> {
         step: Step,
     ) -> Result<Answered<L>, AllocError>
         requires { takes_payload step ≡ false }
-        ensures made { IfOk result (λ x. Makes step caller.old caller.new x.receipt) }
+        ensures made { IfOk result (λ x. Makes L.setup step caller.old caller.new x.receipt) }
         ensures entry { IfOk result (λ x. x.entry ≡ x.receipt.entry.entry) }
-        ensures refused { OnErr result (caller.new ≡ caller.old) }
+        ensures refused { OnErr result (caller.new ≡ misses caller.old) }
     {
         let recorded = self
             .guarded
             .lock(rt)
             .book
-            .record(step, caller.number, &mut caller.position, None);
-        let Ok((receipt, stepped)) = recorded else {
+            .record(step, &mut caller.position, None);
+        let Ok((receipt, stepped)) = caller.counted(recorded) else {
             return Err(AllocError);
         };
         let answered = Answered {

@@ -5,7 +5,7 @@ ghost use Rattle.usb_model.specs.declared.step.Step.TheVariants.{Answer, Submit,
 ghost use Rattle.usb_model.specs.declared.verdict.Verdict.TheVariants.{Again, AgainWith, Stop};
 ghost use Rattle.usb_core.specs.Public.{called_entry};
 ghost use Rattle.usb_journal.specs.Booked.{answer_entry};
-ghost use Rattle.usb_library.specs.Calls.{Makes, Ticks};
+ghost use Rattle.usb_library.specs.Calls.{Makes, Ticks, misses};
 
 use crate::answered::{Answered, Submitted};
 use crate::caller::Caller;
@@ -31,16 +31,17 @@ impl<L: Naming, P: Drop, D: Device, J: Recorder> Library<L, P, D, J> {
         request: Request,
         callback: P,
     ) -> Result<Submitted<L, Request, P>, NotRecorded<Request, P>>
-        ensures made { IfOk result (λ x. Makes (Submit h request) caller.old caller.new x.receipt) }
+        ensures made { IfOk result (λ x. Makes L.setup (Submit h request) caller.old caller.new x.receipt) }
         ensures entry { IfOk result (λ x. x.receipt.entry.entry ≡ answer_entry h x.number) }
         ensures back { IfOk result (λ x. IfErr x.number (λ y. (y.given ≡ request) × (y.payload ≡ callback))) }
-        ensures refused { IfErr result (λ x. (x.given ≡ request) × (x.payload ≡ callback) × (caller.new ≡ caller.old)) }
+        ensures refused { IfErr result (λ x. (x.given ≡ request) × (x.payload ≡ callback) × (caller.new ≡ misses caller.old)) }
     {
-        let (receipt, number) = self
+        let made = self
             .guarded
             .lock(rt)
             .book
-            .submit(h, request, callback, caller.number, &mut caller.position)?;
+            .submit(h, request, callback, &mut caller.position);
+        let (receipt, number) = caller.counted(made)?;
         self.wake_if(rt, number.is_ok(), Work::Of(Part::Controller));
         Ok(Submitted { receipt, number })
     }
@@ -53,15 +54,12 @@ impl<L: Naming, P: Drop, D: Device, J: Recorder> Library<L, P, D, J> {
         rt: &R,
         caller: &mut Caller<L>,
     ) -> Result<(Receipt<L>, Option<Taken<P>>), AllocError>
-        ensures made { IfOk result (λ x. Makes Take caller.old caller.new x.0) }
+        ensures made { IfOk result (λ x. Makes L.setup Take caller.old caller.new x.0) }
         ensures entry { IfOk result (λ x. x.0.entry.entry ≡ called_entry (option_map (λ t. t.returned) x.1)) }
-        ensures refused { OnErr result (caller.new ≡ caller.old) }
+        ensures refused { OnErr result (caller.new ≡ misses caller.old) }
     {
-        let (receipt, taken) = self
-            .guarded
-            .lock(rt)
-            .book
-            .take(caller.number, &mut caller.position)?;
+        let made = self.guarded.lock(rt).book.take(&mut caller.position);
+        let (receipt, taken) = caller.counted(made)?;
         self.wake_if(rt, taken.is_some(), Work::None);
         Ok((receipt, taken))
     }
@@ -75,15 +73,12 @@ impl<L: Naming, P: Drop, D: Device, J: Recorder> Library<L, P, D, J> {
         h: Name,
         n: u64,
     ) -> Result<Answered<L>, AllocError>
-        ensures made { IfOk result (λ x. Makes (Answer h n Stop) caller.old caller.new x.receipt) }
+        ensures made { IfOk result (λ x. Makes L.setup (Answer h n Stop) caller.old caller.new x.receipt) }
         ensures entry { IfOk result (λ x. x.entry ≡ x.receipt.entry.entry) }
-        ensures refused { OnErr result (caller.new ≡ caller.old) }
+        ensures refused { OnErr result (caller.new ≡ misses caller.old) }
     {
-        let (receipt, entry) = self
-            .guarded
-            .lock(rt)
-            .book
-            .stop(h, n, caller.number, &mut caller.position)?;
+        let made = self.guarded.lock(rt).book.stop(h, n, &mut caller.position);
+        let (receipt, entry) = caller.counted(made)?;
         let answered = Answered { receipt, entry };
         self.wake_if(rt, answered.has_changed(), Work::None);
         Ok(answered)
@@ -100,16 +95,17 @@ impl<L: Naming, P: Drop, D: Device, J: Recorder> Library<L, P, D, J> {
         n: u64,
         callback: P,
     ) -> Result<Submitted<L, (), P>, NotRecorded<(), P>>
-        ensures made { IfOk result (λ x. Makes (Answer h n Again) caller.old caller.new x.receipt) }
+        ensures made { IfOk result (λ x. Makes L.setup (Answer h n Again) caller.old caller.new x.receipt) }
         ensures entry { IfOk result (λ x. x.receipt.entry.entry ≡ answer_entry h x.number) }
         ensures back { IfOk result (λ x. IfErr x.number (λ y. y.payload ≡ callback)) }
-        ensures refused { IfErr result (λ x. (x.payload ≡ callback) × (caller.new ≡ caller.old)) }
+        ensures refused { IfErr result (λ x. (x.payload ≡ callback) × (caller.new ≡ misses caller.old)) }
     {
-        let (receipt, number) = self
+        let made = self
             .guarded
             .lock(rt)
             .book
-            .again(h, n, callback, caller.number, &mut caller.position)?;
+            .again(h, n, callback, &mut caller.position);
+        let (receipt, number) = caller.counted(made)?;
         self.wake_if(rt, number.is_ok(), Work::Of(Part::Controller));
         Ok(Submitted { receipt, number })
     }
@@ -124,16 +120,17 @@ impl<L: Naming, P: Drop, D: Device, J: Recorder> Library<L, P, D, J> {
         bytes: Bytes,
         callback: P,
     ) -> Result<Submitted<L, Bytes, P>, NotRecorded<Bytes, P>>
-        ensures made { IfOk result (λ x. Makes (Answer h n (AgainWith bytes)) caller.old caller.new x.receipt) }
+        ensures made { IfOk result (λ x. Makes L.setup (Answer h n (AgainWith bytes)) caller.old caller.new x.receipt) }
         ensures entry { IfOk result (λ x. x.receipt.entry.entry ≡ answer_entry h x.number) }
         ensures back { IfOk result (λ x. IfErr x.number (λ y. (y.given ≡ bytes) × (y.payload ≡ callback))) }
-        ensures refused { IfErr result (λ x. (x.given ≡ bytes) × (x.payload ≡ callback) × (caller.new ≡ caller.old)) }
+        ensures refused { IfErr result (λ x. (x.given ≡ bytes) × (x.payload ≡ callback) × (caller.new ≡ misses caller.old)) }
     {
-        let (receipt, number) = self
+        let made = self
             .guarded
             .lock(rt)
             .book
-            .again_with(h, n, bytes, callback, caller.number, &mut caller.position)?;
+            .again_with(h, n, bytes, callback, &mut caller.position);
+        let (receipt, number) = caller.counted(made)?;
         self.wake_if(rt, number.is_ok(), Work::Of(Part::Controller));
         Ok(Submitted { receipt, number })
     }
@@ -148,13 +145,10 @@ impl<L: Naming, P: Drop, D: Device, J: Recorder> Library<L, P, D, J> {
         now: u64,
     ) -> Result<Vec<Receipt<L>>, AllocError>
         ensures ticked { IfOk result (λ given. Ticks L.setup now caller.old given.items caller.new) }
-        ensures refused { OnErr result (caller.new ≡ caller.old) }
+        ensures refused { OnErr result (caller.new ≡ misses caller.old) }
     {
-        let receipts = self
-            .guarded
-            .lock(rt)
-            .book
-            .tick(caller.number, &mut caller.position, now)?;
+        let made = self.guarded.lock(rt).book.tick(&mut caller.position, now);
+        let receipts = caller.counted(made)?;
         self.wake_if(rt, !receipts.is_empty(), Work::Any);
         Ok(receipts)
     }

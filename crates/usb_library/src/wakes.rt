@@ -1,8 +1,9 @@
 //! Who is woken when something changed, and when all is at rest.
 
 ghost use Rattle.std.specs.Prelude.{IfSome};
-ghost use Rattle.usb_library.specs.Calls.{HadEvents, WasPending};
+ghost use Rattle.usb_library.specs.Calls.{LooksOn, ShowsEvents, ShowsPending, WasPending};
 
+use crate::caller::Caller;
 use crate::library::Library;
 use crossbeam_utils::sync::Unparker;
 use std::alloc::{AllocError, Global};
@@ -209,31 +210,55 @@ impl<L: Naming, P: Drop, D: Device, J: Recorder> Library<L, P, D, J> {
         self.stop_workers(rt);
     }
 
-    /// What there is to do; None where the workers were asked to stop and there is nothing, or to end at once. Whether they were asked
-    /// is read first: so a submission before that is seen.
-    pub fn work<R: Wait>(&self, rt: &R) -> Option<Pending>
-        ensures { IfSome result (WasPending L.setup) }
+    /// What there is to do, as a caller sees it, who sees the whole journal so far by it.
+    fn look<R: Wait>(&self, rt: &R, caller: &mut Caller<L>) -> Pending
+        ensures pending { ShowsPending L.setup caller.new.seen result }
+        ensures looks { LooksOn caller.old caller.new }
+    {
+        let mut guarded = self.guarded.lock(rt);
+        let after = guarded.look.after();
+        let pending = guarded.book.look(&mut caller.position, after);
+        guarded.look.keep(&pending);
+        pending
+    }
+
+    /// What there is to do, as a caller sees it; None where the workers were asked to stop and there is nothing, or to end at once. Whether
+    /// they were asked is read first: so a submission before that is seen.
+    pub fn work<R: Wait>(&self, rt: &R, caller: &mut Caller<L>) -> Option<Pending>
+        ensures pending { IfSome result (ShowsPending L.setup caller.new.seen) }
+        ensures looks { LooksOn caller.old caller.new }
     {
         if self.watchers.ending.load(Ordering::SeqCst) {
             return None;
         }
         let stopping = self.is_stopping();
-        let pending = self.pending(rt);
+        let pending = self.look(rt, caller);
         if stopping && is_nothing(&pending) {
             return None;
         }
         Some(pending)
     }
 
-    /// What there is to do with events, which is known without a look at the endpoints; None where the workers were asked
-    /// to stop and there is nothing to do at all, or to end at once.
-    pub fn events<R: Wait>(&self, rt: &R) -> Option<Events>
-        ensures { IfSome result (HadEvents L.setup) }
+    /// What there is to do with events, as a caller sees it, which is known without a look at the endpoints.
+    fn look_for_events<R: Wait>(&self, rt: &R, caller: &mut Caller<L>) -> Events
+        ensures events { ShowsEvents L.setup caller.new.seen result }
+        ensures looks { LooksOn caller.old caller.new }
+    {
+        self.guarded
+            .lock(rt)
+            .book
+            .look_for_events(&mut caller.position)
+    }
+
+    /// The same; None where the workers were asked to stop and there is nothing to do at all, or to end at once.
+    pub fn events<R: Wait>(&self, rt: &R, caller: &mut Caller<L>) -> Option<Events>
+        ensures events { IfSome result (ShowsEvents L.setup caller.new.seen) }
+        ensures looks { LooksOn caller.old caller.new }
     {
         if self.watchers.ending.load(Ordering::SeqCst) {
             return None;
         }
-        let events = self.guarded.lock(rt).book.events();
+        let events = self.look_for_events(rt, caller);
         if events.is_none() && self.is_stopping() && self.rested(rt) {
             return None;
         }
@@ -242,6 +267,10 @@ impl<L: Naming, P: Drop, D: Device, J: Recorder> Library<L, P, D, J> {
 
     /// Whether workers were asked to stop and there is nothing to do, or they were asked to end at once.
     pub fn rested<R: Wait>(&self, rt: &R) -> bool {
-        self.work(rt).is_none()
+        if self.watchers.ending.load(Ordering::SeqCst) {
+            return true;
+        }
+        let stopping = self.is_stopping();
+        stopping && is_nothing(&self.pending(rt))
     }
 }

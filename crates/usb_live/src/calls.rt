@@ -3,7 +3,7 @@
 ghost use Rattle.std.specs.Prelude.{◌≡◌, IfNone, IfOk, IfSome, OnErr, Some, is_some};
 ghost use Rattle.usb_model.specs.Setup.{Setup};
 ghost use Rattle.usb_model.specs.World.{World, owner_of};
-ghost use Rattle.usb_library.specs.Calls.{Makes};
+ghost use Rattle.usb_library.specs.Calls.{Makes, misses};
 ghost use Rattle.usb_live.specs.Steps.{caller_of};
 
 use std::alloc::AllocError;
@@ -26,18 +26,18 @@ pub fn handle_of(step: &Step) -> Option<Name>
     }
 }
 
-/// Makes such a step, by the call that it is. None where it is none. An error where memory is refused.
+/// Makes such a step, by the call that it is. None where it is none. An error where memory is refused, which the caller counts.
 pub fn make<L: Naming, C: Drop, D: Device, J: Recorder, R: Wait>(
     rt: &R,
     library: &Library<L, C, D, J>,
     caller: &mut Caller<L>,
     step: Step,
 ) -> Result<Option<Answered<L>>, AllocError>
-    ensures made { IfOk result (λ x. IfSome x (λ a. Makes step caller.old caller.new a.receipt)) }
+    ensures made { IfOk result (λ x. IfSome x (λ a. Makes L.setup step caller.old caller.new a.receipt)) }
     ensures entry { IfOk result (λ x. IfSome x (λ a. a.entry ≡ a.receipt.entry.entry)) }
     ensures answers { IfOk result (λ x. is_some x ≡ is_some (caller_of step)) }
     ensures none { IfOk result (λ x. IfNone x (caller.new ≡ caller.old)) }
-    ensures refused { OnErr result (caller.new ≡ caller.old) }
+    ensures refused { OnErr result (caller.new ≡ misses caller.old) }
 {
     let answered = match step {
         Step::Open { h, dev } => library.open(rt, caller, h, dev)?,

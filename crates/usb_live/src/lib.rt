@@ -12,8 +12,9 @@
 //!
 //! # Contracts
 //!
-//! - `live`, `live_gated` of `usb_live`: what is kept is that of a journal whose entries are the definitions' run of
-//!   its steps over the devices that were given, with as many places as are told (`KeepsRun`)
+//! - `live`, `live_gated` of `usb_live`: the entries of the journal that is handed out are the definitions' run of its
+//!   steps over the devices that were given; what is kept is of it, it has as many places as are told, and the core
+//!   shows the world where it ends (`KeepsRun`)
 //! - `make`, `handle_of` of `usb_live`: where something is answered, the step was made and its receipt has it
 //!   (`Makes`), else nothing changed; whose its entry is, in any world, where a handle is named; and that there is
 //!   none just for steps that submit, and for those of workers, clocks and callbacks

@@ -15,13 +15,15 @@ use std::thread::Threads;
 use usb_callback::Callback;
 use usb_core::{Core, Setup};
 use usb_device::Device;
-use usb_journal::{Naming, Recorder};
+use usb_journal::{Naming, Recorder, Whole};
 use usb_library::{Caller, Library, Opening};
 use usb_workers::{Gate, Open};
 
 /// What a library that lived leaves, and its drivers.
 #[derive(Drop)]
 pub struct Lived<C, D: Device, J, X> {
+    /// The journal, for contracts alone: it has no bytes.
+    pub journal: Whole,
     /// What was kept of the journal.
     pub kept: J,
     /// How many places the journal has.
@@ -56,7 +58,7 @@ pub fn live<
 where
     J::Draft: Send,
     T::Left: Drop + Send,
-    ensures { IfOk result (λ l. KeepsRun J.stands (setup_of setup) l.kept l.places) }
+    ensures { IfOk result (λ l. KeepsRun J.stands (setup_of setup) l.journal l.kept l.places l.core) }
 {
     live_gated::<C, D, J, Open, T, R>(rt, alloc, setup, Gates::open(), drivers)
 }
@@ -79,7 +81,7 @@ pub fn live_gated<
 where
     J::Draft: Send,
     T::Left: Drop + Send,
-    ensures { IfOk result (λ l. KeepsRun J.stands (setup_of setup) l.kept l.places) }
+    ensures { IfOk result (λ l. KeepsRun J.stands (setup_of setup) l.journal l.kept l.places l.core) }
 {
     let Ok(opening) = Opening::new(alloc, setup) else {
         return Err(AllocError);
@@ -110,7 +112,7 @@ where
     requires parts { (L.parts ≡ 1025) × (opening.parts ≡ L.parts) }
     requires table { opening.table ≡ L.table }
     requires setup { opening.setup ≡ L.setup }
-    ensures { IfOk result (λ l. KeepsRun J.stands L.setup l.kept l.places) }
+    ensures { IfOk result (λ l. KeepsRun J.stands L.setup l.journal l.kept l.places l.core) }
 {
     let library = Library::<L, C, D, J>::new(alloc, opening)?;
     let controller = Post {
@@ -133,13 +135,14 @@ fn ended<L: Naming, C: Drop, D: Device, J: Recorder, X: Drop>(
     back: Back<L, X>,
 ) -> Result<Lived<C, D, J, X>, AllocError>
     requires { L.parts ≡ 1025 }
-    ensures { IfOk result (λ l. KeepsRun J.stands L.setup l.kept l.places) }
+    ensures { IfOk result (λ l. KeepsRun J.stands L.setup l.journal l.kept l.places l.core) }
 {
     let (callers, left) = apart(alloc, back)?;
     let Ok(ended) = library.finish(callers, Vec::new(alloc)) else {
         return Err(AllocError);
     };
     Ok(Lived {
+        journal: ended.journal,
         kept: ended.recorder,
         places: ended.places,
         core: ended.core,

@@ -1,1 +1,1 @@
-mod Grows
+mod Told

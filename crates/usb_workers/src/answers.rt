@@ -1,14 +1,16 @@
 //! What a callback answered is told to the library.
 
-ghost use Rattle.std.specs.Prelude.{◌≡◌};
-ghost use Rattle.usb_workers.specs.Steps.{Works, is_events};
+ghost use Rattle.std.specs.Prelude.{◌≡◌, false, true, IfOk, OnErr, is_err, is_some};
+ghost use Rattle.usb_model.specs.declared.verdict.Verdict.TheVariants.{Again, AgainWith, Stop};
+ghost use Rattle.usb_workers.specs.Rounds.{Ends, Resubmits, Tells};
 
 use crate::tries::Tries;
 use std::sync::Wait;
 use usb_callback::{Callback, End};
+use usb_core::Unaccepted;
 use usb_device::Device;
-use usb_journal::{Naming, Recorder};
-use usb_library::{Caller, Library};
+use usb_journal::{Naming, NotRecorded, Recorder};
+use usb_library::{Caller, Library, Submitted};
 use usb_model::{Bytes, Name, Verdict};
 
 /// A callback that isn't called again, and how it ended.
@@ -16,6 +18,28 @@ use usb_model::{Bytes, Name, Verdict};
 struct Over<C> {
     callback: C,
     end: End,
+}
+
+/// What is left of a resubmission: nothing where it was accepted, else its callback, which isn't called again.
+fn left<L: Naming, G: Drop, C: Drop>(
+    made: Result<Submitted<L, G, C>, NotRecorded<G, C>>,
+) -> Option<Over<C>>
+    ensures refused { IfOk made (λ x. is_some result ≡ is_err x.number) }
+    ensures lacked { OnErr made (is_some result ≡ true) }
+{
+    match made {
+        Ok(submitted) => {
+            let Unaccepted { why, payload, .. } = submitted.number.err()?;
+            Some(Over {
+                callback: payload,
+                end: End::Refused(why),
+            })
+        }
+        Err(back) => Some(Over {
+            callback: back.payload,
+            end: End::NoMemory,
+        }),
+    }
 }
 
 /// The transfer is submitted once more; where it is refused, or there is no memory, its callback comes back.
@@ -27,21 +51,9 @@ fn again<L: Naming, C: Callback, D: Device, J: Recorder, R: Wait>(
     n: u64,
     callback: C,
 ) -> Option<Over<C>>
-    ensures { Works is_events caller.old caller.new }
+    ensures { Resubmits L.setup h n Again (is_some result) caller.old caller.new }
 {
-    match library.again(rt, caller, h, n, callback) {
-        Ok(submitted) => {
-            let refused = submitted.number.err()?;
-            Some(Over {
-                callback: refused.payload,
-                end: End::Refused(refused.why),
-            })
-        }
-        Err(back) => Some(Over {
-            callback: back.payload,
-            end: End::NoMemory,
-        }),
-    }
+    left(library.again(rt, caller, h, n, callback))
 }
 
 /// The same with other bytes.
@@ -54,21 +66,9 @@ fn again_with<L: Naming, C: Callback, D: Device, J: Recorder, R: Wait>(
     bytes: Bytes,
     callback: C,
 ) -> Option<Over<C>>
-    ensures { Works is_events caller.old caller.new }
+    ensures { Resubmits L.setup h n (AgainWith bytes) (is_some result) caller.old caller.new }
 {
-    match library.again_with(rt, caller, h, n, bytes, callback) {
-        Ok(submitted) => {
-            let refused = submitted.number.err()?;
-            Some(Over {
-                callback: refused.payload,
-                end: End::Refused(refused.why),
-            })
-        }
-        Err(back) => Some(Over {
-            callback: back.payload,
-            end: End::NoMemory,
-        }),
-    }
+    left(library.again_with(rt, caller, h, n, bytes, callback))
 }
 
 /// The transfer of a callback is submitted once more, if its verdict asks for that; a callback that isn't called again comes back.
@@ -81,7 +81,7 @@ fn resubmit<L: Naming, C: Callback, D: Device, J: Recorder, R: Wait>(
     verdict: Verdict,
     callback: C,
 ) -> Option<Over<C>>
-    ensures { Works is_events caller.old caller.new }
+    ensures { Resubmits L.setup h n verdict (is_some result) caller.old caller.new }
 {
     match verdict {
         Verdict::Stop => Some(Over {
@@ -102,18 +102,19 @@ fn stop<L: Naming, C: Callback, D: Device, J: Recorder, R: Wait>(
     h: Name,
     n: u64,
 )
-    ensures { Works is_events caller.old caller.new }
+    ensures { Ends L.setup h n caller.old caller.new }
 {
     for _ in rt.forever() {
         if library.stop(rt, caller, h, n).is_ok() {
             tries.done();
-            break;
+            return;
         }
         tries.refused(rt, library);
         if tries.are_over(library) {
-            break;
+            return;
         }
     }
+    unreachable!()
 }
 
 /// The library is told of a callback that ended early, and why.
@@ -140,7 +141,8 @@ pub(crate) fn answer<L: Naming, C: Callback, D: Device, J: Recorder, R: Wait>(
     verdict: Verdict,
     callback: Option<C>,
 )
-    ensures { Works is_events caller.old caller.new }
+    requires { is_some callback ≡ false → verdict ≡ Stop }
+    ensures { Tells L.setup h n verdict caller.old caller.new }
 {
     let Some(callback) = callback else {
         stop(rt, library, caller, tries, h, n);

@@ -1,7 +1,9 @@
 //! The worker that does the controller's part.
 
 ghost use Rattle.std.specs.Prelude.{◌≡◌};
-ghost use Rattle.usb_workers.specs.Steps.{Works, is_controllers};
+ghost use Rattle.usb_model.specs.declared.step.Step.TheVariants.{Command};
+ghost use Rattle.usb_library.specs.Calls.{ShowsPending};
+ghost use Rattle.usb_workers.specs.Rounds.{Controls, DoesIf, Rounds, Serves};
 
 use crate::gate::{Gate, Point};
 use crate::park::Parking;
@@ -22,7 +24,7 @@ fn serve<L: Naming, P: Drop, D: Device, J: Recorder, G: Gate, R: Wait>(
     tries: &mut Tries,
     pending: &Pending,
 )
-    ensures { Works is_controllers caller.old caller.new }
+    ensures { Serves L.setup pending.now.serve caller.old caller.new }
 {
     if let Some((dev, ep)) = pending.serve {
         gate.pass(rt, Point::Serve);
@@ -42,7 +44,7 @@ fn command<L: Naming, P: Drop, D: Device, J: Recorder, G: Gate, R: Wait>(
     tries: &mut Tries,
     pending: &Pending,
 )
-    ensures { Works is_controllers caller.old caller.new }
+    ensures { DoesIf L.setup pending.now.command Command caller.old caller.new }
 {
     if pending.command {
         gate.pass(rt, Point::Command);
@@ -63,20 +65,20 @@ fn turn<L: Naming, P: Drop, D: Device, J: Recorder, G: Gate, R: Wait>(
     parking: &Parking,
     pending: &Pending,
 )
-    ensures { Works is_controllers caller.old caller.new }
+    ensures { Controls L.setup pending.now caller.old caller.new }
 {
-    if pending.serve.is_none() && !pending.command {
-        parking.park(rt);
-        return;
-    }
     serve(rt, library, gate, caller, tries, pending);
     command(rt, library, gate, caller, tries, pending);
+    if pending.serve.is_none() && !pending.command {
+        parking.park(rt);
+    }
 }
 
 /// Does the controller's part (xHCI 1.2, 4.6 and 4.10) until the library is rested: a packet or an order only where
 /// `pending` showed one, each behind the gate. With nothing to do it parks. Where memory is refused it says so (`has_lacked_memory`) and
 /// tries again; but once it was asked to stop, and a hundred tries in a row were refused, it gives up, and asks the other worker to
-/// end too. The caller comes back; its steps grew by Serve and Command alone.
+/// end too. The caller comes back. Look by look it made what was there to be seen: the packet, then the order. What memory was refused to
+/// the caller has counted, and nothing else was made.
 pub fn controller_loop<L: Naming, P: Drop, D: Device, J: Recorder, G: Gate, R: Wait>(
     rt: &R,
     alloc: Global,
@@ -84,13 +86,13 @@ pub fn controller_loop<L: Naming, P: Drop, D: Device, J: Recorder, G: Gate, R: W
     gate: &mut G,
     caller: Caller<L>,
 ) -> Caller<L>
-    ensures works { Works is_controllers caller result }
+    ensures { Rounds (ShowsPending L.setup) (Controls L.setup) caller result }
 {
     let mut caller = caller;
     let mut tries = Tries::new();
     let parking = Parking::new(rt, alloc, library, Part::Controller);
     for _ in rt.forever() {
-        let Some(pending) = library.work(rt) else {
+        let Some(pending) = library.work(rt, &mut caller) else {
             break;
         };
         turn(

@@ -1,7 +1,11 @@
 //! The worker that handles events and calls callbacks.
 
-ghost use Rattle.std.specs.Prelude.{◌≡◌};
-ghost use Rattle.usb_workers.specs.Steps.{Works, is_events};
+ghost use Rattle.std.specs.Prelude.{◌≡◌, option_map};
+ghost use Rattle.usb_model.specs.declared.step.Step.TheVariants.{Deliver};
+ghost use Rattle.usb_model.specs.declared.verdict.Verdict.{Verdict};
+ghost use Rattle.usb_callback.specs.Callbacks.{Fits};
+ghost use Rattle.usb_library.specs.Calls.{ShowsEvents};
+ghost use Rattle.usb_workers.specs.Rounds.{CallsBackIf, DoesIf, Handles, MayAnswer, Rounds, Takes, Tells};
 
 use crate::answers::answer;
 use crate::gate::{Gate, Point};
@@ -24,7 +28,7 @@ fn deliver<L: Naming, C: Callback, D: Device, J: Recorder, G: Gate, R: Wait>(
     tries: &mut Tries,
     events: &Events,
 )
-    ensures { Works is_events caller.old caller.new }
+    ensures { DoesIf L.setup events.now.deliver Deliver caller.old caller.new }
 {
     if events.deliver {
         gate.pass(rt, Point::Deliver);
@@ -42,7 +46,7 @@ fn take<L: Naming, C: Callback, D: Device, J: Recorder, R: Wait>(
     caller: &mut Caller<L>,
     tries: &mut Tries,
 ) -> Option<Taken<C>>
-    ensures { Works is_events caller.old caller.new }
+    ensures { Takes L.setup (option_map (λ t. t.returned) result) caller.old caller.new }
 {
     match library.take(rt, caller) {
         Ok((_receipt, taken)) => {
@@ -65,7 +69,7 @@ fn call_back<L: Naming, C: Callback, D: Device, J: Recorder, G: Gate, R: Wait>(
     tries: &mut Tries,
     taken: Taken<C>,
 )
-    ensures { Works is_events caller.old caller.new }
+    ensures { (v : Verdict) × C.may_answer taken.payload taken.returned v × Fits (C.rule taken.payload) taken.returned v × Tells L.setup taken.returned.h taken.returned.n v caller.old caller.new }
 {
     let Taken {
         returned,
@@ -87,7 +91,7 @@ fn take_and_call<L: Naming, C: Callback, D: Device, J: Recorder, G: Gate, R: Wai
     tries: &mut Tries,
     events: &Events,
 )
-    ensures { Works is_events caller.old caller.new }
+    ensures { CallsBackIf L.setup (MayAnswer C.may_answer C.rule) events.now.take caller.old caller.new }
 {
     if !events.take {
         return;
@@ -108,21 +112,22 @@ fn turn<L: Naming, C: Callback, D: Device, J: Recorder, G: Gate, R: Wait>(
     parking: &Parking,
     events: &Events,
 )
-    ensures { Works is_events caller.old caller.new }
+    ensures { Handles L.setup (MayAnswer C.may_answer C.rule) events.now caller.old caller.new }
 {
-    if events.is_none() {
-        parking.park(rt);
-        return;
-    }
     deliver(rt, library, gate, caller, tries, events);
     take_and_call(rt, library, gate, caller, tries, events);
+    if events.is_none() {
+        parking.park(rt);
+    }
 }
 
 /// Handles events (libusb 1.0, `libusb_handle_events`), takes results out, calls their callbacks with no lock held and tells their
 /// verdicts, until the library is rested: a Deliver or Take only where a look showed one, each behind the gate.
 /// With nothing to do it parks. A callback that can't be submitted once more has ended, and is told so (`Callback::ended`). Where memory
 /// is refused it says so (`has_lacked_memory`) and tries again; but once it was asked to stop, and a hundred tries in a row were refused,
-/// it gives up, and asks the other worker to end too. The caller comes back; its steps grew by Deliver, Take and Answer alone.
+/// it gives up, and asks the other worker to end too. The caller comes back. Look by look it made what was there to be seen: the event;
+/// then the result, whose callback is called, and a verdict that it may give told behind that, by its Answer, or by Stop where the transfer
+/// isn't submitted once more. What memory was refused to the caller has counted, and nothing else was made.
 pub fn event_loop<L: Naming, C: Callback, D: Device, J: Recorder, G: Gate, R: Wait>(
     rt: &R,
     alloc: Global,
@@ -130,13 +135,13 @@ pub fn event_loop<L: Naming, C: Callback, D: Device, J: Recorder, G: Gate, R: Wa
     gate: &mut G,
     caller: Caller<L>,
 ) -> Caller<L>
-    ensures works { Works is_events caller result }
+    ensures { Rounds (ShowsEvents L.setup) (Handles L.setup (MayAnswer C.may_answer C.rule)) caller result }
 {
     let mut caller = caller;
     let mut tries = Tries::new();
     let parking = Parking::new(rt, alloc, library, Part::Events);
     for _ in rt.forever() {
-        let Some(events) = library.events(rt) else {
+        let Some(events) = library.events(rt, &mut caller) else {
             break;
         };
         turn(

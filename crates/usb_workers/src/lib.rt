@@ -1,6 +1,7 @@
 //! The two workers of a library: one does the controller's part, the other handles events and calls callbacks.
 //!
-//! The one promise: each makes steps of its own kinds alone, with its own caller, and gives that caller back.
+//! The one promise: each makes of every look just what it showed, with its own caller, and gives that caller back; and
+//! whoever handles events calls each callback that it takes out, and tells its verdict right behind that.
 //!
 //! # Files
 //!
@@ -8,13 +9,19 @@
 //! - `answers.rt`: what a callback answered is told
 //! - `gate.rt`, `park.rt`, `tries.rt`: what a worker passes before each act; how it waits; how often it tries again
 //! - `moments.rt`: a clock's milliseconds, for those who want to tick by one; nothing is promised of time
-//! - specs/Steps: which steps are whose
+//! - specs/Rounds: what is made of a look; how a verdict is told
 //!
 //! # Contracts
 //!
-//! - `controller_loop`: the caller that comes back is the one that was given, and its own places grew by Serve and
-//!   Command alone
-//! - `event_loop`: likewise by Deliver, Take and Answer alone
+//! - `controller_loop`: the caller that comes back is the one that was given, moved on look by look (`Rounds`): each showed
+//!   what was to be done where the journal so far ended, and the packet that it showed was made, and then the order
+//!   (`Controls`), or memory was refused to it, which the caller counted; and nothing else
+//! - `event_loop`: likewise (`Handles`): the event that a look showed was handled; then the result went out, and some
+//!   callback's verdict, which it may give where it is told that and which fits its rule, was told for that transfer, right
+//!   behind it: by its Answer, behind which stands Stop just where that was a resubmission that wasn't accepted; or, where
+//!   memory was refused to that, by Stop, again and again until there was memory, or the worker gave up. What was refused is
+//!   counted by the caller, one by one: so where it counted none, each verdict was told as it was given. That it is the
+//!   callback which was submitted with the transfer is no clause
 //! - `Moments::at`: how many whole milliseconds an instant is behind the one from which they count: 0 for an earlier
 //!   one, 2^64 - 1 for one that is later than that. `start` and `now` read a clock, of which no contract speaks
 //!

@@ -1,4 +1,8 @@
-use Rattle.std.proofs.Common.{arith, length, ap, sym, ◌∙◌}
+use Rattle.std.proofs.Common.{arith, length, map, ap, sym, subst, ◌∙◌, ◌++◌, ◌≤◌}
+use Rattle.usb_receipts.specs.Rule.{Stood, claimed}
+use Rattle.usb_journal.specs.Seen.{caller_of}
+use Rattle.usb_library.specs.Calls.{position_of}
+use Rattle.usb_library.proofs.Known.{all_know, number_count}
 use Rattle.usb_library.proofs.library.Library.finish.Goals as goal
 
 pub returns-clause-found : goal.returns-clause-found
@@ -11,3 +15,16 @@ returns-clause-counted g c =
       omega (arith, journal, c.finish-journal.ensures.total, c.into_spare-spare.ensures.1, c.bring.ensures.amount, all),
       c.finish-journal.ensures.counted ∙ sym journal,
     )
+
+pub returns-clause-own : goal.returns-clause-own
+returns-clause-own g c =
+    let seen = c.finish-journal.ensures.seen in
+    let callers = c.args.callers.items in
+    let back = ap (λ x. x.back) c.bring.ensures.back ∙ ap (λ x. x.back ++ map position_of callers) c.close-closing.ensures in
+    rw c.finish-journal.ensures.journal (all_know c.bring.new.closing.journal seen.0 callers (subst (λ l. Stood caller_of c.bring.new.closing.journal seen.0 l) back seen.1) c.bring.ensures.own)
+
+pub returns-clause-numbers : goal.returns-clause-numbers
+returns-clause-numbers g c =
+    let callers = c.args.callers.items in
+    let back = ap (λ x. x.back) c.bring.ensures.back ∙ ap (λ x. x.back ++ map position_of callers) c.close-closing.ensures in
+    λ n. subst (λ k. k ≤ 1) (ap (claimed n) back ∙ number_count n callers) (c.finish-journal.ensures.numbers n)

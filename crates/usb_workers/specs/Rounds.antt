@@ -1,0 +1,100 @@
+-- What the workers make of each look: of all that it showed one step, and what a callback answers.
+use Rattle.std.specs.Prelude.{◌≡◌, ℕ, zero, suc, Bool, true, false, List, Option, Some, None}
+use Rattle.usb_model.specs.declared.reply.Reply.{Reply}
+use Rattle.usb_model.specs.declared.reply.Reply.TheVariants.{Called, Idle, Number}
+use Rattle.usb_model.specs.declared.reply.Returned.{Returned}
+use Rattle.usb_model.specs.declared.step.Step.{Step}
+use Rattle.usb_model.specs.declared.step.Step.TheVariants.{Answer, Command, Deliver, Serve, Take}
+use Rattle.usb_model.specs.declared.verdict.Rule.{Rule}
+use Rattle.usb_model.specs.declared.verdict.Verdict.{Verdict}
+use Rattle.usb_model.specs.declared.verdict.Verdict.TheVariants.{Stop}
+use Rattle.usb_model.specs.Numbers.{is_stop}
+use Rattle.usb_model.specs.Setup.{Setup}
+use Rattle.usb_core.specs.Public.{Pending}
+use Rattle.usb_callback.specs.Callbacks.{Fits}
+use Rattle.usb_journal.specs.declared.events.Events.{Events}
+use Rattle.usb_journal.specs.declared.place.Place.{Place}
+use Rattle.usb_journal.specs.Seen.{Receipted}
+use Rattle.usb_library.specs.Calls.{Calling, LooksOn, Makes, misses}
+
+-- a caller to whom memory was refused so often, in a row
+unfoldable pub missed_by : ℕ → Calling → Calling
+missed_by zero c = c
+missed_by (suc k) c = misses (missed_by k c)
+
+-- whether a reply accepts a submission
+abbrev pub is_accepted : Reply → Bool
+is_accepted (Number n) = true
+is_accepted reply = false
+
+-- a verdict that some callback may give where it is told this, and that fits its rule
+abbrev pub MayAnswer : {C : Type 0} → (C → Returned → Verdict → Type 0) → (C → Rule) → Returned → Verdict → Type 0
+MayAnswer {C} may_answer rule x v = (c : C) × may_answer c x v × Fits (rule c) x v
+
+-- setup: of the library's devices
+module _ (setup : Setup) where
+  -- a step is made for a caller; or memory is refused to it, which the caller counts
+  pub data Does (step : Step) (old new : Calling) : Type 0 where
+    made : (r : Receipted) → Makes setup step old new r → Does step old new
+    missed : new ≡ misses old → Does step old new
+
+  -- it is where a look showed that it does something, and nothing is elsewhere
+  abbrev pub DoesIf : Bool → Step → Calling → Calling → Type 0
+  DoesIf true step old new = Does step old new
+  DoesIf false step old new = new ≡ old
+
+  -- the packet that a look showed, if it showed one
+  abbrev pub Serves : Option (ℕ × ℕ) → Calling → Calling → Type 0
+  Serves None old new = new ≡ old
+  Serves (Some at) old new = Does (Serve at.0 at.1) old new
+
+  -- a look of the controller's worker: the packet that it showed, then the order
+  pub record Controls (look : Pending) (old new : Calling) : Type 0 where
+    pub between : Calling
+    pub packet : Serves look.serve old between
+    pub order : DoesIf look.command Command between new
+
+  -- the end of a transfer's callback is told, after memory was refused to it some times or never; or the worker gives up behind such a refusal
+  pub data Ends (h n : ℕ) (old new : Calling) : Type 0 where
+    told : (k : ℕ) (r : Receipted) → Makes setup (Answer h n Stop) (missed_by k old) new r → Ends h n old new
+    given_up : (k : ℕ) → new ≡ missed_by (suc k) old → Ends h n old new
+
+  -- what comes of the resubmission that a verdict asks for, if it asks for one; left: whether the callback isn't called again
+  pub data Resubmits (h n : ℕ) (v : Verdict) (left : Bool) (old new : Calling) : Type 0 where
+    asks_none : v ≡ Stop → left ≡ true → new ≡ old → Resubmits h n v left old new
+    accepted : is_stop v ≡ false → left ≡ false → (r : Receipted) → Makes setup (Answer h n v) old new r → is_accepted r.entry.entry.reply ≡ true → Resubmits h n v left old new
+    refused : is_stop v ≡ false → left ≡ true → (r : Receipted) → Makes setup (Answer h n v) old new r → is_accepted r.entry.entry.reply ≡ false → Resubmits h n v left old new
+    missed : is_stop v ≡ false → left ≡ true → new ≡ misses old → Resubmits h n v left old new
+
+  -- the verdict of a transfer's callback is told: its resubmission is accepted; or it asks for none, or that is refused or finds no memory, and behind it the end is told
+  pub data Tells (h n : ℕ) (v : Verdict) (old new : Calling) : Type 0 where
+    goes_on : Resubmits h n v false old new → Tells h n v old new
+    ends : (between : Calling) → Resubmits h n v true old between → Ends h n between new → Tells h n v old new
+
+  -- the oldest result is taken out for whoever is given it, if one waits; or there is no memory for that
+  pub data Takes (given : Option Returned) (old new : Calling) : Type 0 where
+    idle : given ≡ None → (r : Receipted) → Makes setup Take old new r → r.entry.entry.reply ≡ Idle → Takes given old new
+    out : (x : Returned) → given ≡ Some x → (r : Receipted) → Makes setup Take old new r → r.entry.entry.reply ≡ Called x → Takes given old new
+    missed : given ≡ None → new ≡ misses old → Takes given old new
+
+  -- a result is taken out, and the verdict of its callback is told; or none waits, or there is no memory for that
+  pub data CallsBack (may : Returned → Verdict → Type 0) (old new : Calling) : Type 0 where
+    none : Takes None old new → CallsBack may old new
+    called : (between : Calling) (x : Returned) (v : Verdict) → Takes (Some x) old between → may x v → Tells x.h x.n v between new → CallsBack may old new
+
+  -- where a look showed a result
+  abbrev pub CallsBackIf : (Returned → Verdict → Type 0) → Bool → Calling → Calling → Type 0
+  CallsBackIf may true old new = CallsBack may old new
+  CallsBackIf may false old new = new ≡ old
+
+  -- a look of the worker that handles events: the event that it showed, then the result
+  pub record Handles (may : Returned → Verdict → Type 0) (look : Events) (old new : Calling) : Type 0 where
+    pub between : Calling
+    pub event : DoesIf look.deliver Deliver old between
+    pub result : CallsBackIf may look.take between new
+
+-- look by look: what each showed is what there was to be seen in the journal so far, and is made
+pub data Rounds {Look : Type 0} (Shows : List Place → Look → Type 0) (Act : Look → Calling → Calling → Type 0) (old : Calling) : Calling → Type 0 where
+  none : Rounds Shows Act old old
+  more : (look : Look) (between looked new : Calling) → Rounds Shows Act old between → LooksOn between looked → Shows looked.seen look → Act look looked new → Rounds Shows Act old new
+  last : (between new : Calling) → Rounds Shows Act old between → LooksOn between new → Rounds Shows Act old new
