@@ -4,7 +4,7 @@
 # refuses that. `make doc` writes doc/index.html, the public items of all crates with their contracts. `make c` builds the core
 # for C, proved, and tries it: bin/libtirnouch_core.a and .so, with c/include/tirnouch_core.h; `make bench_c` measures it. `make c-usb`
 # builds libusb's own interface over it, bin/libusb-1.0.so.0 and .a; `make c-test` tries it, and `make c-abi` compares the header with libusb's.
-# `make hostile` tries bin/usbtrace in hostile ways, some minutes; HOSTILE has options of tools/hostile, or parts.
+# `make hostile` tries the programs in hostile ways, some minutes; HOSTILE has options of tools/hostile, or parts.
 
 SCENARIO = rows/cancel_amid_transfer.in
 
@@ -118,6 +118,7 @@ bench_c: bin/libtirnouch_core.a
 .PHONY: hostile
 hostile:
 	@tools/program.py state
+	@tools/program.py try check_calls check_random
 	@python3 tools/hostile $(HOSTILE)
 
 wrong_bodies:

@@ -1,10 +1,10 @@
 #!/usr/bin/env python3
 """Crates that people use, built into bin/: the program usbtrace as bin/usbtrace, so that each scenario takes milliseconds.
 
-    tools/program.py try              builds usbtrace unproved, in one build, where its files changed: a minute or two
+    tools/program.py try [NAME ..]    builds usbtrace unproved, or other programs, where their files changed: a minute or two each
     tools/program.py build            builds it proved, as the gate does, crate beside crate: what isn't kept on this machine is proved
     tools/program.py build NAME ..    the same of other crates: a program as bin/NAME, a static library as bin/libNAME.a
-    tools/program.py keep             takes the usbtrace that the gate has just proved and built
+    tools/program.py keep             takes what the gate has just proved and built: usbtrace, check_calls and check_random
     tools/program.py state            says which usbtrace stands there, on standard error
 
 An unproved build has the same code with checks: it stops at an index out of bounds or an overflow."""
@@ -21,9 +21,13 @@ import time
 
 ROOT = pathlib.Path(__file__).resolve().parent.parent
 BIN = ROOT / "bin"
-CRATE = ROOT / "crates" / "usbtrace"
+CRATES = ROOT / "crates"
+# The programs that are taken from the gate, which tools/hostile tries.
+KEPT = ("usbtrace", "check_calls", "check_random")
 # The kit: the folder above that of `rt`.
 KIT = pathlib.Path(shutil.which("rt") or "rt").resolve().parent.parent
+# Words with which a run of a program is short, by which it is built unproved; of others, without words.
+SHORT = {"usbtrace": ("run",), "check_random": ("refusals", "1")}
 # How often, in seconds, the folder of an unproved build is looked at for the program: it is gone when the build ends.
 LOOK = 0.002
 
@@ -55,7 +59,7 @@ def sum_of_files(name):
     for it in sorted(below(name, known)):
         made.update(known[it][0].encode())
         for part in ("src", "specs", "proofs"):
-            for path in sorted((ROOT / "crates" / it / part).rglob("*")):
+            for path in sorted((CRATES / it / part).rglob("*")):
                 if path.is_file():
                     made.update(str(path.relative_to(ROOT)).encode() + b"\0" + path.read_bytes())
     return made.hexdigest()
@@ -116,25 +120,24 @@ class Watch(threading.Thread):
         return True
 
 
-def build_unproved():
-    """The unproved program, where another isn't there already."""
-    if state("usbtrace"):
+def build_unproved(name):
+    """An unproved program, where another isn't there already."""
+    if state(name):
         return 0
-    made_of = sum_of_files("usbtrace")
-    with tempfile.TemporaryDirectory(prefix="usbtrace-") as folder:
+    made_of = sum_of_files(name)
+    with tempfile.TemporaryDirectory(prefix=f"{name}-") as folder:
         watch = Watch(folder)
         watch.start()
-        words = ["rt", "try", "--steps", "1", "--", "run"]
-        ran = subprocess.run(
-            words, cwd=CRATE, env={**os.environ, "TMPDIR": folder}, stdin=subprocess.DEVNULL, capture_output=True, text=True
-        )
+        words = ["rt", "try", "--steps", "1", "--", *SHORT.get(name, ())]
+        env = {**os.environ, "TMPDIR": folder}
+        ran = subprocess.run(words, cwd=CRATES / name, env=env, stdin=subprocess.DEVNULL, capture_output=True, text=True)
         watch.is_over = True
         watch.join()
         if ran.returncode or watch.found is None:
             sys.stderr.write(ran.stdout + ran.stderr)
-            print("usbtrace isn't built: see above", file=sys.stderr)
+            print(f"{name} isn't built: see above", file=sys.stderr)
             return 1
-        keep("usbtrace", watch.found, "unproved", made_of)
+        keep(name, watch.found, "unproved", made_of)
     return 0
 
 
@@ -144,7 +147,7 @@ def copy_below(name, folder, leaves_out):
     names = below(name, known) - leaves_out
     for it in names:
         leave = shutil.ignore_patterns("out", "must-fail", *(["tests", "tests.rt"] if it == "usbtrace" else []))
-        shutil.copytree(ROOT / "crates" / it, folder / "crates" / it, ignore=leave)
+        shutil.copytree(CRATES / it, folder / "crates" / it, ignore=leave)
         main = folder / "crates" / it / "src" / "main.rt"
         if main.is_file():
             main.write_text(re.sub(r"#\[cfg\(test\)\]\nmod tests;\n\n?", "", main.read_text()))
@@ -167,7 +170,7 @@ def prove_static(name, folder):
         words += ["-L", f"dependency={it}"]
     words += ["--antt-project", KIT / "rattle" / "logic" / "antt-project.json", "--logic-built", KIT / "logic_built"]
     words += ["--links", f"{name}=", "--jobs", "1", "--toolchain", KIT / "toolchain", "-o", folder / f"lib{name}.a"]
-    return subprocess.run(words, cwd=ROOT / "crates" / name, stdout=sys.stderr).returncode
+    return subprocess.run(words, cwd=CRATES / name, stdout=sys.stderr).returncode
 
 
 def build(name):
@@ -189,13 +192,13 @@ def build(name):
     return 0
 
 
-def take_from_gate():
-    """The usbtrace that the gate has just built."""
-    built = CRATE / "out" / "usbtrace"
+def take_from_gate(name):
+    """A program that the gate has just built."""
+    built = CRATES / name / "out" / name
     if not built.is_file():
-        print("there is no crates/usbtrace/out/usbtrace: the gate builds it", file=sys.stderr)
+        print(f"there is no crates/{name}/out/{name}: the gate builds it", file=sys.stderr)
         return 1
-    keep("usbtrace", built, "proved", sum_of_files("usbtrace"))
+    keep(name, built, "proved", sum_of_files(name))
     return 0
 
 
@@ -208,19 +211,25 @@ def tell():
     return 0
 
 
+def each(done, names):
+    """Does this for each name, up to the first that it fails for."""
+    return next((status for it in names if (status := done(it))), 0)
+
+
 def main(words):
-    plain = {"try": build_unproved, "keep": take_from_gate, "state": tell}
-    if len(words) == 1 and words[0] in plain:
-        return plain[words[0]]()
-    if words[:1] == ["build"]:
-        names = words[1:] or ["usbtrace"]
-        strange = [it for it in names if it not in uses()]
-        if strange:
-            print(f"crates.txt has no {strange[0]}", file=sys.stderr)
-            return 2
-        return next((status for it in names if (status := build(it))), 0)
-    print(__doc__)
-    return 2
+    word, names = (words or [""])[0], words[1:]
+    if words == ["keep"]:
+        return each(take_from_gate, KEPT)
+    if words == ["state"]:
+        return tell()
+    if word not in ("try", "build"):
+        print(__doc__)
+        return 2
+    strange = [it for it in names if it not in uses()]
+    if strange:
+        print(f"crates.txt has no {strange[0]}", file=sys.stderr)
+        return 2
+    return each(build_unproved if word == "try" else build, names or ["usbtrace"])
 
 
 sys.exit(main(sys.argv[1:]))

@@ -13,7 +13,8 @@ refused, and once this call and all behind it. So with the threads that are made
                within six times that by the clock
 
 Prints a line for each scenario and word, and one for each wrong run; status 1 where there is one. With --same only `unharmed`
-is right, and one call at a time is refused: for `check_calls refusals`, which makes each call again. Needs a C compiler."""
+is right, and one call at a time is refused: for `check_calls refusals` and both words of check_random, which make again what
+was refused. Needs a C compiler."""
 import argparse
 import collections
 import itertools
@@ -323,12 +324,12 @@ def tell(name, runs):
     return not count["wrong"]
 
 
-def tries_same(room, words, seconds):
+def tries_same(room, words, seconds, most=None):
     """The runs of a program that makes each call again where it is refused."""
     whole = room.ran(words, b"", seconds=seconds)
     if not is_sound(whole):
         yield NOTHING, "wrong", whole
-    for call in range(1, whole.made["memory"] + 1):
+    for call in spread(whole.made["memory"], most):
         failing = Failing("memory", call, call)
         it = room.ran(words, b"", failing, seconds)
         yield failing, "unharmed" if is_unharmed(it, whole, True) and not it.status else "wrong", it

@@ -4,6 +4,7 @@
     python3 tools/hostile gate         some of each part, by one processor in half a minute; the gate asks it
 
     memory         every word over every row: an allocation or a thread is refused, alone or with all behind it
+    again          check_calls and check_random, which make again what an allocation was refused to
     random         every word over random scenarios
     damaged        every word over rows and random scenarios in which bytes, words or lines are changed
     streams        every word: reads and writes that fail, are cut short or interrupted; streams that are closed, full or broken
@@ -12,8 +13,8 @@
 
 What is wrong is printed, and the status is 1, but for what known.txt knows. Needs a C compiler.
 
-The modules, from below: runs (how a word is run, and what a run comes to); scenarios (random and damaged texts); memory, texts,
-streams, sizes, descriptors (the parts: their cases, and what each has to come to)."""
+The modules, from below: runs (how a word is run, and what a run comes to); scenarios (random and damaged texts); memory, again,
+texts, streams, sizes, descriptors (the parts: their cases, and what each has to come to)."""
 import argparse
 import collections
 import concurrent.futures
@@ -27,6 +28,7 @@ import sys
 # Where refuse_allocations.py stands, which the modules use.
 sys.path.append(str(pathlib.Path(__file__).resolve().parent.parent))
 
+import again
 import descriptors
 import memory
 import sizes
@@ -38,6 +40,7 @@ from runs import ROOT, Runs
 KNOWN = pathlib.Path(__file__).resolve().parent / "known.txt"
 PARTS = {
     "memory": memory.PART,
+    "again": again.PART,
     **{name: texts.part(text_of) for name, text_of in texts.TEXTS.items()},
     "streams": streams.PART,
     "sizes": sizes.PART,

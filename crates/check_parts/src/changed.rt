@@ -1,4 +1,4 @@
-//! A configuration descriptor, and the same with one byte changed.
+//! A configuration descriptor with one byte changed, and a TRB with one bit flipped.
 
 /// Interface 0 with the endpoints 81 and 02, and interface 1 with 83.
 pub const TWO_INTERFACES: [u8; 48] = [
@@ -14,4 +14,13 @@ pub fn changed(index: usize, byte: u8) -> [u8; 48] {
         bytes[index] = byte;
     }
     bytes
+}
+
+/// Sixteen bytes with one bit flipped; bit 0 is the lowest of byte 0.
+pub fn flipped(bytes: &[u8; 16], bit: usize) -> [u8; 16] {
+    let mut flipped = *bytes;
+    if let Some(byte) = flipped.get_mut(bit / 8) {
+        *byte ^= 1 << (bit % 8);
+    }
+    flipped
 }

@@ -1,10 +1,21 @@
 //! A log with two bearers, each of whose tokens may cross threads.
 
-ghost use Rattle.std.specs.Prelude.{IfOk, [], ◌∷◌, ◌≡◌};
+ghost use Rattle.std.specs.Prelude.{ℕ, IfOk, List, [], ◌∷◌, ◌≡◌};
 
 use anyhow::Result;
 use std::alloc::{AllocError, Global};
-use usb_receipts::{Keeper, Log, Position};
+use usb_receipts::{Borne, Keeper, Log, Position};
+
+/// An entry: for which bearer it is, and what it says.
+#[derive(Clone, Copy, PartialEq, Eq, Debug)]
+pub struct Note {
+    bearer: u64,
+    word: u64,
+}
+
+impl Borne for Note {
+    ghost bearer = { λ note. note.bearer };
+}
 
 /// Plays the scene of the log.
 pub fn play<P: Print>(rt: &P, alloc: Global) -> Result<()> {
@@ -27,21 +38,28 @@ fn crosses<T: Send>(value: T) -> T
     value
 }
 
-/// Three entries by two bearers: the keeper, who took in the claims of the first, and the first's position.
-fn three_entries(alloc: Global) -> Result<(Keeper<u64>, Position<u64>), AllocError>
-    ensures entries { IfOk result (λ r. r.0.entries ≡ 7 ∷ 8 ∷ 9 ∷ []) }
-    ensures taken { IfOk result (λ r. r.0.taken ≡ (0, 7) ∷ (2, 9) ∷ []) }
-    ensures own { IfOk result (λ r. r.1.own ≡ 7 ∷ 9 ∷ []) }
-    ensures position { IfOk result (λ r. r.1.position ≡ 3) }
+/// A note of this bearer.
+fn noted(bearer: u64, word: u64) -> Note
+    ensures { result ≡ record { bearer = bearer; word = word } }
+{
+    Note { bearer, word }
+}
+
+/// Three entries by two bearers: the keeper, who took in the claims of the first, and the first's position, who then looked.
+fn three_entries(alloc: Global) -> Result<(Keeper<Note>, Position<Note>), AllocError>
+    ensures entries { IfOk result (λ r. r.0.entries ≡ record { bearer = 0; word = 7 } ∷ record { bearer = 0; word = 9 } ∷ record { bearer = 1; word = 8 } ∷ []) }
+    ensures taken { IfOk result (λ r. r.0.taken ≡ (0, record { bearer = 0; word = 7 }) ∷ (1, record { bearer = 0; word = 9 }) ∷ []) }
+    ensures seen { IfOk result (λ r. r.1.positions ≡ (0, r.0.entries) ∷ []) }
 {
     let (log, keeper) = Log::open(alloc)?;
     let log = shared(log);
     let mut keeper = crosses(keeper);
     let mut first = crosses(log.position(&mut keeper));
     let mut second = log.position(&mut keeper);
-    let earlier = crosses(log.enter(&mut keeper, &mut first, 7));
-    let _other = log.enter(&mut keeper, &mut second, 8);
-    let later = log.enter(&mut keeper, &mut first, 9);
+    let earlier = crosses(log.enter(&mut keeper, &mut first, noted(0, 7)));
+    let later = log.enter(&mut keeper, &mut first, noted(0, 9));
+    let _other = log.enter(&mut keeper, &mut second, noted(1, 8));
+    log.look(&mut keeper, &mut first);
     log.take_in(&mut keeper, earlier);
     log.take_in(&mut keeper, later);
     log.check(&mut keeper);

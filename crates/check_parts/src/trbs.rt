@@ -1,11 +1,57 @@
 //! TRBs of each kind, as bytes that are written and read (xHCI 1.2, 6.4).
 
+use crate::changed::flipped;
 use crate::expect::{expect, present};
 use anyhow::Result;
 use usb_trb::{
     EndpointId, Length, Normal, Pointer, Residual, Slot, Trb, TrbKind, Unknown, decode,
     decode_normal, encode, is_no_op,
 };
+
+/// The bytes of a TRB of each kind, each with its cycle bit set. A buffer at 100000000, 8 bytes, ISP and IOC.
+const NORMAL: [u8; 16] = [0, 0, 0, 0, 1, 0, 0, 0, 8, 0, 0, 0, 0x25, 4, 0, 0];
+
+/// To 10023000, and the cycle turns.
+const LINK: [u8; 16] = [0, 0x30, 2, 0x10, 0, 0, 0, 0, 0, 0, 0, 0, 3, 0x18, 0, 0];
+
+const NO_OP: [u8; 16] = [0, 0, 0, 0, 0, 0, 0, 0, 0, 0, 0, 0, 1, 0x20, 0, 0];
+
+/// Of slot 1, endpoint id 3, as are those below.
+const RESET_ENDPOINT: [u8; 16] = [0, 0, 0, 0, 0, 0, 0, 0, 0, 0, 0, 0, 1, 0x38, 3, 1];
+
+const STOP_ENDPOINT: [u8; 16] = [0, 0, 0, 0, 0, 0, 0, 0, 0, 0, 0, 0, 1, 0x3c, 3, 1];
+
+/// To 10023010, with DCS.
+const SET_DEQUEUE: [u8; 16] = [0x11, 0x30, 2, 0x10, 0, 0, 0, 0, 0, 0, 0, 0, 1, 0x40, 3, 1];
+
+/// At 10023000, with a residual of 5 and code 13.
+const TRANSFER_EVENT: [u8; 16] = [0, 0x30, 2, 0x10, 0, 0, 0, 0, 5, 0, 0, 13, 1, 0x80, 3, 1];
+
+/// At 20000000, with code 1; it names no endpoint.
+const COMMAND_COMPLETION: [u8; 16] = [0, 0, 0, 0x20, 0, 0, 0, 0, 0, 0, 0, 1, 1, 0x84, 0, 1];
+
+/// How many of the 128 that differ from each of them in one bit are TRBs: those in which a field is another, and within its
+/// range (xHCI 1.2, 6.4). Of other types only Reset and Stop Endpoint have the same fields, and differ in one bit.
+const FLIPPED: [([u8; 16], u32); 8] = [
+    // 64 bits of the buffer, 16 of the length, since with the last it is over 65,536; ISP, CH, IOC and the cycle bit.
+    (NORMAL, 84),
+    // 60 of the pointer; Toggle Cycle, CH and the cycle bit.
+    (LINK, 63),
+    // The cycle bit.
+    (NO_OP, 1),
+    // 5 of the endpoint id, 7 of the slot, since without its only one it is 0; the cycle bit; and the type of the other.
+    (RESET_ENDPOINT, 14),
+    (STOP_ENDPOINT, 14),
+    // 60 of the pointer and DCS; 5 of the endpoint id, 7 of the slot and the cycle bit.
+    (SET_DEQUEUE, 74),
+    // 60 of the pointer, 24 of the residual, 8 of the code; 5 of the endpoint id, 7 of the slot and the cycle bit.
+    (TRANSFER_EVENT, 105),
+    // 60 of the pointer, 8 of the code; 7 of the slot and the cycle bit.
+    (COMMAND_COMPLETION, 76),
+];
+
+/// How many they are of each.
+const BITS: u32 = 128;
 
 /// Bytes that no TRB is written as, and their fault.
 const UNKNOWN: [([u8; 16], &str); 6] = [
@@ -40,6 +86,10 @@ pub fn play<P: Print>(rt: &P) -> Result<()> {
     println!(rt; "a TRB of each kind: it is written as its bytes, and read from them")?;
     unknown_bytes()?;
     println!(rt; "bytes that no TRB is written as: they are unknown, whatever their fault")?;
+    let (known, unknown) = flipped_bits()?;
+    println!(rt;
+        "a TRB of each kind, each bit flipped: {known} are TRBs, written as these bytes, and {unknown} are unknown"
+    )?;
     Ok(())
 }
 
@@ -125,7 +175,7 @@ fn transfer_trbs() -> Result<()> {
             chain: false,
             done: true,
         }),
-        &[0, 0, 0, 0, 1, 0, 0, 0, 8, 0, 0, 0, 0x25, 4, 0, 0],
+        &NORMAL,
     )?;
     is_written(
         "a Link TRB",
@@ -134,13 +184,9 @@ fn transfer_trbs() -> Result<()> {
             toggle: true,
             chain: false,
         },
-        &[0, 0x30, 2, 0x10, 0, 0, 0, 0, 0, 0, 0, 0, 3, 0x18, 0, 0],
+        &LINK,
     )?;
-    is_written(
-        "a No Op TRB",
-        TrbKind::NoOp,
-        &[0, 0, 0, 0, 0, 0, 0, 0, 0, 0, 0, 0, 1, 0x20, 0, 0],
-    )
+    is_written("a No Op TRB", TrbKind::NoOp, &NO_OP)
 }
 
 /// The commands.
@@ -149,12 +195,12 @@ fn commands() -> Result<()> {
     is_written(
         "a Reset Endpoint Command TRB",
         TrbKind::ResetEndpoint { slot, id },
-        &[0, 0, 0, 0, 0, 0, 0, 0, 0, 0, 0, 0, 1, 0x38, 3, 1],
+        &RESET_ENDPOINT,
     )?;
     is_written(
         "a Stop Endpoint Command TRB",
         TrbKind::StopEndpoint { slot, id },
-        &[0, 0, 0, 0, 0, 0, 0, 0, 0, 0, 0, 0, 1, 0x3c, 3, 1],
+        &STOP_ENDPOINT,
     )?;
     is_written(
         "a Set TR Dequeue Pointer Command TRB",
@@ -164,7 +210,7 @@ fn commands() -> Result<()> {
             slot,
             id,
         },
-        &[0x11, 0x30, 2, 0x10, 0, 0, 0, 0, 0, 0, 0, 0, 1, 0x40, 3, 1],
+        &SET_DEQUEUE,
     )
 }
 
@@ -180,7 +226,7 @@ fn events() -> Result<()> {
             slot,
             id: id()?,
         },
-        &[0, 0x30, 2, 0x10, 0, 0, 0, 0, 5, 0, 0, 0x0d, 1, 0x80, 3, 1],
+        &TRANSFER_EVENT,
     )?;
     is_written(
         "a Command Completion Event TRB",
@@ -189,7 +235,7 @@ fn events() -> Result<()> {
             code: 1,
             slot,
         },
-        &[0, 0, 0, 0x20, 0, 0, 0, 0, 0, 0, 0, 1, 1, 0x84, 0, 1],
+        &COMMAND_COMPLETION,
     )
 }
 
@@ -205,4 +251,53 @@ fn unknown_bytes() -> Result<()> {
         expect(reads_normal(bytes, None), fault, "a Normal TRB is read")?;
     }
     Ok(())
+}
+
+/// Whether a TRB is read from these bytes. An error where it is written as others, and unless all readers agree on them; a No
+/// Op is told by the type alone, bits 15 to 10 of the last number.
+fn is_known(bytes: &[u8; 16]) -> Result<bool> {
+    let found = decode(bytes).ok();
+    let normal = match &found {
+        Some(trb) => normal_in(&trb.kind),
+        None => None,
+    };
+    expect(
+        reads_normal(bytes, normal),
+        "a flipped bit",
+        "another Normal TRB is read",
+    )?;
+    expect(
+        is_no_op(bytes) == (bytes[13] / 4 == 8),
+        "a flipped bit",
+        "whether it is a No Op is told wrong",
+    )?;
+    let Some(trb) = found else {
+        return Ok(false);
+    };
+    let agrees = writes(&trb, bytes) && tells_no_op(bytes, &trb.kind);
+    expect(agrees, "a flipped bit", "another TRB is read")?;
+    Ok(true)
+}
+
+/// How many TRBs differ from these bytes in one bit.
+fn near(bytes: &[u8; 16]) -> Result<u32> {
+    let mut count: u32 = 0;
+    for bit in 0..128 {
+        if is_known(&flipped(bytes, bit))? {
+            count = count.saturating_add(1);
+        }
+    }
+    Ok(count)
+}
+
+/// How many bytes that differ from a TRB in one bit are TRBs, and how many are unknown.
+fn flipped_bits() -> Result<(u32, u32)> {
+    let (mut known, mut unknown): (u32, u32) = (0, 0);
+    for (bytes, count) in &FLIPPED {
+        let found = near(bytes)?;
+        expect(found == *count, "a flipped bit", "so many are no TRBs")?;
+        known = known.saturating_add(found);
+        unknown = unknown.saturating_add(BITS.saturating_sub(found));
+    }
+    Ok((known, unknown))
 }

@@ -1,21 +1,29 @@
 //! Random scenarios, each run by the core and by the plain program: their entries have to be the same.
 //!
+//! With the words `refusals SEED` it makes the steps of one scenario, with `drives SEED` it runs a plan of these steps. What it
+//! prints is the same whichever allocation was refused: what finds no memory is done again.
+//!
 //! # Files
 //!
 //! - `dice.rt`: numbers that look random, the same at each run
 //! - `scene.rt`, `steps.rt`: two devices with random scripts, for both programs; random steps
 //! - `seen.rt`, `trial.rt`: which kinds of replies were seen; one scenario, run by both
 //! - `plan.rt`: a plan whose callbacks are called, and what is told of it
+//! - `refusals.rt`, `drives.rt`: steps with their payloads, and a random plan, made again where memory is refused
 #![tactic(auto)]
 
 mod dice;
+mod drives;
 mod plan;
+mod refusals;
 mod scene;
 mod seen;
 mod steps;
 mod trial;
 
-use anyhow::Result;
+use anyhow::{Result, anyhow};
+use std::alloc::Global;
+use std::env;
 
 /// How many scenarios there are.
 const SCENARIOS: u64 = 300;
@@ -23,16 +31,58 @@ const SCENARIOS: u64 = 300;
 /// How many steps each of them has.
 const STEPS: u64 = 400;
 
-fn main(rt: HostRuntime) -> Result<()> {
+/// So often a thing is tried where memory is refused; and what is said then.
+const TRIES: u32 = 3;
+
+const REFUSED: &str = "memory is refused again and again";
+
+/// Runs all scenarios, and the plan.
+fn check<R: Print>(rt: &R, alloc: Global) -> Result<()> {
     let mut seen = seen::Seen::default();
     for seed in 0..SCENARIOS {
-        trial::run(rt.alloc(), seed, STEPS, &mut seen)?;
+        trial::run(alloc, seed, STEPS, &mut seen)?;
     }
     seen.are_all()?;
     println!(rt;
         "{SCENARIOS} scenarios of {STEPS} steps: the same entries, each kind of reply among them"
     )?;
-    plan::run(rt.alloc())?;
+    plan::run(alloc)?;
     println!(rt; "a plan whose callbacks are called: as the rules have it")?;
     Ok(())
+}
+
+/// The words behind the program's name.
+fn words(rt: &HostRuntime, alloc: Global) -> Result<Vec<String>> {
+    for _ in 0..TRIES {
+        if let Ok(words) = env::args(rt) {
+            if let Ok(words) = words.skip(1).collect(alloc) {
+                return Ok(words);
+            }
+        }
+    }
+    Err(anyhow!(REFUSED))
+}
+
+/// The number of a seed.
+fn number(seed: &String) -> Result<u64> {
+    match seed.as_str().parse::<u64>() {
+        Ok(number) => Ok(number),
+        Err(_) => Err(anyhow!("a seed is a number")),
+    }
+}
+
+/// Does what the words ask for.
+fn run<R: Print>(rt: &R, alloc: Global, words: &[String]) -> Result<()> {
+    match words {
+        [] => check(rt, alloc),
+        [word, seed] if word.as_str() == "refusals" => refusals::play(rt, alloc, number(seed)?),
+        [word, seed] if word.as_str() == "drives" => drives::play(rt, alloc, number(seed)?),
+        _ => Err(anyhow!("refusals SEED, or drives SEED")),
+    }
+}
+
+fn main(rt: HostRuntime) -> Result<()> {
+    let alloc = rt.alloc();
+    let words = words(&rt, alloc)?;
+    run(&rt, alloc, words.as_slice())
 }

@@ -16,8 +16,10 @@ pub const ENDPOINTS: [u8; 5] = [0x81, 0x02, 0x83, 0x04, 0x85];
 /// How many devices there are.
 pub const DEVICES: u8 = 2;
 
-/// How many answers a script has.
-const ANSWERS: u8 = 120;
+/// How many answers a script has, which may be more than are asked for; and how many where each is an allocation to be refused.
+pub const ANSWERS: u8 = 120;
+
+pub const FEW_ANSWERS: u8 = 16;
 
 /// Interface 0 with the bulk endpoints 81 and 02 of 8 bytes, interface 1 with the interrupt endpoints 83 of 8 and 04 of 4.
 fn config() -> Result<Config> {
@@ -57,18 +59,19 @@ fn answer(alloc: Global, dice: &mut Dice, ep: EpAddr) -> Result<Response, AllocE
     })
 }
 
-/// A script at each endpoint id that has an endpoint.
+/// A script of so many answers at each endpoint id that has an endpoint.
 fn scripts(
     alloc: Global,
     dice: &mut Dice,
     config: &Config,
+    answers: u8,
 ) -> Result<Sequence<Script>, AllocError> {
     let mut scripts = Sequence::new(alloc);
     for id in 0..32_u8 {
         let ep = EpAddr::new(id / 2 + 128 * (id % 2));
         let mut script = Sequence::new(alloc);
         if config.endpoint(ep).is_some() {
-            for _ in 0..ANSWERS {
+            for _ in 0..answers {
                 script.push(answer(alloc, dice, ep)?)?;
             }
         }
@@ -101,19 +104,19 @@ pub fn plain(alloc: Global, seed: u64) -> Result<usb_model::Setup> {
         let config = config()?;
         setup.push(DeviceSetup {
             config: configuration(alloc, &config)?,
-            scripts: scripts(alloc, &mut dice, &config)?,
+            scripts: scripts(alloc, &mut dice, &config, ANSWERS)?,
         })?;
     }
     Ok(setup)
 }
 
-/// The same for the core.
-pub fn real(alloc: Global, seed: u64) -> Result<Setup<TableDevice>> {
+/// The same for the core, with so many answers in a script.
+pub fn real(alloc: Global, seed: u64, answers: u8) -> Result<Setup<TableDevice>> {
     let mut dice = Dice::new(seed);
     let mut setup = Setup::new(alloc)?;
     for _ in 0..DEVICES {
         let config = config()?;
-        let scripts = scripts(alloc, &mut dice, &config)?;
+        let scripts = scripts(alloc, &mut dice, &config, answers)?;
         let Ok(device) = TableDevice::new(alloc, &config, scripts) else {
             return Err(anyhow!("no device"));
         };

@@ -111,12 +111,32 @@ fn step(alloc: Global, dice: &mut Dice) -> Result<Step> {
     })
 }
 
-/// So many steps: first each name opens a device and claims an interface.
-pub fn steps(alloc: Global, seed: u64, count: u64) -> Result<Sequence<Step>> {
+/// Puts so many steps behind the others.
+fn put(alloc: Global, steps: &mut Sequence<Step>, seed: u64, count: u64) -> Result<()> {
     let mut dice = Dice::new(!seed);
-    let mut steps = Sequence::new(alloc);
     for _ in 0..count {
         steps.push(step(alloc, &mut dice)?)?;
     }
+    Ok(())
+}
+
+/// So many steps.
+pub fn steps(alloc: Global, seed: u64, count: u64) -> Result<Sequence<Step>> {
+    let mut steps = Sequence::new(alloc);
+    put(alloc, &mut steps, seed, count)?;
+    Ok(steps)
+}
+
+/// The same, before which each name opens a device and claims an interface: so most of them do something.
+pub fn busy(alloc: Global, seed: u64, count: u64) -> Result<Sequence<Step>> {
+    let mut steps = Sequence::new(alloc);
+    for (number, dev, i) in [(1, 0, 0), (2, 1, 1), (3, 0, 1)] {
+        let (Some(h), Some(dev)) = (Name::new(number), DeviceNo::new(dev)) else {
+            return Err(anyhow!("a name and a device"));
+        };
+        steps.push(Step::Open { h, dev })?;
+        steps.push(Step::Claim { h, i })?;
+    }
+    put(alloc, &mut steps, seed, count)?;
     Ok(steps)
 }

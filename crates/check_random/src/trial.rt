@@ -15,7 +15,11 @@ pub fn run(alloc: Global, seed: u64, count: u64, seen: &mut Seen) -> Result<()> 
     let Ok(plain) = plain_run::run(alloc, &setup, steps.as_slice()) else {
         return Err(anyhow!("scenario {seed}: the plain program stopped"));
     };
-    let Ok(real) = usb_core::run(alloc, scene::real(alloc, seed)?, steps.as_slice()) else {
+    let Ok(real) = usb_core::run(
+        alloc,
+        scene::real(alloc, seed, scene::ANSWERS)?,
+        steps.as_slice(),
+    ) else {
         return Err(anyhow!("scenario {seed}: the core stopped"));
     };
     let (mut expected, mut found) = (Vec::new(alloc), Vec::new(alloc));
