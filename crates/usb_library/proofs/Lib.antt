@@ -1,1 +1,5 @@
+mod CallWakes
 mod Known
+mod NewWork
+mod Served
+mod Works

@@ -26,7 +26,7 @@ fn delivered<L: Naming, P: Drop, D: Device, J: Recorder>(
 ) -> Result<(Answered<L>, bool), AllocError>
     ensures made { IfOk result (λ x. Makes L.setup Deliver caller.old caller.new x.0.receipt) }
     ensures entry { IfOk result (λ x. x.0.entry ≡ x.0.receipt.entry.entry) }
-    ensures order { IfOk result (λ x. x.1 ≡ does_something book.new.setup (world_where book.new.setup book.new.journal) Command) }
+    ensures order { IfOk result (λ x. x.1 ≡ does_something L.setup (world_where L.setup caller.new.seen) Command) }
     ensures refused { OnErr result (caller.new ≡ misses caller.old) }
 {
     let made = book.deliver(&mut caller.position);
@@ -164,8 +164,9 @@ impl<L: Naming, P: Drop, D: Device, J: Recorder> Library<L, P, D, J> {
         drop(guarded);
         let (receipt, entry) = caller.counted(made)?;
         let answered = Answered { receipt, entry };
+        let changed = answered.has_changed();
         let work = of_packet(&answered.entry.reply);
-        self.wake_if(rt, answered.has_changed(), work);
+        self.wake_if(rt, caller, &answered.receipt, changed, work);
         Ok(answered)
     }
 
@@ -193,8 +194,9 @@ impl<L: Naming, P: Drop, D: Device, J: Recorder> Library<L, P, D, J> {
         ensures refused { OnErr result (caller.new ≡ misses caller.old) }
     {
         let (answered, has_order) = delivered(&mut self.guarded.lock(rt).book, caller)?;
+        let changed = answered.has_changed();
         let work = of_event(&answered.entry.reply, has_order);
-        self.wake_if(rt, answered.has_changed(), work);
+        self.wake_if(rt, caller, &answered.receipt, changed, work);
         Ok(answered)
     }
 

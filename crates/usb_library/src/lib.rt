@@ -13,9 +13,12 @@
 //!   is looked for
 //! - `wakes.rt`: what there is to do; for which worker a step made work; who is unparked after a change; when all is
 //!   at rest
+//! - `laws.rt`: that nobody else has work by a step than those for whom it is said to have made some
 //! - `met.rt`: want of memory that a worker met, and callbacks that ended early
 //! - `finish.rt`: the end: the journal, or which callers are missing
 //! - specs/Calls: what a call makes (`Makes`), what a tick does (`Ticks`), and what a caller sees who looks (`LooksOn`)
+//! - specs/Wakes: what work each worker has (`HasWork`), for whom a step makes some (`work_of`), and that this names all who
+//!   have more than before (`Wakes`)
 //!
 //! # Contracts
 //!
@@ -42,12 +45,19 @@
 //! - `Library::caller`, `Caller::number`, `missed`, `Opening::new`, `Answered::granted`: a caller has no places yet, and what
 //!   is refused is refused as Busy (that there are 1,024 then is a clause behind the lock, and a scene); its number;
 //!   the devices are those given; the receipt exactly where the step wasn't refused
+//! - `laws::wakes`: behind any run and any step, a worker that has work had some before that step, or is named by the rule
+//!   `work_of`, by which the library wakes. The controller's worker has work where a packet or an order does something, that
+//!   of events where an event or a result does. The rule names the worker of events for a transfer that ended; the
+//!   controller's for a submission, also from within a callback, for an errand that settled, and for an event behind which an order waits;
+//!   nobody for a packet that ended no transfer, any other event, a result that goes out, a callback that ends, and what
+//!   is refused or idle; both for whatever else changed something. Each call that comes to wake has to name all who have
+//!   work since its step and had none before (`wake_if` requires it): one that names another, or nobody, isn't proved
 //! - `Ended::to_places`, `Ended::into_setup`: copies of the very places that the recorder has; the devices, as
 //!   `Core::into_setup` hands them back
 //!
 //! What `watch`, `watch_part`, `rested`, `stop_workers` and `end_workers` do, and what `has_lacked_memory` and `cuts` tell, has no contract: what a lock keeps is known by its type
-//! alone, so nothing can be said of it behind the call. That a worker is woken whenever a step made work for its part
-//! is argued in `wakes.rt`, and shown by scenes alone.
+//! alone, so nothing can be said of it behind the call. Nor is it a clause that a call comes to wake at all, and that this unparks
+//! whom the call names: scenes show it.
 //!
 //! A book under one lock (`Guarded`), called by many threads, each with a `Caller` of its own. Callbacks are handed out
 //! by `take`, and called by whoever took them, with no lock held. The comment at `Library` says what the lock is for,
@@ -59,6 +69,7 @@ mod caller;
 mod callers;
 mod calls;
 mod finish;
+pub mod laws;
 mod library;
 mod look;
 mod met;

@@ -4,6 +4,7 @@ ghost use Rattle.std.specs.Prelude.{◌≡◌, [], IfErr, IfOk, OnErr, false};
 ghost use Rattle.usb_model.specs.declared.refused.Refused.TheVariants.{Busy};
 ghost use Rattle.usb_model.specs.Numbers.{takes_payload};
 ghost use Rattle.usb_library.specs.Calls.{Makes, misses};
+ghost use Rattle.usb_library.specs.Wakes.{WakesSince, if_changed};
 
 use crate::answered::Answered;
 use crate::caller::Caller;
@@ -15,7 +16,7 @@ use crate::wakes::{Watchers, Work};
 use std::alloc::{AllocError, Global};
 use std::sync::{Mutex, Wait};
 use usb_device::Device;
-use usb_journal::{Book, Naming, Recorder};
+use usb_journal::{Book, Naming, Receipt, Recorder};
 use usb_model::{Refused, Step};
 
 /// What the lock guards.
@@ -116,12 +117,23 @@ impl<L: Naming, P: Drop, D: Device, J: Recorder> Library<L, P, D, J> {
             receipt,
             entry: stepped.entry,
         };
-        self.wake_if(rt, answered.has_changed(), Work::Any);
+        let changed = answered.has_changed();
+        self.wake_if(rt, caller, &answered.receipt, changed, Work::Any);
         Ok(answered)
     }
 
-    /// Where something changed those are woken who wait for that.
-    pub(crate) fn wake_if<R: Wait>(&self, rt: &R, changed: bool, work: Work) {
+    /// Where something changed those are woken who wait for that. Work is said for whoever has some since the caller's step at
+    /// this receipt's place, and had none before; where nothing changed there is no such worker.
+    pub(crate) fn wake_if<R: Wait>(
+        &self,
+        rt: &R,
+        caller: &Caller<L>,
+        receipt: &Receipt<L>,
+        changed: bool,
+        work: Work,
+    )
+        requires { WakesSince L.setup caller.now.seen receipt.now.place (if_changed changed work) }
+    {
         if changed {
             self.watchers.wake(rt, work);
         }

@@ -42,7 +42,7 @@ impl<L: Naming, P: Drop, D: Device, J: Recorder> Library<L, P, D, J> {
             .book
             .submit(h, request, callback, &mut caller.position);
         let (receipt, number) = caller.counted(made)?;
-        self.wake_if(rt, number.is_ok(), Work::Of(Part::Controller));
+        self.wake_if(rt, caller, &receipt, number.is_ok(), Work::Of(Part::Controller));
         Ok(Submitted { receipt, number })
     }
 
@@ -60,7 +60,7 @@ impl<L: Naming, P: Drop, D: Device, J: Recorder> Library<L, P, D, J> {
     {
         let made = self.guarded.lock(rt).book.take(&mut caller.position);
         let (receipt, taken) = caller.counted(made)?;
-        self.wake_if(rt, taken.is_some(), Work::None);
+        self.wake_if(rt, caller, &receipt, taken.is_some(), Work::None);
         Ok((receipt, taken))
     }
 
@@ -80,7 +80,8 @@ impl<L: Naming, P: Drop, D: Device, J: Recorder> Library<L, P, D, J> {
         let made = self.guarded.lock(rt).book.stop(h, n, &mut caller.position);
         let (receipt, entry) = caller.counted(made)?;
         let answered = Answered { receipt, entry };
-        self.wake_if(rt, answered.has_changed(), Work::None);
+        let changed = answered.has_changed();
+        self.wake_if(rt, caller, &answered.receipt, changed, Work::None);
         Ok(answered)
     }
 
@@ -105,9 +106,12 @@ impl<L: Naming, P: Drop, D: Device, J: Recorder> Library<L, P, D, J> {
             .lock(rt)
             .book
             .again(h, n, callback, &mut caller.position);
-        let (receipt, number) = caller.counted(made)?;
-        self.wake_if(rt, number.is_ok(), Work::Of(Part::Controller));
-        Ok(Submitted { receipt, number })
+        let (receipt, next) = caller.counted(made)?;
+        self.wake_if(rt, caller, &receipt, next.is_ok(), Work::Of(Part::Controller));
+        Ok(Submitted {
+            receipt,
+            number: next,
+        })
     }
 
     /// The same with other bytes to be sent in the place of what the transfer had. Where it is refused they come back.
@@ -130,9 +134,12 @@ impl<L: Naming, P: Drop, D: Device, J: Recorder> Library<L, P, D, J> {
             .lock(rt)
             .book
             .again_with(h, n, bytes, callback, &mut caller.position);
-        let (receipt, number) = caller.counted(made)?;
-        self.wake_if(rt, number.is_ok(), Work::Of(Part::Controller));
-        Ok(Submitted { receipt, number })
+        let (receipt, renewed) = caller.counted(made)?;
+        self.wake_if(rt, caller, &receipt, renewed.is_ok(), Work::Of(Part::Controller));
+        Ok(Submitted {
+            receipt,
+            number: renewed,
+        })
     }
 
     /// Time passes (libusb 1.0, `libusb_handle_events_timeout`): the moment becomes `now`, in milliseconds, or stays where it is
@@ -149,7 +156,9 @@ impl<L: Naming, P: Drop, D: Device, J: Recorder> Library<L, P, D, J> {
     {
         let made = self.guarded.lock(rt).book.tick(&mut caller.position, now);
         let receipts = caller.counted(made)?;
-        self.wake_if(rt, !receipts.is_empty(), Work::Any);
+        if let Some(first) = receipts.first() {
+            self.wake_if(rt, caller, first, true, Work::Any);
+        }
         Ok(receipts)
     }
 }

@@ -1,7 +1,8 @@
 //! Who is woken when something changed, and when all is at rest.
 
-ghost use Rattle.std.specs.Prelude.{IfSome};
+ghost use Rattle.std.specs.Prelude.{◌≡◌, IfSome};
 ghost use Rattle.usb_library.specs.Calls.{LooksOn, ShowsEvents, ShowsPending, WasPending};
+ghost use Rattle.usb_library.specs.Wakes.{of_event as event_work, of_packet as packet_work};
 
 use crate::caller::Caller;
 use crate::library::Library;
@@ -23,7 +24,7 @@ pub enum Part {
     Events,
 }
 
-/// For whom a step may have made work that wasn't there before it.
+/// For whom a step may have made work that wasn't there before it. That it is for nobody else is a law (`laws::wakes`).
 #[derive(Clone, Copy, PartialEq, Eq, Debug)]
 pub(crate) enum Work {
     /// For nobody: a packet that ends no transfer, a result that goes out, a callback that ends.
@@ -35,7 +36,9 @@ pub(crate) enum Work {
 }
 
 /// For whom a packet made work, by what came of it: a transfer that ended has its event.
-pub(crate) fn of_packet(reply: &Reply) -> Work {
+pub(crate) fn of_packet(reply: &Reply) -> Work
+    ensures { result ≡ packet_work reply.now }
+{
     match reply {
         Reply::Ended { .. } => Work::Of(Part::Events),
         _ => Work::None,
@@ -43,7 +46,9 @@ pub(crate) fn of_packet(reply: &Reply) -> Work {
 }
 
 /// For whom an event made work that was handled: there is an order, or an errand ended and its endpoint runs again.
-pub(crate) fn of_event(reply: &Reply, has_order: bool) -> Work {
+pub(crate) fn of_event(reply: &Reply, has_order: bool) -> Work
+    ensures { result ≡ event_work reply.now has_order }
+{
     match reply {
         Reply::Settled { .. } => Work::Of(Part::Controller),
         _ if has_order => Work::Of(Part::Controller),
@@ -97,9 +102,10 @@ impl Waiting {
 
 /// Those who wait: for any change, or for work of their part.
 ///
-/// A worker parks where one look showed nothing of its part. From then on its part has work only by a step that says so
-/// (`Work`), and who made that step unparks it afterwards: so it doesn't wait while there is work for it. It waits for
-/// the end too, which any step may bring: once the workers were asked to stop, each change wakes all.
+/// A worker parks where one look showed nothing of its part. From then on its part has work only by a step for which it is
+/// named (`laws::wakes`, and what `Library::wake_if` requires), and who made that step unparks it afterwards: so it
+/// doesn't wait while there is work for it. It waits for the end too, which any step may bring: once the workers were
+/// asked to stop, each change wakes all.
 #[derive(Drop)]
 pub(crate) struct Watchers {
     stopping: AtomicBool,
