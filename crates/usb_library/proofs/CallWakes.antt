@@ -1,5 +1,5 @@
 -- Whom a call has to wake, by the step that it made.
-use Rattle.std.proofs.Common.{Bool, Err, List, Ok, Result, [], ap, ap₂, false, inr, length, map, refl, subst, sym, take, true, ℕ, ◌++◌, ◌∙◌, ◌∷◌, ◌≡◌}
+use Rattle.std.proofs.Common.{Bool, Err, List, Ok, Result, [], ap, ap₂, false, inr, length, refl, subst, sym, take, true, ℕ, ◌++◌, ◌∙◌, ◌∷◌, ◌≡◌}
 use Rattle.std.specs.Prelude.{IfOk, OnOk, is_ok}
 use Rattle.std.proofs.lemmas.List.{map-append}
 use Rattle.usb_model.specs.declared.reply.Reply.{Reply}
@@ -72,8 +72,11 @@ of_book setup b step number of result r x journal from to mid new is receipt mor
     }
 
 -- by what a call makes
-pub of_call : (setup : Setup) (step : Step) (old new : Calling) (r : Receipted) (entry : Entry) → Makes setup step old new r → entry ≡ r.entry.entry → IsLast setup step new.seen r entry
-of_call setup step old new r entry m same = record { before = m.before; place = m.place; saw = m.saw; asked = m.asked; answered = same; made = m.entry }
+pub of_call : {X E : Type 0} (setup : Setup) (step : Step) (old new : Calling) (receipt_of : X → Receipted) (entry_of : X → Entry) (result : Result X E) (x : X) → result ≡ Ok x
+    → IfOk result (λ y. Makes setup step old new (receipt_of y)) → IfOk result (λ y. entry_of y ≡ (receipt_of y).entry.entry) → IsLast setup step new.seen (receipt_of x) (entry_of x)
+of_call setup step old new receipt_of entry_of result x is makes entry =
+    let m : Makes setup step old new (receipt_of x) = at_ok (λ y. Makes setup step old new (receipt_of y)) result x is makes in
+    record { before = m.before; place = m.place; saw = m.saw; asked = m.asked; answered = at_ok (λ y. entry_of y ≡ (receipt_of y).entry.entry) result x is entry; made = m.entry }
 
 -- so a step, by its receipt
 call_wakes : (setup : Setup) (step : Step) (seen : List Place) (r : Receipted) (entry : Entry) → IsLast setup step seen r entry → WakesSince setup seen r.place (work_of step entry.reply (does_something setup (world_where setup seen) Command))

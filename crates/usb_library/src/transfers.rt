@@ -42,7 +42,8 @@ impl<L: Naming, P: Drop, D: Device, J: Recorder> Library<L, P, D, J> {
             .book
             .submit(h, request, callback, &mut caller.position);
         let (receipt, number) = caller.counted(made)?;
-        self.wake_if(rt, caller, &receipt, number.is_ok(), Work::Of(Part::Controller));
+        let accepted = number.is_ok();
+        self.wake_if(rt, caller, &receipt, accepted, Work::Of(Part::Controller));
         Ok(Submitted { receipt, number })
     }
 
@@ -106,12 +107,10 @@ impl<L: Naming, P: Drop, D: Device, J: Recorder> Library<L, P, D, J> {
             .lock(rt)
             .book
             .again(h, n, callback, &mut caller.position);
-        let (receipt, next) = caller.counted(made)?;
-        self.wake_if(rt, caller, &receipt, next.is_ok(), Work::Of(Part::Controller));
-        Ok(Submitted {
-            receipt,
-            number: next,
-        })
+        let (receipt, number) = caller.counted(made)?;
+        let renewed = number.is_ok();
+        self.wake_if(rt, caller, &receipt, renewed, Work::Of(Part::Controller));
+        Ok(Submitted { receipt, number })
     }
 
     /// The same with other bytes to be sent in the place of what the transfer had. Where it is refused they come back.
@@ -134,12 +133,10 @@ impl<L: Naming, P: Drop, D: Device, J: Recorder> Library<L, P, D, J> {
             .lock(rt)
             .book
             .again_with(h, n, bytes, callback, &mut caller.position);
-        let (receipt, renewed) = caller.counted(made)?;
-        self.wake_if(rt, caller, &receipt, renewed.is_ok(), Work::Of(Part::Controller));
-        Ok(Submitted {
-            receipt,
-            number: renewed,
-        })
+        let (receipt, number) = caller.counted(made)?;
+        let refilled = number.is_ok();
+        self.wake_if(rt, caller, &receipt, refilled, Work::Of(Part::Controller));
+        Ok(Submitted { receipt, number })
     }
 
     /// Time passes (libusb 1.0, `libusb_handle_events_timeout`): the moment becomes `now`, in milliseconds, or stays where it is

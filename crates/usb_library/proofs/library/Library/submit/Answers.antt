@@ -10,4 +10,4 @@ wake_if-requires g c =
     let last =
     of_book g.L.Naming.setup c.deref_mut.result.now.book (Submit c.args.h c.args.request) _ (answer_entry c.args.h) c.submit-made.result c.in_ok-receipt.receipt c.in_ok-receipt.number _ _ _ _ c.counted.new.self (sym c.counted.ensures.given ∙ c.in_ok-receipt.was) e.receipt e.journal e.entry e.saw e.library
     c.counted.ensures.made refl in
-    submission_wakes g.L.Naming.setup (Submit c.args.h c.args.request) c.args.h c.counted.new.self.seen c.in_ok-receipt.receipt c.in_ok-receipt.number c.is_ok.result (λ reply b. refl) last c.is_ok.ensures.value
+    submission_wakes g.L.Naming.setup (Submit c.args.h c.args.request) c.args.h c.counted.new.self.seen c.in_ok-receipt.receipt c.in_ok-receipt.number c.is_ok-accepted.result (λ reply b. refl) last c.is_ok-accepted.ensures.value
