@@ -13,7 +13,7 @@
 //!   is looked for
 //! - `wakes.rt`: what there is to do; for which worker a step made work; who is unparked after a change; when all is
 //!   at rest
-//! - `laws.rt`: that nobody else has work by a step than those for whom it is said to have made some
+//! - `laws.rt`: that whoever has new work by a step is named by the rule
 //! - `met.rt`: want of memory that a worker met, and callbacks that ended early
 //! - `finish.rt`: the end: the journal, or which callers are missing
 //! - specs/Calls: what a call makes (`Makes`), what a tick does (`Ticks`), and what a caller sees who looks (`LooksOn`)
@@ -51,7 +51,8 @@
 //!   controller's for a submission, also from within a callback, for an errand that settled, and for an event behind which an order waits;
 //!   nobody for a packet that ended no transfer, any other event, a result that goes out, a callback that ends, and what
 //!   is refused or idle; both for whatever else changed something. Each call that comes to wake has to name all who have
-//!   work since its step and had none before (`wake_if` requires it): one that names another, or nobody, isn't proved
+//!   work since its step and had none before (`wake_if` requires it): one that leaves such a worker out isn't proved. `tick`
+//!   names both
 //! - `Ended::to_places`, `Ended::into_setup`: copies of the very places that the recorder has; the devices, as
 //!   `Core::into_setup` hands them back
 //!

@@ -122,8 +122,8 @@ impl<L: Naming, P: Drop, D: Device, J: Recorder> Library<L, P, D, J> {
         Ok(answered)
     }
 
-    /// Where something changed those are woken who wait for that. Work is said for whoever has some since the caller's step at
-    /// this receipt's place, and had none before; where nothing changed there is no such worker.
+    /// Where something changed those are woken who wait for that. `work` names each worker that has work since the caller's
+    /// step at this receipt's place and had none before; where nothing changed there is none.
     pub(crate) fn wake_if<R: Wait>(
         &self,
         rt: &R,

@@ -24,7 +24,7 @@ pub enum Part {
     Events,
 }
 
-/// For whom a step may have made work that wasn't there before it. That it is for nobody else is a law (`laws::wakes`).
+/// For whom a step may have made work that wasn't there before it. That nobody else has new work is a law (`laws::wakes`).
 #[derive(Clone, Copy, PartialEq, Eq, Debug)]
 pub(crate) enum Work {
     /// For nobody: a packet that ends no transfer, a result that goes out, a callback that ends.
