@@ -34,7 +34,7 @@ unfolding world_from
 last_turn setup before p = ap (world_from setup (new_world setup)) (map-append (λ q. q.step) before (p ∷ [])) ∙ world_append setup (new_world setup) (steps_of before) (p.step ∷ [])
 
 -- the last step of a journal, by the rule
-pub last_wakes : (setup : Setup) (before seen : List Place) (place : ℕ) (p : Place) → place ≡ length before → seen ≡ before ++ p ∷ [] → p.entry ≡ next_entry setup before p.step
+last_wakes : (setup : Setup) (before seen : List Place) (place : ℕ) (p : Place) → place ≡ length before → seen ≡ before ++ p ∷ [] → p.entry ≡ next_entry setup before p.step
     → WakesSince setup seen place (work_of p.step p.entry.reply (does_something setup (world_where setup seen) Command))
 last_wakes setup before seen place p at is entry =
     rw (is, at, taken before p, last_turn setup before p, entry) (names_new_work setup (steps_of before) p.step)

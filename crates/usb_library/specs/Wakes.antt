@@ -38,6 +38,10 @@ names Any part = true
 abbrev pub Wakes : Setup → (before after : World) → Work → Type 0
 Wakes setup before after work = (part : Part) → HasWork setup after part → HasWork setup before part ⊎ (names work part ≡ true)
 
+-- the same of the steps of a journal from a place on: of the worlds where its run stood before that place, and where it ends
+abbrev pub WakesSince : Setup → List Place → ℕ → Work → Type 0
+WakesSince setup journal place work = Wakes setup (world_where setup (take place journal)) (world_where setup journal) work
+
 -- for whom a packet makes work: a transfer that ended has its event
 abbrev pub of_packet : Reply → Work
 of_packet (Ended n code) = Of Events
@@ -69,10 +73,6 @@ if_changed changed work = if changed then work else None
 -- for whom a step makes work; what is refused or idle, for nobody
 abbrev pub work_of : Step → Reply → Bool → Work
 work_of step reply has_order = if_changed (changes reply) (of_change step reply has_order)
-
--- the same of the steps of a journal from a place on
-abbrev pub WakesSince : Setup → List Place → ℕ → Work → Type 0
-WakesSince setup journal place work = Wakes setup (world_where setup (take place journal)) (world_where setup journal) work
 
 -- a step behind a run: each worker that has work after it had some before, or is named by the rule
 abbrev pub NamesNewWork : Setup → List Step → Step → Type 0
