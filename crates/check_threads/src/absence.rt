@@ -2,12 +2,12 @@
 
 ghost use Rattle.std.specs.Prelude.{◌≡◌};
 
-use crate::callback::RuleCallback;
 use anyhow::{Result, anyhow};
 use example_devices::{Reader, devices};
 use std::alloc::Global;
 use std::marker::Brand;
 use std::sync::Wait;
+use usb_callback::Ruled;
 use usb_device::{Device, TableDevice};
 use usb_journal::{Journal, Naming, Receipt};
 use usb_library::{Caller, Library, Missing, Opening};
@@ -21,7 +21,7 @@ pub fn missing_caller<R: Wait>(rt: &R, alloc: Global) -> Result<()> {
 }
 
 /// An error where something else is handed back than a caller and a receipt.
-fn is_missed<L: Naming, D: Device>(missing: &Missing<L, RuleCallback, D, Journal>) -> Result<()> {
+fn is_missed<L: Naming, D: Device>(missing: &Missing<L, Ruled, D, Journal>) -> Result<()> {
     if missing.made != 2 || missing.callers.len() != 1 || missing.receipts.len() != 1 {
         return Err(anyhow!("something else is handed back"));
     }
@@ -31,7 +31,7 @@ fn is_missed<L: Naming, D: Device>(missing: &Missing<L, RuleCallback, D, Journal
 /// One call: the receipt for it.
 fn opened<L: Naming, D: Device, R: Wait>(
     rt: &R,
-    library: &Library<L, RuleCallback, D, Journal>,
+    library: &Library<L, Ruled, D, Journal>,
     caller: &mut Caller<L>,
 ) -> Result<Receipt<L>> {
     let reader = Reader::new(1, 0, 0)?;
@@ -41,10 +41,10 @@ fn opened<L: Naming, D: Device, R: Wait>(
 /// What is handed back where the library ends without a caller of it.
 fn missed<L: Naming, D: Device>(
     alloc: Global,
-    library: Library<L, RuleCallback, D, Journal>,
+    library: Library<L, Ruled, D, Journal>,
     caller: Caller<L>,
     receipt: Receipt<L>,
-) -> Result<Missing<L, RuleCallback, D, Journal>>
+) -> Result<Missing<L, Ruled, D, Journal>>
     requires { L.parts ≡ 1025 }
 {
     let callers = Vec::from_array(alloc, [caller])?;
@@ -56,10 +56,7 @@ fn missed<L: Naming, D: Device>(
 }
 
 /// An error where the end doesn't come with all that was handed back, and the caller that was missed.
-fn end<L: Naming, D: Device>(
-    missing: Missing<L, RuleCallback, D, Journal>,
-    held: Caller<L>,
-) -> Result<()>
+fn end<L: Naming, D: Device>(missing: Missing<L, Ruled, D, Journal>, held: Caller<L>) -> Result<()>
     requires { L.parts ≡ 1025 }
 {
     let (library, mut callers, receipts) = missing.into_library();
@@ -81,7 +78,7 @@ fn end_twice<L: Naming, D: Device, R: Wait>(
     requires table { opening.table ≡ L.table }
     requires setup { opening.setup ≡ L.setup }
 {
-    let library = Library::<L, RuleCallback, D, Journal>::new(alloc, opening)?;
+    let library = Library::<L, Ruled, D, Journal>::new(alloc, opening)?;
     let mut caller = library.caller(rt)?;
     let held = library.caller(rt)?;
     let receipt = opened(rt, &library, &mut caller)?;

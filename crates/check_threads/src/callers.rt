@@ -1,11 +1,9 @@
 //! Many callers over one library.
 
-use crate::acts::{Act, Acts};
-use crate::callback::RuleCallback;
-use crate::halt::Halt;
+use crate::acts::{Act, CLAIM, OPEN, READ_1};
 use crate::player::Played;
-use crate::stage::{Seen, Stand, play_on};
-use crate::turnstile::Turnstile;
+use crate::stage::{Part, Seen, play};
+use crate::turnstile::NOWHERE;
 use anyhow::{Result, anyhow};
 use example_devices::{Reader, devices};
 use std::alloc::Global;
@@ -15,7 +13,6 @@ use usb_core::run;
 use usb_journal::Place;
 use usb_model::{Entry, Name, Reply, Sequence, Step};
 use usb_purge::alone;
-use usb_workers::Point;
 
 /// How many handles there are, each with a thread, a caller and an interface of its own.
 const HANDLES: u8 = 8;
@@ -26,14 +23,8 @@ const TRANSFERS: u16 = 50;
 /// The devices: two handles have an interface each of one.
 const DEVICES: u8 = 4;
 
-/// The thread of a handle.
-fn handle(alloc: Global, h: u8) -> Result<Acts> {
-    let mut acts = Acts::claimed(alloc, Reader::new(h, h / 2, h % 2)?)?;
-    for _ in 0..TRANSFERS {
-        acts.read(1, RuleCallback::stop())?;
-    }
-    Ok(acts)
-}
+/// What each does.
+const ACTS: [Act; 3] = [OPEN, CLAIM, Act::Times(TRANSFERS as u64, READ_1)];
 
 /// How many places of a caller the journal has.
 fn places_of(seen: &Seen, caller: u32) -> u64 {
@@ -154,24 +145,21 @@ fn is_replayed(alloc: Global, places: Vec<Place>, sizes: &[u16], transfers: u64)
     Ok(())
 }
 
-/// The threads of all handles.
-fn handles(alloc: Global) -> Result<Vec<Vec<Act>>> {
-    let mut threads = Vec::new(alloc);
+/// What the thread of each handle does.
+fn parts(alloc: Global, acts: &[Act]) -> Result<Vec<Part<'_>>> {
+    let mut parts = Vec::new(alloc);
     for h in 0..HANDLES {
-        threads.push(handle(alloc, h)?.into_list())?;
+        let reader = Reader::new(h, h / 2, h % 2)?;
+        parts.push(Part { reader, acts })?;
     }
-    Ok(threads)
+    Ok(parts)
 }
 
 /// What all of them saw.
 fn seen_by_all<R: Threads + Wait + Sync>(rt: &R, alloc: Global, sizes: &[u16]) -> Result<Seen> {
-    let gates = Turnstile::at(Point::Take, 0, &Halt::new(alloc)?)?;
-    let stand = Stand {
-        count: DEVICES,
-        packet: 8,
-        sizes,
-    };
-    play_on(rt, alloc, stand, gates, handles(alloc)?)
+    let parts = parts(alloc, &ACTS)?;
+    let setup = devices(alloc, DEVICES, 8, sizes)?;
+    play(rt, alloc, setup, NOWHERE, parts.as_slice())
 }
 
 /// Four devices, eight threads with a handle and an interface each, and fifty transfers of each: each caller has as
