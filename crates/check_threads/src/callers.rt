@@ -2,7 +2,7 @@
 
 use crate::acts::{Act, CLAIM, OPEN, READ_1};
 use crate::player::Played;
-use crate::stage::{Part, Seen, play};
+use crate::stage::{Seen, play};
 use crate::turnstile::NOWHERE;
 use anyhow::{Result, anyhow};
 use example_devices::{Reader, devices};
@@ -45,7 +45,7 @@ fn are_received(seen: &Seen) -> Result<()> {
             ..
         } = played;
         if places_of(seen, *caller) != *receipts {
-            return Err(anyhow!("caller {caller} has another number of places"));
+            return Err(anyhow!("a caller has another number of places"));
         }
     }
     Ok(())
@@ -90,26 +90,31 @@ fn both(
     alloc: Global,
     sizes: &[u16],
     steps: &[Step],
-    h: Name,
+    h: u8,
 ) -> Result<(Sequence<Entry>, Sequence<Entry>)> {
+    let Some(name) = Name::new(h) else {
+        return Err(anyhow!("no such name"));
+    };
     let setup = devices(alloc, DEVICES, 8, sizes)?;
-    let both = alone(alloc, setup, steps, h)?;
+    let both = alone(alloc, setup, steps, name)?;
     Ok((both.shared, both.alone))
 }
 
 /// An error where a handle alone sees something else than amid the others, or not so many callbacks in order.
-fn is_alone(alloc: Global, sizes: &[u16], steps: &[Step], h: u8, transfers: u64) -> Result<()> {
-    let Some(name) = Name::new(h) else {
-        return Err(anyhow!("no name {h}"));
-    };
-    let (shared, alone) = both(alloc, sizes, steps, name)?;
-    if !are_same(alloc, shared.as_slice(), alone.as_slice())? {
-        return Err(anyhow!("handle {h} sees something else alone"));
+fn is_right(alloc: Global, shared: &[Entry], alone: &[Entry], transfers: u64) -> Result<()> {
+    if !are_same(alloc, shared, alone)? {
+        return Err(anyhow!("a handle sees something else alone"));
     }
-    if callbacks_in(alone.as_slice()) != Some(transfers) {
-        return Err(anyhow!("handle {h} has other callbacks"));
+    if callbacks_in(alone) != Some(transfers) {
+        return Err(anyhow!("a handle has other callbacks"));
     }
     Ok(())
+}
+
+/// The same of a handle by its number.
+fn is_alone(alloc: Global, sizes: &[u16], steps: &[Step], h: u8, transfers: u64) -> Result<()> {
+    let (shared, alone) = both(alloc, sizes, steps, h)?;
+    is_right(alloc, shared.as_slice(), alone.as_slice(), transfers)
 }
 
 /// The entries of a run of these steps over fresh devices.
@@ -145,21 +150,21 @@ fn is_replayed(alloc: Global, places: Vec<Place>, sizes: &[u16], transfers: u64)
     Ok(())
 }
 
-/// What the thread of each handle does.
-fn parts(alloc: Global, acts: &[Act]) -> Result<Vec<Part<'_>>> {
-    let mut parts = Vec::new(alloc);
+/// The handles.
+fn readers(alloc: Global) -> Result<Vec<Reader>> {
+    let mut readers = Vec::new(alloc);
     for h in 0..HANDLES {
-        let reader = Reader::new(h, h / 2, h % 2)?;
-        parts.push(Part { reader, acts })?;
+        readers.push(Reader::new(h, h / 2, h % 2)?)?;
     }
-    Ok(parts)
+    Ok(readers)
 }
 
 /// What all of them saw.
 fn seen_by_all<R: Threads + Wait + Sync>(rt: &R, alloc: Global, sizes: &[u16]) -> Result<Seen> {
-    let parts = parts(alloc, &ACTS)?;
+    let readers = readers(alloc)?;
     let setup = devices(alloc, DEVICES, 8, sizes)?;
-    play(rt, alloc, setup, NOWHERE, parts.as_slice())
+    let threads = [ACTS.as_slice(); HANDLES as usize];
+    play(rt, alloc, setup, NOWHERE, readers.as_slice(), &threads)
 }
 
 /// Four devices, eight threads with a handle and an interface each, and fifty transfers of each: each caller has as

@@ -1,7 +1,7 @@
 //! A scene as data: what threads of one handle do over one device, and what they are to see.
 
 use crate::acts::Act;
-use crate::stage::{Part, play};
+use crate::stage::play;
 use crate::turnstile::Stop;
 use anyhow::Result;
 use example_devices::{Reader, devices};
@@ -18,7 +18,7 @@ pub struct Scene {
     pub sizes: &'static [u16],
     /// Where workers are held: it is played once for each.
     pub stops: &'static [Stop],
-    /// What each thread does.
+    /// What each thread does, of one or two.
     pub threads: &'static [&'static [Act]],
     /// What the first of them is answered, if that is always the same.
     pub answers: Option<&'static str>,
@@ -39,24 +39,14 @@ impl Scene {
 
     /// Plays it where workers are held at this stop.
     fn play_once<R: Threads + Wait + Sync>(&self, rt: &R, alloc: Global, stop: Stop) -> Result<()> {
-        let parts = self.parts(alloc)?;
+        let reader = Reader::new(1, 0, 0)?;
         let setup = devices(alloc, 1, 8, self.sizes)?;
-        let seen = play(rt, alloc, setup, stop, parts.as_slice())?;
+        let seen = play(rt, alloc, setup, stop, &[reader; 2], self.threads)?;
         seen.is_cut(self.cuts)?;
         seen.is_told(alloc, self.endings)?;
         match self.answers {
             Some(answers) => seen.is_answered(alloc, answers),
             None => Ok(()),
         }
-    }
-
-    /// What its threads do.
-    fn parts(&self, alloc: Global) -> Result<Vec<Part<'static>>> {
-        let reader = Reader::new(1, 0, 0)?;
-        let mut parts = Vec::new(alloc);
-        for acts in self.threads {
-            parts.push(Part { reader, acts })?;
-        }
-        Ok(parts)
     }
 }

@@ -24,15 +24,6 @@ type Left = result::Result<Played, AllocError>;
 /// What is left of a library in a scene.
 type Life<'a, D> = Lived<SceneCallback<'a>, D, Journal, Left>;
 
-/// What a thread of a scene is to do.
-#[derive(Clone, Copy)]
-pub struct Part<'a> {
-    /// Its handle, and the endpoint that it reads from.
-    pub reader: Reader,
-    /// Its acts.
-    pub acts: &'a [Act],
-}
-
 /// What a scene saw.
 #[derive(Drop)]
 pub struct Seen {
@@ -46,19 +37,20 @@ pub struct Seen {
     pub lacked_memory: bool,
 }
 
-/// The threads of these parts. The first may park.
+/// Threads of these handles that do these acts. The first may park.
 fn players<'a>(
     alloc: Global,
-    parts: &[Part<'a>],
+    readers: &[Reader],
+    threads: &[&'a [Act]],
     board: &'a Board,
     parker: Parker,
 ) -> Result<Vec<Player<'a>>> {
     let mut players = Vec::new(alloc);
     let mut parker = Some(parker);
-    for part in parts {
+    for (reader, acts) in readers.iter().zip(threads) {
         players.push(Player {
-            reader: part.reader,
-            acts: part.acts,
+            reader: *reader,
+            acts: *acts,
             board,
             parker: parker.take(),
             alloc,
@@ -99,8 +91,7 @@ fn seen_of<D: Device>(alloc: Global, life: Life<'_, D>) -> Result<Seen> {
     })
 }
 
-/// Plays these parts, with what the threads tell each other: an error where a worker or a callback was held for too
-/// long.
+/// What these players saw. An error where a worker or a callback was held for too long.
 fn play_with<'a, D: Device + Send, R: Threads + Wait + Sync>(
     rt: &R,
     alloc: Global,
@@ -116,17 +107,19 @@ fn play_with<'a, D: Device + Send, R: Threads + Wait + Sync>(
     seen_of(alloc, life)
 }
 
-/// Plays these parts over the devices, where workers are held at a stop. An error where one waited in vain.
+/// Plays these threads over the devices, each of a handle, where workers are held at a stop. An error where one waited in
+/// vain.
 pub fn play<D: Device + Send, R: Threads + Wait + Sync>(
     rt: &R,
     alloc: Global,
     setup: Setup<D>,
     stop: Stop,
-    parts: &[Part<'_>],
+    readers: &[Reader],
+    threads: &[&[Act]],
 ) -> Result<Seen> {
     let parker = Parker::new(alloc)?;
     let board = Board::new(parker.unparker().clone()?);
-    let players = players(alloc, parts, &board, parker)?;
+    let players = players(alloc, readers, threads, &board, parker)?;
     play_with(rt, alloc, setup, &board, stop, players)
 }
 
@@ -134,6 +127,16 @@ pub fn play<D: Device + Send, R: Threads + Wait + Sync>(
 fn add_line(alloc: Global, lines: &mut String, entry: &Entry) -> Result<()> {
     let line = format!(in alloc; "{entry}\n")?;
     Ok(lines.push_str(line.as_str())?)
+}
+
+/// Whether a text is one of these.
+fn is_one_of(text: &str, texts: &[&str]) -> bool {
+    for one in texts {
+        if *one == text {
+            return true;
+        }
+    }
+    false
 }
 
 impl Seen {
@@ -173,7 +176,7 @@ impl Seen {
     /// An error where its callbacks were told something else than one of these.
     pub fn is_told(&self, alloc: Global, endings: &[&str]) -> Result<()> {
         let told = self.told(alloc)?;
-        if !endings.contains(&told.as_str()) {
+        if !is_one_of(told.as_str(), endings) {
             return Err(anyhow!("callbacks are told something else: {told}"));
         }
         Ok(())
@@ -182,7 +185,7 @@ impl Seen {
     /// An error where another number of callbacks ended early, or memory was refused.
     pub fn is_cut(&self, cuts: u64) -> Result<()> {
         if self.cuts != cuts || self.lacked_memory {
-            return Err(anyhow!("{} callbacks are cut short", self.cuts));
+            return Err(anyhow!("another number of callbacks is cut short"));
         }
         Ok(())
     }

@@ -3,7 +3,7 @@
 use crate::acts::{Act, CLAIM, OPEN, READ_1};
 use crate::board::Event;
 use crate::counted::Counted;
-use crate::stage::{Part, Seen, play};
+use crate::stage::{Seen, play};
 use crate::turnstile::NOWHERE;
 use anyhow::{Result, anyhow};
 use example_devices::{Reader, device, devices};
@@ -41,7 +41,7 @@ fn play_one<D: Device + Send, R: Threads + Wait + Sync>(
     acts: &[Act],
 ) -> Result<Seen> {
     let reader = Reader::new(1, 0, 0)?;
-    play(rt, alloc, setup, NOWHERE, &[Part { reader, acts }])
+    play(rt, alloc, setup, NOWHERE, &[reader], &[acts])
 }
 
 /// What a thread does that submits a thousand transfers, each once the one before was called back.
