@@ -1,7 +1,7 @@
 //! A load: threads that stream transfers over a library that lives.
 
 use crate::stream::{Counts, Stream};
-use anyhow::{Result, anyhow};
+use anyhow::Result;
 use example_devices::{Reader, devices};
 use std::alloc::{AllocError, Global};
 use std::result;
@@ -92,12 +92,18 @@ where
     live::<Counts<'a>, TableDevice, J, Stream<'a, K>, R>(rt, alloc, setup, streams)
 }
 
+/// An error where a thread was refused something.
+fn are_granted(left: Vec<result::Result<(), Refused>>) -> Result<()> {
+    for granted in left {
+        granted?;
+    }
+    Ok(())
+}
+
 /// What was kept of its journal. An error where a thread was refused something.
 fn kept<J: Drop>(life: Life<'_, J>) -> Result<J> {
     let Lived { kept, left, .. } = life;
-    for left in left {
-        left.map_err(|why| anyhow!("refused: {why}"))?;
-    }
+    are_granted(left)?;
     Ok(kept)
 }
 

@@ -111,8 +111,7 @@ fn thread<R: Wait, L: Naming, J: Recorder>(
         library,
         caller: &mut caller,
     };
-    seat.all(&reader, turns)
-        .map_err(|why| anyhow!("refused: {why}"))
+    Ok(seat.all(&reader, turns)?)
 }
 
 /// One more caller.

@@ -93,7 +93,7 @@ fn bench<R: Threads + Wait + Sync>(
 fn accepted_of(alloc: Global, left: Vec<Result<u64, Refused>>) -> Result<Vec<u64>> {
     let mut accepted = Vec::new(alloc);
     for count in left {
-        accepted.push(count.map_err(|why| anyhow!("refused: {why}"))?)?;
+        accepted.push(count?)?;
     }
     Ok(accepted)
 }
