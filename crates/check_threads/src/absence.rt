@@ -6,11 +6,15 @@ use anyhow::{Result, anyhow};
 use example_devices::{Reader, devices};
 use std::alloc::Global;
 use std::marker::Brand;
+use std::result;
 use std::sync::Wait;
 use usb_callback::Ruled;
 use usb_device::{Device, TableDevice};
 use usb_journal::{Journal, Naming, Receipt};
-use usb_library::{Caller, Library, Missing, Opening};
+use usb_library::{Caller, Ended, Library, Missing, Opening};
+
+/// What comes of an end.
+type Finished<L, D> = result::Result<Ended<L, Ruled, D, Journal>, Missing<L, Ruled, D, Journal>>;
 
 /// The end is refused while a caller is held back, with all handed back; then it comes.
 pub fn missing_caller<R: Wait>(rt: &R, alloc: Global) -> Result<()> {
@@ -38,6 +42,17 @@ fn opened<L: Naming, D: Device, R: Wait>(
     Ok(library.open(rt, caller, reader.h, reader.dev)?.receipt)
 }
 
+/// Ends a library: what it leaves, or what is handed back where a caller is missing.
+fn finished<L: Naming, D: Device>(
+    library: Library<L, Ruled, D, Journal>,
+    callers: Vec<Caller<L>>,
+    receipts: Vec<Receipt<L>>,
+) -> Finished<L, D>
+    requires { L.parts ≡ 1025 }
+{
+    library.finish(callers, receipts)
+}
+
 /// What is handed back where the library ends without a caller of it.
 fn missed<L: Naming, D: Device>(
     alloc: Global,
@@ -49,21 +64,38 @@ fn missed<L: Naming, D: Device>(
 {
     let callers = Vec::from_array(alloc, [caller])?;
     let receipts = Vec::from_array(alloc, [receipt])?;
-    match library.finish(callers, receipts) {
+    match finished(library, callers, receipts) {
         Ok(_) => Err(anyhow!("nobody is missed")),
         Err(missing) => Ok(missing),
     }
+}
+
+/// Whether the end came, after two callers and one call.
+fn has_ended<L: Naming, D: Device>(finished: &Finished<L, D>) -> bool {
+    match finished {
+        Ok(ended) => ended.made == 2 && ended.places == 1,
+        Err(_) => false,
+    }
+}
+
+/// Whether the end comes with what is handed back.
+fn ends<L: Naming, D: Device>(missing: Missing<L, Ruled, D, Journal>) -> bool
+    requires { L.parts ≡ 1025 }
+{
+    let (library, callers, receipts) = missing.into_library();
+    has_ended(&finished(library, callers, receipts))
 }
 
 /// An error where the end doesn't come with all that was handed back, and the caller that was missed.
 fn end<L: Naming, D: Device>(missing: Missing<L, Ruled, D, Journal>, held: Caller<L>) -> Result<()>
     requires { L.parts ≡ 1025 }
 {
-    let (library, mut callers, receipts) = missing.into_library();
-    callers.push(held)?;
-    match library.finish(callers, receipts) {
-        Ok(ended) if ended.made == 2 && ended.places == 1 => Ok(()),
-        _ => Err(anyhow!("the end doesn't come")),
+    let mut missing = missing;
+    missing.callers.push(held)?;
+    if ends(missing) {
+        Ok(())
+    } else {
+        Err(anyhow!("the end doesn't come"))
     }
 }
 
