@@ -12,7 +12,7 @@ use std::sync::Wait;
 use usb_core::Taken;
 use usb_device::TableDevice;
 use usb_journal::{Naming, NotRecorded, Receipt, Recorder};
-use usb_library::{Answered, Caller, Library, Opening, Submitted};
+use usb_library::{Answered, Caller, Ended, Library, Missing, Opening, Submitted};
 use usb_model::{Bytes, Entry, EpAddr, Reply, Request};
 
 /// What is kept with each transfer.
@@ -49,6 +49,31 @@ pub struct Left<J> {
     pub places: u64,
     /// What was kept of it.
     pub recorder: J,
+}
+
+/// Ends a library: what it leaves, or what is handed back where a caller is missing.
+fn finished<L: Naming, J: Recorder>(
+    library: Library<L, u8, TableDevice, J>,
+    callers: Vec<Caller<L>>,
+    receipts: Vec<Receipt<L>>,
+) -> result::Result<Ended<L, u8, TableDevice, J>, Missing<L, u8, TableDevice, J>>
+    requires { L.parts ≡ 1025 }
+{
+    library.finish(callers, receipts)
+}
+
+/// What a scene leaves whose calls were answered so, and gave so many receipts.
+fn left<L: Naming, J: Drop>(
+    ended: Ended<L, u8, TableDevice, J>,
+    answers: Vec<Answer>,
+    receipts: usize,
+) -> Left<J> {
+    Left {
+        answers,
+        receipts,
+        places: ended.places,
+        recorder: ended.recorder,
+    }
 }
 
 /// Bytes to be sent.
@@ -237,13 +262,8 @@ impl<L: Naming, J: Recorder> Scene<L, J> {
         } = self;
         let count = receipts.len();
         let callers = Vec::from_array(alloc, [caller])?;
-        match library.finish(callers, receipts) {
-            Ok(ended) => Ok(Left {
-                answers,
-                receipts: count,
-                places: ended.places,
-                recorder: ended.recorder,
-            }),
+        match finished(library, callers, receipts) {
+            Ok(ended) => Ok(left(ended, answers, count)),
             Err(_) => Err(anyhow!("a caller is missing")),
         }
     }

@@ -1,19 +1,25 @@
 //! A load: threads that stream transfers over a library that lives.
 
 use crate::stream::{Counts, Stream};
-use anyhow::{Result, anyhow};
+use anyhow::Result;
 use example_devices::{Reader, devices};
-use std::alloc::Global;
+use std::alloc::{AllocError, Global};
+use std::result;
+use std::sync::Wait;
 use std::sync::atomic::AtomicU64;
-use std::sync::{Arc, Wait};
 use std::thread::Threads;
 use std::time::{Clock, Duration, Instant};
+use usb_core::Setup;
 use usb_device::TableDevice;
 use usb_journal::Recorder;
-use usb_live::live;
+use usb_live::{Lived, live};
+use usb_model::Refused;
 
 /// The devices: two handles have an interface each of one.
 pub const DEVICES: u8 = 4;
+
+/// What is left of a library that lived.
+type Life<'a, J> = Lived<Counts<'a>, TableDevice, J, result::Result<(), Refused>>;
 
 /// What threads stream.
 #[derive(Clone, Copy)]
@@ -36,27 +42,69 @@ impl Load {
         Ok(Vec::from_elem(alloc, 8_u16, self.each as usize)?)
     }
 
-    /// The thread of a handle.
-    fn thread<K: Clock + Copy>(&self, alloc: Global, clock: K, h: u8) -> Result<Stream<K>> {
+    /// For each thread the count of its callbacks.
+    fn counts(&self, alloc: Global) -> Result<Vec<AtomicU64>> {
+        let mut counts = Vec::new(alloc);
+        for _ in 0..self.threads {
+            counts.push(AtomicU64::new(0))?;
+        }
+        Ok(counts)
+    }
+
+    /// The thread of a handle, with the count of its callbacks.
+    fn thread<'a, K: Drop>(&self, clock: K, h: u8, called: &'a AtomicU64) -> Result<Stream<'a, K>> {
         Ok(Stream {
             reader: Reader::new(h, h / 2, h % 2)?,
             rounds: self.rounds,
             each: self.each,
             window: self.window,
-            called: Arc::new(alloc, AtomicU64::new(0))?,
+            called,
             idle: Duration::from_millis(self.idle),
             clock,
         })
     }
 
-    /// All threads.
-    fn all<K: Clock + Copy>(&self, alloc: Global, clock: K) -> Result<Vec<Stream<K>>> {
+    /// The threads of these counts.
+    fn all<'a, K: Clock + Copy>(
+        &self,
+        alloc: Global,
+        clock: K,
+        counts: &'a [AtomicU64],
+    ) -> Result<Vec<Stream<'a, K>>> {
         let mut streams = Vec::new(alloc);
-        for h in 0..self.threads {
-            streams.push(self.thread(alloc, clock, h)?)?;
+        for (h, called) in (0..self.threads).zip(counts) {
+            streams.push(self.thread(clock, h, called)?)?;
         }
         Ok(streams)
     }
+}
+
+/// What a library leaves that lives over the devices with these threads.
+fn lived<'a, J: Recorder + Send, K: Clock + Copy + Send, R: Threads + Wait + Sync>(
+    rt: &R,
+    alloc: Global,
+    setup: Setup<TableDevice>,
+    streams: Vec<Stream<'a, K>>,
+) -> result::Result<Life<'a, J>, AllocError>
+where
+    J::Draft: Send,
+{
+    live::<Counts<'a>, TableDevice, J, Stream<'a, K>, R>(rt, alloc, setup, streams)
+}
+
+/// An error where a thread was refused something.
+fn are_granted(left: Vec<result::Result<(), Refused>>) -> Result<()> {
+    for granted in left {
+        granted?;
+    }
+    Ok(())
+}
+
+/// What was kept of its journal. An error where a thread was refused something.
+fn kept<J: Drop>(life: Life<'_, J>) -> Result<J> {
+    let Lived { kept, left, .. } = life;
+    are_granted(left)?;
+    Ok(kept)
 }
 
 /// Streams a load: how long it took, and what was kept of its journal.
@@ -69,13 +117,25 @@ pub fn stream<J: Recorder + Send, K: Clock + Copy + Send, R: Threads + Wait + Sy
 where
     J::Draft: Send,
 {
-    let streams = load.all(alloc, clock)?;
+    let counts = load.counts(alloc)?;
+    let streams = load.all(alloc, clock, counts.as_slice())?;
     let setup = devices(alloc, DEVICES, 8, load.sizes(alloc)?.as_slice())?;
+    timed(rt, alloc, clock, setup, streams)
+}
+
+/// The same of these threads over the devices.
+fn timed<J: Recorder + Send, K: Clock + Copy + Send, R: Threads + Wait + Sync>(
+    rt: &R,
+    alloc: Global,
+    clock: K,
+    setup: Setup<TableDevice>,
+    streams: Vec<Stream<'_, K>>,
+) -> Result<(Duration, J)>
+where
+    J::Draft: Send,
+{
     let start = Instant::now(&clock)?;
-    let lived = live::<Counts, TableDevice, J, Stream<K>, R>(rt, alloc, setup, streams)?;
+    let life = lived::<J, K, R>(rt, alloc, setup, streams)?;
     let took = start.elapsed(&clock)?;
-    for left in lived.left {
-        left.map_err(|why| anyhow!("refused: {why}"))?;
-    }
-    Ok((took, lived.kept))
+    Ok((took, kept(life)?))
 }

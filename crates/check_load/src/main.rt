@@ -23,6 +23,7 @@ use std::env;
 use std::sync::Wait;
 use std::thread::Threads;
 use std::time::Clock;
+use usb_journal::{Journal, Unrecorded};
 
 /// What a word measures.
 fn measured<K: Clock + Copy + Send, R: Threads + Wait + Sync>(
@@ -53,8 +54,8 @@ fn read<K: Clock, R: Threads + Wait + Sync>(
         return Err(anyhow!("how many reads"));
     };
     match word {
-        "library" => reads::recorded(rt, alloc, clock, turns),
-        "unrecorded" => reads::unrecorded(rt, alloc, clock, turns),
+        "library" => reads::many::<Journal, K, R>(rt, alloc, clock, word, turns),
+        "unrecorded" => reads::many::<Unrecorded, K, R>(rt, alloc, clock, word, turns),
         _ => Err(anyhow!("library N or unrecorded N")),
     }
 }

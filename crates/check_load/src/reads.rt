@@ -4,7 +4,7 @@ ghost use Rattle.std.specs.Prelude.{◌≡◌};
 
 use crate::seat::{Seat, TURNS};
 use anyhow::{Result, anyhow};
-use example_devices::{Reader, devices};
+use example_devices::{Reader, devices, open_and_claim};
 use std::alloc::Global;
 use std::marker::Brand;
 use std::sync::Wait;
@@ -13,9 +13,9 @@ use std::thread::Threads;
 use std::time::{Clock, Duration, Instant};
 use usb_core::Taken;
 use usb_device::{Device, TableDevice};
-use usb_journal::{Journal, Naming, Recorder, Unrecorded};
+use usb_journal::{Naming, Recorder, Unrecorded};
 use usb_library::{Caller, Library, Opening};
-use usb_model::{Refused, Returned};
+use usb_model::{Refused, Returned, Step};
 
 /// How many answers a device has before it is reset.
 const ANSWERS: u64 = 4_096;
@@ -68,7 +68,7 @@ impl<R: Wait, L: Naming, D: Device, J: Recorder> Seat<'_, R, L, u64, D, J> {
     fn renew(&mut self, reader: &Reader) -> Result<u64, Refused> {
         let mut sum: u64 = 0;
         for _ in 0..TURNS {
-            match self.reset(reader.h) {
+            match self.make(Step::Reset { h: reader.h }) {
                 Err(Refused::Busy) => sum = sum.wrapping_add(self.end_one()?),
                 Err(why) => return Err(why),
                 Ok(()) => return Ok(sum),
@@ -91,8 +91,7 @@ impl<R: Wait, L: Naming, D: Device, J: Recorder> Seat<'_, R, L, u64, D, J> {
 
     /// The same of a device that is opened, and its interface claimed.
     fn all(&mut self, reader: &Reader, turns: u64) -> Result<u64, Refused> {
-        self.open(reader.h, reader.dev)?;
-        self.claim(reader.h, reader.i)?;
+        open_and_claim(self.rt, self.library, self.caller, reader)?;
         self.reads(reader, turns)
     }
 }
@@ -112,25 +111,31 @@ fn thread<R: Wait, L: Naming, J: Recorder>(
         library,
         caller: &mut caller,
     };
-    seat.all(&reader, turns)
-        .map_err(|why| anyhow!("refused: {why}"))
+    Ok(seat.all(&reader, turns)?)
 }
 
-/// One thread's reads, or those of two: what came out.
-fn threads<R: Threads + Wait + Sync, L: Naming + Send + Sync, J: Recorder + Send>(
+/// One more caller.
+fn caller_of<R: Wait, L: Naming, J: Recorder>(
     rt: &R,
     library: &Library<L, u64, TableDevice, J>,
-    two: bool,
+) -> Result<Caller<L>> {
+    match library.caller(rt) {
+        Ok(caller) => Ok(caller),
+        Err(_) => Err(anyhow!("no caller")),
+    }
+}
+
+/// The reads of two threads: what came out.
+fn both<R: Threads + Wait + Sync, L: Naming + Send + Sync, J: Recorder + Send>(
+    rt: &R,
+    library: &Library<L, u64, TableDevice, J>,
     turns: u64,
 ) -> Result<u64>
 where
     J::Draft: Send,
 {
-    let one = library.caller(rt)?;
-    let other = library.caller(rt)?;
-    if !two {
-        return thread(rt, library, one, 1, turns);
-    }
+    let one = caller_of(rt, library)?;
+    let other = caller_of(rt, library)?;
     let (left, right) = thread::join(
         rt,
         move || thread(rt, library, one, 1, turns),
@@ -139,8 +144,28 @@ where
     Ok(left?.wrapping_add(right?))
 }
 
-/// The same by a library that is opened.
+/// One thread's reads, or those of two: what came out, and how long they took.
 fn timed<L: Naming + Send + Sync, J: Recorder + Send, K: Clock, R: Threads + Wait + Sync>(
+    rt: &R,
+    clock: &K,
+    library: &Library<L, u64, TableDevice, J>,
+    two: bool,
+    turns: u64,
+) -> Result<(u64, Duration)>
+where
+    J::Draft: Send,
+{
+    let start = Instant::now(clock)?;
+    let sum = if two {
+        both(rt, library, turns)?
+    } else {
+        thread(rt, library, caller_of(rt, library)?, 1, turns)?
+    };
+    Ok((sum, start.elapsed(clock)?))
+}
+
+/// The same by a library that is opened.
+fn opened<L: Naming + Send + Sync, J: Recorder + Send, K: Clock, R: Threads + Wait + Sync>(
     rt: &R,
     alloc: Global,
     clock: &K,
@@ -156,9 +181,7 @@ where
     requires setup { opening.setup ≡ L.setup }
 {
     let library = Library::<L, u64, TableDevice, J>::new(alloc, opening)?;
-    let start = Instant::now(clock)?;
-    let sum = threads(rt, &library, two, turns)?;
-    Ok((sum, start.elapsed(clock)?))
+    timed(rt, clock, &library, two, turns)
 }
 
 /// What comes out of so many reads, or of twice as many by two threads, and how long they take.
@@ -176,31 +199,23 @@ where
     let Ok(opening) = Opening::new(alloc, devices(alloc, 2, 8, sizes.as_slice())?) else {
         return Err(anyhow!("no memory"));
     };
-    timed::<Brand, J, K, R>(rt, alloc, clock, opening, two, turns)
+    opened::<Brand, J, K, R>(rt, alloc, clock, opening, two, turns)
 }
 
-/// So many reads by one thread, with a journal: the sum of what came out, and the nanoseconds.
-pub fn recorded<K: Clock, R: Threads + Wait + Sync>(
+/// So many reads by one thread, by this word: the sum of what came out, and the nanoseconds.
+pub fn many<J: Recorder + Send, K: Clock, R: Threads + Wait + Sync>(
     rt: &R,
     alloc: Global,
     clock: &K,
+    word: &str,
     turns: u64,
-) -> Result<String> {
-    let (sum, took) = of_library::<Journal, K, R>(rt, alloc, clock, false, turns)?;
+) -> Result<String>
+where
+    J::Draft: Send,
+{
+    let (sum, took) = of_library::<J, K, R>(rt, alloc, clock, false, turns)?;
     let ns = took.as_nanos();
-    Ok(format!(in alloc; "library: {turns} reads, sum {sum}, {ns} ns")?)
-}
-
-/// The same without a journal.
-pub fn unrecorded<K: Clock, R: Threads + Wait + Sync>(
-    rt: &R,
-    alloc: Global,
-    clock: &K,
-    turns: u64,
-) -> Result<String> {
-    let (sum, took) = of_library::<Unrecorded, K, R>(rt, alloc, clock, false, turns)?;
-    let ns = took.as_nanos();
-    Ok(format!(in alloc; "unrecorded: {turns} reads, sum {sum}, {ns} ns")?)
+    Ok(format!(in alloc; "{word}: {turns} reads, sum {sum}, {ns} ns")?)
 }
 
 /// One thread and two: the nanoseconds of a transfer, of all that they make together.

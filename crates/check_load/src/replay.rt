@@ -6,7 +6,7 @@ use example_devices::devices;
 use std::alloc::Global;
 use usb_core::run;
 use usb_journal::Place;
-use usb_model::{Entry, Name, Reply, Step};
+use usb_model::{Entry, Name, Reply, Sequence, Step};
 use usb_purge::alone;
 
 /// Whether two entries print the same.
@@ -23,7 +23,7 @@ fn are_same(alloc: Global, some: &[Entry], others: &[Entry]) -> Result<()> {
     }
     for (one, other) in some.iter().zip(others) {
         if !is_same(alloc, one, other)? {
-            return Err(anyhow!("{one} is {other}"));
+            return Err(anyhow!("another entry"));
         }
     }
     Ok(())
@@ -43,16 +43,27 @@ fn callbacks_in(entries: &[Entry]) -> Option<u64> {
     Some(count)
 }
 
-/// An error where a handle alone sees something else than beside others, or not so many callbacks in order.
-fn is_alone(alloc: Global, sizes: &[u16], steps: &[Step], h: u8, transfers: u64) -> Result<()> {
+/// What a handle sees beside others, and alone over its own steps.
+fn both(
+    alloc: Global,
+    sizes: &[u16],
+    steps: &[Step],
+    h: u8,
+) -> Result<(Sequence<Entry>, Sequence<Entry>)> {
     let Some(name) = Name::new(h) else {
-        return Err(anyhow!("no name {h}"));
+        return Err(anyhow!("no such name"));
     };
     let setup = devices(alloc, DEVICES, 8, sizes)?;
     let both = alone(alloc, setup, steps, name)?;
-    are_same(alloc, both.shared.as_slice(), both.alone.as_slice())?;
-    if callbacks_in(both.alone.as_slice()) != Some(transfers) {
-        return Err(anyhow!("handle {h} has other callbacks"));
+    Ok((both.shared, both.alone))
+}
+
+/// An error where a handle alone sees something else than beside others, or not so many callbacks in order.
+fn is_alone(alloc: Global, sizes: &[u16], steps: &[Step], h: u8, transfers: u64) -> Result<()> {
+    let (shared, alone) = both(alloc, sizes, steps, h)?;
+    are_same(alloc, shared.as_slice(), alone.as_slice())?;
+    if callbacks_in(alone.as_slice()) != Some(transfers) {
+        return Err(anyhow!("a handle has other callbacks"));
     }
     Ok(())
 }
@@ -67,6 +78,15 @@ fn parts(alloc: Global, places: Vec<Place>) -> Result<(Vec<Step>, Vec<Entry>)> {
     Ok((steps, entries))
 }
 
+/// An error where these entries aren't those of a run of these steps over devices with these packets.
+fn is_run(alloc: Global, sizes: &[u16], steps: &[Step], entries: &[Entry]) -> Result<()> {
+    let fresh = devices(alloc, DEVICES, 8, sizes)?;
+    match run(alloc, fresh, steps) {
+        Ok(again) => are_same(alloc, again.as_slice(), entries),
+        Err(_) => Err(anyhow!("the run stopped")),
+    }
+}
+
 /// An error where a journal isn't the run of its steps over devices with these packets, or one of so many handles saw something else
 /// than alone, or not so many callbacks in order.
 pub fn is_replayed(
@@ -77,11 +97,7 @@ pub fn is_replayed(
     transfers: u64,
 ) -> Result<()> {
     let (steps, entries) = parts(alloc, places)?;
-    let fresh = devices(alloc, DEVICES, 8, sizes)?;
-    let Ok(again) = run(alloc, fresh, steps.as_slice()) else {
-        return Err(anyhow!("the run stopped"));
-    };
-    are_same(alloc, again.as_slice(), entries.as_slice())?;
+    is_run(alloc, sizes, steps.as_slice(), entries.as_slice())?;
     for h in 0..handles {
         is_alone(alloc, sizes, steps.as_slice(), h, transfers)?;
     }

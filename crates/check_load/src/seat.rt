@@ -1,13 +1,14 @@
 //! A caller at its work. Its calls are kept out of line, so that a profile tells them apart.
 
-use example_devices::submit;
+use example_devices::{no_memory, submit};
 use std::alloc::AllocError;
 use std::sync::Wait;
 use usb_core::Taken;
 use usb_device::Device;
 use usb_journal::{Naming, Recorder};
 use usb_library::{Answered, Caller, Library};
-use usb_model::{DeviceNo, EpAddr, Name, Refused, Request};
+use usb_live::make;
+use usb_model::{DeviceNo, EpAddr, Name, Refused, Request, Step};
 
 /// How often a thread looks whether something came about, before it gives up.
 pub const TURNS: u64 = 100_000_000;
@@ -22,34 +23,17 @@ pub struct Seat<'a, R, L: Naming, P, D: Device, J: Recorder> {
 
 /// Whether a call was granted. No memory is a refusal as others are.
 fn granted<L: Naming>(answered: Result<Answered<L>, AllocError>) -> Result<(), Refused> {
-    match answered {
-        Ok(answered) => match answered.granted() {
-            Ok(_) => Ok(()),
-            Err(why) => Err(why),
-        },
-        Err(_) => Err(Refused::NoMem),
-    }
+    answered.map_err(no_memory)?.granted()?;
+    Ok(())
 }
 
 impl<R: Wait, L: Naming, P: Drop, D: Device, J: Recorder> Seat<'_, R, L, P, D, J> {
-    #[inline(never)]
-    pub fn open(&mut self, h: Name, dev: DeviceNo) -> Result<(), Refused> {
-        granted(self.library.open(self.rt, self.caller, h, dev))
-    }
-
-    #[inline(never)]
-    pub fn claim(&mut self, h: Name, i: u8) -> Result<(), Refused> {
-        granted(self.library.claim(self.rt, self.caller, h, i))
-    }
-
-    #[inline(never)]
-    pub fn release(&mut self, h: Name, i: u8) -> Result<(), Refused> {
-        granted(self.library.release(self.rt, self.caller, h, i))
-    }
-
-    #[inline(never)]
-    pub fn reset(&mut self, h: Name) -> Result<(), Refused> {
-        granted(self.library.reset(self.rt, self.caller, h))
+    /// Makes a step of a handle's that submits nothing.
+    pub fn make(&mut self, step: Step) -> Result<(), Refused> {
+        match make(self.rt, self.library, self.caller, step) {
+            Ok(Some(answered)) => granted(Ok(answered)),
+            _ => Err(Refused::NoMem),
+        }
     }
 
     /// Submits a transfer.

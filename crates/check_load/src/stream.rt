@@ -2,9 +2,8 @@
 
 use crate::seat::{Seat, TURNS};
 use example_devices::Reader;
-use std::alloc::AllocError;
+use std::sync::Wait;
 use std::sync::atomic::{AtomicU64, Ordering};
-use std::sync::{Arc, Wait};
 use std::thread;
 use std::time::{Clock, Duration};
 use usb_callback::Callback;
@@ -12,15 +11,15 @@ use usb_device::Device;
 use usb_journal::{Naming, Recorder};
 use usb_library::{Caller, Library};
 use usb_live::Driver;
-use usb_model::{Refused, Returned, Verdict};
+use usb_model::{Refused, Returned, Step, Verdict};
 
 /// The callback of a transfer: it counts.
 #[derive(Drop)]
-pub struct Counts {
-    called: Arc<AtomicU64>,
+pub struct Counts<'a> {
+    called: &'a AtomicU64,
 }
 
-impl Callback for Counts {
+impl<'a> Callback for Counts<'a> {
     ghost use Rattle.std.specs.Prelude.{⊤, true};
     ghost use Rattle.usb_model.specs.declared.verdict.Rule.TheVariants.{Free};
 
@@ -30,7 +29,7 @@ impl Callback for Counts {
 
     ghost may_answer = { λ c r v. ⊤ };
 
-    fn call(self, _returned: Returned) -> (Verdict, Option<Counts>) {
+    fn call(self, _returned: Returned) -> (Verdict, Option<Counts<'a>>) {
         self.called.fetch_add(1, Ordering::SeqCst);
         (Verdict::Stop, Some(self))
     }
@@ -38,7 +37,7 @@ impl Callback for Counts {
 
 /// A thread that claims, reads and releases, round after round, and is idle then.
 #[derive(Drop)]
-pub struct Stream<K> {
+pub struct Stream<'a, K> {
     /// Its handle and endpoint.
     pub reader: Reader,
     /// How many rounds.
@@ -48,25 +47,14 @@ pub struct Stream<K> {
     /// How many transfers are in line at most.
     pub window: u64,
     /// How many callbacks were called.
-    pub called: Arc<AtomicU64>,
+    pub called: &'a AtomicU64,
     /// How long it is idle at the end.
     pub idle: Duration,
     /// For that.
     pub clock: K,
 }
 
-/// No memory is a refusal as others are.
-fn no_memory(_error: AllocError) -> Refused {
-    Refused::NoMem
-}
-
-impl<K> Stream<K> {
-    /// A callback that counts here.
-    fn counts(&self) -> Result<Counts, Refused> {
-        let called = self.called.clone().map_err(no_memory)?;
-        Ok(Counts { called })
-    }
-
+impl<'a, K> Stream<'a, K> {
     /// Waits until at most so many callbacks are missing.
     fn wait(&self, submitted: u64, missing: u64) -> Result<(), Refused> {
         for _ in 0..TURNS {
@@ -82,19 +70,22 @@ impl<K> Stream<K> {
     /// Submits one transfer of 8 bytes.
     fn submit<L: Naming, D: Device, J: Recorder, R: Wait>(
         &self,
-        seat: &mut Seat<'_, R, L, Counts, D, J>,
+        seat: &mut Seat<'_, R, L, Counts<'a>, D, J>,
     ) -> Result<(), Refused> {
-        let counts = self.counts()?;
+        let counts = Counts {
+            called: self.called,
+        };
         seat.submit(self.reader.h, self.reader.read(8, 0), counts)
     }
 
     /// Releases the interface, once it is quiet.
     fn release<L: Naming, D: Device, J: Recorder, R: Wait>(
         &self,
-        seat: &mut Seat<'_, R, L, Counts, D, J>,
+        seat: &mut Seat<'_, R, L, Counts<'a>, D, J>,
     ) -> Result<(), Refused> {
+        let Reader { h, i, .. } = self.reader;
         for _ in 0..TURNS {
-            match seat.release(self.reader.h, self.reader.i) {
+            match seat.make(Step::Release { h, i }) {
                 Err(Refused::Busy) => thread::yield_now(),
                 released => return released,
             }
@@ -105,10 +96,11 @@ impl<K> Stream<K> {
     /// One round, behind so many transfers.
     fn round<L: Naming, D: Device, J: Recorder, R: Wait>(
         &self,
-        seat: &mut Seat<'_, R, L, Counts, D, J>,
+        seat: &mut Seat<'_, R, L, Counts<'a>, D, J>,
         before: u64,
     ) -> Result<(), Refused> {
-        seat.claim(self.reader.h, self.reader.i)?;
+        let Reader { h, i, .. } = self.reader;
+        seat.make(Step::Claim { h, i })?;
         for k in 0..self.each {
             self.wait(before.saturating_add(k), self.window.saturating_sub(1))?;
             self.submit(seat)?;
@@ -120,9 +112,10 @@ impl<K> Stream<K> {
     /// All rounds.
     fn stream<L: Naming, D: Device, J: Recorder, R: Wait>(
         &self,
-        seat: &mut Seat<'_, R, L, Counts, D, J>,
+        seat: &mut Seat<'_, R, L, Counts<'a>, D, J>,
     ) -> Result<(), Refused> {
-        seat.open(self.reader.h, self.reader.dev)?;
+        let Reader { h, dev, .. } = self.reader;
+        seat.make(Step::Open { h, dev })?;
         for round in 0..self.rounds {
             self.round(seat, self.each.saturating_mul(round))?;
         }
@@ -130,13 +123,13 @@ impl<K> Stream<K> {
     }
 }
 
-impl<K: Clock + Drop> Driver<Counts> for Stream<K> {
+impl<'a, K: Clock + Drop> Driver<Counts<'a>> for Stream<'a, K> {
     type Left = Result<(), Refused>;
 
     fn drive<L: Naming, D: Device, J: Recorder, R: Wait>(
         self,
         rt: &R,
-        library: &Library<L, Counts, D, J>,
+        library: &Library<L, Counts<'a>, D, J>,
         caller: &mut Caller<L>,
     ) -> Result<(), Refused> {
         let mut seat = Seat {

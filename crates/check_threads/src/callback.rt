@@ -1,33 +1,67 @@
 //! The callbacks of a scene.
 
-use crate::flag::Flag;
-use crate::halt::Halt;
+use crate::board::{Board, Mark};
 use usb_callback::{Callback, End};
-use usb_model::{Refused, Returned, Rule, Verdict};
+use usb_model::{Refused, Returned, Rule, StatusSet, Verdict};
 
-/// A callback that answers what its rule says, after a halt if it has one.
-#[derive(Drop)]
-pub struct RuleCallback {
-    /// The rule.
-    pub rule: Rule,
-    /// Where it is held.
-    pub halt: Option<Halt>,
-    /// Raised when it is told that it ended since there was no place for its transfer.
-    pub cut: Option<Flag>,
+/// What a callback does.
+#[derive(Clone, Copy)]
+pub enum Manner {
+    /// Ends its transfer.
+    Stops,
+    /// The same, once whoever is held goes on.
+    WaitsAndStops,
+    /// Lets whoever is held go on, and ends its transfer.
+    LetsGo,
+    /// Submits its transfer three times more.
+    Repeats,
+    /// The same, once whoever is held goes on.
+    WaitsAndRepeats,
 }
 
-impl RuleCallback {
-    /// It ends its transfer.
-    pub fn stop() -> RuleCallback {
-        RuleCallback {
-            rule: Rule::once_only(),
-            halt: None,
-            cut: None,
+impl Manner {
+    /// The rule of its verdicts.
+    fn rule(self) -> Rule {
+        match self {
+            Manner::Repeats | Manner::WaitsAndRepeats => Rule::Again {
+                on: StatusSet::COMPLETED,
+                rounds: 3,
+            },
+            _ => Rule::once_only(),
         }
     }
 }
 
-impl Callback for RuleCallback {
+/// A callback that answers what its rule says, and is seen by the threads of its scene.
+#[derive(Drop)]
+pub struct SceneCallback<'a> {
+    manner: Manner,
+    rule: Rule,
+    board: &'a Board,
+}
+
+impl<'a> SceneCallback<'a> {
+    /// The callback of this manner.
+    pub fn new(manner: Manner, board: &'a Board) -> SceneCallback<'a> {
+        SceneCallback {
+            manner,
+            rule: manner.rule(),
+            board,
+        }
+    }
+
+    /// It is called: the others see it, and it waits where it is to.
+    fn meet(&self) {
+        self.board.count_call();
+        match self.manner {
+            Manner::WaitsAndStops | Manner::WaitsAndRepeats => self.board.hold(),
+            Manner::LetsGo => self.board.say(Mark::GoOn),
+            _ => {}
+        }
+    }
+}
+
+impl<'a> Callback for SceneCallback<'a> {
     ghost use Rattle.std.specs.Prelude.{◌≡◌, true};
     ghost use Rattle.usb_model.specs.World.Plans.{verdict_of};
 
@@ -37,17 +71,15 @@ impl Callback for RuleCallback {
 
     ghost may_answer = { λ c r v. v ≡ verdict_of c.rule r.status r.round };
 
-    fn call(self, returned: Returned) -> (Verdict, Option<RuleCallback>) {
-        if let Some(halt) = &self.halt {
-            halt.pass();
-        }
+    fn call(self, returned: Returned) -> (Verdict, Option<SceneCallback<'a>>) {
+        self.meet();
         let verdict = self.rule.verdict(returned.status, returned.round);
         (verdict, Some(self))
     }
 
     fn ended(self, end: End) {
-        if let (Some(cut), End::Refused(Refused::Busy)) = (&self.cut, end) {
-            cut.raise();
+        if let End::Refused(Refused::Busy) = end {
+            self.board.say(Mark::CutShort);
         }
     }
 }

@@ -1,11 +1,9 @@
 //! Many callers over one library.
 
-use crate::acts::{Act, Acts};
-use crate::callback::RuleCallback;
-use crate::halt::Halt;
+use crate::acts::{Act, CLAIM, OPEN, READ_1};
 use crate::player::Played;
-use crate::stage::{Seen, Stand, play_on};
-use crate::turnstile::Turnstile;
+use crate::stage::{Seen, play};
+use crate::turnstile::NOWHERE;
 use anyhow::{Result, anyhow};
 use example_devices::{Reader, devices};
 use std::alloc::Global;
@@ -15,7 +13,6 @@ use usb_core::run;
 use usb_journal::Place;
 use usb_model::{Entry, Name, Reply, Sequence, Step};
 use usb_purge::alone;
-use usb_workers::Point;
 
 /// How many handles there are, each with a thread, a caller and an interface of its own.
 const HANDLES: u8 = 8;
@@ -26,14 +23,8 @@ const TRANSFERS: u16 = 50;
 /// The devices: two handles have an interface each of one.
 const DEVICES: u8 = 4;
 
-/// The thread of a handle.
-fn handle(alloc: Global, h: u8) -> Result<Acts> {
-    let mut acts = Acts::claimed(alloc, Reader::new(h, h / 2, h % 2)?)?;
-    for _ in 0..TRANSFERS {
-        acts.read(1, RuleCallback::stop())?;
-    }
-    Ok(acts)
-}
+/// What each does.
+const ACTS: [Act; 3] = [OPEN, CLAIM, Act::Times(TRANSFERS as u64, READ_1)];
 
 /// How many places of a caller the journal has.
 fn places_of(seen: &Seen, caller: u32) -> u64 {
@@ -54,7 +45,7 @@ fn are_received(seen: &Seen) -> Result<()> {
             ..
         } = played;
         if places_of(seen, *caller) != *receipts {
-            return Err(anyhow!("caller {caller} has another number of places"));
+            return Err(anyhow!("a caller has another number of places"));
         }
     }
     Ok(())
@@ -99,26 +90,31 @@ fn both(
     alloc: Global,
     sizes: &[u16],
     steps: &[Step],
-    h: Name,
+    h: u8,
 ) -> Result<(Sequence<Entry>, Sequence<Entry>)> {
+    let Some(name) = Name::new(h) else {
+        return Err(anyhow!("no such name"));
+    };
     let setup = devices(alloc, DEVICES, 8, sizes)?;
-    let both = alone(alloc, setup, steps, h)?;
+    let both = alone(alloc, setup, steps, name)?;
     Ok((both.shared, both.alone))
 }
 
 /// An error where a handle alone sees something else than amid the others, or not so many callbacks in order.
-fn is_alone(alloc: Global, sizes: &[u16], steps: &[Step], h: u8, transfers: u64) -> Result<()> {
-    let Some(name) = Name::new(h) else {
-        return Err(anyhow!("no name {h}"));
-    };
-    let (shared, alone) = both(alloc, sizes, steps, name)?;
-    if !are_same(alloc, shared.as_slice(), alone.as_slice())? {
-        return Err(anyhow!("handle {h} sees something else alone"));
+fn is_right(alloc: Global, shared: &[Entry], alone: &[Entry], transfers: u64) -> Result<()> {
+    if !are_same(alloc, shared, alone)? {
+        return Err(anyhow!("a handle sees something else alone"));
     }
-    if callbacks_in(alone.as_slice()) != Some(transfers) {
-        return Err(anyhow!("handle {h} has other callbacks"));
+    if callbacks_in(alone) != Some(transfers) {
+        return Err(anyhow!("a handle has other callbacks"));
     }
     Ok(())
+}
+
+/// The same of a handle by its number.
+fn is_alone(alloc: Global, sizes: &[u16], steps: &[Step], h: u8, transfers: u64) -> Result<()> {
+    let (shared, alone) = both(alloc, sizes, steps, h)?;
+    is_right(alloc, shared.as_slice(), alone.as_slice(), transfers)
 }
 
 /// The entries of a run of these steps over fresh devices.
@@ -154,24 +150,21 @@ fn is_replayed(alloc: Global, places: Vec<Place>, sizes: &[u16], transfers: u64)
     Ok(())
 }
 
-/// The threads of all handles.
-fn handles(alloc: Global) -> Result<Vec<Vec<Act>>> {
-    let mut threads = Vec::new(alloc);
+/// The handles.
+fn readers(alloc: Global) -> Result<Vec<Reader>> {
+    let mut readers = Vec::new(alloc);
     for h in 0..HANDLES {
-        threads.push(handle(alloc, h)?.into_list())?;
+        readers.push(Reader::new(h, h / 2, h % 2)?)?;
     }
-    Ok(threads)
+    Ok(readers)
 }
 
 /// What all of them saw.
 fn seen_by_all<R: Threads + Wait + Sync>(rt: &R, alloc: Global, sizes: &[u16]) -> Result<Seen> {
-    let gates = Turnstile::at(Point::Take, 0, &Halt::new(alloc)?)?;
-    let stand = Stand {
-        count: DEVICES,
-        packet: 8,
-        sizes,
-    };
-    play_on(rt, alloc, stand, gates, handles(alloc)?)
+    let readers = readers(alloc)?;
+    let setup = devices(alloc, DEVICES, 8, sizes)?;
+    let threads = [ACTS.as_slice(); HANDLES as usize];
+    play(rt, alloc, setup, NOWHERE, readers.as_slice(), &threads)
 }
 
 /// Four devices, eight threads with a handle and an interface each, and fifty transfers of each: each caller has as

@@ -5,20 +5,21 @@
 //! # Files
 //!
 //! - `gates.rt`, `callers.rt`, `absence.rt`, `wakes.rt`: the scenes
-//! - `acts.rt`, `player.rt`, `stage.rt`: what a thread does, act by act; a thread that does it; a scene is played
-//! - `flag.rt`, `halt.rt`, `turnstile.rt`, `callback.rt`, `counted.rt`: what threads tell each other; where they are
-//!   held; gates, callbacks and a device that take part
+//! - `scene.rt`, `acts.rt`: a scene as data; what a thread does, act by act
+//! - `stage.rt`, `player.rt`: a scene is played; a thread that does its acts
+//! - `board.rt`, `turnstile.rt`, `callback.rt`, `counted.rt`: what threads tell each other; gates, callbacks and a device
+//!   that take part
 #![tactic(auto)]
 
 mod absence;
 mod acts;
+mod board;
 mod callback;
 mod callers;
 mod counted;
-mod flag;
 mod gates;
-mod halt;
 mod player;
+mod scene;
 mod stage;
 mod turnstile;
 mod wakes;
@@ -36,40 +37,15 @@ fn say<R: Print>(rt: &R, line: &str) -> Result<()> {
 
 /// Plays the scenes in which a worker or a callback is held.
 fn play_gates<R: Threads + Wait + Sync + Print>(rt: &R, alloc: Global) -> Result<()> {
-    gates::held_callback(rt, alloc)?;
-    say(
-        rt,
-        "held callback: a submission is answered while a callback is held",
-    )?;
-    gates::two_loops(rt, alloc)?;
-    say(
-        rt,
-        "two loops: a callback is called while the controller waits",
-    )?;
-    gates::cancel_points(rt, alloc)?;
-    say(
-        rt,
-        "cancel points: cancelled at each point, called back once, and closed",
-    )?;
-    gates::close_amid_rounds(rt, alloc)?;
-    say(
-        rt,
-        "close amid rounds: refused while a callback is out, done after the last",
-    )?;
-    gates::cut_short(rt, alloc)?;
-    say(
-        rt,
-        "cut short: a callback whose next round finds no place is told so",
-    )?;
-    gates::events_after_rest(rt, alloc)?;
-    say(
-        rt,
-        "events after rest: each wakes a worker that has parked, and the endpoint goes on",
-    )
+    for scene in gates::SCENES {
+        scene.play(rt, alloc)?;
+        say(rt, scene.line)?;
+    }
+    Ok(())
 }
 
-/// Plays those of many callers, and of workers that wait.
-fn play_others<R: Threads + Wait + Sync + Print>(rt: &R, alloc: Global) -> Result<()> {
+/// Plays those of many callers, and of one that is missing.
+fn play_callers<R: Threads + Wait + Sync + Print>(rt: &R, alloc: Global) -> Result<()> {
     callers::many_callers(rt, alloc)?;
     say(
         rt,
@@ -79,9 +55,13 @@ fn play_others<R: Threads + Wait + Sync + Print>(rt: &R, alloc: Global) -> Resul
     say(
         rt,
         "missing caller: all is handed back, and the end comes with it",
-    )?;
-    wakes::look_then_park(rt, alloc)?;
-    say(rt, "look then park: a submission in between wakes")?;
+    )
+}
+
+/// Plays those of workers that wait.
+fn play_wakes<R: Threads + Wait + Sync + Print>(rt: &R, alloc: Global) -> Result<()> {
+    gates::LOOK_THEN_PARK.play(rt, alloc)?;
+    say(rt, gates::LOOK_THEN_PARK.line)?;
     wakes::each_wakes(rt, alloc)?;
     say(
         rt,
@@ -94,5 +74,6 @@ fn play_others<R: Threads + Wait + Sync + Print>(rt: &R, alloc: Global) -> Resul
 fn main(rt: HostRuntime) -> Result<()> {
     let alloc = rt.alloc();
     play_gates(&rt, alloc)?;
-    play_others(&rt, alloc)
+    play_callers(&rt, alloc)?;
+    play_wakes(&rt, alloc)
 }

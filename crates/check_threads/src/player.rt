@@ -1,9 +1,10 @@
 //! A thread of a scene: what it does, one act after the other.
 
-use crate::acts::{Act, Signal};
-use crate::callback::RuleCallback;
-use crate::flag::{Flag, TURNS};
-use crossbeam_utils::sync::Unparker;
+use crate::acts::{Act, Call};
+use crate::board::{Board, TURNS};
+use crate::callback::SceneCallback;
+use crossbeam_utils::sync::{Parker, Unparker};
+use example_devices::Reader;
 use std::alloc::{AllocError, Global};
 use std::sync::Wait;
 use std::thread;
@@ -16,9 +17,15 @@ use usb_model::{Name, Refused, Reply, Request, Step};
 
 /// A thread of a scene.
 #[derive(Drop)]
-pub struct Player {
-    /// Its acts.
-    pub acts: Vec<Act>,
+pub struct Player<'a> {
+    /// Its handle, and the endpoint that it reads from.
+    pub reader: Reader,
+    /// What it does.
+    pub acts: &'a [Act],
+    /// What the threads of the scene tell each other.
+    pub board: &'a Board,
+    /// By which it parks, if it does.
+    pub parker: Option<Parker>,
     /// For what it is answered.
     pub alloc: Global,
 }
@@ -30,18 +37,26 @@ pub struct Played {
     pub caller: u32,
     /// How many receipts it got.
     pub receipts: u64,
-    /// What its acts were answered, in order.
+    /// What its calls were answered, in order.
     pub replies: Vec<Reply>,
 }
 
-impl Driver<RuleCallback> for Player {
+impl Played {
+    /// Keeps what a call was answered.
+    fn keep(&mut self, reply: Reply) -> Result<(), AllocError> {
+        self.replies.push(reply)?;
+        Ok(())
+    }
+}
+
+impl<'a> Driver<SceneCallback<'a>> for Player<'a> {
     type Left = Result<Played, AllocError>;
 
     /// An error where it waited in vain, or memory was refused.
     fn drive<L: Naming, D: Device, J: Recorder, R: Wait>(
         self,
         rt: &R,
-        library: &Library<L, RuleCallback, D, J>,
+        library: &Library<L, SceneCallback<'a>, D, J>,
         caller: &mut Caller<L>,
     ) -> Result<Played, AllocError> {
         let mut played = Played {
@@ -49,60 +64,146 @@ impl Driver<RuleCallback> for Player {
             receipts: 0,
             replies: Vec::new(self.alloc),
         };
-        for act in self.acts {
-            play(rt, library, caller, act, &mut played)?;
-        }
+        self.play_all(rt, library, caller, &mut played)?;
         Ok(played)
     }
 }
 
-/// Does an act.
-fn play<L: Naming, D: Device, J: Recorder, R: Wait>(
-    rt: &R,
-    library: &Library<L, RuleCallback, D, J>,
-    caller: &mut Caller<L>,
-    act: Act,
-    played: &mut Played,
-) -> Result<(), AllocError> {
-    let reply = match act {
-        Act::Do(step) => answer(rt, library, caller, step, played)?,
-        Act::Until(step) => until(rt, library, caller, step, played)?,
-        Act::Submit(h, request, told) => submit(rt, library, caller, h, request, told, played)?,
-        Act::Watch(unparker) => return library.watch(rt, unparker),
-        Act::Look => return look(rt, library),
-        Act::Tell(signal) => return wait(rt, signal),
-    };
-    played.replies.push(reply)?;
-    Ok(())
-}
-
-/// An error where there is something to serve.
-fn look<L: Naming, D: Device, J: Recorder, R: Wait>(
-    rt: &R,
-    library: &Library<L, RuleCallback, D, J>,
-) -> Result<(), AllocError> {
-    in_time(library.pending(rt).serve.is_none())
-}
-
-/// Waits, or ends the waiting of others.
-fn wait<R: Wait>(rt: &R, signal: Signal) -> Result<(), AllocError> {
-    match signal {
-        Signal::Raise(flag) => {
-            flag.raise();
-            Ok(())
+impl<'a> Player<'a> {
+    /// Does all acts.
+    fn play_all<L: Naming, D: Device, J: Recorder, R: Wait>(
+        &self,
+        rt: &R,
+        library: &Library<L, SceneCallback<'a>, D, J>,
+        caller: &mut Caller<L>,
+        played: &mut Played,
+    ) -> Result<(), AllocError> {
+        for act in self.acts {
+            self.play(rt, library, caller, *act, played)?;
         }
-        Signal::Await(flag) => in_time(flag.wait()),
-        Signal::AwaitEither(one, other) => in_time(one.wait_or(&other)),
-        Signal::Yield(turns) => {
-            yield_all(turns);
-            Ok(())
-        }
-        Signal::Park(parker) => {
-            parker.park(rt);
-            Ok(())
-        }
-        Signal::Rescue(woken, unparker) => rescue(&woken, &unparker),
+        Ok(())
     }
+
+    /// Does an act.
+    fn play<L: Naming, D: Device, J: Recorder, R: Wait>(
+        &self,
+        rt: &R,
+        library: &Library<L, SceneCallback<'a>, D, J>,
+        caller: &mut Caller<L>,
+        act: Act,
+        played: &mut Played,
+    ) -> Result<(), AllocError> {
+        match act {
+            Act::Once(call) => self.call(rt, library, caller, call, false, played),
+            Act::InTime(call) => self.call(rt, library, caller, call, true, played),
+            Act::Times(times, call) => self.calls(rt, library, caller, call, times, played),
+            Act::WatchAndLook => self.watch_and_look(rt, library),
+            _ => in_time(self.signal(rt, act)),
+        }
+    }
+
+    /// Makes a call, where it is refused as busy again if that is wanted.
+    fn call<L: Naming, D: Device, J: Recorder, R: Wait>(
+        &self,
+        rt: &R,
+        library: &Library<L, SceneCallback<'a>, D, J>,
+        caller: &mut Caller<L>,
+        call: Call,
+        again: bool,
+        played: &mut Played,
+    ) -> Result<(), AllocError> {
+        for _ in 0..TURNS {
+            let reply = self.ask(rt, library, caller, call)?;
+            played.receipts = played.receipts.saturating_add(1);
+            if !again || !is_busy(&reply) {
+                return played.keep(reply);
+            }
+            thread::yield_now();
+        }
+        Err(AllocError)
+    }
+
+    /// Makes a call so many times, each again where it is refused as busy.
+    fn calls<L: Naming, D: Device, J: Recorder, R: Wait>(
+        &self,
+        rt: &R,
+        library: &Library<L, SceneCallback<'a>, D, J>,
+        caller: &mut Caller<L>,
+        call: Call,
+        times: u64,
+        played: &mut Played,
+    ) -> Result<(), AllocError> {
+        for _ in 0..times {
+            self.call(rt, library, caller, call, true, played)?;
+        }
+        Ok(())
+    }
+
+    /// What a call is answered, made once.
+    fn ask<L: Naming, D: Device, J: Recorder, R: Wait>(
+        &self,
+        rt: &R,
+        library: &Library<L, SceneCallback<'a>, D, J>,
+        caller: &mut Caller<L>,
+        call: Call,
+    ) -> Result<Reply, AllocError> {
+        let Reader { h, dev, i, .. } = self.reader;
+        let step = match call {
+            Call::Open => Step::Open { h, dev },
+            Call::Claim => Step::Claim { h, i },
+            Call::Release => Step::Release { h, i },
+            Call::Close => Step::Close { h },
+            Call::Cancel(n) => Step::Cancel { h, n },
+            Call::Read(bytes, manner) => {
+                let told = SceneCallback::new(manner, self.board);
+                return submitted(rt, library, caller, h, self.reader.read(bytes, 0), told);
+            }
+        };
+        made(rt, library, caller, step)
+    }
+
+    /// Is woken by changes from here on. An error where there is something to serve.
+    fn watch_and_look<L: Naming, D: Device, J: Recorder, R: Wait>(
+        &self,
+        rt: &R,
+        library: &Library<L, SceneCallback<'a>, D, J>,
+    ) -> Result<(), AllocError> {
+        let Some(parker) = &self.parker else {
+            return Err(AllocError);
+        };
+        watch(rt, library, parker.unparker().clone()?)?;
+        in_time(!has_packet(rt, library))
+    }
+
+    /// What has nothing to do with the library: whether it didn't wait in vain.
+    fn signal<R: Wait>(&self, rt: &R, act: Act) -> bool {
+        match act {
+            Act::Say(mark) => self.board.say(mark),
+            Act::Await(event) => return self.board.wait(event, event),
+            Act::AwaitEither(one, other) => return self.board.wait(one, other),
+            Act::Yield(turns) => yield_all(turns),
+            Act::Rescue => return self.board.was_woken(),
+            _ => self.park(rt),
+        }
+        true
+    }
+
+    /// Parks until it is woken.
+    fn park<R: Wait>(&self, rt: &R) {
+        if let Some(parker) = &self.parker {
+            parker.park(rt);
+        }
+    }
+}
+
+/// Whether a call was refused as busy.
+fn is_busy(reply: &Reply) -> bool {
+    matches!(reply, Reply::Refused(Refused::Busy))
+}
+
+/// An error where a thread waited in vain.
+fn in_time(is_in_time: bool) -> Result<(), AllocError> {
+    if is_in_time { Ok(()) } else { Err(AllocError) }
 }
 
 /// Gives way so many times.
@@ -112,103 +213,55 @@ fn yield_all(turns: u64) {
     }
 }
 
-/// Waits for a thread that is woken; where it isn't it is woken here, and that is an error.
-fn rescue(woken: &Flag, unparker: &Unparker) -> Result<(), AllocError> {
-    let was_woken = woken.wait();
-    unparker.unpark();
-    in_time(was_woken)
-}
-
-/// An error where a thread waited in vain.
-fn in_time(is_up: bool) -> Result<(), AllocError> {
-    if is_up { Ok(()) } else { Err(AllocError) }
-}
-
-/// What a step was answered.
-fn answer<L: Naming, D: Device, J: Recorder, R: Wait>(
+/// What a step that submits nothing was answered.
+fn made<L: Naming, C: Drop, D: Device, J: Recorder, R: Wait>(
     rt: &R,
-    library: &Library<L, RuleCallback, D, J>,
+    library: &Library<L, C, D, J>,
     caller: &mut Caller<L>,
     step: Step,
-    played: &mut Played,
 ) -> Result<Reply, AllocError> {
-    let answered = make(rt, library, caller, step)?.ok_or(AllocError)?;
-    played.receipts = played.receipts.saturating_add(1);
-    Ok(answered.entry.reply)
-}
-
-/// What a step was answered, when it wasn't busy any more.
-fn until<L: Naming, D: Device, J: Recorder, R: Wait>(
-    rt: &R,
-    library: &Library<L, RuleCallback, D, J>,
-    caller: &mut Caller<L>,
-    step: Step,
-    played: &mut Played,
-) -> Result<Reply, AllocError> {
-    for _ in 0..TURNS {
-        let reply = answer(rt, library, caller, step.clone()?, played)?;
-        if !matches!(reply, Reply::Refused(Refused::Busy)) {
-            return Ok(reply);
-        }
-        thread::yield_now();
-    }
-    Err(AllocError)
-}
-
-/// What came of a submission.
-#[derive(Drop)]
-enum Tried {
-    /// It has its place.
-    Answered(Reply),
-    /// The endpoint was busy: what was given is back.
-    Busy(Request, RuleCallback),
-}
-
-/// What a submission is answered with this number, or with what wasn't accepted.
-fn came_of(number: Result<u64, Unaccepted<Request, RuleCallback>>) -> Tried {
-    match number {
-        Ok(n) => Tried::Answered(Reply::Number(n)),
-        Err(refused) => match refused.why {
-            Refused::Busy => Tried::Busy(refused.given, refused.payload),
-            why => Tried::Answered(Reply::Refused(why)),
-        },
+    match make(rt, library, caller, step) {
+        Ok(Some(answered)) => Ok(answered.entry.reply),
+        _ => Err(AllocError),
     }
 }
 
-/// Submits a transfer, once.
-fn try_submit<L: Naming, D: Device, J: Recorder, R: Wait>(
+/// What a submission was answered.
+fn submitted<L: Naming, C: Drop, D: Device, J: Recorder, R: Wait>(
     rt: &R,
-    library: &Library<L, RuleCallback, D, J>,
+    library: &Library<L, C, D, J>,
     caller: &mut Caller<L>,
     h: Name,
     request: Request,
-    told: RuleCallback,
-) -> Result<Tried, AllocError> {
+    told: C,
+) -> Result<Reply, AllocError> {
     match library.submit(rt, caller, h, request, told) {
-        Ok(submitted) => Ok(came_of(submitted.number)),
+        Ok(submitted) => Ok(reply_of(submitted.number)),
         Err(_) => Err(AllocError),
     }
 }
 
-/// What a submission was answered, when it wasn't busy any more.
-fn submit<L: Naming, D: Device, J: Recorder, R: Wait>(
-    rt: &R,
-    library: &Library<L, RuleCallback, D, J>,
-    caller: &mut Caller<L>,
-    h: Name,
-    request: Request,
-    told: RuleCallback,
-    played: &mut Played,
-) -> Result<Reply, AllocError> {
-    let (mut request, mut told) = (request, told);
-    for _ in 0..TURNS {
-        let tried = try_submit(rt, library, caller, h, request, told)?;
-        played.receipts = played.receipts.saturating_add(1);
-        match tried {
-            Tried::Answered(reply) => return Ok(reply),
-            Tried::Busy(given, payload) => (request, told) = (given, payload),
-        }
-        thread::yield_now();
+/// The reply that tells a submission's number, or why it was refused.
+fn reply_of<C: Drop>(number: Result<u64, Unaccepted<Request, C>>) -> Reply {
+    match number {
+        Ok(n) => Reply::Number(n),
+        Err(refused) => Reply::Refused(refused.why),
     }
-    Err(AllocError)
+}
+
+/// A thread is woken by changes from here on.
+fn watch<L: Naming, C: Drop, D: Device, J: Recorder, R: Wait>(
+    rt: &R,
+    library: &Library<L, C, D, J>,
+    unparker: Unparker,
+) -> Result<(), AllocError> {
+    library.watch(rt, unparker)
+}
+
+/// Whether there is something to serve.
+fn has_packet<L: Naming, C: Drop, D: Device, J: Recorder, R: Wait>(
+    rt: &R,
+    library: &Library<L, C, D, J>,
+) -> bool {
+    library.pending(rt).serve.is_some()
 }

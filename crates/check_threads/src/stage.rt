@@ -1,12 +1,13 @@
-//! A scene that is played: a library with some threads, and what it leaves.
+//! Threads that play over a library that lives, and what it leaves.
 
-use crate::acts::{Act, Acts};
-use crate::callback::RuleCallback;
-use crate::halt::Halt;
+use crate::acts::Act;
+use crate::board::{Board, Mark};
+use crate::callback::SceneCallback;
 use crate::player::{Played, Player};
-use crate::turnstile::Turnstile;
+use crate::turnstile::{Stop, Turnstile};
 use anyhow::{Result, anyhow};
-use example_devices::devices;
+use crossbeam_utils::sync::Parker;
+use example_devices::Reader;
 use std::alloc::{AllocError, Global};
 use std::result;
 use std::sync::Wait;
@@ -16,6 +17,12 @@ use usb_device::Device;
 use usb_journal::{Journal, Place};
 use usb_live::{Gates, Lived, live_gated};
 use usb_model::{Entry, Reply};
+
+/// What a thread leaves, or that it waited in vain.
+type Left = result::Result<Played, AllocError>;
+
+/// What is left of a library in a scene.
+type Life<'a, D> = Lived<SceneCallback<'a>, D, Journal, Left>;
 
 /// What a scene saw.
 #[derive(Drop)]
@@ -30,30 +37,43 @@ pub struct Seen {
     pub lacked_memory: bool,
 }
 
-/// The threads that do this.
-fn players(alloc: Global, threads: Vec<Vec<Act>>) -> Result<Vec<Player>> {
+/// Threads of these handles that do these acts. The first may park.
+fn players<'a>(
+    alloc: Global,
+    readers: &[Reader],
+    threads: &[&'a [Act]],
+    board: &'a Board,
+    parker: Parker,
+) -> Result<Vec<Player<'a>>> {
     let mut players = Vec::new(alloc);
-    for acts in threads {
-        players.push(Player { acts, alloc })?;
+    let mut parker = Some(parker);
+    for (reader, acts) in readers.iter().zip(threads) {
+        players.push(Player {
+            reader: *reader,
+            acts: *acts,
+            board,
+            parker: parker.take(),
+            alloc,
+        })?;
     }
     Ok(players)
 }
 
-/// A library lives over the devices, with these players: what it leaves.
-fn lived<D: Device + Send, R: Threads + Wait + Sync>(
+/// What a library leaves that lives over the devices with these players.
+fn lived<'a, D: Device + Send, R: Threads + Wait + Sync>(
     rt: &R,
     alloc: Global,
     setup: Setup<D>,
-    gates: Gates<Turnstile>,
-    players: Vec<Player>,
-) -> Result<Lived<RuleCallback, D, Journal, result::Result<Played, AllocError>>> {
-    Ok(live_gated::<RuleCallback, D, Journal, Turnstile, Player, R>(
+    gates: Gates<Turnstile<'a>>,
+    players: Vec<Player<'a>>,
+) -> result::Result<Life<'a, D>, AllocError> {
+    live_gated::<SceneCallback<'a>, D, Journal, Turnstile<'a>, Player<'a>, R>(
         rt, alloc, setup, gates, players,
-    )?)
+    )
 }
 
-/// What they saw. An error where one waited in vain.
-fn all_played(alloc: Global, left: Vec<result::Result<Played, AllocError>>) -> Result<Vec<Played>> {
+/// What all threads left. An error where one waited in vain.
+fn all_played(alloc: Global, left: Vec<Left>) -> Result<Vec<Played>> {
     let mut all = Vec::new(alloc);
     for played in left {
         all.push(played.map_err(|_| anyhow!("a thread waited in vain"))?)?;
@@ -61,84 +81,62 @@ fn all_played(alloc: Global, left: Vec<result::Result<Played, AllocError>>) -> R
     Ok(all)
 }
 
-/// Plays these threads over the devices, behind these gates. An error where one waited in vain.
+/// What was seen of a library's life. An error where a thread waited in vain.
+fn seen_of<D: Device>(alloc: Global, life: Life<'_, D>) -> Result<Seen> {
+    Ok(Seen {
+        places: life.kept.places(alloc)?,
+        played: all_played(alloc, life.left)?,
+        cuts: life.cuts,
+        lacked_memory: life.lacked_memory,
+    })
+}
+
+/// What these players saw. An error where a worker or a callback was held for too long.
+fn play_with<'a, D: Device + Send, R: Threads + Wait + Sync>(
+    rt: &R,
+    alloc: Global,
+    setup: Setup<D>,
+    board: &'a Board,
+    stop: Stop,
+    players: Vec<Player<'a>>,
+) -> Result<Seen> {
+    let life = lived(rt, alloc, setup, Turnstile::both(stop, board), players)?;
+    if board.is_said(Mark::Late) {
+        return Err(anyhow!("a worker waited in vain"));
+    }
+    seen_of(alloc, life)
+}
+
+/// Plays these threads over the devices, each of a handle, where workers are held at a stop. An error where one waited in
+/// vain.
 pub fn play<D: Device + Send, R: Threads + Wait + Sync>(
     rt: &R,
     alloc: Global,
     setup: Setup<D>,
-    gates: Gates<Turnstile>,
-    threads: Vec<Vec<Act>>,
+    stop: Stop,
+    readers: &[Reader],
+    threads: &[&[Act]],
 ) -> Result<Seen> {
-    let lived = lived(rt, alloc, setup, gates, players(alloc, threads)?)?;
-    Ok(Seen {
-        places: lived.kept.places(alloc)?,
-        played: all_played(alloc, lived.left)?,
-        cuts: lived.cuts,
-        lacked_memory: lived.lacked_memory,
-    })
-}
-
-/// The devices of a scene.
-#[derive(Clone, Copy)]
-pub struct Stand<'a> {
-    /// How many there are.
-    pub count: u8,
-    /// How many bytes a packet of theirs has at most.
-    pub packet: u16,
-    /// The sizes of the packets with which each endpoint answers.
-    pub sizes: &'a [u16],
-}
-
-impl<'a> Stand<'a> {
-    /// One device with packets of 8 bytes.
-    pub fn of_one(sizes: &'a [u16]) -> Stand<'a> {
-        Stand {
-            count: 1,
-            packet: 8,
-            sizes,
-        }
-    }
-}
-
-/// The same over a stand's devices.
-pub fn play_on<R: Threads + Wait + Sync>(
-    rt: &R,
-    alloc: Global,
-    stand: Stand<'_>,
-    gates: Gates<Turnstile>,
-    threads: Vec<Vec<Act>>,
-) -> Result<Seen> {
-    let setup = devices(alloc, stand.count, stand.packet, stand.sizes)?;
-    play(rt, alloc, setup, gates, threads)
-}
-
-/// The same of one thread that meets a halt, and goes on in time: an error where it waited in vain.
-pub fn play_halted<R: Threads + Wait + Sync>(
-    rt: &R,
-    alloc: Global,
-    stand: Stand<'_>,
-    gates: Gates<Turnstile>,
-    halt: &Halt,
-    acts: Acts,
-) -> Result<Seen> {
-    let seen = play_on(rt, alloc, stand, gates, alone(alloc, acts)?)?;
-    if halt.late.is_up() {
-        return Err(anyhow!("a worker waited in vain"));
-    }
-    Ok(seen)
-}
-
-/// One thread.
-pub fn alone(alloc: Global, acts: Acts) -> Result<Vec<Vec<Act>>> {
-    let mut threads = Vec::new(alloc);
-    threads.push(acts.into_list())?;
-    Ok(threads)
+    let parker = Parker::new(alloc)?;
+    let board = Board::new(parker.unparker().clone()?);
+    let players = players(alloc, readers, threads, &board, parker)?;
+    play_with(rt, alloc, setup, &board, stop, players)
 }
 
 /// The line of an entry, behind these.
-pub fn add_line(alloc: Global, lines: &mut String, entry: &Entry) -> Result<()> {
+fn add_line(alloc: Global, lines: &mut String, entry: &Entry) -> Result<()> {
     let line = format!(in alloc; "{entry}\n")?;
     Ok(lines.push_str(line.as_str())?)
+}
+
+/// Whether a text is one of these.
+fn is_one_of(text: &str, texts: &[&str]) -> bool {
+    for one in texts {
+        if *one == text {
+            return true;
+        }
+    }
+    false
 }
 
 impl Seen {
@@ -153,17 +151,8 @@ impl Seen {
         Ok(lines)
     }
 
-    /// An error where its callbacks were told something else.
-    pub fn is_told(&self, alloc: Global, lines: &str) -> Result<()> {
-        let told = self.told(alloc)?;
-        if told.as_str() != lines {
-            return Err(anyhow!("callbacks are told something else: {told}"));
-        }
-        Ok(())
-    }
-
     /// What the first thread was answered, as printed lines without their owners.
-    pub fn answers(&self, alloc: Global) -> Result<String> {
+    fn answers(&self, alloc: Global) -> Result<String> {
         let mut lines = String::new(alloc);
         let Some(first) = self.played.first() else {
             return Ok(lines);
@@ -180,6 +169,23 @@ impl Seen {
         let answers = self.answers(alloc)?;
         if answers.as_str() != lines {
             return Err(anyhow!("a thread is answered something else: {answers}"));
+        }
+        Ok(())
+    }
+
+    /// An error where its callbacks were told something else than one of these.
+    pub fn is_told(&self, alloc: Global, endings: &[&str]) -> Result<()> {
+        let told = self.told(alloc)?;
+        if !is_one_of(told.as_str(), endings) {
+            return Err(anyhow!("callbacks are told something else: {told}"));
+        }
+        Ok(())
+    }
+
+    /// An error where another number of callbacks ended early, or memory was refused.
+    pub fn is_cut(&self, cuts: u64) -> Result<()> {
+        if self.cuts != cuts || self.lacked_memory {
+            return Err(anyhow!("another number of callbacks is cut short"));
         }
         Ok(())
     }
