@@ -1,0 +1,72 @@
+-- The events of a handle's transfer.
+use Rattle.std.specs.Prelude.{ℕ, false, List, [], Option, None, if◌then◌else◌}
+use Rattle.std.specs.Option.{option_map_or}
+use Rattle.usb_model.specs.declared.request.Body.{Body}
+use Rattle.usb_model.specs.declared.request.Body.TheVariants.{In, Out}
+use Rattle.usb_model.specs.declared.request.Request.{Request}
+use Rattle.usb_model.specs.declared.reply.Returned.{Returned}
+use Rattle.usb_model.specs.declared.status.Status.{Status}
+use Rattle.usb_model.specs.declared.status.Status.TheVariants as status
+use Rattle.usb_model.specs.Endpoint.Status.{is_good}
+use Rattle.usb_model.specs.Requests.{length_of, is_short_not_ok, adds_zero_packet}
+use Rattle.trace_capture.specs.declared.identity.UrbId.TheVariants.{Transfer}
+use Rattle.trace_capture.specs.declared.errno.Errno.{Errno}
+use Rattle.trace_capture.specs.declared.errno.Errno.TheVariants.{Success, NoEntry, Pipe, Protocol, Overflow, Shutdown, InProgress, RemoteIo}
+use Rattle.trace_capture.specs.declared.event.EventType.TheVariants.{Submission, Callback}
+use Rattle.trace_capture.specs.declared.event.UrbFlags.{UrbFlags}
+use Rattle.trace_capture.specs.declared.event.Event.{Event}
+
+-- what a request asks for beside its bytes
+abbrev pub flags_of : Request → UrbFlags
+flags_of request = record { short_not_ok = is_short_not_ok request; zero_packet = adds_zero_packet request }
+
+-- the bytes that it writes
+abbrev pub written : Body → List ℕ
+written (In n) = []
+written (Out bytes) = bytes
+
+-- a failed transfer: one that was only read short, or one whose transaction failed (Linux, usb_hcd_giveback_urb)
+abbrev pub failure : Option ℕ → Errno
+failure code = if option_map_or is_good code false then RemoteIo else Protocol
+
+-- how a transfer ended, by what its callback was told and, where it ended by itself, its completion code (Linux, Documentation/driver-api/usb/error-codes.rst; libusb ends what is cancelled or late by USBDEVFS_DISCARDURB)
+abbrev pub errno_of : Status → Option ℕ → Errno
+errno_of status.Completed code = Success
+errno_of status.Error code = failure code
+errno_of status.TimedOut code = NoEntry
+errno_of status.Cancelled code = NoEntry
+errno_of status.Stall code = Pipe
+errno_of status.NoDevice code = Shutdown
+errno_of status.Overflow code = Overflow
+
+-- from a line: a handle's transfer of this number is submitted to its device
+abbrev pub submission : ℕ → ℕ → ℕ → ℕ → Request → Event
+submission line h device n request = record {
+  id = Transfer h n;
+  event_type = Submission;
+  kind = request.kind;
+  ep = request.ep;
+  device = device;
+  line = line;
+  errno = InProgress;
+  length = length_of request.body;
+  setup = None;
+  flags = flags_of request;
+  bytes = written request.body;
+}
+
+-- and called back: what was asked, its completion code where it has one, what came of it
+abbrev pub callback : ℕ → ℕ → ℕ → Request → Option ℕ → Returned → Event
+callback line h device request code returned = record {
+  id = Transfer h returned.n;
+  event_type = Callback;
+  kind = request.kind;
+  ep = request.ep;
+  device = device;
+  line = line;
+  errno = errno_of returned.status code;
+  length = returned.actual;
+  setup = None;
+  flags = flags_of request;
+  bytes = returned.bytes;
+}
