@@ -1,6 +1,6 @@
 -- The events of a run, entry by entry, and what is kept from one to the next.
 use Rattle.std.specs.Prelude.{ℕ, ◌==◌, Bool, not, ◌&&◌, List, [], ◌∷◌, ◌++◌, map, Option, Some, None, if◌then◌else◌}
-use Rattle.std.specs.Option.{option_map, option_map_or, unwrap_or}
+use Rattle.std.specs.Option.{option_and_then, option_map, option_map_or, option_to_list, unwrap_or}
 use Rattle.std.specs.List.{filter, find, flat_map, list_any}
 use Rattle.usb_model.specs.declared.request.Body.TheVariants.{Out}
 use Rattle.usb_model.specs.declared.request.Request.{Request}
@@ -18,7 +18,7 @@ use Rattle.trace_capture.specs.declared.event.Event.{Event}
 use Rattle.trace_capture.specs.declared.tables.Configured.{Configured}
 use Rattle.trace_capture.specs.declared.tables.Opened.{Opened}
 use Rattle.trace_capture.specs.declared.tables.Holding.{Holding}
-use Rattle.trace_capture.specs.declared.tables.Tracked.{Tracked}
+use Rattle.trace_capture.specs.declared.transfer.Tracked.{Tracked}
 use Rattle.trace_capture.specs.Control.{set_configuration, set_interface, clear_halt, configuration_value, control_alone, device_events}
 use Rattle.trace_capture.specs.Transfer.{submission, callback}
 
@@ -66,41 +66,47 @@ request_by h tracked (Submit _ request) = Some request
 request_by h tracked (Answer _ n verdict) = option_map (λ x. again verdict x.request) (transfer_of h n tracked)
 request_by h tracked _ = None
 
--- the submission of what is submitted
-abbrev pub submissions : ℕ → ℕ → ℕ → ℕ → Option Request → List Event
-submissions line h device n None = []
-submissions line h device n (Some request) = submission line h device n request ∷ []
+-- the transfer that the step of a handle submits under this number, to the device that it opened
+abbrev pub submitted : Recording → ℕ → ℕ → Step → Option Tracked
+submitted s h n step =
+    option_and_then (λ device. option_map (λ request. record { h = h; n = n; device = device; request = request; code = None }) (request_by h s.tracked step)) (device_of h s.opened)
+
+-- its submission
+abbrev pub submissions : ℕ → Option Tracked → List Event
+submissions line None = []
+submissions line (Some x) = submission line x ∷ []
 
 -- the callback of a transfer
-abbrev pub callbacks : ℕ → ℕ → ℕ → Returned → Option Tracked → List Event
-callbacks line h device returned None = []
-callbacks line h device returned (Some x) = callback line h device x.request x.code returned ∷ []
+abbrev pub callbacks : ℕ → Returned → Option Tracked → List Event
+callbacks line returned None = []
+callbacks line returned (Some x) = callback line x returned ∷ []
 
--- what a step that was done asks of the device: a claim where the interface wasn't held yet, a reset, the end of a halt
+-- what a step of a handle that was done asks of the device: a claim where the interface wasn't held yet, a reset, the end of a halt
 abbrev pub control_of : Recording → ℕ → ℕ → Step → Option ControlSetup
 control_of s h device (Claim _ i) = if holds h i s.held then None else Some (set_interface i)
 control_of s h device (Reset _) = Some (set_configuration (value_of device s.configured))
 control_of s h device (ClearHalt _ ep) = Some (clear_halt ep)
 control_of s h device _ = None
 
--- the events of it
-abbrev pub done_events : ℕ → ℕ → Option ControlSetup → List Event
-done_events line device None = []
-done_events line device (Some setup) = control_alone line device setup
+-- the events of what is asked
+abbrev pub controls : ℕ → ℕ → Option ControlSetup → List Event
+controls line device None = []
+controls line device (Some setup) = control_alone line device setup
 
--- the events of a step of a handle at its device, by the reply
-abbrev pub reply_events : Recording → ℕ → ℕ → ℕ → Step → Reply → List Event
-reply_events s line h device step Done = done_events line device (control_of s h device step)
-reply_events s line h device step (Number n) = submissions line h device n (request_by h s.tracked step)
-reply_events s line h device step (Called returned) = callbacks line h device returned (transfer_of h returned.n s.tracked)
-reply_events s line h device step _ = []
+-- the events of a step of a handle that was done, at the device that it opened
+abbrev pub done_events : Recording → ℕ → ℕ → Step → List Event
+done_events s line h step = option_map_or (λ device. controls line device (control_of s h device step)) (device_of h s.opened) []
 
-abbrev pub handle_events : Recording → ℕ → ℕ → Step → Reply → List Event
-handle_events s line h step reply = option_map_or (λ device. reply_events s line h device step reply) (device_of h s.opened) []
+-- the events of a step of a handle, by the reply
+abbrev pub reply_events : Recording → ℕ → ℕ → Step → Reply → List Event
+reply_events s line h step Done = done_events s line h step
+reply_events s line h step (Number n) = submissions line (submitted s h n step)
+reply_events s line h step (Called returned) = callbacks line returned (transfer_of h returned.n s.tracked)
+reply_events s line h step _ = []
 
--- the events of an entry: of its owner, at the device that this opened
+-- the events of an entry with its step, from this line
 unfoldable pub entry_events : Recording → ℕ → Step → Entry → List Event
-entry_events s line step entry = option_map_or (λ h. handle_events s line h step entry.reply) entry.owner []
+entry_events s line step entry = option_map_or (λ h. reply_events s line h step entry.reply) entry.owner []
 
 -- the transfers but this
 abbrev pub without_transfer : ℕ → ℕ → List Tracked → List Tracked
@@ -110,11 +116,6 @@ without_transfer h n tracked = filter (λ x. not (is_tracked h n x)) tracked
 abbrev pub past_return : ℕ → Step → List Tracked → List Tracked
 past_return h (Answer _ n verdict) tracked = without_transfer h n tracked
 past_return h _ tracked = tracked
-
--- what is kept of a transfer that is submitted
-abbrev pub tracks : ℕ → ℕ → Option Request → List Tracked
-tracks h n None = []
-tracks h n (Some request) = record { h = h; n = n; request = request; code = None } ∷ []
 
 -- a transfer ended with this completion code
 abbrev pub with_code : ℕ → ℕ → ℕ → Tracked → Tracked
@@ -135,7 +136,7 @@ done_after s h _ = s
 
 -- what is kept behind a step of a handle that got a number: a transfer that is submitted, and no more the one that returned
 abbrev pub number_after : Recording → ℕ → ℕ → Step → Recording
-number_after s h n step = record s { tracked = past_return h step (s.tracked ++ tracks h n (request_by h s.tracked step)) }
+number_after s h n step = record s { tracked = past_return h step (s.tracked ++ option_to_list (submitted s h n step)) }
 
 -- what is kept behind a step of a handle, by the reply
 abbrev pub reply_after : Recording → ℕ → Step → Reply → Recording

@@ -15,6 +15,7 @@ use Rattle.trace_capture.specs.declared.errno.Errno.TheVariants.{Success, NoEntr
 use Rattle.trace_capture.specs.declared.event.EventType.TheVariants.{Submission, Callback}
 use Rattle.trace_capture.specs.declared.event.UrbFlags.{UrbFlags}
 use Rattle.trace_capture.specs.declared.event.Event.{Event}
+use Rattle.trace_capture.specs.declared.transfer.Tracked.{Tracked}
 
 -- what a request asks for beside its bytes
 abbrev pub flags_of : Request → UrbFlags
@@ -39,34 +40,34 @@ errno_of status.Stall code = Pipe
 errno_of status.NoDevice code = Shutdown
 errno_of status.Overflow code = Overflow
 
--- from a line: a handle's transfer of this number is submitted to its device
-abbrev pub submission : ℕ → ℕ → ℕ → ℕ → Request → Event
-submission line h device n request = record {
-  id = Transfer h n;
+-- a transfer is submitted, from this line
+abbrev pub submission : ℕ → Tracked → Event
+submission line x = record {
+  id = Transfer x.h x.n;
   event_type = Submission;
-  kind = request.kind;
-  ep = request.ep;
-  device = device;
+  kind = x.request.kind;
+  ep = x.request.ep;
+  device = x.device;
   line = line;
   errno = InProgress;
-  length = length_of request.body;
+  length = length_of x.request.body;
   setup = None;
-  flags = flags_of request;
-  bytes = written request.body;
+  flags = flags_of x.request;
+  bytes = written x.request.body;
 }
 
--- and called back: what was asked, its completion code where it has one, what came of it
-abbrev pub callback : ℕ → ℕ → ℕ → Request → Option ℕ → Returned → Event
-callback line h device request code returned = record {
-  id = Transfer h returned.n;
+-- and called back, from this line, with what came of it
+abbrev pub callback : ℕ → Tracked → Returned → Event
+callback line x returned = record {
+  id = Transfer x.h x.n;
   event_type = Callback;
-  kind = request.kind;
-  ep = request.ep;
-  device = device;
+  kind = x.request.kind;
+  ep = x.request.ep;
+  device = x.device;
   line = line;
-  errno = errno_of returned.status code;
+  errno = errno_of returned.status x.code;
   length = returned.actual;
   setup = None;
-  flags = flags_of request;
+  flags = flags_of x.request;
   bytes = returned.bytes;
 }

@@ -13,25 +13,18 @@ use usb_model::{EpAddr, Kind};
 /// How many bytes of a record stand before its data, without the first 16.
 const HEADER: usize = 64;
 
-/// The longest record: 64 bytes, and those of the longest transfer.
-const LONGEST: u64 = 262_208;
-
-/// LINKTYPE_USB_LINUX_MMAPPED.
-const LINK_TYPE: u64 = 220;
-
 /// The bytes in front of all records (pcap-savefile(5)).
-pub fn file_header(alloc: Global) -> Result<Vec<u8>, AllocError>
-    ensures { IfOk result (λ bytes. bytes.items ≡ file_header) }
+pub fn file_header() -> [u8; 24]
+    ensures { result ≡ file_header }
 {
-    let mut out = Vec::new(alloc);
-    put(&mut out, 4, 0xa1b2_c3d4)?;
-    put(&mut out, 2, 2)?;
-    put(&mut out, 2, 4)?;
-    put(&mut out, 4, 0)?;
-    put(&mut out, 4, 0)?;
-    put(&mut out, 4, LONGEST)?;
-    put(&mut out, 4, LINK_TYPE)?;
-    Ok(out)
+    [
+        0xd4, 0xc3, 0xb2, 0xa1, // times in microseconds, numbers with their lowest byte first
+        2, 0, 4, 0, // version 2.4
+        0, 0, 0, 0, // no time zone
+        0, 0, 0, 0, // no accuracy of times
+        64, 0, 4, 0, // the longest record: 64 + 262,144 bytes
+        220, 0, 0, 0, // LINKTYPE_USB_LINUX_MMAPPED
+    ]
 }
 
 /// Puts the records of events behind the bytes, in order. Without memory nothing changes.

@@ -3,19 +3,19 @@
 ghost use Rattle.std.specs.Prelude.{◌≡◌, [], IfOk, OnErr, OnOk};
 ghost use Rattle.trace_capture.specs.Control.{device_events};
 ghost use Rattle.std.specs.Option.{option_copied};
-ghost use Rattle.trace_capture.specs.Recording.{callbacks, control_of, device_after, done_after, done_events, entry_after, entry_events, nothing_recorded, number_after, reply_events, submissions};
+ghost use Rattle.trace_capture.specs.Recording.{callbacks, control_of, device_after, done_after, done_events, entry_after, entry_events, nothing_recorded, number_after, submissions, submitted, transfer_of};
 
 use crate::control::{alone, configuration_value, device_events};
 use crate::control_setup::ControlSetup;
 use crate::event::Event;
 use crate::tables::{
-    Configured, Holding, Opened, Tracked, claim, close, device_of, end, forget, holds, release,
-    release_all, request_by, track, transfer_of, value_of,
+    Configured, Holding, Opened, claim, close, device_of, end, forget, holds, release, release_all,
+    request_by, track, transfer_of, value_of,
 };
-use crate::transfer::Origin;
+use crate::transfer::Tracked;
 use std::alloc::{AllocError, Global};
 use std::marker::Model;
-use usb_model::{DeviceNo, Entry, Name, Reply, Request, Returned, Sequence, Step};
+use usb_model::{DeviceNo, Entry, Name, Reply, Returned, Sequence, Step};
 
 /// Tells the events of a run, as its entries come. Contracts see what it keeps: which device each handle opened, the
 /// interfaces that handles hold, and what was asked of each transfer that is in flight or in its callback.
@@ -69,6 +69,7 @@ impl Recorder {
     }
 
     /// The events of an entry that this step made, from this line. Without memory nothing changes.
+    #[tactic(auto, unfolding(crate::specs::Recording::entry_events, crate::specs::Recording::entry_after))]
     pub fn entry(
         &mut self,
         line: u64,
@@ -79,48 +80,42 @@ impl Recorder {
         ensures after { OnOk result (self.new ≡ entry_after self.old step.now entry.now) }
         ensures kept { OnErr result (self.new ≡ self.old) }
     {
-        let events = self.events(line, step, entry)?;
-        self.keep(step, entry)?;
-        Ok(events)
-    }
-
-    /// The events of an entry.
-    #[tactic(auto, unfolding(crate::specs::Recording::entry_events))]
-    fn events(&self, line: u64, step: &Step, entry: &Entry) -> Result<Sequence<Event>, AllocError>
-        ensures { IfOk result (λ events. events ≡ entry_events self.now line step.now entry.now) }
-    {
         let Some(h) = entry.owner else {
             return Ok(Sequence::new(self.alloc));
         };
+        match &entry.reply {
+            Reply::Done => self.done(line, h, step),
+            Reply::Number(n) => self.number(line, h, *n, step),
+            Reply::Ended { n, code } => {
+                end(&mut self.tracked, h, *n, *code);
+                Ok(Sequence::new(self.alloc))
+            }
+            Reply::Called(returned) => self.called(line, h, returned),
+            _ => Ok(Sequence::new(self.alloc)),
+        }
+    }
+
+    /// The events of a step that was done. Without memory nothing changes.
+    fn done(&mut self, line: u64, h: Name, step: &Step) -> Result<Sequence<Event>, AllocError>
+        ensures events { IfOk result (λ events. events ≡ done_events self.old line h step.now) }
+        ensures after { OnOk result (self.new ≡ done_after self.old h step.now) }
+        ensures kept { OnErr result (self.new ≡ self.old) }
+    {
+        let events = self.done_events(line, h, step)?;
+        self.keep_done(h, step)?;
+        Ok(events)
+    }
+
+    /// The events of what a step asks of the device that was done.
+    fn done_events(&self, line: u64, h: Name, step: &Step) -> Result<Sequence<Event>, AllocError>
+        ensures { IfOk result (λ events. events ≡ done_events self.now line h step.now) }
+    {
         let Some(device) = device_of(h, self.opened.as_slice()) else {
             return Ok(Sequence::new(self.alloc));
         };
-        self.by_reply(Origin { line, h, device }, step, &entry.reply)
-    }
-
-    /// The events of a step, by the reply.
-    fn by_reply(
-        &self,
-        origin: Origin,
-        step: &Step,
-        reply: &Reply,
-    ) -> Result<Sequence<Event>, AllocError>
-        ensures { IfOk result (λ events. events ≡ reply_events self.now origin.line origin.h origin.device step.now reply.now) }
-    {
-        match reply {
-            Reply::Done => {
-                let setup = self.control_of(origin.h, origin.device, step);
-                done_events(self.alloc, origin, setup)
-            }
-            Reply::Number(n) => {
-                let request = request_by(origin.h, self.tracked.as_slice(), step)?;
-                submissions(self.alloc, origin, *n, request.as_ref())
-            }
-            Reply::Called(returned) => {
-                let found = transfer_of(origin.h, returned.n, self.tracked.as_slice());
-                callbacks(self.alloc, origin, returned, found)
-            }
-            _ => Ok(Sequence::new(self.alloc)),
+        match self.control_of(h, device, step) {
+            Some(setup) => alone(self.alloc, line, device, setup),
+            None => Ok(Sequence::new(self.alloc)),
         }
     }
 
@@ -141,26 +136,6 @@ impl Recorder {
             }
             Step::ClearHalt { ep, .. } => Some(ControlSetup::clear_halt(*ep)),
             _ => None,
-        }
-    }
-
-    /// Keeps what an entry says for the next. Without memory nothing changes.
-    #[tactic(auto, unfolding(crate::specs::Recording::entry_after))]
-    fn keep(&mut self, step: &Step, entry: &Entry) -> Result<(), AllocError>
-        ensures after { OnOk result (self.new ≡ entry_after self.old step.now entry.now) }
-        ensures kept { OnErr result (self.new ≡ self.old) }
-    {
-        let Some(h) = entry.owner else {
-            return Ok(());
-        };
-        match &entry.reply {
-            Reply::Done => self.keep_done(h, step),
-            Reply::Number(n) => self.keep_number(h, *n, step),
-            Reply::Ended { n, code } => {
-                end(&mut self.tracked, h, *n, *code);
-                Ok(())
-            }
-            _ => Ok(()),
         }
     }
 
@@ -185,62 +160,70 @@ impl Recorder {
         Ok(())
     }
 
-    /// Keeps a transfer that is submitted, and the one that returned for it no more. Without memory nothing changes.
-    fn keep_number(&mut self, h: Name, n: u64, step: &Step) -> Result<(), AllocError>
+    /// The events of a step that got a number: a transfer is submitted, and kept; the one that returned for it is kept no
+    /// more. Without memory nothing changes.
+    fn number(
+        &mut self,
+        line: u64,
+        h: Name,
+        n: u64,
+        step: &Step,
+    ) -> Result<Sequence<Event>, AllocError>
+        ensures events { IfOk result (λ events. events ≡ submissions line (submitted self.old h n step.now)) }
         ensures after { OnOk result (self.new ≡ number_after self.old h n step.now) }
         ensures kept { OnErr result (self.new ≡ self.old) }
     {
-        let request = request_by(h, self.tracked.as_slice(), step)?;
-        track(&mut self.tracked, h, n, request)?;
+        let submitted = self.submitted(h, n, step)?;
+        let events = submissions(self.alloc, line, submitted.as_ref())?;
+        track(&mut self.tracked, submitted)?;
         if let Step::Answer { n, .. } = step {
             forget(&mut self.tracked, h, *n);
         }
-        Ok(())
+        Ok(events)
+    }
+
+    /// The transfer that a step submits under a number.
+    fn submitted(&self, h: Name, n: u64, step: &Step) -> Result<Option<Tracked>, AllocError>
+        ensures { IfOk result (λ x. x ≡ submitted self.now h n step.now) }
+    {
+        let Some(device) = device_of(h, self.opened.as_slice()) else {
+            return Ok(None);
+        };
+        let Some(request) = request_by(h, self.tracked.as_slice(), step)? else {
+            return Ok(None);
+        };
+        Ok(Some(Tracked {
+            h,
+            n,
+            device,
+            request,
+            code: None,
+        }))
+    }
+
+    /// The events of a transfer that is called back.
+    fn called(&self, line: u64, h: Name, returned: &Returned) -> Result<Sequence<Event>, AllocError>
+        ensures { IfOk result (λ events. events ≡ callbacks line returned.now (transfer_of h returned.now.n self.now.tracked)) }
+    {
+        let mut events = Sequence::new(self.alloc);
+        if let Some(x) = transfer_of(h, returned.n, self.tracked.as_slice()) {
+            events.push(x.callback(line, returned)?)?;
+        }
+        Ok(events)
     }
 }
 
-/// The submission of what is submitted under a number.
+/// The submission of what is submitted.
 fn submissions(
     alloc: Global,
-    origin: Origin,
-    n: u64,
-    request: Option<&Request>,
+    line: u64,
+    submitted: Option<&Tracked>,
 ) -> Result<Sequence<Event>, AllocError>
-    ensures { IfOk result (λ events. events ≡ submissions origin.line origin.h origin.device n (option_copied request.entry)) }
+    ensures { IfOk result (λ events. events ≡ submissions line (option_copied submitted.entry)) }
 {
     let mut events = Sequence::new(alloc);
-    if let Some(request) = request {
-        events.push(origin.submission(alloc, n, request)?)?;
+    if let Some(x) = submitted {
+        events.push(x.submission(alloc, line)?)?;
     }
     Ok(events)
-}
-
-/// The callback of a transfer.
-fn callbacks(
-    alloc: Global,
-    origin: Origin,
-    returned: &Returned,
-    found: Option<&Tracked>,
-) -> Result<Sequence<Event>, AllocError>
-    ensures { IfOk result (λ events. events ≡ callbacks origin.line origin.h origin.device returned.now (option_copied found.entry)) }
-{
-    let mut events = Sequence::new(alloc);
-    if let Some(found) = found {
-        events.push(origin.callback(&found.request, found.code, returned)?)?;
-    }
-    Ok(events)
-}
-
-/// The events of what is asked of a device.
-fn done_events(
-    alloc: Global,
-    origin: Origin,
-    setup: Option<ControlSetup>,
-) -> Result<Sequence<Event>, AllocError>
-    ensures { IfOk result (λ events. events ≡ done_events origin.line origin.device setup) }
-{
-    match setup {
-        Some(setup) => alone(alloc, origin.line, origin.device, setup),
-        None => Ok(Sequence::new(alloc)),
-    }
 }

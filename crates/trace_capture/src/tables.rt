@@ -2,9 +2,10 @@
 
 ghost use Rattle.std.specs.Prelude.{◌≡◌, ◌==◌, ◌&&◌, ◌++◌, not, map, IfOk, OnErr, OnOk};
 ghost use Rattle.std.specs.List.{filter};
-ghost use Rattle.std.specs.Option.{option_copied};
-ghost use Rattle.trace_capture.specs.Recording.{again, claimed, device_of, holds, is_holding, is_tracked, request_by, tracks, transfer_of, value_of, with_code, without_transfer};
+ghost use Rattle.std.specs.Option.{option_copied, option_to_list};
+ghost use Rattle.trace_capture.specs.Recording.{again, claimed, device_of, holds, is_holding, is_tracked, request_by, transfer_of, value_of, with_code, without_transfer};
 
+use crate::transfer::Tracked;
 use std::alloc::AllocError;
 use usb_model::{Body, DeviceNo, Name, Request, Step, Verdict};
 
@@ -33,37 +34,6 @@ pub struct Holding {
     pub h: Name,
     /// The interface's number.
     pub interface: u8,
-}
-
-/// A transfer that was submitted, and whose callback hasn't returned.
-#[derive(Drop)]
-pub struct Tracked {
-    /// Its handle.
-    pub h: Name,
-    /// Its number.
-    pub n: u64,
-    /// What was asked.
-    pub request: Request,
-    /// The completion code with which it ended, where it did (xHCI 1.2, 6.4.5).
-    pub code: Option<u8>,
-}
-
-impl Tracked {
-    /// Whether it is the handle's transfer of this number.
-    pub(crate) fn is_tracked(&self, h: Name, n: u64) -> bool
-        ensures { result ≡ is_tracked h n self.now }
-    {
-        self.h == h && self.n == n
-    }
-
-    /// It ended with this completion code, if it is the handle's transfer of this number.
-    fn end(&mut self, h: Name, n: u64, code: u8)
-        ensures { self.new ≡ with_code h n code self.old }
-    {
-        if self.is_tracked(h, n) {
-            self.code = Some(code);
-        }
-    }
 }
 
 /// The value of a device's configuration; 0 where the device was in no line.
@@ -135,20 +105,13 @@ pub(crate) fn request_by(
 /// A transfer is submitted, if one is.
 pub(crate) fn track(
     tracked: &mut Vec<Tracked>,
-    h: Name,
-    n: u64,
-    request: Option<Request>,
+    submitted: Option<Tracked>,
 ) -> Result<(), AllocError>
-    ensures tracked { OnOk result (tracked.new.items ≡ tracked.old.items ++ tracks h n request) }
+    ensures tracked { OnOk result (tracked.new.items ≡ tracked.old.items ++ option_to_list submitted) }
     ensures kept { OnErr result (tracked.new.items ≡ tracked.old.items) }
 {
-    if let Some(request) = request {
-        tracked.push(Tracked {
-            h,
-            n,
-            request,
-            code: None,
-        })?;
+    if let Some(x) = submitted {
+        tracked.push(x)?;
     }
     Ok(())
 }

@@ -1,7 +1,8 @@
 //! The events of a handle's transfer.
 
-ghost use Rattle.std.specs.Prelude.{◌≡◌, IfOk};
+ghost use Rattle.std.specs.Prelude.{◌≡◌, ◌==◌, ◌&&◌, IfOk};
 ghost use Rattle.usb_model.specs.Endpoint.Status.{is_good};
+ghost use Rattle.trace_capture.specs.Recording.{is_tracked, with_code};
 ghost use Rattle.trace_capture.specs.Transfer.{callback, errno_of, failure, submission, written};
 
 use crate::errno::Errno;
@@ -11,15 +12,19 @@ use std::alloc::{AllocError, Global};
 use usb_model::completion::{SHORT_PACKET, SUCCESS};
 use usb_model::{Body, Bytes, DeviceNo, Name, Request, Returned, Sequence, Status};
 
-/// Where an event comes from.
-#[derive(Clone, Copy)]
-pub(crate) struct Origin {
-    /// The scenario's line.
-    pub line: u64,
-    /// The handle.
+/// A transfer that was submitted, and whose callback hasn't returned.
+#[derive(Drop)]
+pub struct Tracked {
+    /// Its handle.
     pub h: Name,
-    /// The device that it opened.
+    /// Its number.
+    pub n: u64,
+    /// The device that the handle had opened.
     pub device: DeviceNo,
+    /// What was asked.
+    pub request: Request,
+    /// The completion code with which it ended, where it did (xHCI 1.2, 6.4.5).
+    pub code: Option<u8>,
 }
 
 /// The bytes that a request writes.
@@ -56,54 +61,63 @@ fn errno_of(status: Status, code: Option<u8>) -> Errno
     }
 }
 
-impl Origin {
-    /// A transfer of this number is submitted.
-    pub(crate) fn submission(
-        self,
-        alloc: Global,
-        n: u64,
-        request: &Request,
-    ) -> Result<Event, AllocError>
-        ensures { IfOk result (λ event. event ≡ submission self.line self.h self.device n request.now) }
+impl Tracked {
+    /// Whether it is the handle's transfer of this number.
+    pub(crate) fn is_tracked(&self, h: Name, n: u64) -> bool
+        ensures { result ≡ is_tracked h n self.now }
     {
-        Ok(Event {
-            id: UrbId::Transfer { h: self.h, n },
-            event_type: EventType::Submission,
-            kind: request.kind,
-            ep: request.ep,
-            device: self.device,
-            line: self.line,
-            errno: Errno::InProgress,
-            length: request.body.length(),
-            setup: None,
-            flags: UrbFlags::of(request),
-            bytes: written(alloc, &request.body)?,
-        })
+        self.h == h && self.n == n
     }
 
-    /// A transfer is called back: what was asked, its completion code where it has one, what came of it.
-    pub(crate) fn callback(
-        self,
-        request: &Request,
-        code: Option<u8>,
-        returned: &Returned,
-    ) -> Result<Event, AllocError>
-        ensures { IfOk result (λ event. event ≡ callback self.line self.h self.device request.now code returned.now) }
+    /// It ended with this completion code, if it is the handle's transfer of this number.
+    pub(crate) fn end(&mut self, h: Name, n: u64, code: u8)
+        ensures { self.new ≡ with_code h n code self.old }
+    {
+        if self.is_tracked(h, n) {
+            self.code = Some(code);
+        }
+    }
+
+    /// It is submitted, from this line.
+    pub(crate) fn submission(&self, alloc: Global, line: u64) -> Result<Event, AllocError>
+        ensures { IfOk result (λ event. event ≡ submission line self.now) }
     {
         Ok(Event {
             id: UrbId::Transfer {
                 h: self.h,
-                n: returned.n,
+                n: self.n,
+            },
+            event_type: EventType::Submission,
+            kind: self.request.kind,
+            ep: self.request.ep,
+            device: self.device,
+            line,
+            errno: Errno::InProgress,
+            length: self.request.body.length(),
+            setup: None,
+            flags: UrbFlags::of(&self.request),
+            bytes: written(alloc, &self.request.body)?,
+        })
+    }
+
+    /// It is called back, from this line, with what came of it.
+    pub(crate) fn callback(&self, line: u64, returned: &Returned) -> Result<Event, AllocError>
+        ensures { IfOk result (λ event. event ≡ callback line self.now returned.now) }
+    {
+        Ok(Event {
+            id: UrbId::Transfer {
+                h: self.h,
+                n: self.n,
             },
             event_type: EventType::Callback,
-            kind: request.kind,
-            ep: request.ep,
+            kind: self.request.kind,
+            ep: self.request.ep,
             device: self.device,
-            line: self.line,
-            errno: errno_of(returned.status, code),
+            line,
+            errno: errno_of(returned.status, self.code),
             length: returned.actual as usize,
             setup: None,
-            flags: UrbFlags::of(request),
+            flags: UrbFlags::of(&self.request),
             bytes: returned.bytes.clone()?,
         })
     }
