@@ -1,10 +1,13 @@
--- Laws of the bytes.
-use Rattle.std.specs.Prelude.{◌≡◌, ◌+◌, ◌^◌, ◌<◌, length}
-use Rattle.std.specs.List.{All}
+-- Laws of the bytes, and of the events of any run.
+use Rattle.std.specs.Prelude.{◌≡◌, ℕ, ◌+◌, ◌^◌, ◌<◌, List, [], ◌∷◌, ◌++◌, length}
+use Rattle.std.specs.List.{All, Contains}
 use Rattle.trace_capture.specs.declared.identity.UrbId.{UrbId}
 use Rattle.trace_capture.specs.declared.identity.UrbId.TheVariants.{Transfer, Control}
 use Rattle.trace_capture.specs.declared.event.Event.{Event}
+use Rattle.trace_capture.specs.declared.event.EventType.TheVariants.{Submission, Callback}
 use Rattle.trace_capture.specs.Record.{event_bytes, id_number}
+use Rattle.trace_capture.specs.Recording.{DeviceLine, run_events}
+use Rattle.usb_model.specs.World.Journal.{Place}
 
 -- a record has 80 bytes, and then those of its data
 abbrev pub RecordsHaveLengths : Type 0
@@ -22,3 +25,25 @@ IsId (Control line second) = line < 2 ^ 31
 -- two of them with one number are one
 abbrev pub IdsDiffer : Type 0
 IdsDiffer = (x y : UrbId) → IsId x → IsId y → id_number x ≡ id_number y → x ≡ y
+
+-- a callback ends what a submission began: of the same transfer, at the same endpoint of the same device, with the same flags
+pub record IsCallbackOf (s e : Event) : Type 0 where
+  pub began : s.event_type ≡ Submission
+  pub id : e.id ≡ s.id
+  pub device : e.device ≡ s.device
+  pub kind : e.kind ≡ s.kind
+  pub ep : e.ep ≡ s.ep
+  pub flags : e.flags ≡ s.flags
+
+-- a callback has its submission among the events in front of it
+abbrev pub IsAnswer : List Event → Event → Type 0
+IsAnswer front e = e.event_type ≡ Callback → (s : Event) × Contains front s × IsCallbackOf s e
+
+-- each of these events does, behind those in front
+abbrev pub AreAnswers : List Event → List Event → Type 0
+AreAnswers front [] = Unit {0}
+AreAnswers front (e ∷ events) = IsAnswer front e × AreAnswers (front ++ e ∷ []) events
+
+-- so it is in each run, whatever its devices, steps and entries are
+abbrev pub CallbacksAnswer : Type 0
+CallbacksAnswer = (devices : List DeviceLine) (places : List (ℕ × Place)) → AreAnswers [] (run_events devices places)

@@ -1,6 +1,6 @@
 //! Laws over the definitions, as functions that do nothing.
 
-ghost use Rattle.trace_capture.specs.Laws.{BytesAreBytes, IdsDiffer, RecordsHaveLengths};
+ghost use Rattle.trace_capture.specs.Laws.{BytesAreBytes, CallbacksAnswer, IdsDiffer, RecordsHaveLengths};
 ghost use Rattle.trace_capture.specs.Vectors.{HasVectors};
 
 /// The capture of a worked run has these bytes, computed.
@@ -17,4 +17,10 @@ pub fn records()
 /// Events of different transfers have different ids.
 pub fn ids()
     ensures { IdsDiffer }
+{}
+
+/// In each run, whatever steps and entries it has, a callback has its submission in front of it: of the same transfer, at the
+/// same endpoint of the same device.
+pub fn callbacks()
+    ensures { CallbacksAnswer }
 {}
