@@ -1,11 +1,12 @@
 //! Laws over the definitions, as functions that do nothing.
 
 ghost use Rattle.trace_capture.specs.Laws.{BytesAreBytes, CallbacksAnswer, IdsDiffer, RecordsHaveLengths};
-ghost use Rattle.trace_capture.specs.Vectors.{HasVectors};
+ghost use Rattle.trace_capture.specs.Vectors.{IsCaptured, cancelled_read, failed_transfers};
 
-/// The capture of a worked run has these bytes, computed.
+/// The captures of worked runs have these bytes, computed.
 pub fn vectors()
-    ensures { HasVectors }
+    ensures cancelled_read { IsCaptured cancelled_read }
+    ensures failed_transfers { IsCaptured failed_transfers }
 {}
 
 /// A record has 80 bytes and those of its data, and each is a byte.
