@@ -39,11 +39,13 @@ pub struct Event {
     pub ep: EpAddr,
     /// The device; its address on the bus is one more.
     pub device: DeviceNo,
-    /// The scenario's line from which it comes, from 1: its time in microseconds.
+    /// The scenario's line from which it comes, from 1: its time in microseconds. Seconds are written with 32 bits at the
+    /// first place, with 64 at the second.
     pub line: u64,
     /// How the transfer stands.
     pub errno: Errno,
-    /// At a submission how many bytes it is to move, at a callback how many moved.
+    /// At a submission how many bytes it is to move, at a callback how many moved; at most 262,144 in a run, and written
+    /// with 32 bits.
     pub length: usize,
     /// What a control transfer asks for; at its submission alone.
     pub setup: Option<ControlSetup>,
