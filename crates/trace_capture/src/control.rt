@@ -12,7 +12,7 @@ use usb_model::{Bytes, DeviceNo, Kind, Sequence};
 
 /// A control transfer of a scenario's line.
 #[derive(Clone, Copy)]
-pub(crate) struct Control {
+pub(crate) struct ControlTransfer {
     /// The line's number.
     pub line: u64,
     /// Whether it is the second of its line.
@@ -23,7 +23,7 @@ pub(crate) struct Control {
     pub setup: ControlSetup,
 }
 
-impl Control {
+impl ControlTransfer {
     /// Its submission.
     fn submission(&self, alloc: Global) -> Event
         ensures { result ≡ control_submission self.now.line self.now.second self.now.device self.now.setup }
@@ -88,7 +88,7 @@ pub(crate) fn alone(
 ) -> Result<Sequence<Event>, AllocError>
     ensures { IfOk result (λ events. events ≡ control_alone line device setup) }
 {
-    let control = Control {
+    let control = ControlTransfer {
         line,
         second: false,
         device,
@@ -140,13 +140,13 @@ pub(crate) fn device_events(
     ensures { IfOk result (λ events. events ≡ device_events line device descriptor.now) }
 {
     let total = total_length(descriptor);
-    let reads = Control {
+    let reads = ControlTransfer {
         line,
         second: false,
         device,
         setup: ControlSetup::get_configuration(total),
     };
-    let sets = Control {
+    let sets = ControlTransfer {
         line,
         second: true,
         device,
