@@ -6,7 +6,10 @@ use Rattle.trace_capture.specs.declared.identity.UrbId.TheVariants.{Transfer, Co
 use Rattle.trace_capture.specs.declared.event.Event.{Event}
 use Rattle.trace_capture.specs.declared.event.EventType.TheVariants.{Submission, Callback}
 use Rattle.trace_capture.specs.Record.{event_bytes, id_number}
-use Rattle.trace_capture.specs.Recording.{DeviceLine, run_events}
+use Rattle.trace_capture.specs.Recording.{Recording, DeviceLine, entry_events, entry_after, run_events}
+use Rattle.usb_model.specs.declared.entry.Entry.{Entry}
+use Rattle.usb_model.specs.declared.step.Step.TheVariants.{Answer}
+use Rattle.usb_model.specs.declared.verdict.Verdict.TheVariants.{Stop, Again}
 use Rattle.usb_model.specs.World.Journal.{Place}
 
 -- a record has 80 bytes, and then those of its data
@@ -47,3 +50,9 @@ AreAnswers front (e ∷ events) = IsAnswer front e × AreAnswers (front ++ e ∷
 -- so it is in each run, whatever its devices, steps and entries are
 abbrev pub CallbacksAnswer : Type 0
 CallbacksAnswer = (devices : List DeviceLine) (places : List (ℕ × Place)) → AreAnswers [] (run_events devices places)
+
+-- whether a callback ends or submits the same once more is told by the reply: with either verdict the events are the same, and what is kept
+abbrev pub SameOfVerdicts : Type 0
+SameOfVerdicts =
+    (s : Recording) (line h n : ℕ) (entry : Entry)
+    → (entry_events s line (Answer h n Stop) entry ≡ entry_events s line (Answer h n Again) entry) × (entry_after s (Answer h n Stop) entry ≡ entry_after s (Answer h n Again) entry)

@@ -1,6 +1,6 @@
 //! Laws over the definitions, as functions that do nothing.
 
-ghost use Rattle.trace_capture.specs.Laws.{BytesAreBytes, CallbacksAnswer, IdsDiffer, RecordsHaveLengths};
+ghost use Rattle.trace_capture.specs.Laws.{BytesAreBytes, CallbacksAnswer, IdsDiffer, RecordsHaveLengths, SameOfVerdicts};
 ghost use Rattle.trace_capture.specs.Vectors.{IsCaptured, cancelled_read, failed_transfers};
 
 /// The captures of worked runs have these bytes, computed.
@@ -24,4 +24,9 @@ pub fn ids()
 /// same endpoint of the same device.
 pub fn callbacks()
     ensures { CallbacksAnswer }
+{}
+
+/// Who tells of a callback that returned may tell either verdict that brings no bytes: the reply says what came of it.
+pub fn verdicts()
+    ensures { SameOfVerdicts }
 {}

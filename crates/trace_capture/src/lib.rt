@@ -24,6 +24,8 @@
 //! - `laws::records`: a record has 80 bytes and those of its data, and each is a byte
 //! - `laws::ids`: different transfers of a run have different ids
 //! - `laws::callbacks`: in each run a callback has its submission in front of it, at the same endpoint of the same device
+//! - `laws::verdicts`, proofs/Verdicts for crates above: of a callback that returned either verdict that brings no bytes
+//!   may be told
 //! - `laws::vectors`: the captures of two worked runs, computed from their steps
 //!
 //! To write a run's capture: `file_header`; then what `Recorder::device` gives of each device's line, and what
