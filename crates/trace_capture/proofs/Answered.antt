@@ -16,7 +16,7 @@ use Rattle.trace_capture.specs.declared.event.Event.{Event}
 use Rattle.trace_capture.specs.declared.transfer.Tracked.{Tracked}
 use Rattle.trace_capture.specs.Control.{control_events, control_submission, device_events, get_configuration, set_configuration, total_length, configuration_value}
 use Rattle.trace_capture.specs.Transfer.{submission}
-use Rattle.trace_capture.specs.Recording.{Recording, DeviceLine, nothing_recorded, is_tracked, with_code, past_return, transfer_of, submitted, submissions, callbacks, controls, control_of, device_of, done_events, done_after, reply_events, reply_after, entry_events, entry_after, device_after, devices_after, entries_events, run_events}
+use Rattle.trace_capture.specs.Events.{Recording, DeviceLine, nothing_recorded, is_tracked, with_code, past_return, transfer_of, submitted, submissions, callbacks, controls, control_of, device_of, done_events, done_after, reply_events, reply_after, entry_events, entry_after, device_after, devices_after, entries_events, run_events}
 use Rattle.trace_capture.specs.Laws.{AreAnswers}
 
 -- the submission of a transfer stands among these events, from whatever line

@@ -7,7 +7,7 @@ use Rattle.byteorder.specs.Endian.{little_bytes}
 use Rattle.trace_capture.specs.declared.control_setup.ControlSetup.{ControlSetup}
 use Rattle.trace_capture.specs.declared.event.Event.{Event}
 use Rattle.usb_model.specs.Setup.{is_in}
-use Rattle.trace_capture.specs.Record.{record_header, who, how, what, rest, event_bytes, setup_bytes, id_number, type_letter, kind_number, setup_flag, data_flag, errno_number, flags_number}
+use Rattle.trace_capture.specs.Event.{record_header, who, how, what, rest, event_bytes, setup_bytes, id_number, type_letter, kind_number, setup_flag, data_flag, errno_number, flags_number}
 
 -- the parts are of 16 bytes each
 length-record_header : (e : Event) → length (record_header e) ≡ 16

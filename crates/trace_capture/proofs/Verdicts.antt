@@ -6,7 +6,7 @@ use Rattle.usb_model.specs.declared.step.Step.TheVariants.{Answer}
 use Rattle.usb_model.specs.declared.verdict.Verdict.TheVariants.{Stop, Again}
 use Rattle.usb_model.specs.declared.reply.Reply.{Reply}
 use Rattle.usb_model.specs.declared.reply.Reply.TheVariants.{Done, Number, Refused, Idle, Nak, Moved, Ended, Ran, Finished, Paused, Settled, Called}
-use Rattle.trace_capture.specs.Recording.{Recording, reply_events, reply_after, entry_events, entry_after}
+use Rattle.trace_capture.specs.Events.{Recording, reply_events, reply_after, entry_events, entry_after}
 use Rattle.trace_capture.specs.Laws.{SameOfVerdicts}
 
 events_of_reply : (s : Recording) (line g h n : ℕ) (reply : Reply) → reply_events s line g (Answer h n Stop) reply ≡ reply_events s line g (Answer h n Again) reply

@@ -5,8 +5,8 @@ use Rattle.trace_capture.specs.declared.identity.UrbId.{UrbId}
 use Rattle.trace_capture.specs.declared.identity.UrbId.TheVariants.{Transfer, Control}
 use Rattle.trace_capture.specs.declared.event.Event.{Event}
 use Rattle.trace_capture.specs.declared.event.EventType.TheVariants.{Submission, Callback}
-use Rattle.trace_capture.specs.Record.{event_bytes, id_number}
-use Rattle.trace_capture.specs.Recording.{Recording, DeviceLine, entry_events, entry_after, run_events}
+use Rattle.trace_capture.specs.Event.{event_bytes, id_number}
+use Rattle.trace_capture.specs.Events.{Recording, DeviceLine, entry_events, entry_after, run_events}
 use Rattle.usb_model.specs.declared.entry.Entry.{Entry}
 use Rattle.usb_model.specs.declared.step.Step.TheVariants.{Answer}
 use Rattle.usb_model.specs.declared.verdict.Verdict.TheVariants.{Stop, Again}

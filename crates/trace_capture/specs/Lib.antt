@@ -1,6 +1,6 @@
-pub mod Record
+pub mod Event
 pub mod Control
 pub mod Transfer
-pub mod Recording
+pub mod Events
 pub mod Vectors
 pub mod Laws

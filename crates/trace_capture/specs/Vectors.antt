@@ -12,8 +12,8 @@ use Rattle.usb_model.specs.declared.step.Step.{Step}
 use Rattle.usb_model.specs.declared.step.Step.TheVariants.{Open, Claim, ClearHalt, Submit, Cancel, Serve, Command, Deliver, Take, Unplug}
 use Rattle.usb_model.specs.Setup.{Setup}
 use Rattle.usb_model.specs.World.Journal.{journal}
-use Rattle.trace_capture.specs.Record.{file_bytes}
-use Rattle.trace_capture.specs.Recording.{DeviceLine, run_events}
+use Rattle.trace_capture.specs.Event.{file_bytes}
+use Rattle.trace_capture.specs.Events.{DeviceLine, run_events}
 
 -- one device, from line 1: its configuration has the bulk endpoints 81 and 02 and the interrupt endpoint 83, of packet size 8
 abbrev pub worked_line : DeviceLine

@@ -1,7 +1,7 @@
 //! How a transfer stands or ended, in Linux's numbers.
 
 ghost use Rattle.std.specs.Prelude.{◌≡◌, ◌≤◌};
-ghost use Rattle.trace_capture.specs.Record.{errno_number};
+ghost use Rattle.trace_capture.specs.Event.{errno_number};
 
 /// The status of a transfer in the kernel (Linux, Documentation/driver-api/usb/error-codes.rst).
 #[derive(Clone, Copy, PartialEq, Eq, Debug)]

@@ -1,7 +1,7 @@
 //! Which transfer an event is of.
 
 ghost use Rattle.std.specs.Prelude.{◌≡◌};
-ghost use Rattle.trace_capture.specs.Record.{id_number};
+ghost use Rattle.trace_capture.specs.Event.{id_number};
 
 use usb_model::Name;
 

@@ -7,10 +7,10 @@
 //!
 //! - `event.rt`, `identity.rt`, `errno.rt`, `control_setup.rt`: an event; which transfer it is of, how that stands, what a
 //!   control transfer asks for
-//! - `field.rt`, `record.rt`, specs/Record: the bytes of an event, and those in front of all
+//! - `field.rt`, `record.rt`, specs/Event: the bytes of an event, and those in front of all
 //! - `control.rt`, specs/Control: the events of control transfers, and of a scenario's device line
 //! - `transfer.rt`, specs/Transfer: those of a handle's transfer: its submission and its callback
-//! - `tables.rt`, `recorder.rt`, specs/Recording: what is kept from entry to entry, and the events of each and of a run
+//! - `tables.rt`, `recorder.rt`, specs/Events: what is kept from entry to entry, and the events of each and of a run
 //! - `laws.rt`, specs/Laws, specs/Vectors, proofs/Records, proofs/Answered: what holds of every record, id and run; the
 //!   bytes of two worked runs
 //!

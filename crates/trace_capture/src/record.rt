@@ -2,7 +2,7 @@
 
 ghost use Rattle.std.specs.Prelude.{◌≡◌, ◌++◌, IfOk, OnErr, OnOk};
 ghost use Rattle.usb_model.specs.Setup.{is_in};
-ghost use Rattle.trace_capture.specs.Record.{bit, data_flag, event_bytes, events_bytes, file_header, flags_number, how, kind_number, record_header, rest, setup_bytes, setup_flag, type_letter, what, who};
+ghost use Rattle.trace_capture.specs.Event.{bit, data_flag, event_bytes, events_bytes, file_header, flags_number, how, kind_number, record_header, rest, setup_bytes, setup_flag, type_letter, what, who};
 
 use crate::control_setup::ControlSetup;
 use crate::event::{Event, EventType, UrbFlags};
@@ -123,7 +123,7 @@ impl Event {
     }
 
     /// Its record.
-    #[tactic(auto, unfolding(crate::specs::Record::event_bytes))]
+    #[tactic(auto, unfolding(crate::specs::Event::event_bytes))]
     fn record(&self, alloc: Global) -> Result<Vec<u8>, AllocError>
         ensures { IfOk result (λ bytes. bytes.items ≡ event_bytes self.now) }
     {
@@ -138,7 +138,7 @@ impl Event {
     }
 
     /// Puts when it was, and how many bytes follow.
-    #[tactic(auto, unfolding(crate::specs::Record::record_header))]
+    #[tactic(auto, unfolding(crate::specs::Event::record_header))]
     fn put_record_header(&self, out: &mut Vec<u8>) -> Result<(), AllocError>
         ensures { OnOk result (out.new.items ≡ out.old.items ++ record_header self.now) }
     {
@@ -150,7 +150,7 @@ impl Event {
     }
 
     /// Puts its id, its type, its endpoint and device, and what follows.
-    #[tactic(auto, unfolding(crate::specs::Record::who))]
+    #[tactic(auto, unfolding(crate::specs::Event::who))]
     fn put_who(&self, out: &mut Vec<u8>) -> Result<(), AllocError>
         ensures { OnOk result (out.new.items ≡ out.old.items ++ who self.now) }
     {
@@ -165,7 +165,7 @@ impl Event {
     }
 
     /// Puts when it was, and how the transfer stands.
-    #[tactic(auto, unfolding(crate::specs::Record::how))]
+    #[tactic(auto, unfolding(crate::specs::Event::how))]
     fn put_how(&self, out: &mut Vec<u8>) -> Result<(), AllocError>
         ensures { OnOk result (out.new.items ≡ out.old.items ++ how self.now) }
     {
@@ -175,7 +175,7 @@ impl Event {
     }
 
     /// Puts how many bytes it is about, and the setup data.
-    #[tactic(auto, unfolding(crate::specs::Record::what))]
+    #[tactic(auto, unfolding(crate::specs::Event::what))]
     fn put_what(&self, out: &mut Vec<u8>) -> Result<(), AllocError>
         ensures { OnOk result (out.new.items ≡ out.old.items ++ what self.now) }
     {
@@ -185,7 +185,7 @@ impl Event {
     }
 
     /// Puts that it has no interval and no start frame, its flags, and that it has no isochronous descriptors.
-    #[tactic(auto, unfolding(crate::specs::Record::rest))]
+    #[tactic(auto, unfolding(crate::specs::Event::rest))]
     fn put_rest(&self, out: &mut Vec<u8>) -> Result<(), AllocError>
         ensures { OnOk result (out.new.items ≡ out.old.items ++ rest self.now) }
     {

@@ -3,7 +3,7 @@
 ghost use Rattle.std.specs.Prelude.{◌≡◌, [], IfOk, OnErr, OnOk};
 ghost use Rattle.trace_capture.specs.Control.{device_events};
 ghost use Rattle.std.specs.Option.{option_copied};
-ghost use Rattle.trace_capture.specs.Recording.{callbacks, control_of, device_after, done_after, done_events, entry_after, entry_events, nothing_recorded, number_after, submissions, submitted, transfer_of};
+ghost use Rattle.trace_capture.specs.Events.{callbacks, control_of, device_after, done_after, done_events, entry_after, entry_events, nothing_recorded, number_after, submissions, submitted, transfer_of};
 
 use crate::control::{alone, configuration_value, device_events};
 use crate::control_setup::ControlSetup;
@@ -29,7 +29,7 @@ pub struct Recorder {
 }
 
 impl Model for Recorder {
-    ghost use Rattle.trace_capture.specs.Recording.{Recording};
+    ghost use Rattle.trace_capture.specs.Events.{Recording};
 
     ghost Value = { Recording };
 
@@ -51,7 +51,7 @@ impl Recorder {
     }
 
     /// The events of a device's line, with the bytes of its configuration. Without memory nothing changes.
-    #[tactic(auto, unfolding(crate::specs::Recording::device_after))]
+    #[tactic(auto, unfolding(crate::specs::Events::device_after))]
     pub fn device(
         &mut self,
         line: u64,
@@ -69,7 +69,7 @@ impl Recorder {
     }
 
     /// The events of an entry that this step made, from this line. Without memory nothing changes.
-    #[tactic(auto, unfolding(crate::specs::Recording::entry_events, crate::specs::Recording::entry_after))]
+    #[tactic(auto, unfolding(crate::specs::Events::entry_events, crate::specs::Events::entry_after))]
     pub fn entry(
         &mut self,
         line: u64,

@@ -3,7 +3,7 @@
 ghost use Rattle.std.specs.Prelude.{◌≡◌, ◌==◌, ◌&&◌, ◌++◌, not, map, IfOk, OnErr, OnOk};
 ghost use Rattle.std.specs.List.{filter};
 ghost use Rattle.std.specs.Option.{option_copied, option_to_list};
-ghost use Rattle.trace_capture.specs.Recording.{again, claimed, device_of, holds, is_holding, is_tracked, request_by, transfer_of, value_of, with_code, without_transfer};
+ghost use Rattle.trace_capture.specs.Events.{again, claimed, device_of, holds, is_holding, is_tracked, request_by, transfer_of, value_of, with_code, without_transfer};
 
 use crate::transfer::Tracked;
 use std::alloc::AllocError;

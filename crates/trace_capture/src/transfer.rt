@@ -2,7 +2,7 @@
 
 ghost use Rattle.std.specs.Prelude.{◌≡◌, ◌==◌, ◌&&◌, IfOk};
 ghost use Rattle.usb_model.specs.Endpoint.Status.{is_good};
-ghost use Rattle.trace_capture.specs.Recording.{is_tracked, with_code};
+ghost use Rattle.trace_capture.specs.Events.{is_tracked, with_code};
 ghost use Rattle.trace_capture.specs.Transfer.{callback, errno_of, failure, submission, written};
 
 use crate::errno::Errno;

@@ -12,9 +12,9 @@ use Rattle.usb_model.specs.Machine.Calls.{open_effect, claim_effect, clear_halt_
 use Rattle.usb_model.specs.Machine.Turns.{serve_effect, command_order, command_effect, deliver_news, deliver_effect, take_effect, effect}
 use Rattle.usb_model.specs.World.{new_world, machine_of, world_after, is_blocked, turn_of, turn_of_nobody, turn}
 use Rattle.usb_model.specs.World.Journal.{journal_from, journal}
-use Rattle.trace_capture.specs.Record.{record_header, who, how, what, rest, event_bytes}
+use Rattle.trace_capture.specs.Event.{record_header, who, how, what, rest, event_bytes}
 use Rattle.trace_capture.specs.Control.{device_events}
-use Rattle.trace_capture.specs.Recording.{entry_events, entry_after, device_after, devices_after, entries_events}
+use Rattle.trace_capture.specs.Events.{entry_events, entry_after, device_after, devices_after, entries_events}
 use Rattle.trace_capture.proofs.laws.vectors.Goals as goal
 
 pub returns-clause-cancelled_read : goal.returns-clause-cancelled_read

@@ -3,7 +3,7 @@ use Rattle.std.proofs.Common.{ap, sym, ◌∙◌}
 use Rattle.std.specs.Prelude.{slice_set}
 use Rattle.std.proofs.lemmas.List.Edits.{map_over_more}
 use Rattle.trace_capture.specs.declared.transfer.Tracked.{Tracked}
-use Rattle.trace_capture.specs.Recording.{with_code}
+use Rattle.trace_capture.specs.Events.{with_code}
 use Rattle.trace_capture.proofs.tables.end.Goals as goal
 
 pub loop-x-preserved : goal.loop-x-preserved
