@@ -1,0 +1,3 @@
+mod Records
+mod Answered
+pub mod Verdicts
