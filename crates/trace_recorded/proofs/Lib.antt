@@ -1,0 +1,5 @@
+mod FrontPackets
+mod Loops
+mod Told
+mod ReadAgain
+mod WrittenAgain

@@ -1,0 +1,25 @@
+//! What a recorded device answered, read off a capture of Linux's usbmon (Linux, Documentation/usb/usbmon.rst).
+//!
+//! The one promise: a driver that asks a device as the recorded driver did is told what it was told.
+//!
+//! # Files
+//!
+//! - `transfer.rt`: a recorded transfer, and how it ended
+//! - `packets.rt`, `answers.rt`, specs/Answers: its answers, one a packet
+//! - `laws.rt`, specs/Laws, proofs/: what these answers come to, by the definitions of the model
+//!
+//! # Contracts
+//!
+//! - `RecordedEnd::of`: how a transfer ended, by the number of its status
+//! - `answers_of`: the answers of a recorded transfer are those of the definition
+//! - `laws::reads`, `laws::writes`: they end a request of that length just behind the last of them, and its callback is told
+//!   the recorded bytes and the recorded status
+#![tactic(auto)]
+
+mod answers;
+pub mod laws;
+mod packets;
+mod transfer;
+
+pub use answers::answers_of;
+pub use transfer::{RecordedEnd, RecordedTransfer};
