@@ -3,3 +3,4 @@ mod Loops
 mod Told
 mod ReadAgain
 mod WrittenAgain
+mod ReadBack

@@ -1,7 +1,9 @@
--- A driver that asks as the recorded one did is told what it was told.
-use Rattle.std.specs.Prelude.{◌≡◌, ℕ, ◌-◌, ◌%◌, ◌^◌, ◌<◌, ◌≤◌, ◌⊎◌, Bool, true, false, List, [], length, Some, None}
+-- What is written of an event is read back; and a driver that asks as the recorded one did is told what it was told.
+use Rattle.std.specs.Prelude.{◌≡◌, ℕ, ◌+◌, ◌-◌, ◌%◌, ◌^◌, ◌<◌, ◌≤◌, ◌⊎◌, Bool, true, false, List, [], length, drop, Option, Some, None}
 use Rattle.usb_model.specs.declared.request.Body.TheVariants.{In, Out}
 use Rattle.usb_model.specs.declared.request.Request.{Request}
+use Rattle.usb_model.specs.declared.request.Kind.{Kind}
+use Rattle.usb_model.specs.declared.request.Kind.TheVariants.{Control}
 use Rattle.usb_model.specs.declared.outcome.Outcome.{Outcome}
 use Rattle.usb_model.specs.Requests.{is_short_not_ok, adds_zero_packet}
 use Rattle.usb_model.specs.Setup.{is_in}
@@ -10,10 +12,58 @@ use Rattle.usb_model.specs.Endpoint.Packets.{Ends, count_of, outcome}
 use Rattle.usb_model.specs.Endpoint.Status.{told_status}
 use Rattle.trace_capture.specs.declared.errno.Errno.{Errno}
 use Rattle.trace_capture.specs.declared.errno.Errno.TheVariants.{Success, Pipe, Protocol, Overflow, RemoteIo}
-use Rattle.trace_capture.specs.Event.{errno_number}
+use Rattle.trace_capture.specs.declared.control_setup.ControlSetup.{ControlSetup}
+use Rattle.trace_capture.specs.declared.event.Event.{Event}
+use Rattle.trace_capture.specs.declared.event.EventType.{EventType}
+use Rattle.trace_capture.specs.declared.event.EventType.TheVariants as written
+use Rattle.trace_capture.specs.Event.{errno_number, event_bytes, flags_number, id_number}
 use Rattle.trace_capture.specs.Transfer.{errno_of}
 use Rattle.trace_recorded.specs.declared.transfer.RecordedTransfer.{RecordedTransfer}
+use Rattle.trace_recorded.specs.declared.event.RecordedEvent.{RecordedEvent}
+use Rattle.trace_recorded.specs.declared.event.RecordedType.{RecordedType}
+use Rattle.trace_recorded.specs.declared.event.RecordedType.TheVariants.{Submission, Callback}
+use Rattle.trace_recorded.specs.declared.event.EventHeader.TheVariants.{Mapped}
+use Rattle.trace_recorded.specs.declared.number.Endianness.TheVariants.{Little}
 use Rattle.trace_recorded.specs.Answers.{answers_of, end_of, recorded_bytes}
+use Rattle.trace_recorded.specs.Events.{event_of}
+
+-- setup data are of a control transfer, and each field has room
+abbrev pub SetupFits : Kind → Option ControlSetup → Type 0
+SetupFits kind None = Unit {0}
+SetupFits kind (Some s) = (kind ≡ Control) × (s.request_type < 2 ^ 8) × (s.request < 2 ^ 8) × (s.value < 2 ^ 16) × (s.index < 2 ^ 16) × (s.length < 2 ^ 16)
+
+-- an event whose numbers have room in its record
+pub record HasRoom (e : Event) : Type 0 where
+  pub id : id_number e.id < 2 ^ 64
+  pub ep : e.ep < 2 ^ 8
+  pub device : e.device + 1 < 2 ^ 8
+  pub count : e.length < 2 ^ 32
+  pub bytes : length e.bytes < 2 ^ 32
+  pub setup : SetupFits e.kind e.setup
+
+abbrev pub type_written : EventType → RecordedType
+type_written written.Submission = Submission
+type_written written.Callback = Callback
+
+-- what is recorded of an event
+abbrev pub fields_of : Event → RecordedEvent
+fields_of e = record {
+  id = id_number e.id;
+  event_type = type_written e.event_type;
+  kind = e.kind;
+  ep = e.ep;
+  device = e.device + 1;
+  bus = 1;
+  status = (2 ^ 32 - errno_number e.errno) % 2 ^ 32;
+  length = e.length;
+  setup = e.setup;
+  flags = flags_number e.flags (is_in e.ep);
+  bytes = e.bytes;
+}
+
+-- what is written of an event is read back: the packet is the record behind its first 16 bytes
+abbrev pub EventsAreReadBack : Type 0
+EventsAreReadBack = (e : Event) → HasRoom e → event_of Little Mapped (drop 16 (event_bytes e)) ≡ Some (fields_of e)
 
 -- before a fault whole packets moved: none, or fewer bytes than were asked for
 pub record MovedWhole (size asked moved : ℕ) : Type 0 where

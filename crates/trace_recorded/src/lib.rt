@@ -4,22 +4,29 @@
 //!
 //! # Files
 //!
+//! - `number.rt`, `event.rt`, specs/Events: an event of a bus, and how it is read from a packet's bytes
 //! - `transfer.rt`: a recorded transfer, and how it ended
 //! - `packets.rt`, `answers.rt`, specs/Answers: its answers, one a packet
 //! - `laws.rt`, specs/Laws, proofs/: what these answers come to, by the definitions of the model
 //!
 //! # Contracts
 //!
+//! - `event_of`: the event of a packet's bytes is that of the definition, in either byte order and behind either header
 //! - `RecordedEnd::of`: how a transfer ended, by the number of its status
 //! - `answers_of`: the answers of a recorded transfer are those of the definition
+//! - `laws::events`: what `trace_capture` writes of an event is read back
 //! - `laws::reads`, `laws::writes`: they end a request of that length just behind the last of them, and its callback is told
 //!   the recorded bytes and the recorded status
 #![tactic(auto)]
 
 mod answers;
+mod event;
 pub mod laws;
+mod number;
 mod packets;
 mod transfer;
 
 pub use answers::answers_of;
+pub use event::{EventHeader, RecordedEvent, RecordedType, event_of};
+pub use number::Endianness;
 pub use transfer::{RecordedEnd, RecordedTransfer};
