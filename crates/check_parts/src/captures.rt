@@ -1,4 +1,4 @@
-//! The capture of a run: a read of 24 bytes is cancelled behind its first packet.
+//! The capture of a run: a read of 24 bytes is cancelled behind its first packet. Its last packet is read back.
 
 use crate::changed::TWO_INTERFACES;
 use crate::expect::present;
@@ -6,9 +6,12 @@ use anyhow::Result;
 use bitflags::Flags as _;
 use std::alloc::{AllocError, Global};
 use trace_capture::{Recorder, append_all, file_header};
+use trace_recorded::{
+    Endianness, EventHeader, RecordedEnd, RecordedEvent, RecordedTransfer, answers_of, event_of,
+};
 use usb_model::{
-    Body, Bytes, DeviceNo, Entry, EpAddr, Errand, Flags, Kind, Name, Reply, Request, Returned,
-    Status, Step,
+    Body, Bytes, DeviceNo, Entry, EpAddr, Errand, Flags, Kind, Name, Reply, Request, Response,
+    Returned, Script, Status, Step,
 };
 
 /// The endpoint that is read.
@@ -26,7 +29,62 @@ pub fn play<P: Print>(rt: &P, alloc: Global) -> Result<()> {
     let records = records(alloc)?;
     println!(rt; "the capture of a cancelled read: the file's header, and eight records")?;
     print_bytes(rt, alloc, &file_header())?;
-    print_bytes(rt, alloc, records.as_slice())
+    print_bytes(rt, alloc, records.as_slice())?;
+    println!(rt; "the callback of that capture: it is read, and its transfer was one answer")?;
+    let answers = answers(alloc, last_packet(records.as_slice()))?;
+    print_answers(rt, alloc, answers.as_slice())
+}
+
+/// The packet of the last record: a header of 64 bytes, and 8 bytes of data.
+fn last_packet(records: &[u8]) -> &[u8] {
+    records
+        .get(records.len().saturating_sub(72)..)
+        .unwrap_or(records)
+}
+
+/// The answers of the transfer that this packet calls back.
+fn answers(alloc: Global, packet: &[u8]) -> Result<Script> {
+    let event = event_of(alloc, Endianness::Little, EventHeader::Mapped, packet)?;
+    let transfer = transfer(present(event, "event")?);
+    Ok(answers_of(alloc, 8, &transfer)?)
+}
+
+/// The transfer that this event calls back: 24 bytes were asked for.
+fn transfer(event: RecordedEvent) -> RecordedTransfer {
+    let RecordedEvent {
+        ep,
+        status,
+        length,
+        bytes,
+        ..
+    } = event;
+    RecordedTransfer {
+        ep,
+        asked: 24,
+        zero_packet: false,
+        moved: length,
+        end: RecordedEnd::of(status),
+        bytes,
+    }
+}
+
+/// Prints the packets of answers.
+fn print_answers<P: Print>(rt: &P, alloc: Global, answers: &[Response]) -> Result<()> {
+    for answer in answers {
+        print_answer(rt, alloc, answer)?;
+    }
+    Ok(())
+}
+
+/// Prints an answer's packet.
+fn print_answer<P: Print>(rt: &P, alloc: Global, answer: &Response) -> Result<()> {
+    match answer {
+        Response::Data(packet) => print_bytes(rt, alloc, packet.as_slice()),
+        _ => {
+            println!(rt; "no packet")?;
+            Ok(())
+        }
+    }
 }
 
 /// Prints bytes as hex digits, sixteen bytes a line.
