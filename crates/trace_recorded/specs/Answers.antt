@@ -9,11 +9,12 @@ use Rattle.trace_recorded.specs.declared.transfer.RecordedEnd.{RecordedEnd}
 use Rattle.trace_recorded.specs.declared.transfer.RecordedEnd.TheVariants.{Done, Stalled, Failed, TooLong, Cut}
 use Rattle.trace_recorded.specs.declared.transfer.RecordedTransfer.{RecordedTransfer}
 
+-- whether a number is among these
 abbrev pub is_one_of : List ℕ → ℕ → Bool
 is_one_of [] number = false
 is_one_of (n ∷ ns) number = (number == n) || is_one_of ns number
 
--- by the number of an error, without its minus sign (Linux, include/uapi/asm-generic/errno.h, errno-base.h)
+-- how a transfer ended, by the number of an error, without its minus sign (Linux, include/uapi/asm-generic/errno.h, errno-base.h)
 abbrev pub end_by : ℕ → RecordedEnd
 end_by number =
     if is_one_of (0 ∷ 121 ∷ []) number then Done
@@ -44,6 +45,7 @@ abbrev pub packets_by : RecordedEnd → ℕ → ℕ → ℕ → ℕ
 packets_by Done size asked moved = packets_of size asked moved
 packets_by _ size asked moved = moved / size
 
+-- the same of a read
 abbrev pub packets_read : ℕ → RecordedTransfer → ℕ
 packets_read size x = packets_by x.end size x.asked x.moved
 
@@ -58,6 +60,7 @@ last_by Failed size room = Some Broken
 last_by TooLong size room = Some (Data (replicate (min room size + 1) 0))
 last_by _ size room = None
 
+-- the same of a read
 abbrev pub last_read : ℕ → RecordedTransfer → Option Response
 last_read size x = last_by x.end size (room_behind size x)
 
@@ -70,6 +73,7 @@ abbrev pub acknowledged_by : RecordedEnd → ℕ → ℕ → ℕ
 acknowledged_by Done before_last whole = before_last + 1
 acknowledged_by _ before_last whole = min before_last whole
 
+-- the same of a write, whose packets are those of what was asked for
 abbrev pub packets_acknowledged : ℕ → RecordedTransfer → ℕ
 packets_acknowledged size x = acknowledged_by x.end (full_packets x.zero_packet x.asked size) (x.moved / size)
 

@@ -41,6 +41,7 @@ pub record HasRoom (e : Event) : Type 0 where
   pub bytes : length e.bytes < 2 ^ 32
   pub setup : SetupFits e.kind e.setup
 
+-- a capture's types, of those two that are written
 abbrev pub type_written : EventType → RecordedType
 type_written written.Submission = Submission
 type_written written.Callback = Callback

@@ -1,6 +1,6 @@
 //! The answers that a recorded transfer stands for.
 
-ghost use Rattle.std.specs.Prelude.{◌≡◌, ◌<◌, IfOk, replicate, suc};
+ghost use Rattle.std.specs.Prelude.{◌≡◌, ◌<◌, IfOk, replicate};
 ghost use Rattle.usb_model.specs.Endpoint.Packets.{full_packets};
 ghost use Rattle.trace_recorded.specs.Answers.{answers_in, answers_of, answers_out, last_read, last_written, packets_acknowledged, packets_read, recorded_bytes, room_behind};
 
@@ -9,7 +9,8 @@ use crate::transfer::{RecordedEnd, RecordedTransfer};
 use std::alloc::{AllocError, Global};
 use usb_model::{Bytes, Response, Script, Sequence};
 
-/// The answers of a recorded transfer, one a packet, at an endpoint of this packet size, in bytes.
+/// The answers of a recorded transfer, one a packet, at an endpoint of this packet size, in bytes: at least 1. Takes memory for
+/// as many bytes as moved.
 #[tactic(auto, unfolding(crate::specs::Answers::answers_of))]
 pub fn answers_of(
     alloc: Global,

@@ -1,6 +1,6 @@
 //! The packets of a transfer, and the answers that they are.
 
-ghost use Rattle.std.specs.Prelude.{◌≡◌, map, take, drop, replicate, IfOk, OnOk, ◌++◌};
+ghost use Rattle.std.specs.Prelude.{◌≡◌, map, take, drop, replicate, IfOk, ◌++◌};
 ghost use Rattle.std.specs.Option.{option_to_list};
 ghost use Rattle.usb_model.specs.declared.response.Response.TheVariants.{Ack, Data};
 ghost use Rattle.trace_recorded.specs.Answers.{front_packets};
