@@ -1,0 +1,6 @@
+mod FrontPackets
+mod Loops
+mod Told
+mod ReadAgain
+mod WrittenAgain
+mod ReadBack

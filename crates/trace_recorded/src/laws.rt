@@ -1,0 +1,18 @@
+//! Laws over the definitions, as functions that do nothing.
+
+ghost use Rattle.trace_recorded.specs.Laws.{EventsAreReadBack, ReadsAreToldAgain, WritesAreToldAgain};
+
+/// What a capture says of an event is read back from it.
+pub fn events()
+    ensures { EventsAreReadBack }
+{}
+
+/// Who reads as the recorded driver did is told what it was told: the same bytes, and the same status.
+pub fn reads()
+    ensures { ReadsAreToldAgain }
+{}
+
+/// Who writes as the recorded driver did is told what it was told: as many bytes, and the same status.
+pub fn writes()
+    ensures { WritesAreToldAgain }
+{}
