@@ -1,9 +1,14 @@
 -- What a library that lived leaves.
-use Rattle.std.specs.Prelude.{◌≡◌, ℕ, List, length}
+use Rattle.std.specs.Prelude.{◌≡◌, ◌≤◌, ◌==◌, ℕ, List, [], ◌∷◌, All, count_by, length, map, ⊤}
+use Rattle.std.specs.List.{sum_by}
+use Rattle.usb_model.specs.declared.reply.Returned.{Returned}
+use Rattle.usb_model.specs.declared.verdict.Verdict.{Verdict}
 use Rattle.usb_model.specs.Setup.{Setup}
 use Rattle.usb_core.specs.Public.{ShowsWorld, State}
 use Rattle.usb_journal.specs.declared.place.Place.{Place}
 use Rattle.usb_journal.specs.Booked.{IsRun, world_where}
+use Rattle.usb_library.specs.Calls.{Calling, Knows, ShowsEvents, ShowsPending}
+use Rattle.usb_workers.specs.Rounds.{Controls, Handles, Rounds}
 
 -- the entries of a journal are those of the definitions' run of its steps over these devices; it is what a recorder kept, and has so many places; and the core shows the world where the run ends
 pub record KeepsRun {J P : Type 0} (stands : J → List Place → Type 0) (setup : Setup) (journal : List Place) (kept : J) (places : ℕ) (core : State P) : Type 0 where
@@ -11,3 +16,40 @@ pub record KeepsRun {J P : Type 0} (stands : J → List Place → Type 0) (setup
   pub is_kept : stands kept journal
   pub are_counted : places ≡ length journal
   pub is_shown : ShowsWorld setup core (world_where setup journal)
+
+-- each of one list stands so to that of the other at its place, and both are as long
+unfoldable pub Each : {A B : Type 0} → (A → B → Type 0) → List A → List B → Type 0
+Each R [] [] = ⊤
+Each R (x ∷ xs) (y ∷ ys) = R x y × Each R xs ys
+Each R [] (y ∷ ys) = ⊥
+Each R (x ∷ xs) [] = ⊥
+
+-- what a caller made from when it had no places
+abbrev pub Made : (Calling → Calling → Type 0) → Calling → Type 0
+Made Act last = (first : Calling) × (first.own ≡ []) × Act first last
+
+-- a caller, and what the driver left that made its calls
+pub record Returns (X : Type 0) : Type 0 where
+  pub caller : Calling
+  pub left : X
+
+-- what a driver may make, and leave
+abbrev pub Drives : {T X : Type 0} → (T → Setup → Calling → Calling → X → Type 0) → Setup → T → Returns X → Type 0
+Drives makes setup driver home = Made (λ old new. makes driver setup old new home.left) home.caller
+
+-- all places of a journal are these callers': each knows the journal, no two have one number, and together they have as many places
+pub record AreAll (journal : List Place) (callers : List Calling) : Type 0 where
+  pub knows : All (Knows journal) callers
+  pub numbers : (n : ℕ) → count_by (λ c. c.number == n) callers ≤ 1
+  pub counted : length journal ≡ sum_by (λ c. length c.own) callers
+
+-- who made the places of a journal: the controller's worker what its looks showed, the worker that handles events what its own showed, and each driver what it may make; and nobody else
+pub record LivedBy {T X : Type 0} (may : Returned → Verdict → Type 0) (makes : T → Setup → Calling → Calling → X → Type 0) (setup : Setup) (journal : List Place) (drivers : List T) (left : List X) : Type 0 where
+  pub controller : Calling
+  pub events : Calling
+  pub homes : List (Returns X)
+  pub controls : Made (Rounds (ShowsPending setup) (Controls setup)) controller
+  pub handles : Made (Rounds (ShowsEvents setup) (Handles setup may)) events
+  pub drives : Each (Drives makes setup) drivers homes
+  pub leaves : left ≡ map (λ h. h.left) homes
+  pub all : AreAll journal (controller ∷ events ∷ map (λ h. h.caller) homes)

@@ -29,6 +29,7 @@ mod calls;
 mod driver;
 mod gates;
 mod life;
+mod promises;
 mod seat;
 mod threads;
 

@@ -1,8 +1,9 @@
 //! A library from its opening to its end.
 
-ghost use Rattle.std.specs.Prelude.{◌≡◌, IfOk};
+ghost use Rattle.std.specs.Prelude.{◌≡◌, ◌∷◌, IfOk, map};
 ghost use Rattle.usb_core.specs.Public.{setup_of};
-ghost use Rattle.usb_live.specs.Life.{KeepsRun};
+ghost use Rattle.usb_workers.specs.Rounds.{MayAnswer};
+ghost use Rattle.usb_live.specs.Life.{AreAll, KeepsRun, LivedBy};
 
 use crate::driver::Driver;
 use crate::gates::Gates;
@@ -58,7 +59,8 @@ pub fn live<
 where
     J::Draft: Send,
     T::Left: Drop + Send,
-    ensures { IfOk result (λ l. KeepsRun J.stands (setup_of setup) l.journal l.kept l.places l.core) }
+    ensures run { IfOk result (λ l. KeepsRun J.stands (setup_of setup) l.journal l.kept l.places l.core) }
+    ensures by { IfOk result (λ l. LivedBy (MayAnswer C.may_answer C.rule) T.makes (setup_of setup) l.journal drivers.items l.left.items) }
 {
     live_gated::<C, D, J, Open, T, R>(rt, alloc, setup, Gates::open(), drivers)
 }
@@ -81,7 +83,8 @@ pub fn live_gated<
 where
     J::Draft: Send,
     T::Left: Drop + Send,
-    ensures { IfOk result (λ l. KeepsRun J.stands (setup_of setup) l.journal l.kept l.places l.core) }
+    ensures run { IfOk result (λ l. KeepsRun J.stands (setup_of setup) l.journal l.kept l.places l.core) }
+    ensures by { IfOk result (λ l. LivedBy (MayAnswer C.may_answer C.rule) T.makes (setup_of setup) l.journal drivers.items l.left.items) }
 {
     let Ok(opening) = Opening::new(alloc, setup) else {
         return Err(AllocError);
@@ -112,7 +115,8 @@ where
     requires parts { (L.parts ≡ 1025) × (opening.parts ≡ L.parts) }
     requires table { opening.table ≡ L.table }
     requires setup { opening.setup ≡ L.setup }
-    ensures { IfOk result (λ l. KeepsRun J.stands L.setup l.journal l.kept l.places l.core) }
+    ensures run { IfOk result (λ l. KeepsRun J.stands L.setup l.journal l.kept l.places l.core) }
+    ensures by { IfOk result (λ l. LivedBy (MayAnswer C.may_answer C.rule) T.makes L.setup l.journal drivers.items l.left.items) }
 {
     let library = Library::<L, C, D, J>::new(alloc, opening)?;
     let controller = Post {
@@ -128,14 +132,16 @@ where
     ended(alloc, library, back)
 }
 
-/// The library's end, once all its callers are back.
+/// The library's end, once all its callers are back: its journal's places are theirs, and they know it.
 fn ended<L: Naming, C: Drop, D: Device, J: Recorder, X: Drop>(
     alloc: Global,
     library: Library<L, C, D, J>,
     back: Back<L, X>,
 ) -> Result<Lived<C, D, J, X>, AllocError>
     requires { L.parts ≡ 1025 }
-    ensures { IfOk result (λ l. KeepsRun J.stands L.setup l.journal l.kept l.places l.core) }
+    ensures run { IfOk result (λ l. KeepsRun J.stands L.setup l.journal l.kept l.places l.core) }
+    ensures callers { IfOk result (λ l. AreAll l.journal (back.controller ∷ back.events ∷ map (λ h. h.caller) back.homes.items)) }
+    ensures left { IfOk result (λ l. l.left.items ≡ map (λ h. h.left) back.homes.items) }
 {
     let (callers, left) = apart(alloc, back)?;
     let Ok(ended) = library.finish(callers, Vec::new(alloc)) else {
@@ -156,7 +162,10 @@ fn ended<L: Naming, C: Drop, D: Device, J: Recorder, X: Drop>(
 fn apart<L: Naming, X: Drop>(
     alloc: Global,
     back: Back<L, X>,
-) -> Result<(Vec<Caller<L>>, Vec<X>), AllocError> {
+) -> Result<(Vec<Caller<L>>, Vec<X>), AllocError>
+    ensures callers { IfOk result (λ x. x.0.items ≡ back.controller ∷ back.events ∷ map (λ h. h.caller) back.homes.items) }
+    ensures left { IfOk result (λ x. x.1.items ≡ map (λ h. h.left) back.homes.items) }
+{
     let Back {
         controller,
         events,

@@ -1,5 +1,7 @@
 //! A driver on its way into a thread, and back.
 
+ghost use Rattle.std.specs.Prelude.{◌≡◌, [], All, IfOk, map};
+
 use crate::driver::Driver;
 use std::alloc::{AllocError, Global};
 use std::sync::Wait;
@@ -10,8 +12,8 @@ use usb_library::{Caller, Library};
 /// A driver, with the caller of its calls.
 #[derive(Drop)]
 pub(crate) struct Seat<L: Naming, T> {
-    caller: Caller<L>,
-    driver: T,
+    pub(crate) caller: Caller<L>,
+    pub(crate) driver: T,
 }
 
 /// What comes back of it.
@@ -21,11 +23,13 @@ pub(crate) struct Home<L: Naming, X> {
     pub(crate) left: X,
 }
 
-/// One more caller. An error where the library has as many as it may.
+/// One more caller, which has no places yet. An error where the library has as many as it may.
 pub(crate) fn caller_of<L: Naming, C: Drop, D: Device, J: Recorder, R: Wait>(
     rt: &R,
     library: &Library<L, C, D, J>,
-) -> Result<Caller<L>, AllocError> {
+) -> Result<Caller<L>, AllocError>
+    ensures { IfOk result (λ c. c.own ≡ []) }
+{
     match library.caller(rt) {
         Ok(caller) => Ok(caller),
         Err(_) => Err(AllocError),
@@ -38,7 +42,10 @@ pub(crate) fn seated<L: Naming, C: Drop, D: Device, J: Recorder, T: Drop, R: Wai
     alloc: Global,
     library: &Library<L, C, D, J>,
     drivers: Vec<T>,
-) -> Result<Vec<Seat<L, T>>, AllocError> {
+) -> Result<Vec<Seat<L, T>>, AllocError>
+    ensures drivers { IfOk result (λ seats. map (λ s. s.driver) seats.items ≡ drivers.items) }
+    ensures callers { IfOk result (λ seats. All (λ s. s.caller.own ≡ []) seats.items) }
+{
     let mut seats = Vec::with_capacity(alloc, drivers.len())?;
     for driver in drivers {
         let caller = caller_of(rt, library)?;
@@ -52,7 +59,9 @@ pub(crate) fn drive<L: Naming, C, D: Device, J: Recorder, T: Driver<C>, R: Wait>
     rt: &R,
     library: &Library<L, C, D, J>,
     seat: Seat<L, T>,
-) -> Home<L, T::Left> {
+) -> Home<L, T::Left>
+    ensures { T.makes seat.driver L.setup seat.caller result.caller result.left }
+{
     let Seat { mut caller, driver } = seat;
     let left = driver.drive(rt, library, &mut caller);
     Home { caller, left }

@@ -1,13 +1,18 @@
 //! The threads of a library that lives.
 
+ghost use Rattle.std.specs.Prelude.{◌≡◌, ◌++◌, [], IfOk, IfSome, map};
 ghost use denote.Param.Send.{IsSend, IsSync};
+ghost use Rattle.usb_library.specs.Calls.{ShowsEvents, ShowsPending};
+ghost use Rattle.usb_workers.specs.Rounds.{Controls, Handles, MayAnswer, Rounds};
+ghost use Rattle.usb_live.specs.Life.{Each};
 
 use crate::driver::Driver;
+use crate::promises::{Controlling, Driving, Handling};
 use crate::seat::{Home, Seat, drive};
 use std::alloc::{AllocError, Global};
 use std::sync::Wait;
 use std::thread;
-use std::thread::{JoinHandle, Scope, Threads};
+use std::thread::{PromisedHandle, Scope, Threads};
 use usb_callback::Callback;
 use usb_device::Device;
 use usb_journal::{Naming, Recorder};
@@ -35,7 +40,9 @@ fn control<L: Naming, C: Callback, D: Device, J: Recorder, G: Gate + Drop, R: Wa
     alloc: Global,
     library: &Library<L, C, D, J>,
     post: Post<L, G>,
-) -> Caller<L> {
+) -> Caller<L>
+    ensures { Rounds (ShowsPending L.setup) (Controls L.setup) post.caller result }
+{
     let Post { caller, mut gate } = post;
     controller_loop(rt, alloc, library, &mut gate, caller)
 }
@@ -46,7 +53,9 @@ fn handle<L: Naming, C: Callback, D: Device, J: Recorder, G: Gate + Drop, R: Wai
     alloc: Global,
     library: &Library<L, C, D, J>,
     post: Post<L, G>,
-) -> Caller<L> {
+) -> Caller<L>
+    ensures { Rounds (ShowsEvents L.setup) (Handles L.setup (MayAnswer C.may_answer C.rule)) post.caller result }
+{
     let Post { caller, mut gate } = post;
     event_loop(rt, alloc, library, &mut gate, caller)
 }
@@ -67,11 +76,15 @@ fn start_controller<
     alloc: Global,
     library: &'s Library<L, C, D, J>,
     post: Post<L, G>,
-) -> Option<JoinHandle<Caller<L>>>
+) -> Option<PromisedHandle<Caller<L>, Controlling<L>>>
 where
     J::Draft: Send,
+    ensures { IfSome result (λ thread. thread.promise.caller.value ≡ post.caller) }
 {
-    scope.spawn(move || control(rt, alloc, library, post)).ok()
+    let promise = Controlling::of(&post.caller);
+    scope
+        .spawn_with(promise, move || control(rt, alloc, library, post))
+        .ok()
 }
 
 /// The thread of events and callbacks.
@@ -90,11 +103,15 @@ fn start_events<
     alloc: Global,
     library: &'s Library<L, C, D, J>,
     post: Post<L, G>,
-) -> Option<JoinHandle<Caller<L>>>
+) -> Option<PromisedHandle<Caller<L>, Handling<L, C>>>
 where
     J::Draft: Send,
+    ensures { IfSome result (λ thread. thread.promise.caller.value ≡ post.caller) }
 {
-    scope.spawn(move || handle(rt, alloc, library, post)).ok()
+    let promise = Handling::of(&post.caller);
+    scope
+        .spawn_with(promise, move || handle(rt, alloc, library, post))
+        .ok()
 }
 
 /// The thread of a driver.
@@ -112,24 +129,118 @@ fn start_driver<
     rt: &'s R,
     library: &'s Library<L, C, D, J>,
     seat: Seat<L, T>,
-) -> Option<JoinHandle<Home<L, T::Left>>>
+) -> Option<PromisedHandle<Home<L, T::Left>, Driving<L, C, T>>>
 where
     J::Draft: Send,
     T::Left: Drop + Send + 's,
+    ensures { IfSome result (λ thread. thread.promise.seat.value ≡ seat) }
 {
-    scope.spawn(move || drive(rt, library, seat)).ok()
+    let promise = Driving::of(&seat);
+    scope
+        .spawn_with(promise, move || drive(rt, library, seat))
+        .ok()
+}
+
+/// The threads of all drivers, behind those that are there. An error where one can't be made; those before it are there then.
+fn start_drivers<
+    's,
+    E: 's,
+    L: Naming + Send + Sync + 's,
+    C: Callback + Send + 's,
+    D: Device + Send + 's,
+    J: Recorder + Send + 's,
+    T: Driver<C> + Drop + Send + 's,
+    R: Wait + Sync + 's,
+>(
+    scope: &Scope<'s, E>,
+    rt: &'s R,
+    library: &'s Library<L, C, D, J>,
+    seats: Vec<Seat<L, T>>,
+    threads: &mut Vec<PromisedHandle<Home<L, T::Left>, Driving<L, C, T>>>,
+) -> Result<(), AllocError>
+where
+    J::Draft: Send,
+    T::Left: Drop + Send + 's,
+    ensures { IfOk result (λ _. map (λ t. t.promise.seat.value) threads.new.items ≡ map (λ t. t.promise.seat.value) threads.old.items ++ seats.items) }
+{
+    for seat in seats {
+        let Some(thread) = start_driver(scope, rt, library, seat) else {
+            return Err(AllocError);
+        };
+        threads.push(thread)?;
+    }
+    Ok(())
 }
 
 /// What all threads leave, once the last has ended.
-fn joined<X: Drop, R: Threads>(
+fn joined<L: Naming, C, T: Driver<C>, R: Threads>(
     rt: &R,
-    threads: Vec<JoinHandle<X>>,
-    mut homes: Vec<X>,
-) -> Result<Vec<X>, AllocError> {
+    threads: Vec<PromisedHandle<Home<L, T::Left>, Driving<L, C, T>>>,
+    mut homes: Vec<Home<L, T::Left>>,
+) -> Result<Vec<Home<L, T::Left>>, AllocError>
+    requires { homes.items ≡ [] }
+    ensures { IfOk result (λ homes. Each (λ s h. T.makes s.driver L.setup s.caller h.caller h.left) (map (λ t. t.promise.seat.value) threads.items) homes.items) }
+{
     for thread in threads {
         homes.push(thread.join(rt))?;
     }
     Ok(homes)
+}
+
+/// Room for what the drivers' threads are, and for what they leave. Nothing is in it yet.
+#[derive(Drop)]
+struct Room<L: Naming, C, T: Driver<C>> {
+    threads: Vec<PromisedHandle<Home<L, T::Left>, Driving<L, C, T>>>,
+    homes: Vec<Home<L, T::Left>>,
+    ghost fresh: { (threads.items ≡ []) × (homes.items ≡ []) },
+}
+
+/// Both workers and all drivers, each in a thread of this scope.
+fn run_scoped<
+    's,
+    E: 's,
+    L: Naming + Send + Sync + 's,
+    C: Callback + Send + 's,
+    D: Device + Send + 's,
+    J: Recorder + Send + 's,
+    G: Gate + Drop + Send + 's,
+    T: Driver<C> + Drop + Send + 's,
+    R: Threads + Wait + Sync + 's,
+>(
+    scope: &Scope<'s, E>,
+    rt: &'s R,
+    alloc: Global,
+    library: &'s Library<L, C, D, J>,
+    controller: Post<L, G>,
+    events: Post<L, G>,
+    seats: Vec<Seat<L, T>>,
+    room: Room<L, C, T>,
+) -> Result<Back<L, T::Left>, AllocError>
+where
+    J::Draft: Send,
+    T::Left: Drop + Send + 's,
+    ensures controls { IfOk result (λ back. Rounds (ShowsPending L.setup) (Controls L.setup) controller.caller back.controller) }
+    ensures handles { IfOk result (λ back. Rounds (ShowsEvents L.setup) (Handles L.setup (MayAnswer C.may_answer C.rule)) events.caller back.events) }
+    ensures drives { IfOk result (λ back. Each (λ s h. T.makes s.driver L.setup s.caller h.caller h.left) seats.items back.homes.items) }
+{
+    let Room { mut threads, homes } = room;
+    let Some(controller) = start_controller(scope, rt, alloc, library, controller) else {
+        return Err(AllocError);
+    };
+    let Some(events) = start_events(scope, rt, alloc, library, events) else {
+        library.stop_workers(rt);
+        return Err(AllocError);
+    };
+    let started = start_drivers(scope, rt, library, seats, &mut threads);
+    let homes = joined(rt, threads, homes);
+    library.stop_workers(rt);
+    let (controller, events) = (controller.join(rt), events.join(rt));
+    started?;
+    Ok(Back {
+        controller,
+        events,
+        homes: homes?,
+    })
 }
 
 /// Both workers and all drivers, each in a thread. Once the drivers have ended the workers are asked to stop, and all are
@@ -153,42 +264,19 @@ pub(crate) fn run_all<
 where
     J::Draft: Send,
     T::Left: Drop + Send,
+    ensures controls { IfOk result (λ back. Rounds (ShowsPending L.setup) (Controls L.setup) controller.caller back.controller) }
+    ensures handles { IfOk result (λ back. Rounds (ShowsEvents L.setup) (Handles L.setup (MayAnswer C.may_answer C.rule)) events.caller back.events) }
+    ensures drives { IfOk result (λ back. Each (λ s h. T.makes s.driver L.setup s.caller h.caller h.left) seats.items back.homes.items) }
 {
-    let homes = Vec::with_capacity(alloc, seats.len())?;
-    let mut threads = Vec::with_capacity(alloc, seats.len())?;
+    let room = Room {
+        threads: Vec::with_capacity(alloc, seats.len())?,
+        homes: Vec::with_capacity(alloc, seats.len())?,
+    };
     thread::scope(
         thread::scope_env(),
         rt,
         move |scope| -> Result<Back<L, T::Left>, AllocError>
             requires { IsSync R.row × IsSend L.row × IsSync L.row × IsSend C.row × IsSend D.row × IsSend J.row × IsSend J.Draft.row × IsSend G.row × IsSend T.row × IsSend T.Left.row }
-        {
-            let Some(controller) = start_controller(scope, rt, alloc, library, controller) else {
-                return Err(AllocError);
-            };
-            let Some(events) = start_events(scope, rt, alloc, library, events) else {
-                library.stop_workers(rt);
-                return Err(AllocError);
-            };
-            let mut whole = true;
-            for seat in seats {
-                match start_driver(scope, rt, library, seat) {
-                    Some(thread) => {
-                        let _ = threads.push(thread);
-                    }
-                    None => whole = false,
-                }
-            }
-            let homes = joined(rt, threads, homes);
-            library.stop_workers(rt);
-            let (controller, events) = (controller.join(rt), events.join(rt));
-            if !whole {
-                return Err(AllocError);
-            }
-            Ok(Back {
-                controller,
-                events,
-                homes: homes?,
-            })
-        },
+        { run_scoped(scope, rt, alloc, library, controller, events, seats, room) },
     )
 }

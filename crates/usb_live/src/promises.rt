@@ -1,0 +1,81 @@
+//! What is promised of the threads: what comes back of each, by what went into it.
+
+ghost use Rattle.std.specs.Prelude.{◌≡◌};
+ghost use Rattle.usb_library.specs.Calls.{ShowsEvents, ShowsPending};
+ghost use Rattle.usb_workers.specs.Rounds.{Controls, Handles, MayAnswer, Rounds};
+
+use crate::driver::Driver;
+use crate::seat::{Home, Seat};
+use std::marker::PhantomData;
+use std::snapshot::Snapshot;
+use std::thread::Promise;
+use usb_callback::Callback;
+use usb_journal::Naming;
+use usb_library::Caller;
+
+/// The caller that went out with the controller's part. It comes back moved on, look by look.
+#[derive(Drop)]
+pub(crate) struct Controlling<L: Naming> {
+    pub(crate) caller: Snapshot<Caller<L>>,
+}
+
+impl<L: Naming> Controlling<L> {
+    /// This one.
+    pub(crate) fn of(caller: &Caller<L>) -> Controlling<L>
+        ensures { result.caller.value ≡ caller.now }
+    {
+        Controlling {
+            caller: Snapshot::of(caller),
+        }
+    }
+}
+
+impl<L: Naming> Promise<Caller<L>> for Controlling<L> {
+    ghost kept_by = { λ p c. Rounds (ShowsPending L.setup) (Controls L.setup) p.caller.value c };
+}
+
+/// The caller that went out with events, and callbacks of this type. It comes back moved on, look by look.
+#[derive(Drop)]
+pub(crate) struct Handling<L: Naming, C: Callback> {
+    pub(crate) caller: Snapshot<Caller<L>>,
+    callback: PhantomData<C>,
+}
+
+impl<L: Naming, C: Callback> Handling<L, C> {
+    /// This one.
+    pub(crate) fn of(caller: &Caller<L>) -> Handling<L, C>
+        ensures { result.caller.value ≡ caller.now }
+    {
+        Handling {
+            caller: Snapshot::of(caller),
+            callback: PhantomData,
+        }
+    }
+}
+
+impl<L: Naming, C: Callback> Promise<Caller<L>> for Handling<L, C> {
+    ghost kept_by = { λ p c. Rounds (ShowsEvents L.setup) (Handles L.setup (MayAnswer C.may_answer C.rule)) p.caller.value c };
+}
+
+/// The driver that went out with its caller. What comes home is what it may make, and leave.
+#[derive(Drop)]
+pub(crate) struct Driving<L: Naming, C, T: Driver<C>> {
+    pub(crate) seat: Snapshot<Seat<L, T>>,
+    callback: PhantomData<C>,
+}
+
+impl<L: Naming, C, T: Driver<C>> Driving<L, C, T> {
+    /// This one.
+    pub(crate) fn of(seat: &Seat<L, T>) -> Driving<L, C, T>
+        ensures { result.seat.value ≡ seat.now }
+    {
+        Driving {
+            seat: Snapshot::of(seat),
+            callback: PhantomData,
+        }
+    }
+}
+
+impl<L: Naming, C, T: Driver<C>> Promise<Home<L, T::Left>> for Driving<L, C, T> {
+    ghost kept_by = { λ p h. T.makes p.seat.value.driver L.setup p.seat.value.caller h.caller h.left };
+}
