@@ -49,8 +49,8 @@ class Row:
             raise BadRow(f"{self.name}.cmd: words between single spaces, and a line feed")
         if (ROWS / f"{self.name}.status").is_file() and not 0 < self.status < 256:
             raise BadRow(f"{self.name}.status: a status from 1 to 255; none where it is 0")
-        if self.errors and not self.status:
-            raise BadRow(f"{self.name}.err: without a status, nothing is said there")
+        if self.errors and not self.status and not self.words.startswith("live"):
+            raise BadRow(f"{self.name}.err: with status 0 only a run in threads says something there")
         if NAME in self.input:
             raise BadRow(f"{self.name}.in: `===` stands between rows, and can't stand in one")
 
@@ -61,7 +61,7 @@ class Row:
     def printed(self):
         """What check_rows is to print of it: the plain program runs what is run to its end."""
         text = NAME + f"{self.name}\n".encode() + self.output
-        if self.status:
+        if self.status or self.errors:
             return text + STATUS + f"{self.status}\n".encode() + self.errors
         return text + PLAIN + self.output if re.fullmatch(r"run|alone \d+", self.words.strip()) else text
 

@@ -63,7 +63,7 @@ fn finished<L: Naming, J: Recorder>(
 }
 
 /// What a scene leaves whose calls were answered so, and gave so many receipts.
-fn left<L: Naming, J: Drop>(
+fn left_by<L: Naming, J: Drop>(
     ended: Ended<L, u8, TableDevice, J>,
     answers: Vec<Answer>,
     receipts: usize,
@@ -263,7 +263,7 @@ impl<L: Naming, J: Recorder> Scene<L, J> {
         let count = receipts.len();
         let callers = Vec::from_array(alloc, [caller])?;
         match finished(library, callers, receipts) {
-            Ok(ended) => Ok(left(ended, answers, count)),
+            Ok(ended) => Ok(left_by(ended, answers, count)),
             Err(_) => Err(anyhow!("a caller is missing")),
         }
     }

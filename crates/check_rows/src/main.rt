@@ -3,7 +3,7 @@
 //! print.
 //!
 //! A row is a line of `=== ` and its name, a line of its words, and its input. Behind the name is printed what stands on standard
-//! output; behind a line `--- status N`, where the status isn't 0, what stands on standard error; and behind a line `--- by the plain
+//! output; behind a line `--- status N`, where that isn't 0 or something stands there, standard error; and behind a line `--- by the plain
 //! program` what that prints.
 //!
 //! # Files

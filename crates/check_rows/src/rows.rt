@@ -13,7 +13,7 @@ use std::thread::Threads;
 /// Prints what the program did.
 fn print_traced<W: Write>(traced: &Traced, out: &mut W) -> Result<()> {
     out.write_all(traced.output.as_slice())?;
-    if traced.status != 0 {
+    if traced.status != 0 || !traced.errors.is_empty() {
         writeln!(out, "--- status {}", traced.status)?;
         out.write_all(traced.errors.as_slice())?;
     }

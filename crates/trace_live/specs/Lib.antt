@@ -1,1 +1,2 @@
 pub mod Callbacks
+pub mod Unfinished

@@ -1,21 +1,33 @@
-//! A plan from its devices to what its callbacks were told.
+//! A plan from its devices to what its callbacks were told, and what never completed.
 
 ghost use Rattle.std.specs.Prelude.{IfOk, List};
 ghost use Rattle.usb_model.specs.declared.step.Step.{Step};
 ghost use Rattle.usb_core.specs.Public.{setup_of};
-ghost use Rattle.trace_live.specs.Callbacks.{AreCallbacks};
+ghost use Rattle.trace_live.specs.Unfinished.{IsPerformed};
 
 use crate::callbacks::callbacks_of;
 use crate::counted::{Budget, Counted};
 use crate::handles::handles_of;
+use crate::unfinished::unfinished_in;
 use std::alloc::{AllocError, Global};
 use std::sync::Wait;
 use std::thread::Threads;
 use usb_core::Setup;
-use usb_device::Device;
+use usb_device::Scripted;
 use usb_journal::Journal;
+use usb_left::Left;
 use usb_live::{Lived, live};
 use usb_model::{Entry, Plan, Rule, Sequence};
+
+/// What came of a plan that was performed.
+#[derive(Drop)]
+pub struct Performance {
+    /// What the callbacks were told, by handle and number.
+    pub told: Vec<Entry>,
+    /// What the handles hadn't finished when all was at rest, by handle: transfers that their devices don't end, and the orders,
+    /// events, results and callbacks that are about transfers, where a worker gave up.
+    pub unfinished: Vec<Left>,
+}
 
 /// An error where a handle's thread was refused memory.
 fn are_made(left: Vec<Result<(), AllocError>>) -> Result<(), AllocError> {
@@ -27,23 +39,24 @@ fn are_made(left: Vec<Result<(), AllocError>>) -> Result<(), AllocError> {
 
 /// Performs a plan over these devices: each handle that has lines has a thread of its own, which makes them in order, beside the two
 /// workers. What the workers do has no place in it and is passed over: packets, orders, events, results and callbacks that return.
-/// Gives what the callbacks were told, by handle and number. When `rounds` callbacks were called, each that is called then is at its end,
-/// whatever its rule: so a run that would go on for ever ends, and more than `rounds` lines are given. An error where memory is refused,
-/// to whichever thread, or a thread can't be made.
-pub fn perform<D: Device + Send, R: Threads + Wait + Sync>(
+/// Gives what the callbacks were told, by handle and number, and what never completed. When `rounds` callbacks were called, each that is
+/// called then is at its end, whatever its rule: so a run that would go on for ever ends, and more than `rounds` lines are given. An error
+/// where memory is refused, to whichever thread, or a thread can't be made.
+pub fn perform<D: Scripted + Send, R: Threads + Wait + Sync>(
     rt: &R,
     alloc: Global,
     setup: Setup<D>,
     plan: Sequence<Plan>,
     rules: &[Rule],
     rounds: u64,
-) -> Result<Vec<Entry>, AllocError>
-    ensures { IfOk result (λ lines. (steps : List Step) × AreCallbacks (setup_of setup) steps lines.items) }
+) -> Result<Performance, AllocError>
+    ensures { IfOk result (λ p. (steps : List Step) × IsPerformed (setup_of setup) steps p.told.items p.unfinished.items) }
 {
     let budget = Budget::new(alloc, rounds)?;
     let handles = handles_of(rt, alloc, plan, rules, &budget)?;
     let Lived {
         kept,
+        core,
         left,
         lacked_memory,
         ..
@@ -52,5 +65,8 @@ pub fn perform<D: Device + Send, R: Threads + Wait + Sync>(
     if lacked_memory {
         return Err(AllocError);
     }
-    callbacks_of(alloc, kept.places(alloc)?)
+    Ok(Performance {
+        told: callbacks_of(alloc, kept.places(alloc)?)?,
+        unfinished: unfinished_in(alloc, core)?,
+    })
 }

@@ -1,6 +1,6 @@
 -- What a task has written, however it ends.
-use Rattle.std.proofs.Common.{◌≡◌, ℕ, List, [], Option, Some, None, Result, Ok, Err, IfSome, refl, sym, subst, arith}
-use Rattle.std.specs.Io.KnownBytes.{Keeps}
+use Rattle.std.proofs.Common.{◌≡◌, ◌++◌, ℕ, List, [], Option, Some, None, Result, Ok, Err, IfSome, refl, sym, subst, append-nil, arith}
+use Rattle.std.specs.Io.KnownBytes.{Appends, Keeps}
 use Rattle.usb_model.specs.World.Journal.{journal, journal_from}
 use Rattle.trace_scenario.specs.Counts.{counts_of}
 use Rattle.trace_scenario.specs.Findings.{bad_lines, good_lines}
@@ -8,7 +8,8 @@ use Rattle.trace_scenario.specs.Scenario.{scenario_of}
 use Rattle.trace_scenario.specs.declared.scenario.Scenario.{Scenario}
 use Rattle.trace_io.specs.declared.words.Task.{Task}
 use Rattle.trace_io.specs.declared.words.Task.TheVariants.{Run, Steps, Alone, Live, Left, Check, Draw}
-use Rattle.trace_io.proofs.Beginnings.{none_yet}
+use Rattle.trace_io.specs.Output.{AppendsSome}
+use Rattle.trace_io.proofs.Beginnings.{none_yet, some_behind, some_of_front}
 use Rattle.trace_io.proofs.Findings.{no_report}
 use Rattle.std.proofs.lemmas.List.Sorted.{IsPermutation-refl}
 use Rattle.trace_live.specs.Callbacks.{AreCallbacks}
@@ -66,3 +67,15 @@ pub bytes_begun : (input : Option (List ℕ)) (t s : Task) (bytes : List ℕ) (o
 bytes_begun None t s bytes old new asked same some = tt
 bytes_begun (Some text) t s bytes old new asked same some =
     subst (λ (x : Task). Begins x text old new) (sym asked) (subst (λ bs. Begins s bs old new) same some)
+
+-- a message was told, and a beginning of what is behind it
+pub told_behind : (message notes : List ℕ) (old mid new : Option (List ℕ)) → Appends old mid message → AppendsSome notes mid new → AppendsSome (message ++ notes) old new
+told_behind message notes old mid new first behind = some_behind (message ++ notes) message notes old mid new refl first behind
+
+-- a beginning of the message, and nothing behind it
+pub told_front : (message notes : List ℕ) (old new : Option (List ℕ)) → AppendsSome message old new → AppendsSome (message ++ notes) old new
+told_front message notes old new some = some_of_front (message ++ notes) message notes old new refl some
+
+-- nothing stands behind a message
+pub told_alone : (message : List ℕ) (old new : Option (List ℕ)) → AppendsSome (message ++ []) old new → AppendsSome message old new
+told_alone message old new some = subst (λ (text : List ℕ). AppendsSome text old new) (append-nil message) some

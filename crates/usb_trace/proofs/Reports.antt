@@ -15,16 +15,16 @@ use Rattle.trace_scenario.specs.Counts.{counts_of}
 use Rattle.trace_scenario.specs.Findings.{bad_lines, good_lines}
 use Rattle.trace_scenario.specs.Scenario.{nothing_said, scenario_of}
 use Rattle.trace_io.specs.CommandLine.{AreBad, AskFor, grammar}
-use Rattle.trace_io.specs.Faults.{message_of, most_drawn}
+use Rattle.trace_io.specs.Faults.{message_of, most_drawn, IsOfRun}
 use Rattle.trace_io.specs.Input.{longest_input}
 use Rattle.trace_io.specs.declared.fault.Fault.{Fault}
 use Rattle.trace_io.specs.declared.fault.Fault.TheVariants.{Line, Memory, InputOutput, TooLong, Rounds, Wide}
 use Rattle.trace_scenario.specs.declared.scenario.Scenario.{Scenario}
 use Rattle.usb_trace.specs.Lived.{earlier, first_unlived, lived_of, AppendsCallbacks, GoesOn, IsOfLive}
-use Rattle.usb_trace.specs.Program.{scenario_for, status_of, Begins, Draws, EndsLate, IsDone, IsReported, Performs, TellsWhy}
+use Rattle.usb_trace.specs.Program.{scenario_for, status_of, AskForThreads, Begins, Draws, EndsLate, IsAlone, IsDone, IsReported, IsThreaded, Performs, TellsRest, TellsWhy}
 use Rattle.trace_run.specs.declared.tasks.Ending.{Ending}
 use Rattle.trace_run.specs.declared.tasks.Ending.TheVariants.{Good, BadLines}
-use Rattle.usb_trace.proofs.Begun.{keeps_same, nothing_begun}
+use Rattle.usb_trace.proofs.Begun.{keeps_same, nothing_begun, told_front}
 use Rattle.trace_io.specs.declared.words.Task.{Task}
 use Rattle.trace_io.specs.declared.words.Task.TheVariants.{Run, Steps, Alone, Live, Left, Check, Draw}
 use Rattle.trace_scenario.specs.declared.findings.Counts.{Counts}
@@ -45,7 +45,7 @@ counts_alone (n ∷ ns) counts old new written none = cc
 -- a check that finds nothing bad: the text is that of a scenario, and its counts are written
 pub all_good : (text : List ℕ) (bad : List Finding) (counts : Counts) (old new : Option (List ℕ))
     → map (λ (f : Finding). f.line) bad ≡ bad_lines text → counts ≡ counts_of (good_lines text) → length bad ≡ 0 → length text ≤ longest_input
-    → AppendsReport (map (λ (f : Finding). f.line) bad) counts old new → IsDone Check text old new
+    → AppendsReport (map (λ (f : Finding). f.line) bad) counts old new → IsDone Check text [] old new
 all_good text bad counts old new numbers said empty short written =
     let nothing : map (λ (f : Finding). f.line) bad ≡ [] = ap (map (λ (f : Finding). f.line)) (nil_from_length bad empty) in
     let none : bad_lines text ≡ [] = sym numbers ∙ nothing in
@@ -53,7 +53,7 @@ all_good text bad counts old new numbers said empty short written =
       good_lines text,
       none_bad 1 nothing_said (slice_split (λ b. b == 10) text) none,
       short,
-      subst (λ (c : Counts). Appends old new (counts_line c)) said line,
+      (subst (λ (c : Counts). Appends old new (counts_line c)) said line, refl),
     )
 
 -- where a bad line was found, there is one
@@ -62,21 +62,21 @@ some_bad text [] numbers some = absurd (some refl)
 some_bad text (f ∷ fs) numbers some = λ none. let gone : f.line ∷ map (λ (g : Finding). g.line) fs ≡ [] = numbers ∙ none in cc
 
 -- a run in threads ends as it may
-pub lived : (text : List ℕ) (rounds : ℕ) (s : Scenario) (old new : Option (List ℕ)) (r : Result Ending Fault) → lived_of text ≡ Ok s
-    → length text ≤ longest_input → OnOk r (AppendsCallbacks s old new) → IfOk r (λ ending. ending ≡ Good) → IfErr r (IsOfLive s rounds)
-    → IfErr r (λ fault. fault ≡ Rounds rounds → Keeps old new) → Performs (Live rounds) text old new r
-lived text rounds s old new (Ok Good) read short lines good fault silent = (s, read, short, lines)
-lived text rounds s old new (Ok BadLines) read short lines good fault silent = cc
-lived text rounds s old new (Err (Line line)) read short lines good fault silent = absurd fault
-lived text rounds s old new (Err Memory) read short lines good fault silent = tt
-lived text rounds s old new (Err InputOutput) read short lines good fault silent = tt
-lived text rounds s old new (Err TooLong) read short lines good fault silent = absurd fault
-lived text rounds s old new (Err (Rounds told)) read short lines good fault silent = (
+pub lived : (text : List ℕ) (rounds : ℕ) (s : Scenario) (notes : List ℕ) (old new : Option (List ℕ)) (r : Result Ending Fault) → lived_of text ≡ Ok s
+    → length text ≤ longest_input → OnOk r (AppendsCallbacks s notes old new) → IfOk r (λ ending. ending ≡ Good) → IfErr r (IsOfLive s rounds notes)
+    → IfErr r (λ fault. fault ≡ Rounds rounds → Keeps old new) → Performs (Live rounds) text notes old new r
+lived text rounds s notes old new (Ok Good) read short lines good fault silent = (s, read, short, lines)
+lived text rounds s notes old new (Ok BadLines) read short lines good fault silent = cc
+lived text rounds s notes old new (Err (Line line)) read short lines good fault silent = absurd fault
+lived text rounds s notes old new (Err Memory) read short lines good fault silent = tt
+lived text rounds s notes old new (Err InputOutput) read short lines good fault silent = tt
+lived text rounds s notes old new (Err TooLong) read short lines good fault silent = absurd fault
+lived text rounds s notes old new (Err (Rounds told)) read short lines good fault silent = (
   ap (λ (n : ℕ). Live n) (sym fault.0),
   silent (ap (λ (n : ℕ). Rounds n) fault.0),
-  (s, read, subst (λ (n : ℕ). GoesOn s n) (sym fault.0) fault.1),
+  (s, read, subst (λ (n : ℕ). GoesOn s n notes) (sym fault.0) fault.1),
 )
-lived text rounds s old new (Err (Wide steps)) read short lines good fault silent = absurd fault
+lived text rounds s notes old new (Err (Wide steps)) read short lines good fault silent = absurd fault
 
 -- where nothing is unlived, what is read is the scenario
 earlier_good : (o : Option ℕ) (said : Result Scenario ℕ) (s : Scenario) → earlier o said ≡ Ok s → said ≡ Ok s
@@ -95,73 +95,117 @@ said_for Check text s e = e
 said_for (Draw from to) text s e = e
 
 -- a check of a text with a bad line isn't done
-done_is_good : (t : Task) (text : List ℕ) (old new : Option (List ℕ)) → IsDone t text old new → bad_lines text ≡ []
-done_is_good t text old new done = scenario_good 1 nothing_said done.0 (slice_split (λ b. b == 10) text) (said_for t text done.0 done.1)
+done_is_good : (t : Task) (text notes : List ℕ) (old new : Option (List ℕ)) → IsDone t text notes old new → bad_lines text ≡ []
+done_is_good t text notes old new done = scenario_good 1 nothing_said done.0 (slice_split (λ b. b == 10) text) (said_for t text done.0 done.1)
 
 -- a status of 1 isn't 0
 not_zero : (status : ℕ) → status ≡ 1 → status ≢ 0
 not_zero status one zero = absurd (omega arith)
 
 -- where a line is bad, the status isn't 0
-bad_status : (t : Task) (text : List ℕ) (ended : Result Ending Fault) (status : ℕ) (old new : Option (List ℕ)) → Performs t text old new ended
+bad_status : (t : Task) (text notes : List ℕ) (ended : Result Ending Fault) (status : ℕ) (old new : Option (List ℕ)) → Performs t text notes old new ended
     → status ≡ status_of ended → bad_lines text ≢ [] → status ≢ 0
-bad_status t text (Ok Good) status old new done same bad = absurd (bad (done_is_good t text old new done))
-bad_status t text (Ok BadLines) status old new done same bad = not_zero status same
-bad_status t text (Err fault) status old new done same bad = not_zero status same
+bad_status t text notes (Ok Good) status old new done same bad = absurd (bad (done_is_good t text notes old new done))
+bad_status t text notes (Ok BadLines) status old new done same bad = not_zero status same
+bad_status t text notes (Err fault) status old new done same bad = not_zero status same
 
 -- the same, whatever the input has
-pub bad_input : (input : Option (List ℕ)) (t : Task) (ended : Result Ending Fault) (status : ℕ) (old new : Option (List ℕ))
-    → IfSome input (λ text. Performs t text old new ended) → status ≡ status_of ended → IfSome input (λ text. bad_lines text ≢ [] → status ≢ 0)
-bad_input None t ended status old new ends same = tt
-bad_input (Some text) t ended status old new ends same = bad_status t text ended status old new ends same
+pub bad_input : (input : Option (List ℕ)) (t : Task) (notes : List ℕ) (ended : Result Ending Fault) (status : ℕ) (old new : Option (List ℕ))
+    → IfSome input (λ text. Performs t text notes old new ended) → status ≡ status_of ended → IfSome input (λ text. bad_lines text ≢ [] → status ≢ 0)
+bad_input None t notes ended status old new ends same = tt
+bad_input (Some text) t notes ended status old new ends same = bad_status t text notes ended status old new ends same
+
+-- what is told of a task that is done
+done_rest : (t : Task) (text notes : List ℕ) (ended : Result Ending Fault) (status : ℕ) (old new err_old err_new : Option (List ℕ)) → Performs t text notes old new ended
+    → status ≡ status_of ended → OnOk ended (AppendsSome notes err_old err_new) → status ≡ 0 → TellsRest t text old new err_old err_new
+done_rest t text notes (Ok Good) status old new err_old err_new ends same noted zero = (notes, ends, noted)
+done_rest t text notes (Ok BadLines) status old new err_old err_new ends same noted zero = absurd (omega arith)
+done_rest t text notes (Err fault) status old new err_old err_new ends same noted zero = absurd (omega arith)
+
+-- the same, whatever the input has
+pub rest_of : (input : Option (List ℕ)) (t : Task) (notes : List ℕ) (ended : Result Ending Fault) (status : ℕ) (old new err_old err_new : Option (List ℕ))
+    → IfSome input (λ text. Performs t text notes old new ended) → status ≡ status_of ended → OnOk ended (AppendsSome notes err_old err_new)
+    → status ≡ 0 → IfSome input (λ text. TellsRest t text old new err_old err_new)
+rest_of None t notes ended status old new err_old err_new ends same noted zero = tt
+rest_of (Some text) t notes ended status old new err_old err_new ends same noted zero = done_rest t text notes ended status old new err_old err_new ends same noted zero
+
+-- nothing is told of a task without notes that ended well
+quiet_done : (notes : List ℕ) (ended : Result Ending Fault) (status : ℕ) (err_old err_new : Option (List ℕ)) → notes ≡ [] → OnOk ended (notes ≡ [] → Keeps err_old err_new)
+    → status ≡ status_of ended → status ≡ 0 → Keeps err_old err_new
+quiet_done notes (Ok ending) status err_old err_new none quiet same zero = quiet none
+quiet_done notes (Err fault) status err_old err_new none quiet same zero = absurd (omega arith)
+
+threads_asked : (words : List Text) (t : Task) → AskFor words t → IsThreaded t → AskForThreads words
+threads_asked words (Live rounds) asks threaded = (rounds, asks)
+threads_asked words Run asks threaded = absurd threaded
+threads_asked words Steps asks threaded = absurd threaded
+threads_asked words (Alone h) asks threaded = absurd threaded
+threads_asked words Left asks threaded = absurd threaded
+threads_asked words Check asks threaded = absurd threaded
+threads_asked words (Draw from to) asks threaded = absurd threaded
+
+-- so nothing is told behind status 0 but by a run in threads
+pub quiet_unless_threads : (words : List Text) (t : Task) (notes : List ℕ) (ended : Result Ending Fault) (status : ℕ) (err_old err_new : Option (List ℕ)) → AskFor words t
+    → IsThreaded t ⊎ (notes ≡ []) → OnOk ended (notes ≡ [] → Keeps err_old err_new) → status ≡ status_of ended → status ≡ 0 → AskForThreads words ⊎ Keeps err_old err_new
+quiet_unless_threads words t notes ended status err_old err_new asks (inl threaded) quiet same zero = inl (threads_asked words t asks threaded)
+quiet_unless_threads words t notes ended status err_old err_new asks (inr none) quiet same zero = inr (quiet_done notes ended status err_old err_new none quiet same zero)
 
 -- a check that found bad lines was asked for, and reported
-reported : (words : List Text) (input : Option (List ℕ)) (t : Task) (old new : Option (List ℕ)) → AskFor words t
-    → IfSome input (λ text. Performs t text old new (Ok BadLines)) → IfSome input (λ text. AskFor words Check × IsReported text old new)
-reported words None t old new asks ends = tt
-reported words (Some text) t old new asks ends = (subst (λ (x : Task). AskFor words x) ends.0 asks, ends.1)
+reported : (words : List Text) (input : Option (List ℕ)) (t : Task) (notes : List ℕ) (old new : Option (List ℕ)) → AskFor words t
+    → IfSome input (λ text. Performs t text notes old new (Ok BadLines)) → IfSome input (λ text. AskFor words Check × IsReported text old new)
+reported words None t notes old new asks ends = tt
+reported words (Some text) t notes old new asks ends = (subst (λ (x : Task). AskFor words x) ends.0 asks, ends.1)
 
 -- a line that ended a run is the text's first bad line
-line_of : (input : Option (List ℕ)) (t : Task) (line : ℕ) (old new : Option (List ℕ)) → IfSome input (λ text. Performs t text old new (Err (Line line)))
+line_of : (input : Option (List ℕ)) (t : Task) (line : ℕ) (notes : List ℕ) (old new : Option (List ℕ)) → IfSome input (λ text. Performs t text notes old new (Err (Line line)))
     → IfSome input (λ text. (scenario_for t text ≡ Err line) × (t ≢ Check))
-line_of None t line old new ends = tt
-line_of (Some text) t line old new ends = (ends.0, ends.2)
+line_of None t line notes old new ends = tt
+line_of (Some text) t line notes old new ends = (ends.0, ends.2)
 
 -- an input that ended a run by its length is longer than one may be
-length_of : (input : Option (List ℕ)) (t : Task) (old new : Option (List ℕ)) → IfSome input (λ text. Performs t text old new (Err TooLong))
+length_of : (input : Option (List ℕ)) (t : Task) (notes : List ℕ) (old new : Option (List ℕ)) → IfSome input (λ text. Performs t text notes old new (Err TooLong))
     → IfSome input (λ text. longest_input < length text)
-length_of None t old new ends = tt
-length_of (Some text) t old new ends = ends.0
+length_of None t notes old new ends = tt
+length_of (Some text) t notes old new ends = ends.0
 
 -- callbacks that ended a run were more than the words allow
-late_of : (input : Option (List ℕ)) (t : Task) (rounds : ℕ) (old new : Option (List ℕ)) → IfSome input (λ text. Performs t text old new (Err (Rounds rounds)))
-    → IfSome input (λ text. (t ≡ Live rounds) × EndsLate text rounds)
-late_of None t rounds old new ends = tt
-late_of (Some text) t rounds old new ends = (ends.0, ends.2)
+late_of : (input : Option (List ℕ)) (t : Task) (rounds : ℕ) (notes : List ℕ) (old new : Option (List ℕ)) → IfSome input (λ text. Performs t text notes old new (Err (Rounds rounds)))
+    → IfSome input (λ text. (t ≡ Live rounds) × EndsLate text rounds notes)
+late_of None t rounds notes old new ends = tt
+late_of (Some text) t rounds notes old new ends = (ends.0, ends.2)
 
 -- a picture that is too wide was asked for
-wide_of : (input : Option (List ℕ)) (t : Task) (steps : ℕ) (old new : Option (List ℕ)) → IfSome input (λ text. Performs t text old new (Err (Wide steps)))
+wide_of : (input : Option (List ℕ)) (t : Task) (steps : ℕ) (notes : List ℕ) (old new : Option (List ℕ)) → IfSome input (λ text. Performs t text notes old new (Err (Wide steps)))
     → IfSome input (λ text. (most_drawn < steps) × Draws t)
-wide_of None t steps old new ends = tt
-wide_of (Some text) t steps old new ends = (ends.0, ends.2)
+wide_of None t steps notes old new ends = tt
+wide_of (Some text) t steps notes old new ends = (ends.0, ends.2)
 
 -- what is told of a task that ended so
-pub told_of : (words : List Text) (input : Option (List ℕ)) (t : Task) (ended : Result Ending Fault) (status : ℕ) (old new err_old err_new : Option (List ℕ))
-    → AskFor words t → IfSome input (λ text. Performs t text old new ended) → status ≡ status_of ended
-    → OnOk ended (Keeps err_old err_new) → IfErr ended (λ fault. AppendsSome (message_of fault) err_old err_new)
+pub told_of : (words : List Text) (input : Option (List ℕ)) (t : Task) (notes : List ℕ) (ended : Result Ending Fault) (status : ℕ) (old new err_old err_new : Option (List ℕ))
+    → AskFor words t → IfSome input (λ text. Performs t text notes old new ended) → IfErr ended (IsAlone notes) → status ≡ status_of ended
+    → OnOk ended (notes ≡ [] → Keeps err_old err_new) → (ended ≡ Ok BadLines → notes ≡ []) → IfErr ended (λ fault. AppendsSome (message_of fault ++ notes) err_old err_new)
     → status ≡ 1 → TellsWhy words input old new err_old err_new
-told_of words input t (Ok Good) status old new err_old err_new asks ends same quiet told one = absurd (omega arith)
-told_of words input t (Ok BadLines) status old new err_old err_new asks ends same quiet told one = inl (reported words input t old new asks ends, quiet)
-told_of words input t (Err (Line line)) status old new err_old err_new asks ends same quiet told one =
-    inr (Line line, (t, asks, line_of input t line old new ends), told)
-told_of words input t (Err Memory) status old new err_old err_new asks ends same quiet told one = inr (Memory, tt, told)
-told_of words input t (Err InputOutput) status old new err_old err_new asks ends same quiet told one = inr (InputOutput, tt, told)
-told_of words input t (Err TooLong) status old new err_old err_new asks ends same quiet told one =
-    inr (TooLong, (t, asks, length_of input t old new ends), told)
-told_of words input t (Err (Rounds rounds)) status old new err_old err_new asks ends same quiet told one =
-    inr (Rounds rounds, (t, asks, late_of input t rounds old new ends), told)
-told_of words input t (Err (Wide steps)) status old new err_old err_new asks ends same quiet told one =
-    inr (Wide steps, (t, asks, wide_of input t steps old new ends), told)
+told_of words input t notes (Ok Good) status old new err_old err_new asks ends bare same quiet none told one = absurd (omega arith)
+told_of words input t notes (Ok BadLines) status old new err_old err_new asks ends bare same quiet none told one = inl (reported words input t notes old new asks ends, quiet (none refl))
+told_of words input t notes (Err (Line line)) status old new err_old err_new asks ends bare same quiet none told one =
+    inr (Line line, notes, (t, asks, line_of input t line notes old new ends), bare, told)
+told_of words input t notes (Err Memory) status old new err_old err_new asks ends bare same quiet none told one = inr (Memory, notes, tt, bare, told)
+told_of words input t notes (Err InputOutput) status old new err_old err_new asks ends bare same quiet none told one = inr (InputOutput, notes, tt, bare, told)
+told_of words input t notes (Err TooLong) status old new err_old err_new asks ends bare same quiet none told one =
+    inr (TooLong, notes, (t, asks, length_of input t notes old new ends), bare, told)
+told_of words input t notes (Err (Rounds rounds)) status old new err_old err_new asks ends bare same quiet none told one =
+    inr (Rounds rounds, notes, (t, asks, late_of input t rounds notes old new ends), tt, told)
+told_of words input t notes (Err (Wide steps)) status old new err_old err_new asks ends bare same quiet none told one =
+    inr (Wide steps, notes, (t, asks, wide_of input t steps notes old new ends), bare, told)
+
+-- what is told of a fault of memory or of a stream, whatever the words are
+pub told_words : (words : List Text) (input : Option (List ℕ)) (fault : Fault) (old new err_old err_new : Option (List ℕ)) → IsOfRun fault → AppendsSome (message_of fault) err_old err_new → TellsWhy words input old new err_old err_new
+told_words words input (Line line) old new err_old err_new run told = absurd run
+told_words words input Memory old new err_old err_new run told = inr (Memory, [], tt, refl, told_front (message_of Memory) [] err_old err_new told)
+told_words words input InputOutput old new err_old err_new run told = inr (InputOutput, [], tt, refl, told_front (message_of InputOutput) [] err_old err_new told)
+told_words words input TooLong old new err_old err_new run told = absurd run
+told_words words input (Rounds rounds) old new err_old err_new run told = absurd run
+told_words words input (Wide steps) old new err_old err_new run told = absurd run
 
 -- words that are refused are bad
 pub words_are_bad : (words : List Text) (error : Error) → HasKind (fault_of grammar words) error

@@ -11,6 +11,8 @@ use Rattle.trace_scenario.specs.declared.line.Line.{Line}
 use Rattle.trace_scenario.specs.declared.line.Line.TheVariants.{Piece}
 use Rattle.trace_scenario.specs.Line.{line_of_text}
 use Rattle.trace_live.specs.Callbacks.{AreCallbacks}
+use Rattle.trace_live.specs.Unfinished.{unfinished_in}
+use Rattle.usb_left.specs.LeftText.{lines_left}
 use Rattle.trace_io.specs.Faults.{IsOfRun}
 use Rattle.trace_io.specs.Output.{AppendsSome}
 use Rattle.trace_io.specs.declared.fault.Fault.{Fault}
@@ -39,22 +41,28 @@ earlier (Some at) (Err line) = Err (min line at)
 abbrev pub lived_of : List ℕ → Result Scenario ℕ
 lived_of text = earlier (first_unlived 1 (slice_split (λ b. b == 10) text)) (scenario_of text)
 
--- what is written of a scenario that was run in threads: what its callbacks were told in some run over its devices, by handle and number
-abbrev pub AppendsCallbacks : Scenario → Option (List ℕ) → Option (List ℕ) → Type 0
-AppendsCallbacks s old new = (steps : List Step) × (lines : List Entry) × AreCallbacks s.setup steps lines × Appends old new (lines_text lines)
+-- the lines of what handles hadn't finished where a run of these steps ends
+abbrev pub unfinished_text : Scenario → List Step → List ℕ
+unfinished_text s steps = lines_left (unfinished_in s.setup steps)
 
--- a beginning of that
+-- what is written of a scenario that was run in threads, and what is to be told behind it: what its callbacks were told in some run over its devices, by handle and number; and what wasn't finished where that run ends
+abbrev pub AppendsCallbacks : Scenario → (notes : List ℕ) → Option (List ℕ) → Option (List ℕ) → Type 0
+AppendsCallbacks s notes old new =
+    (steps : List Step) × (lines : List Entry) × AreCallbacks s.setup steps lines × (notes ≡ unfinished_text s steps) × Appends old new (lines_text lines)
+
+-- a beginning of what is written
 abbrev pub AppendsSomeCallbacks : Scenario → Option (List ℕ) → Option (List ℕ) → Type 0
 AppendsSomeCallbacks s old new = (steps : List Step) × (lines : List Entry) × AreCallbacks s.setup steps lines × AppendsSome (lines_text lines) old new
 
--- more than so many callbacks are told something, in some run over the scenario's devices
-abbrev pub GoesOn : Scenario → ℕ → Type 0
-GoesOn s rounds = (steps : List Step) × (lines : List Entry) × AreCallbacks s.setup steps lines × (rounds < length lines)
+-- more than so many callbacks are told something, in some run over the scenario's devices; and this wasn't finished where it ends
+abbrev pub GoesOn : Scenario → ℕ → (notes : List ℕ) → Type 0
+GoesOn s rounds notes =
+    (steps : List Step) × (lines : List Entry) × AreCallbacks s.setup steps lines × (notes ≡ unfinished_text s steps) × (rounds < length lines)
 
--- a fault of a run in threads with so many callbacks at most: of memory or of a stream, or there are more
-abbrev pub IsOfLive : Scenario → ℕ → Fault → Type 0
-IsOfLive s rounds (Rounds told) = (told ≡ rounds) × GoesOn s rounds
-IsOfLive s rounds fault = IsOfRun fault
+-- a fault of a run in threads with so many callbacks at most, and what is to be told behind it: of memory or of a stream, or there are more
+abbrev pub IsOfLive : Scenario → ℕ → (notes : List ℕ) → Fault → Type 0
+IsOfLive s rounds notes (Rounds told) = (told ≡ rounds) × GoesOn s rounds notes
+IsOfLive s rounds notes fault = IsOfRun fault
 
 -- what may have been written, however it ends: a beginning of that, and nothing where a line is bad
 abbrev pub BeginsCallbacks : Result Scenario ℕ → Option (List ℕ) → Option (List ℕ) → Type 0

@@ -1,5 +1,5 @@
 -- What the program does.
-use Rattle.std.specs.Prelude.{◌≡◌, ◌≢◌, ◌≤◌, ◌<◌, ◌⊎◌, ℕ, length, ⊤, IfSome, List, [], Option, Result, Ok, Err}
+use Rattle.std.specs.Prelude.{◌≡◌, ◌≢◌, ◌≤◌, ◌<◌, ◌⊎◌, ◌++◌, ℕ, length, ⊤, IfSome, List, [], Option, Result, Ok, Err}
 use Rattle.std.specs.Io.KnownBytes.{Appends, Keeps}
 use Rattle.trace_io.specs.declared.fault.Fault.{Fault}
 use Rattle.trace_io.specs.declared.fault.Fault.TheVariants.{Line, Memory, InputOutput, TooLong, Rounds, Wide}
@@ -29,43 +29,48 @@ scenario_for task.Left text = scenario_of text
 scenario_for task.Check text = scenario_of text
 scenario_for (task.Draw from to) text = scenario_of text
 
--- what a task writes of the scenario of a text: all entries, perhaps behind their lines, those of one handle alone, what callbacks were told in threads, what is left behind, how much the scenario says, or a picture, of which no more is said
-abbrev pub Writes : Task → List ℕ → Scenario → Option (List ℕ) → Option (List ℕ) → Type 0
-Writes task.Run text s old new = Appends old new (run_text s)
-Writes task.Steps text s old new = Appends old new (steps_text text s)
-Writes (task.Alone h) text s old new = Appends old new (alone_text h s)
-Writes (task.Live rounds) text s old new = AppendsCallbacks s old new
-Writes task.Left text s old new = Appends old new (left_lines s)
-Writes task.Check text s old new = Appends old new (counts_line (counts_of s))
-Writes (task.Draw from to) text s old new = AppendsAny old new
+-- what a task writes of the scenario of a text: all entries, perhaps behind their lines, those of one handle alone, what callbacks were told in threads, what is left behind, how much the scenario says, or a picture, of which no more is said; and what is to be told behind it: of a run in threads what wasn't finished, and else nothing
+abbrev pub Writes : Task → List ℕ → Scenario → (notes : List ℕ) → Option (List ℕ) → Option (List ℕ) → Type 0
+Writes task.Run text s notes old new = Appends old new (run_text s) × (notes ≡ [])
+Writes task.Steps text s notes old new = Appends old new (steps_text text s) × (notes ≡ [])
+Writes (task.Alone h) text s notes old new = Appends old new (alone_text h s) × (notes ≡ [])
+Writes (task.Live rounds) text s notes old new = AppendsCallbacks s notes old new
+Writes task.Left text s notes old new = Appends old new (left_lines s) × (notes ≡ [])
+Writes task.Check text s notes old new = Appends old new (counts_line (counts_of s)) × (notes ≡ [])
+Writes (task.Draw from to) text s notes old new = AppendsAny old new × (notes ≡ [])
 
 -- what a task does that ends well: the text is a scenario of the longest length at most, and what the task makes of it is written
-abbrev pub IsDone : Task → List ℕ → Option (List ℕ) → Option (List ℕ) → Type 0
-IsDone t text old new = (s : Scenario) × (scenario_for t text ≡ Ok s) × (length text ≤ longest_input) × Writes t text s old new
+abbrev pub IsDone : Task → List ℕ → (notes : List ℕ) → Option (List ℕ) → Option (List ℕ) → Type 0
+IsDone t text notes old new = (s : Scenario) × (scenario_for t text ≡ Ok s) × (length text ≤ longest_input) × Writes t text s notes old new
 
 -- what a check does that finds bad lines: a line with the number of each is written, and then how much the good ones say
 abbrev pub IsReported : List ℕ → Option (List ℕ) → Option (List ℕ) → Type 0
 IsReported text old new = (bad_lines text ≢ []) × (length text ≤ longest_input) × AppendsReport (bad_lines text) (counts_of (good_lines text)) old new
 
--- the scenario of a text that is run in threads goes on for more callbacks than so many
-abbrev pub EndsLate : List ℕ → ℕ → Type 0
-EndsLate text rounds = (s : Scenario) × (lived_of text ≡ Ok s) × GoesOn s rounds
+-- the scenario of a text that is run in threads goes on for more callbacks than so many; and this wasn't finished then
+abbrev pub EndsLate : List ℕ → ℕ → (notes : List ℕ) → Type 0
+EndsLate text rounds notes = (s : Scenario) × (lived_of text ≡ Ok s) × GoesOn s rounds notes
 
 -- a task draws
 abbrev pub Draws : Task → Type 0
 Draws (task.Draw from to) = ⊤
 Draws t = ⊥
 
--- how a task over a text ends: it is done; or it is a check, and the bad lines are reported; or the text's first bad line is told of and nothing is written; or the text is too long, and nothing is written; or it is run in threads, and more callbacks are told something than may be, and nothing is written; or it draws, there are too many steps, and nothing is written; or a stream or memory failed
-abbrev pub Performs : Task → List ℕ → Option (List ℕ) → Option (List ℕ) → Result Ending Fault → Type 0
-Performs t text old new (Ok Good) = IsDone t text old new
-Performs t text old new (Ok BadLines) = (t ≡ task.Check) × IsReported text old new
-Performs t text old new (Err (Line line)) = (scenario_for t text ≡ Err line) × Keeps old new × (t ≢ task.Check)
-Performs t text old new (Err Memory) = ⊤
-Performs t text old new (Err InputOutput) = ⊤
-Performs t text old new (Err TooLong) = (longest_input < length text) × Keeps old new
-Performs t text old new (Err (Rounds rounds)) = (t ≡ task.Live rounds) × Keeps old new × EndsLate text rounds
-Performs t text old new (Err (Wide steps)) = (most_drawn < steps) × Keeps old new × Draws t
+-- how a task over a text ends, and what is to be told behind that: it is done; or it is a check, and the bad lines are reported; or the text's first bad line is told of and nothing is written; or the text is too long, and nothing is written; or it is run in threads, and more callbacks are told something than may be, and nothing is written; or it draws, there are too many steps, and nothing is written; or a stream or memory failed
+abbrev pub Performs : Task → List ℕ → (notes : List ℕ) → Option (List ℕ) → Option (List ℕ) → Result Ending Fault → Type 0
+Performs t text notes old new (Ok Good) = IsDone t text notes old new
+Performs t text notes old new (Ok BadLines) = (t ≡ task.Check) × IsReported text old new
+Performs t text notes old new (Err (Line line)) = (scenario_for t text ≡ Err line) × Keeps old new × (t ≢ task.Check)
+Performs t text notes old new (Err Memory) = ⊤
+Performs t text notes old new (Err InputOutput) = ⊤
+Performs t text notes old new (Err TooLong) = (longest_input < length text) × Keeps old new
+Performs t text notes old new (Err (Rounds rounds)) = (t ≡ task.Live rounds) × Keeps old new × EndsLate text rounds notes
+Performs t text notes old new (Err (Wide steps)) = (most_drawn < steps) × Keeps old new × Draws t
+
+-- nothing is to be told behind a fault, but where a run in threads goes on for too long
+abbrev pub IsAlone : (notes : List ℕ) → Fault → Type 0
+IsAlone notes (Rounds rounds) = ⊤
+IsAlone notes fault = notes ≡ []
 
 -- what a task that prints such lines may have written, however it ends: a beginning of their text, and nothing where a line is bad
 abbrev pub BeginsEntries : (Scenario → List ℕ) → Result Scenario ℕ → Option (List ℕ) → Option (List ℕ) → Type 0
@@ -87,20 +92,33 @@ Begins task.Left text old new = BeginsEntries left_lines (scenario_of text) old 
 Begins task.Check text old new = AppendsSomeReport (bad_lines text) (counts_of (good_lines text)) old new
 Begins (task.Draw from to) text old new = BeginsPicture (scenario_of text) old new
 
--- whether this fault may be what ended a run with these words over this input: a line is one where the words ask for something else than a check and it is the first that is bad for that; an input is too long where they ask for a task and it is; callbacks are too many where they ask for so many at most and a run has more; steps are too many where they ask for a picture; memory and streams may fail always
-abbrev pub MayEnd : List Text → Option (List ℕ) → Fault → Type 0
-MayEnd words input (Line line) = (t : Task) × AskFor words t × IfSome input (λ text. (scenario_for t text ≡ Err line) × (t ≢ task.Check))
-MayEnd words input Memory = ⊤
-MayEnd words input InputOutput = ⊤
-MayEnd words input TooLong = (t : Task) × AskFor words t × IfSome input (λ text. longest_input < length text)
-MayEnd words input (Rounds rounds) = (t : Task) × AskFor words t × IfSome input (λ text. (t ≡ task.Live rounds) × EndsLate text rounds)
-MayEnd words input (Wide steps) = (t : Task) × AskFor words t × IfSome input (λ text. (most_drawn < steps) × Draws t)
+-- whether this fault may be what ended a run with these words over this input, and this is to be told behind it: a line is one where the words ask for something else than a check and it is the first that is bad for that; an input is too long where they ask for a task and it is; callbacks are too many where they ask for so many at most and a run has more, of which then it is told what wasn't finished; steps are too many where they ask for a picture; memory and streams may fail always
+abbrev pub MayEnd : List Text → Option (List ℕ) → (notes : List ℕ) → Fault → Type 0
+MayEnd words input notes (Line line) = (t : Task) × AskFor words t × IfSome input (λ text. (scenario_for t text ≡ Err line) × (t ≢ task.Check))
+MayEnd words input notes Memory = ⊤
+MayEnd words input notes InputOutput = ⊤
+MayEnd words input notes TooLong = (t : Task) × AskFor words t × IfSome input (λ text. longest_input < length text)
+MayEnd words input notes (Rounds rounds) = (t : Task) × AskFor words t × IfSome input (λ text. (t ≡ task.Live rounds) × EndsLate text rounds notes)
+MayEnd words input notes (Wide steps) = (t : Task) × AskFor words t × IfSome input (λ text. (most_drawn < steps) × Draws t)
 
--- what stands behind status 1: a check reports bad lines, and nothing is told; or of the message of a fault that may be what ended the run a beginning is told
+-- what stands behind status 0: of a task that is done, a beginning of what is to be told behind it is told
+abbrev pub TellsRest : Task → List ℕ → Option (List ℕ) → Option (List ℕ) → Option (List ℕ) → Option (List ℕ) → Type 0
+TellsRest t text old new err_old err_new = (notes : List ℕ) × IsDone t text notes old new × AppendsSome notes err_old err_new
+
+-- what stands behind status 1: a check reports bad lines, and nothing is told; or of the message of a fault that may be what ended the run, and of what is to be told behind it, a beginning is told
 abbrev pub TellsWhy : List Text → Option (List ℕ) → Option (List ℕ) → Option (List ℕ) → Option (List ℕ) → Option (List ℕ) → Type 0
 TellsWhy words input old new err_old err_new =
     (IfSome input (λ text. AskFor words task.Check × IsReported text old new) × Keeps err_old err_new)
-    ⊎ ((fault : Fault) × MayEnd words input fault × AppendsSome (message_of fault) err_old err_new)
+    ⊎ ((fault : Fault) × (notes : List ℕ) × MayEnd words input notes fault × IsAlone notes fault × AppendsSome (message_of fault ++ notes) err_old err_new)
+
+-- words ask for a run in threads
+abbrev pub AskForThreads : List Text → Type 0
+AskForThreads words = (rounds : ℕ) × AskFor words (task.Live rounds)
+
+-- a task is a run in threads
+abbrev pub IsThreaded : Task → Type 0
+IsThreaded (task.Live rounds) = ⊤
+IsThreaded t = ⊥
 
 -- the status of a task that ended so
 abbrev pub status_of : Result Ending Fault → ℕ

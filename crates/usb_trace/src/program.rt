@@ -1,6 +1,6 @@
 //! The program's body, over any reader and writers.
 
-ghost use Rattle.std.specs.Prelude.{◌≡◌, ◌≢◌, ◌≤◌, ◌⊎◌, [], IfSome, IfErr, IfOk, OnOk, length};
+ghost use Rattle.std.specs.Prelude.{◌≡◌, ◌≢◌, ◌≤◌, ◌⊎◌, ◌++◌, [], IfSome, IfErr, IfOk, Ok, OnOk, length};
 ghost use Rattle.std.specs.Io.KnownBytes.{Keeps};
 ghost use Rattle.trace_scenario.specs.Findings.{bad_lines};
 ghost use Rattle.trace_scenario.specs.Words.{words_of};
@@ -11,8 +11,9 @@ ghost use Rattle.trace_io.specs.Faults.{message_of, IsOfRun};
 ghost use Rattle.trace_io.specs.declared.fault.Fault.{Fault};
 ghost use Rattle.trace_io.specs.Input.{longest_input};
 ghost use Rattle.trace_io.specs.Output.{AppendsSome};
-ghost use Rattle.usb_trace.specs.Program.{status_of, Begins, IsDone, IsSilentAtBad, Performs, TellsWhy};
+ghost use Rattle.usb_trace.specs.Program.{status_of, AskForThreads, Begins, IsAlone, IsSilentAtBad, IsThreaded, Performs, TellsRest, TellsWhy};
 ghost use Rattle.trace_io.specs.declared.words.Task.{Task};
+ghost use Rattle.trace_run.specs.declared.tasks.Ending.TheVariants.{BadLines};
 ghost use Rattle.trace_io.specs.declared.words.Task.TheVariants.{Check, Steps};
 
 use crate::live::live;
@@ -23,7 +24,7 @@ use std::io::{Read, Write};
 use std::sync::Wait;
 use std::thread::Threads;
 use trace_io::print::print_findings;
-use trace_io::{Fault, Task, read_whole, read_words};
+use trace_io::{Fault, Task, read_whole, read_words, write_bytes};
 use trace_run::{Ending, draw_run, print_left, print_steps, run, run_alone};
 use trace_scenario::{Lined, Scenario, check, read_lined, read_scenario};
 
@@ -35,8 +36,8 @@ const BAD_WORDS: u8 = 2;
 
 /// Runs the program on its words, of which the first is its name, and its input, and answers its status: 0, or 1 where
 /// it ended early or a check found bad lines, or 2 for bad words. However a task ends, what it wrote is a beginning of
-/// its text. Of a fault that ended it, the message stands on standard error, as far as that takes it. The threads of a
-/// run in threads are those of `rt`.
+/// its text. Of a fault that ended it, the message stands on standard error, as far as that takes it; and behind it, or alone, what
+/// handles hadn't finished of a run in threads. The threads of that are those of `rt`.
 pub fn trace<T: Threads + Wait + Sync, R: Read, W: Write, E: Write>(
     rt: &T,
     alloc: Global,
@@ -47,9 +48,9 @@ pub fn trace<T: Threads + Wait + Sync, R: Read, W: Write, E: Write>(
 ) -> u8
     ensures status { result ≤ 2 }
     ensures done { result ≡ 0 → ((task : Task) × AskFor (words_of words.now) task
-        × IfSome (R.remaining input.old) (λ text. IsDone task text (W.contents out.old) (W.contents out.new)))
+        × IfSome (R.remaining input.old) (λ text. TellsRest task text (W.contents out.old) (W.contents out.new) (E.contents err.old) (E.contents err.new)))
         ⊎ (AskForHelp (words_of words.now) × (input.new ≡ input.old)) }
-    ensures quiet { result ≡ 0 → Keeps (E.contents err.old) (E.contents err.new) }
+    ensures quiet { result ≡ 0 → AskForThreads (words_of words.now) ⊎ Keeps (E.contents err.old) (E.contents err.new) }
     ensures refused { result ≡ 2 → AreBad (words_of words.now)
         × Keeps (W.contents out.old) (W.contents out.new) × (input.new ≡ input.old) }
     ensures silent { IfSome (R.remaining input.old) (λ text.
@@ -64,14 +65,16 @@ pub fn trace<T: Threads + Wait + Sync, R: Read, W: Write, E: Write>(
 {
     match read_words(alloc, words) {
         Ok(task) => {
-            let ended = perform(rt, alloc, task, input, out);
-            status_of(ended, err)
+            let mut notes = Vec::new(alloc);
+            let ended = perform(rt, alloc, task, input, out, &mut notes);
+            status_of(ended, notes.as_slice(), err)
         }
         Err(error) => answer(&error, out, err),
     }
 }
 
 /// The status of words that ask for no task: help is given where they ask for it; else it is said why not.
+#[tactic(auto, using(crate::proofs::Begun::told_alone))]
 fn answer<W: Write, E: Write>(error: &Error, out: &mut W, err: &mut E) -> u8
     ensures status { result ≤ 2 }
     ensures helped { result ≡ 0 → (kind_of error.now ≡ ErrorKind.DisplayHelp) × Keeps (E.contents err.old) (E.contents err.new) }
@@ -80,29 +83,48 @@ fn answer<W: Write, E: Write>(error: &Error, out: &mut W, err: &mut E) -> u8
     ensures told { result ≡ 1 → (fault : Fault) × IsOfRun fault × AppendsSome (message_of fault) (E.contents err.old) (E.contents err.new) }
 {
     match error.kind() {
-        ErrorKind::OutOfMemory => status_of(Err(Fault::Memory), err),
-        ErrorKind::DisplayHelp => status_of(help(out, error), err),
+        ErrorKind::OutOfMemory => status_of(Err(Fault::Memory), &[], err),
+        ErrorKind::DisplayHelp => status_of(help(out, error), &[], err),
         _ => refuse(err, error),
     }
 }
 
-/// The status of a task that ended so. A fault is told.
-fn status_of<E: Write>(ended: Result<Ending, Fault>, err: &mut E) -> u8
+/// The status of a task that ended so. A fault is told, and the notes behind it, or alone where there is none.
+fn status_of<E: Write>(ended: Result<Ending, Fault>, notes: &[u8], err: &mut E) -> u8
     ensures status { result ≡ status_of ended }
-    ensures quiet { OnOk ended (Keeps (E.contents err.old) (E.contents err.new)) }
-    ensures told { IfErr ended (λ fault. AppendsSome (message_of fault) (E.contents err.old) (E.contents err.new)) }
+    ensures noted { OnOk ended (AppendsSome notes.now (E.contents err.old) (E.contents err.new)) }
+    ensures quiet { OnOk ended (notes.now ≡ [] → Keeps (E.contents err.old) (E.contents err.new)) }
+    ensures told { IfErr ended (λ fault. AppendsSome (message_of fault ++ notes.now) (E.contents err.old) (E.contents err.new)) }
 {
     match ended {
-        Ok(Ending::Good) => 0,
-        Ok(Ending::BadLines) => FAILED,
+        Ok(Ending::Good) => {
+            tell_notes(notes, err);
+            0
+        }
+        Ok(Ending::BadLines) => {
+            tell_notes(notes, err);
+            FAILED
+        }
         Err(fault) => {
-            let _ = fault.tell(err);
+            if let Ok(()) = fault.tell(err) {
+                tell_notes(notes, err);
+            }
             FAILED
         }
     }
 }
 
-/// Reads the input and does the task.
+/// Tells the notes, if there are any. The status is the same where they can't be told.
+fn tell_notes<E: Write>(notes: &[u8], err: &mut E)
+    ensures told { AppendsSome notes.now (E.contents err.old) (E.contents err.new) }
+    ensures quiet { notes.now ≡ [] → Keeps (E.contents err.old) (E.contents err.new) }
+{
+    if !notes.is_empty() {
+        let _ = write_bytes(err, notes);
+    }
+}
+
+/// Reads the input and does the task. What is to be told behind all else is put into the notes.
 #[tactic(auto, using(crate::proofs::Begun::nothing_begun))]
 fn perform<T: Threads + Wait + Sync, R: Read, W: Write>(
     rt: &T,
@@ -110,8 +132,13 @@ fn perform<T: Threads + Wait + Sync, R: Read, W: Write>(
     task: Task,
     input: &mut R,
     out: &mut W,
+    notes: &mut Vec<u8>,
 ) -> Result<Ending, Fault>
-    ensures ends { IfSome (R.remaining input.old) (λ text. Performs task text (W.contents out.old) (W.contents out.new) result) }
+    requires { notes.old.items ≡ [] }
+    ensures ends { IfSome (R.remaining input.old) (λ text. Performs task text notes.new.items (W.contents out.old) (W.contents out.new) result) }
+    ensures quiet { IsThreaded task ⊎ (notes.new.items ≡ []) }
+    ensures alone { IfErr result (IsAlone notes.new.items) }
+    ensures bad_lines { result ≡ Ok BadLines → notes.new.items ≡ [] }
     ensures silent { IfSome (R.remaining input.old) (λ text. task ≢ Check → IsSilentAtBad text (W.contents out.old) (W.contents out.new)) }
     ensures begun { IfSome (R.remaining input.old) (λ text. Begins task text (W.contents out.old) (W.contents out.new)) }
 {
@@ -124,7 +151,7 @@ fn perform<T: Threads + Wait + Sync, R: Read, W: Write>(
             let scenario = read_scenario(alloc, text.as_slice())?;
             run_alone(alloc, scenario, setup, h, out)
         }
-        Task::Live(rounds) => live(rt, alloc, text.as_slice(), rounds, out),
+        Task::Live(rounds) => live(rt, alloc, text.as_slice(), rounds, out, notes),
         Task::Left => print_left(alloc, read_scenario(alloc, text.as_slice())?, out),
         Task::Check => report(alloc, text.as_slice(), out),
         Task::Draw { from, to } => {
@@ -136,7 +163,7 @@ fn perform<T: Threads + Wait + Sync, R: Read, W: Write>(
 /// Checks a text: prints its bad lines, and how much the good ones say.
 fn report<W: Write>(alloc: Global, text: &[u8], out: &mut W) -> Result<Ending, Fault>
     requires { length text.now ≤ longest_input }
-    ensures ends { Performs Check text.now (W.contents out.old) (W.contents out.new) result }
+    ensures ends { Performs Check text.now [] (W.contents out.old) (W.contents out.new) result }
     ensures begun { Begins Check text.now (W.contents out.old) (W.contents out.new) }
 {
     let findings = check(alloc, text)?;
@@ -150,7 +177,7 @@ fn report<W: Write>(alloc: Global, text: &[u8], out: &mut W) -> Result<Ending, F
 /// Prints the entries of a text's scenario, each behind the number and the text of its step's line.
 fn run_steps<W: Write>(alloc: Global, text: &[u8], out: &mut W) -> Result<Ending, Fault>
     requires { length text.now ≤ longest_input }
-    ensures ends { Performs Steps text.now (W.contents out.old) (W.contents out.new) result }
+    ensures ends { Performs Steps text.now [] (W.contents out.old) (W.contents out.new) result }
     ensures silent { IsSilentAtBad text.now (W.contents out.old) (W.contents out.new) }
     ensures begun { Begins Steps text.now (W.contents out.old) (W.contents out.new) }
 {

@@ -9,5 +9,5 @@ returns-in_err-read_lived-clause-begun g c = no_callbacks (lived_of c.args.text.
 
 pub returns-clause-ends : goal.returns-clause-ends
 returns-clause-ends g c =
-    lived c.args.text.now c.args.rounds c.in_ok-read_lived.field-0 (g.W.Write.contents c.args.out.now) (g.W.Write.contents c.live_scenario.new.out) c.live_scenario.result
-    c.in_ok-read_lived.ensures.scenario c.requires c.live_scenario.ensures.lines c.live_scenario.ensures.good c.live_scenario.ensures.fault c.live_scenario.ensures.silent
+    lived c.args.text.now c.args.rounds c.in_ok-read_lived.field-0 c.live_scenario.new.notes.items (g.W.Write.contents c.args.out.now) (g.W.Write.contents c.live_scenario.new.out) c.live_scenario.result
+    c.in_ok-read_lived.ensures.scenario c.requires.short c.live_scenario.ensures.lines c.live_scenario.ensures.good c.live_scenario.ensures.fault c.live_scenario.ensures.silent

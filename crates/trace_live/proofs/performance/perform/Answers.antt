@@ -1,0 +1,16 @@
+-- The steps are those of the journal that the library left.
+use Rattle.std.proofs.Common.{rules}
+use Rattle.usb_core.specs.Public.{setup_of}
+use Rattle.usb_journal.specs.Booked.{steps_of, world_where}
+use Rattle.trace_live.proofs.performance.perform.Goals as goal
+
+pub returns : goal.returns
+returns g c =
+    let setup = setup_of c.args.setup in
+    let journal = c.in_ok-kept.field-0.journal in (
+      steps_of journal,
+      record {
+        callbacks = search rules;
+        left = c.in_ok-unfinished_in.ensures setup (world_where setup journal) c.in_ok-kept.ensures.run.is_shown;
+      },
+    )

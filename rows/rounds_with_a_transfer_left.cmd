@@ -1,0 +1,1 @@
+live --rounds 100
