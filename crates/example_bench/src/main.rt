@@ -19,7 +19,7 @@ use crate::tester::{Role, TRANSFERS, Tester};
 use anyhow::{Result, anyhow};
 use example_devices::{Reader, devices};
 use std::alloc::Global;
-use std::sync::Wait;
+use std::sync::{Arc, Wait};
 use std::thread::Threads;
 use tirnouch::{Journal, Refused, Setup, TableDevice, live};
 
@@ -36,10 +36,10 @@ const UNPLUGGED: u8 = 3;
 const PACKETS: usize = 80;
 
 /// The counts of the handles.
-fn tallies(alloc: Global) -> Result<Vec<Tally>> {
+fn tallies(alloc: Global) -> Result<Vec<Arc<Tally>>> {
     let mut tallies = Vec::new(alloc);
     for _ in 0..HANDLES {
-        tallies.push(Tally::new())?;
+        tallies.push(Arc::new(alloc, Tally::new())?)?;
     }
     Ok(tallies)
 }
@@ -54,17 +54,20 @@ fn second_of(h: u8) -> Role {
 }
 
 /// The threads: two for each handle.
-fn testers(alloc: Global, tallies: &[Tally]) -> Result<Vec<Tester<'_>>> {
+fn testers(alloc: Global, tallies: &[Arc<Tally>]) -> Result<Vec<Tester>> {
     let mut testers = Vec::new(alloc);
     for (h, tally) in (0..HANDLES).zip(tallies) {
         let reader = Reader::new(h, h / 2, h % 2)?;
-        for role in [Role::Opens, second_of(h)] {
-            testers.push(Tester {
-                reader,
-                role,
-                tally,
-            })?;
-        }
+        testers.push(Tester {
+            reader,
+            role: Role::Opens,
+            tally: tally.clone()?,
+        })?;
+        testers.push(Tester {
+            reader,
+            role: second_of(h),
+            tally: tally.clone()?,
+        })?;
     }
     Ok(testers)
 }
@@ -80,7 +83,7 @@ fn bench<R: Threads + Wait + Sync>(
     rt: &R,
     alloc: Global,
     setup: Setup<TableDevice>,
-    testers: Vec<Tester<'_>>,
+    testers: Vec<Tester>,
 ) -> Result<Vec<Result<u64, Refused>>> {
     let lived = live::<_, TableDevice, Journal, _, _>(rt, alloc, setup, testers)?;
     Ok(lived.left)
@@ -90,7 +93,7 @@ fn bench<R: Threads + Wait + Sync>(
 fn accepted_of(alloc: Global, left: Vec<Result<u64, Refused>>) -> Result<Vec<u64>> {
     let mut accepted = Vec::new(alloc);
     for count in left {
-        accepted.push(count?)?;
+        accepted.push(count.map_err(|why| anyhow!("refused: {why}"))?)?;
     }
     Ok(accepted)
 }
@@ -109,16 +112,16 @@ fn sum(counts: &[u64]) -> u64 {
 fn is_whole(h: u8, tally: &Tally, accepted: u64) -> Result<()> {
     let (called, completed) = tally.counts();
     if called != accepted || !tally.is_right() {
-        return Err(anyhow!("a transfer was not called back, or one out of its order"));
+        return Err(anyhow!("handle {h}: {accepted} transfers, {called} callbacks"));
     }
     if h / 2 != UNPLUGGED && completed != 2 * TRANSFERS {
-        return Err(anyhow!("a transfer was not completed"));
+        return Err(anyhow!("handle {h}: {completed} transfers completed"));
     }
     Ok(())
 }
 
 /// The same of each handle.
-fn are_whole(tallies: &[Tally], accepted: &[u64]) -> Result<()> {
+fn are_whole(tallies: &[Arc<Tally>], accepted: &[u64]) -> Result<()> {
     for (h, (tally, pair)) in (0..HANDLES).zip(tallies.iter().zip(accepted.chunks(2))) {
         is_whole(h, tally, sum(pair))?;
     }

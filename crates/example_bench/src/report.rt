@@ -1,5 +1,7 @@
 //! What comes of the transfers of one handle: their callback, and the count that it keeps.
 
+use std::alloc::AllocError;
+use std::sync::Arc;
 use std::sync::atomic::{AtomicBool, AtomicU64, Ordering};
 use tirnouch::{Callback, Returned, Status, Verdict};
 
@@ -51,12 +53,20 @@ impl Tally {
 
 /// The callback of each transfer: it counts.
 #[derive(Drop)]
-pub struct Report<'a> {
-    /// Where it counts.
-    pub tally: &'a Tally,
+pub struct Report {
+    tally: Arc<Tally>,
 }
 
-impl<'a> Callback for Report<'a> {
+impl Report {
+    /// The callback that counts here.
+    pub fn new(tally: &Arc<Tally>) -> Result<Report, AllocError> {
+        Ok(Report {
+            tally: tally.clone()?,
+        })
+    }
+}
+
+impl Callback for Report {
     ghost use Rattle.std.specs.Prelude.{⊤, true};
     ghost use Rattle.usb_model.specs.declared.verdict.Rule.TheVariants.{Free};
 
@@ -66,8 +76,8 @@ impl<'a> Callback for Report<'a> {
 
     ghost may_answer = { λ c r v. ⊤ };
 
-    fn call(self, returned: Returned) -> (Verdict, Option<Report<'a>>) {
-        let tally = self.tally;
+    fn call(self, returned: Returned) -> (Verdict, Option<Report>) {
+        let tally = &self.tally;
         if returned.status == Status::Completed {
             tally.completed.fetch_add(1, Ordering::SeqCst);
         }

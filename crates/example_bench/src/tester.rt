@@ -1,8 +1,8 @@
 //! A thread of the bench.
 
 use crate::report::{Report, Tally};
-use example_devices::{Reader, open_and_claim, submit};
-use std::sync::Wait;
+use example_devices::{Reader, no_memory, open_and_claim, submit};
+use std::sync::{Arc, Wait};
 use std::thread;
 use tirnouch::{Caller, Device, Driver, Library, Naming, Recorder, Refused};
 
@@ -28,16 +28,16 @@ pub enum Role {
 
 /// A thread of the bench. Two share a handle.
 #[derive(Drop)]
-pub struct Tester<'a> {
+pub struct Tester {
     /// The handle and its endpoint.
     pub reader: Reader,
     /// What the thread does beside.
     pub role: Role,
     /// What came of the handle's transfers.
-    pub tally: &'a Tally,
+    pub tally: Arc<Tally>,
 }
 
-impl<'a> Tester<'a> {
+impl Tester {
     /// Waits until the handle has its device and interface.
     fn wait(&self) -> Result<(), Refused> {
         for _ in 0..TURNS {
@@ -53,7 +53,7 @@ impl<'a> Tester<'a> {
     fn start<L: Naming, D: Device, J: Recorder, R: Wait>(
         &self,
         rt: &R,
-        library: &Library<L, Report<'a>, D, J>,
+        library: &Library<L, Report, D, J>,
         caller: &mut Caller<L>,
     ) -> Result<(), Refused> {
         if self.role != Role::Opens {
@@ -68,10 +68,10 @@ impl<'a> Tester<'a> {
     fn submit_one<L: Naming, D: Device, J: Recorder, R: Wait>(
         &self,
         rt: &R,
-        library: &Library<L, Report<'a>, D, J>,
+        library: &Library<L, Report, D, J>,
         caller: &mut Caller<L>,
     ) -> Result<u64, Refused> {
-        let report = Report { tally: self.tally };
+        let report = Report::new(&self.tally).map_err(no_memory)?;
         let request = self.reader.read(BYTES, 0);
         submit(rt, library, caller, self.reader.h, request, report)
     }
@@ -80,7 +80,7 @@ impl<'a> Tester<'a> {
     fn submit<L: Naming, D: Device, J: Recorder, R: Wait>(
         &self,
         rt: &R,
-        library: &Library<L, Report<'a>, D, J>,
+        library: &Library<L, Report, D, J>,
         caller: &mut Caller<L>,
     ) -> Result<bool, Refused> {
         for _ in 0..TURNS {
@@ -98,7 +98,7 @@ impl<'a> Tester<'a> {
     fn unplug<L: Naming, D: Device, J: Recorder, R: Wait>(
         &self,
         rt: &R,
-        library: &Library<L, Report<'a>, D, J>,
+        library: &Library<L, Report, D, J>,
         caller: &mut Caller<L>,
     ) -> Result<(), Refused> {
         match library.unplug(rt, caller, self.reader.dev) {
@@ -106,14 +106,19 @@ impl<'a> Tester<'a> {
             Err(_) => Err(Refused::NoMem),
         }
     }
+}
+
+impl Driver<Report> for Tester {
+    type Left = Result<u64, Refused>;
 
     /// Submits its transfers while the device is there: how many were accepted.
-    fn test<L: Naming, D: Device, J: Recorder, R: Wait>(
-        &self,
+    fn drive<L: Naming, D: Device, J: Recorder, R: Wait>(
+        self,
         rt: &R,
-        library: &Library<L, Report<'a>, D, J>,
+        library: &Library<L, Report, D, J>,
         caller: &mut Caller<L>,
     ) -> Result<u64, Refused> {
+        self.start(rt, library, caller)?;
         for accepted in 0..TRANSFERS {
             if self.role == Role::Unplugs && accepted == TRANSFERS / 2 {
                 self.unplug(rt, library, caller)?;
@@ -123,20 +128,5 @@ impl<'a> Tester<'a> {
             }
         }
         Ok(TRANSFERS)
-    }
-}
-
-impl<'a> Driver<Report<'a>> for Tester<'a> {
-    type Left = Result<u64, Refused>;
-
-    /// How many transfers were accepted.
-    fn drive<L: Naming, D: Device, J: Recorder, R: Wait>(
-        self,
-        rt: &R,
-        library: &Library<L, Report<'a>, D, J>,
-        caller: &mut Caller<L>,
-    ) -> Result<u64, Refused> {
-        self.start(rt, library, caller)?;
-        self.test(rt, library, caller)
     }
 }
