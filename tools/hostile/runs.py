@@ -1,6 +1,7 @@
 """How a word of the program is run over an input, and what a run comes to."""
 import collections
 import pathlib
+import re
 
 from refuse_allocations import NOTHING, Room, said
 
@@ -9,6 +10,8 @@ ROWS = ROOT / "rows"
 # What `usbtrace` says where a stream fails, and where `live` would call more callbacks than it may.
 FAILED = b"usbtrace: input or output failed\n"
 TOO_MANY_ROUNDS = b"usbtrace: more than %d callbacks are called: --rounds sets how many may be\n"
+# What `live` lists of what never completes.
+UNFINISHED = re.compile(rb"(h\d+ ep [0-9a-f]{2} (transfer \d+ (waits|ended)|(order|event|result|callback) [^\n]*)\n)*")
 # Interface 0 with the bulk endpoints 81 and 02, interface 1 with the interrupt endpoints 83 and 04.
 CONFIG = "0902370002010080320904000002ff00000007058102080000070502020800000904010002ff0000000705830308000107050403040001"
 
@@ -48,5 +51,6 @@ def is_refusal(it, k):
 
 
 def has_too_many(it, rounds):
-    """Whether `live` would have called more callbacks than so many, and printed nothing."""
-    return (it.status, it.out, it.err) == (1, b"", TOO_MANY_ROUNDS % rounds)
+    """Whether `live` would have called more callbacks than so many, and printed nothing; behind that it lists what isn't finished."""
+    told = TOO_MANY_ROUNDS % rounds
+    return (it.status, it.out) == (1, b"") and it.err.startswith(told) and UNFINISHED.fullmatch(it.err, len(told)) is not None

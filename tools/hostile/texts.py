@@ -3,7 +3,7 @@ import random
 import re
 import xml.etree.ElementTree
 
-from runs import Part, has_too_many, is_refusal, wrong_unless
+from runs import UNFINISHED, Part, has_too_many, is_refusal, wrong_unless
 from scenarios import damaged, scenario
 
 # How many texts the gate tries of each part.
@@ -64,8 +64,10 @@ def is_picture(text):
 
 def is_taken(word, it, run, given):
     """Whether a run of a good scenario ended well, and what it printed agrees with what `run` did."""
-    if (it.status, it.err) != (0, b""):
-        return word == LIVE and has_too_many(it, ROUNDS)
+    if word == LIVE and it.status:
+        return has_too_many(it, ROUNDS)
+    if it.status or not (UNFINISHED.fullmatch(it.err) if word == LIVE else it.err == b""):
+        return False
     if word in SHAPES:
         return re.fullmatch(SHAPES[word], it.out) is not None
     if word.startswith("alone"):

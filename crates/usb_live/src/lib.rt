@@ -1,20 +1,25 @@
 //! A library that lives: its two workers and some drivers beside them, each in a thread of its own.
 //!
-//! The one promise: what is kept of the journal is that of the definitions' run of its steps over the devices that were given.
+//! The one promise: what is kept of the journal is that of the definitions' run of its steps over the devices that were given, and each of
+//! its places is that of a worker, by what its look showed, or of a driver, by what it may make.
 //!
 //! # Files
 //!
 //! - `driver.rt`, `gates.rt`: what a driver is; the gates of both workers
 //! - `life.rt`: the library from its opening to its end
 //! - `threads.rt`, `seat.rt`: the threads; a driver with its caller, on its way into one and back
+//! - `promises.rt`: what is promised of each thread: what comes back, by what went in
 //! - `calls.rt`: a handle's step, by the call that it is
-//! - specs/Life, Steps: what is left; which steps a handle makes by a call of its own
+//! - specs/Life, Steps: what is left, and who made it; which steps a handle makes by a call of its own
+//! - proofs/Homes: what comes back of one thread more
 //!
 //! # Contracts
 //!
 //! - `live`, `live_gated` of `usb_live`: the entries of the journal that is handed out are the definitions' run of its
 //!   steps over the devices that were given; what is kept is of it, it has as many places as are told, and the core
-//!   shows the world where it ends (`KeepsRun`)
+//!   shows the world where it ends (`KeepsRun`). Its places are those of the two workers and the drivers, and of nobody else
+//!   (`LivedBy`): look by look the workers made what was there to be seen (`Rounds` of usb_workers), each driver what it may make
+//!   (`Driver::makes`) with what it left; no two callers have one number, and each caller's places are those of its number
 //! - `make`, `handle_of` of `usb_live`: where something is answered, the step was made and its receipt has it
 //!   (`Makes`), else nothing changed; whose its entry is, in any world, where a handle is named; and that there is
 //!   none just for steps that submit, and for those of workers, clocks and callbacks
