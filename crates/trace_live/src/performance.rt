@@ -24,8 +24,8 @@ use usb_model::{Entry, Plan, Rule, Sequence};
 pub struct Performance {
     /// What the callbacks were told, by handle and number.
     pub told: Vec<Entry>,
-    /// What the handles hadn't finished when all was at rest, by handle: transfers that their devices don't end, and the orders,
-    /// events, results and callbacks that are about transfers, where a worker gave up.
+    /// What the handles hadn't finished when the library ended, by handle: transfers that their devices don't end, and whatever orders,
+    /// events, results and callbacks were left. Open devices, held interfaces, halts and unused answers aren't among it.
     pub unfinished: Vec<Left>,
 }
 
