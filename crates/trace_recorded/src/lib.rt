@@ -1,6 +1,7 @@
 //! What a recorded device answered, read off a capture of Linux's usbmon (Linux, Documentation/usb/usbmon.rst).
 //!
-//! The one promise: a driver that asks a device as the recorded driver did is told what it was told.
+//! The one promise: the answers that a recorded completion stands for end a request of the same length, and its callback is told the
+//! recorded bytes and the recorded status.
 //!
 //! # Files
 //!
