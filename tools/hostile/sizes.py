@@ -97,13 +97,13 @@ def of_every_word():
         yield Size(word, "1,000,000 empty lines", lambda: b"\n" * 1_000_000, ends_well)
         yield Size(word, "a line of 1,000,000 digits", lambda: b"open 1 " + b"1" * 1_000_000, refused)
         yield Size(word, "a line of 1,000,000 words", lambda: b"submit " * 1_000_000, refused)
-        yield Size(word, "a script of 4,096 answers", lambda: scripted("n " * 4095 + "n"), ends_well, True)
+        yield Size(word, "a script of 65,536 answers", lambda: scripted("n " * 65535 + "n"), ends_well, True)
         yield Size(word, "a packet of 2,048 bytes", lambda: scripted("d:" + "00" * 2048), ends_well, is_run)
 
 
 def of_texts():
     """The limits of a line, of findings, and of what is drawn and left."""
-    yield Size("run", "a script of 4,097 answers", lambda: scripted("n " * 4096 + "n"), refuses(2), True)
+    yield Size("run", "a script of 65,537 answers", lambda: scripted("n " * 65536 + "n"), refuses(2), True)
     yield Size("run", "a packet of 2,049 bytes", lambda: scripted("d:" + "00" * 2049), refuses(2), True)
     for count in (1, MOST_FINDINGS, MOST_FINDINGS + 1, 1_500, 1_000_000):
         bad = functools.partial(bytes.__mul__, b"x\n", count)

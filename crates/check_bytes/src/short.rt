@@ -220,7 +220,7 @@ const STALL_BESIDE_CANCEL: Scene = Scene {
 };
 
 /// 5,000 reads one after another: the event of number 4,096 stands at index 0 again, with the other cycle. The device is
-/// reset once, since a script has 4,096 answers at most; the last read is the 2,500th behind that, at index 86 of its ring.
+/// reset once, so that its script serves both halves; the last read is the 2,500th behind that, at index 86 of its ring.
 const EVENT_RING_TURNS: Scene = Scene {
     title: "5000 reads of 8 bytes: the events at which the event ring turns",
     size: 8,

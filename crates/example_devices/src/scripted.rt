@@ -46,7 +46,7 @@ fn add(alloc: Global, setup: &mut Setup<TableDevice>, packet: u16, sizes: &[u16]
 
 /// So many devices with packets of at most `packet` bytes. The endpoints 81 and 83 of each answer with packets of these
 /// sizes, whose bytes are numbered from 1 on, 255 followed by 0; 02 takes as many packets. An error where memory is
-/// refused, or a number is out of range: 4 devices, 1,024 bytes, 4,096 packets.
+/// refused, or a number is out of range: 4 devices, 1,024 bytes, 65,536 packets.
 pub fn devices(alloc: Global, count: u8, packet: u16, sizes: &[u16]) -> Result<Setup<TableDevice>>
     ensures { IfOk result (λ setup. length (setup_of setup) ≡ count) }
 {

@@ -39,7 +39,7 @@
 //! - `laws::bad_lines`: a text has no bad line exactly where it is that of a scenario; where it is none, the line
 //!   that `read_scenario` names is the first of them
 //! - `laws::scenarios`: the scenario of any text is runnable (`IsRunnable`): it has four devices at most; each has 32
-//!   scripts, by endpoint id, that a `TableDevice` of its configuration may have (none longer than 4,096 answers, no
+//!   scripts, by endpoint id, that a `TableDevice` of its configuration may have (none longer than 65,536 answers, no
 //!   packet over 2,048 bytes, each answer of its endpoint's direction, none where there is no endpoint); its plan
 //!   says no verdict itself; and it has a rule for each submission, none of which is Free
 #![tactic(auto)]

@@ -21,7 +21,7 @@ pub enum Problem {
     Form(Verb),
     /// A word isn't this, as it had to be.
     Word(Expected),
-    /// A script has no answer, or more than 4,096.
+    /// A script has no answer, or more than 65,536.
     Answers,
     /// A packet has more than 2,048 bytes.
     Packet,
@@ -57,7 +57,7 @@ impl fmt::Display for Problem {
             }
             Problem::Form(verb) => write!(f, "the form is `{}`, with single spaces", verb.form()),
             Problem::Word(expected) => f.write_str(expected.sentence()),
-            Problem::Answers => f.write_str("a script has 1 to 4096 answers"),
+            Problem::Answers => f.write_str("a script has 1 to 65536 answers"),
             Problem::Packet => f.write_str("a packet has at most 2048 bytes"),
             Problem::Descriptor(fault) => write!(f, "the descriptor is refused: {fault}"),
             Problem::Place(misplaced) => write!(f, "{misplaced}"),

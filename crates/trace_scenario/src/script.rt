@@ -30,7 +30,7 @@ pub(crate) fn script(alloc: Global, words: &[&str]) -> Result<Line, LineFault>
     Ok(Line::Script { dev, ep, answers })
 }
 
-/// The answers of some words: 1 to 4,096.
+/// The answers of some words: 1 to 65,536.
 #[tactic(auto, unfolding(crate::specs::Line::answers_of))]
 fn answers(alloc: Global, ep: EpAddr, words: &[&str]) -> Result<Script, LineFault>
     ensures { ReadsAs result (answers_of ep (words_of words.now)) }

@@ -54,7 +54,7 @@ fn writes(kind: Option<u8>) -> bool
     }
 }
 
-/// The answers of some words, to requests of this type: 1 to 4,096.
+/// The answers of some words, to requests of this type: 1 to 65,536.
 #[tactic(auto, unfolding(crate::specs::Answer::answers_of))]
 pub(crate) fn answers(
     alloc: Global,

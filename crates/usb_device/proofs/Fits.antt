@@ -11,6 +11,7 @@ use Rattle.usb_model.specs.declared.response.Response.{Response}
 use Rattle.usb_model.specs.declared.setup.Configuration.{Configuration}
 use Rattle.usb_model.specs.declared.setup.EndpointInfo.{EndpointInfo}
 use Rattle.usb_model.specs.Direction.{is_of_direction}
+use Rattle.usb_model.specs.Limits.{longest_script}
 use Rattle.usb_model.specs.Setup.{endpoint_id, is_in}
 use Rattle.usb_device.specs.Pipe.{IsLawful, Pipe, is_ack, no_pipe, pipe_at}
 use Rattle.usb_device.specs.Scripts.{are_scripts, are_scripts_from, info_by, is_answer, is_script, is_short, pipe_by, pipes_of, script_by}
@@ -43,14 +44,14 @@ pub script-fits : (config : Configuration) (scripts : List (List Response)) (id 
     → is_script (info_by config id) (script_by scripts id) ≡ true
 script-fits config scripts id h = ap (λ i. is_script (info_by config i) (script_by scripts id)) (let at : id ≡ 0 + id = omega arith in at) ∙ fits-from config scripts 0 id h
 
--- a script that fits has at most 4,096 answers
-few : (info : Option EndpointInfo) (script : List Response) → is_script info script ≡ true → length script ≤ 4096
+-- a script that fits is no longer than a script may be
+few : (info : Option EndpointInfo) (script : List Response) → is_script info script ≡ true → length script ≤ longest_script
 few None script h = omega (arith, eqb-true (length script) 0 h)
-few (Some x) script h = leb-true (length script) 4096 (and_parts (nat_le (length script) 4096) (list_all (is_answer (is_in x.address)) script) h).0
+few (Some x) script h = leb-true (length script) longest_script (and_parts (nat_le (length script) longest_script) (list_all (is_answer (is_in x.address)) script) h).0
 
 -- so it takes no more packets
 pub acks-few : (config : Configuration) (scripts : List (List Response)) (id : ℕ) → are_scripts config scripts ≡ true
-    → count_by is_ack (script_by scripts id) ≤ 4096
+    → count_by is_ack (script_by scripts id) ≤ longest_script
 acks-few config scripts id h =
     let fits = few (info_by config id) (script_by scripts id) (script-fits config scripts id h) in
     omega (arith, fits, count_by-le-length is_ack (script_by scripts id))
@@ -63,7 +64,7 @@ all-weaker p q w (x ∷ xs) h =
     and_from (q x) (list_all q xs) (w x both.0) (all-weaker p q w xs both.1)
 
 answers : (x : EndpointInfo) (script : List Response) → is_script (Some x) script ≡ true → list_all (is_answer (is_in x.address)) script ≡ true
-answers x script h = (and_parts (nat_le (length script) 4096) (list_all (is_answer (is_in x.address)) script) h).1
+answers x script h = (and_parts (nat_le (length script) longest_script) (list_all (is_answer (is_in x.address)) script) h).1
 
 short : (info : Option EndpointInfo) (script : List Response) → is_script info script ≡ true → list_all is_short script ≡ true
 short None script h = rw (nil_from_length script (eqb-true (length script) 0 h)) refl

@@ -3,6 +3,7 @@
 ghost use Rattle.std.specs.Prelude.{◌≡◌, ◌<◌, ◌≤◌, [], ◌∷◌, ◌++◌, ◌+◌, IfOk, length, slice_get, vec_capacity, vec_len};
 ghost use Rattle.std.specs.List.{slice_range};
 ghost use Rattle.std.specs.Option.{option_copied};
+ghost use Rattle.usb_model.specs.Limits.{longest_script};
 ghost use Rattle.usb_device.specs.Taken.{Taken, start_of};
 
 use std::alloc::{AllocError, Global};
@@ -58,7 +59,7 @@ pub(crate) fn extend_reserved(bytes: &mut Vec<u8>, packet: &[u8])
 impl TakenPackets {
     /// No packets, with room for so many packets of so many bytes.
     pub(crate) fn new(alloc: Global, places: usize, size: u16) -> Result<TakenPackets, AllocError>
-        requires { places ≤ 4096 }
+        requires { places ≤ longest_script }
         ensures { IfOk result (λ t. t ≡ record { packets = []; places = places; size = size }) }
     {
         Ok(TakenPackets {

@@ -15,7 +15,7 @@ last_number = 18446744073709551615
 
 -- the most answers of a script
 abbrev pub longest_script : ℕ
-longest_script = 4096
+longest_script = 65536
 
 -- the most bytes of a packet of a script
 abbrev pub largest_packet : ℕ

@@ -10,7 +10,7 @@ pub const MOST_PLACES: usize = 16;
 pub const LAST_NUMBER: u64 = u64::MAX;
 
 /// The most answers that a script may have.
-pub const LONGEST_SCRIPT: usize = 4096;
+pub const LONGEST_SCRIPT: usize = 65_536;
 
 /// The most bytes that a packet of a script may have.
 pub const LARGEST_PACKET: usize = 2048;

@@ -209,10 +209,10 @@ fn is_said_of_many<X: Threads + Wait + Sync>(
 }
 
 #[test]
-fn a_script_has_4096_answers_and_a_packet_2048_bytes_at_most(rt: HostRuntime) {
+fn a_script_has_65536_answers_and_a_packet_2048_bytes_at_most(rt: HostRuntime) {
     let alloc = rt.alloc();
-    assert!(rt; is_said_of_many(&rt, alloc, "script 0 81", 4096, " n", LINE_7));
-    assert!(rt; is_said_of_many(&rt, alloc, "script 0 81", 4097, " n", LINE_5));
+    assert!(rt; is_said_of_many(&rt, alloc, "script 0 81", 65_536, " n", LINE_7));
+    assert!(rt; is_said_of_many(&rt, alloc, "script 0 81", 65_537, " n", LINE_5));
     assert!(rt; is_said_of_many(&rt, alloc, "script 0 81 d:", 2048, "5a", LINE_7));
     assert!(rt; is_said_of_many(&rt, alloc, "script 0 81 d:", 2049, "5a", LINE_5));
 }

@@ -104,7 +104,7 @@ device 2 090209000001008032 => the next device has the number 1
 script 1 81 n => no line before this one has the device
 script 0 91 n => the device has no bulk or interrupt endpoint of this address
 script 0 83 n => the endpoint has a script already
-script 0 81 => a script has 1 to 4096 answers
+script 0 81 => a script has 1 to 65536 answers
 script 0 81 n a => an answer of an IN endpoint isn't `d:` and a packet's bytes, `n`, `s` or `b`
 script 0 02 a d:00 => an answer of an OUT endpoint isn't `a`, `n`, `s` or `b`
 ";
