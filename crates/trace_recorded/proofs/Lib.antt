@@ -4,3 +4,4 @@ mod Told
 mod ReadAgain
 mod WrittenAgain
 mod ReadBack
+mod FilesRead

@@ -24,13 +24,20 @@
 #![tactic(auto)]
 
 mod answers;
+mod block;
+mod capture_fault;
 mod event;
 pub mod laws;
 mod number;
 mod packets;
+mod pcap;
+mod pcapng;
+mod recording;
+mod table;
 mod transfer;
 
 pub use answers::answers_of;
+pub use capture_fault::CaptureFault;
 pub use event::{EventHeader, RecordedEvent, RecordedType, event_of};
 pub use number::Endianness;
 pub use transfer::{RecordedEnd, RecordedTransfer};

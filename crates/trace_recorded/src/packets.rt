@@ -36,7 +36,7 @@ fn packet(alloc: Global, size: usize, bytes: &[u8]) -> Result<Response, AllocErr
 }
 
 /// The bytes behind the first so many.
-fn past(bytes: &[u8], count: usize) -> &[u8]
+pub(crate) fn past(bytes: &[u8], count: usize) -> &[u8]
     ensures { result.now ≡ drop count bytes.now }
 {
     bytes.get(count..).unwrap_or(&[])
