@@ -5,3 +5,4 @@ mod ReadAgain
 mod WrittenAgain
 mod ReadBack
 mod FilesRead
+mod Folded

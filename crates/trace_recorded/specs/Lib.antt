@@ -1,7 +1,9 @@
 pub mod Answers
 pub mod Blocks
+pub mod Configurations
 pub mod Events
 pub mod Faults
 pub mod Files
+pub mod Folds
 pub mod Laws
 pub mod Tables

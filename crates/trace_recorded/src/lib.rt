@@ -26,6 +26,7 @@
 mod answers;
 mod block;
 mod capture_fault;
+mod configuration;
 mod event;
 pub mod laws;
 mod number;

@@ -1,0 +1,215 @@
+//! The configuration that a recorded device was used in.
+
+ghost use Rattle.std.specs.Prelude.{◌≡◌, ◌++◌, ◌∷◌, [], IfOk, slice_index, take};
+ghost use Rattle.std.specs.List.{find};
+ghost use Rattle.std.specs.Option.{option_copied};
+ghost use Rattle.trace_capture.specs.Control.{configuration_value, total_length};
+ghost use Rattle.trace_recorded.specs.Configurations.{configuration_by, configuration_of, controls_of, is_complete, is_of, is_success, no_controls, reads_configuration, sets_configuration, with_answer, with_control, with_end, with_submission};
+
+use crate::event::{RecordedEvent, RecordedType};
+use crate::table::Table;
+use std::alloc::{AllocError, Global};
+use trace_capture::ControlSetup;
+use usb_model::{Bytes, Kind, Sequence};
+
+/// What a device's control transfers say of its configurations.
+#[derive(Drop)]
+pub(crate) struct Controls {
+    /// What those in flight are to do, by their ids.
+    waiting: Table<ControlSetup>,
+    /// The configuration descriptors that were read, in order.
+    found: Sequence<Bytes>,
+    /// The value of the configuration that was set last.
+    configured: Option<u8>,
+}
+
+/// A byte; 0 past the end.
+pub(crate) fn byte_or_zero(bytes: &[u8], place: usize) -> u8
+    ensures { result ≡ slice_index bytes.now place }
+{
+    match bytes.get(place) {
+        Some(byte) => *byte,
+        None => 0,
+    }
+}
+
+/// How many bytes a configuration has with all its descriptors, as it says itself (USB 2.0, 9.6.3).
+fn total_length(bytes: &[u8]) -> usize
+    ensures { result ≡ total_length bytes.now }
+{
+    usize::from(byte_or_zero(bytes, 2)) + 256 * usize::from(byte_or_zero(bytes, 3))
+}
+
+/// Whether bytes are a whole configuration.
+fn is_complete(bytes: &[u8]) -> bool
+    ensures { result ≡ is_complete bytes.now }
+{
+    bytes.len() >= 9 && total_length(bytes) >= 9 && total_length(bytes) <= bytes.len()
+}
+
+/// Whether a request reads a configuration descriptor.
+fn reads_configuration(setup: ControlSetup) -> bool
+    ensures { result ≡ reads_configuration setup }
+{
+    setup.request_type == 0x80 && setup.request == 6 && setup.value / 256 == 2
+}
+
+/// Whether it sets a configuration.
+fn sets_configuration(setup: ControlSetup) -> bool
+    ensures { result ≡ sets_configuration setup }
+{
+    setup.request_type == 0 && setup.request == 9 && setup.value % 256 != 0
+}
+
+/// Whether a descriptor is that of the configuration of this value.
+fn is_of(configured: Option<u8>, descriptor: &Bytes) -> bool
+    ensures { result ≡ is_of configured descriptor.now }
+{
+    match configured {
+        Some(value) => byte_or_zero(descriptor.as_slice(), 5) == value,
+        None => false,
+    }
+}
+
+/// A copy of the first bytes, as many as there are.
+fn front(alloc: Global, bytes: &[u8], count: usize) -> Result<Bytes, AllocError>
+    ensures { IfOk result (λ front. front ≡ take count bytes.now) }
+{
+    let front = bytes.get(..count).unwrap_or(bytes);
+    Ok(Sequence::from_vec(Vec::from_slice(alloc, front)?))
+}
+
+impl RecordedEvent {
+    /// Whether it says that a transfer succeeded.
+    fn is_success(&self) -> bool
+        ensures { result ≡ is_success self.now }
+    {
+        match self.event_type {
+            RecordedType::Callback => self.status == 0,
+            RecordedType::Submission | RecordedType::SubmissionError => false,
+        }
+    }
+}
+
+impl Controls {
+    /// Nothing is read yet.
+    fn new(alloc: Global) -> Controls
+        ensures { result ≡ no_controls }
+    {
+        Controls {
+            waiting: Table::new(alloc),
+            found: Sequence::new(alloc),
+            configured: None,
+        }
+    }
+
+    /// A request succeeded, with these bytes.
+    fn answer(
+        &mut self,
+        alloc: Global,
+        setup: ControlSetup,
+        bytes: &[u8],
+    ) -> Result<(), AllocError>
+        ensures { IfOk result (λ _. self.new ≡ with_answer setup bytes.now self.old) }
+    {
+        if reads_configuration(setup) && is_complete(bytes) {
+            self.found.push(front(alloc, bytes, total_length(bytes))?)?;
+        } else if sets_configuration(setup) {
+            self.configured = Some((setup.value % 256) as u8);
+        }
+        Ok(())
+    }
+
+    /// A transfer was submitted.
+    fn submit(&mut self, setup: Option<ControlSetup>, id: u64) -> Result<(), AllocError>
+        ensures { IfOk result (λ _. self.new ≡ with_submission setup id self.old) }
+    {
+        match setup {
+            Some(setup) => self.waiting.put(id, setup),
+            None => {
+                let _ = self.waiting.take(id);
+                Ok(())
+            }
+        }
+    }
+
+    /// A transfer ended that was to do this.
+    fn end(
+        &mut self,
+        alloc: Global,
+        setup: Option<ControlSetup>,
+        event: &RecordedEvent,
+    ) -> Result<(), AllocError>
+        ensures { IfOk result (λ _. self.new ≡ with_end setup event.now self.old) }
+    {
+        match setup {
+            Some(setup) if event.is_success() => {
+                self.answer(alloc, setup, event.bytes.as_slice())
+            }
+            _ => Ok(()),
+        }
+    }
+
+    /// One event more.
+    #[tactic(auto, unfolding(crate::specs::Configurations::with_control))]
+    fn read(&mut self, alloc: Global, event: &RecordedEvent) -> Result<(), AllocError>
+        ensures { IfOk result (λ _. self.new ≡ with_control event.now self.old) }
+    {
+        if !event.kind.is_same(Kind::Control) {
+            return Ok(());
+        }
+        match event.event_type {
+            RecordedType::Submission => self.submit(event.setup, event.id),
+            RecordedType::Callback | RecordedType::SubmissionError => {
+                let setup = self.waiting.take(event.id);
+                self.end(alloc, setup, event)
+            }
+        }
+    }
+
+    /// The first descriptor of the configuration that was set last.
+    fn of_configured(&self) -> Option<&Bytes>
+        ensures { option_copied result ≡ find (is_of self.now.configured) self.now.found }
+    {
+        let configured = self.configured;
+        self.found
+            .as_slice()
+            .iter()
+            .find(|descriptor| is_of(configured, descriptor))
+    }
+
+    /// The same, or else the first that was read.
+    fn configuration(&self) -> Option<&Bytes>
+        ensures { option_copied result ≡ configuration_by self.now }
+    {
+        match self.of_configured() {
+            Some(descriptor) => Some(descriptor),
+            None => self.found.as_slice().first(),
+        }
+    }
+}
+
+/// What the control transfers among events say.
+fn read_controls(alloc: Global, events: &[RecordedEvent]) -> Result<Controls, AllocError>
+    ensures { IfOk result (λ controls. controls ≡ controls_of events.now) }
+{
+    let mut controls = Controls::new(alloc);
+    for event in events {
+        controls.read(alloc, event)?;
+    }
+    Ok(controls)
+}
+
+/// The descriptor of the configuration in which a device with these events was used, where it was recorded.
+#[tactic(auto, unfolding(crate::specs::Configurations::configuration_of))]
+pub(crate) fn configuration_of(
+    alloc: Global,
+    events: &[RecordedEvent],
+) -> Result<Option<Bytes>, AllocError>
+    ensures { IfOk result (λ configuration. configuration ≡ configuration_of events.now) }
+{
+    match read_controls(alloc, events)?.configuration() {
+        Some(descriptor) => Ok(Some(front(alloc, descriptor.as_slice(), descriptor.len())?)),
+        None => Ok(None),
+    }
+}
