@@ -6,3 +6,4 @@ mod WrittenAgain
 mod ReadBack
 mod FilesRead
 mod Folded
+mod Counted

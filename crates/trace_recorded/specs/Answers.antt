@@ -87,6 +87,13 @@ last_written _ = None
 abbrev pub answers_out : ℕ → RecordedTransfer → List Response
 answers_out size x = replicate (packets_acknowledged size x) Ack ++ option_to_list (last_written x.end)
 
+-- how many answers stand behind the packets of a read, and of a write
+abbrev pub last_reads : RecordedEnd → ℕ
+last_reads end = length (option_to_list (last_by end 0 0))
+
+abbrev pub last_writes : RecordedEnd → ℕ
+last_writes end = length (option_to_list (last_written end))
+
 -- the answers of a transfer, at an endpoint of this packet size
 unfoldable pub answers_of : ℕ → RecordedTransfer → List Response
 answers_of size x = if is_in x.ep then answers_in size x else answers_out size x

@@ -1,6 +1,7 @@
 pub mod Answers
 pub mod Blocks
 pub mod Configurations
+pub mod Endpoints
 pub mod Events
 pub mod Faults
 pub mod Files

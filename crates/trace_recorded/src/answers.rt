@@ -1,8 +1,8 @@
 //! The answers that a recorded transfer stands for.
 
-ghost use Rattle.std.specs.Prelude.{◌≡◌, ◌<◌, IfOk, replicate};
+ghost use Rattle.std.specs.Prelude.{◌≡◌, ◌<◌, IfOk, length, replicate};
 ghost use Rattle.usb_model.specs.Endpoint.Packets.{full_packets};
-ghost use Rattle.trace_recorded.specs.Answers.{answers_in, answers_of, answers_out, last_read, last_written, packets_acknowledged, packets_read, recorded_bytes, room_behind};
+ghost use Rattle.trace_recorded.specs.Answers.{answers_in, answers_of, answers_out, last_read, last_reads, last_writes, last_written, packets_acknowledged, packets_read, recorded_bytes, room_behind};
 
 use crate::packets::{acknowledgements, packets, with_last};
 use crate::transfer::{RecordedEnd, RecordedTransfer};
@@ -24,6 +24,19 @@ pub fn answers_of(
         answers_in(alloc, usize::from(size), transfer)
     } else {
         answers_out(alloc, usize::from(size), transfer)
+    }
+}
+
+/// How many they are. Takes no memory.
+pub(crate) fn answer_count(size: u16, transfer: &RecordedTransfer) -> usize
+    requires { 0 < size }
+    ensures { result ≡ length (answers_of size transfer.now) }
+{
+    let size = usize::from(size);
+    if transfer.ep.is_in() {
+        transfer.packets_read(size) + transfer.end.last_reads()
+    } else {
+        transfer.packets_acknowledged(size) + transfer.end.last_writes()
     }
 }
 
@@ -78,6 +91,28 @@ fn full_packets(zero_packet: bool, asked: usize, size: usize) -> usize
         asked / size
     } else {
         asked.saturating_sub(1) / size
+    }
+}
+
+impl RecordedEnd {
+    /// How many answers stand behind the packets of a read that ended so.
+    fn last_reads(self) -> usize
+        ensures { result ≡ last_reads self }
+    {
+        match self {
+            RecordedEnd::Stalled | RecordedEnd::Failed | RecordedEnd::TooLong => 1,
+            RecordedEnd::Done | RecordedEnd::Cut => 0,
+        }
+    }
+
+    /// And of a write.
+    fn last_writes(self) -> usize
+        ensures { result ≡ last_writes self }
+    {
+        match self {
+            RecordedEnd::Stalled | RecordedEnd::Failed => 1,
+            RecordedEnd::Done | RecordedEnd::TooLong | RecordedEnd::Cut => 0,
+        }
     }
 }
 

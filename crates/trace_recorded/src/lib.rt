@@ -27,6 +27,7 @@ mod answers;
 mod block;
 mod capture_fault;
 mod configuration;
+mod endpoint;
 mod event;
 pub mod laws;
 mod number;

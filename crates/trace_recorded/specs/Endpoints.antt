@@ -1,0 +1,123 @@
+-- What an endpoint of a recorded device answered, from the device's events.
+use Rattle.std.specs.Prelude.{ℕ, ◌+◌, ◌-◌, ◌/◌, ◌%◌, ◌^◌, ◌==◌, min, nat_lt, Bool, true, false, ◌&&◌, ◌||◌, List, [], ◌++◌, length, take, Option, Some, None, if◌then◌else◌}
+use Rattle.std.specs.Option.{option_map_or, unwrap_or}
+use Rattle.usb_model.specs.declared.setup.EndpointInfo.{EndpointInfo}
+use Rattle.usb_model.specs.Limits.{longest_script, most_bytes}
+use Rattle.usb_model.specs.Requests.{is_same_kind}
+use Rattle.usb_model.specs.Setup.{is_in}
+use Rattle.trace_capture.specs.declared.control_setup.ControlSetup.{ControlSetup}
+use Rattle.trace_recorded.specs.declared.event.RecordedEvent.{RecordedEvent}
+use Rattle.trace_recorded.specs.declared.event.RecordedType.{RecordedType}
+use Rattle.trace_recorded.specs.declared.event.RecordedType.TheVariants.{Submission, Callback, SubmissionError}
+use Rattle.trace_recorded.specs.declared.transfer.RecordedEnd.{RecordedEnd}
+use Rattle.trace_recorded.specs.declared.transfer.RecordedEnd.TheVariants.{Stalled, TooLong}
+use Rattle.trace_recorded.specs.declared.transfer.RecordedTransfer.{RecordedTransfer}
+use Rattle.trace_recorded.specs.declared.endpoint.Submitted.{Submitted}
+use Rattle.trace_recorded.specs.declared.endpoint.RecordedEndpoint.{RecordedEndpoint}
+use Rattle.trace_recorded.specs.Answers.{answers_of, end_of}
+use Rattle.trace_recorded.specs.Folds.{after}
+use Rattle.trace_recorded.specs.Tables.{value_at, with_value, without}
+
+-- so many more are counted; a counter stays at the largest number of 64 bits
+abbrev pub counted : ℕ → ℕ → ℕ
+counted count more = min (count + more) (2 ^ 64 - 1)
+
+-- whether a request ends the halt of an endpoint (USB 2.0, 9.4.5): CLEAR_FEATURE of ENDPOINT_HALT at it, SET_INTERFACE of its interface, SET_CONFIGURATION
+abbrev pub clears_halt : EndpointInfo → ControlSetup → Bool
+clears_halt info setup = (setup.request_type == 2) && ((setup.request == 1) && ((setup.value == 0) && (setup.index % 256 == info.address)))
+
+abbrev pub sets_interface : EndpointInfo → ControlSetup → Bool
+sets_interface info setup = (setup.request_type == 1) && ((setup.request == 11) && (setup.index % 256 == info.interface))
+
+abbrev pub configures : ControlSetup → Bool
+configures setup = (setup.request_type == 0) && (setup.request == 9)
+
+abbrev pub ends_halt : EndpointInfo → ControlSetup → Bool
+ends_halt info setup = clears_halt info setup || (sets_interface info setup || configures setup)
+
+-- whether an event is the submission of such a request
+abbrev pub ends_halt_by : RecordedType → EndpointInfo → Option ControlSetup → Bool
+ends_halt_by Submission info setup = option_map_or (λ s. ends_halt info s) setup false
+ends_halt_by _ info setup = false
+
+-- whether an event is of a transfer of this endpoint
+abbrev pub is_own : EndpointInfo → RecordedEvent → Bool
+is_own info event = (event.ep == info.address) && is_same_kind event.kind info.kind
+
+abbrev pub is_stalled : RecordedEnd → Bool
+is_stalled Stalled = true
+is_stalled _ = false
+
+abbrev pub is_too_long : RecordedEnd → Bool
+is_too_long TooLong = true
+is_too_long _ = false
+
+-- what is kept of a submission: its length, its flags, and how often the halt was ended before
+abbrev pub submitted : RecordedEvent → RecordedEndpoint → Submitted
+submitted event x = record { length = event.length; flags = event.flags; clears = x.clears }
+
+-- the transfer of a submission and its callback; bit 6 of the flags asks for an empty packet behind whole ones
+abbrev pub transfer_of : EndpointInfo → Submitted → RecordedEvent → RecordedTransfer
+transfer_of info s event = record {
+  ep = info.address;
+  asked = s.length;
+  zero_packet = s.flags / 64 % 2 == 1;
+  moved = event.length;
+  end = end_of event.status;
+  bytes = event.bytes;
+}
+
+-- a transfer of more bytes than a request may have
+abbrev pub is_too_large : RecordedTransfer → Bool
+is_too_large transfer = nat_lt most_bytes transfer.asked || nat_lt most_bytes transfer.moved
+
+-- a transfer that ended behind a stall, by the host: nothing moved, and since the stall was answered no halt was ended before it was submitted
+abbrev pub is_behind_stall : Submitted → RecordedTransfer → RecordedEndpoint → Bool
+is_behind_stall s transfer x = is_stalled transfer.end && ((transfer.moved == 0) && option_map_or (λ clears. clears == s.clears) x.stalled_at false)
+
+-- how many bytes of a read weren't recorded, and whether one was too long
+abbrev pub bytes_lost : RecordedTransfer → ℕ
+bytes_lost transfer = if is_in transfer.ep then transfer.moved - length transfer.bytes else 0
+
+abbrev pub reads_too_long : RecordedTransfer → ℕ
+reads_too_long transfer = if is_in transfer.ep && is_too_long transfer.end then 1 else 0
+
+-- a transfer's answers, as many as there is room for; all are counted
+abbrev pub with_answers : ℕ → Submitted → RecordedTransfer → RecordedEndpoint → RecordedEndpoint
+with_answers size s transfer x = record x {
+  stalled_at = if is_stalled transfer.end then Some s.clears else x.stalled_at;
+  answers = x.answers ++ take (longest_script - length x.answers) (answers_of size transfer);
+  count = counted x.count (length (answers_of size transfer));
+  lost = counted x.lost (bytes_lost transfer);
+  too_long = counted x.too_long (reads_too_long transfer);
+}
+
+-- a transfer ended
+unfoldable pub with_transfer : ℕ → Submitted → RecordedTransfer → RecordedEndpoint → RecordedEndpoint
+with_transfer size s transfer x =
+    if is_too_large transfer then record x { left_out = counted x.left_out 1 }
+    else if is_behind_stall s transfer x then x
+    else with_answers size s transfer x
+
+-- an event of a transfer of this endpoint; of a callback whose submission wasn't recorded the length and the flags are its own
+abbrev pub with_own_by : RecordedType → EndpointInfo → RecordedEvent → RecordedEndpoint → RecordedEndpoint
+with_own_by Submission info event x = record x { waiting = with_value event.id (submitted event x) x.waiting }
+with_own_by Callback info event x =
+    with_transfer info.packet_size (unwrap_or (value_at event.id x.waiting) (submitted event x)) (transfer_of info (unwrap_or (value_at event.id x.waiting) (submitted event x)) event)
+    (record x { waiting = without event.id x.waiting })
+with_own_by SubmissionError info event x = record x { waiting = without event.id x.waiting }
+
+-- an event of the device
+unfoldable pub with_event : EndpointInfo → RecordedEvent → RecordedEndpoint → RecordedEndpoint
+with_event info event x =
+    if ends_halt_by event.event_type info event.setup then record x { clears = counted x.clears 1 }
+    else if is_own info event then with_own_by event.event_type info event x
+    else x
+
+-- nothing happened yet
+abbrev pub no_answers : ℕ → RecordedEndpoint
+no_answers ep = record { ep = ep; waiting = []; clears = 0; stalled_at = None; answers = []; count = 0; lost = 0; too_long = 0; left_out = 0 }
+
+-- what an endpoint answered
+abbrev pub endpoint_of : List RecordedEvent → EndpointInfo → RecordedEndpoint
+endpoint_of events info = after (with_event info) (no_answers info.address) events
