@@ -7,3 +7,5 @@ mod ReadBack
 mod FilesRead
 mod Folded
 mod Counted
+mod Joined
+mod Hubs

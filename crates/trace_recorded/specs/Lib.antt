@@ -1,10 +1,13 @@
 pub mod Answers
 pub mod Blocks
 pub mod Configurations
+pub mod Devices
 pub mod Endpoints
 pub mod Events
 pub mod Faults
 pub mod Files
 pub mod Folds
 pub mod Laws
+pub mod Lines
+pub mod Scenario
 pub mod Tables

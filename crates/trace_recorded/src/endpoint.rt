@@ -93,7 +93,7 @@ fn submits_end(info: &EndpointInfo, event: &RecordedEvent) -> bool
 }
 
 /// Whether an event is of a transfer of this endpoint.
-fn is_own(info: &EndpointInfo, event: &RecordedEvent) -> bool
+pub(crate) fn is_own(info: &EndpointInfo, event: &RecordedEvent) -> bool
     ensures { result ≡ is_own info.now event.now }
 {
     event.ep.address() == info.address.address() && event.kind.is_same(info.kind)

@@ -1,0 +1,100 @@
+-- The devices of a recording, and what each answered.
+use Rattle.std.specs.Prelude.{ℕ, ◌+◌, ◌*◌, ◌==◌, nat_lt, Bool, true, false, not, ◌&&◌, List, [], ◌∷◌, ◌++◌, drop, length, Option, Some, None, Result, Ok, Err, if◌then◌else◌}
+use Rattle.std.specs.List.{list_any}
+use Rattle.std.specs.Option.{option_map_or, unwrap_or}
+use Rattle.usb_model.specs.declared.request.Kind.TheVariants.{Control}
+use Rattle.usb_model.specs.declared.setup.Configuration.{Configuration}
+use Rattle.usb_model.specs.declared.setup.EndpointInfo.{EndpointInfo}
+use Rattle.usb_model.specs.Requests.{is_same_kind}
+use Rattle.usb_descriptors.specs.declared.fault.DescFault.{DescFault}
+use Rattle.usb_descriptors.specs.Grammar.{is_interface, is_transfer_kind, reading}
+use Rattle.usb_descriptors.specs.Pieces.{Piece, byte, pieces}
+use Rattle.trace_recorded.specs.declared.event.RecordedEvent.{RecordedEvent}
+use Rattle.trace_recorded.specs.declared.event.RecordedType.{RecordedType}
+use Rattle.trace_recorded.specs.declared.event.RecordedType.TheVariants.{Callback}
+use Rattle.trace_recorded.specs.declared.endpoint.RecordedEndpoint.{RecordedEndpoint}
+use Rattle.trace_recorded.specs.declared.device.RecordedDevice.{RecordedDevice}
+use Rattle.trace_recorded.specs.declared.left_out.LeftOut.{LeftOut}
+use Rattle.trace_recorded.specs.declared.left_out.LeftOut.TheVariants.{NoConfiguration, Refused, Hub, NoAnswers}
+use Rattle.trace_recorded.specs.Configurations.{configuration_of}
+use Rattle.trace_recorded.specs.Endpoints.{endpoint_of, is_own}
+use Rattle.trace_recorded.specs.Folds.{after}
+use Rattle.trace_recorded.specs.Tables.{value_at, with_value, without}
+
+-- a device's number in a table: 256 times its bus, and its address there
+abbrev pub device_key : RecordedEvent → ℕ
+device_key event = 256 * event.bus + event.device
+
+-- an event more, behind those of its device
+abbrev pub behind_others : ℕ → RecordedEvent → List (ℕ × List RecordedEvent) → List (ℕ × List RecordedEvent)
+behind_others key event table = with_value key (unwrap_or (value_at key table) [] ++ event ∷ []) (without key table)
+
+unfoldable pub with_device_event : RecordedEvent → List (ℕ × List RecordedEvent) → List (ℕ × List RecordedEvent)
+with_device_event event table = behind_others (device_key event) event table
+
+-- the events of each device, by rising bus and address
+abbrev pub by_device : List RecordedEvent → List (ℕ × List RecordedEvent)
+by_device events = after with_device_event [] events
+
+-- whether an interface was found, with one descriptor more; None where it is an interface of another class than hubs' (USB 2.0, 11.23.1: 9)
+abbrev pub found_with : Bool → Piece → Option Bool
+found_with found p = if is_interface p then (if byte 5 p.bytes == 9 then Some true else None) else Some found
+
+-- whether one was found, and each has that class
+unfoldable pub is_hub_behind : Bool → List Piece → Bool
+is_hub_behind found [] = found
+is_hub_behind found (p ∷ ps) = option_map_or (λ more. is_hub_behind more ps) (found_with found p) false
+
+-- whether a configuration is a hub's: it has an interface, and each has that class
+abbrev pub is_hub : List ℕ → Bool
+is_hub descriptor = is_hub_behind false (pieces (byte 0 descriptor) (drop (byte 0 descriptor) descriptor))
+
+-- whether an endpoint's answers make a script: it is a bulk or interrupt endpoint; no configuration has one of packet size 0
+abbrev pub is_scripted : EndpointInfo → Bool
+is_scripted info = is_transfer_kind info.kind && nat_lt 0 info.packet_size
+
+-- what such an endpoint answered, behind the others
+abbrev pub with_endpoint : List RecordedEvent → EndpointInfo → List RecordedEndpoint → List RecordedEndpoint
+with_endpoint events info endpoints = if is_scripted info then endpoints ++ endpoint_of events info ∷ [] else endpoints
+
+abbrev pub endpoints_of : List EndpointInfo → List RecordedEvent → List RecordedEndpoint
+endpoints_of infos events = after (with_endpoint events) [] infos
+
+-- whether an event is the callback of a transfer of no such endpoint, and of none for control
+abbrev pub is_callback : RecordedType → Bool
+is_callback Callback = true
+is_callback _ = false
+
+abbrev pub has_script : List EndpointInfo → RecordedEvent → Bool
+has_script infos event = list_any (λ info. is_scripted info && is_own info event) infos
+
+abbrev pub is_other : List EndpointInfo → RecordedEvent → Bool
+is_other infos event = is_callback event.event_type && (not (is_same_kind event.kind Control) && not (has_script infos event))
+
+-- its endpoint, behind the others
+abbrev pub with_other : List EndpointInfo → RecordedEvent → List ℕ → List ℕ
+with_other infos event others = if is_other infos event then others ++ event.ep ∷ [] else others
+
+abbrev pub others_of : List EndpointInfo → List RecordedEvent → List ℕ
+others_of infos events = after (with_other infos) [] events
+
+abbrev pub has_answers : List RecordedEndpoint → Bool
+has_answers endpoints = list_any (λ x. not (length x.answers == 0)) endpoints
+
+-- the device is kept where something answered
+abbrev pub with_answers_only : RecordedDevice → Result RecordedDevice LeftOut
+with_answers_only device = if has_answers device.endpoints then Ok device else Err NoAnswers
+
+abbrev pub device_by : Result Configuration DescFault → List ℕ → List RecordedEvent → Result RecordedDevice LeftOut
+device_by (Err fault) descriptor events = Err Refused
+device_by (Ok config) descriptor events =
+    if is_hub descriptor then Err Hub
+    else with_answers_only (record { descriptor = descriptor; endpoints = endpoints_of config.endpoints events; others = others_of config.endpoints events })
+
+abbrev pub device_with : Option (List ℕ) → List RecordedEvent → Result RecordedDevice LeftOut
+device_with None events = Err NoConfiguration
+device_with (Some descriptor) events = device_by (reading descriptor) descriptor events
+
+-- what a device with these events answered, or why it is left out
+unfoldable pub device_of : List RecordedEvent → Result RecordedDevice LeftOut
+device_of events = device_with (configuration_of events) events

@@ -1,0 +1,98 @@
+-- The lines of the text that is made of a recording.
+use Rattle.std.specs.Prelude.{ℕ, zero, suc, ◌+◌, ◌/◌, ◌%◌, ◌==◌, nat_lt, Bool, true, false, List, [], ◌∷◌, ◌++◌, length, codes, count_by, Result, Ok, Err, if◌then◌else◌}
+use Rattle.std.specs.Fmt.{decimal}
+use Rattle.std.specs.List.{flat_map}
+use Rattle.hex.specs.Hex.{encode_lower}
+use Rattle.usb_model.specs.declared.response.Response.{Response}
+use Rattle.usb_model.specs.declared.response.Response.TheVariants.{Data, Ack, Nak, Stall, Broken}
+use Rattle.usb_model.specs.Limits.{longest_script, most_bytes}
+use Rattle.usb_model.specs.Text.{hex_byte}
+use Rattle.trace_recorded.specs.declared.endpoint.RecordedEndpoint.{RecordedEndpoint}
+use Rattle.trace_recorded.specs.declared.device.RecordedDevice.{RecordedDevice}
+use Rattle.trace_recorded.specs.declared.left_out.LeftOut.{LeftOut}
+use Rattle.trace_recorded.specs.declared.left_out.LeftOut.TheVariants.{NoConfiguration, Refused, Hub, NoAnswers, FifthDevice}
+use Rattle.trace_recorded.specs.declared.note.Note.{Note}
+use Rattle.trace_recorded.specs.declared.note.Note.TheVariants.{Lost, TooLong, TooLarge, TooMany, Others}
+
+-- why a device is left out
+abbrev pub left_out_text : LeftOut → List ℕ
+left_out_text NoConfiguration = codes "no configuration descriptor"
+left_out_text Refused = codes "its configuration descriptor is refused"
+left_out_text Hub = codes "a hub"
+left_out_text NoAnswers = codes "no answers"
+left_out_text FifthDevice = codes "the fifth device"
+
+-- the line of a device that is left out
+abbrev pub left_out_line : ℕ → LeftOut → List ℕ
+left_out_line key why = codes "# bus " ++ (decimal (key / 256) ++ (codes " device " ++ (decimal (key % 256) ++ (codes " is left out: " ++ (left_out_text why ++ codes "\n")))))
+
+-- what an endpoint's script leaves unsaid
+abbrev pub note_text : Note → List ℕ
+note_text (Lost n) = decimal n ++ codes " bytes were not recorded; they are 00 here"
+note_text (TooLong n) = decimal n ++ codes " packets were too long; their bytes are 00 here"
+note_text (TooLarge n) = decimal n ++ (codes " transfers of more than " ++ (decimal most_bytes ++ codes " bytes are left out"))
+note_text (TooMany n) = codes "the first " ++ (decimal longest_script ++ (codes " of " ++ (decimal n ++ codes " answers")))
+note_text (Others n) = decimal n ++ codes " transfers are left out: not a bulk or interrupt endpoint of this configuration"
+
+-- whether there is something to note
+abbrev pub is_due : Note → Bool
+is_due (Lost n) = nat_lt 0 n
+is_due (TooLong n) = nat_lt 0 n
+is_due (TooLarge n) = nat_lt 0 n
+is_due (TooMany n) = nat_lt longest_script n
+is_due (Others n) = nat_lt 0 n
+
+abbrev pub note_line : ℕ → Note → List ℕ
+note_line ep note = if is_due note then codes "# ep " ++ (hex_byte ep ++ (codes ": " ++ (note_text note ++ codes "\n"))) else []
+
+-- the notes of an endpoint
+abbrev pub endpoint_notes : RecordedEndpoint → List ℕ
+endpoint_notes x = note_line x.ep (Lost x.lost) ++ (note_line x.ep (TooLong x.too_long) ++ (note_line x.ep (TooLarge x.left_out) ++ note_line x.ep (TooMany x.count)))
+
+-- the note of transfers of an endpoint without a script
+abbrev pub other_note : List ℕ → ℕ → List ℕ
+other_note others ep = note_line ep (Others (count_by (λ other. other == ep) others))
+
+-- those of the endpoints below an address
+unfoldable pub other_notes : List ℕ → ℕ → List ℕ
+other_notes others zero = []
+other_notes others (suc ep) = other_notes others ep ++ other_note others ep
+
+-- an answer as a script has it
+abbrev pub answer_text : Response → List ℕ
+answer_text (Data bytes) = codes "d:" ++ encode_lower bytes
+answer_text Ack = codes "a"
+answer_text Nak = codes "n"
+answer_text Stall = codes "s"
+answer_text Broken = codes "b"
+
+abbrev pub answers_text : List Response → List ℕ
+answers_text answers = flat_map (λ answer. codes " " ++ answer_text answer) answers
+
+-- the line of a script
+abbrev pub script_head : ℕ → ℕ → List ℕ
+script_head number ep = codes "script " ++ (decimal number ++ (codes " " ++ hex_byte ep))
+
+unfoldable pub script_text : ℕ → RecordedEndpoint → List ℕ
+script_text number x = script_head number x.ep ++ (answers_text x.answers ++ codes "\n")
+
+-- where it has answers
+abbrev pub script_line : ℕ → RecordedEndpoint → List ℕ
+script_line number x = if length x.answers == 0 then [] else script_text number x
+
+-- the line that says which recorded device it was
+abbrev pub origin_line : ℕ → ℕ → List ℕ
+origin_line number key = codes "# device " ++ (decimal number ++ (codes " was bus " ++ (decimal (key / 256) ++ (codes " device " ++ (decimal (key % 256) ++ codes "\n")))))
+
+-- a device's own line
+abbrev pub device_line : ℕ → List ℕ → List ℕ
+device_line number descriptor = (codes "device " ++ (decimal number ++ codes " ")) ++ (encode_lower descriptor ++ codes "\n")
+
+-- the lines of a device that is kept, under its number
+unfoldable pub device_text : ℕ → ℕ → RecordedDevice → List ℕ
+device_text number key device =
+    origin_line number key
+    ++ (flat_map endpoint_notes device.endpoints
+    ++ (other_notes device.others 256
+    ++ (device_line number device.descriptor
+    ++ flat_map (script_line number) device.endpoints)))

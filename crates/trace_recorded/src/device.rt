@@ -1,0 +1,200 @@
+//! The devices of a recording.
+
+ghost use Rattle.std.specs.Prelude.{◌≡◌, IfOk};
+ghost use Rattle.trace_recorded.specs.Devices.{by_device, device_key, device_of, endpoints_of, has_answers, has_script, is_callback, is_other, is_scripted, others_of, with_answers_only, with_device_event, with_endpoint, with_other};
+
+use crate::configuration::configuration_of;
+use crate::endpoint::{RecordedEndpoint, endpoint_of, is_own};
+use crate::event::{RecordedEvent, RecordedType};
+use crate::hub::is_hub;
+use crate::left_out::LeftOut;
+use crate::table::Table;
+use std::alloc::{AllocError, Global};
+use usb_descriptors::read_config;
+use usb_model::{Bytes, EndpointInfo, Kind, Sequence};
+
+/// What a device answered.
+#[derive(Drop)]
+pub(crate) struct RecordedDevice {
+    /// Its configuration descriptor, with those behind it.
+    pub(crate) descriptor: Bytes,
+    /// Its bulk and interrupt endpoints, in the order of the configuration.
+    pub(crate) endpoints: Sequence<RecordedEndpoint>,
+    /// The endpoint of each transfer that isn't of these, nor for control, in the order of their callbacks.
+    pub(crate) others: Bytes,
+}
+
+impl RecordedEvent {
+    /// Its device's number in a table.
+    fn device_key(&self) -> u64
+        ensures { result ≡ device_key self.now }
+    {
+        let (bus, device) = (self.bus, self.device);
+        256 * u64::from(bus) + u64::from(device)
+    }
+}
+
+/// Puts an event behind those of its device.
+#[tactic(auto, unfolding(crate::specs::Devices::with_device_event))]
+fn put_event(
+    alloc: Global,
+    devices: &mut Table<Sequence<RecordedEvent>>,
+    event: RecordedEvent,
+) -> Result<(), AllocError>
+    ensures { IfOk result (λ _. devices.new ≡ with_device_event event devices.old) }
+{
+    let key = event.device_key();
+    let mut events = match devices.take(key) {
+        Some(events) => events,
+        None => Sequence::new(alloc),
+    };
+    events.push(event)?;
+    devices.put(key, events)
+}
+
+/// The events of each device, by rising bus and address.
+pub(crate) fn by_device(
+    alloc: Global,
+    events: Sequence<RecordedEvent>,
+) -> Result<Table<Sequence<RecordedEvent>>, AllocError>
+    ensures { IfOk result (λ devices. devices ≡ by_device events) }
+{
+    let mut devices = Table::new(alloc);
+    for event in events.into_vec() {
+        put_event(alloc, &mut devices, event)?;
+    }
+    Ok(devices)
+}
+
+/// Whether an endpoint's answers make a script.
+fn is_scripted(info: &EndpointInfo) -> bool
+    ensures { result ≡ is_scripted info.now }
+{
+    !info.kind.is_unsupported() && info.packet_size > 0
+}
+
+/// What the endpoints of a configuration answered.
+fn endpoints_of(
+    alloc: Global,
+    infos: &[EndpointInfo],
+    events: &[RecordedEvent],
+) -> Result<Sequence<RecordedEndpoint>, AllocError>
+    ensures { IfOk result (λ endpoints. endpoints ≡ endpoints_of infos.now events.now) }
+{
+    let mut endpoints = Sequence::new(alloc);
+    for info in infos {
+        push_endpoint(alloc, &mut endpoints, info, events)?;
+    }
+    Ok(endpoints)
+}
+
+/// What one of them answered, behind the others.
+fn push_endpoint(
+    alloc: Global,
+    endpoints: &mut Sequence<RecordedEndpoint>,
+    info: &EndpointInfo,
+    events: &[RecordedEvent],
+) -> Result<(), AllocError>
+    ensures { IfOk result (λ _. endpoints.new ≡ with_endpoint events.now info.now endpoints.old) }
+{
+    if is_scripted(info) {
+        endpoints.push(endpoint_of(alloc, info, events)?)?;
+    }
+    Ok(())
+}
+
+/// Whether an event is of a transfer of an endpoint with a script.
+fn has_script(infos: &[EndpointInfo], event: &RecordedEvent) -> bool
+    ensures { result ≡ has_script infos.now event.now }
+{
+    infos
+        .iter()
+        .any(|info| is_scripted(info) && is_own(info, event))
+}
+
+/// Whether an event is the callback of a transfer of no such endpoint, and of none for control.
+fn is_other(infos: &[EndpointInfo], event: &RecordedEvent) -> bool
+    ensures { result ≡ is_other infos.now event.now }
+{
+    let is_callback = matches!(event.event_type, RecordedType::Callback);
+    is_callback && !event.kind.is_same(Kind::Control) && !has_script(infos, event)
+}
+
+/// The endpoint of each of those.
+fn others_of(
+    alloc: Global,
+    infos: &[EndpointInfo],
+    events: &[RecordedEvent],
+) -> Result<Bytes, AllocError>
+    ensures { IfOk result (λ others. others ≡ others_of infos.now events.now) }
+{
+    let mut others = Sequence::new(alloc);
+    for event in events {
+        push_other(&mut others, infos, event)?;
+    }
+    Ok(others)
+}
+
+/// That of one, behind the others.
+fn push_other(
+    others: &mut Bytes,
+    infos: &[EndpointInfo],
+    event: &RecordedEvent,
+) -> Result<(), AllocError>
+    ensures { IfOk result (λ _. others.new ≡ with_other infos.now event.now others.old) }
+{
+    if is_other(infos, event) {
+        others.push(event.ep.address())?;
+    }
+    Ok(())
+}
+
+impl RecordedDevice {
+    /// Whether something answered.
+    fn has_answers(&self) -> bool
+        ensures { result ≡ has_answers self.now.endpoints }
+    {
+        self.endpoints
+            .as_slice()
+            .iter()
+            .any(|endpoint| !endpoint.answers.is_empty())
+    }
+
+    /// The device, where something answered.
+    fn with_answers(self) -> Result<RecordedDevice, LeftOut>
+        ensures { result ≡ with_answers_only self }
+    {
+        if self.has_answers() {
+            Ok(self)
+        } else {
+            Err(LeftOut::NoAnswers)
+        }
+    }
+}
+
+/// What a device with these events answered, or why it is left out.
+#[tactic(auto, unfolding(crate::specs::Devices::device_of))]
+pub(crate) fn device_of(
+    alloc: Global,
+    events: &[RecordedEvent],
+) -> Result<Result<RecordedDevice, LeftOut>, AllocError>
+    ensures { IfOk result (λ device. device ≡ device_of events.now) }
+{
+    let Some(descriptor) = configuration_of(alloc, events)? else {
+        return Ok(Err(LeftOut::NoConfiguration));
+    };
+    let Ok(config) = read_config(descriptor.as_slice()) else {
+        return Ok(Err(LeftOut::Refused));
+    };
+    if is_hub(descriptor.as_slice()) {
+        return Ok(Err(LeftOut::Hub));
+    }
+    let endpoints = endpoints_of(alloc, config.endpoints(), events)?;
+    let others = others_of(alloc, config.endpoints(), events)?;
+    let device = RecordedDevice {
+        descriptor,
+        endpoints,
+        others,
+    };
+    Ok(device.with_answers())
+}

@@ -1,0 +1,231 @@
+//! A text that is written line by line.
+
+ghost use Rattle.std.specs.Prelude.{◌≡◌, ◌++◌, [], IfOk};
+ghost use Rattle.std.specs.List.{flat_map};
+ghost use Rattle.hex.specs.Hex.{encode_lower};
+ghost use Rattle.trace_recorded.specs.Lines.{answer_text, answers_text, device_line, device_text, endpoint_notes, left_out_line, note_line, origin_line, other_note, other_notes, script_head, script_line, script_text};
+
+use crate::device::RecordedDevice;
+use crate::endpoint::RecordedEndpoint;
+use crate::left_out::LeftOut;
+use crate::note::Note;
+use std::alloc::{AllocError, Global};
+use std::marker::Model;
+use usb_model::{Bytes, EpAddr, Response, Sequence};
+
+/// A text that is written line by line; contracts see its bytes.
+#[derive(Drop)]
+pub(crate) struct Text {
+    bytes: Vec<u8>,
+    alloc: Global,
+}
+
+impl Model for Text {
+    ghost use Rattle.std.specs.Prelude.{ℕ, List};
+
+    ghost Value = { List ℕ };
+
+    ghost view = { λ t. t.bytes.items };
+}
+
+impl Text {
+    /// An empty text. Takes no memory.
+    pub(crate) fn new(alloc: Global) -> Text
+        ensures { result ≡ [] }
+    {
+        Text {
+            bytes: Vec::new(alloc),
+            alloc,
+        }
+    }
+
+    /// Its bytes.
+    pub(crate) fn into_bytes(self) -> Bytes
+        ensures { result ≡ self }
+    {
+        let Text { bytes, alloc: _ } = self;
+        Sequence::from_vec(bytes)
+    }
+
+    /// Puts some more behind it.
+    pub(crate) fn put(&mut self, more: &str) -> Result<(), AllocError>
+        ensures { IfOk result (λ _. self.new ≡ self.old ++ more.now) }
+    {
+        self.bytes.extend_from_slice(more.as_bytes())
+    }
+
+    /// Puts another text behind it.
+    pub(crate) fn append(&mut self, other: &Text) -> Result<(), AllocError>
+        ensures { IfOk result (λ _. self.new ≡ self.old ++ other.now) }
+    {
+        self.bytes.extend_from_slice(other.bytes.as_slice())
+    }
+
+    /// Puts bytes behind it, as two hexadecimal digits each.
+    fn put_hex(&mut self, bytes: &[u8]) -> Result<(), AllocError>
+        ensures { IfOk result (λ _. self.new ≡ self.old ++ encode_lower bytes.now) }
+    {
+        let digits = hex::encode(self.alloc, bytes)?;
+        self.bytes.extend_from_slice(digits.as_bytes())
+    }
+
+    /// Puts the line of a device that is left out behind it.
+    pub(crate) fn put_left_out(&mut self, key: u64, why: LeftOut) -> Result<(), AllocError>
+        ensures { IfOk result (λ _. self.new ≡ self.old ++ left_out_line key why) }
+    {
+        let (bus, device) = (key / 256, key % 256);
+        let line = format!(in self.alloc; "# bus {bus} device {device} is left out: {why}\n")?;
+        self.put(line.as_str())
+    }
+
+    /// Puts a note of an endpoint behind it, where there is something to note.
+    fn put_note(&mut self, ep: EpAddr, note: Note) -> Result<(), AllocError>
+        ensures { IfOk result (λ _. self.new ≡ self.old ++ note_line ep note) }
+    {
+        if !note.is_due() {
+            return Ok(());
+        }
+        let line = format!(in self.alloc; "# ep {ep}: {note}\n")?;
+        self.put(line.as_str())
+    }
+
+    /// Puts the notes of an endpoint behind it.
+    fn put_notes(&mut self, endpoint: &RecordedEndpoint) -> Result<(), AllocError>
+        ensures { IfOk result (λ _. self.new ≡ self.old ++ endpoint_notes endpoint.now) }
+    {
+        let ep = endpoint.ep;
+        self.put_note(ep, Note::Lost(endpoint.lost))?;
+        self.put_note(ep, Note::TooLong(endpoint.too_long))?;
+        self.put_note(ep, Note::TooLarge(endpoint.left_out))?;
+        self.put_note(ep, Note::TooMany(endpoint.count))
+    }
+
+    /// Puts the note of an endpoint without a script behind it.
+    fn put_other(&mut self, others: &[u8], ep: u8) -> Result<(), AllocError>
+        ensures { IfOk result (λ _. self.new ≡ self.old ++ other_note others.now ep) }
+    {
+        let count = others.iter().filter(|other| **other == ep).count();
+        self.put_note(EpAddr::new(ep), Note::Others(count as u64))
+    }
+
+    /// Puts those of all endpoints behind it.
+    fn put_others(&mut self, others: &[u8]) -> Result<(), AllocError>
+        ensures { IfOk result (λ _. self.new ≡ self.old ++ other_notes others.now 256) }
+    {
+        for ep in 0..256u16 {
+            self.put_other(others, ep as u8)?;
+        }
+        Ok(())
+    }
+
+    /// Puts an answer behind it, as a script has it.
+    fn put_answer(&mut self, answer: &Response) -> Result<(), AllocError>
+        ensures { IfOk result (λ _. self.new ≡ self.old ++ answer_text answer.now) }
+    {
+        match answer {
+            Response::Data(bytes) => {
+                self.put("d:")?;
+                self.put_hex(bytes.as_slice())
+            }
+            Response::Ack => self.put("a"),
+            Response::Nak => self.put("n"),
+            Response::Stall => self.put("s"),
+            Response::Broken => self.put("b"),
+        }
+    }
+
+    /// Puts answers behind it, each behind a space.
+    fn put_answers(&mut self, answers: &[Response]) -> Result<(), AllocError>
+        ensures { IfOk result (λ _. self.new ≡ self.old ++ answers_text answers.now) }
+    {
+        for answer in answers {
+            self.put(" ")?;
+            self.put_answer(answer)?;
+        }
+        Ok(())
+    }
+
+    /// Puts the beginning of a script's line behind it.
+    fn put_head(&mut self, number: u8, ep: EpAddr) -> Result<(), AllocError>
+        ensures { IfOk result (λ _. self.new ≡ self.old ++ script_head number ep) }
+    {
+        let head = format!(in self.alloc; "script {number} {ep}")?;
+        self.put(head.as_str())
+    }
+
+    /// Puts the line of a script behind it.
+    #[tactic(auto, unfolding(crate::specs::Lines::script_text))]
+    fn put_line(&mut self, number: u8, endpoint: &RecordedEndpoint) -> Result<(), AllocError>
+        ensures { IfOk result (λ _. self.new ≡ self.old ++ script_text number endpoint.now) }
+    {
+        self.put_head(number, endpoint.ep)?;
+        self.put_answers(endpoint.answers.as_slice())?;
+        self.put("\n")
+    }
+
+    /// The same, where it has answers.
+    fn put_script(&mut self, number: u8, endpoint: &RecordedEndpoint) -> Result<(), AllocError>
+        ensures { IfOk result (λ _. self.new ≡ self.old ++ script_line number endpoint.now) }
+    {
+        if endpoint.answers.is_empty() {
+            return Ok(());
+        }
+        self.put_line(number, endpoint)
+    }
+
+    /// Puts the line behind it that says which recorded device it was.
+    fn put_origin(&mut self, number: u8, key: u64) -> Result<(), AllocError>
+        ensures { IfOk result (λ _. self.new ≡ self.old ++ origin_line number key) }
+    {
+        let (bus, device) = (key / 256, key % 256);
+        let line = format!(in self.alloc; "# device {number} was bus {bus} device {device}\n")?;
+        self.put(line.as_str())
+    }
+
+    /// Puts a device's own line behind it.
+    fn put_descriptor(&mut self, number: u8, descriptor: &[u8]) -> Result<(), AllocError>
+        ensures { IfOk result (λ _. self.new ≡ self.old ++ device_line number descriptor.now) }
+    {
+        let line = format!(in self.alloc; "device {number} ")?;
+        self.put(line.as_str())?;
+        self.put_hex(descriptor)?;
+        self.put("\n")
+    }
+
+    /// Puts the notes of endpoints behind it.
+    fn put_all_notes(&mut self, endpoints: &[RecordedEndpoint]) -> Result<(), AllocError>
+        ensures { IfOk result (λ _. self.new ≡ self.old ++ flat_map endpoint_notes endpoints.now) }
+    {
+        for endpoint in endpoints {
+            self.put_notes(endpoint)?;
+        }
+        Ok(())
+    }
+
+    /// Puts the lines of scripts behind it.
+    fn put_scripts(&mut self, number: u8, endpoints: &[RecordedEndpoint]) -> Result<(), AllocError>
+        ensures { IfOk result (λ _. self.new ≡ self.old ++ flat_map (script_line number) endpoints.now) }
+    {
+        for endpoint in endpoints {
+            self.put_script(number, endpoint)?;
+        }
+        Ok(())
+    }
+
+    /// Puts the lines of a device that is kept behind it, under this number.
+    #[tactic(auto, unfolding(crate::specs::Lines::device_text))]
+    pub(crate) fn put_device(
+        &mut self,
+        number: u8,
+        key: u64,
+        device: &RecordedDevice,
+    ) -> Result<(), AllocError>
+        ensures { IfOk result (λ _. self.new ≡ self.old ++ device_text number key device.now) }
+    {
+        self.put_origin(number, key)?;
+        self.put_all_notes(device.endpoints.as_slice())?;
+        self.put_others(device.others.as_slice())?;
+        self.put_descriptor(number, device.descriptor.as_slice())?;
+        self.put_scripts(number, device.endpoints.as_slice())
+    }
+}
