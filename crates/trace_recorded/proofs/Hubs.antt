@@ -46,8 +46,12 @@ piece_next all found more rest behind size begins is finds past left = by_most l
     by_most zero few same = absurd (omega (arith, (two rest begins).0))
     by_most (suc most) few same =
         let shorter : length (drop (byte 0 rest) rest) ≤ most = omega (arith, two rest begins, length-drop (byte 0 rest) rest) in
-        rw goes ((most, left.1 + byte 0 rest, shorter,
-        ap (λ o. option_map_or (λ m. is_hub_behind m (pieces_from most (left.1 + byte 0 rest) (drop (byte 0 rest) rest))) o false) here ∙ (sym (next_piece most left.1 found rest begins) ∙ same)))
+        rw goes ((
+          most,
+          left.1 + byte 0 rest,
+          shorter,
+          ap (λ o. option_map_or (λ m. is_hub_behind m (pieces_from most (left.1 + byte 0 rest) (drop (byte 0 rest) rest))) o false) here ∙ (sym (next_piece most left.1 found rest begins) ∙ same),
+        ))
 
 pub piece_none : (all found : Bool) (rest : List ℕ) (size : ℕ) → begins_with_piece rest ≡ true → size ≡ byte 0 rest → ((at : ℕ) → None ≡ found_with found (record { at = at; bytes = take size rest }))
     → PiecesAreLeft all found rest → false ≡ all

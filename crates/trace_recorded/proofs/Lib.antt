@@ -9,3 +9,4 @@ mod Folded
 mod Counted
 mod Joined
 mod Hubs
+mod FilesReadBack

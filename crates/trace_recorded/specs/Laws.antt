@@ -1,5 +1,6 @@
--- What is written of an event is read back; and a driver that asks as the recorded one did is told what it was told.
-use Rattle.std.specs.Prelude.{◌≡◌, ℕ, ◌+◌, ◌-◌, ◌%◌, ◌^◌, ◌<◌, ◌≤◌, ◌⊎◌, Bool, true, false, List, [], length, drop, Option, Some, None}
+-- What is written of an event, and of a file of them, is read back; and a driver that asks as the recorded one did is told what it was told.
+use Rattle.std.specs.Prelude.{◌≡◌, ℕ, ◌+◌, ◌-◌, ◌%◌, ◌^◌, ◌<◌, ◌≤◌, ◌⊎◌, Bool, true, false, List, [], length, drop, map, Option, Some, None, Ok}
+use Rattle.std.specs.List.{AllByRecursion}
 use Rattle.usb_model.specs.declared.request.Body.TheVariants.{In, Out}
 use Rattle.usb_model.specs.declared.request.Request.{Request}
 use Rattle.usb_model.specs.declared.request.Kind.{Kind}
@@ -16,7 +17,7 @@ use Rattle.trace_capture.specs.declared.control_setup.ControlSetup.{ControlSetup
 use Rattle.trace_capture.specs.declared.event.Event.{Event}
 use Rattle.trace_capture.specs.declared.event.EventType.{EventType}
 use Rattle.trace_capture.specs.declared.event.EventType.TheVariants as written
-use Rattle.trace_capture.specs.Event.{errno_number, event_bytes, flags_number, id_number}
+use Rattle.trace_capture.specs.Event.{errno_number, event_bytes, file_bytes, flags_number, id_number}
 use Rattle.trace_capture.specs.Transfer.{errno_of}
 use Rattle.trace_recorded.specs.declared.transfer.RecordedTransfer.{RecordedTransfer}
 use Rattle.trace_recorded.specs.declared.event.RecordedEvent.{RecordedEvent}
@@ -26,6 +27,7 @@ use Rattle.trace_recorded.specs.declared.event.EventHeader.TheVariants.{Mapped}
 use Rattle.trace_recorded.specs.declared.number.Endianness.TheVariants.{Little}
 use Rattle.trace_recorded.specs.Answers.{answers_of, end_of, recorded_bytes}
 use Rattle.trace_recorded.specs.Events.{event_of}
+use Rattle.trace_recorded.specs.Files.{recording}
 
 -- setup data are of a control transfer, and each field has room
 abbrev pub SetupFits : Kind → Option ControlSetup → Type 0
@@ -65,6 +67,15 @@ fields_of e = record {
 -- what is written of an event is read back: the packet is the record behind its first 16 bytes
 abbrev pub EventsAreReadBack : Type 0
 EventsAreReadBack = (e : Event) → HasRoom e → event_of Little Mapped (drop 16 (event_bytes e)) ≡ Some (fields_of e)
+
+-- an event whose record has room for its data too
+pub record HasRecord (e : Event) : Type 0 where
+  pub room : HasRoom e
+  pub size : 64 + length e.bytes < 2 ^ 32
+
+-- a file of events is read whole, and gives what is recorded of each
+abbrev pub FilesAreReadBack : Type 0
+FilesAreReadBack = (events : List Event) → AllByRecursion HasRecord events → recording (file_bytes events) ≡ Ok (record { events = map fields_of events; is_cut = false })
 
 -- before a fault whole packets moved: none, or fewer bytes than were asked for
 pub record MovedWhole (size asked moved : ℕ) : Type 0 where

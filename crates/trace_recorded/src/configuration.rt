@@ -104,12 +104,7 @@ impl Controls {
     }
 
     /// A request succeeded, with these bytes.
-    fn answer(
-        &mut self,
-        alloc: Global,
-        setup: ControlSetup,
-        bytes: &[u8],
-    ) -> Result<(), AllocError>
+    fn answer(&mut self, alloc: Global, setup: ControlSetup, bytes: &[u8]) -> Result<(), AllocError>
         ensures { IfOk result (λ _. self.new ≡ with_answer setup bytes.now self.old) }
     {
         if reads_configuration(setup) && is_complete(bytes) {

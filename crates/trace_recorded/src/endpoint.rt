@@ -63,9 +63,7 @@ fn clears_halt(info: &EndpointInfo, setup: ControlSetup) -> bool
 fn sets_interface(info: &EndpointInfo, setup: ControlSetup) -> bool
     ensures { result ≡ sets_interface info.now setup }
 {
-    setup.request_type == 1
-        && setup.request == 11
-        && setup.index % 256 == u16::from(info.interface)
+    setup.request_type == 1 && setup.request == 11 && setup.index % 256 == u16::from(info.interface)
 }
 
 /// SET_CONFIGURATION (USB 2.0, 9.4.7).

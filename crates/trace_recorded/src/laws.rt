@@ -1,10 +1,15 @@
 //! Laws over the definitions, as functions that do nothing.
 
-ghost use Rattle.trace_recorded.specs.Laws.{EventsAreReadBack, ReadsAreToldAgain, WritesAreToldAgain};
+ghost use Rattle.trace_recorded.specs.Laws.{EventsAreReadBack, FilesAreReadBack, ReadsAreToldAgain, WritesAreToldAgain};
 
 /// What a capture says of an event is read back from it.
 pub fn events()
     ensures { EventsAreReadBack }
+{}
+
+/// A file of events, as `trace_capture` writes it, gives what it says of each, in order, and isn't cut.
+pub fn files()
+    ensures { FilesAreReadBack }
 {}
 
 /// Who reads as the recorded driver did is told what it was told: the same bytes, and the same status.

@@ -1,26 +1,42 @@
-//! What a recorded device answered, read off a capture of Linux's usbmon (Linux, Documentation/usb/usbmon.rst).
+//! What recorded devices answered, read off a capture of Linux's usbmon (Linux, Documentation/usb/usbmon.rst), as the lines of a
+//! scenario.
 //!
 //! The one promise: the answers that a recorded completion stands for end a request of the same length, and its callback is told the
-//! recorded bytes and the recorded status.
+//! recorded bytes and the recorded status; and the text of a capture is that of the definition, or the fault is.
 //!
 //! # Files
 //!
 //! - `number.rt`, `event.rt`, specs/Events: an event of a bus, and how it is read from a packet's bytes
+//! - `recording.rt`, `pcap.rt`, `block.rt`, `pcapng.rt`, specs/Files, Blocks: the events of a file, by its form
+//! - `table.rt`, specs/Tables, Folds: values by number; what a list leads to
+//! - `configuration.rt`, specs/Configurations: the configuration that a device was used in, from its control transfers
 //! - `transfer.rt`: a recorded transfer, and how it ended
 //! - `packets.rt`, `answers.rt`, specs/Answers: its answers, one a packet
+//! - `endpoint.rt`, specs/Endpoints: what an endpoint answered, and what of that is noted
+//! - `hub.rt`, `device.rt`, `left_out.rt`, specs/Devices: the devices of a recording, and which are left out
+//! - `note.rt`, `text.rt`, specs/Lines: the lines
+//! - `scenario.rt`, `capture_fault.rt`, specs/Scenario, Faults: the whole, or why there is none
 //! - `laws.rt`, specs/Laws, proofs/: what is written is read back; what the answers come to, by the definitions of the model
 //!
 //! # Contracts
 //!
+//! - `recorded_scenario`: the text of a capture's devices, and whether there is one, are those of the definition
+//!   (`recorded_scenario`, in specs/Scenario); an error is that of the definition, or want of memory. Nothing is required
+//! - `CaptureFault`: its printed text is that of the definition (`capture_fault_text`)
 //! - `event_of`: the event of a packet's bytes is that of the definition, in either byte order and behind either header
 //! - `RecordedEnd::of`: how a transfer ended, by the number of its status
 //! - `answers_of`: the answers of a recorded transfer are those of the definition
 //! - `laws::events`: what `trace_capture` writes of an event is read back
+//! - `laws::files`: of a file that it writes of events each is read, and nothing else
 //! - `laws::reads`, `laws::writes`: the answers of a transfer end a request of its length with the last of them, and the
 //!   callback is told the recorded bytes and the recorded status: 0, -121, -32, -71 or -75 of a read, 0, -32 or -71 of a write
 //!
 //! Where a transfer was withdrawn, or its device was gone, its answers are those of the whole packets that moved, and end nothing.
-//! A capture's transfers may be of any length: who wants no more than a request can ask for leaves the others out.
+//! A transfer of more bytes than a request may have is left out, and so is one that ended behind a stall. Of an endpoint's answers
+//! as many stand in its script as a script may have; the others are counted.
+//!
+//! The work grows with the capture's bytes, 30 times for a device with 30 endpoints, and with the logarithm of how many devices
+//! and transfers in flight there are.
 #![tactic(auto)]
 
 mod answers;

@@ -65,7 +65,13 @@ fn records(
     let mut rest = bytes;
     'records: while begins_with_record(order, rest) {
         let size = record_size(order, rest);
-        push_event(alloc, &mut events, order, header, &rest[RECORD_HEADER..size])?;
+        push_event(
+            alloc,
+            &mut events,
+            order,
+            header,
+            &rest[RECORD_HEADER..size],
+        )?;
         rest = past(rest, size);
     }
     let is_cut = !rest.is_empty();

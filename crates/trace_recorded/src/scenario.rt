@@ -71,12 +71,7 @@ impl Listing {
 
     /// A device more, by its events.
     #[tactic(auto, unfolding(crate::specs::Scenario::with_found))]
-    fn read(
-        &mut self,
-        alloc: Global,
-        key: u64,
-        events: &[RecordedEvent],
-    ) -> Result<(), AllocError>
+    fn read(&mut self, alloc: Global, key: u64, events: &[RecordedEvent]) -> Result<(), AllocError>
         ensures { IfOk result (λ _. self.new ≡ with_found (key, events.now) self.old) }
     {
         let device = device_of(alloc, events)?;
@@ -123,10 +118,7 @@ fn read_listing(alloc: Global, events: Sequence<RecordedEvent>) -> Result<Listin
 /// Refuses a file of another form, a pcap file with another link type, and a pcapng file without an interface of usbmon's. Takes
 /// memory for some times as many bytes as the capture has.
 #[tactic(auto, unfolding(crate::specs::Scenario::recorded_scenario))]
-pub fn recorded_scenario(
-    alloc: Global,
-    capture: &[u8],
-) -> Result<RecordedScenario, CaptureFault>
+pub fn recorded_scenario(alloc: Global, capture: &[u8]) -> Result<RecordedScenario, CaptureFault>
     ensures scenario { IfOk result (λ s. recorded_scenario capture.now ≡ Ok s) }
     ensures fault { IfErr result (λ fault. IsCaptureFault fault (recorded_scenario capture.now)) }
 {
