@@ -7,7 +7,7 @@ use Rattle.trace_recorded.specs.declared.number.Endianness.{Endianness}
 use Rattle.trace_recorded.specs.declared.event.EventHeader.{EventHeader}
 use Rattle.trace_recorded.specs.declared.event.RecordedEvent.{RecordedEvent}
 use Rattle.trace_recorded.specs.declared.recording.Recording.{Recording}
-use Rattle.trace_recorded.specs.declared.pcapng.Reading.{Reading}
+use Rattle.trace_recorded.specs.declared.pcapng.PcapngReading.{PcapngReading}
 use Rattle.trace_recorded.specs.declared.block.Front.{Front}
 use Rattle.trace_recorded.specs.declared.block.Front.TheVariants.{Block, Amid, Unknown}
 use Rattle.trace_recorded.specs.Blocks.{IsWithin}
@@ -62,18 +62,18 @@ records_end order header all events rest ends left = by_most left.0 left.2
     by_most (suc most) same = rw ends at same
 
 -- with the blocks of the rest behind what was read, all are read
-abbrev pub BlocksAreLeft : Reading → Reading → List ℕ → Type 0
+abbrev pub BlocksAreLeft : PcapngReading → PcapngReading → List ℕ → Type 0
 BlocksAreLeft all reading rest = (most : ℕ) × (length rest ≤ most) × (blocks_behind most reading rest ≡ all)
 
-pub blocks_begin : (reading : Reading) (bytes : List ℕ) → BlocksAreLeft (blocks_behind (length bytes) reading bytes) reading bytes
+pub blocks_begin : (reading : PcapngReading) (bytes : List ℕ) → BlocksAreLeft (blocks_behind (length bytes) reading bytes) reading bytes
 blocks_begin reading bytes = (length bytes, omega arith, refl)
 
-next_block : (most : ℕ) (reading : Reading) (rest : List ℕ) → (length rest == 0) ≡ false
+next_block : (most : ℕ) (reading : PcapngReading) (rest : List ℕ) → (length rest == 0) ≡ false
     → blocks_behind (suc most) reading rest ≡ blocks_behind most (with_front (front_of reading.order rest) rest reading) (past_front (front_of reading.order rest) rest)
 unfolding blocks_behind
 next_block most reading rest some = rw some refl
 
-pub block_more : (all reading : Reading) (rest : List ℕ) → 0 < length rest → length (past_front (front_of reading.order rest) rest) < length rest → BlocksAreLeft all reading rest
+pub block_more : (all reading : PcapngReading) (rest : List ℕ) → 0 < length rest → length (past_front (front_of reading.order rest) rest) < length rest → BlocksAreLeft all reading rest
     → BlocksAreLeft all (with_front (front_of reading.order rest) rest reading) (past_front (front_of reading.order rest) rest)
 block_more all reading rest some less left = by_most left.0 left.1 left.2
   where
@@ -90,7 +90,7 @@ shorter Amid rest within some = some
 shorter Unknown rest within some = some
 
 -- as the loop has it
-pub block_next : (all reading more : Reading) (rest behind : List ℕ) (front : Front) → (length rest == 0) ≡ false → front ≡ front_of reading.order rest → IsWithin front rest
+pub block_next : (all reading more : PcapngReading) (rest behind : List ℕ) (front : Front) → (length rest == 0) ≡ false → front ≡ front_of reading.order rest → IsWithin front rest
     → more ≡ with_front front rest reading → behind ≡ past_front front rest → BlocksAreLeft all reading rest
     → BlocksAreLeft all more behind
 block_next all reading more rest behind front some is within read past left =
@@ -99,7 +99,7 @@ block_next all reading more rest behind front some is within read past left =
     let less : length (past_front (front_of reading.order rest) rest) < length rest = shorter (front_of reading.order rest) rest (subst (λ f. IsWithin f rest) is within) there in
     rw (read, past, is) (block_more all reading rest there less left)
 
-pub blocks_end : (all reading : Reading) (rest : List ℕ) → length rest ≡ 0 → BlocksAreLeft all reading rest → reading ≡ all
+pub blocks_end : (all reading : PcapngReading) (rest : List ℕ) → length rest ≡ 0 → BlocksAreLeft all reading rest → reading ≡ all
 unfolding blocks_behind
 blocks_end all reading rest none left = by_most left.0 left.2
   where

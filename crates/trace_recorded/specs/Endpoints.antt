@@ -12,7 +12,7 @@ use Rattle.trace_recorded.specs.declared.event.RecordedType.TheVariants.{Submiss
 use Rattle.trace_recorded.specs.declared.transfer.RecordedEnd.{RecordedEnd}
 use Rattle.trace_recorded.specs.declared.transfer.RecordedEnd.TheVariants.{Stalled, TooLong}
 use Rattle.trace_recorded.specs.declared.transfer.RecordedTransfer.{RecordedTransfer}
-use Rattle.trace_recorded.specs.declared.endpoint.Submitted.{Submitted}
+use Rattle.trace_recorded.specs.declared.endpoint.RecordedSubmission.{RecordedSubmission}
 use Rattle.trace_recorded.specs.declared.endpoint.RecordedEndpoint.{RecordedEndpoint}
 use Rattle.trace_recorded.specs.Answers.{answers_of, end_of}
 use Rattle.trace_recorded.specs.Folds.{after}
@@ -53,11 +53,11 @@ is_too_long TooLong = true
 is_too_long _ = false
 
 -- what is kept of a submission: its length, its flags, and how often the halt was ended before
-abbrev pub submitted : RecordedEvent → RecordedEndpoint → Submitted
+abbrev pub submitted : RecordedEvent → RecordedEndpoint → RecordedSubmission
 submitted event x = record { length = event.length; flags = event.flags; clears = x.clears }
 
 -- the transfer of a submission and its callback; bit 6 of the flags asks for an empty packet behind whole ones
-abbrev pub transfer_of : EndpointInfo → Submitted → RecordedEvent → RecordedTransfer
+abbrev pub transfer_of : EndpointInfo → RecordedSubmission → RecordedEvent → RecordedTransfer
 transfer_of info s event = record {
   ep = info.address;
   asked = s.length;
@@ -72,7 +72,7 @@ abbrev pub is_too_large : RecordedTransfer → Bool
 is_too_large transfer = nat_lt most_bytes transfer.asked || nat_lt most_bytes transfer.moved
 
 -- a transfer that ended behind a stall, by the host: nothing moved, and since the stall was answered no halt was ended before it was submitted
-abbrev pub is_behind_stall : Submitted → RecordedTransfer → RecordedEndpoint → Bool
+abbrev pub is_behind_stall : RecordedSubmission → RecordedTransfer → RecordedEndpoint → Bool
 is_behind_stall s transfer x = is_stalled transfer.end && ((transfer.moved == 0) && option_map_or (λ clears. clears == s.clears) x.stalled_at false)
 
 -- how many bytes of a read weren't recorded, and whether one was too long
@@ -83,7 +83,7 @@ abbrev pub reads_too_long : RecordedTransfer → ℕ
 reads_too_long transfer = if is_in transfer.ep && is_too_long transfer.end then 1 else 0
 
 -- a transfer's answers, as many as there is room for; all are counted
-abbrev pub with_answers : ℕ → Submitted → RecordedTransfer → RecordedEndpoint → RecordedEndpoint
+abbrev pub with_answers : ℕ → RecordedSubmission → RecordedTransfer → RecordedEndpoint → RecordedEndpoint
 with_answers size s transfer x = record x {
   stalled_at = if is_stalled transfer.end then Some s.clears else x.stalled_at;
   answers = x.answers ++ take (longest_script - length x.answers) (answers_of size transfer);
@@ -93,7 +93,7 @@ with_answers size s transfer x = record x {
 }
 
 -- a transfer ended
-unfoldable pub with_transfer : ℕ → Submitted → RecordedTransfer → RecordedEndpoint → RecordedEndpoint
+unfoldable pub with_transfer : ℕ → RecordedSubmission → RecordedTransfer → RecordedEndpoint → RecordedEndpoint
 with_transfer size s transfer x =
     if is_too_large transfer then record x { left_out = counted x.left_out 1 }
     else if is_behind_stall s transfer x then x

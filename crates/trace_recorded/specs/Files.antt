@@ -13,9 +13,9 @@ use Rattle.trace_recorded.specs.declared.recording.FileForm.{FileForm}
 use Rattle.trace_recorded.specs.declared.recording.FileForm.TheVariants.{Pcap, Pcapng}
 use Rattle.trace_recorded.specs.declared.block.Front.{Front}
 use Rattle.trace_recorded.specs.declared.block.Front.TheVariants.{Block, Amid, Unknown}
-use Rattle.trace_recorded.specs.declared.pcapng.Ending.{Ending}
-use Rattle.trace_recorded.specs.declared.pcapng.Ending.TheVariants.{Whole, AmidBlock, UnknownOrder}
-use Rattle.trace_recorded.specs.declared.pcapng.Reading.{Reading}
+use Rattle.trace_recorded.specs.declared.pcapng.PcapngEnd.{PcapngEnd}
+use Rattle.trace_recorded.specs.declared.pcapng.PcapngEnd.TheVariants.{Whole, AmidBlock, UnknownOrder}
+use Rattle.trace_recorded.specs.declared.pcapng.PcapngReading.{PcapngReading}
 use Rattle.trace_recorded.specs.Events.{number_at, event_of}
 
 -- the form of a file, and the order of a pcap file's numbers, by its first four bytes: of pcap two magic numbers, one of microseconds and one of nanoseconds
@@ -124,15 +124,15 @@ unfoldable pub front_of : Endianness → List ℕ → Front
 front_of order bytes = if nat_lt (length bytes) 12 then Amid else front_by (block_order order bytes) bytes
 
 -- an interface more, of this link type
-abbrev pub with_interface : Option EventHeader → Reading → Reading
+abbrev pub with_interface : Option EventHeader → PcapngReading → PcapngReading
 with_interface header reading = record reading { headers = reading.headers ++ header ∷ []; has_usbmon = reading.has_usbmon || is_some header }
 
 -- a packet more, of the interface of this number: an event of usbmon's, where that is one
-abbrev pub with_packet_by : Option (Option EventHeader) → Endianness → List ℕ → Reading → Reading
+abbrev pub with_packet_by : Option (Option EventHeader) → Endianness → List ℕ → PcapngReading → PcapngReading
 with_packet_by (Some (Some header)) order packet reading = record reading { events = reading.events ++ events_in order header packet }
 with_packet_by _ order packet reading = reading
 
-abbrev pub with_packet : ℕ → Endianness → List ℕ → Reading → Reading
+abbrev pub with_packet : ℕ → Endianness → List ℕ → PcapngReading → PcapngReading
 with_packet interface order packet reading = with_packet_by (slice_get reading.headers interface) order packet reading
 
 -- as many bytes of a block's body from a place on as its number at another says
@@ -140,7 +140,7 @@ abbrev pub packet_at : Endianness → ℕ → ℕ → List ℕ → List ℕ
 packet_at order length_at place body = take (number_at order length_at 4 body) (drop place body)
 
 -- a block more, by its type; a section header forgets the interfaces before it
-unfoldable pub with_block : ℕ → Endianness → List ℕ → Reading → Reading
+unfoldable pub with_block : ℕ → Endianness → List ℕ → PcapngReading → PcapngReading
 with_block kind order body reading =
     if kind == section_header then record reading { order = order; headers = [] }
     else if kind == interface_description then with_interface (header_of_link (number_at order 0 2 body)) reading
@@ -154,7 +154,7 @@ abbrev pub body_of : ℕ → List ℕ → List ℕ
 body_of size bytes = take (size - 4 - 8) (drop 8 bytes)
 
 -- what stands in front is read
-abbrev pub with_front : Front → List ℕ → Reading → Reading
+abbrev pub with_front : Front → List ℕ → PcapngReading → PcapngReading
 with_front (Block order size) bytes reading = with_block (number_at order 0 4 bytes) order (body_of size bytes) reading
 with_front Amid bytes reading = record reading { ending = AmidBlock }
 with_front Unknown bytes reading = record reading { ending = UnknownOrder }
@@ -165,23 +165,23 @@ past_front (Block order size) bytes = drop size bytes
 past_front _ bytes = []
 
 -- the blocks of bytes, at most so many, behind what was read before them
-unfoldable pub blocks_behind : ℕ → Reading → List ℕ → Reading
+unfoldable pub blocks_behind : ℕ → PcapngReading → List ℕ → PcapngReading
 blocks_behind zero reading bytes = reading
 blocks_behind (suc most) reading bytes =
     if length bytes == 0 then reading
     else blocks_behind most (with_front (front_of reading.order bytes) bytes reading) (past_front (front_of reading.order bytes) bytes)
 
 -- nothing is read yet
-abbrev pub nothing_read : Reading
+abbrev pub nothing_read : PcapngReading
 nothing_read = record { order = Little; headers = []; has_usbmon = false; events = []; ending = Whole }
 
 -- a file with this was read
-abbrev pub recording_by : Ending → Bool → List RecordedEvent → Result Recording CaptureFault
+abbrev pub recording_by : PcapngEnd → Bool → List RecordedEvent → Result Recording CaptureFault
 recording_by UnknownOrder has_usbmon events = Err NotACapture
 recording_by Whole has_usbmon events = if has_usbmon then Ok (record { events = events; is_cut = false }) else Err NoInterface
 recording_by AmidBlock has_usbmon events = if has_usbmon then Ok (record { events = events; is_cut = true }) else Err NoInterface
 
-abbrev pub recording_of : Reading → Result Recording CaptureFault
+abbrev pub recording_of : PcapngReading → Result Recording CaptureFault
 recording_of reading = recording_by reading.ending reading.has_usbmon reading.events
 
 -- a pcapng file: blocks

@@ -11,8 +11,8 @@ use Rattle.trace_recorded.specs.declared.endpoint.RecordedEndpoint.{RecordedEndp
 use Rattle.trace_recorded.specs.declared.device.RecordedDevice.{RecordedDevice}
 use Rattle.trace_recorded.specs.declared.left_out.LeftOut.{LeftOut}
 use Rattle.trace_recorded.specs.declared.left_out.LeftOut.TheVariants.{NoConfiguration, Refused, Hub, NoAnswers, FifthDevice}
-use Rattle.trace_recorded.specs.declared.note.Note.{Note}
-use Rattle.trace_recorded.specs.declared.note.Note.TheVariants.{Lost, TooLong, TooLarge, TooMany, Others}
+use Rattle.trace_recorded.specs.declared.note.EndpointNote.{EndpointNote}
+use Rattle.trace_recorded.specs.declared.note.EndpointNote.TheVariants.{Lost, TooLong, TooLarge, TooMany, Others}
 
 -- why a device is left out
 abbrev pub left_out_text : LeftOut → List ℕ
@@ -27,7 +27,7 @@ abbrev pub left_out_line : ℕ → LeftOut → List ℕ
 left_out_line key why = codes "# bus " ++ (decimal (key / 256) ++ (codes " device " ++ (decimal (key % 256) ++ (codes " is left out: " ++ (left_out_text why ++ codes "\n")))))
 
 -- what an endpoint's script leaves unsaid
-abbrev pub note_text : Note → List ℕ
+abbrev pub note_text : EndpointNote → List ℕ
 note_text (Lost n) = decimal n ++ codes " bytes were not recorded; they are 00 here"
 note_text (TooLong n) = decimal n ++ codes " packets were too long; their bytes are 00 here"
 note_text (TooLarge n) = decimal n ++ (codes " transfers of more than " ++ (decimal most_bytes ++ codes " bytes are left out"))
@@ -35,14 +35,14 @@ note_text (TooMany n) = codes "the first " ++ (decimal longest_script ++ (codes 
 note_text (Others n) = decimal n ++ codes " transfers are left out: not a bulk or interrupt endpoint of this configuration"
 
 -- whether there is something to note
-abbrev pub is_due : Note → Bool
+abbrev pub is_due : EndpointNote → Bool
 is_due (Lost n) = nat_lt 0 n
 is_due (TooLong n) = nat_lt 0 n
 is_due (TooLarge n) = nat_lt 0 n
 is_due (TooMany n) = nat_lt longest_script n
 is_due (Others n) = nat_lt 0 n
 
-abbrev pub note_line : ℕ → Note → List ℕ
+abbrev pub note_line : ℕ → EndpointNote → List ℕ
 note_line ep note = if is_due note then codes "# ep " ++ (hex_byte ep ++ (codes ": " ++ (note_text note ++ codes "\n"))) else []
 
 -- the notes of an endpoint

@@ -7,7 +7,7 @@ ghost use Rattle.trace_capture.specs.Control.{configuration_value, total_length}
 ghost use Rattle.trace_recorded.specs.Configurations.{configuration_by, configuration_of, controls_of, is_complete, is_of, is_success, no_controls, reads_configuration, sets_configuration, with_answer, with_control, with_end, with_submission};
 
 use crate::event::{RecordedEvent, RecordedType};
-use crate::table::Table;
+use crate::table::ByNumber;
 use std::alloc::{AllocError, Global};
 use trace_capture::ControlSetup;
 use usb_model::{Bytes, Kind, Sequence};
@@ -16,7 +16,7 @@ use usb_model::{Bytes, Kind, Sequence};
 #[derive(Drop)]
 pub(crate) struct Controls {
     /// What those in flight are to do, by their ids.
-    waiting: Table<ControlSetup>,
+    waiting: ByNumber<ControlSetup>,
     /// The configuration descriptors that were read, in order.
     found: Sequence<Bytes>,
     /// The value of the configuration that was set last.
@@ -97,7 +97,7 @@ impl Controls {
         ensures { result ≡ no_controls }
     {
         Controls {
-            waiting: Table::new(alloc),
+            waiting: ByNumber::new(alloc),
             found: Sequence::new(alloc),
             configured: None,
         }

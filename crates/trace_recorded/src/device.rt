@@ -8,7 +8,7 @@ use crate::endpoint::{RecordedEndpoint, endpoint_of, is_own};
 use crate::event::{RecordedEvent, RecordedType};
 use crate::hub::is_hub;
 use crate::left_out::LeftOut;
-use crate::table::Table;
+use crate::table::ByNumber;
 use std::alloc::{AllocError, Global};
 use usb_descriptors::read_config;
 use usb_model::{Bytes, EndpointInfo, Kind, Sequence};
@@ -38,7 +38,7 @@ impl RecordedEvent {
 #[tactic(auto, unfolding(crate::specs::Devices::with_device_event))]
 fn put_event(
     alloc: Global,
-    devices: &mut Table<Sequence<RecordedEvent>>,
+    devices: &mut ByNumber<Sequence<RecordedEvent>>,
     event: RecordedEvent,
 ) -> Result<(), AllocError>
     ensures { IfOk result (λ _. devices.new ≡ with_device_event event devices.old) }
@@ -56,10 +56,10 @@ fn put_event(
 pub(crate) fn by_device(
     alloc: Global,
     events: Sequence<RecordedEvent>,
-) -> Result<Table<Sequence<RecordedEvent>>, AllocError>
+) -> Result<ByNumber<Sequence<RecordedEvent>>, AllocError>
     ensures { IfOk result (λ devices. devices ≡ by_device events) }
 {
-    let mut devices = Table::new(alloc);
+    let mut devices = ByNumber::new(alloc);
     for event in events.into_vec() {
         put_event(alloc, &mut devices, event)?;
     }

@@ -3,21 +3,21 @@
 ghost use Rattle.std.specs.Prelude.{◌≡◌, ◌-◌, ◌<◌, ◌++◌, IfOk, length, take};
 ghost use Rattle.usb_model.specs.Limits.{longest_script};
 ghost use Rattle.trace_recorded.specs.Answers.{answers_of};
-ghost use Rattle.trace_recorded.specs.Endpoints.{bytes_lost, clears_halt, configures, endpoint_of, ends_halt, ends_halt_by, is_behind_stall, is_own, is_stalled, is_too_large, is_too_long, no_answers, reads_too_long, sets_interface, submitted, transfer_of, with_answers, with_event, with_own_by, with_transfer};
+ghost use Rattle.trace_recorded.specs.Endpoints.{bytes_lost, endpoint_of, is_behind_stall, is_own, is_stalled, is_too_large, is_too_long, no_answers, reads_too_long, submitted, transfer_of, with_answers, with_event, with_own_by, with_transfer};
 
 use crate::answers::{answer_count, answers_of};
 use crate::event::{RecordedEvent, RecordedType};
-use crate::table::Table;
+use crate::halt::submits_end;
+use crate::table::ByNumber;
 use crate::transfer::{RecordedEnd, RecordedTransfer};
 use std::alloc::{AllocError, Global};
 use std::mem;
-use trace_capture::ControlSetup;
 use usb_model::limits::{LONGEST_SCRIPT, MOST_BYTES};
 use usb_model::{EndpointInfo, EpAddr, Script, Sequence};
 
 /// What is kept of a submission while its transfer is in flight.
 #[derive(Clone, Copy)]
-pub(crate) struct Submitted {
+pub(crate) struct RecordedSubmission {
     /// How many bytes were asked for.
     length: u32,
     /// The transfer flags.
@@ -32,7 +32,7 @@ pub(crate) struct RecordedEndpoint {
     /// The endpoint.
     pub(crate) ep: EpAddr,
     /// The submissions of transfers in flight, by their ids.
-    waiting: Table<Submitted>,
+    waiting: ByNumber<RecordedSubmission>,
     /// How often its halt was ended.
     clears: u64,
     /// How often it had been ended where the transfer was submitted that got the last stall.
@@ -47,47 +47,6 @@ pub(crate) struct RecordedEndpoint {
     pub(crate) too_long: u64,
     /// How many transfers were too large for a request.
     pub(crate) left_out: u64,
-}
-
-/// CLEAR_FEATURE of ENDPOINT_HALT at this endpoint (USB 2.0, 9.4.1).
-fn clears_halt(info: &EndpointInfo, setup: ControlSetup) -> bool
-    ensures { result ≡ clears_halt info.now setup }
-{
-    setup.request_type == 2
-        && setup.request == 1
-        && setup.value == 0
-        && setup.index % 256 == u16::from(info.address.address())
-}
-
-/// SET_INTERFACE of its interface (USB 2.0, 9.4.10).
-fn sets_interface(info: &EndpointInfo, setup: ControlSetup) -> bool
-    ensures { result ≡ sets_interface info.now setup }
-{
-    setup.request_type == 1 && setup.request == 11 && setup.index % 256 == u16::from(info.interface)
-}
-
-/// SET_CONFIGURATION (USB 2.0, 9.4.7).
-fn configures(setup: ControlSetup) -> bool
-    ensures { result ≡ configures setup }
-{
-    setup.request_type == 0 && setup.request == 9
-}
-
-/// Whether a request ends the halt of this endpoint.
-fn ends_halt(info: &EndpointInfo, setup: ControlSetup) -> bool
-    ensures { result ≡ ends_halt info.now setup }
-{
-    clears_halt(info, setup) || sets_interface(info, setup) || configures(setup)
-}
-
-/// Whether an event is the submission of such a request.
-fn submits_end(info: &EndpointInfo, event: &RecordedEvent) -> bool
-    ensures { result ≡ ends_halt_by event.now.event_type info.now event.now.setup }
-{
-    match (event.event_type, event.setup) {
-        (RecordedType::Submission, Some(setup)) => ends_halt(info, setup),
-        _ => false,
-    }
 }
 
 /// Whether an event is of a transfer of this endpoint.
@@ -113,7 +72,7 @@ impl RecordedEnd {
     }
 }
 
-impl Submitted {
+impl RecordedSubmission {
     /// The transfer of a submission and its callback.
     fn transfer(
         self,
@@ -172,7 +131,7 @@ impl RecordedEndpoint {
     {
         RecordedEndpoint {
             ep,
-            waiting: Table::new(alloc),
+            waiting: ByNumber::new(alloc),
             clears: 0,
             stalled_at: None,
             answers: Sequence::new(alloc),
@@ -184,10 +143,10 @@ impl RecordedEndpoint {
     }
 
     /// What is kept of a submission.
-    fn submitted(&self, event: &RecordedEvent) -> Submitted
+    fn submitted(&self, event: &RecordedEvent) -> RecordedSubmission
         ensures { result ≡ submitted event.now self.now }
     {
-        Submitted {
+        RecordedSubmission {
             length: event.length,
             flags: event.flags,
             clears: self.clears,
@@ -195,7 +154,7 @@ impl RecordedEndpoint {
     }
 
     /// Whether a transfer ended behind a stall, without an answer.
-    fn is_behind_stall(&self, submitted: Submitted, transfer: &RecordedTransfer) -> bool
+    fn is_behind_stall(&self, submitted: RecordedSubmission, transfer: &RecordedTransfer) -> bool
         ensures { result ≡ is_behind_stall submitted transfer.now self.now }
     {
         let is_since = match self.stalled_at {
@@ -231,7 +190,7 @@ impl RecordedEndpoint {
         &mut self,
         alloc: Global,
         size: u16,
-        submitted: Submitted,
+        submitted: RecordedSubmission,
         transfer: &RecordedTransfer,
     ) -> Result<(), AllocError>
         requires { 0 < size }
@@ -255,7 +214,7 @@ impl RecordedEndpoint {
         &mut self,
         alloc: Global,
         size: u16,
-        submitted: Submitted,
+        submitted: RecordedSubmission,
         transfer: &RecordedTransfer,
     ) -> Result<(), AllocError>
         requires { 0 < size }

@@ -12,7 +12,7 @@
 //! - `configuration.rt`, specs/Configurations: the configuration that a device was used in, from its control transfers
 //! - `transfer.rt`: a recorded transfer, and how it ended
 //! - `packets.rt`, `answers.rt`, specs/Answers: its answers, one a packet
-//! - `endpoint.rt`, specs/Endpoints: what an endpoint answered, and what of that is noted
+//! - `halt.rt`, `endpoint.rt`, specs/Endpoints: requests that end a halt; what an endpoint answered, and what of that is noted
 //! - `hub.rt`, `device.rt`, `left_out.rt`, specs/Devices: the devices of a recording, and which are left out
 //! - `note.rt`, `text.rt`, specs/Lines: the lines
 //! - `scenario.rt`, `capture_fault.rt`, specs/Scenario, Faults: the whole, or why there is none
@@ -46,6 +46,7 @@ mod configuration;
 mod device;
 mod endpoint;
 mod event;
+mod halt;
 mod hub;
 pub mod laws;
 mod left_out;

@@ -8,7 +8,7 @@ use usb_model::limits::{LONGEST_SCRIPT, MOST_BYTES};
 
 /// What is noted of an endpoint, with how many there are.
 #[derive(Clone, Copy)]
-pub(crate) enum Note {
+pub(crate) enum EndpointNote {
     /// Bytes that were read and not recorded.
     Lost(u64),
     /// Packets that were too long for what was asked.
@@ -21,34 +21,40 @@ pub(crate) enum Note {
     Others(u64),
 }
 
-impl Note {
+impl EndpointNote {
     /// Whether there is something to note.
     pub(crate) fn is_due(self) -> bool
         ensures { result ≡ is_due self }
     {
         match self {
-            Note::Lost(n) | Note::TooLong(n) | Note::TooLarge(n) | Note::Others(n) => n > 0,
-            Note::TooMany(n) => n > LONGEST_SCRIPT as u64,
+            EndpointNote::Lost(n)
+            | EndpointNote::TooLong(n)
+            | EndpointNote::TooLarge(n)
+            | EndpointNote::Others(n) => n > 0,
+            EndpointNote::TooMany(n) => n > LONGEST_SCRIPT as u64,
         }
     }
 }
 
-impl fmt::Display for Note {
+impl fmt::Display for EndpointNote {
     ghost output = { λ note. Some (note_text note) };
 
     fn fmt<W: fmt::Write>(&self, f: &mut fmt::Formatter<W>) -> fmt::Result {
         match self {
-            Note::Lost(n) => write!(f, "{n} bytes were not recorded; they are 00 here"),
-            Note::TooLong(n) => write!(f, "{n} packets were too long; their bytes are 00 here"),
-            Note::TooLarge(n) => {
+            EndpointNote::Lost(n) => write!(f, "{n} bytes were not recorded; they are 00 here"),
+            EndpointNote::TooLong(n) => write!(
+                f,
+                "{n} packets were too long; their bytes are 00 here"
+            ),
+            EndpointNote::TooLarge(n) => {
                 let most = MOST_BYTES;
                 write!(f, "{n} transfers of more than {most} bytes are left out")
             }
-            Note::TooMany(n) => {
+            EndpointNote::TooMany(n) => {
                 let longest = LONGEST_SCRIPT;
                 write!(f, "the first {longest} of {n} answers")
             }
-            Note::Others(n) => write!(
+            EndpointNote::Others(n) => write!(
                 f,
                 "{n} transfers are left out: not a bulk or interrupt endpoint of this configuration"
             ),

@@ -18,7 +18,7 @@ use usb_model::Sequence;
 
 /// How reading a file ends.
 #[derive(Clone, Copy, PartialEq, Eq, Debug)]
-pub(crate) enum Ending {
+pub(crate) enum PcapngEnd {
     /// Behind a block.
     Whole,
     /// Amid one.
@@ -29,7 +29,7 @@ pub(crate) enum Ending {
 
 /// What was read of a file so far.
 #[derive(Debug, Drop)]
-pub(crate) struct Reading {
+pub(crate) struct PcapngReading {
     /// The order of the section's numbers.
     order: Endianness,
     /// Its interfaces: what stands in front of their packets' data; None where one isn't usbmon's.
@@ -39,7 +39,7 @@ pub(crate) struct Reading {
     /// The events, in the order of the file.
     events: Sequence<RecordedEvent>,
     /// How it ended, if it did.
-    ending: Ending,
+    ending: PcapngEnd,
 }
 
 /// As many bytes of a block's body from a place on as its number at another says, as far as they are there.
@@ -54,17 +54,17 @@ fn packet_at(order: Endianness, length_at: usize, place: usize, body: &[u8]) -> 
         .unwrap_or(behind)
 }
 
-impl Reading {
+impl PcapngReading {
     /// Nothing is read yet.
-    fn new(alloc: Global) -> Reading
+    fn new(alloc: Global) -> PcapngReading
         ensures { result ≡ nothing_read }
     {
-        Reading {
+        PcapngReading {
             order: Endianness::Little,
             headers: Sequence::new(alloc),
             has_usbmon: false,
             events: Sequence::new(alloc),
-            ending: Ending::Whole,
+            ending: PcapngEnd::Whole,
         }
     }
 
@@ -138,11 +138,11 @@ impl Reading {
                 self.read_block(alloc, kind, order, &bytes[8..size - 4])
             }
             Front::Amid => {
-                self.ending = Ending::AmidBlock;
+                self.ending = PcapngEnd::AmidBlock;
                 Ok(())
             }
             Front::Unknown => {
-                self.ending = Ending::UnknownOrder;
+                self.ending = PcapngEnd::UnknownOrder;
                 Ok(())
             }
         }
@@ -152,7 +152,7 @@ impl Reading {
     fn into_recording(self) -> Result<Recording, CaptureFault>
         ensures { result ≡ recording_of self }
     {
-        let Reading {
+        let PcapngReading {
             order: _,
             headers: _,
             has_usbmon,
@@ -160,9 +160,9 @@ impl Reading {
             ending,
         } = self;
         let is_cut = match ending {
-            Ending::UnknownOrder => return Err(CaptureFault::NotACapture),
-            Ending::AmidBlock => true,
-            Ending::Whole => false,
+            PcapngEnd::UnknownOrder => return Err(CaptureFault::NotACapture),
+            PcapngEnd::AmidBlock => true,
+            PcapngEnd::Whole => false,
         };
         if !has_usbmon {
             return Err(CaptureFault::NoInterface);
@@ -172,10 +172,10 @@ impl Reading {
 }
 
 /// What was read of all blocks.
-fn blocks(alloc: Global, bytes: &[u8]) -> Result<Reading, AllocError>
+fn blocks(alloc: Global, bytes: &[u8]) -> Result<PcapngReading, AllocError>
     ensures { IfOk result (λ reading. reading ≡ blocks_behind (length bytes.now) nothing_read bytes.now) }
 {
-    let mut reading = Reading::new(alloc);
+    let mut reading = PcapngReading::new(alloc);
     let mut rest = bytes;
     while !rest.is_empty() {
         let front = Front::of(reading.order, rest);

@@ -9,7 +9,7 @@ use crate::device::{RecordedDevice, by_device, device_of};
 use crate::event::RecordedEvent;
 use crate::left_out::LeftOut;
 use crate::recording::read_recording;
-use crate::text::Text;
+use crate::text::ScenarioText;
 use std::alloc::{AllocError, Global};
 use usb_model::{Bytes, Sequence};
 
@@ -29,9 +29,9 @@ pub struct RecordedScenario {
 #[derive(Drop)]
 pub(crate) struct Listing {
     /// Those of the devices that are left out.
-    left_out: Text,
+    left_out: ScenarioText,
     /// Those of the devices that are kept.
-    kept: Text,
+    kept: ScenarioText,
     /// How many are kept.
     count: u8,
 }
@@ -42,8 +42,8 @@ impl Listing {
         ensures { result ≡ no_device }
     {
         Listing {
-            left_out: Text::new(alloc),
-            kept: Text::new(alloc),
+            left_out: ScenarioText::new(alloc),
+            kept: ScenarioText::new(alloc),
             count: 0,
         }
     }
@@ -87,7 +87,7 @@ impl Listing {
             kept,
             count,
         } = self;
-        let mut text = Text::new(alloc);
+        let mut text = ScenarioText::new(alloc);
         if is_cut {
             text.put("# the capture ends amid a record\n")?;
         }

@@ -9,11 +9,11 @@ use std::marker::Model;
 
 /// Values by number. Contracts see the list of both, by rising number.
 #[derive(Drop)]
-pub(crate) struct Table<V> {
+pub(crate) struct ByNumber<V> {
     values: BTreeMap<u64, V>,
 }
 
-impl<V> Model for Table<V> {
+impl<V> Model for ByNumber<V> {
     ghost use Rattle.std.specs.Prelude.{ℕ, List};
 
     ghost Value = { List (ℕ × V) };
@@ -21,12 +21,12 @@ impl<V> Model for Table<V> {
     ghost view = { λ t. t.values.entries };
 }
 
-impl<V: Drop> Table<V> {
+impl<V: Drop> ByNumber<V> {
     /// No value. Takes no memory.
-    pub(crate) fn new(alloc: Global) -> Table<V>
+    pub(crate) fn new(alloc: Global) -> ByNumber<V>
         ensures { result ≡ [] }
     {
-        Table {
+        ByNumber {
             values: BTreeMap::new(alloc),
         }
     }
@@ -51,7 +51,7 @@ impl<V: Drop> Table<V> {
     pub(crate) fn into_map(self) -> BTreeMap<u64, V>
         ensures { result.entries ≡ self }
     {
-        let Table { values } = self;
+        let ByNumber { values } = self;
         values
     }
 }

@@ -8,19 +8,19 @@ ghost use Rattle.trace_recorded.specs.Lines.{answer_text, answers_text, device_l
 use crate::device::RecordedDevice;
 use crate::endpoint::RecordedEndpoint;
 use crate::left_out::LeftOut;
-use crate::note::Note;
+use crate::note::EndpointNote;
 use std::alloc::{AllocError, Global};
 use std::marker::Model;
 use usb_model::{Bytes, EpAddr, Response, Sequence};
 
 /// A text that is written line by line; contracts see its bytes.
 #[derive(Drop)]
-pub(crate) struct Text {
+pub(crate) struct ScenarioText {
     bytes: Vec<u8>,
     alloc: Global,
 }
 
-impl Model for Text {
+impl Model for ScenarioText {
     ghost use Rattle.std.specs.Prelude.{ℕ, List};
 
     ghost Value = { List ℕ };
@@ -28,12 +28,12 @@ impl Model for Text {
     ghost view = { λ t. t.bytes.items };
 }
 
-impl Text {
+impl ScenarioText {
     /// An empty text. Takes no memory.
-    pub(crate) fn new(alloc: Global) -> Text
+    pub(crate) fn new(alloc: Global) -> ScenarioText
         ensures { result ≡ [] }
     {
-        Text {
+        ScenarioText {
             bytes: Vec::new(alloc),
             alloc,
         }
@@ -43,7 +43,7 @@ impl Text {
     pub(crate) fn into_bytes(self) -> Bytes
         ensures { result ≡ self }
     {
-        let Text { bytes, alloc: _ } = self;
+        let ScenarioText { bytes, alloc: _ } = self;
         Sequence::from_vec(bytes)
     }
 
@@ -55,7 +55,7 @@ impl Text {
     }
 
     /// Puts another text behind it.
-    pub(crate) fn append(&mut self, other: &Text) -> Result<(), AllocError>
+    pub(crate) fn append(&mut self, other: &ScenarioText) -> Result<(), AllocError>
         ensures { IfOk result (λ _. self.new ≡ self.old ++ other.now) }
     {
         self.bytes.extend_from_slice(other.bytes.as_slice())
@@ -79,7 +79,7 @@ impl Text {
     }
 
     /// Puts a note of an endpoint behind it, where there is something to note.
-    fn put_note(&mut self, ep: EpAddr, note: Note) -> Result<(), AllocError>
+    fn put_note(&mut self, ep: EpAddr, note: EndpointNote) -> Result<(), AllocError>
         ensures { IfOk result (λ _. self.new ≡ self.old ++ note_line ep note) }
     {
         if !note.is_due() {
@@ -94,10 +94,10 @@ impl Text {
         ensures { IfOk result (λ _. self.new ≡ self.old ++ endpoint_notes endpoint.now) }
     {
         let ep = endpoint.ep;
-        self.put_note(ep, Note::Lost(endpoint.lost))?;
-        self.put_note(ep, Note::TooLong(endpoint.too_long))?;
-        self.put_note(ep, Note::TooLarge(endpoint.left_out))?;
-        self.put_note(ep, Note::TooMany(endpoint.count))
+        self.put_note(ep, EndpointNote::Lost(endpoint.lost))?;
+        self.put_note(ep, EndpointNote::TooLong(endpoint.too_long))?;
+        self.put_note(ep, EndpointNote::TooLarge(endpoint.left_out))?;
+        self.put_note(ep, EndpointNote::TooMany(endpoint.count))
     }
 
     /// Puts the note of an endpoint without a script behind it.
@@ -105,7 +105,7 @@ impl Text {
         ensures { IfOk result (λ _. self.new ≡ self.old ++ other_note others.now ep) }
     {
         let count = others.iter().filter(|other| **other == ep).count();
-        self.put_note(EpAddr::new(ep), Note::Others(count as u64))
+        self.put_note(EpAddr::new(ep), EndpointNote::Others(count as u64))
     }
 
     /// Puts those of all endpoints behind it.

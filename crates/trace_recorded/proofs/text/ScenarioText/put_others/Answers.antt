@@ -1,6 +1,6 @@
 -- None at first, and one more each time.
 use Rattle.trace_recorded.proofs.Joined.{notes_none, notes_more}
-use Rattle.trace_recorded.proofs.text.Text.put_others.Goals as goal
+use Rattle.trace_recorded.proofs.text.ScenarioText.put_others.Goals as goal
 
 pub loop-ep-init : goal.loop-ep-init
 loop-ep-init c = notes_none c.args.self.now c.args.others.now

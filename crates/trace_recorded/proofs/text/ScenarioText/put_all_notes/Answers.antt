@@ -2,7 +2,7 @@
 use Rattle.std.proofs.Common.{arith}
 use Rattle.trace_recorded.specs.Lines.{endpoint_notes}
 use Rattle.trace_recorded.proofs.Joined.{joined_next, joined_end}
-use Rattle.trace_recorded.proofs.text.Text.put_all_notes.Goals as goal
+use Rattle.trace_recorded.proofs.text.ScenarioText.put_all_notes.Goals as goal
 
 pub loop-endpoint-preserved : goal.loop-endpoint-preserved
 loop-endpoint-preserved c =

@@ -2,7 +2,7 @@
 use Rattle.std.proofs.Common.{◌≡◌, ◌++◌, codes, ap, ◌∙◌, append_assoc, arith}
 use Rattle.trace_recorded.specs.Lines.{answer_text}
 use Rattle.trace_recorded.proofs.Joined.{joined_next, joined_end}
-use Rattle.trace_recorded.proofs.text.Text.put_answers.Goals as goal
+use Rattle.trace_recorded.proofs.text.ScenarioText.put_answers.Goals as goal
 
 pub loop-answer-preserved : goal.loop-answer-preserved
 loop-answer-preserved c =
