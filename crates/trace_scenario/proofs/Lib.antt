@@ -10,3 +10,4 @@ pub mod Places
 mod Lines
 mod Runnables
 pub mod StepLines
+pub mod DeviceLines

@@ -16,3 +16,4 @@ pub mod TextResults
 pub mod Runnable
 pub mod Scenario
 pub mod StepLines
+pub mod DeviceLines

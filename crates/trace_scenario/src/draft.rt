@@ -123,6 +123,13 @@ impl Draft {
         self.plan.len()
     }
 
+    /// How many devices there are so far.
+    pub(crate) fn setups(&self) -> usize
+        ensures { result ≡ length self.now.setup }
+    {
+        self.devices.len()
+    }
+
     /// Whether a step stands before, so that no device or script may stand here.
     fn has_steps(&self) -> bool
         ensures { result ≡ not (length self.now.plan == 0) }

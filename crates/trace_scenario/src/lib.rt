@@ -15,7 +15,8 @@
 //! - `problem.rt`, `slip.rt`, `fault.rt`: what is wrong with a line, in a sentence; slips of editors and other notations; why it
 //!   isn't taken
 //! - `draft.rt`, `scenario.rt`, `scripted.rt`: what the lines so far say; a scenario; a device of it
-//! - `lined.rt`, specs/StepLines: a scenario with the line of each piece of its plan
+//! - `lined.rt`, specs/StepLines: a scenario with the line of each piece of its plan, and of each device
+//! - `described.rt`, specs/DeviceLines: a device's line, with the bytes of its configuration
 //! - `findings.rt`: the bad lines of a text, and how much the others say
 //! - `text_fault.rt`, `laws.rt`: why a text isn't read; a text has no bad line exactly where it is that of a
 //!   scenario, and each scenario can be run
@@ -32,7 +33,7 @@
 //! - `read_scenario`: the scenario that the lines say together (`scenario_of`), or the number of the first bad line;
 //!   what it gives can be run (`IsRunnable`). Want of memory leaves both open
 //! - `read_lined`: the same with the line of each piece of the plan: its number and its bytes (`step_lines`), as many
-//!   lines as pieces
+//!   lines as pieces; and the line of each device: its number and the bytes of its configuration (`device_lines`)
 //! - `into_setups`, `ScriptedDevice::into_setup`: devices as the model has them: the same
 //! - `check`: the numbers of the bad lines, each line judged by what the good ones before it say, and the counts of
 //!   what the good ones say
@@ -44,6 +45,7 @@
 //!   says no verdict itself; and it has a rule for each submission, none of which is Free
 #![tactic(auto)]
 
+mod described;
 mod draft;
 mod expected;
 mod fault;
@@ -65,6 +67,7 @@ mod submit;
 mod text_fault;
 mod verb;
 
+pub use described::DescribedDevice;
 pub use expected::Expected;
 pub use fault::LineFault;
 pub use findings::{Counts, Finding, Findings, check};

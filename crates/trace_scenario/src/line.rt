@@ -104,7 +104,7 @@ fn is_ascii(bytes: &[u8]) -> bool
 }
 
 /// The text of bytes that are all ASCII.
-fn ascii(bytes: &[u8]) -> Option<&str>
+pub(crate) fn ascii(bytes: &[u8]) -> Option<&str>
     ensures { option_copied result ≡ ascii_of bytes.now }
 {
     if is_ascii(bytes) {

@@ -7,7 +7,9 @@ use Rattle.std.proofs.lemmas.Iterator.Consumers.{YieldsList-turn, YieldsList-end
 use Rattle.trace_scenario.specs.declared.scenario.Scenario.{Scenario}
 use Rattle.trace_scenario.specs.TextResults.{AnswersAs, fault_at}
 use Rattle.trace_scenario.specs.Scenario.{scenario_of, scenario_from, taken_at}
+use Rattle.trace_scenario.specs.DeviceLines.{device_lines, device_lines_from}
 use Rattle.trace_scenario.specs.StepLines.{numbered, step_lines, step_lines_from}
+use Rattle.trace_scenario.proofs.DeviceLines.{described_all, described_more}
 use Rattle.trace_scenario.proofs.Runnables.{scenarios_runnable}
 use Rattle.trace_scenario.proofs.Scenarios.{scenario-more, scenario-end, faulty, counted}
 use Rattle.trace_scenario.proofs.StepLines.{kept_all, kept_more, line_each}
@@ -20,6 +22,7 @@ loop-line-init c =
       counted = refl;
       rest = ap (λ s. scenario_from 1 s texts) (sym c.new-draft.ensures);
       kept = rw (c.new-lines.ensures.items, c.new-draft.ensures) refl;
+      described = rw (c.new-devices.ensures.items, c.new-draft.ensures) refl;
     }
 
 pub returns-in-Err-clause-fault : goal.returns-in-Err-clause-fault
@@ -50,6 +53,10 @@ loop-line-preserved c =
           ap (λ n. map numbered c.keep.new.lines.items ++ step_lines_from (n + 1) c.read.new.self (drop n texts)) grows
           ∙ kept_more texts i c.in-Some.line.now c.loop-line.draft c.read.new.self (map numbered c.loop-line.lines.items) (map numbered c.keep.new.lines.items) (step_lines c.args.text.now)
           c.saturating_add-number.result c.pieces-pieces.result c.pieces.result t c.in_default.ensures place c.pieces-pieces.ensures c.pieces.ensures c.in-Ok.ensures c.loop-line.invariant.kept;
+      described =
+          ap (λ n. c.keep_device.new.devices.items ++ device_lines_from (n + 1) c.read.new.self (drop n texts)) grows
+          ∙ described_more texts i c.in-Some.line.now c.loop-line.draft c.read.new.self c.loop-line.devices.items c.keep_device.new.devices.items (device_lines c.args.text.now)
+          c.saturating_add-number.result c.setups-setups.result c.setups.result t c.in_default.ensures place c.setups-setups.ensures c.setups.ensures c.in-Ok-keep_device.ensures c.loop-line.invariant.described;
     }
 
 pub returns-clause-scenario : goal.returns-clause-scenario
@@ -67,6 +74,12 @@ returns-clause-lines c =
     let texts = slice_split (λ b. b == 10) c.args.text.now in
     let t = YieldsList-end (YieldsList-from_slice_split {s = c.into_iter-line-iterator.result} _ (λ b. b == 10) c.args.text.now (cc) (cc) (cc) (λ x b q k. search (rules, tests))) c.loop-line.yielded _ c.loop-line.yielded_by _ _ c.in-None.is c.next.ensures.steps in
     kept_all texts (length c.loop-line.yielded) c.loop-line.draft (map numbered c.loop-line.lines.items) (step_lines c.args.text.now) (omega (arith, t.1)) c.loop-line.invariant.kept
+
+pub returns-clause-devices : goal.returns-clause-devices
+returns-clause-devices c =
+    let texts = slice_split (λ b. b == 10) c.args.text.now in
+    let t = YieldsList-end (YieldsList-from_slice_split {s = c.into_iter-line-iterator.result} _ (λ b. b == 10) c.args.text.now (cc) (cc) (cc) (λ x b q k. search (rules, tests))) c.loop-line.yielded _ c.loop-line.yielded_by _ _ c.in-None.is c.next.ensures.steps in
+    described_all texts (length c.loop-line.yielded) c.loop-line.draft c.loop-line.devices.items (device_lines c.args.text.now) (omega (arith, t.1)) c.loop-line.invariant.described
 
 pub returns-clause-each : goal.returns-clause-each
 returns-clause-each c =
