@@ -1,6 +1,6 @@
 -- The command line: what its words say.
 use Rattle.std.proofs.Common.{◌≡◌, ◌⊎◌, ◌∙◌, ℕ, Bool, true, false, List, [], ◌∷◌, Option, Some, None, is_some, refl, sym, ap, ap₂, subst, inl, inr, rules, codes}
-use Rattle.std.specs.Prelude.{◌&&◌, Box, find, not, option_map, slice_index_or, unwrap_or}
+use Rattle.std.specs.Prelude.{◌&&◌, Box, find, not, option_map, unwrap_or}
 use Rattle.std.specs.Box.{box_value}
 use Rattle.std.specs.List.{list_any}
 use Rattle.std.specs.Option.{option_map_or}
@@ -93,68 +93,43 @@ has_subcommand_without_fault words e =
     level_wanted (built grammar).top (names_of (built grammar)) nothing_held (argument_words grammar words)
     (is_some (entered (built grammar) stop)) (entered_fault (built grammar) stop) refl refl e
 
--- of six shapes the one that is found is one of them
-found : (test : Shape → Bool) (x y z u v w s : Shape) → find test (x ∷ y ∷ z ∷ u ∷ v ∷ w ∷ []) ≡ Some s
-    → (s ≡ x) ⊎ ((s ≡ y) ⊎ ((s ≡ z) ⊎ ((s ≡ u) ⊎ ((s ≡ v) ⊎ (s ≡ w)))))
-found test x y z u v w s e = by_first (test x) refl
+-- a shape is one of some
+abbrev pub IsOneOf : Shape → List Shape → Type 0
+IsOneOf s [] = ⊥
+IsOneOf s (x ∷ xs) = (s ≡ x) ⊎ IsOneOf s xs
+
+-- a name is that of one of them
+abbrev pub IsNamed : Text → List Shape → Type 0
+IsNamed name [] = ⊥
+IsNamed name (x ∷ xs) = (name ≡ x.name) ⊎ IsNamed name xs
+
+-- the one that is found is one of them
+found : (test : Shape → Bool) (xs : List Shape) (s : Shape) → find test xs ≡ Some s → IsOneOf s xs
+found test [] s e = cc
+found test (x ∷ xs) s e = by_first (test x) refl (found test xs s)
   where
-    by_sixth : (t : Bool) → test x ≡ false → test y ≡ false → test z ≡ false → test u ≡ false → test v ≡ false → test w ≡ t → (s ≡ x) ⊎ ((s ≡ y) ⊎ ((s ≡ z) ⊎ ((s ≡ u) ⊎ ((s ≡ v) ⊎ (s ≡ w)))))
-    by_sixth true first second third fourth fifth t = let got : Some w ≡ Some s = rw (first, second, third, fourth, fifth, t) at e in inr (inr (inr (inr (inr (grind rules)))))
-    by_sixth false first second third fourth fifth t = let got : None ≡ Some s = rw (first, second, third, fourth, fifth, t) at e in cc
+    by_first : (t : Bool) → test x ≡ t → (find test xs ≡ Some s → IsOneOf s xs) → (s ≡ x) ⊎ IsOneOf s xs
+    by_first true t further = let got : Some x ≡ Some s = rw t at e in inl (grind rules)
+    by_first false t further = let got : find test xs ≡ Some s = rw t at e in inr (further got)
 
-    by_fifth : (t : Bool) → test x ≡ false → test y ≡ false → test z ≡ false → test u ≡ false → test v ≡ t → (s ≡ x) ⊎ ((s ≡ y) ⊎ ((s ≡ z) ⊎ ((s ≡ u) ⊎ ((s ≡ v) ⊎ (s ≡ w)))))
-    by_fifth true first second third fourth t = let got : Some v ≡ Some s = rw (first, second, third, fourth, t) at e in inr (inr (inr (inr (inl (grind rules)))))
-    by_fifth false first second third fourth t = by_sixth (test w) first second third fourth t refl
+-- and has its name
+has_name : (s : Shape) (xs : List Shape) → IsOneOf s xs → IsNamed s.name xs
+has_name s [] one = one
+has_name s (x ∷ xs) (inl first) = inl (ap (λ (t : Shape). t.name) first)
+has_name s (x ∷ xs) (inr more) = inr (has_name s xs more)
 
-    by_fourth : (t : Bool) → test x ≡ false → test y ≡ false → test z ≡ false → test u ≡ t → (s ≡ x) ⊎ ((s ≡ y) ⊎ ((s ≡ z) ⊎ ((s ≡ u) ⊎ ((s ≡ v) ⊎ (s ≡ w)))))
-    by_fourth true first second third t = let got : Some u ≡ Some s = rw (first, second, third, t) at e in inr (inr (inr (inl (grind rules))))
-    by_fourth false first second third t = by_fifth (test v) first second third t refl
-
-    by_third : (t : Bool) → test x ≡ false → test y ≡ false → test z ≡ t → (s ≡ x) ⊎ ((s ≡ y) ⊎ ((s ≡ z) ⊎ ((s ≡ u) ⊎ ((s ≡ v) ⊎ (s ≡ w)))))
-    by_third true first second t = let got : Some z ≡ Some s = rw (first, second, t) at e in inr (inr (inl (grind rules)))
-    by_third false first second t = by_fourth (test u) first second t refl
-
-    by_second : (t : Bool) → test x ≡ false → test y ≡ t → (s ≡ x) ⊎ ((s ≡ y) ⊎ ((s ≡ z) ⊎ ((s ≡ u) ⊎ ((s ≡ v) ⊎ (s ≡ w)))))
-    by_second true first t = let got : Some y ≡ Some s = rw (first, t) at e in inr (inl (grind rules))
-    by_second false first t = by_third (test z) first t refl
-
-    by_first : (t : Bool) → test x ≡ t → (s ≡ x) ⊎ ((s ≡ y) ⊎ ((s ≡ z) ⊎ ((s ≡ u) ⊎ ((s ≡ v) ⊎ (s ≡ w)))))
-    by_first true t = let got : Some x ≡ Some s = rw t at e in inl (grind rules)
-    by_first false t = by_second (test y) t refl
-
--- a subcommand's name is one of the six
-abbrev pub IsOneOfSix : Text → Type 0
-IsOneOfSix name =
-    (name ≡ codes "run") ⊎ ((name ≡ codes "alone") ⊎ ((name ≡ codes "live") ⊎ ((name ≡ codes "left") ⊎ ((name ≡ codes "check") ⊎ (name ≡ codes "draw")))))
-
--- the subcommand that words name is one of them
-pub one_of_six : (words : List Text) (named : Text × List Row) → subcommand_of grammar words ≡ Some named → IsOneOfSix named.0
-one_of_six words named e = by_stop (walk (built grammar).top.rules (names_of (built grammar)) nothing_held (argument_words grammar words)).stopped e
+-- the subcommand that words name is one of those of the grammar
+pub one_of_all : (words : List Text) (named : Text × List Row) → subcommand_of grammar words ≡ Some named → IsNamed named.0 (built grammar).subs
+one_of_all words named e = by_stop (walk (built grammar).top.rules (names_of (built grammar)) nothing_held (argument_words grammar words)).stopped e
   where
     by_found : (p : Text × List Text) (o : Option Shape) → find (λ s. answers_to p.0 (label_of s)) (built grammar).subs ≡ o
-        → option_map (λ s. rows_at s p.1) o ≡ Some named → IsOneOfSix named.0
+        → option_map (λ s. rows_at s p.1) o ≡ Some named → IsNamed named.0 (built grammar).subs
     by_found p None at same = cc
     by_found p (Some s) at same =
         let name : s.name ≡ named.0 = ap (λ (o : Option (Text × List Row)). unwrap_or (option_map (λ n. n.0) o) []) same in
-        let sub : ℕ → Shape = λ i. slice_index_or (built grammar).subs i s in
-        elim (found (λ s. answers_to p.0 (label_of s)) (sub 0) (sub 1) (sub 2) (sub 3) (sub 4) (sub 5) s at) [
-          | inl first ↦ inl (sym name ∙ ap (λ (t : Shape). t.name) first)
-          | inr others ↦ elim others [
-            | inl second ↦ inr (inl (sym name ∙ ap (λ (t : Shape). t.name) second))
-            | inr more ↦ elim more [
-              | inl third ↦ inr (inr (inl (sym name ∙ ap (λ (t : Shape). t.name) third)))
-              | inr rest ↦ elim rest [
-                | inl fourth ↦ inr (inr (inr (inl (sym name ∙ ap (λ (t : Shape). t.name) fourth))))
-                | inr last ↦ elim last [
-                  | inl fifth ↦ inr (inr (inr (inr (inl (sym name ∙ ap (λ (t : Shape). t.name) fifth)))))
-                  | inr sixth ↦ inr (inr (inr (inr (inr (sym name ∙ ap (λ (t : Shape). t.name) sixth)))))
-                ]
-              ]
-            ]
-          ]
-        ]
+        subst (λ n. IsNamed n (built grammar).subs) name (has_name s (built grammar).subs (found (λ s. answers_to p.0 (label_of s)) (built grammar).subs s at))
 
-    by_stop : (o : Option (Text × List Text)) → entered (built grammar) o ≡ Some named → IsOneOfSix named.0
+    by_stop : (o : Option (Text × List Text)) → entered (built grammar) o ≡ Some named → IsNamed named.0 (built grammar).subs
     by_stop None same = cc
     by_stop (Some p) same = by_found p (find (λ s. answers_to p.0 (label_of s)) (built grammar).subs) refl same
 
@@ -199,28 +174,25 @@ asks_for name task says words m same is_name = by_rows (subcommand_rows_of m) re
 -- words without fault have one of the subcommands
 pub has_one : (words : List Text) (m : ArgMatches) (task : Task) → subcommand_rows_of m ≡ subcommand_of grammar words
     → (subcommand_name_of m ≡ Some (codes "alone") → ⊥) → (subcommand_name_of m ≡ Some (codes "live") → ⊥) → (subcommand_name_of m ≡ Some (codes "left") → ⊥)
-    → (subcommand_name_of m ≡ Some (codes "check") → ⊥) → (subcommand_name_of m ≡ Some (codes "draw") → ⊥) → (subcommand_name_of m ≡ Some (codes "run") → ⊥)
+    → (subcommand_name_of m ≡ Some (codes "check") → ⊥) → (subcommand_name_of m ≡ Some (codes "draw") → ⊥) → (subcommand_name_of m ≡ Some (codes "capture") → ⊥)
+    → (subcommand_name_of m ≡ Some (codes "devices") → ⊥) → (subcommand_name_of m ≡ Some (codes "run") → ⊥)
     → fault_of grammar words ≡ [] → task_of (subcommand_of grammar words) ≡ Some task
-has_one words m task same no_alone no_live no_left no_check no_draw no_run clear = by_rows (subcommand_of grammar words) refl (has_subcommand_without_fault words clear)
+has_one words m task same no_alone no_live no_left no_check no_draw no_capture no_devices no_run clear = by_rows (subcommand_of grammar words) refl (has_subcommand_without_fault words clear)
   where
     name_is : (named : Text × List Row) (name : Text) → subcommand_of grammar words ≡ Some named → named.0 ≡ name → subcommand_name_of m ≡ Some name
     name_is named name at is = sym (name_of_rows (out-ArgMatches m).subcommand) ∙ ap (option_map (λ n. n.0)) (same ∙ at) ∙ ap Some is
 
+    by_name : (named : Text × List Row) → subcommand_of grammar words ≡ Some named → IsNamed named.0 (built grammar).subs → ⊥
+    by_name named at (inl run) = no_run (name_is named (codes "run") at run)
+    by_name named at (inr (inl alone)) = no_alone (name_is named (codes "alone") at alone)
+    by_name named at (inr (inr (inl live))) = no_live (name_is named (codes "live") at live)
+    by_name named at (inr (inr (inr (inl left)))) = no_left (name_is named (codes "left") at left)
+    by_name named at (inr (inr (inr (inr (inl check))))) = no_check (name_is named (codes "check") at check)
+    by_name named at (inr (inr (inr (inr (inr (inl draw)))))) = no_draw (name_is named (codes "draw") at draw)
+    by_name named at (inr (inr (inr (inr (inr (inr (inl capture))))))) = no_capture (name_is named (codes "capture") at capture)
+    by_name named at (inr (inr (inr (inr (inr (inr (inr (inl devices)))))))) = no_devices (name_is named (codes "devices") at devices)
+    by_name named at (inr (inr (inr (inr (inr (inr (inr (inr none)))))))) = none
+
     by_rows : (o : Option (Text × List Row)) → subcommand_of grammar words ≡ o → is_some o ≡ true → task_of (subcommand_of grammar words) ≡ Some task
     by_rows None at some = cc
-    by_rows (Some named) at some = elim (one_of_six words named at) [
-      | inl run ↦ absurd (no_run (name_is named (codes "run") at run))
-      | inr others ↦ elim others [
-        | inl alone ↦ absurd (no_alone (name_is named (codes "alone") at alone))
-        | inr more ↦ elim more [
-          | inl live ↦ absurd (no_live (name_is named (codes "live") at live))
-          | inr rest ↦ elim rest [
-            | inl left ↦ absurd (no_left (name_is named (codes "left") at left))
-            | inr last ↦ elim last [
-              | inl check ↦ absurd (no_check (name_is named (codes "check") at check))
-              | inr draw ↦ absurd (no_draw (name_is named (codes "draw") at draw))
-            ]
-          ]
-        ]
-      ]
-    ]
+    by_rows (Some named) at some = absurd (by_name named at (one_of_all words named at))

@@ -10,7 +10,7 @@ use Rattle.clap.specs.declared.error.kind.ErrorKind.TheVariants as kind
 use Rattle.clap.proofs.OnLiterals.{clap_on_literals}
 use Rattle.trace_io.specs.CommandLine.{AreBad, AskFor, AskForHelp, grammar, task_of}
 use Rattle.trace_io.specs.declared.words.Task.{Task}
-use Rattle.trace_io.specs.declared.words.Task.TheVariants.{Run, Steps, Alone, Live, Left, Check, Draw}
+use Rattle.trace_io.specs.declared.words.Task.TheVariants.{Run, Steps, Alone, Live, Left, Check, Draw, Capture, Devices}
 
 pub run_asks : (name : Text) → AskFor (name ∷ codes "run" ∷ []) Run
 unfolding clap_on_literals
@@ -43,6 +43,22 @@ check_asks name = (refl, refl)
 pub draw_asks : (name : Text) → AskFor (name ∷ codes "draw" ∷ []) (Draw 1 18446744073709551615)
 unfolding clap_on_literals
 draw_asks name = (refl, refl)
+
+pub capture_asks : (name : Text) → AskFor (name ∷ codes "capture" ∷ []) Capture
+unfolding clap_on_literals
+capture_asks name = (refl, refl)
+
+pub devices_ask : (name : Text) → AskFor (name ∷ codes "devices" ∷ []) Devices
+unfolding clap_on_literals
+devices_ask name = (refl, refl)
+
+pub capture_of_a_file_is_bad : (name : Text) → AreBad (name ∷ codes "capture" ∷ codes "1" ∷ [])
+unfolding clap_on_literals
+capture_of_a_file_is_bad name = (kind.UnknownArgument, inl refl, λ e. cc)
+
+pub devices_of_a_file_are_bad : (name : Text) → AreBad (name ∷ codes "devices" ∷ codes "1" ∷ [])
+unfolding clap_on_literals
+devices_of_a_file_are_bad name = (kind.UnknownArgument, inl refl, λ e. cc)
 
 pub part_asks : (name : Text) → AskFor (name ∷ codes "draw" ∷ codes "--from" ∷ codes "11" ∷ codes "--to" ∷ codes "20" ∷ []) (Draw 11 20)
 unfolding clap_on_literals
@@ -116,6 +132,8 @@ is_alone h (Some (Live n)) = false
 is_alone h (Some Left) = false
 is_alone h (Some Check) = false
 is_alone h (Some (Draw from to)) = false
+is_alone h (Some Capture) = false
+is_alone h (Some Devices) = false
 is_alone h None = false
 
 is_alone_says : (h : ℕ) (task : Option Task) → is_alone h task ≡ true → task ≡ Some (Alone h)
@@ -126,6 +144,8 @@ is_alone_says h (Some (Live n)) e = let bad : false ≡ true = e in cc
 is_alone_says h (Some Left) e = let bad : false ≡ true = e in cc
 is_alone_says h (Some Check) e = let bad : false ≡ true = e in cc
 is_alone_says h (Some (Draw from to)) e = let bad : false ≡ true = e in cc
+is_alone_says h (Some Capture) e = let bad : false ≡ true = e in cc
+is_alone_says h (Some Devices) e = let bad : false ≡ true = e in cc
 is_alone_says h None e = let bad : false ≡ true = e in cc
 
 is_empty_says : (kinds : Kinds) → is_empty kinds ≡ true → kinds ≡ []

@@ -13,7 +13,7 @@ use Rattle.clap.specs.declared.error.kind.ErrorKind.{ErrorKind}
 use Rattle.clap.specs.declared.error.kind.ErrorKind.TheVariants.{DisplayHelp}
 use Rattle.trace_scenario.specs.Number.{last_handle}
 use Rattle.trace_io.specs.declared.words.Task.{Task}
-use Rattle.trace_io.specs.declared.words.Task.TheVariants.{Run, Steps, Alone, Live, Left, Check, Draw}
+use Rattle.trace_io.specs.declared.words.Task.TheVariants.{Run, Steps, Alone, Live, Left, Check, Draw, Capture, Devices}
 
 -- the word H: a whole number from 0 to the last name, which has to be there
 abbrev pub handle_word : Rule
@@ -81,7 +81,15 @@ to_word = record (new_rule (codes "to")) {
 abbrev pub draw_words : Shape
 draw_words = record (new_shape (codes "draw")) { rules = from_word ∷ to_word ∷ [] }
 
--- usbtrace, and then one of the six; there is no subcommand for help
+-- capture
+abbrev pub capture_words : Shape
+capture_words = new_shape (codes "capture")
+
+-- devices
+abbrev pub devices_words : Shape
+devices_words = new_shape (codes "devices")
+
+-- usbtrace, and then one of the eight; there is no subcommand for help
 abbrev pub first_words : Shape
 first_words = record (new_shape (codes "usbtrace")) { is_leaf = false; disable_help_subcommand = true; subcommand_required = true }
 
@@ -93,9 +101,16 @@ program_alone = record { top = record first_words { is_leaf = true }; subs = [] 
 abbrev pub program_of_runs : App
 program_of_runs = record { top = first_words; subs = run_words ∷ alone_words ∷ live_words ∷ [] }
 
+-- with those that print something else of a scenario
+abbrev pub program_of_scenarios : App
+program_of_scenarios = record { top = first_words; subs = run_words ∷ alone_words ∷ live_words ∷ left_words ∷ check_words ∷ draw_words ∷ [] }
+
 -- the command line
 abbrev pub grammar : App
-grammar = record { top = first_words; subs = run_words ∷ alone_words ∷ live_words ∷ left_words ∷ check_words ∷ draw_words ∷ [] }
+grammar = record {
+  top = first_words;
+  subs = run_words ∷ alone_words ∷ live_words ∷ left_words ∷ check_words ∷ draw_words ∷ capture_words ∷ devices_words ∷ [];
+}
 
 -- the number that a word says
 abbrev pub number_in : Text → List Row → Option ℕ
@@ -117,7 +132,9 @@ task_named name rows =
     else (if bytes_eq name (codes "left") then Some Left
     else (if bytes_eq name (codes "check") then Some Check
     else (if bytes_eq name (codes "draw") then drawing_in rows
-    else (if bytes_eq name (codes "run") then Some (if is_stepwise rows then Steps else Run) else None)))))
+    else (if bytes_eq name (codes "capture") then Some Capture
+    else (if bytes_eq name (codes "devices") then Some Devices
+    else (if bytes_eq name (codes "run") then Some (if is_stepwise rows then Steps else Run) else None)))))))
 
 -- the task of the subcommand that the words name
 abbrev pub task_of : Option (Text × List Row) → Option Task

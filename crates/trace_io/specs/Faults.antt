@@ -6,13 +6,21 @@ use Rattle.std.specs.declared.io.ErrorKind.TheVariants.{OutOfMemory}
 use Rattle.trace_scenario.specs.declared.text_fault.TextFault.{TextFault}
 use Rattle.trace_scenario.specs.declared.text_fault.TextFault.TheVariants as text
 use Rattle.trace_io.specs.declared.fault.Fault.{Fault}
-use Rattle.trace_io.specs.declared.fault.Fault.TheVariants.{Line, Memory, InputOutput, TooLong, Rounds, Wide}
+use Rattle.trace_io.specs.declared.fault.Fault.TheVariants.{Line, Memory, InputOutput, TooLong, Rounds, Wide, Capture}
+use Rattle.trace_recorded.specs.declared.fault.CaptureFault.{CaptureFault}
+use Rattle.trace_recorded.specs.declared.fault.CaptureFault.TheVariants as capture
+use Rattle.trace_recorded.specs.Faults.{capture_fault_text}
 use Rattle.trace_io.specs.Input.{longest_input}
 
 -- the fault of a run whose text has this one
 abbrev pub fault_of_text : TextFault → Fault
 fault_of_text (text.Line line) = Line line
 fault_of_text text.Memory = Memory
+
+-- the fault of a run whose capture has this one: want of memory is that of a run
+abbrev pub fault_of_capture : CaptureFault → Fault
+fault_of_capture capture.Memory = Memory
+fault_of_capture fault = Capture fault
 
 -- the fault of a stream that fails with an error of this kind
 abbrev pub fault_of_kind : ErrorKind → Fault
@@ -27,12 +35,13 @@ fault_text InputOutput = codes "input or output failed"
 fault_text TooLong = codes "the input is longer than 67108864 bytes\nusbtrace: input or output failed"
 fault_text (Rounds rounds) = codes "more than " ++ decimal rounds ++ codes " callbacks are called: --rounds sets how many may be"
 fault_text (Wide steps) = decimal steps ++ codes " steps are too many for a picture, which has 2000: choose some by --from and --to"
+fault_text (Capture fault) = codes "the capture is refused: " ++ capture_fault_text fault
 
 -- the message of a fault on standard error
 abbrev pub message_of : Fault → List ℕ
 message_of fault = codes "usbtrace: " ++ fault_text fault ++ codes "\n"
 
--- a fault of memory or of a stream, and not of a line, of the whole input, of the callbacks or of a picture
+-- a fault of memory or of a stream, and not of a line, of the whole input, of the callbacks, of a picture or of a capture
 abbrev pub IsOfRun : Fault → Type 0
 IsOfRun (Line line) = ⊥
 IsOfRun Memory = ⊤
@@ -40,6 +49,7 @@ IsOfRun InputOutput = ⊤
 IsOfRun TooLong = ⊥
 IsOfRun (Rounds rounds) = ⊥
 IsOfRun (Wide steps) = ⊥
+IsOfRun (Capture fault) = ⊥
 
 -- how many steps a picture has at most
 abbrev pub most_drawn : ℕ

@@ -3,7 +3,7 @@
 ghost use Rattle.std.specs.Prelude.{◌≡◌, OnOk, Some};
 ghost use Rattle.std.specs.Io.KnownBytes.{Appends};
 ghost use Rattle.std.specs.IoError.{error_kind};
-ghost use Rattle.trace_io.specs.Faults.{fault_of_kind, fault_of_text, fault_text, message_of};
+ghost use Rattle.trace_io.specs.Faults.{fault_of_capture, fault_of_kind, fault_of_text, fault_text, message_of};
 ghost use Rattle.trace_io.specs.Output.{AppendsSome};
 ghost use Rattle.trace_io.specs.declared.fault.Fault.TheVariants as Fault;
 
@@ -13,6 +13,7 @@ use std::alloc::AllocError;
 use std::fmt::Write;
 use std::{fmt, io};
 use thiserror::Error;
+use trace_recorded::CaptureFault;
 use trace_scenario::TextFault;
 
 /// How many bytes a message may have. The longest, of steps whose number has 20 digits, has 116.
@@ -33,6 +34,8 @@ pub enum Fault {
     Rounds(u64),
     /// So many steps were to be drawn, more than a picture has.
     Wide(u64),
+    /// The input is no capture that is read, for this reason, which isn't want of memory.
+    Capture(CaptureFault),
 }
 
 /// The fault in words. They are written here, and not by the derive, whose text no contract knows.
@@ -55,6 +58,7 @@ impl fmt::Display for Fault {
                 f,
                 "{steps} steps are too many for a picture, which has 2000: choose some by --from and --to"
             ),
+            Fault::Capture(fault) => write!(f, "the capture is refused: {fault}"),
         }
     }
 }
@@ -81,6 +85,17 @@ impl From<TextFault> for Fault {
         match error {
             TextFault::Line(line) => Fault::Line(line),
             TextFault::Memory => Fault::Memory,
+        }
+    }
+}
+
+impl From<CaptureFault> for Fault {
+    ghost from_gives = { λ error fault. fault ≡ fault_of_capture error };
+
+    fn from(error: CaptureFault) -> Fault {
+        match error {
+            CaptureFault::Memory => Fault::Memory,
+            _ => Fault::Capture(error),
         }
     }
 }

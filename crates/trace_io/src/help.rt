@@ -71,3 +71,20 @@ pub(crate) const DRAW: &str = help_text!(
     "where the whole run is drawn",
     "where a line is bad, memory is wanting or a stream fails"
 );
+
+/// The help of `capture`.
+pub(crate) const CAPTURE: &str = help_text!(
+    "capture > run.pcap",
+    "where the whole run is written",
+    "where a line is bad, memory is wanting or a stream fails"
+);
+
+/// The help of `devices`, which reads no scenario.
+pub(crate) const DEVICES: &str = concat!(
+    "Input: a capture of Linux's usbmon, as tcpdump or Wireshark write it: a pcap or pcapng file of link type 220 or 189.\n",
+    "What is printed is the beginning of a scenario: a line for each device, and one for what each endpoint answered.\n\n",
+    "Example:\n",
+    "  usbtrace devices < recorded.pcap > scenario.txt\n\n",
+    "Status: 0 where a device was found, 1 where none was, the input is no such capture, memory is wanting or a stream fails, ",
+    "2 for bad words"
+);

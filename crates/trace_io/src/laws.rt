@@ -3,13 +3,13 @@
 ghost use Rattle.std.specs.Prelude.{◌<◌, ◌∷◌, [], ℕ, List, codes};
 ghost use Rattle.std.specs.Fmt.{decimal};
 ghost use Rattle.trace_io.specs.CommandLine.{AreBad, AskFor, AskForHelp};
-ghost use Rattle.trace_io.specs.declared.words.Task.TheVariants.{Run, Steps, Alone, Live, Left, Check, Draw};
+ghost use Rattle.trace_io.specs.declared.words.Task.TheVariants.{Run, Steps, Alone, Live, Left, Check, Draw, Capture, Devices};
 
 /// Whatever name the program is called by: `run` asks for a run, `run --steps` for a run step by step, `alone H` for
 /// each of the 64 handles alone, a plus sign or leading zeros before its number included, `live` for a run in threads of
 /// a million callbacks at most, `live --rounds 25` for one of 25, `left` for what is left, `check` for a check, `draw` for
-/// a picture, `draw --from 11 --to 20` for one of ten steps, and `-h` for help. No words, a second word after `run`, `live`, `left` or `check`, no handle or the handle 64
-/// after `alone`, no number after `--rounds`, a step 0 and `help` are bad.
+/// a picture, `draw --from 11 --to 20` for one of ten steps, `capture` for a capture, `devices` for the devices of one, and `-h` for help. No words, a second
+/// word after `run`, `live`, `left`, `check`, `capture` or `devices`, no handle or the handle 64 after `alone`, no number after `--rounds`, a step 0 and `help` are bad.
 pub fn words()
     ensures run { (name : List ℕ) → AskFor (name ∷ codes "run" ∷ []) Run }
     ensures steps { (name : List ℕ) → AskFor (name ∷ codes "run" ∷ codes "--steps" ∷ []) Steps }
@@ -22,6 +22,8 @@ pub fn words()
     ensures check { (name : List ℕ) → AskFor (name ∷ codes "check" ∷ []) Check }
     ensures draw { (name : List ℕ) → AskFor (name ∷ codes "draw" ∷ []) (Draw 1 18446744073709551615) }
     ensures part { (name : List ℕ) → AskFor (name ∷ codes "draw" ∷ codes "--from" ∷ codes "11" ∷ codes "--to" ∷ codes "20" ∷ []) (Draw 11 20) }
+    ensures capture { (name : List ℕ) → AskFor (name ∷ codes "capture" ∷ []) Capture }
+    ensures devices { (name : List ℕ) → AskFor (name ∷ codes "devices" ∷ []) Devices }
     ensures help { (name : List ℕ) → AskForHelp (name ∷ codes "-h" ∷ []) }
     ensures no_words { (name : List ℕ) → AreBad (name ∷ []) }
     ensures too_many { (name : List ℕ) → AreBad (name ∷ codes "run" ∷ codes "1" ∷ []) }
@@ -30,6 +32,8 @@ pub fn words()
     ensures no_rounds { (name : List ℕ) → AreBad (name ∷ codes "live" ∷ codes "--rounds" ∷ codes "many" ∷ []) }
     ensures step_0 { (name : List ℕ) → AreBad (name ∷ codes "draw" ∷ codes "--from" ∷ codes "0" ∷ []) }
     ensures left_with_a_word { (name : List ℕ) → AreBad (name ∷ codes "left" ∷ codes "1" ∷ []) }
+    ensures capture_of_a_file { (name : List ℕ) → AreBad (name ∷ codes "capture" ∷ codes "1" ∷ []) }
+    ensures devices_of_a_file { (name : List ℕ) → AreBad (name ∷ codes "devices" ∷ codes "1" ∷ []) }
     ensures no_handle { (name : List ℕ) → AreBad (name ∷ codes "alone" ∷ []) }
     ensures handle_64 { (name : List ℕ) → AreBad (name ∷ codes "alone" ∷ codes "64" ∷ []) }
     ensures no_help { (name : List ℕ) → AreBad (name ∷ codes "help" ∷ []) }

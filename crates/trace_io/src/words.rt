@@ -9,7 +9,7 @@ ghost use Rattle.clap.specs.Matches.{found_of};
 ghost use Rattle.clap.specs.Simple.{app_of, shape_of};
 ghost use Rattle.clap.specs.declared.builder.command.Command.TheViews.{out-Command as fields_of};
 ghost use Rattle.clap.specs.Walk.{rows_of, rule_of};
-ghost use Rattle.trace_io.specs.CommandLine.{AskFor, alone_words, check_words, draw_words, drawing_in, from_word, grammar, handle_in, handle_word, is_stepwise, left_words, live_words, number_in, program_alone, program_of_runs, rounds_word, run_words, steps_word, to_word};
+ghost use Rattle.trace_io.specs.CommandLine.{AskFor, alone_words, capture_words, check_words, devices_words, draw_words, drawing_in, from_word, grammar, handle_in, handle_word, is_stepwise, left_words, live_words, number_in, program_alone, program_of_runs, program_of_scenarios, rounds_word, run_words, steps_word, to_word};
 ghost use Rattle.trace_scenario.specs.Words.{words_of};
 ghost use Rattle.trace_io.specs.declared.words.Task.TheVariants.{Run, Steps};
 
@@ -41,6 +41,10 @@ pub enum Task {
         /// The last, where there are as many.
         to: u64,
     },
+    /// Write the run of the scenario as a capture.
+    Capture,
+    /// Print the scenario of a capture: its devices, and what they answered.
+    Devices,
 }
 
 /// The largest number of callbacks, and of a step.
@@ -70,6 +74,12 @@ pub fn read_words(alloc: Global, words: &[&str]) -> Result<Task, Error>
     if let Some(found) = matches.subcommand_matches("draw") {
         return Ok(draw_task(found)?);
     }
+    if matches.subcommand_matches("capture").is_some() {
+        return Ok(Task::Capture);
+    }
+    if matches.subcommand_matches("devices").is_some() {
+        return Ok(Task::Devices);
+    }
     if let Some(found) = matches.subcommand_matches("run") {
         return Ok(run_task(found));
     }
@@ -80,6 +90,15 @@ pub fn read_words(alloc: Global, words: &[&str]) -> Result<Task, Error>
 /// The words that the program takes.
 fn command<'a>(alloc: Global) -> Result<Command<'a>, AllocError>
     ensures { IfOk result (λ command. app_of command ≡ grammar) }
+{
+    scenarios(alloc)?
+        .subcommand(capture(alloc))?
+        .subcommand(devices(alloc))
+}
+
+/// The words that print something of a scenario.
+fn scenarios<'a>(alloc: Global) -> Result<Command<'a>, AllocError>
+    ensures { IfOk result (λ command. app_of command ≡ program_of_scenarios) }
 {
     runs(alloc)?
         .subcommand(left(alloc))?
@@ -241,6 +260,26 @@ fn draw<'a>(alloc: Global) -> Result<Command<'a>, AllocError>
         .after_help(help::DRAW)
         .arg(from(alloc))?
         .arg(to(alloc))
+}
+
+/// The words `capture`.
+fn capture<'a>(alloc: Global) -> Command<'a>
+    ensures words { shape_of result ≡ capture_words }
+    ensures local { (fields_of result).has_globals ≡ false }
+{
+    Command::new(alloc, "capture")
+        .about("Writes the scenario's run as a capture of usbmon, a pcap file")
+        .after_help(help::CAPTURE)
+}
+
+/// The words `devices`.
+fn devices<'a>(alloc: Global) -> Command<'a>
+    ensures words { shape_of result ≡ devices_words }
+    ensures local { (fields_of result).has_globals ≡ false }
+{
+    Command::new(alloc, "devices")
+        .about("Prints the devices of a capture, and what they answered, as lines of a scenario")
+        .after_help(help::DEVICES)
 }
 
 /// The word `--from`.

@@ -1,4 +1,4 @@
-use Rattle.trace_io.proofs.WordsRead.{alone_asks, check_asks, check_of_a_file_is_bad, draw_asks, handle_64_is_bad, help_asks, help_is_no_word, leading_zeros_ask, left_asks, left_with_a_word_is_bad, live_asks, live_with_a_word_is_bad, no_handle_is_bad, no_rounds_are_bad, no_words_are_bad, part_asks, plus_sign_asks, rounds_ask, run_asks, step_0_is_bad, steps_ask, too_many_are_bad}
+use Rattle.trace_io.proofs.WordsRead.{alone_asks, capture_asks, capture_of_a_file_is_bad, check_asks, check_of_a_file_is_bad, devices_ask, devices_of_a_file_are_bad, draw_asks, handle_64_is_bad, help_asks, help_is_no_word, leading_zeros_ask, left_asks, left_with_a_word_is_bad, live_asks, live_with_a_word_is_bad, no_handle_is_bad, no_rounds_are_bad, no_words_are_bad, part_asks, plus_sign_asks, rounds_ask, run_asks, step_0_is_bad, steps_ask, too_many_are_bad}
 use Rattle.trace_io.proofs.laws.words.Goals as goal
 
 pub returns-clause-run : goal.returns-clause-run
@@ -66,3 +66,15 @@ returns-clause-part c = part_asks
 
 pub returns-clause-step_0 : goal.returns-clause-step_0
 returns-clause-step_0 c = step_0_is_bad
+
+pub returns-clause-capture : goal.returns-clause-capture
+returns-clause-capture c = capture_asks
+
+pub returns-clause-devices : goal.returns-clause-devices
+returns-clause-devices c = devices_ask
+
+pub returns-clause-capture_of_a_file : goal.returns-clause-capture_of_a_file
+returns-clause-capture_of_a_file c = capture_of_a_file_is_bad
+
+pub returns-clause-devices_of_a_file : goal.returns-clause-devices_of_a_file
+returns-clause-devices_of_a_file c = devices_of_a_file_are_bad

@@ -4,7 +4,7 @@ use Rattle.clap.specs.Matches.{found_of}
 use Rattle.clap.specs.Simple.{app_of}
 use Rattle.clap.specs.Walk.{rows_of}
 use Rattle.trace_scenario.specs.Words.{words_of}
-use Rattle.trace_io.specs.declared.words.Task.TheVariants.{Alone, Check, Left, Live, Run}
+use Rattle.trace_io.specs.declared.words.Task.TheVariants.{Alone, Capture, Check, Devices, Left, Live, Run}
 use Rattle.trace_io.proofs.CommandLines.{asks_behind, asks_for, has_one, met, without_fault}
 use Rattle.trace_io.proofs.words.read_words.Goals as goal
 
@@ -71,6 +71,30 @@ returns-in-Some-subcommand_matches-2-clause-task c =
           (search rules) c.in-Some-subcommand_matches-2.ensures.rows,
     )
 
+pub returns-then-is_some-3-clause-fault : goal.returns-then-is_some-3-clause-fault
+returns-then-is_some-3-clause-fault c = without_fault (app_of c.in_ok-command.field-0) (words_of c.args.words.now) c.in_ok-command.ensures c.in_ok-matches.ensures.kinds
+
+pub returns-then-is_some-3-clause-task : goal.returns-then-is_some-3-clause-task
+returns-then-is_some-3-clause-task c =
+    let words = words_of c.args.words.now in
+    let a = app_of c.in_ok-command.field-0 in (
+      without_fault a words c.in_ok-command.ensures c.in_ok-matches.ensures.kinds,
+      asks_for (codes "capture") Capture (λ rows. refl) words c.in_ok-matches.matches (met a words c.in_ok-matches.matches c.in_ok-command.ensures c.in_ok-matches.ensures.matches)
+          (search rules),
+    )
+
+pub returns-then-is_some-4-clause-fault : goal.returns-then-is_some-4-clause-fault
+returns-then-is_some-4-clause-fault c = without_fault (app_of c.in_ok-command.field-0) (words_of c.args.words.now) c.in_ok-command.ensures c.in_ok-matches.ensures.kinds
+
+pub returns-then-is_some-4-clause-task : goal.returns-then-is_some-4-clause-task
+returns-then-is_some-4-clause-task c =
+    let words = words_of c.args.words.now in
+    let a = app_of c.in_ok-command.field-0 in (
+      without_fault a words c.in_ok-command.ensures c.in_ok-matches.ensures.kinds,
+      asks_for (codes "devices") Devices (λ rows. refl) words c.in_ok-matches.matches (met a words c.in_ok-matches.matches c.in_ok-command.ensures c.in_ok-matches.ensures.matches)
+          (search rules),
+    )
+
 pub returns-in-Some-subcommand_matches-3-clause-fault : goal.returns-in-Some-subcommand_matches-3-clause-fault
 returns-in-Some-subcommand_matches-3-clause-fault c = without_fault (app_of c.in_ok-command.field-0) (words_of c.args.words.now) c.in_ok-command.ensures c.in_ok-matches.ensures.kinds
 
@@ -94,5 +118,5 @@ returns-clause-task c =
     let clear = without_fault a words c.in_ok-command.ensures c.in_ok-matches.ensures.kinds in (
       clear,
       has_one words c.in_ok-matches.matches Run (met a words c.in_ok-matches.matches c.in_ok-command.ensures c.in_ok-matches.ensures.matches)
-          (search rules) (search rules) (search rules) (search rules) (search rules) (search rules) clear,
+          (search rules) (search rules) (search rules) (search rules) (search rules) (search rules) (search rules) (search rules) clear,
     )
