@@ -8,7 +8,8 @@ A run is made undisturbed, which counts the calls of malloc and realloc, and the
 refused, and once this call and all behind it. So with the threads that are made. What a run comes to is one of three classes:
 
     unharmed   it prints what the undisturbed run does, and ends as that does
-    early      a beginning of that, of whole lines, then `usbtrace: out of memory` and status 1; of `left` and `draw` nothing
+    early      a beginning of that, of whole lines, or records of `capture`, then `usbtrace: out of memory` and status 1; of `left`
+               and `draw` nothing
     wrong      all else: a cut line, another message or status, a signal, or no end within --seconds (10) of processor time, or
                within six times that by the clock
 
@@ -30,8 +31,10 @@ import sys
 import tempfile
 
 # The words of usbtrace that read a scenario, and those that print all or nothing where memory is wanting.
-WORDS = ("run", "run --steps", "alone 1", "left", "draw", "check", "live")
+WORDS = ("run", "run --steps", "alone 1", "left", "draw", "check", "live", "capture")
 WHOLE = ("left", "draw")
+# The bytes in front of a capture's records, and those in front of each record's own.
+FILE_HEADER, RECORD_HEADER = 24, 16
 # What a handle may do under `live` that a schedule can meet earlier or later.
 CHANGING = (b"close", b"release", b"reset", b"clear", b"cancel")
 CLASSES = ("unharmed", "early", "wrong")
@@ -264,6 +267,14 @@ def is_whole(printed):
     return not printed or printed.endswith(b"\n")
 
 
+def has_whole_records(printed):
+    """Whether the header of a capture and all its records are whole, or nothing is there."""
+    at = FILE_HEADER
+    while at + RECORD_HEADER <= len(printed):
+        at += RECORD_HEADER + int.from_bytes(printed[at + 8 : at + 12], "little")
+    return not printed or at == len(printed)
+
+
 def is_unharmed(it, whole, is_settled):
     """Whether a run ended as the undisturbed one did; where schedules change what is printed, it may have printed other lines."""
     ends = (it.status, it.err) == (whole.status, whole.err)
@@ -271,10 +282,11 @@ def is_unharmed(it, whole, is_settled):
 
 
 def is_early(word, it, whole, is_settled):
-    """Whether a run printed whole lines at the front of the undisturbed one's, or nothing, and told that memory was wanting."""
+    """Whether a run printed whole lines or records at the front of the undisturbed one's, or nothing, and told that memory was wanting."""
     if (it.status, it.err) != (1, NO_MEMORY) or (word in WHOLE and it.out):
         return False
-    return is_whole(it.out) and (not is_settled or whole.out.startswith(it.out))
+    ends_well = has_whole_records if word == "capture" else is_whole
+    return ends_well(it.out) and (not is_settled or whole.out.startswith(it.out))
 
 
 def class_of(word, it, whole, is_settled=True):

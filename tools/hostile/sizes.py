@@ -56,6 +56,10 @@ def calls_more_than(rounds):
     return lambda it: has_too_many(it, rounds)
 
 
+def refuses_as_capture(it):
+    return (it.status, it.out, it.err) == (1, b"", b"usbtrace: the capture is refused: not a capture\n")
+
+
 def is_too_wide(it):
     return (it.status, it.out, it.err) == (1, b"", TOO_MANY_STEPS % (MOST_DRAWN + 1, MOST_DRAWN))
 
@@ -125,8 +129,15 @@ def of_rounds():
     yield Size("live", "a rule without an end", lambda: again(ENDLESS), calls_more_than(MOST_ROUNDS))
 
 
+def of_captures():
+    """What the word takes or refuses that reads no scenario."""
+    yield Size("devices", "nothing", lambda: b"", refuses_as_capture, True)
+    yield Size("devices", "67,108,864 bytes of text", lambda: comments(LONGEST), refuses_as_capture)
+    yield Size("devices", "67,108,865 bytes of text", lambda: comments(LONGEST + 1), is_too_long)
+
+
 def all_sizes():
-    return [*of_every_word(), *of_texts(), *of_rounds()]
+    return [*of_every_word(), *of_texts(), *of_rounds(), *of_captures()]
 
 
 def cases(_):

@@ -3,6 +3,7 @@ import random
 import re
 import xml.etree.ElementTree
 
+from refuse_allocations import has_whole_records
 from runs import UNFINISHED, Part, has_too_many, is_refusal, wrong_unless
 from scenarios import damaged, scenario
 
@@ -74,6 +75,8 @@ def is_taken(word, it, run, given):
         return is_alone(it.out, run.out, int(word.split()[1]))
     if word == "draw":
         return is_picture(it.out)
+    if word == "capture":
+        return bool(it.out) and has_whole_records(it.out)
     return word == "run" or is_stepwise(it.out, run.out, given)
 
 
@@ -88,7 +91,7 @@ def tried_text(runs, name, given, h):
     """Every word over a text, which agree on its first bad line."""
     run = runs.of("run", given)
     k, unlived = first_refused(run), first_unlived(given)
-    for word in ("run", "run --steps", f"alone {h}", "left", "draw", "check", LIVE):
+    for word in ("run", "run --steps", f"alone {h}", "left", "draw", "capture", "check", LIVE):
         first = min(filter(None, (k, unlived)), default=None) if word == LIVE else k
         it = run if word == "run" else runs.of(word, given)
         right = is_refused(word, it, first) if first else is_taken(word, it, run, given)
