@@ -1,3 +1,4 @@
 mod MadeDevices
 mod Printed
 mod Lined
+mod Captured

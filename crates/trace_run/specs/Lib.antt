@@ -1,5 +1,6 @@
 pub mod Printed
 pub mod Stepwise
+pub mod Capture
 pub mod Tasks
 pub use Rattle.usb_model.specs.World.Journal
 pub use Rattle.usb_model.specs.World.Plans
@@ -7,5 +8,8 @@ pub use Rattle.usb_model.specs.Text
 pub use Rattle.usb_model.specs.Machine.Turns
 pub use Rattle.trace_io.specs.Output
 pub use Rattle.trace_scenario.specs.StepLines
+pub use Rattle.trace_scenario.specs.DeviceLines
+pub use Rattle.trace_capture.specs.Event
+pub use Rattle.trace_capture.specs.Events
 pub use Rattle.usb_left.specs.Left
 pub use Rattle.usb_left.specs.LeftText

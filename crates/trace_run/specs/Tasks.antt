@@ -10,6 +10,8 @@ use Rattle.usb_model.specs.Machine.Turns.{alone}
 use Rattle.trace_io.specs.declared.fault.Fault.{Fault}
 use Rattle.trace_io.specs.declared.fault.Fault.TheVariants.{Memory}
 use Rattle.trace_scenario.specs.declared.scenario.Scenario.{Scenario}
+use Rattle.trace_capture.specs.Event.{file_bytes}
+use Rattle.trace_scenario.specs.DeviceLines.{device_lines}
 use Rattle.trace_scenario.specs.StepLines.{step_lines}
 use Rattle.usb_left.specs.Left.{all_left}
 use Rattle.usb_left.specs.LeftText.{lines_left}
@@ -17,6 +19,7 @@ use Rattle.trace_run.specs.declared.lines.Reach.{Reach}
 use Rattle.trace_run.specs.declared.lines.Reach.TheVariants.{End, NoMemory}
 use Rattle.trace_run.specs.declared.tasks.Ending.{Ending}
 use Rattle.trace_run.specs.declared.tasks.Ending.TheVariants.{Good}
+use Rattle.trace_run.specs.Capture.{plan_events}
 use Rattle.trace_run.specs.Stepwise.{stepwise_text}
 
 -- the steps of a scenario: those that its plan stands for under its rules
@@ -34,6 +37,10 @@ alone_text h s = lines_text (alone s.setup (own s.setup (steps_of s) h) h)
 -- all entries, each behind the line of its step in this text
 abbrev pub steps_text : List ℕ → Scenario → List ℕ
 steps_text text s = stepwise_text s.setup s.plan s.rules (step_lines text)
+
+-- the run as a capture, with the lines of its devices and steps in this text
+abbrev pub capture_bytes : List ℕ → Scenario → List ℕ
+capture_bytes text s = file_bytes (plan_events (device_lines text) s.setup s.plan s.rules (step_lines text))
 
 -- what is left behind where the run ends
 abbrev pub left_lines : Scenario → List ℕ

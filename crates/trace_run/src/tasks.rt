@@ -1,5 +1,5 @@
 //! What `usbtrace` does with a scenario that no thread runs: its entries, all, behind their lines or one handle's; what it
-//! leaves behind; a picture.
+//! leaves behind; a picture; a capture.
 
 ghost use Rattle.std.specs.Prelude.{◌≡◌, IfErr, IfOk, OnOk, length, map};
 ghost use Rattle.std.specs.Io.KnownBytes.{Appends};
@@ -8,9 +8,12 @@ ghost use Rattle.trace_io.specs.Faults.{IfWide, IsOfPicture, IsOfRun};
 ghost use Rattle.trace_io.specs.Output.{AppendsSome};
 ghost use Rattle.trace_scenario.specs.Runnable.{IsRunnable};
 ghost use Rattle.trace_scenario.specs.StepLines.{numbered};
+ghost use Rattle.trace_capture.specs.Event.{file_bytes};
+ghost use Rattle.trace_run.specs.Capture.{plan_events};
 ghost use Rattle.trace_run.specs.Stepwise.{stepwise_text};
 ghost use Rattle.trace_run.specs.Tasks.{AppendsAny, alone_text, ending_of, left_lines, run_text};
 
+use crate::capture::capture_plan;
 use crate::devices::{callbacks_of, devices_of, parts_of};
 use crate::drawing::draw;
 use crate::ending::run_to_end;
@@ -20,7 +23,7 @@ use std::alloc::{AllocError, Global};
 use std::io::Write;
 use trace_io::{Fault, write_bytes};
 use trace_picture::Drawing;
-use trace_scenario::{NumberedLine, Scenario, ScriptedDevice};
+use trace_scenario::{DescribedDevice, NumberedLine, Scenario, ScriptedDevice};
 use usb_left::{left_behind, lines_of};
 use usb_model::{Name, Sequence};
 
@@ -31,6 +34,8 @@ pub enum Ending {
     Good,
     /// A check found bad lines, and told of them.
     BadLines,
+    /// A capture has no device that is kept, and what is said of the others is told.
+    NoDevices,
 }
 
 /// How a task ends whose run came so far.
@@ -73,6 +78,27 @@ pub fn print_steps<W: Write>(
     let Scenario { setup, plan, rules } = scenario;
     let parts = parts_of(alloc, setup, rules.as_slice())?;
     ending_of(print_stepwise(alloc, parts, plan, lines, out)?)
+}
+
+/// Writes the run of a scenario as a capture: its devices' lines, and each entry from its line. Where memory ran out, it
+/// ends with a whole record.
+pub fn capture_run<W: Write>(
+    alloc: Global,
+    scenario: Scenario,
+    devices: &[DescribedDevice],
+    lines: &[NumberedLine<'_>],
+    out: &mut W,
+) -> Result<Ending, Fault>
+    requires runnable { IsRunnable scenario }
+    requires each { length lines.now ≡ length scenario.plan }
+    ensures file { OnOk result (Appends (W.contents out.old) (W.contents out.new) (file_bytes (plan_events devices.now scenario.setup scenario.plan scenario.rules (map numbered lines.now)))) }
+    ensures begun { AppendsSome (file_bytes (plan_events devices.now scenario.setup scenario.plan scenario.rules (map numbered lines.now))) (W.contents out.old) (W.contents out.new) }
+    ensures good { IfOk result (λ ending. ending ≡ Ending.Good) }
+    ensures fault { IfErr result (λ fault. IsOfRun fault) }
+{
+    let Scenario { setup, plan, rules } = scenario;
+    let parts = parts_of(alloc, setup, rules.as_slice())?;
+    ending_of(capture_plan(alloc, parts, plan, devices, lines, out)?)
 }
 
 /// The lines of what the run of a scenario leaves behind, as the core on rings runs it.
