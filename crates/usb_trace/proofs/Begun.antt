@@ -7,15 +7,18 @@ use Rattle.trace_scenario.specs.Findings.{bad_lines, good_lines}
 use Rattle.trace_scenario.specs.Scenario.{scenario_of}
 use Rattle.trace_scenario.specs.declared.scenario.Scenario.{Scenario}
 use Rattle.trace_io.specs.declared.words.Task.{Task}
-use Rattle.trace_io.specs.declared.words.Task.TheVariants.{Run, Steps, Alone, Live, Left, Check, Draw}
+use Rattle.trace_io.specs.declared.words.Task.TheVariants.{Run, Steps, Alone, Live, Left, Check, Draw, Capture, Devices}
 use Rattle.trace_io.specs.Output.{AppendsSome}
 use Rattle.trace_io.proofs.Beginnings.{none_yet, some_behind, some_of_front}
 use Rattle.trace_io.proofs.Findings.{no_report}
 use Rattle.std.proofs.lemmas.List.Sorted.{IsPermutation-refl}
 use Rattle.trace_live.specs.Callbacks.{AreCallbacks}
 use Rattle.usb_trace.specs.Lived.{lived_of, AppendsSomeCallbacks, BeginsCallbacks}
-use Rattle.trace_run.specs.Tasks.{alone_text, left_lines, run_text, steps_text}
-use Rattle.usb_trace.specs.Program.{Begins, BeginsEntries, BeginsPicture}
+use Rattle.trace_recorded.specs.declared.fault.CaptureFault.{CaptureFault}
+use Rattle.trace_recorded.specs.declared.recorded.RecordedScenario.{RecordedScenario}
+use Rattle.trace_recorded.specs.Recorded.{recorded_scenario}
+use Rattle.trace_run.specs.Tasks.{alone_text, capture_bytes, left_lines, run_text, steps_text}
+use Rattle.usb_trace.specs.Program.{Begins, BeginsEntries, BeginsPicture, BeginsRecorded}
 
 -- known bytes stay
 pub keeps_same : (old : Option (List ℕ)) → Keeps old old
@@ -31,6 +34,11 @@ no_entries text (Err line) old = keeps_same old
 no_picture : (said : Result Scenario ℕ) (old : Option (List ℕ)) → BeginsPicture said old old
 no_picture (Ok s) old = let none = none_yet [] old in (none.0, none.2)
 no_picture (Err line) old = keeps_same old
+
+-- nothing of a capture is told
+pub no_recorded : (said : Result RecordedScenario CaptureFault) (old : Option (List ℕ)) → BeginsRecorded said old old
+no_recorded (Ok r) old = none_yet r.text old
+no_recorded (Err fault) old = keeps_same old
 
 -- where no step is made no callback is told anything
 none_told : (s : Scenario) → AreCallbacks s.setup [] []
@@ -55,6 +63,8 @@ nothing_of (Live rounds) text old = no_callbacks (lived_of text) old
 nothing_of Left text old = no_entries left_lines (scenario_of text) old
 nothing_of Check text old = no_report (bad_lines text) (counts_of (good_lines text)) old
 nothing_of (Draw from to) text old = no_picture (scenario_of text) old
+nothing_of Capture text old = no_entries (capture_bytes text) (scenario_of text) old
+nothing_of Devices text old = no_recorded (recorded_scenario text) old
 
 -- nothing is written, whatever the input has
 pub nothing_begun : (input : Option (List ℕ)) (t : Task) (old : Option (List ℕ)) → IfSome input (λ text. Begins t text old old)

@@ -14,19 +14,24 @@ use Rattle.trace_scenario.proofs.GoodAndBad.{none_bad, scenario_good}
 use Rattle.trace_scenario.specs.Counts.{counts_of}
 use Rattle.trace_scenario.specs.Findings.{bad_lines, good_lines}
 use Rattle.trace_scenario.specs.Scenario.{nothing_said, scenario_of}
-use Rattle.trace_io.specs.CommandLine.{AreBad, AskFor, grammar}
-use Rattle.trace_io.specs.Faults.{message_of, most_drawn, IsOfRun}
+use Rattle.trace_io.specs.CommandLine.{AreBad, AskFor, AskForHelp, grammar}
+use Rattle.trace_io.specs.Faults.{fault_of_capture, message_of, most_drawn, IsOfRun}
 use Rattle.trace_io.specs.Input.{longest_input}
 use Rattle.trace_io.specs.declared.fault.Fault.{Fault}
+use Rattle.trace_io.specs.declared.fault.Fault.TheVariants as why
 use Rattle.trace_io.specs.declared.fault.Fault.TheVariants.{Line, Memory, InputOutput, TooLong, Rounds, Wide}
+use Rattle.trace_recorded.specs.declared.fault.CaptureFault.{CaptureFault}
+use Rattle.trace_recorded.specs.declared.fault.CaptureFault.TheVariants as capture
+use Rattle.trace_recorded.specs.Faults.{IsCaptureFault}
+use Rattle.trace_recorded.specs.Recorded.{recorded_scenario}
 use Rattle.trace_scenario.specs.declared.scenario.Scenario.{Scenario}
-use Rattle.usb_trace.specs.Lived.{earlier, first_unlived, lived_of, AppendsCallbacks, GoesOn, IsOfLive}
-use Rattle.usb_trace.specs.Program.{scenario_for, status_of, AskForThreads, Begins, Draws, EndsLate, IsAlone, IsDone, IsReported, IsThreaded, Performs, TellsRest, TellsWhy}
+use Rattle.usb_trace.specs.Lived.{lived_of, AppendsCallbacks, GoesOn, IsOfLive}
+use Rattle.usb_trace.specs.Program.{scenario_for, status_of, AskForThreads, Begins, Draws, EndsLate, FindsNone, IsAlone, IsDone, IsReported, IsSilentAtBad, IsThreaded, Performs, TellsRest, TellsWhy}
 use Rattle.trace_run.specs.declared.tasks.Ending.{Ending}
-use Rattle.trace_run.specs.declared.tasks.Ending.TheVariants.{Good, BadLines}
+use Rattle.trace_run.specs.declared.tasks.Ending.TheVariants.{Good, BadLines, NoDevices}
 use Rattle.usb_trace.proofs.Begun.{keeps_same, nothing_begun, told_front}
 use Rattle.trace_io.specs.declared.words.Task.{Task}
-use Rattle.trace_io.specs.declared.words.Task.TheVariants.{Run, Steps, Alone, Live, Left, Check, Draw}
+use Rattle.trace_io.specs.declared.words.Task.TheVariants.{Run, Steps, Alone, Live, Left, Check, Draw, Capture, Devices}
 use Rattle.trace_scenario.specs.declared.findings.Counts.{Counts}
 use Rattle.trace_scenario.specs.declared.findings.Finding.{Finding}
 use Rattle.trace_io.specs.Output.{finding_text, counts_line, AppendsReport, AppendsSome}
@@ -67,6 +72,7 @@ pub lived : (text : List ℕ) (rounds : ℕ) (s : Scenario) (notes : List ℕ) (
     → IfErr r (λ fault. fault ≡ Rounds rounds → Keeps old new) → Performs (Live rounds) text notes old new r
 lived text rounds s notes old new (Ok Good) read short lines good fault silent = (s, read, short, lines)
 lived text rounds s notes old new (Ok BadLines) read short lines good fault silent = cc
+lived text rounds s notes old new (Ok NoDevices) read short lines good fault silent = cc
 lived text rounds s notes old new (Err (Line line)) read short lines good fault silent = absurd fault
 lived text rounds s notes old new (Err Memory) read short lines good fault silent = tt
 lived text rounds s notes old new (Err InputOutput) read short lines good fault silent = tt
@@ -77,49 +83,42 @@ lived text rounds s notes old new (Err (Rounds told)) read short lines good faul
   (s, read, subst (λ (n : ℕ). GoesOn s n notes) (sym fault.0) fault.1),
 )
 lived text rounds s notes old new (Err (Wide steps)) read short lines good fault silent = absurd fault
-
--- where nothing is unlived, what is read is the scenario
-earlier_good : (o : Option ℕ) (said : Result Scenario ℕ) (s : Scenario) → earlier o said ≡ Ok s → said ≡ Ok s
-earlier_good None said s e = e
-earlier_good (Some at) (Ok other) s e = cc
-earlier_good (Some at) (Err line) s e = cc
-
--- the scenario that a task reads is that of the text
-said_for : (t : Task) (text : List ℕ) (s : Scenario) → scenario_for t text ≡ Ok s → scenario_of text ≡ Ok s
-said_for Run text s e = e
-said_for Steps text s e = e
-said_for (Alone h) text s e = e
-said_for (Live rounds) text s e = earlier_good (first_unlived 1 (slice_split (λ b. b == 10) text)) (scenario_of text) s e
-said_for Left text s e = e
-said_for Check text s e = e
-said_for (Draw from to) text s e = e
+lived text rounds s notes old new (Err (why.Capture refused)) read short lines good fault silent = absurd fault
 
 -- a check of a text with a bad line isn't done
-done_is_good : (t : Task) (text notes : List ℕ) (old new : Option (List ℕ)) → IsDone t text notes old new → bad_lines text ≡ []
-done_is_good t text notes old new done = scenario_good 1 nothing_said done.0 (slice_split (λ b. b == 10) text) (said_for t text done.0 done.1)
+done_is_good : (text notes : List ℕ) (old new : Option (List ℕ)) → IsDone Check text notes old new → bad_lines text ≡ []
+done_is_good text notes old new done = scenario_good 1 nothing_said done.0 (slice_split (λ b. b == 10) text) done.1
 
 -- a status of 1 isn't 0
 not_zero : (status : ℕ) → status ≡ 1 → status ≢ 0
 not_zero status one zero = absurd (omega arith)
 
--- where a line is bad, the status isn't 0
-bad_status : (t : Task) (text notes : List ℕ) (ended : Result Ending Fault) (status : ℕ) (old new : Option (List ℕ)) → Performs t text notes old new ended
+-- where a check finds a bad line, the status isn't 0
+bad_status : (text notes : List ℕ) (ended : Result Ending Fault) (status : ℕ) (old new : Option (List ℕ)) → Performs Check text notes old new ended
     → status ≡ status_of ended → bad_lines text ≢ [] → status ≢ 0
-bad_status t text notes (Ok Good) status old new done same bad = absurd (bad (done_is_good t text notes old new done))
-bad_status t text notes (Ok BadLines) status old new done same bad = not_zero status same
-bad_status t text notes (Err fault) status old new done same bad = not_zero status same
+bad_status text notes (Ok Good) status old new done same bad = absurd (bad (done_is_good text notes old new done))
+bad_status text notes (Ok BadLines) status old new done same bad = not_zero status same
+bad_status text notes (Ok NoDevices) status old new done same bad = not_zero status same
+bad_status text notes (Err fault) status old new done same bad = not_zero status same
 
--- the same, whatever the input has
-pub bad_input : (input : Option (List ℕ)) (t : Task) (notes : List ℕ) (ended : Result Ending Fault) (status : ℕ) (old new : Option (List ℕ))
-    → IfSome input (λ text. Performs t text notes old new ended) → status ≡ status_of ended → IfSome input (λ text. bad_lines text ≢ [] → status ≢ 0)
-bad_input None t notes ended status old new ends same = tt
-bad_input (Some text) t notes ended status old new ends same = bad_status t text notes ended status old new ends same
+-- words ask for one task
+one_task : (words : List Text) (t s : Task) → AskFor words t → AskFor words s → t ≡ s
+one_task words t s asks other = let same : Some t ≡ Some s = sym asks.1 ∙ other.1 in cc
+
+-- the same of words that ask for a check, whatever the input has
+pub bad_input : (words : List Text) (input : Option (List ℕ)) (t : Task) (notes : List ℕ) (ended : Result Ending Fault) (status : ℕ) (old new : Option (List ℕ))
+    → AskFor words t → AskFor words Check → IfSome input (λ text. Performs t text notes old new ended) → status ≡ status_of ended
+    → IfSome input (λ text. bad_lines text ≢ [] → status ≢ 0)
+bad_input words None t notes ended status old new asks check ends same = tt
+bad_input words (Some text) t notes ended status old new asks check ends same =
+    bad_status text notes ended status old new (subst (λ (x : Task). Performs x text notes old new ended) (one_task words t Check asks check) ends) same
 
 -- what is told of a task that is done
 done_rest : (t : Task) (text notes : List ℕ) (ended : Result Ending Fault) (status : ℕ) (old new err_old err_new : Option (List ℕ)) → Performs t text notes old new ended
     → status ≡ status_of ended → OnOk ended (AppendsSome notes err_old err_new) → status ≡ 0 → TellsRest t text old new err_old err_new
 done_rest t text notes (Ok Good) status old new err_old err_new ends same noted zero = (notes, ends, noted)
 done_rest t text notes (Ok BadLines) status old new err_old err_new ends same noted zero = absurd (omega arith)
+done_rest t text notes (Ok NoDevices) status old new err_old err_new ends same noted zero = absurd (omega arith)
 done_rest t text notes (Err fault) status old new err_old err_new ends same noted zero = absurd (omega arith)
 
 -- the same, whatever the input has
@@ -143,6 +142,8 @@ threads_asked words (Alone h) asks threaded = absurd threaded
 threads_asked words Left asks threaded = absurd threaded
 threads_asked words Check asks threaded = absurd threaded
 threads_asked words (Draw from to) asks threaded = absurd threaded
+threads_asked words Capture asks threaded = absurd threaded
+threads_asked words Devices asks threaded = absurd threaded
 
 -- so nothing is told behind status 0 but by a run in threads
 pub quiet_unless_threads : (words : List Text) (t : Task) (notes : List ℕ) (ended : Result Ending Fault) (status : ℕ) (err_old err_new : Option (List ℕ)) → AskFor words t
@@ -156,11 +157,17 @@ reported : (words : List Text) (input : Option (List ℕ)) (t : Task) (notes : L
 reported words None t notes old new asks ends = tt
 reported words (Some text) t notes old new asks ends = (subst (λ (x : Task). AskFor words x) ends.0 asks, ends.1)
 
+-- a capture without devices was asked for
+none_found : (words : List Text) (input : Option (List ℕ)) (t : Task) (notes : List ℕ) (old new : Option (List ℕ)) → AskFor words t
+    → IfSome input (λ text. Performs t text notes old new (Ok NoDevices)) → IfSome input (λ text. AskFor words Devices × FindsNone text old new)
+none_found words None t notes old new asks ends = tt
+none_found words (Some text) t notes old new asks ends = (subst (λ (x : Task). AskFor words x) ends.0 asks, ends.1)
+
 -- a line that ended a run is the text's first bad line
 line_of : (input : Option (List ℕ)) (t : Task) (line : ℕ) (notes : List ℕ) (old new : Option (List ℕ)) → IfSome input (λ text. Performs t text notes old new (Err (Line line)))
-    → IfSome input (λ text. (scenario_for t text ≡ Err line) × (t ≢ Check))
+    → IfSome input (λ text. (scenario_for t text ≡ Err line) × (t ≢ Check) × (t ≢ Devices))
 line_of None t line notes old new ends = tt
-line_of (Some text) t line notes old new ends = (ends.0, ends.2)
+line_of (Some text) t line notes old new ends = (ends.0, ends.2, ends.3)
 
 -- an input that ended a run by its length is longer than one may be
 length_of : (input : Option (List ℕ)) (t : Task) (notes : List ℕ) (old new : Option (List ℕ)) → IfSome input (λ text. Performs t text notes old new (Err TooLong))
@@ -180,32 +187,65 @@ wide_of : (input : Option (List ℕ)) (t : Task) (steps : ℕ) (notes : List ℕ
 wide_of None t steps notes old new ends = tt
 wide_of (Some text) t steps notes old new ends = (ends.0, ends.2)
 
+-- a capture that is refused was asked for
+refused_of : (input : Option (List ℕ)) (t : Task) (refused : CaptureFault) (notes : List ℕ) (old new : Option (List ℕ)) → IfSome input (λ text. Performs t text notes old new (Err (why.Capture refused)))
+    → IfSome input (λ text. (t ≡ Devices) × (recorded_scenario text ≡ Err refused))
+refused_of None t refused notes old new ends = tt
+refused_of (Some text) t refused notes old new ends = (ends.0, ends.2)
+
+-- a capture that is refused, where the fault is its own
+pub capture_refused : (text : List ℕ) (refused : CaptureFault) (old new : Option (List ℕ)) → IsCaptureFault refused (recorded_scenario text) → Keeps old new → Performs Devices text [] old new (Err (fault_of_capture refused))
+capture_refused text capture.NotACapture old new is kept = (refl, kept, is)
+capture_refused text capture.HeaderCutShort old new is kept = (refl, kept, is)
+capture_refused text (capture.LinkType number) old new is kept = (refl, kept, is)
+capture_refused text capture.NoInterface old new is kept = (refl, kept, is)
+capture_refused text capture.Memory old new is kept = tt
+
+-- where a line is bad nothing is written but by a check, and of captures
+pub silent_unless : (words : List Text) (input : Option (List ℕ)) (t : Task) (old new : Option (List ℕ)) → AskFor words t → IfSome input (λ text. t ≢ Check → t ≢ Devices → IsSilentAtBad text old new)
+    → IfSome input (λ text. IsSilentAtBad text old new ⊎ AskForHelp words ⊎ AskFor words Check ⊎ AskFor words Devices)
+silent_unless words None t old new asks silent = tt
+silent_unless words (Some text) Run old new asks silent = inl (silent (λ e. cc) (λ e. cc))
+silent_unless words (Some text) Steps old new asks silent = inl (silent (λ e. cc) (λ e. cc))
+silent_unless words (Some text) (Alone h) old new asks silent = inl (silent (λ e. cc) (λ e. cc))
+silent_unless words (Some text) (Live rounds) old new asks silent = inl (silent (λ e. cc) (λ e. cc))
+silent_unless words (Some text) Left old new asks silent = inl (silent (λ e. cc) (λ e. cc))
+silent_unless words (Some text) Check old new asks silent = inr (inr (inl asks))
+silent_unless words (Some text) (Draw from to) old new asks silent = inl (silent (λ e. cc) (λ e. cc))
+silent_unless words (Some text) Capture old new asks silent = inl (silent (λ e. cc) (λ e. cc))
+silent_unless words (Some text) Devices old new asks silent = inr (inr (inr asks))
+
 -- what is told of a task that ended so
 pub told_of : (words : List Text) (input : Option (List ℕ)) (t : Task) (notes : List ℕ) (ended : Result Ending Fault) (status : ℕ) (old new err_old err_new : Option (List ℕ))
     → AskFor words t → IfSome input (λ text. Performs t text notes old new ended) → IfErr ended (IsAlone notes) → status ≡ status_of ended
-    → OnOk ended (notes ≡ [] → Keeps err_old err_new) → (ended ≡ Ok BadLines → notes ≡ []) → IfErr ended (λ fault. AppendsSome (message_of fault ++ notes) err_old err_new)
+    → OnOk ended (notes ≡ [] → Keeps err_old err_new) → (ended ≡ Ok BadLines → notes ≡ []) → (ended ≡ Ok NoDevices → notes ≡ []) → IfErr ended (λ fault. AppendsSome (message_of fault ++ notes) err_old err_new)
     → status ≡ 1 → TellsWhy words input old new err_old err_new
-told_of words input t notes (Ok Good) status old new err_old err_new asks ends bare same quiet none told one = absurd (omega arith)
-told_of words input t notes (Ok BadLines) status old new err_old err_new asks ends bare same quiet none told one = inl (reported words input t notes old new asks ends, quiet (none refl))
-told_of words input t notes (Err (Line line)) status old new err_old err_new asks ends bare same quiet none told one =
-    inr (Line line, notes, (t, asks, line_of input t line notes old new ends), bare, told)
-told_of words input t notes (Err Memory) status old new err_old err_new asks ends bare same quiet none told one = inr (Memory, notes, tt, bare, told)
-told_of words input t notes (Err InputOutput) status old new err_old err_new asks ends bare same quiet none told one = inr (InputOutput, notes, tt, bare, told)
-told_of words input t notes (Err TooLong) status old new err_old err_new asks ends bare same quiet none told one =
-    inr (TooLong, notes, (t, asks, length_of input t notes old new ends), bare, told)
-told_of words input t notes (Err (Rounds rounds)) status old new err_old err_new asks ends bare same quiet none told one =
-    inr (Rounds rounds, notes, (t, asks, late_of input t rounds notes old new ends), tt, told)
-told_of words input t notes (Err (Wide steps)) status old new err_old err_new asks ends bare same quiet none told one =
-    inr (Wide steps, notes, (t, asks, wide_of input t steps notes old new ends), bare, told)
+told_of words input t notes (Ok Good) status old new err_old err_new asks ends bare same quiet none no_device told one = absurd (omega arith)
+told_of words input t notes (Ok BadLines) status old new err_old err_new asks ends bare same quiet none no_device told one = inl (reported words input t notes old new asks ends, quiet (none refl))
+told_of words input t notes (Ok NoDevices) status old new err_old err_new asks ends bare same quiet none no_device told one =
+    inr (inl (none_found words input t notes old new asks ends, quiet (no_device refl)))
+told_of words input t notes (Err (Line line)) status old new err_old err_new asks ends bare same quiet none no_device told one =
+    inr (inr (Line line, notes, (t, asks, line_of input t line notes old new ends), bare, told))
+told_of words input t notes (Err Memory) status old new err_old err_new asks ends bare same quiet none no_device told one = inr (inr (Memory, notes, tt, bare, told))
+told_of words input t notes (Err InputOutput) status old new err_old err_new asks ends bare same quiet none no_device told one = inr (inr (InputOutput, notes, tt, bare, told))
+told_of words input t notes (Err TooLong) status old new err_old err_new asks ends bare same quiet none no_device told one =
+    inr (inr (TooLong, notes, (t, asks, length_of input t notes old new ends), bare, told))
+told_of words input t notes (Err (Rounds rounds)) status old new err_old err_new asks ends bare same quiet none no_device told one =
+    inr (inr (Rounds rounds, notes, (t, asks, late_of input t rounds notes old new ends), tt, told))
+told_of words input t notes (Err (Wide steps)) status old new err_old err_new asks ends bare same quiet none no_device told one =
+    inr (inr (Wide steps, notes, (t, asks, wide_of input t steps notes old new ends), bare, told))
+told_of words input t notes (Err (why.Capture refused)) status old new err_old err_new asks ends bare same quiet none no_device told one =
+    inr (inr (why.Capture refused, notes, (t, asks, refused_of input t refused notes old new ends), bare, told))
 
 -- what is told of a fault of memory or of a stream, whatever the words are
 pub told_words : (words : List Text) (input : Option (List ℕ)) (fault : Fault) (old new err_old err_new : Option (List ℕ)) → IsOfRun fault → AppendsSome (message_of fault) err_old err_new → TellsWhy words input old new err_old err_new
 told_words words input (Line line) old new err_old err_new run told = absurd run
-told_words words input Memory old new err_old err_new run told = inr (Memory, [], tt, refl, told_front (message_of Memory) [] err_old err_new told)
-told_words words input InputOutput old new err_old err_new run told = inr (InputOutput, [], tt, refl, told_front (message_of InputOutput) [] err_old err_new told)
+told_words words input Memory old new err_old err_new run told = inr (inr (Memory, [], tt, refl, told_front (message_of Memory) [] err_old err_new told))
+told_words words input InputOutput old new err_old err_new run told = inr (inr (InputOutput, [], tt, refl, told_front (message_of InputOutput) [] err_old err_new told))
 told_words words input TooLong old new err_old err_new run told = absurd run
 told_words words input (Rounds rounds) old new err_old err_new run told = absurd run
 told_words words input (Wide steps) old new err_old err_new run told = absurd run
+told_words words input (why.Capture refused) old new err_old err_new run told = absurd run
 
 -- words that are refused are bad
 pub words_are_bad : (words : List Text) (error : Error) → HasKind (fault_of grammar words) error

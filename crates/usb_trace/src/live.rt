@@ -8,7 +8,7 @@ ghost use Rattle.trace_io.specs.declared.fault.Fault.TheVariants.{Rounds};
 ghost use Rattle.trace_io.specs.declared.words.Task.TheVariants.{Live};
 ghost use Rattle.usb_trace.specs.Lived.{AppendsCallbacks, AppendsSomeCallbacks, IsOfLive};
 ghost use Rattle.usb_trace.specs.Program.{Begins, IsAlone, IsSilentAtBad, Performs};
-ghost use Rattle.trace_run.specs.declared.tasks.Ending.TheVariants.{BadLines};
+ghost use Rattle.trace_run.specs.declared.tasks.Ending.TheVariants.{BadLines, NoDevices};
 
 use crate::lived::read_lived;
 use std::alloc::Global;
@@ -76,6 +76,7 @@ pub(crate) fn live<T: Threads + Wait + Sync, W: Write>(
     ensures ends { Performs (Live rounds) text.now notes.new.items (W.contents out.old) (W.contents out.new) result }
     ensures alone { IfErr result (IsAlone notes.new.items) }
     ensures good { result ≢ Ok BadLines }
+    ensures kept { result ≢ Ok NoDevices }
     ensures silent { IsSilentAtBad text.now (W.contents out.old) (W.contents out.new) }
     ensures begun { Begins (Live rounds) text.now (W.contents out.old) (W.contents out.new) }
 {

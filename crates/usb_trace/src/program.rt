@@ -13,10 +13,11 @@ ghost use Rattle.trace_io.specs.Input.{longest_input};
 ghost use Rattle.trace_io.specs.Output.{AppendsSome};
 ghost use Rattle.usb_trace.specs.Program.{status_of, AskForThreads, Begins, IsAlone, IsSilentAtBad, IsThreaded, Performs, TellsRest, TellsWhy};
 ghost use Rattle.trace_io.specs.declared.words.Task.{Task};
-ghost use Rattle.trace_run.specs.declared.tasks.Ending.TheVariants.{BadLines};
-ghost use Rattle.trace_io.specs.declared.words.Task.TheVariants.{Check, Steps};
+ghost use Rattle.trace_run.specs.declared.tasks.Ending.TheVariants.{BadLines, NoDevices};
+ghost use Rattle.trace_io.specs.declared.words.Task.TheVariants.{Capture, Check, Devices, Steps};
 
 use crate::live::live;
+use crate::recorded::devices;
 use clap::Error;
 use clap::error::ErrorKind;
 use std::alloc::Global;
@@ -25,17 +26,17 @@ use std::sync::Wait;
 use std::thread::Threads;
 use trace_io::print::print_findings;
 use trace_io::{Fault, Task, read_whole, read_words, write_bytes};
-use trace_run::{Ending, draw_run, print_left, print_steps, run, run_alone};
+use trace_run::{Ending, capture_run, draw_run, print_left, print_steps, run, run_alone};
 use trace_scenario::{Lined, Scenario, check, read_lined, read_scenario};
 
-/// The status of a run that ended early, and of a check that found bad lines.
+/// The status of a run that ended early, of a check that found bad lines, and of a capture without devices.
 const FAILED: u8 = 1;
 
 /// The status of bad words.
 const BAD_WORDS: u8 = 2;
 
 /// Runs the program on its words, of which the first is its name, and its input, and answers its status: 0, or 1 where
-/// it ended early or a check found bad lines, or 2 for bad words. However a task ends, what it wrote is a beginning of
+/// it ended early, a check found bad lines or a capture has no device that is kept, or 2 for bad words. However a task ends, what it wrote is a beginning of
 /// its text. Of a fault that ended it, the message stands on standard error, as far as that takes it; and behind it, or alone, what
 /// handles hadn't finished of a run in threads. The threads of that are those of `rt`.
 pub fn trace<T: Threads + Wait + Sync, R: Read, W: Write, E: Write>(
@@ -55,7 +56,7 @@ pub fn trace<T: Threads + Wait + Sync, R: Read, W: Write, E: Write>(
         × Keeps (W.contents out.old) (W.contents out.new) × (input.new ≡ input.old) }
     ensures silent { IfSome (R.remaining input.old) (λ text.
         IsSilentAtBad text (W.contents out.old) (W.contents out.new) ⊎ AskForHelp (words_of words.now)
-        ⊎ AskFor (words_of words.now) Check) }
+        ⊎ AskFor (words_of words.now) Check ⊎ AskFor (words_of words.now) Devices) }
     ensures bad { AskFor (words_of words.now) Check → IfSome (R.remaining input.old) (λ text. bad_lines text ≢ [] → result ≢ 0) }
     ensures unfinished { (task : Task) → AskFor (words_of words.now) task
         → IfSome (R.remaining input.old) (λ text. Begins task text (W.contents out.old) (W.contents out.new)) }
@@ -101,7 +102,7 @@ fn status_of<E: Write>(ended: Result<Ending, Fault>, notes: &[u8], err: &mut E) 
             tell_notes(notes, err);
             0
         }
-        Ok(Ending::BadLines) => {
+        Ok(Ending::BadLines | Ending::NoDevices) => {
             tell_notes(notes, err);
             FAILED
         }
@@ -139,7 +140,8 @@ fn perform<T: Threads + Wait + Sync, R: Read, W: Write>(
     ensures quiet { IsThreaded task ⊎ (notes.new.items ≡ []) }
     ensures alone { IfErr result (IsAlone notes.new.items) }
     ensures bad_lines { result ≡ Ok BadLines → notes.new.items ≡ [] }
-    ensures silent { IfSome (R.remaining input.old) (λ text. task ≢ Check → IsSilentAtBad text (W.contents out.old) (W.contents out.new)) }
+    ensures no_devices { result ≡ Ok NoDevices → notes.new.items ≡ [] }
+    ensures silent { IfSome (R.remaining input.old) (λ text. task ≢ Check → task ≢ Devices → IsSilentAtBad text (W.contents out.old) (W.contents out.new)) }
     ensures begun { IfSome (R.remaining input.old) (λ text. Begins task text (W.contents out.old) (W.contents out.new)) }
 {
     let text = read_whole(alloc, input)?;
@@ -157,6 +159,8 @@ fn perform<T: Threads + Wait + Sync, R: Read, W: Write>(
         Task::Draw { from, to } => {
             draw_run(alloc, read_scenario(alloc, text.as_slice())?, from, to, out)
         }
+        Task::Capture => capture(alloc, text.as_slice(), out),
+        Task::Devices => devices(alloc, text.as_slice(), out),
     }
 }
 
@@ -181,8 +185,27 @@ fn run_steps<W: Write>(alloc: Global, text: &[u8], out: &mut W) -> Result<Ending
     ensures silent { IsSilentAtBad text.now (W.contents out.old) (W.contents out.new) }
     ensures begun { Begins Steps text.now (W.contents out.old) (W.contents out.new) }
 {
-    let Lined { scenario, lines } = read_lined(alloc, text)?;
+    let Lined {
+        scenario,
+        lines,
+        ..
+    } = read_lined(alloc, text)?;
     print_steps(alloc, scenario, lines.as_slice(), out)
+}
+
+/// Writes the run of a text's scenario as a capture.
+fn capture<W: Write>(alloc: Global, text: &[u8], out: &mut W) -> Result<Ending, Fault>
+    requires { length text.now ≤ longest_input }
+    ensures ends { Performs Capture text.now [] (W.contents out.old) (W.contents out.new) result }
+    ensures silent { IsSilentAtBad text.now (W.contents out.old) (W.contents out.new) }
+    ensures begun { Begins Capture text.now (W.contents out.old) (W.contents out.new) }
+{
+    let Lined {
+        scenario,
+        lines,
+        devices,
+    } = read_lined(alloc, text)?;
+    capture_run(alloc, scenario, devices.as_slice(), lines.as_slice(), out)
 }
 
 /// Prints the help that the words ask for.

@@ -1,5 +1,5 @@
 -- A task over all that the input has.
-use Rattle.trace_io.specs.declared.words.Task.TheVariants.{Check, Live, Steps}
+use Rattle.trace_io.specs.declared.words.Task.TheVariants.{Capture, Check, Devices, Live, Steps}
 use Rattle.usb_trace.proofs.Begun.{bytes_begun}
 use Rattle.usb_trace.proofs.program.perform.Goals as goal
 
@@ -17,3 +17,13 @@ pub returns-in-Live-clause-begun : goal.returns-in-Live-clause-begun
 returns-in-Live-clause-begun g c =
     bytes_begun (g.R.Read.remaining c.args.input.now) c.args.task (Live c.in-Live.rounds) c.as_slice-in-Live.result.now (g.W.Write.contents c.args.out.now) (g.W.Write.contents c.live.new.out)
     c.in-Live.is (rw c.as_slice-in-Live.ensures.value c.in_ok-text.ensures.whole) c.live.ensures.begun
+
+pub returns-in-Capture-clause-begun : goal.returns-in-Capture-clause-begun
+returns-in-Capture-clause-begun g c =
+    bytes_begun (g.R.Read.remaining c.args.input.now) c.args.task Capture c.as_slice-in-Capture.result.now (g.W.Write.contents c.args.out.now) (g.W.Write.contents c.capture.new.out)
+    c.in-Capture.is (rw c.as_slice-in-Capture.ensures.value c.in_ok-text.ensures.whole) c.capture.ensures.begun
+
+pub returns-in-Devices-clause-begun : goal.returns-in-Devices-clause-begun
+returns-in-Devices-clause-begun g c =
+    bytes_begun (g.R.Read.remaining c.args.input.now) c.args.task Devices c.as_slice-in-Devices.result.now (g.W.Write.contents c.args.out.now) (g.W.Write.contents c.devices.new.out)
+    c.in-Devices.is (rw c.as_slice-in-Devices.ensures.value c.in_ok-text.ensures.whole) c.devices.ensures.begun

@@ -1,19 +1,24 @@
 -- What words and input come to.
 use Rattle.std.proofs.Common.{inl, refl}
 use Rattle.trace_scenario.specs.Words.{words_of}
-use Rattle.usb_trace.proofs.Reports.{bad_input, never_begun, quiet_unless_threads, rest_of, told_of, told_words, unwritten, words_are_bad}
+use Rattle.usb_trace.proofs.Reports.{bad_input, never_begun, quiet_unless_threads, rest_of, silent_unless, told_of, told_words, unwritten, words_are_bad}
 use Rattle.usb_trace.proofs.program.trace.Goals as goal
 
 pub returns-in-Ok-clause-bad : goal.returns-in-Ok-clause-bad
 returns-in-Ok-clause-bad g c asks =
-    bad_input (g.R.Read.remaining c.args.input.now) c.in-Ok.task c.perform-ended.new.notes.items c.perform-ended.result c.status_of.result
-    (g.W.Write.contents c.args.out.now) (g.W.Write.contents c.perform-ended.new.out) c.perform-ended.ensures.ends c.status_of.ensures.status
+    bad_input (words_of c.args.words.now) (g.R.Read.remaining c.args.input.now) c.in-Ok.task c.perform-ended.new.notes.items c.perform-ended.result c.status_of.result
+    (g.W.Write.contents c.args.out.now) (g.W.Write.contents c.perform-ended.new.out) c.in-Ok.ensures.task asks c.perform-ended.ensures.ends c.status_of.ensures.status
+
+pub returns-in-Ok-clause-silent : goal.returns-in-Ok-clause-silent
+returns-in-Ok-clause-silent g c =
+    silent_unless (words_of c.args.words.now) (g.R.Read.remaining c.args.input.now) c.in-Ok.task (g.W.Write.contents c.args.out.now) (g.W.Write.contents c.perform-ended.new.out)
+    c.in-Ok.ensures.task c.perform-ended.ensures.silent
 
 pub returns-in-Ok-clause-told : goal.returns-in-Ok-clause-told
 returns-in-Ok-clause-told g c =
     told_of (words_of c.args.words.now) (g.R.Read.remaining c.args.input.now) c.in-Ok.task c.perform-ended.new.notes.items c.perform-ended.result c.status_of.result
     (g.W.Write.contents c.args.out.now) (g.W.Write.contents c.perform-ended.new.out) (g.E.Write.contents c.args.err.now) (g.E.Write.contents c.status_of.new.err)
-    c.in-Ok.ensures.task c.perform-ended.ensures.ends c.perform-ended.ensures.alone c.status_of.ensures.status (rw c.as_slice.ensures.value at c.status_of.ensures.quiet) c.perform-ended.ensures.bad_lines (rw c.as_slice.ensures.value at c.status_of.ensures.told)
+    c.in-Ok.ensures.task c.perform-ended.ensures.ends c.perform-ended.ensures.alone c.status_of.ensures.status (rw c.as_slice.ensures.value at c.status_of.ensures.quiet) c.perform-ended.ensures.bad_lines c.perform-ended.ensures.no_devices (rw c.as_slice.ensures.value at c.status_of.ensures.told)
 
 pub returns-in-Ok-clause-done : goal.returns-in-Ok-clause-done
 returns-in-Ok-clause-done g c zero =
