@@ -10,7 +10,7 @@ use std::thread::Threads;
 static BAD: &str = "\
 === usbtrace
 error: 'usbtrace' requires a subcommand but one was not provided
-  [subcommands: run, alone, live, left, check, draw]
+  [subcommands: run, alone, live, left, check, draw, capture, devices]
 
 Usage: usbtrace <COMMAND>
 
@@ -35,6 +35,18 @@ For more information, try '--help'.
 error: unrecognized subcommand 'help'
 
 Usage: usbtrace <COMMAND>
+
+For more information, try '--help'.
+=== usbtrace capture 1
+error: unexpected argument '1' found
+
+Usage: usbtrace capture
+
+For more information, try '--help'.
+=== usbtrace devices 1
+error: unexpected argument '1' found
+
+Usage: usbtrace devices
 
 For more information, try '--help'.
 === usbtrace run 1
@@ -83,7 +95,7 @@ fn are_told<X: Threads + Wait + Sync>(
     )
 }
 
-/// The first bad words that aren't told so; or nothing, where there aren't ten of them.
+/// The first bad words that aren't told so; or nothing, where there aren't twelve of them.
 fn first_to_differ<X: Threads + Wait + Sync>(
     rt: &X,
     alloc: Global,
@@ -100,7 +112,7 @@ fn first_to_differ<X: Threads + Wait + Sync>(
         }
         count = count.saturating_add(1);
     }
-    if count == 10 { None } else { Some("") }
+    if count == 12 { None } else { Some("") }
 }
 
 #[test]
@@ -123,12 +135,14 @@ fn shows<X: Threads + Wait + Sync>(rt: &X, alloc: Global, words: &[&str], parts:
 fn help_is_printed_and_no_fault(rt: HostRuntime) {
     let parts = [
         "\n\nUsage: usbtrace <COMMAND>\n",
-        "\n  run    Runs the scenario and prints its entries\n",
-        "\n  alone  Prints the entries of one handle, alone over its own steps\n",
-        "\n  live   Runs the scenario in threads, and prints what its callbacks were told\n",
-        "\n  left   Prints what the scenario's run leaves behind, handle by handle\n",
-        "\n  check  Prints what is wrong with the scenario, line by line\n",
-        "\n  draw   Prints a picture of the scenario's run, an SVG document\n",
+        "\n  run      Runs the scenario and prints its entries\n",
+        "\n  alone    Prints the entries of one handle, alone over its own steps\n",
+        "\n  live     Runs the scenario in threads, and prints what its callbacks were told\n",
+        "\n  left     Prints what the scenario's run leaves behind, handle by handle\n",
+        "\n  check    Prints what is wrong with the scenario, line by line\n",
+        "\n  draw     Prints a picture of the scenario's run, an SVG document\n",
+        "\n  capture  Writes the scenario's run as a capture of usbmon, a pcap file\n",
+        "\n  devices  Prints the devices of a capture, and what they answered, as lines of a scenario\n",
         "\n  -h, --help  Print help\n",
     ];
     assert!(rt; shows(&rt, rt.alloc(), &["usbtrace", "-h"], &parts));
@@ -146,5 +160,9 @@ fn the_help_of_each_subcommand_has_its_example(rt: HostRuntime) {
     assert!(rt; shows(&rt, rt.alloc(), &["usbtrace", "run", "--help"], &run));
     let alone = ["| usbtrace alone 1\n\nStatus: 0 ", input];
     assert!(rt; shows(&rt, rt.alloc(), &["usbtrace", "alone", "--help"], &alone));
+    let capture = ["| usbtrace capture > run.pcap\n\nStatus: 0 ", input];
+    assert!(rt; shows(&rt, rt.alloc(), &["usbtrace", "capture", "--help"], &capture));
+    let devices = ["\nInput: a capture ", "\n  usbtrace devices < recorded.pcap > scenario.txt\n\nStatus: 0 "];
+    assert!(rt; shows(&rt, rt.alloc(), &["usbtrace", "devices", "--help"], &devices));
     assert!(rt; shows(&rt, rt.alloc(), &["usbtrace", "--help"], &run));
 }
