@@ -7,8 +7,8 @@ use Rattle.trace_scenario.specs.declared.text_fault.TextFault.{TextFault}
 use Rattle.trace_scenario.specs.declared.text_fault.TextFault.TheVariants as text
 use Rattle.trace_io.specs.declared.fault.Fault.{Fault}
 use Rattle.trace_io.specs.declared.fault.Fault.TheVariants.{Line, Memory, InputOutput, TooLong, Rounds, Wide, Capture}
-use Rattle.trace_recorded.specs.declared.fault.CaptureFault.{CaptureFault}
-use Rattle.trace_recorded.specs.declared.fault.CaptureFault.TheVariants as capture
+use Rattle.trace_recorded.specs.declared.capture_fault.CaptureFault.{CaptureFault}
+use Rattle.trace_recorded.specs.declared.capture_fault.CaptureFault.TheVariants as capture
 use Rattle.trace_recorded.specs.Faults.{capture_fault_text}
 use Rattle.trace_io.specs.Input.{longest_input}
 

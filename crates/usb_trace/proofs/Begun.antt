@@ -14,9 +14,9 @@ use Rattle.trace_io.proofs.Findings.{no_report}
 use Rattle.std.proofs.lemmas.List.Sorted.{IsPermutation-refl}
 use Rattle.trace_live.specs.Callbacks.{AreCallbacks}
 use Rattle.usb_trace.specs.Lived.{lived_of, AppendsSomeCallbacks, BeginsCallbacks}
-use Rattle.trace_recorded.specs.declared.fault.CaptureFault.{CaptureFault}
-use Rattle.trace_recorded.specs.declared.recorded.RecordedScenario.{RecordedScenario}
-use Rattle.trace_recorded.specs.Recorded.{recorded_scenario}
+use Rattle.trace_recorded.specs.declared.capture_fault.CaptureFault.{CaptureFault}
+use Rattle.trace_recorded.specs.declared.scenario.RecordedScenario.{RecordedScenario}
+use Rattle.trace_recorded.specs.Scenario.{recorded_scenario}
 use Rattle.trace_run.specs.Tasks.{alone_text, capture_bytes, left_lines, run_text, steps_text}
 use Rattle.usb_trace.specs.Program.{Begins, BeginsEntries, BeginsPicture, BeginsRecorded}
 

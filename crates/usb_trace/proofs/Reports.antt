@@ -20,10 +20,10 @@ use Rattle.trace_io.specs.Input.{longest_input}
 use Rattle.trace_io.specs.declared.fault.Fault.{Fault}
 use Rattle.trace_io.specs.declared.fault.Fault.TheVariants as why
 use Rattle.trace_io.specs.declared.fault.Fault.TheVariants.{Line, Memory, InputOutput, TooLong, Rounds, Wide}
-use Rattle.trace_recorded.specs.declared.fault.CaptureFault.{CaptureFault}
-use Rattle.trace_recorded.specs.declared.fault.CaptureFault.TheVariants as capture
+use Rattle.trace_recorded.specs.declared.capture_fault.CaptureFault.{CaptureFault}
+use Rattle.trace_recorded.specs.declared.capture_fault.CaptureFault.TheVariants as capture
 use Rattle.trace_recorded.specs.Faults.{IsCaptureFault}
-use Rattle.trace_recorded.specs.Recorded.{recorded_scenario}
+use Rattle.trace_recorded.specs.Scenario.{recorded_scenario}
 use Rattle.trace_scenario.specs.declared.scenario.Scenario.{Scenario}
 use Rattle.usb_trace.specs.Lived.{lived_of, AppendsCallbacks, GoesOn, IsOfLive}
 use Rattle.usb_trace.specs.Program.{scenario_for, status_of, AskForThreads, Begins, Draws, EndsLate, FindsNone, IsAlone, IsDone, IsReported, IsSilentAtBad, IsThreaded, Performs, TellsRest, TellsWhy}

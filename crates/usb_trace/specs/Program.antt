@@ -6,9 +6,9 @@ use Rattle.trace_io.specs.declared.fault.Fault.TheVariants.{Line, Memory, InputO
 use Rattle.trace_run.specs.declared.tasks.Ending.{Ending}
 use Rattle.trace_run.specs.declared.tasks.Ending.TheVariants.{Good, BadLines, NoDevices}
 use Rattle.trace_run.specs.Tasks.{AppendsAny, alone_text, capture_bytes, left_lines, run_text, steps_text}
-use Rattle.trace_recorded.specs.declared.fault.CaptureFault.{CaptureFault}
-use Rattle.trace_recorded.specs.declared.recorded.RecordedScenario.{RecordedScenario}
-use Rattle.trace_recorded.specs.Recorded.{recorded_scenario}
+use Rattle.trace_recorded.specs.declared.capture_fault.CaptureFault.{CaptureFault}
+use Rattle.trace_recorded.specs.declared.scenario.RecordedScenario.{RecordedScenario}
+use Rattle.trace_recorded.specs.Scenario.{recorded_scenario}
 use Rattle.trace_scenario.specs.declared.scenario.Scenario.{Scenario}
 use Rattle.clap.specs.Walk.{Text}
 use Rattle.trace_io.specs.CommandLine.{AskFor}
