@@ -1,2 +1,4 @@
 pub mod Callbacks
+pub mod Calls
+pub mod Lines
 pub mod Unfinished

@@ -1,6 +1,7 @@
 -- What never completes of a run in threads: transfers, and what waits for them.
 use Rattle.std.specs.Prelude.{◌≡◌, Bool, true, false, List, filter}
 use Rattle.usb_model.specs.declared.entry.Entry.{Entry}
+use Rattle.usb_model.specs.declared.plan.Plan.{Plan}
 use Rattle.usb_model.specs.declared.step.Step.{Step}
 use Rattle.usb_model.specs.Setup.{Setup}
 use Rattle.usb_model.specs.World.{new_world, world_from}
@@ -10,6 +11,7 @@ use Rattle.usb_left.specs.declared.left.Thing.{Thing}
 use Rattle.usb_left.specs.declared.left.Thing.TheVariants.{IsHalted, Unused}
 use Rattle.usb_left.specs.Left.{all_left}
 use Rattle.trace_live.specs.Callbacks.{AreCallbacks}
+use Rattle.trace_live.specs.Calls.{HasCalls}
 
 -- whether something is of a transfer or an order that isn't over: not a halt, and not what a device has left to answer
 abbrev pub is_under_way : Thing → Bool
@@ -27,7 +29,8 @@ is_unfinished (At h ep thing) = is_under_way thing
 abbrev pub unfinished_in : Setup → List Step → List Left
 unfinished_in setup steps = filter is_unfinished (all_left setup (world_from setup (new_world setup) steps))
 
--- what was performed by these steps: what callbacks were told of their run, and what was unfinished where it ended
-pub record IsPerformed (setup : Setup) (steps : List Step) (told : List Entry) (unfinished : List Left) : Type 0 where
+-- a plan was performed by these steps, which have its calls: what callbacks were told of their run, and what was unfinished where it ended
+pub record IsPerformed (setup : Setup) (plan : List Plan) (steps : List Step) (told : List Entry) (unfinished : List Left) : Type 0 where
+  pub calls : HasCalls plan steps
   pub callbacks : AreCallbacks setup steps told
   pub left : unfinished ≡ unfinished_in setup steps

@@ -20,6 +20,13 @@ impl Budget {
         })
     }
 
+    /// The same, for one thread more.
+    pub(crate) fn shared(&self) -> Result<Budget, AllocError> {
+        Ok(Budget {
+            left: self.left.clone()?,
+        })
+    }
+
     /// The callback of a rule, which is called within this budget.
     pub(crate) fn callback(&self, rule: Rule) -> Result<Counted, AllocError> {
         Ok(Counted {

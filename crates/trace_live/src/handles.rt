@@ -1,9 +1,13 @@
 //! The handles of a plan, each with its lines in a channel.
 
+ghost use Rattle.std.specs.Prelude.{◌≡◌, ◌<◌, [], IfOk, IfSome, length, replicate};
+ghost use Rattle.trace_live.specs.Lines.{AreDealt, ArePlanned, call_in, dealt, said_by_each};
+
 use crate::counted::{Budget, Counted};
 use crate::line::Line;
-use crossbeam_channel::{Receiver, bounded};
+use crate::queue::Queue;
 use std::alloc::{AllocError, Global};
+use std::marker::Model;
 use std::sync::Wait;
 use usb_device::Device;
 use usb_journal::{Naming, Recorder};
@@ -14,14 +18,31 @@ use usb_model::{Plan, Rule, Sequence};
 /// How many handles there are.
 const HANDLES: usize = 64;
 
-/// The thread of a handle: makes its lines, as they come out of their channel.
+/// The thread of a handle: makes its lines, as they come out of their channel. Contracts see the steps that they say.
 #[derive(Drop)]
 pub(crate) struct Handle {
-    lines: Receiver<Line>,
+    lines: Queue,
+    budget: Budget,
 }
 
+impl Model for Handle {
+    ghost use Rattle.std.specs.Prelude.{List};
+    ghost use Rattle.usb_model.specs.declared.step.Step.{Step};
+    ghost use Rattle.trace_live.specs.Lines.{said_by_all};
+
+    ghost Value = { List Step };
+
+    ghost view = { λ h. said_by_all h.lines };
+}
+
+/// Where it ends well it has made each of its lines, in order, and nothing else.
 impl Driver<Counted> for Handle {
+    ghost use Rattle.std.specs.Prelude.{◌≡◌, ◌++◌, OnOk};
+    ghost use Rattle.usb_journal.specs.Booked.{steps_of};
+
     type Left = Result<(), AllocError>;
+
+    ghost makes = { λ handle setup old new left. OnOk left (steps_of new.own ≡ steps_of old.own ++ handle) };
 
     fn drive<L: Naming, D: Device, J: Recorder, R: Wait>(
         self,
@@ -29,13 +50,38 @@ impl Driver<Counted> for Handle {
         library: &Library<L, Counted, D, J>,
         caller: &mut Caller<L>,
     ) -> Result<(), AllocError> {
+        let Handle { mut lines, budget } = self;
         for _ in rt.forever() {
-            let Ok(line) = self.lines.recv(rt) else {
+            let Some(line) = lines.next(rt) else {
                 break;
             };
-            line.make(rt, library, caller)?;
+            line.make(rt, library, caller, &budget)?;
         }
         Ok(())
+    }
+}
+
+/// No lines yet, of each handle by its name.
+fn no_lines(alloc: Global) -> Result<Vec<Sequence<Line>>, AllocError>
+    ensures { IfOk result (λ handles. said_by_each handles.items ≡ replicate 64 []) }
+{
+    let mut handles = Vec::with_capacity(alloc, HANDLES)?;
+    for _ in 0..HANDLES {
+        handles.push(Sequence::new(alloc))?;
+    }
+    Ok(handles)
+}
+
+/// Puts what a piece of a plan says behind the lines of its handle. `rules` are those of the submissions from here on.
+fn deal(handles: &mut [Sequence<Line>], piece: Plan, rules: &mut &[Rule]) -> Result<(), AllocError>
+    requires { length handles.old ≡ 64 }
+    ensures dealt { IfOk result (λ _. said_by_each handles.new ≡ dealt (said_by_each handles.old) (call_in piece)) }
+    ensures same { length handles.new ≡ length handles.old }
+    ensures named { IfOk result (λ _. IfSome (call_in piece) (λ call. call.0 < 64)) }
+{
+    match Line::of(piece, rules) {
+        None => Ok(()),
+        Some((h, line)) => handles[usize::from(h.number())].push(line),
     }
 }
 
@@ -44,32 +90,15 @@ fn lines_of(
     alloc: Global,
     plan: Sequence<Plan>,
     rules: &[Rule],
-    budget: &Budget,
-) -> Result<Vec<Vec<Line>>, AllocError> {
-    let mut handles = Vec::with_capacity(alloc, HANDLES)?;
-    for _ in 0..HANDLES {
-        handles.push(Vec::new(alloc))?;
-    }
+) -> Result<Vec<Sequence<Line>>, AllocError>
+    ensures { IfOk result (λ handles. AreDealt (said_by_each handles.items) plan) }
+{
+    let mut handles = no_lines(alloc)?;
     let mut left = rules;
     for piece in plan.into_vec() {
-        if let Some((h, line)) = Line::of(piece, &mut left, budget)? {
-            if let Some(lines) = handles.get_mut(usize::from(h.number())) {
-                lines.push(line)?;
-            }
-        }
+        deal(handles.as_mut_slice(), piece, &mut left)?;
     }
     Ok(handles)
-}
-
-/// A handle whose lines wait in a channel that has room for just them, and gets no more.
-fn filled<R: Wait>(rt: &R, alloc: Global, lines: Vec<Line>) -> Result<Handle, AllocError> {
-    let (sender, receiver) = bounded(alloc, lines.len())?;
-    for line in lines {
-        if sender.send(rt, line).is_err() {
-            return Err(AllocError);
-        }
-    }
-    Ok(Handle { lines: receiver })
 }
 
 /// The handles of a plan that have lines, by their names.
@@ -79,11 +108,16 @@ pub(crate) fn handles_of<R: Wait>(
     plan: Sequence<Plan>,
     rules: &[Rule],
     budget: &Budget,
-) -> Result<Vec<Handle>, AllocError> {
+) -> Result<Vec<Handle>, AllocError>
+    ensures { IfOk result (λ handles. ArePlanned handles.items plan) }
+{
     let mut handles = Vec::new(alloc);
-    for lines in lines_of(alloc, plan, rules, budget)? {
+    for lines in lines_of(alloc, plan, rules)? {
         if !lines.is_empty() {
-            handles.push(filled(rt, alloc, lines)?)?;
+            handles.push(Handle {
+                lines: Queue::of(rt, alloc, lines)?,
+                budget: budget.shared()?,
+            })?;
         }
     }
     Ok(handles)

@@ -1,6 +1,6 @@
 //! A plan from its devices to what its callbacks were told, and what never completed.
 
-ghost use Rattle.std.specs.Prelude.{IfOk, List};
+ghost use Rattle.std.specs.Prelude.{All, IfOk, IsOk, List};
 ghost use Rattle.usb_model.specs.declared.step.Step.{Step};
 ghost use Rattle.usb_core.specs.Public.{setup_of};
 ghost use Rattle.trace_live.specs.Unfinished.{IsPerformed};
@@ -30,7 +30,9 @@ pub struct Performance {
 }
 
 /// An error where a handle's thread was refused memory.
-fn are_made(left: Vec<Result<(), AllocError>>) -> Result<(), AllocError> {
+fn are_made(left: Vec<Result<(), AllocError>>) -> Result<(), AllocError>
+    ensures { IfOk result (λ _. All (λ made. IsOk made) left.items) }
+{
     for made in left {
         made?;
     }
@@ -50,7 +52,7 @@ pub fn perform<D: Scripted + Send, R: Threads + Wait + Sync>(
     rules: &[Rule],
     rounds: u64,
 ) -> Result<Performance, AllocError>
-    ensures { IfOk result (λ p. (steps : List Step) × IsPerformed (setup_of setup) steps p.told.items p.unfinished.items) }
+    ensures { IfOk result (λ p. (steps : List Step) × IsPerformed (setup_of setup) plan steps p.told.items p.unfinished.items) }
 {
     let budget = Budget::new(alloc, rounds)?;
     let handles = handles_of(rt, alloc, plan, rules, &budget)?;

@@ -1,7 +1,6 @@
 -- What a task has written, however it ends.
-use Rattle.std.proofs.Common.{◌≡◌, ◌++◌, ℕ, List, [], Option, Some, None, Result, Ok, Err, IfSome, refl, sym, subst, append-nil, arith}
+use Rattle.std.proofs.Common.{◌≡◌, ◌++◌, ℕ, List, [], Option, Some, None, Result, Ok, Err, IfSome, inl, refl, sym, subst, append-nil}
 use Rattle.std.specs.Io.KnownBytes.{Appends, Keeps}
-use Rattle.usb_model.specs.World.Journal.{journal, journal_from}
 use Rattle.trace_scenario.specs.Counts.{counts_of}
 use Rattle.trace_scenario.specs.Findings.{bad_lines, good_lines}
 use Rattle.trace_scenario.specs.Scenario.{scenario_of}
@@ -11,8 +10,6 @@ use Rattle.trace_io.specs.declared.words.Task.TheVariants.{Run, Steps, Alone, Li
 use Rattle.trace_io.specs.Output.{AppendsSome}
 use Rattle.trace_io.proofs.Beginnings.{none_yet, some_behind, some_of_front}
 use Rattle.trace_io.proofs.Findings.{no_report}
-use Rattle.std.proofs.lemmas.List.Sorted.{IsPermutation-refl}
-use Rattle.trace_live.specs.Callbacks.{AreCallbacks}
 use Rattle.usb_trace.specs.Lived.{lived_of, AppendsSomeCallbacks, BeginsCallbacks}
 use Rattle.trace_recorded.specs.declared.capture_fault.CaptureFault.{CaptureFault}
 use Rattle.trace_recorded.specs.declared.scenario.RecordedScenario.{RecordedScenario}
@@ -40,14 +37,9 @@ pub no_recorded : (said : Result RecordedScenario CaptureFault) (old : Option (L
 no_recorded (Ok r) old = none_yet r.text old
 no_recorded (Err fault) old = keeps_same old
 
--- where no step is made no callback is told anything
-none_told : (s : Scenario) → AreCallbacks s.setup [] []
-unfolding journal journal_from
-none_told s = record { all = IsPermutation-refl []; order = λ i j d low end. absurd (omega (arith, end)) }
-
--- so nothing is a beginning of what callbacks are told
+-- nothing is a beginning of what callbacks are told
 pub none_begun : (s : Scenario) (old : Option (List ℕ)) → AppendsSomeCallbacks s old old
-none_begun s old = ([], [], none_told s, none_yet [] old)
+none_begun s old = inl (keeps_same old)
 
 -- no callback was told anything, whatever the text says
 pub no_callbacks : (said : Result Scenario ℕ) (old : Option (List ℕ)) → BeginsCallbacks said old old

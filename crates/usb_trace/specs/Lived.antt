@@ -1,5 +1,5 @@
 -- What a scenario says that is run in threads, and what is written of it.
-use Rattle.std.specs.Prelude.{ℕ, ◌≡◌, ◌+◌, ◌==◌, ◌<◌, length, min, Bool, true, false, List, [], ◌∷◌, Option, Some, None, Result, Ok, Err, if◌then◌else◌}
+use Rattle.std.specs.Prelude.{ℕ, ◌≡◌, ◌⊎◌, ◌+◌, ◌==◌, ◌<◌, length, min, Bool, true, false, List, [], ◌∷◌, Option, Some, None, Result, Ok, Err, if◌then◌else◌}
 use Rattle.std.specs.Io.KnownBytes.{Appends, Keeps}
 use Rattle.std.specs.List.{slice_split}
 use Rattle.usb_model.specs.declared.entry.Entry.{Entry}
@@ -11,6 +11,7 @@ use Rattle.trace_scenario.specs.declared.line.Line.{Line}
 use Rattle.trace_scenario.specs.declared.line.Line.TheVariants.{Piece}
 use Rattle.trace_scenario.specs.Line.{line_of_text}
 use Rattle.trace_live.specs.Callbacks.{AreCallbacks}
+use Rattle.trace_live.specs.Calls.{HasCalls}
 use Rattle.trace_live.specs.Unfinished.{unfinished_in}
 use Rattle.usb_left.specs.LeftText.{lines_left}
 use Rattle.trace_io.specs.Faults.{IsOfRun}
@@ -45,19 +46,23 @@ lived_of text = earlier (first_unlived 1 (slice_split (λ b. b == 10) text)) (sc
 abbrev pub unfinished_text : Scenario → List Step → List ℕ
 unfinished_text s steps = lines_left (unfinished_in s.setup steps)
 
--- what is written of a scenario that was run in threads, and what is to be told behind it: what its callbacks were told in some run over its devices, by handle and number; and what wasn't finished where that run ends
+-- what callbacks were told in a run of these steps over a scenario's devices, by handle and number: in it stand the calls of the scenario's lines, each handle's in their order, and no others
+abbrev pub IsLived : Scenario → List Step → List Entry → Type 0
+IsLived s steps lines = HasCalls s.plan steps × AreCallbacks s.setup steps lines
+
+-- what is written of a scenario that was run in threads, and what is to be told behind it: what its callbacks were told in a run of its lines; and what wasn't finished where that run ends
 abbrev pub AppendsCallbacks : Scenario → (notes : List ℕ) → Option (List ℕ) → Option (List ℕ) → Type 0
 AppendsCallbacks s notes old new =
-    (steps : List Step) × (lines : List Entry) × AreCallbacks s.setup steps lines × (notes ≡ unfinished_text s steps) × Appends old new (lines_text lines)
+    (steps : List Step) × (lines : List Entry) × IsLived s steps lines × (notes ≡ unfinished_text s steps) × Appends old new (lines_text lines)
 
--- a beginning of what is written
+-- nothing is written, or a beginning of that
 abbrev pub AppendsSomeCallbacks : Scenario → Option (List ℕ) → Option (List ℕ) → Type 0
-AppendsSomeCallbacks s old new = (steps : List Step) × (lines : List Entry) × AreCallbacks s.setup steps lines × AppendsSome (lines_text lines) old new
+AppendsSomeCallbacks s old new = Keeps old new ⊎ ((steps : List Step) × (lines : List Entry) × IsLived s steps lines × AppendsSome (lines_text lines) old new)
 
--- more than so many callbacks are told something, in some run over the scenario's devices; and this wasn't finished where it ends
+-- more than so many callbacks are told something, in a run of the scenario's lines; and this wasn't finished where it ends
 abbrev pub GoesOn : Scenario → ℕ → (notes : List ℕ) → Type 0
 GoesOn s rounds notes =
-    (steps : List Step) × (lines : List Entry) × AreCallbacks s.setup steps lines × (notes ≡ unfinished_text s steps) × (rounds < length lines)
+    (steps : List Step) × (lines : List Entry) × IsLived s steps lines × (notes ≡ unfinished_text s steps) × (rounds < length lines)
 
 -- a fault of a run in threads with so many callbacks at most, and what is to be told behind it: of memory or of a stream, or there are more
 abbrev pub IsOfLive : Scenario → ℕ → (notes : List ℕ) → Fault → Type 0
