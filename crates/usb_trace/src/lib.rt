@@ -16,13 +16,13 @@
 //!
 //! - `trace`, status 0: the words asked for a task, the input is a scenario's text of at most 67,108,864 bytes, and
 //!   what was written is, byte for byte, the lines of its run, these with the number and the text of its step's line
-//!   before each (`run --steps`), those of one handle alone, what callbacks were told in a run of the definitions
-//!   over its devices, all of it, by handle and number (`live`: in that run stand the calls of the scenario's lines, each
-//!   handle's in their order, and no others), what is left behind (`left`), or, of a check, the counts; of `draw` no contract says what is written; of `capture` it is the
-//!   file of its run's events, those of the text's `device` lines in front, each entry from its step's line
-//!   (`capture_bytes`). Of `devices` the input is a capture of at most so many bytes, and what was written is the text of its
-//!   scenario (`recorded_scenario` of `trace_recorded`), in which a device is kept. Or the words asked for help, and the
-//!   input wasn't read. Nothing is on standard error
+//!   before each (`run --steps`), those of one handle alone, what callbacks were told in a run of the definitions over
+//!   its devices, all of it, by handle and number (`live`: in that run stand the calls of the scenario's lines, each
+//!   handle's in their order, and no others), what is left behind (`left`), or, of a check, the counts; of `draw` no
+//!   contract says what is written; of `capture` it is the file of its run's events, those of the text's `device` lines
+//!   in front, each entry from its step's line (`capture_bytes`). Of `devices` the input is a capture of at most so
+//!   many bytes, and what was written is the text of its scenario (`recorded_scenario` of `trace_recorded`), in which a
+//!   device is kept. Or the words asked for help, and the input wasn't read. Nothing is on standard error
 //! - `trace`, status 1: a check wrote a line with the number of each bad line, in order, of 1,000 at most, then how
 //!   many more there are, if so, and then the counts, and nothing is on standard error; or under `devices` no device is
 //!   kept, the text of the capture's scenario was written, and nothing is on standard error; or what is on standard error
@@ -32,13 +32,15 @@
 //!   has more; of a picture with too many steps, only under `draw`; of a capture that is refused, only under `devices`, and
 //!   only the fault that the definition has. Want of memory and a failed stream fit always
 //! - `trace`, status 2: the words are bad; nothing is written on standard output, and the input isn't read
-//! - `trace`, any status: at a bad line, all but `check` and `devices`, which reads no scenario, write nothing on standard
-//!   output (help, where it is asked for, is written), and `check` doesn't answer 0. Where the words ask for no task the input isn't read. The status
-//!   is 0, 1 or 2. However a task ends, what it wrote is a beginning of its text: of the lines of the run, of those
-//!   of the handle, of what callbacks were told in such a run, of what is left, of the check's report, of the run's capture, or of a capture's scenario; and nothing where a capture is refused
-//! - within `usb_trace`: `run`, `run --steps`, `alone` and `capture` print each line or record as the core comes to it, and
-//!   keep no entry. A run that finds no memory prints the lines of a beginning of its entries (`PrintsTo`), or the file of a
-//!   beginning of its events (`PrintsFile`), unless printing fails too. The fault that ended a task is the one whose message is begun, byte for byte (`status_of`)
+//! - `trace`, any status: at a bad line, all but `check` and `devices`, which reads no scenario, write nothing on
+//!   standard output (help, where it is asked for, is written), and `check` doesn't answer 0. Where the words ask for
+//!   no task the input isn't read. The status is 0, 1 or 2. However a task ends, what it wrote is a beginning of its
+//!   text: of the lines of the run, of those of the handle, of what callbacks were told in such a run, of what is left,
+//!   of the check's report, of the run's capture, or of a capture's scenario; and nothing where a capture is refused
+//! - within `usb_trace`: `run`, `run --steps`, `alone` and `capture` print each line or record as the core comes to it,
+//!   and keep no entry. A run that finds no memory prints the lines of a beginning of its entries (`PrintsTo`), or the
+//!   file of a beginning of its events (`PrintsFile`), unless printing fails too. The fault that ended a task is the
+//!   one whose message is begun, byte for byte (`status_of`)
 //!
 //! That a message isn't cut short can't be said of `trace`: of a `Write` that fails nobody but itself knows, and the
 //! status is the same. For that reason too, want of memory told in place of another fault fits the clause of `trace`;
