@@ -5,12 +5,13 @@
 # for C, proved, and tries it: bin/libtirnouch_core.a and .so, with c/include/tirnouch_core.h; `make bench_c` measures it. `make c-usb`
 # builds libusb's own interface over it, bin/libusb-1.0.so.0 and .a; `make c-test` tries it, and `make c-abi` compares the header with libusb's.
 # `make hostile` tries the programs in hostile ways, some minutes; HOSTILE has options of tools/hostile, or parts.
+# `make captures` tries captures on tshark and on libusb over umockdev, some minutes; CAPTURES has options of tools/captures, or parts.
 
 SCENARIO = rows/cancel_amid_transfer.in
 
 KIT = $(shell dirname $$(dirname $$(readlink -f $$(command -v rt))))
 
-.PHONY: run build test fmt doc bench bench_threads c c-usb c-test c-abi bench-usb bench_c wrong_bodies plant always
+.PHONY: run build test fmt doc bench bench_threads c c-usb c-test c-abi bench-usb bench_c captures wrong_bodies plant always
 
 run:
 	@tools/program.py try
@@ -120,6 +121,12 @@ hostile:
 	@tools/program.py state
 	@tools/program.py try check_calls check_random
 	@python3 tools/hostile $(HOSTILE)
+
+# Runs as captures and captures as scenarios, tried by tshark, and by libusb over umockdev: docs/CAPTURES.md.
+captures:
+	@tools/program.py state
+	@tools/program.py try
+	@python3 tools/captures $(CAPTURES)
 
 wrong_bodies:
 	tools/wrong_bodies.py try

@@ -1,0 +1,69 @@
+"""Part `damaged`: captures that are cut, or of which bytes are changed. `usbtrace devices` ends well, and what it prints is a scenario."""
+import random
+import re
+
+from forms import FORMS
+from scenes import random_scenario
+
+# What may stand on standard error, and the comments of a text.
+REFUSALS = re.compile(rb"usbtrace: the capture is refused: (not a capture|a file header cut short|link type \d+|no usbmon interface)\n")
+COMMENTS = re.compile(
+    r"# the capture ends amid a record"
+    r"|# bus \d+ device \d+ is left out: "
+    r"(no configuration descriptor|its configuration descriptor is refused|a hub|no answers|the fifth device)"
+    r"|# device \d was bus \d+ device \d+"
+    r"|# ep [0-9a-f]{2}: (\d+ bytes were not recorded; they are 00 here|\d+ packets were too long; their bytes are 00 here"
+    r"|\d+ transfers of more than 262144 bytes are left out|the first 65536 of \d+ answers"
+    r"|\d+ transfers are left out: not a bulk or interrupt endpoint of this configuration)")
+# How long a run may take, in seconds of processor time.
+SECONDS = 10
+# Captures that are damaged, so many times each.
+TIMES = 100
+
+
+def changed(dice, capture):
+    """A capture of which bytes are changed, put in, left out or cut off, in one place or a few."""
+    for _ in range(dice.choice((1, 1, 1, 2, 4, 16))):
+        at, size = dice.randrange(len(capture) + 1), dice.choice((1, 1, 2, 4, 16, 64))
+        some = dice.choice((bytes(size), b"\xff" * size, dice.randbytes(size)))
+        capture = dice.choice((
+            capture[:at] + some + capture[at + size :], capture[:at] + some + capture[at + size :], capture[:at] + some + capture[at:],
+            capture[:at] + capture[at + size :], capture[:at] or b"\0"))
+    return capture
+
+
+def judged(machine, capture, count):
+    """What is wrong with a run over a damaged capture; else it is counted."""
+    it = machine.usbtrace("devices", capture)
+    refused = it.status == 1 and not it.out and REFUSALS.fullmatch(it.err)
+    if it.seconds > SECONDS:
+        return f"takes {it.seconds:.1f} seconds"
+    if refused:
+        count["refused: " + refused[1].decode().split(" type")[0]] += 1
+        return None
+    if it.status not in (0, 1) or it.err:
+        return f"ends with status {it.status}: {it.err[:200]!r}"
+    lines = it.out.decode(errors="replace").splitlines()
+    strange = next((line for line in lines if line.startswith("#") and not COMMENTS.fullmatch(line)), None)
+    if strange:
+        return f"prints {strange!r}"
+    if (it.status == 0) != any(line.startswith("device ") for line in lines):
+        return f"ends with status {it.status}, and prints {lines[:3]}"
+    if it.out and machine.usbtrace("check", it.out).status:
+        return "prints no scenario"
+    count["read"] += it.status == 0
+    count["without a device"] += it.status == 1
+    return None
+
+
+def damaged(machine, asked, count):
+    names = [*FORMS]
+    for seed in range(asked.seed, asked.seed + -(-asked.damaged // TIMES)):
+        dice = random.Random(seed)
+        whole = machine.usbtrace("capture", random_scenario(dice)).out
+        for number in range(TIMES):
+            form = names[number % len(names)]
+            wrong = judged(machine, changed(dice, FORMS[form](whole)), count)
+            if wrong:
+                count["wrong"] += 1
+                yield f"seed {seed}, number {number}, {form}: `devices` {wrong}"
