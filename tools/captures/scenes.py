@@ -15,7 +15,7 @@ VERBS = (
     ["submit"] * 10 + ["serve"] * 18 + ["deliver"] * 12 + ["take"] * 8 + ["return"] * 8 + ["command"] * 8 + ["cancel"] * 2 + ["expire"]
     + ["clear"] * 2 + ["claim", "release", "reset"]
 )
-SHAPES = (60, 150, 300)
+SHAPES = (100, 300, 800)
 
 
 def row_scenarios():

@@ -153,11 +153,12 @@ class Told:
                                  request.data, None, request.flags))
 
     def serve(self, h, n, at):
-        """A device was asked: it gave its next answer, where it is there and doesn't stall."""
+        """A device was asked: it gave its next answer, where it is there, doesn't stall, and has one left."""
         device, ep = at
-        if device in self.gone or at in self.halted:
+        script = self.devices[device].scripts.get(ep, [])
+        if device in self.gone or at in self.halted or self.used[at] == len(script):
             return
-        answer = self.devices[device].scripts[ep][self.used[at]]
+        answer = script[self.used[at]]
         self.used[at] += 1
         if answer != "n":
             self.shares[h, n].append(answer)
