@@ -17,7 +17,8 @@ WITHDRAWN = ("CANCELLED", "TIMED_OUT")
 # libusb's types and flags, by usbmon's and Linux's.
 TYPES = {1: 3, 3: 2}
 LIBUSB_FLAGS = {0x1: 1, 0x40: 8}
-CANCELS = "!(usb.urb_status == -2)"
+# What tshark keeps of a capture where it takes out the ends of cancelled transfers; their status.
+KEPT, ENOENT = "!(usb.urb_status == -2)", -2
 
 
 def described(device):
@@ -54,11 +55,28 @@ def orders(told, device):
     return "".join(line + "\n" for line in lines).encode(), numbers
 
 
+def without_cancels(capture):
+    """A capture without the ends of cancelled transfers."""
+    out, at = [capture[:24]], 24
+    while at < len(capture):
+        behind = at + 16 + int.from_bytes(capture[at + 8 : at + 12], "little")
+        if int.from_bytes(capture[at + 44 : at + 48], "little", signed=True) != ENOENT:
+            out.append(capture[at:behind])
+        at = behind
+    return b"".join(out)
+
+
+def kept_by_tshark(machine, capture):
+    """What tshark keeps, which is the same but for the file header."""
+    kept = machine.folder / "kept.pcap"
+    words = [need("tshark"), "-r", machine.file("whole.pcap", capture), "-Y", KEPT, "-F", "pcap", "-w", kept]
+    subprocess.run(words, capture_output=True, check=True)
+    return kept.read_bytes()
+
+
 def replay(machine, driver, device, capture, given, most):
     """How the driver ends over this capture and these orders."""
-    kept = machine.folder / "kept.pcap"
-    words = [need("tshark"), "-r", machine.file("whole.pcap", capture), "-Y", CANCELS, "-F", "pcap", "-w", kept]
-    subprocess.run(words, capture_output=True, check=True)
+    kept = machine.file("kept.pcap", capture)
     described_as = machine.file("device.umockdev", described(device))
     words = [need("umockdev-run"), "--device", described_as, "--pcap", f"/sys{ROOT_OF_BUS}/1-{device.number + 1}={kept}", "--"]
     return machine.ran([*words, driver, VENDOR, PRODUCT, str(most)], machine.file("orders", given))
@@ -80,7 +98,10 @@ def umockdev(machine, asked, count):
     for seed in range(asked.seed, asked.seed + asked.count):
         scenario = random_scenario(random.Random(seed))
         told = Told(scenario, machine.usbtrace("run --steps", scenario).out)
-        capture = machine.usbtrace("capture", scenario).out
+        whole = machine.usbtrace("capture", scenario).out
+        capture = without_cancels(whole)
+        if seed == asked.seed and kept_by_tshark(machine, whole)[24:] != capture[24:]:
+            yield f"seed {seed}: tshark keeps other packets where it takes out cancelled transfers"
         for device in told.devices.values():
             given, numbers = orders(told, device.number)
             it = replay(machine, driver, device, capture, given, len(numbers))

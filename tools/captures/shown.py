@@ -4,7 +4,7 @@ import subprocess
 
 from machine import need
 from scenes import random_scenario, row_scenarios
-from told import CONTROL, Told, data_flag
+from told import CONTROL, FILE_HEADER, Told, data_flag
 
 # What tshark is asked for of each frame.
 FIELDS = (
@@ -16,7 +16,9 @@ FIELDS = (
 # These may come again among the descriptors of an answer, so they are looked at in requests alone.
 OF_SUBMISSIONS = ("usb.bmRequestType", "usb.setup.bRequest", "usb.setup.wLength", "usb.setup.wInterface", "usb.setup.wFeatureSelector",
                   "usb.setup.wEndpoint", "usb.setup.wIndex")
-GET_DESCRIPTOR, SET_CONFIGURATION, SET_INTERFACE, CLEAR_FEATURE = 6, 9, 11, 1
+SET_CONFIGURATION, SET_INTERFACE, CLEAR_FEATURE = 9, 11, 1
+# How many captures tshark reads at once.
+BATCH = 25
 
 
 def character(value):
@@ -75,41 +77,73 @@ def difference(wanted, shown):
     return None
 
 
-def faults_of(machine, name, scenario, count):
-    """What is wrong with the capture of a scenario; what is right is counted."""
+class Batch:
+    """Captures that tshark reads as one file, since it takes longer to begin than to read. Ids come again there, each behind its last end."""
+
+    def __init__(self, machine, count):
+        self.machine, self.count, self.names, self.wanted, self.records = machine, count, [], [], []
+
+    def add(self, name, told, capture):
+        """A capture more: its records, and what tshark has to show of them behind the frames before."""
+        before = len(self.wanted)
+        for frame in frames_of(told):
+            for field in ("usb.request_in", "usb.response_in"):
+                frame[field] = str(int(frame[field]) + before) if frame[field] else ""
+            self.names.append(name)
+            self.wanted.append(frame)
+        self.records.append(capture[len(FILE_HEADER) :])
+
+    def faults(self):
+        """What tshark shows otherwise, once for each capture."""
+        shown = list(shown_by(self.machine.file("shown.pcap", FILE_HEADER + b"".join(self.records))))
+        self.count["frames"] += len(shown)
+        if len(shown) != len(self.wanted):
+            yield f"{self.names[0]} to {self.names[-1]}: tshark shows {len(shown)} frames of {len(self.wanted)}"
+        told_of = set()
+        for number, (name, wanted, frame) in enumerate(zip(self.names, self.wanted, shown), 1):
+            it = difference(wanted, frame)
+            if it and name not in told_of:
+                told_of.add(name)
+                yield f"{name}, frame {number - self.names.index(name)}: {it}"
+
+
+def written_faults(machine, name, scenario, batch):
+    """What is wrong with the bytes of a scenario's capture, which tshark is shown then; what is right is counted."""
     printed, written = machine.usbtrace("run --steps", scenario), machine.usbtrace("capture", scenario)
     if printed.status:
-        count["refused"] += 1
+        batch.count["refused"] += 1
         if (written.status, written.out, written.err) != (printed.status, b"", printed.err):
             yield f"{name}: `run` refuses it, and `capture` ends with status {written.status}: {written.err!r}"
         return
     if written.status or written.err:
         yield f"{name}: `capture` ends with status {written.status}: {written.err!r}"
         return
-    count["scenarios"] += 1
+    batch.count["scenarios"] += 1
     told = Told(scenario, printed.out)
-    wanted, shown = list(frames_of(told)), list(shown_by(machine.file("shown.pcap", written.out)))
-    count["frames"] += len(shown)
     capture = told.capture()
     if written.out != capture:
         same = next((at for at, (a, b) in enumerate(zip(written.out, capture)) if a != b), min(len(written.out), len(capture)))
         yield f"{name}: other bytes than those of the format's rules, from byte {same} on"
-    if len(wanted) != len(shown):
-        yield f"{name}: tshark shows {len(shown)} frames of {len(wanted)}"
-    for number, (a, b) in enumerate(zip(wanted, shown), 1):
-        it = difference(a, b)
-        if it:
-            yield f"{name}, frame {number}: {it}"
-            return
+    batch.add(name, told, written.out)
+
+
+def faults_of(machine, scenarios, count):
+    """What is wrong with the captures of scenarios, by name."""
+    need("tshark")
+    batch = Batch(machine, count)
+    for name, scenario in scenarios:
+        yield from written_faults(machine, name, scenario, batch)
+        if len(batch.records) == BATCH:
+            yield from batch.faults()
+            batch = Batch(machine, count)
+    if batch.wanted:
+        yield from batch.faults()
 
 
 def tshark(machine, asked, count):
-    need("tshark")
-    for name, scenario in row_scenarios().items():
-        yield from faults_of(machine, f"rows/{name}.in", scenario, count)
+    return faults_of(machine, ((f"rows/{name}.in", it) for name, it in row_scenarios().items()), count)
 
 
 def random_scenarios(machine, asked, count):
-    need("tshark")
-    for seed in range(asked.seed, asked.seed + asked.count):
-        yield from faults_of(machine, f"seed {seed}", random_scenario(random.Random(seed)), count)
+    seeds = range(asked.seed, asked.seed + asked.count)
+    return faults_of(machine, ((f"seed {seed}", random_scenario(random.Random(seed))) for seed in seeds), count)
