@@ -17,7 +17,7 @@ COMMENTS = re.compile(
     r"|\d+ transfers are left out: not a bulk or interrupt endpoint of this configuration)")
 # How long a run may take, in seconds of processor time.
 SECONDS = 10
-# Captures that are damaged, so many times each.
+# How many times a capture is damaged.
 TIMES = 100
 
 
@@ -58,10 +58,11 @@ def judged(machine, capture, count):
 
 def damaged(machine, asked, count):
     names = [*FORMS]
-    for seed in range(asked.seed, asked.seed + -(-asked.damaged // TIMES)):
+    for done in range(0, asked.damaged, TIMES):
+        seed = asked.seed + done // TIMES
         dice = random.Random(seed)
         whole = machine.usbtrace("capture", random_scenario(dice)).out
-        for number in range(TIMES):
+        for number in range(min(TIMES, asked.damaged - done)):
             form = names[number % len(names)]
             wrong = judged(machine, changed(dice, FORMS[form](whole)), count)
             if wrong:
