@@ -82,11 +82,16 @@ def replay(machine, driver, device, capture, given, most):
     return machine.ran([*words, driver, VENDOR, PRODUCT, str(most)], machine.file("orders", given))
 
 
+def line_of(callback):
+    """What the driver has to print of a callback, behind the transfer's number."""
+    status = "CANCELLED" if callback.status in WITHDRAWN else callback.status
+    return [f"{callback.request.ep:02x}", status, str(callback.actual), callback.data.hex() or "-"]
+
+
 def compared(callback, told_by_libusb):
     """What comes of a callback: `alike` and its status, `not comparable`, or None where libusb told another thing."""
-    status = "CANCELLED" if callback.status in WITHDRAWN else callback.status
-    wanted = [f"{callback.request.ep:02x}", status, str(callback.actual), callback.data.hex() or "-"]
-    if status == "CANCELLED" and callback.actual and told_by_libusb == [wanted[0], status, "0", "-"]:
+    ep, status, *_ = wanted = line_of(callback)
+    if status == "CANCELLED" and callback.actual and told_by_libusb == [ep, status, "0", "-"]:
         return "not comparable"
     return f"alike {status}" if told_by_libusb == wanted else None
 
@@ -115,4 +120,4 @@ def umockdev(machine, asked, count):
                 kind = compared(callback, lines.get(number))
                 count[kind or "differing"] += 1
                 if not kind:
-                    yield f"{name}, transfer {number}: libusb tells {lines.get(number)}, and not {callback}"
+                    yield f"{name}, transfer {number}: libusb tells {lines.get(number)}, and not {line_of(callback)}"

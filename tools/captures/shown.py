@@ -78,7 +78,7 @@ def difference(wanted, shown):
 
 
 class Batch:
-    """Captures that tshark reads as one file, since it takes longer to begin than to read. Ids come again there, each behind its last end."""
+    """Captures that tshark reads as one file, since it takes longer to begin than to read. It finds an S by the last of its id."""
 
     def __init__(self, machine, count):
         self.machine, self.count, self.names, self.wanted, self.records = machine, count, [], [], []
