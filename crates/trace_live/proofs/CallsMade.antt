@@ -1,5 +1,5 @@
 -- Of a run in which each handle made its lines: the calls of a plan stand in it, and beside them what the workers made.
-use Rattle.std.proofs.Common.{◌≡◌, ◌<◌, ◌+◌, ◌==◌, ◌&&◌, ℕ, zero, suc, Bool, true, false, true≢false, not, inl, inr, List, [], ◌∷◌, ◌++◌, length, map, filter, get_or, cond, Option, Some, None, refl, sym, ap, ◌∙◌, subst, arith}
+use Rattle.std.proofs.Common.{◌≡◌, ◌<◌, ◌+◌, ◌==◌, ◌&&◌, ℕ, suc, Bool, true, false, true≢false, not, inl, List, [], ◌∷◌, ◌++◌, length, map, filter, get_or, cond, Option, Some, None, refl, sym, ap, ◌∙◌, subst, arith}
 use Rattle.std.specs.Prelude.{All}
 use Rattle.std.specs.List.{list_all}
 use Rattle.std.specs.Option.{option_map_or}
@@ -15,13 +15,13 @@ use Rattle.usb_journal.specs.declared.place.Place.{Place}
 use Rattle.usb_journal.specs.Booked.{steps_of}
 use Rattle.usb_journal.specs.Seen.{caller_of}
 use Rattle.usb_library.specs.Calls.{Calling, Knows, ShowsEvents, ShowsPending}
-use Rattle.usb_workers.specs.Rounds.{Controls, Handles, Rounds}
-use Rattle.usb_live.specs.Life.{AreAll, Drives, Each, LivedBy, Made, Returns}
+use Rattle.usb_workers.specs.Rounds.{Controls, Handles}
+use Rattle.usb_live.specs.Life.{Drives, Each, LivedBy, Returns}
 use Rattle.trace_live.specs.Calls.{HasCalls, calls_by, handle_of, is_call_of, is_lived, steps_in}
-use Rattle.trace_live.specs.Lines.{AreDealt, ArePlanned, has_steps}
-use Rattle.trace_live.proofs.Parts.{Empty, Lone, joined, joined-empty}
+use Rattle.trace_live.specs.Lines.{ArePlanned, has_steps}
+use Rattle.trace_live.proofs.Parts.{Lone, joined, joined-empty}
 use Rattle.trace_live.proofs.Shares.{Owns, all_passing, empty_dealt, empty_had, joined_dealt, joined_had, lone_dealt, lone_empty, lone_had, passing}
-use Rattle.trace_live.proofs.Workers.{Passes_none, Quiet, controls, handles, rounds}
+use Rattle.trace_live.proofs.Workers.{Passes_none, controls, handles, rounds}
 
 -- a step is one handle's call at most
 apart : (g h : ℕ) (s : Step) → is_call_of g s ≡ true → is_call_of h s ≡ true → g ≡ h

@@ -1,10 +1,10 @@
 -- Whose elements are whose, of a list that is taken apart among callers; and of lists that were dealt from one.
-use Rattle.std.proofs.Common.{◌≡◌, ◌≢◌, ◌≤◌, ◌<◌, ◌+◌, ◌==◌, ℕ, zero, suc, Bool, true, false, true≢false, ◌||◌, ◌⊎◌, inl, inr, List, [], ◌∷◌, ◌++◌, length, map, filter, get_or, not, cond, refl, sym, ap, ◌∙◌, subst, append-nil, arith}
-use Rattle.std.specs.List.{list_any, count_by, sum_by, flat_map}
+use Rattle.std.proofs.Common.{◌≡◌, ◌≢◌, ◌≤◌, ◌<◌, ◌+◌, ◌==◌, ℕ, suc, Bool, true, false, true≢false, ◌⊎◌, inl, inr, List, [], ◌∷◌, ◌++◌, length, map, filter, get_or, cond, refl, sym, ap, ◌∙◌, subst, append-nil, arith}
+use Rattle.std.specs.List.{count_by, sum_by}
 use Rattle.std.proofs.lemmas.List.Sums.{sum_by-cons}
 use Rattle.std.proofs.lemmas.List.{map-append}
 use Rattle.std.proofs.lemmas.Bool.{eqb-true, eqb-false}
-use Rattle.trace_live.proofs.Parts.{Empty, Lone, all_theirs, is_by, joined, joined-empty, parts, part, times, together, total}
+use Rattle.trace_live.proofs.Parts.{Empty, Lone, all_theirs, joined, joined-empty, parts, times, together, total}
 
 -- a test of what elements become
 filter-map : {A S : Type 0} (st : A → S) (test : S → Bool) (xs : List A) → filter test (map st xs) ≡ map st (filter (λ x. test (st x)) xs)

@@ -1,5 +1,5 @@
 -- What the workers make, step by step: nothing that a test passes which no step of theirs passes.
-use Rattle.std.proofs.Common.{◌≡◌, ℕ, zero, suc, Bool, true, false, List, [], ◌∷◌, ◌++◌, map, filter, cond, Option, Some, None, refl, sym, ap, ◌∙◌}
+use Rattle.std.proofs.Common.{◌≡◌, ℕ, zero, suc, Bool, true, false, List, [], ◌∷◌, ◌++◌, filter, cond, Option, Some, None, refl, ap, ◌∙◌}
 use Rattle.std.proofs.lemmas.List.{map-append}
 use Rattle.std.proofs.lemmas.List.Elements.{filter-append}
 use Rattle.usb_model.specs.declared.reply.Returned.{Returned}
@@ -13,7 +13,7 @@ use Rattle.usb_journal.specs.declared.events.Events.{Events}
 use Rattle.usb_journal.specs.declared.place.Place.{Place}
 use Rattle.usb_journal.specs.Booked.{steps_of}
 use Rattle.usb_journal.specs.Seen.{Receipted}
-use Rattle.usb_library.specs.Calls.{Calling, LooksOn, Makes}
+use Rattle.usb_library.specs.Calls.{Calling, Makes}
 use Rattle.usb_workers.specs.Rounds.{CallsBack, CallsBackIf, Controls, Does, DoesIf, Ends, Handles, Resubmits, Rounds, Serves, Takes, Tells, missed_by}
 use Rattle.usb_workers.specs.Rounds as R
 
