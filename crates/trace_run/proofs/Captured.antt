@@ -126,7 +126,7 @@ return_told setup w h n v one = by_test (needs_stop v (turn setup w (Answer h n 
     ]
 
     by_test : (b : Bool) → AreToldAs (Answer h n Stop) (if b then Answer h n v ∷ Answer h n Stop ∷ [] else Answer h n v ∷ [])
-    by_test true = (first, itself (Answer h n Stop), tt)
+    by_test true = (first, (itself (Answer h n Stop), tt))
     by_test false = (first, tt)
 
 -- the steps of a piece are told as its own
@@ -336,7 +336,7 @@ module _ {P : Type 0} {E : Type 0} (rule : P → Rule) (devices : List Described
   of_start (Ok r) setup rules starts said = said setup rules starts
   of_start (Err e) setup rules starts said = tt
 
-module _ {P : Type 0} {E : Type 0} (rule : P → Rule) (run run' : PlanState P) (piece : Plan) (callback : Option P) (line : ℕ) (s s' : Recording) (step : Step) (entries : List Entry) (bytes bytes' : List ℕ) (old new : Option (List ℕ)) where
+module _ {P : Type 0} (rule : P → Rule) (run run' : PlanState P) (piece : Plan) (callback : Option P) (line : ℕ) (s s' : Recording) (step : Step) (entries : List Entry) (bytes bytes' : List ℕ) (old new : Option (List ℕ)) where
   captured : (reach : Reach) → step ≡ told_step piece → Performs rule run piece callback entries run' → PutsRecords reach line step entries s s' bytes bytes' old new → CapturesPiece rule reach line s s' run piece callback run' bytes bytes' old new
   captured End told performs put = record {
     made = entries;
@@ -346,13 +346,13 @@ module _ {P : Type 0} {E : Type 0} (rule : P → Rule) (run run' : PlanState P) 
   captured NoMemory told performs put = put
 
   -- a piece was performed, and its records were put as far as memory was there
-  pub piece_captured : (result : Result Reach E) → step ≡ told_step piece → Performs rule run piece callback entries run' → IfOk result (λ reach. PutsRecords reach line step entries s s' bytes bytes' old new)
+  pub piece_captured : {E : Type 0} (result : Result Reach E) → step ≡ told_step piece → Performs rule run piece callback entries run' → IfOk result (λ reach. PutsRecords reach line step entries s s' bytes bytes' old new)
       → IfOk result (λ reach. CapturesPiece rule reach line s s' run piece callback run' bytes bytes' old new)
   piece_captured (Ok reach) told performs put = captured reach told performs put
   piece_captured (Err e) told performs put = tt
 
   -- or a beginning of them is written
-  pub captured_begun : (result : Result Reach E) → step ≡ told_step piece → Performs rule run piece callback entries run' → OnErr result (AppendsSome (bytes ++ events_bytes (told_events s line step entries)) old new)
+  pub captured_begun : {E : Type 0} (result : Result Reach E) → step ≡ told_step piece → Performs rule run piece callback entries run' → OnErr result (AppendsSome (bytes ++ events_bytes (told_events s line step entries)) old new)
       → OnErr result (BeginsCapturedPiece rule line s run piece callback run' bytes old new)
   captured_begun (Ok reach) told performs some = tt
   captured_begun (Err e) told performs some = record { made = entries; makes = performs; some = subst (λ x. AppendsSome (bytes ++ events_bytes (told_events s line x entries)) old new) told some }
