@@ -27,7 +27,7 @@ use Rattle.usb_purge.proofs.TakenCallbacks.{Takes, has_one, takes}
 use Rattle.trace_capture.specs.declared.event.Event.{Event}
 use Rattle.trace_capture.specs.Control.{device_events}
 use Rattle.trace_capture.specs.Event.{event_bytes, events_bytes, file_bytes, file_header}
-use Rattle.trace_capture.specs.Events.{DeviceLine, Recording, device_after, devices_after, entries_events, entry_after, entry_events, nothing_recorded, run_events}
+use Rattle.trace_capture.specs.Events.{DeviceLine, Recording, device_after, devices_after, entries_events, entry_after, entry_events, nothing_recorded}
 use Rattle.trace_capture.proofs.Verdicts.{same_of_verdicts}
 use Rattle.trace_scenario.specs.declared.described.DescribedDevice.{DescribedDevice}
 use Rattle.trace_io.specs.declared.fault.Fault.{Fault}

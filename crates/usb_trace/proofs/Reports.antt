@@ -13,7 +13,7 @@ use Rattle.clap.specs.declared.error.kind.ErrorKind.TheVariants as kind
 use Rattle.trace_scenario.proofs.GoodAndBad.{none_bad, scenario_good}
 use Rattle.trace_scenario.specs.Counts.{counts_of}
 use Rattle.trace_scenario.specs.Findings.{bad_lines, good_lines}
-use Rattle.trace_scenario.specs.Scenario.{nothing_said, scenario_of}
+use Rattle.trace_scenario.specs.Scenario.{nothing_said}
 use Rattle.trace_io.specs.CommandLine.{AreBad, AskFor, AskForHelp, grammar}
 use Rattle.trace_io.specs.Faults.{fault_of_capture, message_of, most_drawn, IsOfRun}
 use Rattle.trace_io.specs.Input.{longest_input}
