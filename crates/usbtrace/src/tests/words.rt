@@ -161,8 +161,25 @@ fn the_help_of_each_subcommand_has_its_example(rt: HostRuntime) {
     let alone = ["| usbtrace alone 1\n\nStatus: 0 ", input];
     assert!(rt; shows(&rt, rt.alloc(), &["usbtrace", "alone", "--help"], &alone));
     let capture = ["| usbtrace capture > run.pcap\n\nStatus: 0 ", input];
-    assert!(rt; shows(&rt, rt.alloc(), &["usbtrace", "capture", "--help"], &capture));
-    let devices = ["\nInput: a capture ", "\n  usbtrace devices < recorded.pcap > scenario.txt\n\nStatus: 0 "];
-    assert!(rt; shows(&rt, rt.alloc(), &["usbtrace", "devices", "--help"], &devices));
+    assert!(rt;
+        shows(
+            &rt,
+            rt.alloc(),
+            &["usbtrace", "capture", "--help"],
+            &capture
+        )
+    );
+    let devices = [
+        "\nInput: a capture ",
+        "\n  usbtrace devices < recorded.pcap > scenario.txt\n\nStatus: 0 ",
+    ];
+    assert!(rt;
+        shows(
+            &rt,
+            rt.alloc(),
+            &["usbtrace", "devices", "--help"],
+            &devices
+        )
+    );
     assert!(rt; shows(&rt, rt.alloc(), &["usbtrace", "--help"], &run));
 }
