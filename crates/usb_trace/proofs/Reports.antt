@@ -12,13 +12,9 @@ use Rattle.clap.specs.declared.error.Error.{Error}
 use Rattle.clap.specs.declared.error.kind.ErrorKind.TheVariants as kind
 use Rattle.trace_scenario.proofs.GoodAndBad.{none_bad, scenario_good}
 use Rattle.trace_scenario.specs.Counts.{counts_of}
-use Rattle.trace_scenario.specs.DeviceLines.{device_lines}
 use Rattle.trace_scenario.specs.Findings.{bad_lines, good_lines}
 use Rattle.trace_scenario.specs.Scenario.{nothing_said, scenario_of}
-use Rattle.trace_scenario.specs.StepLines.{step_lines}
-use Rattle.trace_scenario.specs.declared.described.DescribedDevice.{DescribedDevice}
-use Rattle.trace_capture.specs.Event.{file_bytes}
-use Rattle.trace_run.specs.Capture.{plan_events}
+use Rattle.trace_run.specs.Tasks.{capture_bytes}
 use Rattle.trace_io.specs.CommandLine.{AreBad, AskFor, AskForHelp, grammar}
 use Rattle.trace_io.specs.Faults.{fault_of_capture, message_of, most_drawn, IsOfRun}
 use Rattle.trace_io.specs.Input.{longest_input}
@@ -91,28 +87,18 @@ lived text rounds s notes old new (Err (Wide steps)) read short lines good fault
 lived text rounds s notes old new (Err (why.Capture refused)) read short lines good fault silent = absurd fault
 
 -- a run ends as it may whose capture is written
-pub captured : (text : List ℕ) (s : Scenario) (devices : List DescribedDevice) (lines : List (ℕ × List ℕ)) (old new : Option (List ℕ)) (r : Result Ending Fault) → scenario_of text ≡ Ok s
-    → length text ≤ longest_input → devices ≡ device_lines text → lines ≡ step_lines text → OnOk r (Appends old new (file_bytes (plan_events devices s.setup s.plan s.rules lines)))
-    → IfOk r (λ ending. ending ≡ Good) → IfErr r (λ fault. IsOfRun fault) → Performs Capture text [] old new r
-captured text s devices lines old new (Ok Good) read short of_devices of_lines file good fault = (
-  s,
-  read,
-  short,
-  (
-    subst (λ ds. Appends old new (file_bytes (plan_events ds s.setup s.plan s.rules (step_lines text)))) of_devices
-        (subst (λ ls. Appends old new (file_bytes (plan_events devices s.setup s.plan s.rules ls))) of_lines file),
-    refl,
-  ),
-)
-captured text s devices lines old new (Ok BadLines) read short of_devices of_lines file good fault = cc
-captured text s devices lines old new (Ok NoDevices) read short of_devices of_lines file good fault = cc
-captured text s devices lines old new (Err (Line line)) read short of_devices of_lines file good fault = absurd fault
-captured text s devices lines old new (Err Memory) read short of_devices of_lines file good fault = tt
-captured text s devices lines old new (Err InputOutput) read short of_devices of_lines file good fault = tt
-captured text s devices lines old new (Err TooLong) read short of_devices of_lines file good fault = absurd fault
-captured text s devices lines old new (Err (Rounds rounds)) read short of_devices of_lines file good fault = absurd fault
-captured text s devices lines old new (Err (Wide steps)) read short of_devices of_lines file good fault = absurd fault
-captured text s devices lines old new (Err (why.Capture refused)) read short of_devices of_lines file good fault = absurd fault
+pub captured : (text : List ℕ) (s : Scenario) (old new : Option (List ℕ)) (r : Result Ending Fault) → scenario_of text ≡ Ok s → length text ≤ longest_input
+    → OnOk r (Appends old new (capture_bytes text s)) → IfOk r (λ ending. ending ≡ Good) → IfErr r (λ fault. IsOfRun fault) → Performs Capture text [] old new r
+captured text s old new (Ok Good) read short file good fault = (s, read, short, (file, refl))
+captured text s old new (Ok BadLines) read short file good fault = cc
+captured text s old new (Ok NoDevices) read short file good fault = cc
+captured text s old new (Err (Line line)) read short file good fault = absurd fault
+captured text s old new (Err Memory) read short file good fault = tt
+captured text s old new (Err InputOutput) read short file good fault = tt
+captured text s old new (Err TooLong) read short file good fault = absurd fault
+captured text s old new (Err (Rounds rounds)) read short file good fault = absurd fault
+captured text s old new (Err (Wide steps)) read short file good fault = absurd fault
+captured text s old new (Err (why.Capture refused)) read short file good fault = absurd fault
 
 -- a check of a text with a bad line isn't done
 done_is_good : (text notes : List ℕ) (old new : Option (List ℕ)) → IsDone Check text notes old new → bad_lines text ≡ []
