@@ -1,8 +1,6 @@
 pub mod Lived
 pub mod Program
 pub use Rattle.trace_io.specs.CommandLine
-pub use Rattle.trace_recorded.specs.Faults
-pub use Rattle.trace_recorded.specs.Scenario.{recorded_scenario}
 pub use Rattle.trace_io.specs.Faults
 pub use Rattle.trace_io.specs.Input
 pub use Rattle.trace_io.specs.Output
