@@ -3,3 +3,4 @@ mod Known
 mod NewWork
 mod Served
 mod Works
+mod Rests

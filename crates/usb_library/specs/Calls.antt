@@ -1,15 +1,18 @@
 -- What contracts see of the library's values, and what a call makes.
-use Rattle.std.specs.Prelude.{◌≡◌, ◌≤◌, ◌+◌, ◌-◌, ◌^◌, min, ℕ, Bool, true, false, List, [], ◌∷◌, ◌++◌, length, map, Option, Some, None}
+use Rattle.std.specs.Prelude.{◌≡◌, ◌≤◌, ◌+◌, ◌-◌, ◌^◌, ◌||◌, not, find, is_some, min, ℕ, Bool, true, false, List, [], ◌∷◌, ◌++◌, length, map, Option, Some, None}
 use Rattle.atomic_table.specs.Seated.{TableId}
 use Rattle.usb_model.specs.declared.refused.Refused.{Refused}
 use Rattle.usb_model.specs.declared.reply.Reply.{Reply}
 use Rattle.usb_model.specs.declared.reply.Reply.TheVariants.{Idle, Refused as IsRefused}
 use Rattle.usb_model.specs.declared.step.Step.{Step}
+use Rattle.usb_model.specs.declared.step.Step.TheVariants.{Command, Deliver, Take}
 use Rattle.usb_model.specs.Setup.{Setup}
+use Rattle.usb_model.specs.World.{World}
 use Rattle.usb_model.specs.World.Due.{due}
 use Rattle.usb_journal.specs.declared.events.Events.{Events}
 use Rattle.usb_journal.specs.declared.place.Place.{Place}
-use Rattle.usb_core.specs.Public.{IsPending, Pending}
+use Rattle.usb_core.specs.Public.{IsPending, Pending, does_something}
+use Rattle.usb_steps.specs.Pending.{in_circle, serves}
 use Rattle.usb_journal.specs.Booked.{HasEvents, IsRun, asked, asks, dated, next_entry, world_where}
 use Rattle.usb_journal.specs.Seen.{Receipted, places_of, receipts_from}
 use Rattle.usb_receipts.specs.Rule.{BeginsWith}
@@ -85,6 +88,34 @@ ShowsPending setup seen pending = IsRun setup seen × ((after : Option (ℕ × �
 -- what there is to do with events there
 abbrev pub ShowsEvents : Setup → List Place → Events → Type 0
 ShowsEvents setup seen events = IsRun setup seen × HasEvents setup seen events
+
+-- whether there is work of the controller's part: a packet or an order
+abbrev pub has_work : Pending → Bool
+has_work look = is_some look.serve || look.command
+
+-- whether there is an event or a result
+abbrev pub has_events : Events → Bool
+has_events look = look.deliver || look.take
+
+-- there is nothing at all to do, and no transfer is in its callback
+abbrev pub is_nothing : Pending → Bool
+is_nothing look = not (has_work look || (look.deliver || (look.take || look.out)))
+
+-- nothing is to be done in a world, and no transfer is in its callback
+pub record IsAtRest (setup : Setup) (w : World) : Type 0 where
+  pub packets : find (λ x. serves setup w x.0 x.1) (in_circle None) ≡ None
+  pub orders : does_something setup w Command ≡ false
+  pub events : does_something setup w Deliver ≡ false
+  pub results : does_something setup w Take ≡ false
+  pub callbacks : (h : ℕ) → ((w.names h).in_callbacks ≡ [] → ⊥) → ⊥
+
+-- a look shows neither a packet nor an order
+abbrev pub LacksWork : Setup → List Place → Type 0
+LacksWork setup seen = (look : Pending) × ShowsPending setup seen look × (has_work look ≡ false)
+
+-- a look shows neither an event nor a result
+abbrev pub LacksEvents : Setup → List Place → Type 0
+LacksEvents setup seen = (look : Events) × ShowsEvents setup seen look × (has_events look ≡ false)
 
 -- what was to be done at some moment of a library over these devices: by the world where the run of its steps so far ended
 abbrev pub WasPending : Setup → Pending → Type 0

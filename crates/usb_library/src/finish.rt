@@ -1,6 +1,6 @@
 //! The end of a library: the journal, once all callers are back.
 
-ghost use Rattle.std.specs.Prelude.{◌≡◌, ◌==◌, ℕ, ◌+◌, ◌<◌, ◌≤◌, ◌++◌, All, IfErr, IfOk, Some, count_by, length, map, slice_get, vec_len};
+ghost use Rattle.std.specs.Prelude.{◌≡◌, ◌↔◌, true, ◌==◌, ℕ, ◌+◌, ◌<◌, ◌≤◌, ◌++◌, All, IfErr, IfOk, Some, count_by, length, map, slice_get, vec_len};
 ghost use Rattle.std.specs.List.{sum_by};
 ghost use Rattle.usb_model.specs.Setup.{Setup as ModelSetup, interface_of};
 ghost use Rattle.usb_model.specs.World.{World};
@@ -9,12 +9,12 @@ ghost use Rattle.usb_core.specs.Reads.{IsLeft};
 ghost use Rattle.usb_receipts.specs.Rule.{BeginsWith};
 ghost use Rattle.usb_journal.specs.Booked.{IsRun, world_where};
 ghost use Rattle.usb_journal.specs.Seen.{places_of};
-ghost use Rattle.usb_library.specs.Calls.{Knows, position_of};
+ghost use Rattle.usb_library.specs.Calls.{IsAtRest, Knows, position_of};
 
 use crate::caller::Caller;
 use crate::library::{Guarded, Library};
 use crate::met::Met;
-use crate::wakes::Watchers;
+use crate::wakes::{Watchers, is_nothing};
 use std::alloc::{AllocError, Global};
 use std::sync::Mutex;
 use std::sync::ledger::Share;
@@ -127,6 +127,13 @@ impl<L: Naming, P: Drop, D: Device, J: Recorder> Library<L, P, D, J> {
 }
 
 impl<L: Naming, P: Drop, D: Device, J: Drop> Ended<L, P, D, J> {
+    /// Whether nothing was left to be done, and no transfer was in its callback. A transfer that its device doesn't end may be in line.
+    pub fn is_at_rest(&self) -> bool
+        ensures { (setup : ModelSetup) (w : World) → ShowsWorld setup self.now.core w → (result ≡ true) ↔ IsAtRest setup w }
+    {
+        is_nothing(&self.core.pending(None))
+    }
+
     /// The devices as the calls left them, with their configurations and scripts: what they took can be read, and a library
     /// that is made of them begins anew. What callers keep with transfers is dropped. Takes no memory.
     pub fn into_setup(self) -> Setup<D>

@@ -39,7 +39,8 @@
 //!   and no other step
 //! - `Library::work`, `events`: what is to be done where the run of the journal so far ends, which the caller then has
 //!   seen (`ShowsPending`, `ShowsEvents`): so it is at or behind its last call, and `finish` says that it was the journal's.
-//!   That None is answered only where the workers were asked to end is no clause
+//!   None only where what it saw has nothing of that worker's part (`LacksWork`, `LacksEvents`). That the workers were asked to end then is
+//!   no clause
 //! - `Library::pending`: what was to be done at some moment: in the world where the run of the library's steps until then
 //!   ended (`WasPending`). Which moment that was, no contract says, since it has no caller
 //! - `Library::caller`, `Caller::number`, `missed`, `Opening::new`, `Answered::granted`: a caller has no places yet, and what
@@ -53,6 +54,7 @@
 //!   is refused or idle; both for whatever else changed something. Each call that comes to wake has to name all who have
 //!   work since its step and had none before (`wake_if` requires it): one that leaves such a worker out isn't proved. `tick`
 //!   names both
+//! - `Ended::is_at_rest`: whether the world where the journal ends has nothing to be done (`IsAtRest`)
 //! - `Ended::to_places`, `Ended::into_setup`: copies of the very places that the recorder has; the devices, as
 //!   `Core::into_setup` hands them back
 //!

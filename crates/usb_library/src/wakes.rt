@@ -1,7 +1,7 @@
 //! Who is woken when something changed, and when all is at rest.
 
-ghost use Rattle.std.specs.Prelude.{◌≡◌, IfSome};
-ghost use Rattle.usb_library.specs.Calls.{LooksOn, ShowsEvents, ShowsPending, WasPending};
+ghost use Rattle.std.specs.Prelude.{◌≡◌, IfNone, IfSome};
+ghost use Rattle.usb_library.specs.Calls.{LacksEvents, LacksWork, LooksOn, ShowsEvents, ShowsPending, WasPending, has_work, is_nothing};
 ghost use Rattle.usb_library.specs.Wakes.{of_event as event_work, of_packet as packet_work};
 
 use crate::caller::Caller;
@@ -157,16 +157,24 @@ impl Watchers {
     }
 }
 
+/// Whether there is work of the controller's part: a packet or an order.
+fn has_work(pending: &Pending) -> bool
+    ensures { result ≡ has_work pending.now }
+{
+    pending.serve.is_some() || pending.command
+}
+
 /// Whether nothing is to be done, and no transfer is in its callback.
-fn is_nothing(pending: &Pending) -> bool {
+pub(crate) fn is_nothing(pending: &Pending) -> bool
+    ensures { result ≡ is_nothing pending.now }
+{
     let Pending {
-        serve,
-        command,
         deliver,
         take,
         out,
+        ..
     } = pending;
-    serve.is_none() && !*command && !*deliver && !*take && !*out
+    !(has_work(pending) || *deliver || *take || *out)
 }
 
 impl<L: Naming, P: Drop, D: Device, J: Recorder> Library<L, P, D, J> {
@@ -205,12 +213,13 @@ impl<L: Naming, P: Drop, D: Device, J: Recorder> Library<L, P, D, J> {
         self.watchers.wake(rt, Work::Any);
     }
 
-    /// Whether the workers were asked to end, now or as soon as there is nothing to do.
+    /// Whether the workers were asked to end, as soon as there is nothing to do, or nothing of their own part.
     pub fn is_stopping(&self) -> bool {
         self.watchers.stopping.load(Ordering::SeqCst)
     }
 
-    /// Asks the workers to end at once, whatever there is to do: one of them can't do its part.
+    /// Asks each worker to end as soon as there is nothing of its own part to do, whatever there is of the other's: one of them can't do
+    /// its part.
     pub fn end_workers<R: Wait>(&self, rt: &R) {
         self.watchers.ending.store(true, Ordering::SeqCst);
         self.stop_workers(rt);
@@ -228,21 +237,19 @@ impl<L: Naming, P: Drop, D: Device, J: Recorder> Library<L, P, D, J> {
         pending
     }
 
-    /// What there is to do, as a caller sees it; None where the workers were asked to stop and there is nothing, or to end at once. Whether
-    /// they were asked is read first: so a submission before that is seen.
+    /// What there is to do, as a caller sees it. None where the workers were asked to stop and there is nothing, or where one of them gave
+    /// up and there is no packet and no order. Whether they were asked is read first: so a submission before that is seen.
     pub fn work<R: Wait>(&self, rt: &R, caller: &mut Caller<L>) -> Option<Pending>
         ensures pending { IfSome result (ShowsPending L.setup caller.new.seen) }
+        ensures none { IfNone result (LacksWork L.setup caller.new.seen) }
         ensures looks { LooksOn caller.old caller.new }
     {
-        if self.watchers.ending.load(Ordering::SeqCst) {
-            return None;
-        }
-        let stopping = self.is_stopping();
+        let (ending, stopping) = (self.is_ending(), self.is_stopping());
         let pending = self.look(rt, caller);
-        if stopping && is_nothing(&pending) {
-            return None;
+        if has_work(&pending) || !(ending || stopping && is_nothing(&pending)) {
+            return Some(pending);
         }
-        Some(pending)
+        None
     }
 
     /// What there is to do with events, as a caller sees it, which is known without a look at the endpoints.
@@ -256,24 +263,28 @@ impl<L: Naming, P: Drop, D: Device, J: Recorder> Library<L, P, D, J> {
             .look_for_events(&mut caller.position)
     }
 
-    /// The same; None where the workers were asked to stop and there is nothing to do at all, or to end at once.
+    /// The same. None where the workers were asked to stop and there is nothing to do at all, or where one of them gave up and there is no
+    /// event and no result.
     pub fn events<R: Wait>(&self, rt: &R, caller: &mut Caller<L>) -> Option<Events>
         ensures events { IfSome result (ShowsEvents L.setup caller.new.seen) }
+        ensures none { IfNone result (LacksEvents L.setup caller.new.seen) }
         ensures looks { LooksOn caller.old caller.new }
     {
-        if self.watchers.ending.load(Ordering::SeqCst) {
-            return None;
-        }
         let events = self.look_for_events(rt, caller);
-        if events.is_none() && self.is_stopping() && self.rested(rt) {
+        if events.is_none() && self.rested(rt) {
             return None;
         }
         Some(events)
     }
 
-    /// Whether workers were asked to stop and there is nothing to do, or they were asked to end at once.
+    /// Whether a worker gave up.
+    fn is_ending(&self) -> bool {
+        self.watchers.ending.load(Ordering::SeqCst)
+    }
+
+    /// Whether workers were asked to stop and there is nothing to do, or one of them gave up.
     pub fn rested<R: Wait>(&self, rt: &R) -> bool {
-        if self.watchers.ending.load(Ordering::SeqCst) {
+        if self.is_ending() {
             return true;
         }
         let stopping = self.is_stopping();
