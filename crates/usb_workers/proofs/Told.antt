@@ -1,6 +1,6 @@
 -- How the workers' calls are told of: a step, a resubmission, a result that is taken out.
-use Rattle.std.proofs.Common.{◌≡◌, ℕ, zero, suc, Bool, true, false, Option, Some, None, Result, Ok, Err, refl, sym, ap, ◌∙◌, subst}
-use Rattle.std.specs.Prelude.{IfErr, IfOk, OnErr, is_err, is_ok, is_some}
+use Rattle.std.proofs.Common.{◌≡◌, ◌<◌, ◌≤◌, ◌^◌, ◌+◌, ℕ, suc, arith, Bool, true, false, Option, Some, None, Result, Ok, Err, refl, ap, ◌∙◌, subst}
+use Rattle.std.specs.Prelude.{IfErr, IfOk, OnErr, is_err, is_ok}
 use Rattle.std.specs.Option.{option_map}
 use Rattle.usb_model.specs.declared.entry.Entry.{Entry}
 use Rattle.usb_model.specs.declared.reply.Returned.{Returned}
@@ -14,7 +14,7 @@ use Rattle.usb_core.specs.Public.{Unaccepted, called_entry}
 use Rattle.usb_journal.specs.Booked.{answer_entry}
 use Rattle.usb_journal.specs.Seen.{Receipted}
 use Rattle.usb_library.specs.Calls.{Calling, Makes, misses}
-use Rattle.usb_workers.specs.Rounds.{CallsBack, CallsBackIf, Does, Ends, Resubmits, Takes, Tells, is_accepted, missed_by}
+use Rattle.usb_workers.specs.Rounds.{AreCounted, CallsBack, Does, Ends, Resubmits, Takes, Tells, is_accepted, missed_by}
 use Rattle.usb_workers.specs.Rounds as R
 
 -- memory wasn't refused yet
@@ -68,3 +68,15 @@ module _ (setup : Setup) where
 
   pub calls_none : {X : Type 0} (may : Returned → Verdict → Type 0) (a b : Calling) (returned : X → Returned) (given : Option X) → given ≡ None → Takes setup (option_map returned given) a b → CallsBack setup may a b
   calls_none may a b returned given e t = R.CallsBack.none (subst (λ (o : Option _). Takes setup (option_map returned o) a b) e t)
+
+  -- a resubmission leaves what is counted counted
+  pub still_counted : (refused h n : ℕ) (v : Verdict) (left : Bool) (old new : Calling) → Resubmits setup h n v left old new → AreCounted refused old → AreCounted refused new
+  still_counted refused h n v left old new (R.Resubmits.asks_none stop it is) counted = (omega (arith, ap (λ (c : Calling). c.missed) is, counted.0), counted.1)
+  still_counted refused h n v left old new (R.Resubmits.accepted goes it r makes is) counted = (omega (arith, makes.missed, counted.0), counted.1)
+  still_counted refused h n v left old new (R.Resubmits.refused goes it r makes is) counted = (omega (arith, makes.missed, counted.0), counted.1)
+  still_counted refused h n v left old new (R.Resubmits.missed goes it is) counted = (omega (arith, ap (λ (c : Calling). c.missed) is, counted.0, counted.1), counted.1)
+
+-- one more refusal is counted
+pub once_counted : {X E : Type 0} (refused more : ℕ) (old new : Calling) (x : Result X E) → OnErr x (new ≡ misses old) → is_ok x ≡ false → (more ≤ refused + 1) × (more < 2 ^ 32) → AreCounted refused old → AreCounted more new
+once_counted refused more old new (Ok a) is none few counted = absurd (cc)
+once_counted refused more old new (Err e) is none few counted = (omega (arith, ap (λ (c : Calling). c.missed) is, counted.0, few.0, few.1), few.1)

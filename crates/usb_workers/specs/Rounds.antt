@@ -1,5 +1,5 @@
 -- What the workers make of each look: of all that it showed one step, and what a callback answers.
-use Rattle.std.specs.Prelude.{◌≡◌, ℕ, zero, suc, Bool, true, false, List, Option, Some, None}
+use Rattle.std.specs.Prelude.{◌≡◌, ◌≤◌, ◌<◌, ◌^◌, ◌⊎◌, ℕ, zero, suc, Bool, true, false, List, Option, Some, None}
 use Rattle.usb_model.specs.declared.reply.Reply.{Reply}
 use Rattle.usb_model.specs.declared.reply.Reply.TheVariants.{Called, Idle, Number}
 use Rattle.usb_model.specs.declared.reply.Returned.{Returned}
@@ -30,6 +30,14 @@ is_accepted reply = false
 -- a verdict that some callback may give where it is told this, and that fits its rule
 abbrev pub MayAnswer : {C : Type 0} → (C → Returned → Verdict → Type 0) → (C → Rule) → Returned → Verdict → Type 0
 MayAnswer {C} may_answer rule x v = (c : C) × may_answer c x v × Fits (rule c) x v
+
+-- how a worker's part ended: what it saw last has nothing of its part; or memory was refused to it a hundred times at least
+abbrev pub HasEnded : (List Place → Type 0) → Calling → Type 0
+HasEnded Lacks c = Lacks c.seen ⊎ (100 ≤ c.missed)
+
+-- how often memory was refused in a row is no more than the caller counts
+abbrev pub AreCounted : ℕ → Calling → Type 0
+AreCounted refused c = (refused ≤ c.missed) × (refused < 2 ^ 32)
 
 -- setup: of the library's devices
 module _ (setup : Setup) where

@@ -2,7 +2,7 @@
 
 ghost use Rattle.std.specs.Prelude.{◌≡◌, false, true, IfOk, OnErr, is_err, is_some};
 ghost use Rattle.usb_model.specs.declared.verdict.Verdict.TheVariants.{Again, AgainWith, Stop};
-ghost use Rattle.usb_workers.specs.Rounds.{Ends, Resubmits, Tells};
+ghost use Rattle.usb_workers.specs.Rounds.{AreCounted, Ends, Resubmits, Tells};
 
 use crate::tries::Tries;
 use std::sync::Wait;
@@ -102,7 +102,8 @@ fn stop<L: Naming, C: Callback, D: Device, J: Recorder, R: Wait>(
     h: Name,
     n: u64,
 )
-    ensures { Ends L.setup h n caller.old caller.new }
+    ensures told { Ends L.setup h n caller.old caller.new }
+    ensures counted { AreCounted tries.old.refused caller.old → AreCounted tries.new.refused caller.new }
 {
     for _ in rt.forever() {
         if library.stop(rt, caller, h, n).is_ok() {
@@ -142,7 +143,8 @@ pub(crate) fn answer<L: Naming, C: Callback, D: Device, J: Recorder, R: Wait>(
     callback: Option<C>,
 )
     requires { is_some callback ≡ false → verdict ≡ Stop }
-    ensures { Tells L.setup h n verdict caller.old caller.new }
+    ensures told { Tells L.setup h n verdict caller.old caller.new }
+    ensures counted { AreCounted tries.old.refused caller.old → AreCounted tries.new.refused caller.new }
 {
     let Some(callback) = callback else {
         stop(rt, library, caller, tries, h, n);

@@ -2,8 +2,8 @@
 
 ghost use Rattle.std.specs.Prelude.{◌≡◌};
 ghost use Rattle.usb_model.specs.declared.step.Step.TheVariants.{Command};
-ghost use Rattle.usb_library.specs.Calls.{ShowsPending};
-ghost use Rattle.usb_workers.specs.Rounds.{Controls, DoesIf, Rounds, Serves};
+ghost use Rattle.usb_library.specs.Calls.{LacksWork, ShowsPending};
+ghost use Rattle.usb_workers.specs.Rounds.{AreCounted, Controls, DoesIf, HasEnded, Rounds, Serves};
 
 use crate::gate::{Gate, Point};
 use crate::park::Parking;
@@ -24,7 +24,8 @@ fn serve<L: Naming, P: Drop, D: Device, J: Recorder, G: Gate, R: Wait>(
     tries: &mut Tries,
     pending: &Pending,
 )
-    ensures { Serves L.setup pending.now.serve caller.old caller.new }
+    ensures made { Serves L.setup pending.now.serve caller.old caller.new }
+    ensures counted { AreCounted tries.old.refused caller.old → AreCounted tries.new.refused caller.new }
 {
     if let Some((dev, ep)) = pending.serve {
         gate.pass(rt, Point::Serve);
@@ -44,7 +45,8 @@ fn command<L: Naming, P: Drop, D: Device, J: Recorder, G: Gate, R: Wait>(
     tries: &mut Tries,
     pending: &Pending,
 )
-    ensures { DoesIf L.setup pending.now.command Command caller.old caller.new }
+    ensures made { DoesIf L.setup pending.now.command Command caller.old caller.new }
+    ensures counted { AreCounted tries.old.refused caller.old → AreCounted tries.new.refused caller.new }
 {
     if pending.command {
         gate.pass(rt, Point::Command);
@@ -65,7 +67,8 @@ fn turn<L: Naming, P: Drop, D: Device, J: Recorder, G: Gate, R: Wait>(
     parking: &Parking,
     pending: &Pending,
 )
-    ensures { Controls L.setup pending.now caller.old caller.new }
+    ensures made { Controls L.setup pending.now caller.old caller.new }
+    ensures counted { AreCounted tries.old.refused caller.old → AreCounted tries.new.refused caller.new }
 {
     serve(rt, library, gate, caller, tries, pending);
     command(rt, library, gate, caller, tries, pending);
@@ -77,7 +80,8 @@ fn turn<L: Naming, P: Drop, D: Device, J: Recorder, G: Gate, R: Wait>(
 /// Does the controller's part (xHCI 1.2, 4.6 and 4.10) until the library is rested: a packet or an order only where
 /// `pending` showed one, each behind the gate. With nothing to do it parks. Where memory is refused it says so (`has_lacked_memory`) and
 /// tries again; but once it was asked to stop, and a hundred tries in a row were refused, it gives up, and asks the other worker to
-/// end too. The caller comes back. Look by look it made what was there to be seen: the packet, then the order. What memory was refused to
+/// end too. The caller comes back, and only where what it saw last has neither a packet nor an order, or memory was refused to it a hundred
+/// times. Look by look it made what was there to be seen: the packet, then the order. What memory was refused to
 /// the caller has counted, and nothing else was made.
 pub fn controller_loop<L: Naming, P: Drop, D: Device, J: Recorder, G: Gate, R: Wait>(
     rt: &R,
@@ -86,14 +90,15 @@ pub fn controller_loop<L: Naming, P: Drop, D: Device, J: Recorder, G: Gate, R: W
     gate: &mut G,
     caller: Caller<L>,
 ) -> Caller<L>
-    ensures { Rounds (ShowsPending L.setup) (Controls L.setup) caller result }
+    ensures rounds { Rounds (ShowsPending L.setup) (Controls L.setup) caller result }
+    ensures ended { HasEnded (LacksWork L.setup) result }
 {
     let mut caller = caller;
     let mut tries = Tries::new();
     let parking = Parking::new(rt, alloc, library, Part::Controller);
     for _ in rt.forever() {
         let Some(pending) = library.work(rt, &mut caller) else {
-            break;
+            return caller;
         };
         turn(
             rt,
@@ -106,8 +111,8 @@ pub fn controller_loop<L: Naming, P: Drop, D: Device, J: Recorder, G: Gate, R: W
         );
         if tries.are_over(library) {
             library.end_workers(rt);
-            break;
+            return caller;
         }
     }
-    caller
+    unreachable!()
 }

@@ -4,8 +4,8 @@ ghost use Rattle.std.specs.Prelude.{◌≡◌, option_map};
 ghost use Rattle.usb_model.specs.declared.step.Step.TheVariants.{Deliver};
 ghost use Rattle.usb_model.specs.declared.verdict.Verdict.{Verdict};
 ghost use Rattle.usb_callback.specs.Callbacks.{Fits};
-ghost use Rattle.usb_library.specs.Calls.{ShowsEvents};
-ghost use Rattle.usb_workers.specs.Rounds.{CallsBackIf, DoesIf, Handles, MayAnswer, Rounds, Takes, Tells};
+ghost use Rattle.usb_library.specs.Calls.{LacksEvents, ShowsEvents};
+ghost use Rattle.usb_workers.specs.Rounds.{AreCounted, CallsBackIf, DoesIf, Handles, HasEnded, MayAnswer, Rounds, Takes, Tells};
 
 use crate::answers::answer;
 use crate::gate::{Gate, Point};
@@ -28,7 +28,8 @@ fn deliver<L: Naming, C: Callback, D: Device, J: Recorder, G: Gate, R: Wait>(
     tries: &mut Tries,
     events: &Events,
 )
-    ensures { DoesIf L.setup events.now.deliver Deliver caller.old caller.new }
+    ensures made { DoesIf L.setup events.now.deliver Deliver caller.old caller.new }
+    ensures counted { AreCounted tries.old.refused caller.old → AreCounted tries.new.refused caller.new }
 {
     if events.deliver {
         gate.pass(rt, Point::Deliver);
@@ -46,7 +47,8 @@ fn take<L: Naming, C: Callback, D: Device, J: Recorder, R: Wait>(
     caller: &mut Caller<L>,
     tries: &mut Tries,
 ) -> Option<Taken<C>>
-    ensures { Takes L.setup (option_map (λ t. t.returned) result) caller.old caller.new }
+    ensures made { Takes L.setup (option_map (λ t. t.returned) result) caller.old caller.new }
+    ensures counted { AreCounted tries.old.refused caller.old → AreCounted tries.new.refused caller.new }
 {
     match library.take(rt, caller) {
         Ok((_receipt, taken)) => {
@@ -69,7 +71,8 @@ fn call_back<L: Naming, C: Callback, D: Device, J: Recorder, G: Gate, R: Wait>(
     tries: &mut Tries,
     taken: Taken<C>,
 )
-    ensures { (v : Verdict) × C.may_answer taken.payload taken.returned v × Fits (C.rule taken.payload) taken.returned v × Tells L.setup taken.returned.h taken.returned.n v caller.old caller.new }
+    ensures told { (v : Verdict) × C.may_answer taken.payload taken.returned v × Fits (C.rule taken.payload) taken.returned v × Tells L.setup taken.returned.h taken.returned.n v caller.old caller.new }
+    ensures counted { AreCounted tries.old.refused caller.old → AreCounted tries.new.refused caller.new }
 {
     let Taken {
         returned,
@@ -91,7 +94,8 @@ fn take_and_call<L: Naming, C: Callback, D: Device, J: Recorder, G: Gate, R: Wai
     tries: &mut Tries,
     events: &Events,
 )
-    ensures { CallsBackIf L.setup (MayAnswer C.may_answer C.rule) events.now.take caller.old caller.new }
+    ensures made { CallsBackIf L.setup (MayAnswer C.may_answer C.rule) events.now.take caller.old caller.new }
+    ensures counted { AreCounted tries.old.refused caller.old → AreCounted tries.new.refused caller.new }
 {
     if !events.take {
         return;
@@ -112,7 +116,8 @@ fn turn<L: Naming, C: Callback, D: Device, J: Recorder, G: Gate, R: Wait>(
     parking: &Parking,
     events: &Events,
 )
-    ensures { Handles L.setup (MayAnswer C.may_answer C.rule) events.now caller.old caller.new }
+    ensures made { Handles L.setup (MayAnswer C.may_answer C.rule) events.now caller.old caller.new }
+    ensures counted { AreCounted tries.old.refused caller.old → AreCounted tries.new.refused caller.new }
 {
     deliver(rt, library, gate, caller, tries, events);
     take_and_call(rt, library, gate, caller, tries, events);
@@ -125,7 +130,8 @@ fn turn<L: Naming, C: Callback, D: Device, J: Recorder, G: Gate, R: Wait>(
 /// verdicts, until the library is rested: a Deliver or Take only where a look showed one, each behind the gate.
 /// With nothing to do it parks. A callback that can't be submitted once more has ended, and is told so (`Callback::ended`). Where memory
 /// is refused it says so (`has_lacked_memory`) and tries again; but once it was asked to stop, and a hundred tries in a row were refused,
-/// it gives up, and asks the other worker to end too. The caller comes back. Look by look it made what was there to be seen: the event;
+/// it gives up, and asks the other worker to end too. The caller comes back, and only where what it saw last has neither an event nor a
+/// result, or memory was refused to it a hundred times. Look by look it made what was there to be seen: the event;
 /// then the result, whose callback is called, and a verdict that it may give told behind that, by its Answer, or by Stop where the transfer
 /// isn't submitted once more. What memory was refused to the caller has counted, and nothing else was made.
 pub fn event_loop<L: Naming, C: Callback, D: Device, J: Recorder, G: Gate, R: Wait>(
@@ -135,14 +141,15 @@ pub fn event_loop<L: Naming, C: Callback, D: Device, J: Recorder, G: Gate, R: Wa
     gate: &mut G,
     caller: Caller<L>,
 ) -> Caller<L>
-    ensures { Rounds (ShowsEvents L.setup) (Handles L.setup (MayAnswer C.may_answer C.rule)) caller result }
+    ensures rounds { Rounds (ShowsEvents L.setup) (Handles L.setup (MayAnswer C.may_answer C.rule)) caller result }
+    ensures ended { HasEnded (LacksEvents L.setup) result }
 {
     let mut caller = caller;
     let mut tries = Tries::new();
     let parking = Parking::new(rt, alloc, library, Part::Events);
     for _ in rt.forever() {
         let Some(events) = library.events(rt, &mut caller) else {
-            break;
+            return caller;
         };
         turn(
             rt,
@@ -155,8 +162,8 @@ pub fn event_loop<L: Naming, C: Callback, D: Device, J: Recorder, G: Gate, R: Wa
         );
         if tries.are_over(library) {
             library.end_workers(rt);
-            break;
+            return caller;
         }
     }
-    caller
+    unreachable!()
 }

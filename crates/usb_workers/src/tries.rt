@@ -1,5 +1,7 @@
 //! How often a worker tries again where memory is refused.
 
+ghost use Rattle.std.specs.Prelude.{◌≡◌, ◌≤◌, ◌<◌, ◌+◌, ◌^◌, true};
+
 use std::sync::Wait;
 use std::thread::Parker;
 use std::time::Duration;
@@ -22,7 +24,9 @@ pub(crate) struct Tries {
 
 impl Tries {
     /// Not yet.
-    pub(crate) fn new() -> Tries {
+    pub(crate) fn new() -> Tries
+        ensures { result.refused ≡ 0 }
+    {
         Tries {
             refused: 0,
             parker: Parker::new(),
@@ -30,7 +34,9 @@ impl Tries {
     }
 
     /// A step was made.
-    pub(crate) fn done(&mut self) {
+    pub(crate) fn done(&mut self)
+        ensures { self.new.refused ≡ 0 }
+    {
         self.refused = 0;
     }
 
@@ -39,7 +45,9 @@ impl Tries {
         &mut self,
         rt: &R,
         library: &Library<L, P, D, J>,
-    ) {
+    )
+        ensures { (self.new.refused ≤ self.old.refused + 1) × (self.new.refused < 2 ^ 32) }
+    {
         self.refused = self.refused.saturating_add(1);
         library.note_lack();
         self.parker.park_timeout(rt, Duration::from_millis(PAUSE));
@@ -49,7 +57,9 @@ impl Tries {
     pub(crate) fn are_over<L: Naming, P: Drop, D: Device, J: Recorder>(
         &self,
         library: &Library<L, P, D, J>,
-    ) -> bool {
+    ) -> bool
+        ensures { result ≡ true → 100 ≤ self.now.refused }
+    {
         self.refused >= MOST && library.is_stopping()
     }
 }

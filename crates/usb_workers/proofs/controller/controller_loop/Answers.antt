@@ -1,21 +1,24 @@
-use Rattle.std.proofs.Common.{subst, sym}
-use Rattle.usb_library.specs.Calls.{ShowsPending}
-use Rattle.usb_workers.specs.Rounds.{Controls, Rounds}
+use Rattle.std.proofs.Common.{arith, inr}
 use Rattle.usb_workers.specs.Rounds as R
-use Rattle.usb_workers.proofs.controller.controller_loop.Goals.{in-None, in-Some+in_default, in-Some+in-Some-work+then-are_over}
 use Rattle.usb_workers.proofs.controller.controller_loop.Goals as goal
 
 pub loop-init : goal.loop-init
-loop-init g c = R.Rounds.none
+loop-init g c = record { rounds = R.Rounds.none; counted = (omega (arith, c.new-tries.ensures), omega (arith, c.new-tries.ensures)) }
 
 pub loop-preserved : goal.loop-preserved
-loop-preserved g c = R.Rounds.more c.in-Some-work.pending c.loop.caller c.work.new.caller c.turn.new.caller c.loop.invariant c.work.ensures.looks c.in-Some-work.ensures.pending c.turn.ensures
+loop-preserved g c = record {
+  rounds = R.Rounds.more c.in-Some-work.pending c.loop.caller c.work.new.caller c.turn.new.caller c.loop.invariant.rounds c.work.ensures.looks c.in-Some-work.ensures.pending c.turn.ensures.made;
+  counted = c.turn.ensures.counted (omega (arith, c.loop.invariant.counted.0, c.work.ensures.looks.missed), c.loop.invariant.counted.1);
+}
 
-pub returns : goal.returns
-returns g c = elim c.match-next.branch [
-  | in-None w ↦ subst (Rounds (ShowsPending g.L.Naming.setup) (Controls g.L.Naming.setup) c.args.caller) (sym w.caller-is) c.loop.invariant
-  | in-Some+in_default w ↦ subst (Rounds (ShowsPending g.L.Naming.setup) (Controls g.L.Naming.setup) c.args.caller) (sym w.caller-is) (R.Rounds.last c.loop.caller w.work.new.caller c.loop.invariant w.work.ensures.looks)
-  | in-Some+in-Some-work+then-are_over w ↦
-      subst (Rounds (ShowsPending g.L.Naming.setup) (Controls g.L.Naming.setup) c.args.caller) (sym w.caller-is)
-      (R.Rounds.more w.in-Some-work.pending c.loop.caller w.work.new.caller w.turn.new.caller c.loop.invariant w.work.ensures.looks w.in-Some-work.ensures.pending w.turn.ensures)
-]
+pub returns-in_default-clause-rounds : goal.returns-in_default-clause-rounds
+returns-in_default-clause-rounds g c = R.Rounds.last c.loop.caller c.work.new.caller c.loop.invariant.rounds c.work.ensures.looks
+
+pub returns-then-are_over-clause-rounds : goal.returns-then-are_over-clause-rounds
+returns-then-are_over-clause-rounds g c =
+    R.Rounds.more c.in-Some-work.pending c.loop.caller c.work.new.caller c.turn.new.caller c.loop.invariant.rounds c.work.ensures.looks c.in-Some-work.ensures.pending c.turn.ensures.made
+
+pub returns-then-are_over-clause-ended : goal.returns-then-are_over-clause-ended
+returns-then-are_over-clause-ended g c =
+    let counted = c.turn.ensures.counted (omega (arith, c.loop.invariant.counted.0, c.work.ensures.looks.missed), c.loop.invariant.counted.1) in
+    inr (omega (arith, counted.0, c.are_over.ensures c.if-are_over.true))

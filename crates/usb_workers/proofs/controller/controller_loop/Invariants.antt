@@ -1,6 +1,9 @@
 use Rattle.usb_library.specs.Calls.{ShowsPending}
-use Rattle.usb_workers.specs.Rounds.{Controls, Rounds}
+use Rattle.usb_workers.specs.Rounds.{AreCounted, Controls, Rounds}
 use Rattle.usb_workers.proofs.controller.controller_loop.Given as goal
 
 abbrev pub invariant-loop : goal.invariant-loop
-invariant-loop g l = Rounds (ShowsPending g.L.Naming.setup) (Controls g.L.Naming.setup) l.initial.caller l.caller
+invariant-loop g l = record {
+  rounds : Rounds (ShowsPending g.L.Naming.setup) (Controls g.L.Naming.setup) l.initial.caller l.caller;
+  counted : AreCounted l.tries.refused l.caller;
+}

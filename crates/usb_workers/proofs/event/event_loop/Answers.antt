@@ -1,21 +1,24 @@
-use Rattle.std.proofs.Common.{subst, sym}
-use Rattle.usb_library.specs.Calls.{ShowsEvents}
-use Rattle.usb_workers.specs.Rounds.{Handles, MayAnswer, Rounds}
+use Rattle.std.proofs.Common.{arith, inr}
 use Rattle.usb_workers.specs.Rounds as R
-use Rattle.usb_workers.proofs.event.event_loop.Goals.{in-None, in-Some+in_default, in-Some+in-Some-events+then-are_over}
 use Rattle.usb_workers.proofs.event.event_loop.Goals as goal
 
 pub loop-init : goal.loop-init
-loop-init g c = R.Rounds.none
+loop-init g c = record { rounds = R.Rounds.none; counted = (omega (arith, c.new-tries.ensures), omega (arith, c.new-tries.ensures)) }
 
 pub loop-preserved : goal.loop-preserved
-loop-preserved g c = R.Rounds.more c.in-Some-events.events c.loop.caller c.events.new.caller c.turn.new.caller c.loop.invariant c.events.ensures.looks c.in-Some-events.ensures.events c.turn.ensures
+loop-preserved g c = record {
+  rounds = R.Rounds.more c.in-Some-events.events c.loop.caller c.events.new.caller c.turn.new.caller c.loop.invariant.rounds c.events.ensures.looks c.in-Some-events.ensures.events c.turn.ensures.made;
+  counted = c.turn.ensures.counted (omega (arith, c.loop.invariant.counted.0, c.events.ensures.looks.missed), c.loop.invariant.counted.1);
+}
 
-pub returns : goal.returns
-returns g c = elim c.match-next.branch [
-  | in-None w ↦ subst (Rounds (ShowsEvents g.L.Naming.setup) (Handles g.L.Naming.setup (MayAnswer g.C.Callback.may_answer g.C.Callback.rule)) c.args.caller) (sym w.caller-is) c.loop.invariant
-  | in-Some+in_default w ↦ subst (Rounds (ShowsEvents g.L.Naming.setup) (Handles g.L.Naming.setup (MayAnswer g.C.Callback.may_answer g.C.Callback.rule)) c.args.caller) (sym w.caller-is) (R.Rounds.last c.loop.caller w.events.new.caller c.loop.invariant w.events.ensures.looks)
-  | in-Some+in-Some-events+then-are_over w ↦
-      subst (Rounds (ShowsEvents g.L.Naming.setup) (Handles g.L.Naming.setup (MayAnswer g.C.Callback.may_answer g.C.Callback.rule)) c.args.caller) (sym w.caller-is)
-      (R.Rounds.more w.in-Some-events.events c.loop.caller w.events.new.caller w.turn.new.caller c.loop.invariant w.events.ensures.looks w.in-Some-events.ensures.events w.turn.ensures)
-]
+pub returns-in_default-clause-rounds : goal.returns-in_default-clause-rounds
+returns-in_default-clause-rounds g c = R.Rounds.last c.loop.caller c.events.new.caller c.loop.invariant.rounds c.events.ensures.looks
+
+pub returns-then-are_over-clause-rounds : goal.returns-then-are_over-clause-rounds
+returns-then-are_over-clause-rounds g c =
+    R.Rounds.more c.in-Some-events.events c.loop.caller c.events.new.caller c.turn.new.caller c.loop.invariant.rounds c.events.ensures.looks c.in-Some-events.ensures.events c.turn.ensures.made
+
+pub returns-then-are_over-clause-ended : goal.returns-then-are_over-clause-ended
+returns-then-are_over-clause-ended g c =
+    let counted = c.turn.ensures.counted (omega (arith, c.loop.invariant.counted.0, c.events.ensures.looks.missed), c.loop.invariant.counted.1) in
+    inr (omega (arith, counted.0, c.are_over.ensures c.if-are_over.true))
