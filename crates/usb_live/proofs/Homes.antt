@@ -6,9 +6,8 @@ use Rattle.usb_model.specs.declared.reply.Returned.{Returned}
 use Rattle.usb_model.specs.declared.verdict.Verdict.{Verdict}
 use Rattle.usb_model.specs.Setup.{Setup}
 use Rattle.usb_journal.specs.declared.place.Place.{Place}
-use Rattle.usb_library.specs.Calls.{Calling, ShowsEvents, ShowsPending}
-use Rattle.usb_workers.specs.Rounds.{Controls, Handles, Rounds}
-use Rattle.usb_live.specs.Life.{AreAll, Drives, Each, LivedBy, Returns}
+use Rattle.usb_library.specs.Calls.{Calling}
+use Rattle.usb_live.specs.Life.{AreAll, ControlsAll, Drives, Each, HandlesAll, LivedBy, Returns}
 
 -- one more at the end of both
 pub each_push : {A B : Type 0} (R : A → B → Type 0) (xs : List A) (ys : List B) (x : A) (y : B) → Each R xs ys → R x y → Each R (xs ++ x ∷ []) (ys ++ y ∷ [])
@@ -54,7 +53,7 @@ module _ {T X S H : Type 0} (makes : T → Setup → Calling → Calling → X �
 -- who made the places of a journal
 pub lived_by : {T X S H V E : Type 0} (may : Returned → Verdict → Type 0) (makes : T → Setup → Calling → Calling → X → Type 0) (setup : Setup) (journal : V → List Place) (left : V → List X)
     (driver : S → T) (first : S → Calling) (last : H → Calling) (leaves : H → X) (seats : List S) (homes : List H) (drivers : List T) (controller events c e : Calling) → c.own ≡ [] → e.own ≡ []
-    → Rounds (ShowsPending setup) (Controls setup) c controller → Rounds (ShowsEvents setup) (Handles setup may) e events → map driver seats ≡ drivers → All (λ s. (first s).own ≡ []) seats
+    → ControlsAll setup c controller → HandlesAll setup may e events → map driver seats ≡ drivers → All (λ s. (first s).own ≡ []) seats
     → Each (λ s h. makes (driver s) setup (first s) (last h) (leaves h)) seats homes → (r : Result V E) → IfOk r (λ v. AreAll (journal v) (controller ∷ events ∷ map last homes)) → IfOk r (λ v. left v ≡ map leaves homes)
     → IfOk r (λ v. LivedBy may makes setup (journal v) drivers (left v))
 lived_by may makes setup journal left driver first last leaves seats homes drivers controller events c e none none' controls handles same fresh drives (Ok v) all leave = record {

@@ -18,8 +18,10 @@
 //! - `live`, `live_gated` of `usb_live`: the entries of the journal that is handed out are the definitions' run of its
 //!   steps over the devices that were given; what is kept is of it, it has as many places as are told, and the core
 //!   shows the world where it ends (`KeepsRun`). Its places are those of the two workers and the drivers, and of nobody else
-//!   (`LivedBy`): look by look the workers made what was there to be seen (`Rounds` of usb_workers), each driver what it may make
-//!   (`Driver::makes`) with what it left; no two callers have one number, and each caller's places are those of its number
+//!   (`LivedBy`): look by look the workers made what was there to be seen (`Rounds` of usb_workers), and each ended only where its last look
+//!   showed nothing of its part, or memory was refused to it a hundred times; each
+//!   driver made what it may make (`Driver::makes`) with what it left; no two callers have one
+//!   number, and each caller's places are those of its number. Whether nothing was left to be done where the run ends is told (`TellsRest`)
 //! - `make`, `handle_of` of `usb_live`: where something is answered, the step was made and its receipt has it
 //!   (`Makes`), else nothing changed; whose its entry is, in any world, where a handle is named; and that there is
 //!   none just for steps that submit, and for those of workers, clocks and callbacks

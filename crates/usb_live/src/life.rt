@@ -3,7 +3,7 @@
 ghost use Rattle.std.specs.Prelude.{◌≡◌, ◌∷◌, IfOk, map};
 ghost use Rattle.usb_core.specs.Public.{setup_of};
 ghost use Rattle.usb_workers.specs.Rounds.{MayAnswer};
-ghost use Rattle.usb_live.specs.Life.{AreAll, KeepsRun, LivedBy};
+ghost use Rattle.usb_live.specs.Life.{AreAll, KeepsRun, LivedBy, TellsRest};
 
 use crate::driver::Driver;
 use crate::gates::Gates;
@@ -33,6 +33,8 @@ pub struct Lived<C, D: Device, J, X> {
     pub core: Core<C, D>,
     /// What each driver left, in the order of the drivers.
     pub left: Vec<X>,
+    /// Whether nothing was left to be done, and no transfer was in its callback. It is so unless a worker gave up for want of memory.
+    pub at_rest: bool,
     /// Whether a worker was refused memory. It tried again; but a callback may have ended early for it, or a transfer be in flight
     /// still.
     pub lacked_memory: bool,
@@ -60,6 +62,7 @@ where
     J::Draft: Send,
     T::Left: Drop + Send,
     ensures run { IfOk result (λ l. KeepsRun J.stands (setup_of setup) l.journal l.kept l.places l.core) }
+    ensures rest { IfOk result (λ l. TellsRest (setup_of setup) l.journal l.at_rest) }
     ensures by { IfOk result (λ l. LivedBy (MayAnswer C.may_answer C.rule) T.makes (setup_of setup) l.journal drivers.items l.left.items) }
 {
     live_gated::<C, D, J, Open, T, R>(rt, alloc, setup, Gates::open(), drivers)
@@ -84,6 +87,7 @@ where
     J::Draft: Send,
     T::Left: Drop + Send,
     ensures run { IfOk result (λ l. KeepsRun J.stands (setup_of setup) l.journal l.kept l.places l.core) }
+    ensures rest { IfOk result (λ l. TellsRest (setup_of setup) l.journal l.at_rest) }
     ensures by { IfOk result (λ l. LivedBy (MayAnswer C.may_answer C.rule) T.makes (setup_of setup) l.journal drivers.items l.left.items) }
 {
     let Ok(opening) = Opening::new(alloc, setup) else {
@@ -116,6 +120,7 @@ where
     requires table { opening.table ≡ L.table }
     requires setup { opening.setup ≡ L.setup }
     ensures run { IfOk result (λ l. KeepsRun J.stands L.setup l.journal l.kept l.places l.core) }
+    ensures rest { IfOk result (λ l. TellsRest L.setup l.journal l.at_rest) }
     ensures by { IfOk result (λ l. LivedBy (MayAnswer C.may_answer C.rule) T.makes L.setup l.journal drivers.items l.left.items) }
 {
     let library = Library::<L, C, D, J>::new(alloc, opening)?;
@@ -140,6 +145,7 @@ fn ended<L: Naming, C: Drop, D: Device, J: Recorder, X: Drop>(
 ) -> Result<Lived<C, D, J, X>, AllocError>
     requires { L.parts ≡ 1025 }
     ensures run { IfOk result (λ l. KeepsRun J.stands L.setup l.journal l.kept l.places l.core) }
+    ensures rest { IfOk result (λ l. TellsRest L.setup l.journal l.at_rest) }
     ensures callers { IfOk result (λ l. AreAll l.journal (back.controller ∷ back.events ∷ map (λ h. h.caller) back.homes.items)) }
     ensures left { IfOk result (λ l. l.left.items ≡ map (λ h. h.left) back.homes.items) }
 {
@@ -147,12 +153,14 @@ fn ended<L: Naming, C: Drop, D: Device, J: Recorder, X: Drop>(
     let Ok(ended) = library.finish(callers, Vec::new(alloc)) else {
         return Err(AllocError);
     };
+    let at_rest = ended.is_at_rest();
     Ok(Lived {
         journal: ended.journal,
         kept: ended.recorder,
         places: ended.places,
         core: ended.core,
         left,
+        at_rest,
         lacked_memory: ended.lacked_memory,
         cuts: ended.cuts,
     })

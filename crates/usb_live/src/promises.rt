@@ -1,8 +1,8 @@
 //! What is promised of the threads: what comes back of each, by what went into it.
 
 ghost use Rattle.std.specs.Prelude.{◌≡◌};
-ghost use Rattle.usb_library.specs.Calls.{ShowsEvents, ShowsPending};
-ghost use Rattle.usb_workers.specs.Rounds.{Controls, Handles, MayAnswer, Rounds};
+ghost use Rattle.usb_workers.specs.Rounds.{MayAnswer};
+ghost use Rattle.usb_live.specs.Life.{ControlsAll, HandlesAll};
 
 use crate::driver::Driver;
 use crate::seat::{Home, Seat};
@@ -13,7 +13,7 @@ use usb_callback::Callback;
 use usb_journal::Naming;
 use usb_library::Caller;
 
-/// The caller that went out with the controller's part. It comes back moved on, look by look.
+/// The caller that went out with the controller's part. It comes back moved on, look by look, until nothing of that part was left.
 #[derive(Drop)]
 pub(crate) struct Controlling<L: Naming> {
     pub(crate) caller: Snapshot<Caller<L>>,
@@ -31,10 +31,11 @@ impl<L: Naming> Controlling<L> {
 }
 
 impl<L: Naming> Promise<Caller<L>> for Controlling<L> {
-    ghost kept_by = { λ p c. Rounds (ShowsPending L.setup) (Controls L.setup) p.caller.value c };
+    ghost kept_by = { λ p c. ControlsAll L.setup p.caller.value c };
 }
 
-/// The caller that went out with events, and callbacks of this type. It comes back moved on, look by look.
+/// The caller that went out with events, and callbacks of this type. It comes back moved on, look by look, until nothing of that part was
+/// left.
 #[derive(Drop)]
 pub(crate) struct Handling<L: Naming, C: Callback> {
     pub(crate) caller: Snapshot<Caller<L>>,
@@ -54,7 +55,7 @@ impl<L: Naming, C: Callback> Handling<L, C> {
 }
 
 impl<L: Naming, C: Callback> Promise<Caller<L>> for Handling<L, C> {
-    ghost kept_by = { λ p c. Rounds (ShowsEvents L.setup) (Handles L.setup (MayAnswer C.may_answer C.rule)) p.caller.value c };
+    ghost kept_by = { λ p c. HandlesAll L.setup (MayAnswer C.may_answer C.rule) p.caller.value c };
 }
 
 /// The driver that went out with its caller. What comes home is what it may make, and leave.

@@ -2,9 +2,8 @@
 
 ghost use Rattle.std.specs.Prelude.{◌≡◌, ◌++◌, [], IfOk, IfSome, map};
 ghost use denote.Param.Send.{IsSend, IsSync};
-ghost use Rattle.usb_library.specs.Calls.{ShowsEvents, ShowsPending};
-ghost use Rattle.usb_workers.specs.Rounds.{Controls, Handles, MayAnswer, Rounds};
-ghost use Rattle.usb_live.specs.Life.{Each};
+ghost use Rattle.usb_workers.specs.Rounds.{MayAnswer};
+ghost use Rattle.usb_live.specs.Life.{ControlsAll, Each, HandlesAll};
 
 use crate::driver::Driver;
 use crate::promises::{Controlling, Driving, Handling};
@@ -41,7 +40,7 @@ fn control<L: Naming, C: Callback, D: Device, J: Recorder, G: Gate + Drop, R: Wa
     library: &Library<L, C, D, J>,
     post: Post<L, G>,
 ) -> Caller<L>
-    ensures { Rounds (ShowsPending L.setup) (Controls L.setup) post.caller result }
+    ensures { ControlsAll L.setup post.caller result }
 {
     let Post { caller, mut gate } = post;
     controller_loop(rt, alloc, library, &mut gate, caller)
@@ -54,7 +53,7 @@ fn handle<L: Naming, C: Callback, D: Device, J: Recorder, G: Gate + Drop, R: Wai
     library: &Library<L, C, D, J>,
     post: Post<L, G>,
 ) -> Caller<L>
-    ensures { Rounds (ShowsEvents L.setup) (Handles L.setup (MayAnswer C.may_answer C.rule)) post.caller result }
+    ensures { HandlesAll L.setup (MayAnswer C.may_answer C.rule) post.caller result }
 {
     let Post { caller, mut gate } = post;
     event_loop(rt, alloc, library, &mut gate, caller)
@@ -219,8 +218,8 @@ fn run_scoped<
 where
     J::Draft: Send,
     T::Left: Drop + Send + 's,
-    ensures controls { IfOk result (λ back. Rounds (ShowsPending L.setup) (Controls L.setup) controller.caller back.controller) }
-    ensures handles { IfOk result (λ back. Rounds (ShowsEvents L.setup) (Handles L.setup (MayAnswer C.may_answer C.rule)) events.caller back.events) }
+    ensures controls { IfOk result (λ back. ControlsAll L.setup controller.caller back.controller) }
+    ensures handles { IfOk result (λ back. HandlesAll L.setup (MayAnswer C.may_answer C.rule) events.caller back.events) }
     ensures drives { IfOk result (λ back. Each (λ s h. T.makes s.driver L.setup s.caller h.caller h.left) seats.items back.homes.items) }
 {
     let Room { mut threads, homes } = room;
@@ -264,8 +263,8 @@ pub(crate) fn run_all<
 where
     J::Draft: Send,
     T::Left: Drop + Send,
-    ensures controls { IfOk result (λ back. Rounds (ShowsPending L.setup) (Controls L.setup) controller.caller back.controller) }
-    ensures handles { IfOk result (λ back. Rounds (ShowsEvents L.setup) (Handles L.setup (MayAnswer C.may_answer C.rule)) events.caller back.events) }
+    ensures controls { IfOk result (λ back. ControlsAll L.setup controller.caller back.controller) }
+    ensures handles { IfOk result (λ back. HandlesAll L.setup (MayAnswer C.may_answer C.rule) events.caller back.events) }
     ensures drives { IfOk result (λ back. Each (λ s h. T.makes s.driver L.setup s.caller h.caller h.left) seats.items back.homes.items) }
 {
     let room = Room {
