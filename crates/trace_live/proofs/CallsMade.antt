@@ -114,11 +114,11 @@ module _ {X : Type 0} (ended : X → Type 0) (makes : List Step → Setup → Ca
 
     quiet_controller : (test : Step → Bool) → Passes_none test → passes_of test lived.controller ≡ []
     quiet_controller test silent =
-        rounds setup test silent (ShowsPending setup) (Controls setup) (controls setup test silent) lived.controls.0 lived.controller lived.controls.2 (ap (λ l. filter test (steps_of l)) lived.controls.1)
+        rounds setup test silent (ShowsPending setup) (Controls setup) (controls setup test silent) lived.controls.0 lived.controller lived.controls.2.rounds (ap (λ l. filter test (steps_of l)) lived.controls.1)
 
     quiet_events : (test : Step → Bool) → Passes_none test → passes_of test lived.events ≡ []
     quiet_events test silent =
-        rounds setup test silent (ShowsEvents setup) (Handles setup may) (handles setup test silent may) lived.handles.0 lived.events lived.handles.2 (ap (λ l. filter test (steps_of l)) lived.handles.1)
+        rounds setup test silent (ShowsEvents setup) (Handles setup may) (handles setup test silent may) lived.handles.0 lived.events lived.handles.2.rounds (ap (λ l. filter test (steps_of l)) lived.handles.1)
 
     -- what passes in the run is what passes of the lines, where one handle at most has some
     passes_in : (test : Step → Bool) → Passes_none test → Lone (map (filter test) drivers) → filter test (steps_of journal) ≡ joined (map (filter test) drivers)

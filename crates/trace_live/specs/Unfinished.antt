@@ -10,6 +10,7 @@ use Rattle.usb_left.specs.declared.left.Left.TheVariants.{At, Held, Open}
 use Rattle.usb_left.specs.declared.left.Thing.{Thing}
 use Rattle.usb_left.specs.declared.left.Thing.TheVariants.{IsHalted, Unused}
 use Rattle.usb_left.specs.Left.{all_left}
+use Rattle.usb_library.specs.Calls.{IsAtRest}
 use Rattle.trace_live.specs.Callbacks.{AreCallbacks}
 use Rattle.trace_live.specs.Calls.{HasCalls}
 
@@ -29,8 +30,9 @@ is_unfinished (At h ep thing) = is_under_way thing
 abbrev pub unfinished_in : Setup → List Step → List Left
 unfinished_in setup steps = filter is_unfinished (all_left setup (world_from setup (new_world setup) steps))
 
--- a plan was performed by these steps, which have its calls: what callbacks were told of their run, and what was unfinished where it ended
+-- a plan was performed by these steps, which have its calls: what callbacks were told of their run, and what was unfinished where it ended, with nothing left to be done
 pub record IsPerformed (setup : Setup) (plan : List Plan) (steps : List Step) (told : List Entry) (unfinished : List Left) : Type 0 where
   pub calls : HasCalls plan steps
   pub callbacks : AreCallbacks setup steps told
   pub left : unfinished ≡ unfinished_in setup steps
+  pub rest : IsAtRest setup (world_from setup (new_world setup) steps)

@@ -19,7 +19,7 @@
 //! - `perform` of `trace_live`: what it gives is what callbacks were told in a run of the definitions over the devices, all of it and
 //!   nothing else, by handle and number (`AreCallbacks`); in that run stand the plan's calls, each handle's in order and no others, and
 //!   beside them only what workers do (`HasCalls`); and, of the world where it ends, all that handles hadn't finished of their transfers
-//!   (`unfinished_in`)
+//!   (`unfinished_in`), where nothing is left to be done (`IsAtRest` of usb_library): no packet, order, event, result or callback
 //!
 //! The lines of each handle stand in a channel that is filled before its thread starts: one under a rule, whose only pass goes with it
 //! into the thread and knows what is in it. What the workers do is passed over.

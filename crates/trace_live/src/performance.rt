@@ -43,7 +43,8 @@ fn are_made(left: Vec<Result<(), AllocError>>) -> Result<(), AllocError>
 /// workers. What the workers do has no place in it and is passed over: packets, orders, events, results and callbacks that return.
 /// Gives what the callbacks were told, by handle and number, and what never completed. When `rounds` callbacks were called, each that is
 /// called then is at its end, whatever its rule: so a run that would go on for ever ends, and more than `rounds` lines are given. An error
-/// where memory is refused, to whichever thread, or a thread can't be made.
+/// where memory is refused, to whichever thread, or a thread can't be made. So where none is told, nothing was left to be done: no packet, no order, no
+/// event, no result and no callback.
 pub fn perform<D: Scripted + Send, R: Threads + Wait + Sync>(
     rt: &R,
     alloc: Global,
@@ -60,11 +61,12 @@ pub fn perform<D: Scripted + Send, R: Threads + Wait + Sync>(
         kept,
         core,
         left,
+        at_rest,
         lacked_memory,
         ..
     } = live::<Counted, D, Journal, _, R>(rt, alloc, setup, handles)?;
     are_made(left)?;
-    if lacked_memory {
+    if lacked_memory || !at_rest {
         return Err(AllocError);
     }
     Ok(Performance {

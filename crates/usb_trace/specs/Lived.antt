@@ -6,6 +6,7 @@ use Rattle.usb_model.specs.declared.entry.Entry.{Entry}
 use Rattle.usb_model.specs.declared.plan.Plan.TheVariants.{Do}
 use Rattle.usb_model.specs.declared.step.Step.{Step}
 use Rattle.usb_model.specs.declared.step.Step.TheVariants.{Expire, Unplug}
+use Rattle.usb_model.specs.World.{new_world, world_from}
 use Rattle.usb_model.specs.Text.{lines_text}
 use Rattle.trace_scenario.specs.declared.line.Line.{Line}
 use Rattle.trace_scenario.specs.declared.line.Line.TheVariants.{Piece}
@@ -14,6 +15,7 @@ use Rattle.trace_live.specs.Callbacks.{AreCallbacks}
 use Rattle.trace_live.specs.Calls.{HasCalls}
 use Rattle.trace_live.specs.Unfinished.{unfinished_in}
 use Rattle.usb_left.specs.LeftText.{lines_left}
+use Rattle.usb_library.specs.Calls.{IsAtRest}
 use Rattle.trace_io.specs.Faults.{IsOfRun}
 use Rattle.trace_io.specs.Output.{AppendsSome}
 use Rattle.trace_io.specs.declared.fault.Fault.{Fault}
@@ -46,9 +48,9 @@ lived_of text = earlier (first_unlived 1 (slice_split (λ b. b == 10) text)) (sc
 abbrev pub unfinished_text : Scenario → List Step → List ℕ
 unfinished_text s steps = lines_left (unfinished_in s.setup steps)
 
--- what callbacks were told in a run of these steps over a scenario's devices, by handle and number: in it stand the calls of the scenario's lines, each handle's in their order, and no others
+-- what callbacks were told in a run of these steps over a scenario's devices, by handle and number: in it stand the calls of the scenario's lines, each handle's in their order, and no others; and where it ends, nothing is left to be done
 abbrev pub IsLived : Scenario → List Step → List Entry → Type 0
-IsLived s steps lines = HasCalls s.plan steps × AreCallbacks s.setup steps lines
+IsLived s steps lines = HasCalls s.plan steps × AreCallbacks s.setup steps lines × IsAtRest s.setup (world_from s.setup (new_world s.setup) steps)
 
 -- what is written of a scenario that was run in threads, and what is to be told behind it: what its callbacks were told in a run of its lines; and what wasn't finished where that run ends
 abbrev pub AppendsCallbacks : Scenario → (notes : List ℕ) → Option (List ℕ) → Option (List ℕ) → Type 0

@@ -15,5 +15,6 @@ returns g c =
         calls = has_calls (λ made. IsOk made) _ all_made setup _ journal _ _ c.in_ok-kept.ensures.by c.in_ok-are_made.ensures c.args.plan c.in_ok-handles.ensures;
         callbacks = search rules;
         left = c.in_ok-unfinished_in.ensures setup (world_where setup journal) c.in_ok-kept.ensures.run.is_shown;
+        rest = c.in_ok-kept.ensures.rest.rests c.if-not-at_rest.false;
       },
     )
