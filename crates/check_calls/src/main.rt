@@ -66,8 +66,8 @@ fn print_entries<R: Print>(rt: &R, places: &[Place]) -> Result<()> {
     Ok(())
 }
 
-/// Plays a scene, and prints what its calls were answered, and how many places and receipts came of them: what was kept
-/// of the journal.
+/// Plays a scene, and prints what its calls were answered, and how many places and receipts came of them, and whether nothing was left to
+/// be done: what was kept of the journal.
 fn show<J: Recorder, R: Wait + Print>(
     rt: &R,
     alloc: Global,
@@ -76,7 +76,15 @@ fn show<J: Recorder, R: Wait + Print>(
 ) -> Result<J> {
     let left = play::<J, R>(rt, alloc, sizes, calls)?;
     print_answers(rt, left.answers.as_slice())?;
-    println!(rt; "{} places, {} receipts", left.places, left.receipts)?;
+    let rest = if left.at_rest {
+        "at rest"
+    } else {
+        "something is left to be done"
+    };
+    println!(rt;
+        "{} places, {} receipts: {}",
+        left.places, left.receipts, rest
+    )?;
     Ok(left.recorder)
 }
 

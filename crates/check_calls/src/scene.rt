@@ -49,6 +49,8 @@ pub struct Left<J> {
     pub places: u64,
     /// What was kept of it.
     pub recorder: J,
+    /// Whether nothing was left to be done.
+    pub at_rest: bool,
 }
 
 /// Ends a library: what it leaves, or what is handed back where a caller is missing.
@@ -63,7 +65,7 @@ fn finished<L: Naming, J: Recorder>(
 }
 
 /// What a scene leaves whose calls were answered so, and gave so many receipts.
-fn left_by<L: Naming, J: Drop>(
+fn left_by<L: Naming, J: Recorder>(
     ended: Ended<L, u8, TableDevice, J>,
     answers: Vec<Answer>,
     receipts: usize,
@@ -72,6 +74,7 @@ fn left_by<L: Naming, J: Drop>(
         answers,
         receipts,
         places: ended.places,
+        at_rest: ended.is_at_rest(),
         recorder: ended.recorder,
     }
 }
