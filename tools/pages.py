@@ -2,7 +2,7 @@
 """Whether the pages fit what they speak of: tools/pages.py check; the gate asks it, and it takes no time.
 
 README.md has at most 70 lines; its scenario is that of a worked row, with what it prints; its driver stands in a crate that is
-proved. docs/LAYERS.md has a page for each crate and for no other. Each page that is named is there."""
+proved. docs/SCENARIOS.md has in front of each picture the worked row of that picture, with what it prints. docs/LAYERS.md has a page for each crate and for no other. Each page that is named is there."""
 import pathlib
 import re
 import sys
@@ -28,21 +28,36 @@ def blocks(text):
     return found
 
 
+def beside(row, width=None):
+    """The lines of a worked row, each step with what it prints beside it, in a column as wide as the longest step needs."""
+    scenario = (ROOT / "rows" / f"{row}.in").read_text().splitlines()
+    printed = (ROOT / "rows" / f"{row}.out").read_text().splitlines()
+    setup = [it for it in scenario if it.split()[0] in ("device", "script")]
+    steps = [it for it in scenario if it not in setup]
+    width = width or max(map(len, steps)) + 3
+    return setup + [f"{step:<{width}}{told}" for step, told in zip(steps, printed, strict=True)]
+
+
 def readme_faults():
     """What of README.md isn't as it says."""
     text = (ROOT / "README.md").read_text()
     if len(text.splitlines()) > MOST_LINES:
         yield f"README.md has more than {MOST_LINES} lines"
-    scenario = (ROOT / "rows" / f"{ROW}.in").read_text().splitlines()
-    printed = (ROOT / "rows" / f"{ROW}.out").read_text().splitlines()
-    setup = [it for it in scenario if it.split()[0] in ("device", "script")]
-    steps = [it for it in scenario if it not in setup]
-    wanted = setup + [f"{step:<{COLUMN - 4}}{told}" for step, told in zip(steps, printed, strict=True)]
-    if wanted not in blocks(text):
+    if beside(ROW, COLUMN - 4) not in blocks(text):
         yield f"README.md doesn't have rows/{ROW}.in with what it prints"
     driver = DRIVER.read_text()
     if not any("\n".join(it) in driver for it in blocks(text) if it[0].startswith("impl ")):
         yield f"README.md's driver isn't that of {DRIVER.relative_to(ROOT)}"
+
+
+def scenario_faults():
+    """What of docs/SCENARIOS.md isn't that of its rows."""
+    text = (ROOT / "docs" / "SCENARIOS.md").read_text()
+    for row in re.findall(r"\(pictures/(\w+)\.svg\)", text):
+        if not (ROOT / "docs" / "pictures" / f"{row}.svg").exists():
+            yield f"docs/SCENARIOS.md shows a picture of {row}, which isn't there"
+        if beside(row) not in blocks(text):
+            yield f"docs/SCENARIOS.md doesn't have rows/{row}.in with what it prints"
 
 
 def link_faults():
@@ -73,7 +88,7 @@ def main(words):
     if words != ["check"]:
         print(__doc__)
         return 2
-    faults = [*readme_faults(), *link_faults(), *name_faults()]
+    faults = [*readme_faults(), *scenario_faults(), *link_faults(), *name_faults()]
     for fault in faults:
         print(fault)
     if not faults:
