@@ -1,0 +1,13 @@
+mod Fronts
+mod Homes
+mod Named
+mod FullFronts
+mod OfSorts
+mod TellsAsks
+mod TellsCalls
+mod TellsEnds
+mod TellsQuiet
+mod TellsSubmissions
+mod TellsTurns
+mod Told
+mod Unquiet

@@ -1,0 +1,10 @@
+pub mod First
+pub mod Text
+pub mod Caller
+pub mod Refusals
+pub mod Answers
+pub mod Endings
+pub mod Ends
+pub mod Turns
+pub mod Reasons
+pub mod Sorts
