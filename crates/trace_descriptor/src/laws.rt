@@ -1,0 +1,9 @@
+//! What the text is to a scenario. A law is the contract of a function with an empty body.
+
+ghost use Rattle.trace_descriptor.specs.Laws.{TextsAreScenarios};
+
+/// The text that `device_lines` gives is that of a scenario: its one device has the configuration that the taken bytes say, and its
+/// plan is empty.
+pub fn texts()
+    ensures { TextsAreScenarios }
+{}

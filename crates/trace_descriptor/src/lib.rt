@@ -1,0 +1,41 @@
+//! A device of a scenario, made of the descriptors that a real one has (USB 2.0, 9.6), as Linux's file `descriptors` gives them, in
+//! bytes or as hexadecimal text; and the same descriptors as a table.
+//!
+//! The one promise: the text that `device_lines` gives is that of the definition, and begins a scenario of one device, with the
+//! configuration that the bytes say.
+//!
+//! # Files
+//!
+//! - `input.rt`, specs/Input: the bytes of an input, which may be text
+//! - `file.rt`, `piece.rt`, specs/File: the device descriptor and the configurations of these bytes; descriptors in front of bytes
+//! - `interface.rt`, specs/Interfaces: interface descriptors
+//! - `text.rt`, `class.rt`, specs/Lines: the lines
+//! - `device.rt`, `fault.rt`, specs/Device, Faults: the whole, or why there is none
+//! - `laws.rt`, specs/Laws, proofs/Quiet, DeviceLine: what the text is to a scenario
+//!
+//! # Contracts
+//!
+//! - `device_lines`: the text of an input is that of the definition (`device_text`, in specs/Device); an error is that of the
+//!   definition, or want of memory. Nothing is required
+//! - `DescriptorFault`: its printed text is that of the definition (`descriptor_fault_text`)
+#![tactic(auto)]
+
+mod class;
+mod describe;
+mod device;
+mod fault;
+mod field;
+mod file;
+mod input;
+mod interface;
+pub mod laws;
+mod names;
+mod piece;
+mod table;
+#[cfg(test)]
+mod tests;
+mod text;
+
+pub use describe::description;
+pub use device::device_lines;
+pub use fault::DescriptorFault;
