@@ -1,10 +1,10 @@
 //! Calls of a handle: submissions, asks, verdicts, refusals and all others.
 
 use crate::drawing::Drawing;
-use crate::known::Flight;
+use crate::known::{Flight, Taken};
 use crate::lane::Lane;
-use crate::picture::{Side, Spot};
 use crate::sign::Sign;
+use crate::spot::{Side, Spot};
 use crate::words::Words;
 use std::alloc::AllocError;
 use usb_model::{Name, Refused, Step};
@@ -62,24 +62,20 @@ impl Drawing {
 
     /// A device went.
     fn unplugged(&mut self, column: u64, device: u8) -> Result<(), AllocError> {
-        self.picture.unplugs.push(column)?;
-        self.head_number(
+        self.picture.unplug(column);
+        self.picture.tell(
             Spot::head(Lane::Plugs, column),
             Sign::Unplug,
-            u64::from(device),
+            Side::Right,
+            Words::number(u64::from(device)),
         )
-    }
-
-    /// Puts a sign and a number at the head of a lane.
-    fn head_number(&mut self, spot: Spot, sign: Sign, number: u64) -> Result<(), AllocError> {
-        self.picture
-            .tell(spot, sign, Side::Right, Words::number(number))
     }
 
     /// A transfer is asked to end.
     fn asked(&mut self, column: u64, h: Name, n: u64) -> Result<(), AllocError> {
         let spot = Spot::head(Lane::of_handle(h), column);
-        self.head_number(spot, Sign::Ask, n)?;
+        self.picture
+            .tell(spot, Sign::Ask, Side::Right, Words::transfer(n))?;
         let Some(flight) = self.known.flight(h, n) else {
             return Ok(());
         };
@@ -90,9 +86,14 @@ impl Drawing {
         self.known.note_trace(flight.lane, trace)
     }
 
-    /// A callback gave its verdict.
+    /// A callback returned its verdict: its bar ends.
     fn answered(&mut self, column: u64, h: Name, n: u64) -> Result<(), AllocError> {
-        self.head_number(Spot::head(Lane::of_handle(h), column), Sign::Verdict, n)
+        let lane = Lane::of_handle(h);
+        let spot = match self.known.flight(h, n) {
+            Some(flight) => self.picture.end_bar(flight.bar, lane, column),
+            None => Spot::head(lane, column),
+        };
+        self.picture.mark(spot, Sign::Verdict)
     }
 
     /// A step is refused.
@@ -103,7 +104,8 @@ impl Drawing {
         why: Refused,
     ) -> Result<(), AllocError> {
         let spot = Spot::head(caller_lane(step), column);
-        self.head_number(spot, Sign::Refusal, u64::from(why.number()))
+        let words = Words::number(u64::from(why.number()));
+        self.picture.tell(spot, Sign::Refusal, Side::Right, words)
     }
 
     /// A step found nothing to do.
@@ -135,12 +137,16 @@ impl Drawing {
     /// A transfer is in the line of the endpoint of this lane.
     fn submitted(&mut self, column: u64, h: Name, n: u64, lane: Lane) -> Result<(), AllocError> {
         let own = Lane::of_handle(h);
-        let bar = self.picture.begin_bar(own, column)?;
-        let start = Spot::row(own, bar, column);
-        self.head_number(start, Sign::Submission, n)?;
+        let name = Words::Transfer(h.number(), n);
+        let bar = self.picture.begin_bar(own, name, column)?;
+        let start = Spot::at_bar(own, bar, column);
+        self.picture
+            .tell(start, Sign::Submission, Side::Right, Words::transfer(n))?;
         let arrival = Spot::head(lane, column);
         self.picture.join(start, arrival)?;
         self.picture.mark(arrival, Sign::Arrival)?;
+        let count = self.known.places(lane).count.saturating_add(1);
+        self.places(column, lane, count)?;
         let flight = Flight {
             lane,
             bar,
@@ -148,5 +154,14 @@ impl Drawing {
             halts: false,
         };
         self.known.note_flight(h, n, flight)
+    }
+
+    /// From this column on as many places of an endpoint are taken.
+    pub(crate) fn places(&mut self, column: u64, lane: Lane, count: u64) -> Result<(), AllocError> {
+        let before = self.known.places(lane).fill;
+        let fill = Some(self.picture.fill(before, lane, count, column)?);
+        self.known.note_places(lane, Taken { count, fill })?;
+        self.picture
+            .label(Spot::head(lane, column), Side::Foot, Words::Places(count))
     }
 }

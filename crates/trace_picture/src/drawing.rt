@@ -1,13 +1,14 @@
 //! A drawing, told of a run step by step.
 
-use crate::caption::Caption;
+use crate::form::Form;
+use crate::html::document;
 use crate::known::Known;
 use crate::paint::paint;
 use crate::picture::Picture;
 use std::alloc::{AllocError, Global};
-use usb_model::{Entry, Name, Reply, Step};
+use usb_model::{EndpointInfo, Entry, Name, Reply, Step};
 
-/// A picture of a run, as far as it was told.
+/// A picture of a run, or of a part of it, as far as it was told.
 #[derive(Drop)]
 pub struct Drawing {
     alloc: Global,
@@ -16,18 +17,29 @@ pub struct Drawing {
 }
 
 impl Drawing {
-    /// A drawing of no step.
-    pub fn new(alloc: Global) -> Drawing {
+    /// A drawing of no step, for those that stand in these lines of a scenario, the first and the last.
+    pub fn new(alloc: Global, from: u64, to: u64) -> Drawing {
         Drawing {
             alloc,
-            picture: Picture::new(alloc),
+            picture: Picture::new(alloc, from, to),
             known: Known::new(alloc),
         }
     }
 
-    /// Draws the next step of the run, and its entry. Without memory some of it is missing.
-    pub fn tell(&mut self, step: &Step, entry: &Entry) -> Result<(), AllocError> {
-        let column = self.picture.begin_column(Caption::of(step))?;
+    /// A device has this endpoint: its lane says so. To be told before the run.
+    pub fn tell_endpoint(&mut self, device: u8, info: &EndpointInfo) -> Result<(), AllocError> {
+        self.known.note_endpoint(device, info)
+    }
+
+    /// Draws the next step of the run and its entry, with the number and the text of the line that says it. Without memory some of it is missing.
+    pub fn tell(
+        &mut self,
+        line: u64,
+        text: &[u8],
+        step: &Step,
+        entry: &Entry,
+    ) -> Result<(), AllocError> {
+        let column = self.picture.begin_column(line, text, step, entry)?;
         match (&entry.reply, entry.owner) {
             (Reply::Done, _) => self.done(column, step),
             (Reply::Number(n), _) => self.numbered(column, step, *n),
@@ -53,19 +65,17 @@ impl Drawing {
         }
     }
 
-    /// How many columns there are: one for each step, and one for each Stop behind a submission that is refused.
+    /// How many columns it has: one for each step of its lines, and one for each Stop behind a submission that is refused.
     pub fn width(&self) -> u64 {
         self.picture.width()
     }
 
-    /// The picture, an SVG document.
-    pub fn page(&self) -> Result<String, AllocError> {
-        paint(self.alloc, &self.picture)
-    }
-
-    /// The columns from one number to another, both counted from 1, as a picture.
-    pub fn part(&self, from: u64, to: u64) -> Result<String, AllocError> {
-        let part = self.picture.part(self.alloc, from.saturating_sub(1), to)?;
-        paint(self.alloc, &part)
+    /// The picture alone, or a page that has it. Of a drawing with more than 2,000 columns the first 2,000 are there.
+    pub fn text(&self, form: Form) -> Result<String, AllocError> {
+        let picture = paint(self.alloc, &self.picture, &self.known)?;
+        match form {
+            Form::Picture => Ok(picture),
+            Form::Page => document(self.alloc, &self.picture, picture.as_str()),
+        }
     }
 }

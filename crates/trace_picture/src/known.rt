@@ -2,13 +2,22 @@
 //! each endpoint.
 
 use crate::lane::Lane;
-use crate::picture::Spot;
+use crate::spot::Spot;
 use std::alloc::{AllocError, Global};
 use std::collections::BTreeMap;
-use usb_model::{EpAddr, Name};
+use usb_model::{EndpointInfo, EpAddr, Kind, Name};
 
 /// The name of a transfer: its handle's number, and its own.
 type Transfer = (u8, u64);
+
+/// What a configuration says of an endpoint: its kind, and its packet size in bytes.
+#[derive(Clone, Copy)]
+pub struct Endpoint {
+    /// Its kind.
+    pub kind: Kind,
+    /// Its packet size.
+    pub packet_size: u16,
+}
 
 /// What is known of a transfer.
 #[derive(Clone, Copy)]
@@ -36,22 +45,51 @@ pub struct Trace {
     pub event: Option<usize>,
 }
 
+/// What is known of the places of an endpoint.
+#[derive(Clone, Copy)]
+pub struct Taken {
+    /// How many are taken.
+    pub count: u64,
+    /// Since when: the number of its time in the picture, if any.
+    pub fill: Option<usize>,
+}
+
 /// What is known.
 #[derive(Drop)]
 pub struct Known {
+    endpoints: BTreeMap<Lane, Endpoint>,
     devices: BTreeMap<u8, u8>,
     flights: BTreeMap<Transfer, Flight>,
     traces: BTreeMap<Lane, Trace>,
+    places: BTreeMap<Lane, Taken>,
 }
 
 impl Known {
     /// Nothing is known.
     pub fn new(alloc: Global) -> Known {
         Known {
+            endpoints: BTreeMap::new(alloc),
             devices: BTreeMap::new(alloc),
             flights: BTreeMap::new(alloc),
             traces: BTreeMap::new(alloc),
+            places: BTreeMap::new(alloc),
         }
+    }
+
+    /// The device of this number has this endpoint.
+    pub fn note_endpoint(&mut self, device: u8, info: &EndpointInfo) -> Result<(), AllocError> {
+        let lane = Lane::Endpoint(device, info.address.address());
+        let endpoint = Endpoint {
+            kind: info.kind,
+            packet_size: info.packet_size,
+        };
+        self.endpoints.insert(lane, endpoint)?;
+        Ok(())
+    }
+
+    /// What the configurations say of an endpoint.
+    pub fn endpoint(&self, lane: Lane) -> Option<Endpoint> {
+        self.endpoints.get(&lane).copied()
     }
 
     /// A handle opened the device of this number.
@@ -92,5 +130,20 @@ impl Known {
             event: None,
         };
         self.traces.get(&lane).copied().unwrap_or(unknown)
+    }
+
+    /// As many places of an endpoint are taken from now on.
+    pub fn note_places(&mut self, lane: Lane, taken: Taken) -> Result<(), AllocError> {
+        self.places.insert(lane, taken)?;
+        Ok(())
+    }
+
+    /// How many places of an endpoint are taken.
+    pub fn places(&self, lane: Lane) -> Taken {
+        let none = Taken {
+            count: 0,
+            fill: None,
+        };
+        self.places.get(&lane).copied().unwrap_or(none)
     }
 }

@@ -29,14 +29,14 @@ impl Lane {
         Lane::Endpoint(dev.number(), ep.address())
     }
 
-    /// Its name, as `h1`, or `0 81` for the endpoint 81 of device 0.
+    /// Its name, as `h1`, or `0:81` for the endpoint 81 of device 0.
     pub fn name(self) -> Words {
         match self {
             Lane::Plugs => Words::Text("plugs"),
             Lane::Handle(number) => Words::handle(number),
-            Lane::Endpoint(device, address) => Words::Endpoint("", device, address),
-            Lane::Commands => Words::Text("command"),
-            Lane::Events => Words::Text("event"),
+            Lane::Endpoint(device, address) => Words::Endpoint(device, address),
+            Lane::Commands => Words::Text("commands"),
+            Lane::Events => Words::Text("events"),
         }
     }
 
@@ -51,12 +51,20 @@ impl Lane {
         }
     }
 
-    /// The height of its head, where marks of no bar stand.
+    /// The height of its head, where signs of no bar stand.
     pub fn head(self) -> u64 {
         match self {
             Lane::Plugs | Lane::Handle(_) => 24,
             Lane::Endpoint(_, _) => 40,
             Lane::Commands | Lane::Events => 12,
+        }
+    }
+
+    /// The height of its foot, where the places of an endpoint are counted.
+    pub fn foot(self) -> u64 {
+        match self {
+            Lane::Endpoint(_, _) => 20,
+            _ => 6,
         }
     }
 

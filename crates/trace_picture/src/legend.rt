@@ -1,14 +1,14 @@
-//! The legend: what each sign and number means.
+//! The legend: what each sign, bar and number means.
 
-use crate::page::Page;
+use crate::svg::Svg;
 use crate::words::Words;
 use std::alloc::AllocError;
 
-/// The height of the legend.
-pub const HEIGHT: u64 = 148;
-
 /// The width of a place of the legend.
-const PLACE: u64 = 122;
+const PLACE: u64 = 102;
+
+/// The width of a place for a bar.
+const WIDE_PLACE: u64 = 164;
 
 /// The height of a line of the legend.
 const LINE: u64 = 20;
@@ -16,7 +16,7 @@ const LINE: u64 = 20;
 /// The left edge of the first place.
 const LEFT: u64 = 22;
 
-/// Signs by their names in the page, and their meanings: a status each.
+/// Signs by their names in the document, and their meanings: a status each.
 const STATUSES: [(&str, &str); 7] = [
     ("completed", "COMPLETED"),
     ("error", "ERROR"),
@@ -33,7 +33,7 @@ const CALLS: [(&str, &str); 7] = [
     ("arrival", "in its line"),
     ("call", "another call"),
     ("ask", "asked to end"),
-    ("verdict", "verdict"),
+    ("verdict", "returned"),
     ("refusal", "refused"),
     ("unplug", "unplugged"),
 ];
@@ -50,46 +50,118 @@ const TURNS: [(&str, &str); 8] = [
     ("idle", "nothing to do"),
 ];
 
-/// What bars and the numbers beside signs mean.
+/// Bars by their classes, and what they are.
+const BARS: [(&str, &str); 5] = [
+    ("transfer", "transfer, until called"),
+    ("callback", "callback, until returned"),
+    ("order", "order, until carried out"),
+    ("event", "event, until handled"),
+    ("places", "places taken, of 16"),
+];
+
+/// What the numbers beside signs mean.
 const NOTES: [&str; 3] = [
-    "bars: a transfer, from its submission to its callback; an order, until it is carried out; an event, from where it is posted until it is handled",
+    "above a column: the number of the scenario's line. #3: transfer 3 of its handle",
     "refused: 1 invalid parameter, 2 no device, 3 not found, 4 busy, 5 held elsewhere, 6 no memory, 7 not supported",
     "code: 1 success, 3 babble, 4 transaction error, 6 stall, 13 short packet, 26 stopped",
 ];
 
-/// A line of signs with their meanings.
-fn signs(
-    page: &mut Page,
+/// Where the next piece of the legend stands, in a document of this width.
+#[derive(Clone, Copy)]
+struct Pen {
+    width: u64,
+    x: u64,
     y: u64,
-    places: &[(&'static str, &'static str)],
+}
+
+impl Pen {
+    /// Goes to the next line.
+    fn next_line(&mut self) {
+        self.x = LEFT;
+        self.y = self.y.saturating_add(LINE);
+    }
+
+    /// Gives the next place of this width, in the next line where this one has no room for it.
+    fn place(&mut self, wide: u64) -> (u64, u64) {
+        if self.x.saturating_add(wide) > self.width {
+            self.next_line();
+        }
+        let at = (self.x, self.y);
+        self.x = self.x.saturating_add(wide);
+        at
+    }
+}
+
+/// Words to the right of a place.
+fn meaning(
+    svg: &mut Svg,
+    at: (u64, u64),
+    right: u64,
+    words: &'static str,
 ) -> Result<(), AllocError> {
-    let mut x = LEFT;
-    for (id, meaning) in places {
-        page.shape(id, (x, y))?;
-        page.words(
-            "meaning",
-            (x.saturating_add(12), y.saturating_add(4)),
-            Words::Text(meaning),
-        )?;
-        x = x.saturating_add(PLACE);
+    let (x, y) = at;
+    let at = (x.saturating_add(right), y.saturating_add(4));
+    svg.words("meaning", at, Words::Text(words))
+}
+
+/// Signs with their meanings.
+fn signs(
+    svg: &mut Svg,
+    pen: &mut Pen,
+    signs: &[(&'static str, &'static str)],
+) -> Result<(), AllocError> {
+    pen.next_line();
+    for (id, words) in signs {
+        let at = pen.place(PLACE);
+        svg.shape(id, at)?;
+        meaning(svg, at, 12, words)?;
     }
     Ok(())
 }
 
-/// The legend, below this height.
-pub fn legend(page: &mut Page, top: u64) -> Result<(), AllocError> {
-    let mut y = top.saturating_add(LINE);
-    for places in [STATUSES.as_slice(), CALLS.as_slice(), TURNS.as_slice()] {
-        signs(page, y, places)?;
-        y = y.saturating_add(LINE);
-    }
-    for words in NOTES {
-        page.words(
-            "faint",
-            (LEFT.saturating_sub(6), y.saturating_add(4)),
-            Words::Text(words),
-        )?;
-        y = y.saturating_add(LINE);
+/// Bars with their meanings.
+fn bars(svg: &mut Svg, pen: &mut Pen) -> Result<(), AllocError> {
+    pen.next_line();
+    for (class, words) in BARS {
+        let (x, y) = pen.place(WIDE_PLACE);
+        let corner = (x.saturating_sub(8), y.saturating_sub(5));
+        svg.block(class, corner, (22, 10))?;
+        meaning(svg, (x, y), 20, words)?;
     }
     Ok(())
+}
+
+/// The legend, below this height, in a document of this width.
+pub fn legend(svg: &mut Svg, top: u64, width: u64) -> Result<(), AllocError> {
+    let mut pen = Pen {
+        width,
+        x: LEFT,
+        y: top,
+    };
+    for some in [STATUSES.as_slice(), CALLS.as_slice(), TURNS.as_slice()] {
+        signs(svg, &mut pen, some)?;
+    }
+    bars(svg, &mut pen)?;
+    for words in NOTES {
+        pen.next_line();
+        let at = (LEFT.saturating_sub(8), pen.y.saturating_add(4));
+        svg.words("hint", at, Words::Text(words))?;
+    }
+    Ok(())
+}
+
+/// How many lines so many pieces of one width take.
+fn lines(width: u64, count: usize, wide: u64) -> u64 {
+    let in_line = width.saturating_sub(LEFT).div_euclid(wide.max(1)).max(1);
+    (count as u64).div_ceil(in_line)
+}
+
+/// The height of the legend in a document of this width.
+pub fn height(width: u64) -> u64 {
+    let lines = lines(width, STATUSES.len(), PLACE)
+        .saturating_add(lines(width, CALLS.len(), PLACE))
+        .saturating_add(lines(width, TURNS.len(), PLACE))
+        .saturating_add(lines(width, BARS.len(), WIDE_PLACE))
+        .saturating_add(NOTES.len() as u64);
+    lines.saturating_add(1).saturating_mul(LINE)
 }

@@ -1,167 +1,120 @@
-//! What is to be drawn: columns, bars, marks, joins and labels, each at its lane and column.
+//! What is to be drawn: columns with their signs, words and lines, and what lasts across columns.
 
-use crate::caption::Caption;
+use crate::bar::{Bar, Fill};
+use crate::column::Column;
 use crate::lane::Lane;
 use crate::sign::Sign;
+use crate::spot::{Join, Label, Mark, Side, Spot};
 use crate::words::Words;
 use std::alloc::{AllocError, Global};
-use std::collections::BTreeSet;
+use usb_model::{Entry, Step};
 
-/// A place in the picture.
-#[derive(Clone, Copy)]
-pub struct Spot {
-    /// Its lane.
-    pub lane: Lane,
-    /// The bar in whose row it is, if any; else it is at the lane's head.
-    pub bar: Option<usize>,
-    /// Its column.
-    pub column: u64,
-}
+/// How many columns are kept at most: the others are counted.
+const MOST_KEPT: usize = 2_000;
 
-/// Something that lasts: a transfer, an order or an event.
-#[derive(Clone, Copy)]
-pub struct Bar {
-    /// Its lane.
-    pub lane: Lane,
-    /// The column in which it begins.
-    pub from: u64,
-    /// The column in which it ends; None while it lasts.
-    pub to: Option<u64>,
-}
-
-/// A sign at a place.
-#[derive(Clone, Copy)]
-pub struct Mark {
-    /// Where.
-    pub spot: Spot,
-    /// Which.
-    pub sign: Sign,
-}
-
-/// What belongs together within a column.
-#[derive(Clone, Copy)]
-pub struct Join {
-    /// Where it comes from.
-    pub from: Spot,
-    /// Where it leads to.
-    pub to: Spot,
-}
-
-/// Where a label stands, seen from its place.
-#[derive(Clone, Copy)]
-pub enum Side {
-    /// To the right, at the same height.
-    Right,
-    /// To the right, above.
-    Above,
-    /// To the right, below.
-    Below,
-    /// To the left, at the same height.
-    Left,
-}
-
-/// Words at a place.
-#[derive(Clone, Copy)]
-pub struct Label {
-    /// Where.
-    pub spot: Spot,
-    /// On which side.
-    pub side: Side,
-    /// The words.
-    pub words: Words,
-}
-
-/// All that is drawn.
+/// All that is drawn. Columns are numbered through the whole run, but kept only where their lines are drawn.
 #[derive(Drop)]
 pub struct Picture {
-    /// The lanes that occur.
-    pub lanes: BTreeSet<Lane>,
-    /// What stands below each column.
-    pub captions: Vec<Caption>,
+    alloc: Global,
+    /// The first line of the scenario that is drawn.
+    from: u64,
+    /// The last that is drawn.
+    to: u64,
+    /// How many columns the run has so far.
+    told: u64,
+    /// How many of them are drawn.
+    width: u64,
+    /// How many stand before the first that is drawn.
+    pub first: u64,
+    /// Those that are drawn.
+    pub columns: Vec<Column>,
     /// What lasts.
     pub bars: Vec<Bar>,
-    /// The signs.
-    pub marks: Vec<Mark>,
-    /// The lines between signs.
-    pub joins: Vec<Join>,
-    /// The labels.
-    pub labels: Vec<Label>,
-    /// The columns in which a device went.
-    pub unplugs: Vec<u64>,
-    /// How many columns of the run stand before the first.
-    pub first: u64,
-}
-
-impl Spot {
-    /// The row of a bar.
-    pub fn row(lane: Lane, bar: usize, column: u64) -> Spot {
-        Spot {
-            lane,
-            bar: Some(bar),
-            column,
-        }
-    }
-
-    /// The head of a lane.
-    pub fn head(lane: Lane, column: u64) -> Spot {
-        Spot {
-            lane,
-            bar: None,
-            column,
-        }
-    }
+    /// How many places of endpoints are taken.
+    pub fills: Vec<Fill>,
 }
 
 impl Picture {
-    /// An empty picture.
-    pub fn new(alloc: Global) -> Picture {
+    /// An empty picture, of these lines of a scenario.
+    pub fn new(alloc: Global, from: u64, to: u64) -> Picture {
         Picture {
-            lanes: BTreeSet::new(alloc),
-            captions: Vec::new(alloc),
-            bars: Vec::new(alloc),
-            marks: Vec::new(alloc),
-            joins: Vec::new(alloc),
-            labels: Vec::new(alloc),
-            unplugs: Vec::new(alloc),
+            alloc,
+            from,
+            to,
+            told: 0,
+            width: 0,
             first: 0,
+            columns: Vec::new(alloc),
+            bars: Vec::new(alloc),
+            fills: Vec::new(alloc),
         }
     }
 
-    /// This lane occurs.
-    fn add_lane(&mut self, lane: Lane) -> Result<(), AllocError> {
-        self.lanes.insert(lane)?;
+    /// How many columns are to be drawn.
+    pub fn width(&self) -> u64 {
+        self.width
+    }
+
+    /// Begins the column of a step of this line, and gives its number.
+    pub fn begin_column(
+        &mut self,
+        line: u64,
+        text: &[u8],
+        step: &Step,
+        entry: &Entry,
+    ) -> Result<u64, AllocError> {
+        let number = self.told;
+        self.told = self.told.saturating_add(1);
+        if line < self.from {
+            self.first = self.told;
+        } else if line <= self.to {
+            self.keep(line, text, step, entry)?;
+        }
+        Ok(number)
+    }
+
+    /// Keeps a column that is drawn, while there is room.
+    fn keep(
+        &mut self,
+        line: u64,
+        text: &[u8],
+        step: &Step,
+        entry: &Entry,
+    ) -> Result<(), AllocError> {
+        self.width = self.width.saturating_add(1);
+        if self.columns.len() < MOST_KEPT {
+            let column = Column::new(self.alloc, line, text, step, entry)?;
+            self.columns.push(column)?;
+        }
         Ok(())
     }
 
-    /// Begins a column with this caption, and gives its number.
-    pub fn begin_column(&mut self, caption: Caption) -> Result<u64, AllocError> {
-        let column = self.width();
-        self.add_lane(Lane::Commands)?;
-        self.add_lane(Lane::Events)?;
-        self.captions.push(caption)?;
-        Ok(column)
-    }
-
-    /// How many columns there are.
-    pub fn width(&self) -> u64 {
-        self.captions.len() as u64
+    /// A column by its number, if it is kept.
+    fn column(&mut self, number: u64) -> Option<&mut Column> {
+        let index = number.checked_sub(self.first)?;
+        let index = usize::try_from(index).ok()?;
+        self.columns.get_mut(index)
     }
 
     /// Begins a bar, and gives its number.
-    pub fn begin_bar(&mut self, lane: Lane, from: u64) -> Result<usize, AllocError> {
-        self.add_bar(Bar {
+    pub fn begin_bar(&mut self, lane: Lane, name: Words, from: u64) -> Result<usize, AllocError> {
+        let number = self.bars.len();
+        self.bars.push(Bar {
             lane,
+            name,
             from,
+            called: None,
             to: None,
-        })
+        })?;
+        Ok(number)
     }
 
-    /// Adds a bar, and gives its number.
-    pub fn add_bar(&mut self, bar: Bar) -> Result<usize, AllocError> {
-        let number = self.bars.len();
-        self.add_lane(bar.lane)?;
-        self.bars.push(bar)?;
-        Ok(number)
+    /// A transfer's callback is called: its bar goes on as the callback's. Gives the place.
+    pub fn call_bar(&mut self, number: usize, lane: Lane, column: u64) -> Spot {
+        if let Some(bar) = self.bars.get_mut(number) {
+            bar.called = Some(column);
+        }
+        Spot::at_bar(lane, number, column)
     }
 
     /// Ends a bar, and gives its place in that column.
@@ -169,7 +122,7 @@ impl Picture {
         if let Some(bar) = self.bars.get_mut(number) {
             bar.to = Some(column);
         }
-        Spot::row(lane, number, column)
+        Spot::at_bar(lane, number, column)
     }
 
     /// How many columns a bar has lasted at this one.
@@ -180,23 +133,57 @@ impl Picture {
         }
     }
 
+    /// From this column on as many places of an endpoint are taken. Ends the time before, if any, and gives the number of the new one.
+    pub fn fill(
+        &mut self,
+        before: Option<usize>,
+        lane: Lane,
+        count: u64,
+        column: u64,
+    ) -> Result<usize, AllocError> {
+        if let Some(number) = before {
+            if let Some(fill) = self.fills.get_mut(number) {
+                fill.to = Some(column);
+            }
+        }
+        let number = self.fills.len();
+        self.fills.push(Fill {
+            lane,
+            count,
+            from: column,
+            to: None,
+        })?;
+        Ok(number)
+    }
+
+    /// A device goes in this column.
+    pub fn unplug(&mut self, number: u64) {
+        if let Some(column) = self.column(number) {
+            column.unplugs = true;
+        }
+    }
+
     /// Puts a sign at a place.
     pub fn mark(&mut self, spot: Spot, sign: Sign) -> Result<(), AllocError> {
-        self.add_lane(spot.lane)?;
-        self.marks.push(Mark { spot, sign })?;
+        if let Some(column) = self.column(spot.column) {
+            column.marks.push(Mark { spot, sign })?;
+        }
         Ok(())
     }
 
-    /// Draws a line from a place to another.
+    /// Draws a line from a place to another of the same column.
     pub fn join(&mut self, from: Spot, to: Spot) -> Result<(), AllocError> {
-        self.add_lane(to.lane)?;
-        self.joins.push(Join { from, to })?;
+        if let Some(column) = self.column(from.column) {
+            column.joins.push(Join { from, to })?;
+        }
         Ok(())
     }
 
     /// Puts words beside a place.
     pub fn label(&mut self, spot: Spot, side: Side, words: Words) -> Result<(), AllocError> {
-        self.labels.push(Label { spot, side, words })?;
+        if let Some(column) = self.column(spot.column) {
+            column.labels.push(Label { spot, side, words })?;
+        }
         Ok(())
     }
 

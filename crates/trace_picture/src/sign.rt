@@ -39,7 +39,7 @@ pub enum Sign {
     Called(Status),
 }
 
-/// The name of the sign of a status in the page.
+/// The name of the sign of a status in the document.
 fn status_id(status: Status) -> &'static str {
     match status {
         Status::Completed => "completed",
@@ -53,7 +53,7 @@ fn status_id(status: Status) -> &'static str {
 }
 
 impl Sign {
-    /// Its name in the page.
+    /// Its name in the document.
     pub fn id(self) -> &'static str {
         match self {
             Sign::Submission => "submission",

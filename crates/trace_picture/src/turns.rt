@@ -3,8 +3,8 @@
 use crate::drawing::Drawing;
 use crate::known::{Flight, Trace};
 use crate::lane::Lane;
-use crate::picture::{Side, Spot};
 use crate::sign::Sign;
+use crate::spot::{Side, Spot};
 use crate::words::Words;
 use std::alloc::AllocError;
 use usb_model::completion::halts;
@@ -24,7 +24,8 @@ fn served(step: &Step, column: u64) -> Option<Spot> {
 impl Drawing {
     /// Puts a sign at the lane of an endpoint, and the transfer's number above it.
     fn packet(&mut self, spot: Spot, sign: Sign, n: u64) -> Result<(), AllocError> {
-        self.picture.tell(spot, sign, Side::Above, Words::number(n))
+        self.picture
+            .tell(spot, sign, Side::Above, Words::transfer(n))
     }
 
     /// The device wasn't ready.
@@ -69,7 +70,7 @@ impl Drawing {
             Side::Below,
             Words::Numbered("code ", u64::from(code), ""),
         )?;
-        let event = self.posted(spot)?;
+        let event = self.posted(spot, Words::Transfer(h.number(), n))?;
         let flight = Flight {
             event: Some(event),
             halts: halts(code),
@@ -79,30 +80,41 @@ impl Drawing {
     }
 
     /// Begins the bar of an order or an event in the lane of its ring, and joins it to the place where it comes from.
-    fn begun(&mut self, lane: Lane, from: Spot) -> Result<usize, AllocError> {
-        let bar = self.picture.begin_bar(lane, from.column)?;
-        self.picture.join(from, Spot::row(lane, bar, from.column))?;
+    fn begun(&mut self, lane: Lane, name: Words, from: Spot) -> Result<usize, AllocError> {
+        let bar = self.picture.begin_bar(lane, name, from.column)?;
+        self.picture
+            .join(from, Spot::at_bar(lane, bar, from.column))?;
         Ok(bar)
     }
 
     /// Begins the bar of an event that is posted from a place.
-    fn posted(&mut self, from: Spot) -> Result<usize, AllocError> {
-        self.begun(Lane::Events, from)
+    fn posted(&mut self, from: Spot, name: Words) -> Result<usize, AllocError> {
+        self.begun(Lane::Events, name, from)
     }
 
     /// The bar of an event: this one, where there is one.
-    fn event_bar(&mut self, known: Option<usize>, column: u64) -> Result<usize, AllocError> {
+    fn event_bar(
+        &mut self,
+        known: Option<usize>,
+        name: Words,
+        column: u64,
+    ) -> Result<usize, AllocError> {
         match known {
             Some(event) => Ok(event),
-            None => self.picture.begin_bar(Lane::Events, column),
+            None => self.picture.begin_bar(Lane::Events, name, column),
         }
     }
 
     /// The bar of an order that is carried out in this column, from where it was ordered.
-    fn order_bar(&mut self, cause: Option<Spot>, column: u64) -> Result<usize, AllocError> {
+    fn order_bar(
+        &mut self,
+        cause: Option<Spot>,
+        name: Words,
+        column: u64,
+    ) -> Result<usize, AllocError> {
         match cause {
-            Some(cause) => self.begun(Lane::Commands, cause),
-            None => self.picture.begin_bar(Lane::Commands, column),
+            Some(cause) => self.begun(Lane::Commands, name, cause),
+            None => self.picture.begin_bar(Lane::Commands, name, column),
         }
     }
 
@@ -121,10 +133,11 @@ impl Drawing {
             Errand::Stop => trace.asked,
             Errand::Reset | Errand::Move => trace.handled,
         };
-        let order = self.order_bar(cause, column)?;
+        let name = Words::Errand(errand, ep.address());
+        let order = self.order_bar(cause, name, column)?;
         let spot = self.picture.end_bar(order, Lane::Commands, column);
-        self.outcome(spot, ep, errand, ok)?;
-        let event = self.posted(spot)?;
+        self.outcome(spot, name, ok)?;
+        let event = self.posted(spot, name)?;
         let trace = Trace {
             ran: Some(spot),
             event: Some(event),
@@ -133,17 +146,10 @@ impl Drawing {
         self.known.note_trace(lane, trace)
     }
 
-    /// Puts the sign of an outcome at a place, and the errand and its endpoint beside it.
-    fn outcome(
-        &mut self,
-        spot: Spot,
-        ep: EpAddr,
-        errand: Errand,
-        ok: bool,
-    ) -> Result<(), AllocError> {
+    /// Puts the sign of an outcome at a place, and the order's name beside it.
+    fn outcome(&mut self, spot: Spot, name: Words, ok: bool) -> Result<(), AllocError> {
         let sign = if ok { Sign::Success } else { Sign::Failure };
-        let words = Words::Errand(errand, ep.address());
-        self.picture.tell(spot, sign, Side::Right, words)
+        self.picture.tell(spot, sign, Side::Right, name)
     }
 
     /// The event of an order was handled.
@@ -157,9 +163,10 @@ impl Drawing {
     ) -> Result<(), AllocError> {
         let lane = self.known.lane(h, ep);
         let trace = self.known.trace(lane);
-        let event = self.event_bar(trace.event, column)?;
+        let name = Words::Errand(errand, ep.address());
+        let event = self.event_bar(trace.event, name, column)?;
         let spot = self.picture.end_bar(event, Lane::Events, column);
-        self.outcome(spot, ep, errand, ok)?;
+        self.outcome(spot, name, ok)?;
         let trace = Trace {
             asked: None,
             handled: Some(spot),
@@ -175,12 +182,10 @@ impl Drawing {
         event: usize,
         column: u64,
         sign: Sign,
-        h: Name,
-        n: u64,
+        name: Words,
     ) -> Result<Spot, AllocError> {
         let spot = self.picture.end_bar(event, Lane::Events, column);
-        let words = Words::OfHandle(h.number(), n);
-        self.picture.tell(spot, sign, Side::Right, words)?;
+        self.picture.tell(spot, sign, Side::Right, name)?;
         Ok(spot)
     }
 
@@ -189,8 +194,9 @@ impl Drawing {
         let Some(flight) = self.known.flight(h, n) else {
             return Ok(());
         };
-        let event = self.event_bar(flight.event, column)?;
-        let spot = self.handled(event, column, Sign::Finished, h, n)?;
+        let name = Words::Transfer(h.number(), n);
+        let event = self.event_bar(flight.event, name, column)?;
+        let spot = self.handled(event, column, Sign::Finished, name)?;
         if !flight.halts {
             return Ok(());
         }
@@ -206,21 +212,26 @@ impl Drawing {
         let Some(flight) = self.known.flight(h, n) else {
             return Ok(());
         };
+        let name = Words::Transfer(h.number(), n);
         let event = match self.known.trace(flight.lane).ran {
-            Some(ran) => self.posted(ran)?,
-            None => self.picture.begin_bar(Lane::Events, column)?,
+            Some(ran) => self.posted(ran, name)?,
+            None => self.picture.begin_bar(Lane::Events, name, column)?,
         };
-        self.handled(event, column, Sign::Paused, h, n)?;
+        self.handled(event, column, Sign::Paused, name)?;
         Ok(())
     }
 
-    /// A callback is called.
+    /// A callback is called, and frees a place of the endpoint.
     pub(crate) fn called(&mut self, column: u64, returned: &Returned) -> Result<(), AllocError> {
         let (h, n, actual) = (returned.h, returned.n, returned.actual);
         let Some(flight) = self.known.flight(h, n) else {
             return Ok(());
         };
-        let spot = self.picture.end_bar(flight.bar, Lane::of_handle(h), column);
+        let count = self.known.places(flight.lane).count.saturating_sub(1);
+        self.places(column, flight.lane, count)?;
+        let spot = self
+            .picture
+            .call_bar(flight.bar, Lane::of_handle(h), column);
         let (sign, words) = (
             Sign::Called(returned.status),
             Words::bytes(u64::from(actual)),
@@ -229,6 +240,6 @@ impl Drawing {
         if self.picture.age(flight.bar, column) < LONG {
             return Ok(());
         }
-        self.picture.label(spot, Side::Left, Words::number(n))
+        self.picture.label(spot, Side::Left, Words::transfer(n))
     }
 }

@@ -1,7 +1,8 @@
-//! Words: what is written beside a sign, below a column, or anywhere else in the page.
+//! Words: what is written beside a sign, below a column, or anywhere else in a picture.
 
 use std::alloc::AllocError;
 use usb_model::Errand;
+use usb_model::limits::MOST_PLACES;
 
 /// Words. Texts are this crate's own, without the characters that XML reserves.
 #[derive(Clone, Copy)]
@@ -10,11 +11,17 @@ pub enum Words {
     Text(&'static str),
     /// A number, and what stands before and behind it.
     Numbered(&'static str, u64, &'static str),
-    /// The number of a handle, and that of something of it.
+    /// The number of a handle, and that of something of it: `h1 0`.
     OfHandle(u8, u64),
-    /// A number and what stands before it, and the address of an endpoint.
-    Endpoint(&'static str, u8, u8),
-    /// An errand, and the address of its endpoint.
+    /// The number of a handle, and that of a transfer of it: `h1 #0`.
+    Transfer(u8, u64),
+    /// The number of a handle, and the address of an endpoint: `h1 81`.
+    HandleEndpoint(u8, u8),
+    /// The number of a device, and the address of an endpoint of it: `0:81`.
+    Endpoint(u8, u8),
+    /// How many places of an endpoint are taken.
+    Places(u64),
+    /// An errand, and the address of its endpoint: `stop 81`.
     Errand(Errand, u8),
 }
 
@@ -22,6 +29,11 @@ impl Words {
     /// A number alone.
     pub fn number(n: u64) -> Words {
         Words::Numbered("", n, "")
+    }
+
+    /// The number of a transfer.
+    pub fn transfer(n: u64) -> Words {
+        Words::Numbered("#", n, "")
     }
 
     /// So many bytes.
@@ -34,13 +46,24 @@ impl Words {
         Words::Numbered("h", u64::from(h), "")
     }
 
+    /// Whether they say that no place of an endpoint is free.
+    pub fn is_full(self) -> bool {
+        match self {
+            Words::Places(count) => count >= MOST_PLACES as u64,
+            _ => false,
+        }
+    }
+
     /// Writes them behind a text.
     pub fn write(self, text: &mut String) -> Result<(), AllocError> {
         match self {
             Words::Text(words) => text.push_str(words),
             Words::Numbered(before, n, behind) => write!(text, "{before}{n}{behind}"),
             Words::OfHandle(h, n) => write!(text, "h{h} {n}"),
-            Words::Endpoint(before, n, ep) => write!(text, "{before}{n} {ep:02x}"),
+            Words::Transfer(h, n) => write!(text, "h{h} #{n}"),
+            Words::HandleEndpoint(h, ep) => write!(text, "h{h} {ep:02x}"),
+            Words::Endpoint(device, ep) => write!(text, "{device}:{ep:02x}"),
+            Words::Places(count) => write!(text, "{count}"),
             Words::Errand(errand, ep) => write!(text, "{errand} {ep:02x}"),
         }
     }
