@@ -20,6 +20,8 @@
 //!   definitions say of it alone over its own steps, and what a world of its own gives over these; and the two lists
 //!   are the same
 //!
+//! - `PlanRun`: the same piece by piece, for whoever looks at the system between them
+//!
 //! No public call of `plain_run` has a precondition.
 //!
 //! The specs/, and those of `plain_system`, are the program's own words: docs/MODEL.md, "The plain program".
@@ -32,4 +34,4 @@ mod rule_book;
 
 pub use comparison::{Comparison, alone};
 pub use journal::{Stopped, run};
-pub use plan_run::{drive, drive_alone};
+pub use plan_run::{PlanRun, drive, drive_alone};

@@ -116,7 +116,7 @@ impl PlanRun {
     }
 
     /// The verdict of a transfer that returns from its callback.
-    fn verdict_of(&self, h: Name, n: u64) -> Verdict
+    pub fn verdict_of(&self, h: Name, n: u64) -> Verdict
         ensures { result ≡ verdict_by (callback_of n (handle_at self.now.system.names h).in_callbacks) (book_at self.now.book h n) }
     {
         let rule = self.book.get(h, n);
@@ -185,7 +185,7 @@ impl PlanRun {
 impl PlanRun {
     /// No number was given; steps are kept behind these, where there are any.
     #[tactic(auto, unfolding(usb_model::specs::World::Plans::expand_from))]
-    fn new(
+    pub fn new(
         alloc: Global,
         setup: &Setup,
         made: Option<Sequence<Step>>,
@@ -200,8 +200,8 @@ impl PlanRun {
         })
     }
 
-    /// A piece of a plan.
-    fn perform(
+    /// A piece of a plan. Where no memory is found, the entries are those of a beginning of its steps.
+    pub fn perform(
         &mut self,
         alloc: Global,
         setup: &Setup,

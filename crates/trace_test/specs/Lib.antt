@@ -1,0 +1,4 @@
+pub mod Comparison
+pub mod Expanded
+pub mod Expected
+pub mod Tests

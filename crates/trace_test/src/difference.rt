@@ -1,0 +1,23 @@
+//! Where a test differs.
+
+use usb_model::Bytes;
+
+/// A line that expects something else than there is.
+#[derive(Drop)]
+pub struct Difference {
+    /// Its number, from 1.
+    pub line: u64,
+    /// What it expects.
+    pub wanted: Bytes,
+    /// What there is; `NOTHING` where there is nothing.
+    pub got: Bytes,
+}
+
+/// What came of a test.
+#[derive(Drop)]
+pub enum Outcome {
+    /// Each line that expects something found it.
+    Passed,
+    /// This is the first that didn't.
+    Differs(Difference),
+}

@@ -1,0 +1,151 @@
+//! A test, and what came of it.
+
+ghost use Rattle.std.specs.Prelude.{◌≡◌, ◌++◌, [], IfErr, IfOk, length, map};
+ghost use Rattle.trace_test.specs.declared.difference.Outcome.TheVariants.{Differs};
+ghost use Rattle.trace_io.specs.Faults.{IsOfRun};
+ghost use Rattle.trace_scenario.specs.StepLines.{numbered};
+ghost use Rattle.trace_scenario.specs.Runnable.{IsRunnable};
+ghost use Rattle.trace_run.specs.Stepwise.{stepwise_text};
+ghost use Rattle.trace_run.specs.Tasks.{left_lines};
+ghost use Rattle.trace_test.specs.Comparison.{difference_from, texts_of};
+ghost use Rattle.trace_test.specs.Expanded.{lines_in, origin_of};
+ghost use Rattle.trace_test.specs.Tests.{IsOfTest, IsOutcome, outcome_by, outcome_text};
+
+use crate::difference::{Difference, Outcome};
+use crate::expanded::{Expanded, expand};
+use crate::unmet::Unmet;
+use std::alloc::{AllocError, Global};
+use trace_io::Fault;
+use trace_run::{print_left, print_steps};
+use trace_scenario::{Lined, NumberedLine, Scenario, TextFault, read_lined, read_scenario};
+
+/// For each step's line of the scenario, the number of the line of the test that it comes from, and no text.
+fn origin_lines<'a>(
+    alloc: Global,
+    expanded: &Expanded,
+    lines: &[NumberedLine<'_>],
+) -> Result<Vec<NumberedLine<'a>>, AllocError>
+    ensures { IfOk result (λ origins. map numbered origins.items ≡ map (λ line. (origin_of expanded.now line.0, [])) (map numbered lines.now)) }
+{
+    let mut origins = Vec::new(alloc);
+    for line in lines {
+        origins.push(NumberedLine {
+            number: expanded.origin(line.number),
+            text: b"",
+        })?;
+    }
+    Ok(origins)
+}
+
+/// What the run of a scenario prints, each entry behind the number of a line.
+fn printed(alloc: Global, scenario: Scenario, lines: &[NumberedLine<'_>]) -> Result<Vec<u8>, Fault>
+    requires runnable { IsRunnable scenario }
+    requires each { length lines.now ≡ length scenario.plan }
+    ensures printed { IfOk result (λ out. out.items ≡ stepwise_text scenario.setup scenario.plan scenario.rules (map numbered lines.now)) }
+    ensures fault { IfErr result (λ fault. IsOfRun fault) }
+{
+    let mut out = Vec::new(alloc);
+    print_steps(alloc, scenario, lines, &mut out)?;
+    Ok(out)
+}
+
+/// What the run of a scenario leaves.
+fn left(alloc: Global, scenario: Scenario) -> Result<Vec<u8>, Fault>
+    requires { IsRunnable scenario }
+    ensures left { IfOk result (λ out. out.items ≡ left_lines scenario) }
+    ensures fault { IfErr result (λ fault. IsOfRun fault) }
+{
+    let mut out = Vec::new(alloc);
+    print_left(alloc, scenario, &mut out)?;
+    Ok(out)
+}
+
+/// The lines of a text.
+fn lines_in(alloc: Global, text: &[u8]) -> Result<Vec<&[u8]>, AllocError>
+    ensures { IfOk result (λ lines. texts_of lines.items ≡ lines_in text.now) }
+{
+    text.split(|byte| *byte == b'\n').collect(alloc)
+}
+
+/// The first line of a text that differs.
+fn difference(
+    alloc: Global,
+    text: &[u8],
+    unmet: &mut Unmet<'_>,
+) -> Result<Option<Difference>, AllocError>
+    ensures { IfOk result (λ d. d ≡ difference_from 1 (lines_in text.now) unmet.old) }
+{
+    let mut at: u64 = 0;
+    for line in text.split(|byte| *byte == b'\n') {
+        at = at.saturating_add(1);
+        if let Some(difference) = unmet.compare(alloc, at, line)? {
+            return Ok(Some(difference));
+        }
+    }
+    Ok(None)
+}
+
+/// What came of a test whose run printed and left this.
+fn outcome(alloc: Global, text: &[u8], printed: &[u8], left: &[u8]) -> Result<Outcome, AllocError>
+    ensures { IfOk result (λ o. o ≡ outcome_by (difference_from 1 (lines_in text.now) (record { of = 0; printed = lines_in printed.now; left = lines_in left.now }))) }
+{
+    let (printed, left) = (lines_in(alloc, printed)?, lines_in(alloc, left)?);
+    let mut unmet = Unmet::new(printed.as_slice(), left.as_slice());
+    match difference(alloc, text, &mut unmet)? {
+        None => Ok(Outcome::Passed),
+        Some(difference) => Ok(Outcome::Differs(difference)),
+    }
+}
+
+/// Runs a test: what came of it. A fault where a line is bad, by its number in the test, or memory is refused.
+pub fn test(alloc: Global, text: &[u8]) -> Result<Outcome, Fault>
+    ensures outcome { IfOk result (IsOutcome text.now) }
+    ensures fault { IfErr result (IsOfTest text.now) }
+{
+    let expanded = expand(alloc, text)?;
+    let Lined {
+        scenario,
+        lines,
+        ..
+    } = match read_lined(alloc, expanded.text.as_slice()) {
+        Ok(read) => read,
+        Err(TextFault::Line(line)) => return Err(Fault::Line(expanded.origin(line))),
+        Err(TextFault::Memory) => return Err(Fault::Memory),
+    };
+    let Ok(again) = read_scenario(alloc, expanded.text.as_slice()) else {
+        return Err(Fault::Memory);
+    };
+    let origins = origin_lines(alloc, &expanded, lines.as_slice())?;
+    let printed = printed(alloc, scenario, origins.as_slice())?;
+    let left = left(alloc, again)?;
+    Ok(outcome(alloc, text, printed.as_slice(), left.as_slice())?)
+}
+
+/// The text of what came of a test. An error where memory is refused.
+pub fn report(alloc: Global, outcome: &Outcome) -> Result<Vec<u8>, AllocError>
+    ensures { IfOk result (λ text. text.items ≡ outcome_text outcome.now) }
+{
+    let mut text = Vec::new(alloc);
+    match outcome {
+        Outcome::Passed => text.extend_from_slice(b"passed\n")?,
+        Outcome::Differs(d) => put_difference(alloc, &mut text, d)?,
+    }
+    Ok(text)
+}
+
+/// Puts the text of a difference behind another.
+fn put_difference(
+    alloc: Global,
+    text: &mut Vec<u8>,
+    difference: &Difference,
+) -> Result<(), AllocError>
+    ensures { IfOk result (λ _. text.new.items ≡ text.old.items ++ outcome_text (Differs difference.now)) }
+{
+    let front = format!(in alloc; "line {} differs\n  wanted ", difference.line)?;
+    text.extend_from_slice(front.as_bytes())?;
+    text.extend_from_slice(difference.wanted.as_slice())?;
+    text.extend_from_slice(b"\n  got    ")?;
+    text.extend_from_slice(difference.got.as_slice())?;
+    text.push(b'\n')?;
+    Ok(())
+}
