@@ -1,6 +1,6 @@
 -- The command line: what its words say.
-use Rattle.std.proofs.Common.{◌≡◌, ◌⊎◌, ◌∙◌, ℕ, Bool, true, false, List, [], ◌∷◌, Option, Some, None, is_some, refl, sym, ap, ap₂, subst, inl, inr, rules, codes}
-use Rattle.std.specs.Prelude.{◌&&◌, Box, find, not, option_map, unwrap_or}
+use Rattle.std.proofs.Common.{◌≡◌, ◌⊎◌, ◌∙◌, ℕ, Bool, Result, Ok, Err, true, false, List, [], ◌∷◌, Option, Some, None, is_some, refl, sym, ap, ap₂, subst, inl, inr, rules, codes}
+use Rattle.std.specs.Prelude.{◌&&◌, Box, IsErrAnd, find, not, option_map, unwrap_or}
 use Rattle.std.specs.Box.{box_value}
 use Rattle.std.specs.List.{list_any}
 use Rattle.std.specs.Option.{option_map_or}
@@ -8,17 +8,18 @@ use Rattle.std.specs.Str.{bytes_eq}
 use Rattle.std.specs.Str.Parse.{ExplainsUnsignedError, HasUnsignedDigitsIfOk, ParsesUnsigned, digits_value, without_leading_plus}
 use Rattle.clap.specs.Matches.{ReadsOne, first_value, one_text, subcommand_name_of}
 use Rattle.clap.specs.Faults.{check_fault, defaults_fault, entered_fault, fault_of, is_simple_and_free, level_fault, settle_fault, walk_fault}
-use Rattle.clap.specs.Kinds.{Kinds, check_kinds, or_else}
+use Rattle.clap.specs.Kinds.{FailsBy, HasKind, Kinds, check_kinds, or_else}
 use Rattle.clap.specs.Simple.{App, HasMatchesOf, Shape, argument_words, built, entered, label_of, names_of, is_simple, rows_at, subcommand_of, subcommand_rows, subcommand_rows_of}
 use Rattle.clap.specs.Takes.{is_given}
 use Rattle.clap.specs.Walk.{Held, Names, Row, Text, answers_to, finished, nothing_held, rows_of, settled, walk, walk_from}
+use Rattle.clap.specs.declared.error.Error.{Error}
 use Rattle.clap.specs.declared.parser.matches.ArgMatches.{ArgMatches}
 use Rattle.clap.specs.declared.parser.matches.ArgMatches.TheViews.{out-ArgMatches, out-SubCommand}
 use Rattle.clap.specs.declared.parser.matches.SubCommand.{SubCommand}
 use Rattle.clap.specs.declared.parser.matches.Found.{Found}
 use Rattle.clap.proofs.OnLiterals.{clap_on_literals}
 use Rattle.clap.proofs.WalkLemmas.{first_value-rows, one_text-rows}
-use Rattle.trace_io.specs.CommandLine.{grammar, number_in, is_stepwise, task_named, task_of}
+use Rattle.trace_io.specs.CommandLine.{grammar, number_in, is_set, task_named, task_of}
 use Rattle.trace_io.specs.declared.words.Task.{Task}
 
 -- a number that a getter reads is the number that the text says
@@ -55,6 +56,14 @@ is_judged = refl
 pub without_fault : (a : App) (words : List Text) → a ≡ grammar
     → (is_simple_and_free a ≡ true → fault_of a words ≡ []) → fault_of grammar words ≡ []
 without_fault a words same judged = subst (λ (b : App). fault_of b words ≡ []) same (judged (rw same is_judged))
+
+-- words that were not taken have the fault that was found
+pub with_fault : {T : Type 0} (a : App) (words : List Text) (e : Error) (r : Result T Error) → a ≡ grammar
+    → (is_simple_and_free a ≡ true → HasKind (fault_of a words) e) → IsErrAnd r (λ y. y ≡ e) → FailsBy (fault_of grammar words) r
+with_fault a words e (Ok x) same judged is = absurd is
+with_fault a words e (Err y) same judged is =
+    let has : HasKind (fault_of grammar words) e = subst (λ (b : App). HasKind (fault_of b words) e) same (judged (rw same is_judged)) in
+    subst (HasKind (fault_of grammar words)) (sym is) has
 
 -- the subcommand that was met is that of the words
 pub met : (a : App) (words : List Text) (m : ArgMatches) → a ≡ grammar → HasMatchesOf a words m
@@ -154,8 +163,8 @@ asks_behind name rows task says words m same called behind = by_rows (subcommand
         ap task_of (sym same ∙ at) ∙ ap₂ task_named is_name its_rows ∙ says
 
 -- the flag that was read is that of the rows
-pub flag_read : (f : Found) (o : Option Text) → o ≡ first_value f (codes "steps") → option_map_or (λ text. bytes_eq text (codes "true")) o false ≡ is_stepwise (rows_of f)
-flag_read f o read = ap (λ (x : Option Text). option_map_or (λ text. bytes_eq text (codes "true")) x false) (read ∙ first_value-rows f (codes "steps"))
+pub flag_read : (f : Found) (id : Text) (o : Option Text) → o ≡ first_value f id → option_map_or (λ text. bytes_eq text (codes "true")) o false ≡ is_set id (rows_of f)
+flag_read f id o read = ap (λ (x : Option Text). option_map_or (λ text. bytes_eq text (codes "true")) x false) (read ∙ first_value-rows f id)
 
 -- words whose subcommand has this name ask for the task that the name alone says
 pub asks_for : (name : Text) (task : Task) → ((rows : List Row) → task_named name rows ≡ Some task) → (words : List Text) (m : ArgMatches)
@@ -175,9 +184,10 @@ asks_for name task says words m same is_name = by_rows (subcommand_rows_of m) re
 pub has_one : (words : List Text) (m : ArgMatches) (task : Task) → subcommand_rows_of m ≡ subcommand_of grammar words
     → (subcommand_name_of m ≡ Some (codes "alone") → ⊥) → (subcommand_name_of m ≡ Some (codes "live") → ⊥) → (subcommand_name_of m ≡ Some (codes "left") → ⊥)
     → (subcommand_name_of m ≡ Some (codes "check") → ⊥) → (subcommand_name_of m ≡ Some (codes "draw") → ⊥) → (subcommand_name_of m ≡ Some (codes "capture") → ⊥)
-    → (subcommand_name_of m ≡ Some (codes "devices") → ⊥) → (subcommand_name_of m ≡ Some (codes "run") → ⊥)
+    → (subcommand_name_of m ≡ Some (codes "devices") → ⊥) → (subcommand_name_of m ≡ Some (codes "explain") → ⊥) → (subcommand_name_of m ≡ Some (codes "test") → ⊥)
+    → (subcommand_name_of m ≡ Some (codes "device") → ⊥) → (subcommand_name_of m ≡ Some (codes "describe") → ⊥) → (subcommand_name_of m ≡ Some (codes "run") → ⊥)
     → fault_of grammar words ≡ [] → task_of (subcommand_of grammar words) ≡ Some task
-has_one words m task same no_alone no_live no_left no_check no_draw no_capture no_devices no_run clear = by_rows (subcommand_of grammar words) refl (has_subcommand_without_fault words clear)
+has_one words m task same no_alone no_live no_left no_check no_draw no_capture no_devices no_explain no_test no_device no_describe no_run clear = by_rows (subcommand_of grammar words) refl (has_subcommand_without_fault words clear)
   where
     name_is : (named : Text × List Row) (name : Text) → subcommand_of grammar words ≡ Some named → named.0 ≡ name → subcommand_name_of m ≡ Some name
     name_is named name at is = sym (name_of_rows (out-ArgMatches m).subcommand) ∙ ap (option_map (λ n. n.0)) (same ∙ at) ∙ ap Some is
@@ -191,7 +201,11 @@ has_one words m task same no_alone no_live no_left no_check no_draw no_capture n
     by_name named at (inr (inr (inr (inr (inr (inl draw)))))) = no_draw (name_is named (codes "draw") at draw)
     by_name named at (inr (inr (inr (inr (inr (inr (inl capture))))))) = no_capture (name_is named (codes "capture") at capture)
     by_name named at (inr (inr (inr (inr (inr (inr (inr (inl devices)))))))) = no_devices (name_is named (codes "devices") at devices)
-    by_name named at (inr (inr (inr (inr (inr (inr (inr (inr none)))))))) = none
+    by_name named at (inr (inr (inr (inr (inr (inr (inr (inr (inl explain))))))))) = no_explain (name_is named (codes "explain") at explain)
+    by_name named at (inr (inr (inr (inr (inr (inr (inr (inr (inr (inl test)))))))))) = no_test (name_is named (codes "test") at test)
+    by_name named at (inr (inr (inr (inr (inr (inr (inr (inr (inr (inr (inl device))))))))))) = no_device (name_is named (codes "device") at device)
+    by_name named at (inr (inr (inr (inr (inr (inr (inr (inr (inr (inr (inr (inl describe)))))))))))) = no_describe (name_is named (codes "describe") at describe)
+    by_name named at (inr (inr (inr (inr (inr (inr (inr (inr (inr (inr (inr (inr none)))))))))))) = none
 
     by_rows : (o : Option (Text × List Row)) → subcommand_of grammar words ≡ o → is_some o ≡ true → task_of (subcommand_of grammar words) ≡ Some task
     by_rows None at some = cc

@@ -10,7 +10,7 @@ use Rattle.clap.specs.declared.error.kind.ErrorKind.TheVariants as kind
 use Rattle.clap.proofs.OnLiterals.{clap_on_literals}
 use Rattle.trace_io.specs.CommandLine.{AreBad, AskFor, AskForHelp, grammar, task_of}
 use Rattle.trace_io.specs.declared.words.Task.{Task}
-use Rattle.trace_io.specs.declared.words.Task.TheVariants.{Run, Steps, Alone, Live, Left, Check, Draw, Capture, Devices}
+use Rattle.trace_io.specs.declared.words.Task.TheVariants.{Run, Steps, Alone, Live, Left, Check, Draw, Page, Capture, Devices, Explain, Test, Device, Describe}
 
 pub run_asks : (name : Text) → AskFor (name ∷ codes "run" ∷ []) Run
 unfolding clap_on_literals
@@ -51,6 +51,30 @@ capture_asks name = (refl, refl)
 pub devices_ask : (name : Text) → AskFor (name ∷ codes "devices" ∷ []) Devices
 unfolding clap_on_literals
 devices_ask name = (refl, refl)
+
+pub explain_asks : (name : Text) → AskFor (name ∷ codes "explain" ∷ []) Explain
+unfolding clap_on_literals
+explain_asks name = (refl, refl)
+
+pub test_asks : (name : Text) → AskFor (name ∷ codes "test" ∷ []) Test
+unfolding clap_on_literals
+test_asks name = (refl, refl)
+
+pub device_asks : (name : Text) → AskFor (name ∷ codes "device" ∷ []) Device
+unfolding clap_on_literals
+device_asks name = (refl, refl)
+
+pub describe_asks : (name : Text) → AskFor (name ∷ codes "describe" ∷ []) Describe
+unfolding clap_on_literals
+describe_asks name = (refl, refl)
+
+pub page_asks : (name : Text) → AskFor (name ∷ codes "draw" ∷ codes "--html" ∷ []) (Page 1 18446744073709551615)
+unfolding clap_on_literals
+page_asks name = (refl, refl)
+
+pub test_with_a_word_is_bad : (name : Text) → AreBad (name ∷ codes "test" ∷ codes "1" ∷ [])
+unfolding clap_on_literals
+test_with_a_word_is_bad name = (kind.UnknownArgument, inl refl, λ e. cc)
 
 pub capture_of_a_file_is_bad : (name : Text) → AreBad (name ∷ codes "capture" ∷ codes "1" ∷ [])
 unfolding clap_on_literals
@@ -134,6 +158,11 @@ is_alone h (Some Check) = false
 is_alone h (Some (Draw from to)) = false
 is_alone h (Some Capture) = false
 is_alone h (Some Devices) = false
+is_alone h (Some (Page from to)) = false
+is_alone h (Some Explain) = false
+is_alone h (Some Test) = false
+is_alone h (Some Device) = false
+is_alone h (Some Describe) = false
 is_alone h None = false
 
 is_alone_says : (h : ℕ) (task : Option Task) → is_alone h task ≡ true → task ≡ Some (Alone h)
@@ -146,6 +175,11 @@ is_alone_says h (Some Check) e = let bad : false ≡ true = e in cc
 is_alone_says h (Some (Draw from to)) e = let bad : false ≡ true = e in cc
 is_alone_says h (Some Capture) e = let bad : false ≡ true = e in cc
 is_alone_says h (Some Devices) e = let bad : false ≡ true = e in cc
+is_alone_says h (Some (Page from to)) e = let bad : false ≡ true = e in cc
+is_alone_says h (Some Explain) e = let bad : false ≡ true = e in cc
+is_alone_says h (Some Test) e = let bad : false ≡ true = e in cc
+is_alone_says h (Some Device) e = let bad : false ≡ true = e in cc
+is_alone_says h (Some Describe) e = let bad : false ≡ true = e in cc
 is_alone_says h None e = let bad : false ≡ true = e in cc
 
 is_empty_says : (kinds : Kinds) → is_empty kinds ≡ true → kinds ≡ []

@@ -13,7 +13,7 @@ use Rattle.clap.specs.declared.error.kind.ErrorKind.{ErrorKind}
 use Rattle.clap.specs.declared.error.kind.ErrorKind.TheVariants.{DisplayHelp}
 use Rattle.trace_scenario.specs.Number.{last_handle}
 use Rattle.trace_io.specs.declared.words.Task.{Task}
-use Rattle.trace_io.specs.declared.words.Task.TheVariants.{Run, Steps, Alone, Live, Left, Check, Draw, Capture, Devices}
+use Rattle.trace_io.specs.declared.words.Task.TheVariants.{Run, Steps, Alone, Live, Left, Check, Draw, Page, Capture, Devices, Explain, Test, Device, Describe}
 
 -- the word H: a whole number from 0 to the last name, which has to be there
 abbrev pub handle_word : Rule
@@ -27,9 +27,13 @@ steps_word = record (new_rule (codes "steps")) { long = Some (codes "steps"); ac
 abbrev pub run_words : Shape
 run_words = record (new_shape (codes "run")) { rules = steps_word ∷ [] }
 
--- whether the flag is there
+-- whether a flag is there
+abbrev pub is_set : Text → List Row → Bool
+is_set id rows = option_map_or (λ text. bytes_eq text (codes "true")) (first_of id rows) false
+
+-- whether --steps is
 abbrev pub is_stepwise : List Row → Bool
-is_stepwise rows = option_map_or (λ text. bytes_eq text (codes "true")) (first_of (codes "steps") rows) false
+is_stepwise rows = is_set (codes "steps") rows
 
 -- alone H
 abbrev pub alone_words : Shape
@@ -57,7 +61,7 @@ left_words = new_shape (codes "left")
 abbrev pub check_words : Shape
 check_words = new_shape (codes "check")
 
--- the word --from A: the first step that is drawn, counted from 1
+-- the word --from A: the first line whose steps are drawn, counted from 1
 abbrev pub from_word : Rule
 from_word = record (new_rule (codes "from")) {
   long = Some (codes "from");
@@ -77,9 +81,13 @@ to_word = record (new_rule (codes "to")) {
   parser = Some (Unsigned 1 18446744073709551615);
 }
 
--- draw, with --from A or --to B or both
+-- the word --html: a flag
+abbrev pub html_word : Rule
+html_word = record (new_rule (codes "html")) { long = Some (codes "html"); action = Some SetTrue }
+
+-- draw, with --from A, --to B and --html, or some of them
 abbrev pub draw_words : Shape
-draw_words = record (new_shape (codes "draw")) { rules = from_word ∷ to_word ∷ [] }
+draw_words = record (new_shape (codes "draw")) { rules = from_word ∷ to_word ∷ html_word ∷ [] }
 
 -- capture
 abbrev pub capture_words : Shape
@@ -89,7 +97,23 @@ capture_words = new_shape (codes "capture")
 abbrev pub devices_words : Shape
 devices_words = new_shape (codes "devices")
 
--- usbtrace, and then one of the eight; there is no subcommand for help
+-- explain
+abbrev pub explain_words : Shape
+explain_words = new_shape (codes "explain")
+
+-- test
+abbrev pub test_words : Shape
+test_words = new_shape (codes "test")
+
+-- device
+abbrev pub device_words : Shape
+device_words = new_shape (codes "device")
+
+-- describe
+abbrev pub describe_words : Shape
+describe_words = new_shape (codes "describe")
+
+-- usbtrace, and then one of its words; there is no subcommand for help
 abbrev pub first_words : Shape
 first_words = record (new_shape (codes "usbtrace")) { is_leaf = false; disable_help_subcommand = true; subcommand_required = true }
 
@@ -105,11 +129,24 @@ program_of_runs = record { top = first_words; subs = run_words ∷ alone_words �
 abbrev pub program_of_scenarios : App
 program_of_scenarios = record { top = first_words; subs = run_words ∷ alone_words ∷ live_words ∷ left_words ∷ check_words ∷ draw_words ∷ [] }
 
+-- with those that read or write a capture
+abbrev pub program_of_captures : App
+program_of_captures = record { top = first_words; subs = run_words ∷ alone_words ∷ live_words ∷ left_words ∷ check_words ∷ draw_words ∷ capture_words ∷ devices_words ∷ [] }
+
+-- with those that say why, and whether a run is as it is to be
+abbrev pub program_of_reasons : App
+program_of_reasons = record {
+  top = first_words;
+  subs = run_words ∷ alone_words ∷ live_words ∷ left_words ∷ check_words ∷ draw_words ∷ capture_words ∷ devices_words ∷ explain_words ∷ test_words ∷ [];
+}
+
 -- the command line
 abbrev pub grammar : App
 grammar = record {
   top = first_words;
-  subs = run_words ∷ alone_words ∷ live_words ∷ left_words ∷ check_words ∷ draw_words ∷ capture_words ∷ devices_words ∷ [];
+  subs =
+      run_words ∷ alone_words ∷ live_words ∷ left_words ∷ check_words ∷ draw_words ∷ capture_words ∷ devices_words ∷ explain_words ∷ test_words ∷ device_words
+      ∷ describe_words ∷ [];
 }
 
 -- the number that a word says
@@ -120,9 +157,15 @@ number_in id rows = option_map (λ text. digits_value 10 (without_leading_plus t
 abbrev pub handle_in : List Row → Option ℕ
 handle_in rows = number_in (codes "H") rows
 
+-- a picture, or a page with one
+abbrev pub drawing_by : Bool → ℕ → ℕ → Task
+drawing_by false from to = Draw from to
+drawing_by true from to = Page from to
+
 -- which picture is asked for
 abbrev pub drawing_in : List Row → Option Task
-drawing_in rows = option_and_then (λ from. option_map (λ to. Draw from to) (number_in (codes "to") rows)) (number_in (codes "from") rows)
+drawing_in rows =
+    option_and_then (λ from. option_map (drawing_by (is_set (codes "html") rows) from) (number_in (codes "to") rows)) (number_in (codes "from") rows)
 
 -- the task of a subcommand, by its name and what stands behind it
 abbrev pub task_named : Text → List Row → Option Task
@@ -134,7 +177,11 @@ task_named name rows =
     else (if bytes_eq name (codes "draw") then drawing_in rows
     else (if bytes_eq name (codes "capture") then Some Capture
     else (if bytes_eq name (codes "devices") then Some Devices
-    else (if bytes_eq name (codes "run") then Some (if is_stepwise rows then Steps else Run) else None)))))))
+    else (if bytes_eq name (codes "explain") then Some Explain
+    else (if bytes_eq name (codes "test") then Some Test
+    else (if bytes_eq name (codes "device") then Some Device
+    else (if bytes_eq name (codes "describe") then Some Describe
+    else (if bytes_eq name (codes "run") then Some (if is_stepwise rows then Steps else Run) else None)))))))))))
 
 -- the task of the subcommand that the words name
 abbrev pub task_of : Option (Text × List Row) → Option Task

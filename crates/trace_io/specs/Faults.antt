@@ -6,10 +6,13 @@ use Rattle.std.specs.declared.io.ErrorKind.TheVariants.{OutOfMemory}
 use Rattle.trace_scenario.specs.declared.text_fault.TextFault.{TextFault}
 use Rattle.trace_scenario.specs.declared.text_fault.TextFault.TheVariants as text
 use Rattle.trace_io.specs.declared.fault.Fault.{Fault}
-use Rattle.trace_io.specs.declared.fault.Fault.TheVariants.{Line, Memory, InputOutput, TooLong, Rounds, Wide, Capture}
+use Rattle.trace_io.specs.declared.fault.Fault.TheVariants.{Line, Memory, InputOutput, TooLong, Rounds, Wide, Capture, Descriptor}
 use Rattle.trace_recorded.specs.declared.capture_fault.CaptureFault.{CaptureFault}
 use Rattle.trace_recorded.specs.declared.capture_fault.CaptureFault.TheVariants as capture
 use Rattle.trace_recorded.specs.Faults.{capture_fault_text}
+use Rattle.trace_descriptor.specs.declared.fault.DescriptorFault.{DescriptorFault}
+use Rattle.trace_descriptor.specs.declared.fault.DescriptorFault.TheVariants as descriptor
+use Rattle.trace_descriptor.specs.Faults.{descriptor_fault_text}
 use Rattle.trace_io.specs.Input.{longest_input}
 
 -- the fault of a run whose text has this one
@@ -21,6 +24,11 @@ fault_of_text text.Memory = Memory
 abbrev pub fault_of_capture : CaptureFault → Fault
 fault_of_capture capture.Memory = Memory
 fault_of_capture fault = Capture fault
+
+-- the fault of a run whose descriptor has this one, likewise
+abbrev pub fault_of_descriptor : DescriptorFault → Fault
+fault_of_descriptor descriptor.Memory = Memory
+fault_of_descriptor fault = Descriptor fault
 
 -- the fault of a stream that fails with an error of this kind
 abbrev pub fault_of_kind : ErrorKind → Fault
@@ -36,12 +44,13 @@ fault_text TooLong = codes "the input is longer than 67108864 bytes\nusbtrace: i
 fault_text (Rounds rounds) = codes "more than " ++ decimal rounds ++ codes " callbacks are called: --rounds sets how many may be"
 fault_text (Wide steps) = decimal steps ++ codes " steps are too many for a picture, which has 2000: choose some by --from and --to"
 fault_text (Capture fault) = codes "the capture is refused: " ++ capture_fault_text fault
+fault_text (Descriptor fault) = descriptor_fault_text fault
 
 -- the message of a fault on standard error
 abbrev pub message_of : Fault → List ℕ
 message_of fault = codes "usbtrace: " ++ fault_text fault ++ codes "\n"
 
--- a fault of memory or of a stream, and not of a line, of the whole input, of the callbacks, of a picture or of a capture
+-- a fault of memory or of a stream, and not of a line, of the whole input, of the callbacks, of a picture, of a capture or of a descriptor
 abbrev pub IsOfRun : Fault → Type 0
 IsOfRun (Line line) = ⊥
 IsOfRun Memory = ⊤
@@ -50,6 +59,7 @@ IsOfRun TooLong = ⊥
 IsOfRun (Rounds rounds) = ⊥
 IsOfRun (Wide steps) = ⊥
 IsOfRun (Capture fault) = ⊥
+IsOfRun (Descriptor fault) = ⊥
 
 -- how many steps a picture has at most
 abbrev pub most_drawn : ℕ

@@ -21,6 +21,10 @@ AppendsAllBut text rest old new = (front : List ℕ) × (text ≡ front ++ rest)
 abbrev pub line_text : Entry → List ℕ
 line_text entry = entry_text entry ++ codes "\n"
 
+-- an entry behind a line: the line's number, the line, and the entry
+abbrev pub behind_line : ℕ × List ℕ → Entry → List ℕ
+behind_line line entry = decimal line.0 ++ (codes " " ++ (line.1 ++ (codes " | " ++ (entry_text entry ++ codes "\n"))))
+
 -- the line of a bad line's number and a sentence
 abbrev pub finding_text : ℕ × List ℕ → List ℕ
 finding_text found = codes "line " ++ (decimal found.0 ++ (codes ": " ++ (found.1 ++ codes "\n")))

@@ -3,7 +3,7 @@
 ghost use Rattle.std.specs.Prelude.{◌≡◌, OnOk, Some};
 ghost use Rattle.std.specs.Io.KnownBytes.{Appends};
 ghost use Rattle.std.specs.IoError.{error_kind};
-ghost use Rattle.trace_io.specs.Faults.{fault_of_capture, fault_of_kind, fault_of_text, fault_text, message_of};
+ghost use Rattle.trace_io.specs.Faults.{fault_of_capture, fault_of_descriptor, fault_of_kind, fault_of_text, fault_text, message_of};
 ghost use Rattle.trace_io.specs.Output.{AppendsSome};
 ghost use Rattle.trace_io.specs.declared.fault.Fault.TheVariants as Fault;
 
@@ -13,11 +13,12 @@ use std::alloc::AllocError;
 use std::fmt::Write;
 use std::{fmt, io};
 use thiserror::Error;
+use trace_descriptor::DescriptorFault;
 use trace_recorded::CaptureFault;
 use trace_scenario::TextFault;
 
-/// How many bytes a message may have. The longest, of steps whose number has 20 digits, has 116.
-const ROOM: usize = 128;
+/// How many bytes a message may have. The longest, of a descriptor at an offset of 20 digits, has 130.
+const ROOM: usize = 160;
 
 /// What ends a run, in the words of its message.
 #[derive(Clone, Copy, PartialEq, Eq, Debug, Error)]
@@ -36,6 +37,8 @@ pub enum Fault {
     Wide(u64),
     /// The input is no capture that is read, for this reason, which isn't want of memory.
     Capture(CaptureFault),
+    /// The input is no descriptor that is read, for this reason, which isn't want of memory.
+    Descriptor(DescriptorFault),
 }
 
 /// The fault in words. They are written here, and not by the derive, whose text no contract knows.
@@ -59,6 +62,7 @@ impl fmt::Display for Fault {
                 "{steps} steps are too many for a picture, which has 2000: choose some by --from and --to"
             ),
             Fault::Capture(fault) => write!(f, "the capture is refused: {fault}"),
+            Fault::Descriptor(fault) => write!(f, "{fault}"),
         }
     }
 }
@@ -96,6 +100,17 @@ impl From<CaptureFault> for Fault {
         match error {
             CaptureFault::Memory => Fault::Memory,
             _ => Fault::Capture(error),
+        }
+    }
+}
+
+impl From<DescriptorFault> for Fault {
+    ghost from_gives = { λ error fault. fault ≡ fault_of_descriptor error };
+
+    fn from(error: DescriptorFault) -> Fault {
+        match error {
+            DescriptorFault::Memory => Fault::Memory,
+            _ => Fault::Descriptor(error),
         }
     }
 }

@@ -8,9 +8,12 @@ macro_rules! help_text {
             "  device D HEX               the next device, 0 to 3, with this configuration descriptor\n",
             "  script D EP A A ..         what a bulk or interrupt endpoint answers: d:HEX, a, n, s or b\n",
             "  open H D                   handle H, 0 to 63, opens a device; so close, claim, release, reset, clear\n",
-            "  submit H EP K B            a transfer of kind bulk or int, of B bytes, or out with x:HEX; so cancel, expire\n",
+            "  submit H EP K B ..         a transfer of kind bulk or int, of B bytes, or out with x:HEX; so cancel, expire\n",
+            "    ..                       options in this order: flags=SHORT_NOT_OK+ADD_ZERO_PACKET timeout=MS then=again:COMPLETED+STALL:ROUNDS\n",
             "  serve D EP                 the controller serves an endpoint; so command, deliver, take, return, unplug\n",
             "  # ..                       a comment\n\n",
+            "Refused: 1 InvalidParam, 2 NoDevice, 3 NotFound, 4 Busy, 5 HeldElsewhere, 6 NoMem, 7 NotSupported; `usbtrace explain` says why\n",
+            "Code: 1 Success, 3 Babble, 4 Transaction Error, 6 Stall, 13 Short Packet\n\n",
             "Example:\n",
             "  printf 'open 1 0\\ntake\\n' | usbtrace ",
             $words,
@@ -87,4 +90,40 @@ pub(crate) const DEVICES: &str = concat!(
     "  usbtrace devices < recorded.pcap > scenario.txt\n\n",
     "Status: 0 where a device was found, 1 where none was, the input is no such capture, memory is wanting or a stream fails, ",
     "2 for bad words"
+);
+
+/// The help of `explain`.
+pub(crate) const EXPLAIN: &str = help_text!(
+    "explain",
+    "where all entries are printed",
+    "where a line is bad, memory is wanting or a stream fails"
+);
+
+/// The help of `test`.
+pub(crate) const TEST: &str = concat!(
+    "Input: a scenario, and among its lines:\n",
+    "  expect TEXT                the step above prints this; so more than one, in order, and `expect NOTHING`\n",
+    "  expect left TEXT           at the run's end this is left, as `usbtrace left` prints it; `expect left NOTHING`\n",
+    "  settle                     command, deliver and take, until nothing is to be done\n",
+    "  serve 0 81 *3              this step three times; so any other line\n\n",
+    "Example:\n",
+    "  printf 'open 1 0\\nexpect h1 refused 3\\n' | usbtrace test\n\n",
+    "Status: 0 where all is as expected, 1 where a line differs or is bad, memory is wanting or a stream fails, 2 for bad words"
+);
+
+/// The help of `device`, which reads no scenario.
+pub(crate) const DEVICE: &str = concat!(
+    "Input: a device's descriptors, as Linux has them in /sys/bus/usb/devices/1-1/descriptors: in bytes, or as hexadecimal text.\n",
+    "What is printed is the beginning of a scenario: comments that name its interfaces and endpoints, and the device's line.\n\n",
+    "Example:\n",
+    "  usbtrace device < /sys/bus/usb/devices/1-1/descriptors > scenario.txt\n\n",
+    "Status: 0 where the line is printed, 1 where the input is no such file, memory is wanting or a stream fails, 2 for bad words"
+);
+
+/// The help of `describe`, which reads no scenario.
+pub(crate) const DESCRIBE: &str = concat!(
+    "Input: a device's descriptors, as Linux has them in /sys/bus/usb/devices/1-1/descriptors: in bytes, or as hexadecimal text.\n\n",
+    "Example:\n",
+    "  usbtrace describe < /sys/bus/usb/devices/1-1/descriptors\n\n",
+    "Status: 0 where the table is printed, 1 where the input is no such file, memory is wanting or a stream fails, 2 for bad words"
 );

@@ -3,13 +3,14 @@
 ghost use Rattle.std.specs.Prelude.{◌<◌, ◌∷◌, [], ℕ, List, codes};
 ghost use Rattle.std.specs.Fmt.{decimal};
 ghost use Rattle.trace_io.specs.CommandLine.{AreBad, AskFor, AskForHelp};
-ghost use Rattle.trace_io.specs.declared.words.Task.TheVariants.{Run, Steps, Alone, Live, Left, Check, Draw, Capture, Devices};
+ghost use Rattle.trace_io.specs.declared.words.Task.TheVariants.{Run, Steps, Alone, Live, Left, Check, Draw, Page, Capture, Devices, Explain, Test, Device, Describe};
 
 /// Whatever name the program is called by: `run` asks for a run, `run --steps` for a run step by step, `alone H` for
 /// each of the 64 handles alone, a plus sign or leading zeros before its number included, `live` for a run in threads of
 /// a million callbacks at most, `live --rounds 25` for one of 25, `left` for what is left, `check` for a check, `draw` for
-/// a picture, `draw --from 11 --to 20` for one of ten steps, `capture` for a capture, `devices` for the devices of one, and `-h` for help. No words, a second
-/// word after `run`, `live`, `left`, `check`, `capture` or `devices`, no handle or the handle 64 after `alone`, no number after `--rounds`, a step 0 and `help` are bad.
+/// a picture, `draw --from 11 --to 20` for one of ten steps, `capture` for a capture, `devices` for the devices of one, `draw --html`
+/// for a page, `explain` for reasons, `test` for a test, `device` and `describe` for a descriptor's line and table, and `-h` for help. No words, a second
+/// word after `run`, `live`, `left`, `check`, `capture`, `devices` or `test`, no handle or the handle 64 after `alone`, no number after `--rounds`, a step 0 and `help` are bad.
 pub fn words()
     ensures run { (name : List ℕ) → AskFor (name ∷ codes "run" ∷ []) Run }
     ensures steps { (name : List ℕ) → AskFor (name ∷ codes "run" ∷ codes "--steps" ∷ []) Steps }
@@ -24,6 +25,11 @@ pub fn words()
     ensures part { (name : List ℕ) → AskFor (name ∷ codes "draw" ∷ codes "--from" ∷ codes "11" ∷ codes "--to" ∷ codes "20" ∷ []) (Draw 11 20) }
     ensures capture { (name : List ℕ) → AskFor (name ∷ codes "capture" ∷ []) Capture }
     ensures devices { (name : List ℕ) → AskFor (name ∷ codes "devices" ∷ []) Devices }
+    ensures page { (name : List ℕ) → AskFor (name ∷ codes "draw" ∷ codes "--html" ∷ []) (Page 1 18446744073709551615) }
+    ensures explain { (name : List ℕ) → AskFor (name ∷ codes "explain" ∷ []) Explain }
+    ensures test { (name : List ℕ) → AskFor (name ∷ codes "test" ∷ []) Test }
+    ensures device { (name : List ℕ) → AskFor (name ∷ codes "device" ∷ []) Device }
+    ensures describe { (name : List ℕ) → AskFor (name ∷ codes "describe" ∷ []) Describe }
     ensures help { (name : List ℕ) → AskForHelp (name ∷ codes "-h" ∷ []) }
     ensures no_words { (name : List ℕ) → AreBad (name ∷ []) }
     ensures too_many { (name : List ℕ) → AreBad (name ∷ codes "run" ∷ codes "1" ∷ []) }
@@ -34,6 +40,7 @@ pub fn words()
     ensures left_with_a_word { (name : List ℕ) → AreBad (name ∷ codes "left" ∷ codes "1" ∷ []) }
     ensures capture_of_a_file { (name : List ℕ) → AreBad (name ∷ codes "capture" ∷ codes "1" ∷ []) }
     ensures devices_of_a_file { (name : List ℕ) → AreBad (name ∷ codes "devices" ∷ codes "1" ∷ []) }
+    ensures test_with_a_word { (name : List ℕ) → AreBad (name ∷ codes "test" ∷ codes "1" ∷ []) }
     ensures no_handle { (name : List ℕ) → AreBad (name ∷ codes "alone" ∷ []) }
     ensures handle_64 { (name : List ℕ) → AreBad (name ∷ codes "alone" ∷ codes "64" ∷ []) }
     ensures no_help { (name : List ℕ) → AreBad (name ∷ codes "help" ∷ []) }

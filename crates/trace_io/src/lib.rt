@@ -7,10 +7,11 @@
 //! # Files
 //!
 //! - `words.rt`, `help.rt`: the words of the command line: `run`, `run --steps`, `alone H`, `live`, `left`, `check`,
-//!   `draw`, `capture`, `devices`; what help says
+//!   `draw`, `capture`, `devices`, `explain`, `test`, `device`, `describe`; what help says
 //! - `laws.rt`: what the definition of the command line makes of words
 //! - `read.rt`, `write.rt`, `fault.rt`: the whole input; bytes that are written whole, or as far as it goes; why a
 //!   run ends early, and its message
+//! - `behind.rt`: an entry behind the line that it comes from
 //! - `lines.rt`, `print.rt`: lines of entries as they come, or texts of them, gathered and written many at a time
 //!   (`Lines`); a whole list of entries, and what a check found
 //!
@@ -23,6 +24,7 @@
 //!   appended; always, a beginning of it, also where a write fails amid a line. `tell` takes no memory
 #![tactic(auto)]
 
+mod behind;
 mod fault;
 mod help;
 pub mod laws;
@@ -32,6 +34,7 @@ mod read;
 mod words;
 mod write;
 
+pub use behind::add_behind;
 pub use fault::Fault;
 pub use lines::Lines;
 pub use read::read_whole;

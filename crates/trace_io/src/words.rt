@@ -9,7 +9,7 @@ ghost use Rattle.clap.specs.Matches.{found_of};
 ghost use Rattle.clap.specs.Simple.{app_of, shape_of};
 ghost use Rattle.clap.specs.declared.builder.command.Command.TheViews.{out-Command as fields_of};
 ghost use Rattle.clap.specs.Walk.{rows_of, rule_of};
-ghost use Rattle.trace_io.specs.CommandLine.{AskFor, alone_words, capture_words, check_words, devices_words, draw_words, drawing_in, from_word, grammar, handle_in, handle_word, is_stepwise, left_words, live_words, number_in, program_alone, program_of_runs, program_of_scenarios, rounds_word, run_words, steps_word, to_word};
+ghost use Rattle.trace_io.specs.CommandLine.{AskFor, alone_words, capture_words, check_words, describe_words, device_words, devices_words, draw_words, drawing_in, explain_words, from_word, grammar, handle_in, handle_word, html_word, is_set, is_stepwise, left_words, live_words, number_in, program_alone, program_of_captures, program_of_reasons, program_of_runs, program_of_scenarios, rounds_word, run_words, steps_word, test_words, to_word};
 ghost use Rattle.trace_scenario.specs.Words.{words_of};
 ghost use Rattle.trace_io.specs.declared.words.Task.TheVariants.{Run, Steps};
 
@@ -34,8 +34,15 @@ pub enum Task {
     Left,
     /// Print what is wrong with the scenario.
     Check,
-    /// Draw the run of the scenario, from one step to another, both counted from 1.
+    /// Draw the run of the scenario, from one of its lines to another, both counted from 1.
     Draw {
+        /// The first that is drawn.
+        from: u64,
+        /// The last, where there are as many.
+        to: u64,
+    },
+    /// The same, as a page with the picture, the steps and their entries.
+    Page {
         /// The first that is drawn.
         from: u64,
         /// The last, where there are as many.
@@ -45,6 +52,14 @@ pub enum Task {
     Capture,
     /// Print the scenario of a capture: its devices, and what they answered.
     Devices,
+    /// Run the scenario, and print all entries with their reasons.
+    Explain,
+    /// Run a scenario whose lines say what is expected, and compare.
+    Test,
+    /// Print the device line of a descriptor.
+    Device,
+    /// Print a descriptor as a table.
+    Describe,
 }
 
 /// The largest number of callbacks, and of a step.
@@ -80,6 +95,18 @@ pub fn read_words(alloc: Global, words: &[&str]) -> Result<Task, Error>
     if matches.subcommand_matches("devices").is_some() {
         return Ok(Task::Devices);
     }
+    if matches.subcommand_matches("explain").is_some() {
+        return Ok(Task::Explain);
+    }
+    if matches.subcommand_matches("test").is_some() {
+        return Ok(Task::Test);
+    }
+    if matches.subcommand_matches("device").is_some() {
+        return Ok(Task::Device);
+    }
+    if matches.subcommand_matches("describe").is_some() {
+        return Ok(Task::Describe);
+    }
     if let Some(found) = matches.subcommand_matches("run") {
         return Ok(run_task(found));
     }
@@ -90,6 +117,24 @@ pub fn read_words(alloc: Global, words: &[&str]) -> Result<Task, Error>
 /// The words that the program takes.
 fn command<'a>(alloc: Global) -> Result<Command<'a>, AllocError>
     ensures { IfOk result (λ command. app_of command ≡ grammar) }
+{
+    reasons(alloc)?
+        .subcommand(device(alloc))?
+        .subcommand(describe(alloc))
+}
+
+/// The words but those that read a descriptor.
+fn reasons<'a>(alloc: Global) -> Result<Command<'a>, AllocError>
+    ensures { IfOk result (λ command. app_of command ≡ program_of_reasons) }
+{
+    captures(alloc)?
+        .subcommand(explain(alloc))?
+        .subcommand(test(alloc))
+}
+
+/// The words that print or write something of a scenario, or read a capture.
+fn captures<'a>(alloc: Global) -> Result<Command<'a>, AllocError>
+    ensures { IfOk result (λ command. app_of command ≡ program_of_captures) }
 {
     scenarios(alloc)?
         .subcommand(capture(alloc))?
@@ -159,18 +204,18 @@ fn is_true(given: Option<&str>) -> bool
     }
 }
 
-/// Whether `--steps` stands behind `run`.
-fn is_stepwise(found: &ArgMatches<'_>) -> bool
-    ensures { result ≡ is_stepwise (rows_of (found_of found.now)) }
+/// Whether a flag is there.
+fn is_set(found: &ArgMatches<'_>, id: &str) -> bool
+    ensures { result ≡ is_set id.now (rows_of (found_of found.now)) }
 {
-    is_true(found.get_str("steps"))
+    is_true(found.get_str(id))
 }
 
 /// Which run the words behind `run` ask for.
 fn run_task(found: &ArgMatches<'_>) -> Task
     ensures { result ≡ (if is_stepwise (rows_of (found_of found.now)) then Steps else Run) }
 {
-    if is_stepwise(found) {
+    if is_set(found, "steps") {
         Task::Steps
     } else {
         Task::Run
@@ -227,7 +272,11 @@ fn draw_task(found: &ArgMatches<'_>) -> Result<Task, AllocError>
 {
     let from = number_of(found, "from")?;
     let to = number_of(found, "to")?;
-    Ok(Task::Draw { from, to })
+    if is_set(found, "html") {
+        Ok(Task::Page { from, to })
+    } else {
+        Ok(Task::Draw { from, to })
+    }
 }
 
 /// The words `left`.
@@ -250,7 +299,7 @@ fn check<'a>(alloc: Global) -> Command<'a>
         .after_help(help::CHECK)
 }
 
-/// The words `draw`, `draw --from A` and so on.
+/// The words `draw`, `draw --from A`, `draw --html` and so on.
 fn draw<'a>(alloc: Global) -> Result<Command<'a>, AllocError>
     ensures words { IfOk result (λ command. shape_of command ≡ draw_words) }
     ensures local { IfOk result (λ command. (fields_of command).has_globals ≡ false) }
@@ -259,7 +308,19 @@ fn draw<'a>(alloc: Global) -> Result<Command<'a>, AllocError>
         .about("Prints a picture of the scenario's run, an SVG document")
         .after_help(help::DRAW)
         .arg(from(alloc))?
-        .arg(to(alloc))
+        .arg(to(alloc))?
+        .arg(html(alloc))
+}
+
+/// The word `--html`.
+fn html<'a>(alloc: Global) -> Arg<'a>
+    ensures word { rule_of result ≡ html_word }
+    ensures local { result.global ≡ false }
+{
+    Arg::new(alloc, "html")
+        .long("html")
+        .action(ArgAction::SetTrue)
+        .help("A page with the picture, the steps and what they print")
 }
 
 /// The words `capture`.
@@ -282,6 +343,46 @@ fn devices<'a>(alloc: Global) -> Command<'a>
         .after_help(help::DEVICES)
 }
 
+/// The words `explain`.
+fn explain<'a>(alloc: Global) -> Command<'a>
+    ensures words { shape_of result ≡ explain_words }
+    ensures local { (fields_of result).has_globals ≡ false }
+{
+    Command::new(alloc, "explain")
+        .about("Runs the scenario, and says of each refusal, idle step and end why it came")
+        .after_help(help::EXPLAIN)
+}
+
+/// The words `test`.
+fn test<'a>(alloc: Global) -> Command<'a>
+    ensures words { shape_of result ≡ test_words }
+    ensures local { (fields_of result).has_globals ≡ false }
+{
+    Command::new(alloc, "test")
+        .about("Runs a scenario with `expect` lines, and compares what it prints")
+        .after_help(help::TEST)
+}
+
+/// The words `device`.
+fn device<'a>(alloc: Global) -> Command<'a>
+    ensures words { shape_of result ≡ device_words }
+    ensures local { (fields_of result).has_globals ≡ false }
+{
+    Command::new(alloc, "device")
+        .about("Prints the device line of a configuration descriptor")
+        .after_help(help::DEVICE)
+}
+
+/// The words `describe`.
+fn describe<'a>(alloc: Global) -> Command<'a>
+    ensures words { shape_of result ≡ describe_words }
+    ensures local { (fields_of result).has_globals ≡ false }
+{
+    Command::new(alloc, "describe")
+        .about("Prints descriptors as a table, as lsusb does")
+        .after_help(help::DESCRIBE)
+}
+
 /// The word `--from`.
 fn from<'a>(alloc: Global) -> Arg<'a>
     ensures word { rule_of result ≡ from_word }
@@ -293,7 +394,7 @@ fn from<'a>(alloc: Global) -> Arg<'a>
         .value_name("A")
         .value_parser(ValueParser::unsigned(1, LAST))
         .default_value("1")
-        .help("The first step that is drawn, by its column's number")
+        .help("The first line of the scenario whose steps are drawn")
 }
 
 /// The word `--to`.
@@ -308,7 +409,7 @@ fn to<'a>(alloc: Global) -> Arg<'a>
         .value_parser(ValueParser::unsigned(1, LAST))
         .default_value("18446744073709551615")
         .hide_default_value(true)
-        .help("The last step that is drawn; the run's last where it isn't said")
+        .help("The last line whose steps are drawn; the scenario's last where it isn't said")
 }
 
 /// The word of a handle.

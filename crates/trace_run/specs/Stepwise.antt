@@ -1,22 +1,16 @@
 -- What a run prints step by step: each entry behind the line of its step.
-use Rattle.std.specs.Prelude.{◌++◌, ℕ, List, [], ◌∷◌, Option, codes}
-use Rattle.std.specs.Fmt.{decimal}
+use Rattle.std.specs.Prelude.{◌++◌, ℕ, List, [], ◌∷◌, Option}
 use Rattle.std.specs.List.{flat_map}
 use Rattle.usb_model.specs.declared.entry.Entry.{Entry}
 use Rattle.usb_model.specs.declared.plan.Plan.{Plan}
 use Rattle.usb_model.specs.declared.verdict.Rule.{Rule}
-use Rattle.usb_model.specs.Text.{entry_text}
 use Rattle.usb_model.specs.Setup.{Setup}
 use Rattle.usb_model.specs.World.Journal.{run_from}
 use Rattle.usb_model.specs.World.Plans.{Stage, first_stage, stage_after, steps_of}
 use Rattle.usb_purge.specs.PlanRuns.{PlanState}
-use Rattle.trace_io.specs.Output.{AppendsSome}
+use Rattle.trace_io.specs.Output.{AppendsSome, behind_line}
 use Rattle.trace_run.specs.Printed.{PrintsText, StartsPlan}
 use Rattle.trace_run.specs.declared.lines.Reach.{Reach}
-
--- an entry behind a line: the line's number, the line, and the entry
-abbrev pub behind_line : ℕ × List ℕ → Entry → List ℕ
-behind_line line entry = decimal line.0 ++ (codes " " ++ (line.1 ++ (codes " | " ++ (entry_text entry ++ codes "\n"))))
 
 -- the entries of a piece of a plan, each behind the piece's line
 unfoldable pub piece_text : ℕ × List ℕ → List Entry → List ℕ

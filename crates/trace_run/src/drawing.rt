@@ -10,65 +10,98 @@ ghost use Rattle.trace_run.specs.Printed.{IsNew};
 use std::alloc::{AllocError, Global};
 use std::vec::IntoIter;
 use trace_picture::Drawing;
+use trace_scenario::{NumberedLine, ScriptedDevice};
 use usb_callback::Callback;
 use usb_core::Setup;
 use usb_device::Device;
-use usb_model::{Plan, Step, Verdict};
+use usb_model::{Plan, Reply, Step, Verdict};
 use usb_purge::{Performed, PlanRun, copy_of, next_callback};
 
-/// Draws a piece of a plan: its step; or where a callback returns its verdict, and the Stop behind it.
+/// Tells a drawing which endpoints the devices have.
+pub fn tell_endpoints(drawing: &mut Drawing, devices: &[ScriptedDevice]) -> Result<(), AllocError> {
+    let mut number = 0u8;
+    for device in devices {
+        for endpoint in device.config.endpoints() {
+            drawing.tell_endpoint(number, endpoint)?;
+        }
+        number = number.saturating_add(1);
+    }
+    Ok(())
+}
+
+/// The verdict of a callback that returned, as far as a drawing is to know it: whether it submitted again.
+fn verdict_of<C>(performed: &Performed<C>) -> Verdict {
+    match (&performed.entry.reply, &performed.stop) {
+        (Reply::Number(_), _) | (_, Some(_)) => Verdict::Again,
+        _ => Verdict::Stop,
+    }
+}
+
+/// Draws a piece of a plan that this line says: its step; or where a callback returns its verdict, and the Stop behind it.
 fn tell<C>(
     drawing: &mut Drawing,
+    line: &NumberedLine<'_>,
     piece: &Plan,
     performed: &Performed<C>,
 ) -> Result<(), AllocError> {
+    let NumberedLine { number, text } = *line;
     match piece {
-        Plan::Do(step) => drawing.tell(step, &performed.entry),
+        Plan::Do(step) => drawing.tell(number, text, step, &performed.entry),
         Plan::Return { h, n } => {
-            let (h, n, verdict) = (*h, *n, Verdict::Stop);
-            let answer = Step::Answer { h, n, verdict };
-            drawing.tell(&answer, &performed.entry)?;
-            match &performed.stop {
-                None => Ok(()),
-                Some(stop) => drawing.tell(&answer, stop),
-            }
+            let (h, n, verdict) = (*h, *n, verdict_of(performed));
+            drawing.tell(
+                number,
+                text,
+                &Step::Answer { h, n, verdict },
+                &performed.entry,
+            )?;
+            let Some(stop) = &performed.stop else {
+                return Ok(());
+            };
+            let verdict = Verdict::Stop;
+            drawing.tell(number, text, &Step::Answer { h, n, verdict }, stop)
         }
     }
 }
 
-/// Performs the pieces of a plan that stands at its beginning, and draws them. The run is lent, since each way out of its
-/// owner drops the core, which is dear to prove.
+/// Performs the pieces of a plan that stands at its beginning, and draws them, each with the line that says it. The run is lent, since each way
+/// out of its owner drops the core, which is dear to prove.
 fn draw_all<C: Callback, D: Device>(
     run: &mut PlanRun<C, D>,
     left: &mut IntoIter<C>,
     plan: &[Plan],
+    lines: &[NumberedLine<'_>],
     drawing: &mut Drawing,
 ) -> Result<(), AllocError>
     requires new { IsNew C.rule run.old }
     requires callbacks { length (into_iter_items left.old) ≡ count_by is_submission plan.now }
     requires no_verdict { AllByRecursion (λ piece. is_verdict piece ≡ false) plan.now }
 {
+    let mut lines = lines.iter();
     for piece in plan {
+        let Some(line) = lines.next() else {
+            return Ok(());
+        };
         let callback = next_callback(piece, left);
         let performed = run.perform(copy_of(piece)?, callback)?;
-        tell(drawing, piece, &performed)?;
+        tell(drawing, line, piece, &performed)?;
     }
     Ok(())
 }
 
-/// The drawing of a plan's run over the core. An error where memory is refused.
+/// Draws a plan's run over the core: each piece with its line, of which there are as many. An error where memory is refused.
 pub fn draw<C: Callback, D: Device>(
     alloc: Global,
     setup: Setup<D>,
     plan: &[Plan],
+    lines: &[NumberedLine<'_>],
     callbacks: Vec<C>,
-) -> Result<Drawing, AllocError>
+    drawing: &mut Drawing,
+) -> Result<(), AllocError>
     requires callbacks { length callbacks.items ≡ count_by is_submission plan.now }
     requires no_verdict { AllByRecursion (λ piece. is_verdict piece ≡ false) plan.now }
 {
     let mut run = PlanRun::new(alloc, setup)?;
     let mut left = callbacks.into_iter();
-    let mut drawing = Drawing::new(alloc);
-    draw_all(&mut run, &mut left, plan, &mut drawing)?;
-    Ok(drawing)
+    draw_all(&mut run, &mut left, plan, lines, drawing)
 }

@@ -29,6 +29,7 @@ mod lines;
 mod stepwise;
 mod tasks;
 
-pub use devices::devices_of;
-pub use lines::write_rest;
+pub use devices::{devices_of, parts_of};
+pub use ending::run_to_end;
+pub use lines::{Parts, write_rest};
 pub use tasks::{Ending, capture_run, draw_run, print_left, print_steps, run, run_alone};

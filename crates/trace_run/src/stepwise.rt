@@ -11,36 +11,18 @@ ghost use Rattle.trace_io.specs.Faults.{IsOfRun};
 ghost use Rattle.trace_io.specs.Output.{AppendsSome};
 ghost use Rattle.trace_scenario.specs.StepLines.{numbered};
 ghost use Rattle.trace_run.specs.Printed.{BeginsPiece, CanStart, PrintsPiece, PrintsText, Puts};
-ghost use Rattle.trace_run.specs.Stepwise.{behind_line, piece_text, stepwise_text, BeginsSteps, PrintsSteps};
+ghost use Rattle.trace_run.specs.Stepwise.{piece_text, stepwise_text, BeginsSteps, PrintsSteps};
 
 use crate::lines::{Parts, Reach, write_rest};
 use std::alloc::{AllocError, Global};
 use std::io::Write;
 use std::vec::IntoIter;
-use trace_io::{Fault, Lines};
+use trace_io::{Fault, Lines, add_behind};
 use trace_scenario::NumberedLine;
 use usb_callback::Callback;
 use usb_device::Device;
-use usb_model::{Entry, Plan, Sequence};
+use usb_model::{Plan, Sequence};
 use usb_purge::{Performed, PlanRun, next_callback};
-
-/// Puts an entry behind a line, and both behind the text.
-fn add_behind(
-    alloc: Global,
-    text: &mut Vec<u8>,
-    number: u64,
-    line: &[u8],
-    entry: &Entry,
-) -> Result<(), AllocError>
-    ensures { IfOk result (λ _. text.new.items ≡ text.old.items ++ behind_line (number, line.now) entry.now) }
-{
-    let front = format!(in alloc; "{number} ")?;
-    text.extend_from_slice(front.as_bytes())?;
-    text.extend_from_slice(line)?;
-    let back = format!(in alloc; " | {entry}\n")?;
-    text.extend_from_slice(back.as_bytes())?;
-    Ok(())
-}
 
 /// The entries of a piece, each behind the piece's line.
 #[tactic(auto, unfolding(crate::specs::Stepwise::piece_text))]

@@ -15,14 +15,14 @@ ghost use Rattle.trace_run.specs.Tasks.{AppendsAny, alone_text, ending_of, left_
 
 use crate::capture::capture_plan;
 use crate::devices::{callbacks_of, devices_of, parts_of};
-use crate::drawing::draw;
+use crate::drawing::{draw, tell_endpoints};
 use crate::ending::run_to_end;
 use crate::lines::{Reach, print_alone, print_plan};
 use crate::stepwise::print_stepwise;
 use std::alloc::{AllocError, Global};
 use std::io::Write;
 use trace_io::{Fault, write_bytes};
-use trace_picture::Drawing;
+use trace_picture::{Drawing, Form};
 use trace_scenario::{DescribedDevice, NumberedLine, Scenario, ScriptedDevice};
 use usb_left::{left_behind, lines_of};
 use usb_model::{Name, Sequence};
@@ -36,6 +36,8 @@ pub enum Ending {
     BadLines,
     /// A capture has no device that is kept, and what is said of the others is told.
     NoDevices,
+    /// A line of a test expects something else than there is, and that is told.
+    Differs,
 }
 
 /// How a task ends whose run came so far.
@@ -152,41 +154,50 @@ pub fn run_alone<W: Write>(
 /// How many steps a picture has at most.
 const MOST_DRAWN: u64 = 2_000;
 
-/// The page of a drawing's steps from one to another; refused where they are too many.
-fn page_of(drawing: &Drawing, from: u64, to: u64) -> Result<String, Fault>
+/// A drawing in this form; refused where it has too many steps.
+fn text_of(drawing: &Drawing, form: Form) -> Result<String, Fault>
     ensures fault { IfErr result (λ fault. IsOfPicture fault) }
 {
-    let steps = drawing
-        .width()
-        .min(to)
-        .saturating_sub(from.saturating_sub(1));
+    let steps = drawing.width();
     if steps > MOST_DRAWN {
         return Err(Fault::Wide(steps));
     }
-    Ok(drawing.part(from, to)?)
+    Ok(drawing.text(form)?)
 }
 
-/// Prints a picture of a scenario's run, of the steps from one to another, both counted from 1. Refused, and nothing is printed, where they
-/// are more than 2,000. What it shows is no matter of contracts.
+/// Prints a picture of a scenario's run, or a page that has it: of the steps whose lines are those from one number to another, as the scenario's
+/// lines are counted. Refused, and nothing is printed, where they are more than 2,000. What it shows is no matter of contracts.
 pub fn draw_run<W: Write>(
     alloc: Global,
     scenario: Scenario,
+    lines: &[NumberedLine<'_>],
     from: u64,
     to: u64,
+    form: Form,
     out: &mut W,
 ) -> Result<Ending, Fault>
-    requires { IsRunnable scenario }
+    requires runnable { IsRunnable scenario }
+    requires each { length lines.now ≡ length scenario.plan }
     ensures drawn { AppendsAny (W.contents out.old) (W.contents out.new) }
     ensures good { IfOk result (λ ending. ending ≡ Ending.Good) }
     ensures fault { IfErr result (λ fault. IsOfPicture fault) }
     ensures silent { IfErr result (λ fault. IfWide fault (λ _. Keeps (W.contents out.old) (W.contents out.new))) }
 {
     let Scenario { setup, plan, rules } = scenario;
+    let mut drawing = Drawing::new(alloc, from, to);
+    tell_endpoints(&mut drawing, setup.as_slice())?;
     let devices = devices_of(alloc, setup)?;
     let callbacks = callbacks_of(alloc, rules.as_slice())?;
-    let drawing = draw(alloc, devices, plan.as_slice(), callbacks)?;
-    let page = page_of(&drawing, from, to)?;
-    write_bytes(out, page.as_bytes())?;
+    draw(
+        alloc,
+        devices,
+        plan.as_slice(),
+        lines,
+        callbacks,
+        &mut drawing,
+    )?;
+    let text = text_of(&drawing, form)?;
+    write_bytes(out, text.as_bytes())?;
     out.flush()?;
     Ok(Ending::Good)
 }

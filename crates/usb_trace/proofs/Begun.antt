@@ -6,7 +6,7 @@ use Rattle.trace_scenario.specs.Findings.{bad_lines, good_lines}
 use Rattle.trace_scenario.specs.Scenario.{scenario_of}
 use Rattle.trace_scenario.specs.declared.scenario.Scenario.{Scenario}
 use Rattle.trace_io.specs.declared.words.Task.{Task}
-use Rattle.trace_io.specs.declared.words.Task.TheVariants.{Run, Steps, Alone, Live, Left, Check, Draw, Capture, Devices}
+use Rattle.trace_io.specs.declared.words.Task.TheVariants.{Run, Steps, Alone, Live, Left, Check, Draw, Page, Capture, Devices, Explain, Test, Device, Describe}
 use Rattle.trace_io.specs.Output.{AppendsSome}
 use Rattle.trace_io.proofs.Beginnings.{none_yet, some_behind, some_of_front}
 use Rattle.trace_io.proofs.Findings.{no_report}
@@ -14,8 +14,10 @@ use Rattle.usb_trace.specs.Lived.{lived_of, AppendsSomeCallbacks, BeginsCallback
 use Rattle.trace_recorded.specs.declared.capture_fault.CaptureFault.{CaptureFault}
 use Rattle.trace_recorded.specs.declared.scenario.RecordedScenario.{RecordedScenario}
 use Rattle.trace_recorded.specs.Scenario.{recorded_scenario}
-use Rattle.trace_run.specs.Tasks.{alone_text, capture_bytes, left_lines, run_text, steps_text}
-use Rattle.usb_trace.specs.Program.{Begins, BeginsEntries, BeginsPicture, BeginsRecorded}
+use Rattle.trace_run.specs.Tasks.{AppendsAny, alone_text, capture_bytes, left_lines, run_text, steps_text}
+use Rattle.trace_descriptor.specs.declared.fault.DescriptorFault.{DescriptorFault}
+use Rattle.trace_descriptor.specs.Device.{device_text}
+use Rattle.usb_trace.specs.Program.{reasons_text, Begins, BeginsDevice, BeginsEntries, BeginsOutcome, BeginsPicture, BeginsRecorded}
 
 -- known bytes stay
 pub keeps_same : (old : Option (List ℕ)) → Keeps old old
@@ -37,6 +39,19 @@ pub no_recorded : (said : Result RecordedScenario CaptureFault) (old : Option (L
 no_recorded (Ok r) old = none_yet r.text old
 no_recorded (Err fault) old = keeps_same old
 
+-- nothing of a device is told
+pub no_device : (said : Result (List ℕ) DescriptorFault) (old : Option (List ℕ)) → BeginsDevice said old old
+no_device (Ok lines) old = none_yet lines old
+no_device (Err fault) old = keeps_same old
+
+-- nothing of a table is told
+pub no_table : (old : Option (List ℕ)) → AppendsAny old old
+no_table old = let none = none_yet [] old in (none.0, none.2)
+
+-- nothing of what came of a test
+pub no_outcome : (text : List ℕ) (old : Option (List ℕ)) → BeginsOutcome text old old
+no_outcome text old = inl (keeps_same old)
+
 -- nothing is a beginning of what callbacks are told
 pub none_begun : (s : Scenario) (old : Option (List ℕ)) → AppendsSomeCallbacks s old old
 none_begun s old = inl (keeps_same old)
@@ -57,6 +72,11 @@ nothing_of Check text old = no_report (bad_lines text) (counts_of (good_lines te
 nothing_of (Draw from to) text old = no_picture (scenario_of text) old
 nothing_of Capture text old = no_entries (capture_bytes text) (scenario_of text) old
 nothing_of Devices text old = no_recorded (recorded_scenario text) old
+nothing_of (Page from to) text old = no_picture (scenario_of text) old
+nothing_of Explain text old = no_entries (reasons_text text) (scenario_of text) old
+nothing_of Test text old = no_outcome text old
+nothing_of Device text old = no_device (device_text text) old
+nothing_of Describe text old = no_table old
 
 -- nothing is written, whatever the input has
 pub nothing_begun : (input : Option (List ℕ)) (t : Task) (old : Option (List ℕ)) → IfSome input (λ text. Begins t text old old)

@@ -16,23 +16,28 @@ use Rattle.trace_scenario.specs.Findings.{bad_lines, good_lines}
 use Rattle.trace_scenario.specs.Scenario.{nothing_said, scenario_of}
 use Rattle.trace_run.specs.Tasks.{capture_bytes}
 use Rattle.trace_io.specs.CommandLine.{AreBad, AskFor, AskForHelp, grammar}
-use Rattle.trace_io.specs.Faults.{fault_of_capture, message_of, most_drawn, IsOfRun}
+use Rattle.trace_io.specs.Faults.{fault_of_capture, fault_of_descriptor, message_of, most_drawn, IsOfRun}
 use Rattle.trace_io.specs.Input.{longest_input}
 use Rattle.trace_io.specs.declared.fault.Fault.{Fault}
 use Rattle.trace_io.specs.declared.fault.Fault.TheVariants as why
 use Rattle.trace_io.specs.declared.fault.Fault.TheVariants.{Line, Memory, InputOutput, TooLong, Rounds, Wide}
+use Rattle.trace_descriptor.specs.declared.fault.DescriptorFault.{DescriptorFault}
+use Rattle.trace_descriptor.specs.declared.fault.DescriptorFault.TheVariants as descriptor
+use Rattle.trace_descriptor.specs.Faults.{IsDescriptorFault}
+use Rattle.trace_descriptor.specs.Device.{device_text}
+use Rattle.trace_test.specs.Tests.{IsOfTest}
 use Rattle.trace_recorded.specs.declared.capture_fault.CaptureFault.{CaptureFault}
 use Rattle.trace_recorded.specs.declared.capture_fault.CaptureFault.TheVariants as capture
 use Rattle.trace_recorded.specs.Faults.{IsCaptureFault}
 use Rattle.trace_recorded.specs.Scenario.{recorded_scenario}
 use Rattle.trace_scenario.specs.declared.scenario.Scenario.{Scenario}
 use Rattle.usb_trace.specs.Lived.{lived_of, AppendsCallbacks, GoesOn, IsOfLive}
-use Rattle.usb_trace.specs.Program.{scenario_for, status_of, AskForThreads, Begins, Draws, EndsLate, FindsNone, IsAlone, IsDone, IsReported, IsSilentAtBad, IsThreaded, Performs, TellsRest, TellsWhy}
+use Rattle.usb_trace.specs.Program.{status_of, AskForOther, AskForThreads, Begins, Draws, EndsLate, FindsDifference, FindsNone, IsAlone, IsBadDescriptor, IsBadLine, IsDone, IsReported, IsSilentAtBad, IsThreaded, Performs, ReadsOther, TellsRest, TellsWhy}
 use Rattle.trace_run.specs.declared.tasks.Ending.{Ending}
-use Rattle.trace_run.specs.declared.tasks.Ending.TheVariants.{Good, BadLines, NoDevices}
+use Rattle.trace_run.specs.declared.tasks.Ending.TheVariants.{Good, BadLines, NoDevices, Differs}
 use Rattle.usb_trace.proofs.Begun.{keeps_same, nothing_begun, told_front}
 use Rattle.trace_io.specs.declared.words.Task.{Task}
-use Rattle.trace_io.specs.declared.words.Task.TheVariants.{Run, Steps, Alone, Live, Left, Check, Draw, Capture, Devices}
+use Rattle.trace_io.specs.declared.words.Task.TheVariants.{Run, Steps, Alone, Live, Left, Check, Draw, Page, Capture, Devices, Explain, Test, Device, Describe}
 use Rattle.trace_scenario.specs.declared.findings.Counts.{Counts}
 use Rattle.trace_scenario.specs.declared.findings.Finding.{Finding}
 use Rattle.trace_io.specs.Output.{finding_text, counts_line, AppendsReport, AppendsSome}
@@ -74,6 +79,7 @@ pub lived : (text : List ℕ) (rounds : ℕ) (s : Scenario) (notes : List ℕ) (
 lived text rounds s notes old new (Ok Good) read short lines good fault silent = (s, read, short, lines)
 lived text rounds s notes old new (Ok BadLines) read short lines good fault silent = cc
 lived text rounds s notes old new (Ok NoDevices) read short lines good fault silent = cc
+lived text rounds s notes old new (Ok Differs) read short lines good fault silent = cc
 lived text rounds s notes old new (Err (Line line)) read short lines good fault silent = absurd fault
 lived text rounds s notes old new (Err Memory) read short lines good fault silent = tt
 lived text rounds s notes old new (Err InputOutput) read short lines good fault silent = tt
@@ -85,6 +91,7 @@ lived text rounds s notes old new (Err (Rounds told)) read short lines good faul
 )
 lived text rounds s notes old new (Err (Wide steps)) read short lines good fault silent = absurd fault
 lived text rounds s notes old new (Err (why.Capture refused)) read short lines good fault silent = absurd fault
+lived text rounds s notes old new (Err (why.Descriptor refused)) read short lines good fault silent = absurd fault
 
 -- a run ends as it may whose capture is written
 pub captured : (text : List ℕ) (s : Scenario) (old new : Option (List ℕ)) (r : Result Ending Fault) → scenario_of text ≡ Ok s → length text ≤ longest_input
@@ -92,6 +99,7 @@ pub captured : (text : List ℕ) (s : Scenario) (old new : Option (List ℕ)) (r
 captured text s old new (Ok Good) read short file good fault = (s, read, short, (file, refl))
 captured text s old new (Ok BadLines) read short file good fault = cc
 captured text s old new (Ok NoDevices) read short file good fault = cc
+captured text s old new (Ok Differs) read short file good fault = cc
 captured text s old new (Err (Line line)) read short file good fault = absurd fault
 captured text s old new (Err Memory) read short file good fault = tt
 captured text s old new (Err InputOutput) read short file good fault = tt
@@ -99,6 +107,7 @@ captured text s old new (Err TooLong) read short file good fault = absurd fault
 captured text s old new (Err (Rounds rounds)) read short file good fault = absurd fault
 captured text s old new (Err (Wide steps)) read short file good fault = absurd fault
 captured text s old new (Err (why.Capture refused)) read short file good fault = absurd fault
+captured text s old new (Err (why.Descriptor refused)) read short file good fault = absurd fault
 
 -- a check of a text with a bad line isn't done
 done_is_good : (text notes : List ℕ) (old new : Option (List ℕ)) → IsDone Check text notes old new → bad_lines text ≡ []
@@ -114,6 +123,7 @@ bad_status : (text notes : List ℕ) (ended : Result Ending Fault) (status : ℕ
 bad_status text notes (Ok Good) status old new done same bad = absurd (bad (done_is_good text notes old new done))
 bad_status text notes (Ok BadLines) status old new done same bad = not_zero status same
 bad_status text notes (Ok NoDevices) status old new done same bad = not_zero status same
+bad_status text notes (Ok Differs) status old new done same bad = not_zero status same
 bad_status text notes (Err fault) status old new done same bad = not_zero status same
 
 -- words ask for one task
@@ -134,6 +144,7 @@ done_rest : (t : Task) (text notes : List ℕ) (ended : Result Ending Fault) (st
 done_rest t text notes (Ok Good) status old new err_old err_new ends same noted zero = (notes, ends, noted)
 done_rest t text notes (Ok BadLines) status old new err_old err_new ends same noted zero = absurd (omega arith)
 done_rest t text notes (Ok NoDevices) status old new err_old err_new ends same noted zero = absurd (omega arith)
+done_rest t text notes (Ok Differs) status old new err_old err_new ends same noted zero = absurd (omega arith)
 done_rest t text notes (Err fault) status old new err_old err_new ends same noted zero = absurd (omega arith)
 
 -- the same, whatever the input has
@@ -159,6 +170,11 @@ threads_asked words Check asks threaded = absurd threaded
 threads_asked words (Draw from to) asks threaded = absurd threaded
 threads_asked words Capture asks threaded = absurd threaded
 threads_asked words Devices asks threaded = absurd threaded
+threads_asked words (Page from to) asks threaded = absurd threaded
+threads_asked words Explain asks threaded = absurd threaded
+threads_asked words Test asks threaded = absurd threaded
+threads_asked words Device asks threaded = absurd threaded
+threads_asked words Describe asks threaded = absurd threaded
 
 -- so nothing is told behind status 0 but by a run in threads
 pub quiet_unless_threads : (words : List Text) (t : Task) (notes : List ℕ) (ended : Result Ending Fault) (status : ℕ) (err_old err_new : Option (List ℕ)) → AskFor words t
@@ -178,11 +194,17 @@ none_found : (words : List Text) (input : Option (List ℕ)) (t : Task) (notes :
 none_found words None t notes old new asks ends = tt
 none_found words (Some text) t notes old new asks ends = (subst (λ (x : Task). AskFor words x) ends.0 asks, ends.1)
 
--- a line that ended a run is the text's first bad line
+-- a test that differs was asked for
+difference_found : (words : List Text) (input : Option (List ℕ)) (t : Task) (notes : List ℕ) (old new : Option (List ℕ)) → AskFor words t
+    → IfSome input (λ text. Performs t text notes old new (Ok Differs)) → IfSome input (λ text. AskFor words Test × FindsDifference text old new)
+difference_found words None t notes old new asks ends = tt
+difference_found words (Some text) t notes old new asks ends = (subst (λ (x : Task). AskFor words x) ends.0 asks, ends.1)
+
+-- a line that ended a run is a bad one of the text
 line_of : (input : Option (List ℕ)) (t : Task) (line : ℕ) (notes : List ℕ) (old new : Option (List ℕ)) → IfSome input (λ text. Performs t text notes old new (Err (Line line)))
-    → IfSome input (λ text. (scenario_for t text ≡ Err line) × (t ≢ Check) × (t ≢ Devices))
+    → IfSome input (λ text. IsBadLine t text line)
 line_of None t line notes old new ends = tt
-line_of (Some text) t line notes old new ends = (ends.0, ends.2, ends.3)
+line_of (Some text) t line notes old new ends = ends.0
 
 -- an input that ended a run by its length is longer than one may be
 length_of : (input : Option (List ℕ)) (t : Task) (notes : List ℕ) (old new : Option (List ℕ)) → IfSome input (λ text. Performs t text notes old new (Err TooLong))
@@ -208,6 +230,43 @@ refused_of : (input : Option (List ℕ)) (t : Task) (refused : CaptureFault) (no
 refused_of None t refused notes old new ends = tt
 refused_of (Some text) t refused notes old new ends = (ends.0, ends.2)
 
+-- a descriptor that is refused was asked for
+descriptor_of : (input : Option (List ℕ)) (t : Task) (refused : DescriptorFault) (notes : List ℕ) (old new : Option (List ℕ)) → IfSome input (λ text. Performs t text notes old new (Err (why.Descriptor refused)))
+    → IfSome input (λ text. IsBadDescriptor t text refused)
+descriptor_of None t refused notes old new ends = tt
+descriptor_of (Some text) t refused notes old new ends = ends.0
+
+-- a device that is refused, where the fault is its descriptor's own
+pub device_refused : (text : List ℕ) (refused : DescriptorFault) (old new : Option (List ℕ)) → IsDescriptorFault refused (device_text text) → Keeps old new → Performs Device text [] old new (Err (fault_of_descriptor refused))
+device_refused text descriptor.NotADescriptor old new is kept = (is, kept)
+device_refused text descriptor.NotADevice old new is kept = (is, kept)
+device_refused text descriptor.NoConfiguration old new is kept = (is, kept)
+device_refused text (descriptor.NotHex place) old new is kept = (is, kept)
+device_refused text descriptor.OddDigits old new is kept = (is, kept)
+device_refused text (descriptor.Descriptor fault) old new is kept = (is, kept)
+device_refused text descriptor.Memory old new is kept = tt
+
+-- and so for a table
+pub table_refused : (text : List ℕ) (refused : DescriptorFault) (old new : Option (List ℕ)) → Keeps old new → Performs Describe text [] old new (Err (fault_of_descriptor refused))
+table_refused text descriptor.NotADescriptor old new kept = (tt, kept)
+table_refused text descriptor.NotADevice old new kept = (tt, kept)
+table_refused text descriptor.NoConfiguration old new kept = (tt, kept)
+table_refused text (descriptor.NotHex place) old new kept = (tt, kept)
+table_refused text descriptor.OddDigits old new kept = (tt, kept)
+table_refused text (descriptor.Descriptor fault) old new kept = (tt, kept)
+table_refused text descriptor.Memory old new kept = tt
+
+-- a test that comes to no end
+pub test_fails : (text : List ℕ) (fault : Fault) (old new : Option (List ℕ)) → IsOfTest text fault → Keeps old new → Performs Test text [] old new (Err fault)
+test_fails text (Line line) old new is kept = (is, kept)
+test_fails text Memory old new is kept = tt
+test_fails text InputOutput old new is kept = tt
+test_fails text TooLong old new is kept = absurd is
+test_fails text (Rounds rounds) old new is kept = absurd is
+test_fails text (Wide steps) old new is kept = absurd is
+test_fails text (why.Capture refused) old new is kept = absurd is
+test_fails text (why.Descriptor refused) old new is kept = absurd is
+
 -- a capture that is refused, where the fault is its own
 pub capture_refused : (text : List ℕ) (refused : CaptureFault) (old new : Option (List ℕ)) → IsCaptureFault refused (recorded_scenario text) → Keeps old new → Performs Devices text [] old new (Err (fault_of_capture refused))
 capture_refused text capture.NotACapture old new is kept = (refl, kept, is)
@@ -216,51 +275,49 @@ capture_refused text (capture.LinkType number) old new is kept = (refl, kept, is
 capture_refused text capture.NoInterface old new is kept = (refl, kept, is)
 capture_refused text capture.Memory old new is kept = tt
 
--- where a line is bad nothing is written but by a check, and of captures
-pub silent_unless : (words : List Text) (input : Option (List ℕ)) (t : Task) (old new : Option (List ℕ)) → AskFor words t → IfSome input (λ text. t ≢ Check → t ≢ Devices → IsSilentAtBad text old new)
-    → IfSome input (λ text. IsSilentAtBad text old new ⊎ AskForHelp words ⊎ AskFor words Check ⊎ AskFor words Devices)
+-- where a line is bad nothing is written but by a task that reads something else, or tells its bad lines
+pub silent_unless : (words : List Text) (input : Option (List ℕ)) (t : Task) (old new : Option (List ℕ)) → AskFor words t → IfSome input (λ text. ReadsOther t ⊎ IsSilentAtBad text old new)
+    → IfSome input (λ text. IsSilentAtBad text old new ⊎ AskForHelp words ⊎ AskForOther words)
 silent_unless words None t old new asks silent = tt
-silent_unless words (Some text) Run old new asks silent = inl (silent (λ e. cc) (λ e. cc))
-silent_unless words (Some text) Steps old new asks silent = inl (silent (λ e. cc) (λ e. cc))
-silent_unless words (Some text) (Alone h) old new asks silent = inl (silent (λ e. cc) (λ e. cc))
-silent_unless words (Some text) (Live rounds) old new asks silent = inl (silent (λ e. cc) (λ e. cc))
-silent_unless words (Some text) Left old new asks silent = inl (silent (λ e. cc) (λ e. cc))
-silent_unless words (Some text) Check old new asks silent = inr (inr (inl asks))
-silent_unless words (Some text) (Draw from to) old new asks silent = inl (silent (λ e. cc) (λ e. cc))
-silent_unless words (Some text) Capture old new asks silent = inl (silent (λ e. cc) (λ e. cc))
-silent_unless words (Some text) Devices old new asks silent = inr (inr (inr asks))
+silent_unless words (Some text) t old new asks (inl other) = inr (inr (t, asks, other))
+silent_unless words (Some text) t old new asks (inr silent) = inl silent
 
 -- what is told of a task that ended so
 pub told_of : (words : List Text) (input : Option (List ℕ)) (t : Task) (notes : List ℕ) (ended : Result Ending Fault) (status : ℕ) (old new err_old err_new : Option (List ℕ))
     → AskFor words t → IfSome input (λ text. Performs t text notes old new ended) → IfErr ended (IsAlone notes) → status ≡ status_of ended
-    → OnOk ended (notes ≡ [] → Keeps err_old err_new) → (ended ≡ Ok BadLines → notes ≡ []) → (ended ≡ Ok NoDevices → notes ≡ []) → IfErr ended (λ fault. AppendsSome (message_of fault ++ notes) err_old err_new)
+    → OnOk ended (notes ≡ [] → Keeps err_old err_new) → (ended ≡ Ok BadLines → notes ≡ []) → (ended ≡ Ok NoDevices → notes ≡ []) → (ended ≡ Ok Differs → notes ≡ []) → IfErr ended (λ fault. AppendsSome (message_of fault ++ notes) err_old err_new)
     → status ≡ 1 → TellsWhy words input old new err_old err_new
-told_of words input t notes (Ok Good) status old new err_old err_new asks ends bare same quiet none no_device told one = absurd (omega arith)
-told_of words input t notes (Ok BadLines) status old new err_old err_new asks ends bare same quiet none no_device told one = inl (reported words input t notes old new asks ends, quiet (none refl))
-told_of words input t notes (Ok NoDevices) status old new err_old err_new asks ends bare same quiet none no_device told one =
+told_of words input t notes (Ok Good) status old new err_old err_new asks ends bare same quiet none no_device no_difference told one = absurd (omega arith)
+told_of words input t notes (Ok BadLines) status old new err_old err_new asks ends bare same quiet none no_device no_difference told one = inl (reported words input t notes old new asks ends, quiet (none refl))
+told_of words input t notes (Ok NoDevices) status old new err_old err_new asks ends bare same quiet none no_device no_difference told one =
     inr (inl (none_found words input t notes old new asks ends, quiet (no_device refl)))
-told_of words input t notes (Err (Line line)) status old new err_old err_new asks ends bare same quiet none no_device told one =
-    inr (inr (Line line, notes, (t, asks, line_of input t line notes old new ends), bare, told))
-told_of words input t notes (Err Memory) status old new err_old err_new asks ends bare same quiet none no_device told one = inr (inr (Memory, notes, tt, bare, told))
-told_of words input t notes (Err InputOutput) status old new err_old err_new asks ends bare same quiet none no_device told one = inr (inr (InputOutput, notes, tt, bare, told))
-told_of words input t notes (Err TooLong) status old new err_old err_new asks ends bare same quiet none no_device told one =
-    inr (inr (TooLong, notes, (t, asks, length_of input t notes old new ends), bare, told))
-told_of words input t notes (Err (Rounds rounds)) status old new err_old err_new asks ends bare same quiet none no_device told one =
-    inr (inr (Rounds rounds, notes, (t, asks, late_of input t rounds notes old new ends), tt, told))
-told_of words input t notes (Err (Wide steps)) status old new err_old err_new asks ends bare same quiet none no_device told one =
-    inr (inr (Wide steps, notes, (t, asks, wide_of input t steps notes old new ends), bare, told))
-told_of words input t notes (Err (why.Capture refused)) status old new err_old err_new asks ends bare same quiet none no_device told one =
-    inr (inr (why.Capture refused, notes, (t, asks, refused_of input t refused notes old new ends), bare, told))
+told_of words input t notes (Ok Differs) status old new err_old err_new asks ends bare same quiet none no_device no_difference told one =
+    inr (inr (inl (difference_found words input t notes old new asks ends, quiet (no_difference refl))))
+told_of words input t notes (Err (Line line)) status old new err_old err_new asks ends bare same quiet none no_device no_difference told one =
+    inr (inr (inr (Line line, notes, (t, asks, line_of input t line notes old new ends), bare, told)))
+told_of words input t notes (Err Memory) status old new err_old err_new asks ends bare same quiet none no_device no_difference told one = inr (inr (inr (Memory, notes, tt, bare, told)))
+told_of words input t notes (Err InputOutput) status old new err_old err_new asks ends bare same quiet none no_device no_difference told one = inr (inr (inr (InputOutput, notes, tt, bare, told)))
+told_of words input t notes (Err TooLong) status old new err_old err_new asks ends bare same quiet none no_device no_difference told one =
+    inr (inr (inr (TooLong, notes, (t, asks, length_of input t notes old new ends), bare, told)))
+told_of words input t notes (Err (Rounds rounds)) status old new err_old err_new asks ends bare same quiet none no_device no_difference told one =
+    inr (inr (inr (Rounds rounds, notes, (t, asks, late_of input t rounds notes old new ends), tt, told)))
+told_of words input t notes (Err (Wide steps)) status old new err_old err_new asks ends bare same quiet none no_device no_difference told one =
+    inr (inr (inr (Wide steps, notes, (t, asks, wide_of input t steps notes old new ends), bare, told)))
+told_of words input t notes (Err (why.Capture refused)) status old new err_old err_new asks ends bare same quiet none no_device no_difference told one =
+    inr (inr (inr (why.Capture refused, notes, (t, asks, refused_of input t refused notes old new ends), bare, told)))
+told_of words input t notes (Err (why.Descriptor refused)) status old new err_old err_new asks ends bare same quiet none no_device no_difference told one =
+    inr (inr (inr (why.Descriptor refused, notes, (t, asks, descriptor_of input t refused notes old new ends), bare, told)))
 
 -- what is told of a fault of memory or of a stream, whatever the words are
 pub told_words : (words : List Text) (input : Option (List ℕ)) (fault : Fault) (old new err_old err_new : Option (List ℕ)) → IsOfRun fault → AppendsSome (message_of fault) err_old err_new → TellsWhy words input old new err_old err_new
 told_words words input (Line line) old new err_old err_new run told = absurd run
-told_words words input Memory old new err_old err_new run told = inr (inr (Memory, [], tt, refl, told_front (message_of Memory) [] err_old err_new told))
-told_words words input InputOutput old new err_old err_new run told = inr (inr (InputOutput, [], tt, refl, told_front (message_of InputOutput) [] err_old err_new told))
+told_words words input Memory old new err_old err_new run told = inr (inr (inr (Memory, [], tt, refl, told_front (message_of Memory) [] err_old err_new told)))
+told_words words input InputOutput old new err_old err_new run told = inr (inr (inr (InputOutput, [], tt, refl, told_front (message_of InputOutput) [] err_old err_new told)))
 told_words words input TooLong old new err_old err_new run told = absurd run
 told_words words input (Rounds rounds) old new err_old err_new run told = absurd run
 told_words words input (Wide steps) old new err_old err_new run told = absurd run
 told_words words input (why.Capture refused) old new err_old err_new run told = absurd run
+told_words words input (why.Descriptor refused) old new err_old err_new run told = absurd run
 
 -- words that are refused are bad
 pub words_are_bad : (words : List Text) (error : Error) → HasKind (fault_of grammar words) error

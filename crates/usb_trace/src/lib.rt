@@ -1,7 +1,7 @@
 //! The program `usbtrace` as a library: the scenario of an input is run by the core on rings, and its entries are
-//! printed as they arise, or drawn, or written as a capture; or it is run in threads, and what its callbacks were told is
-//! printed; or it is checked and its bad lines are printed. Or the input is a capture, and what its devices said is printed
-//! as a scenario. The texts are those of docs/FORMATS.md.
+//! printed as they arise, or with their reasons, or drawn, or written as a capture; or it is run in threads, and what its
+//! callbacks were told is printed; or it is checked and its bad lines are printed, or tested. Or the input is a capture, and what
+//! its devices said is printed as a scenario, or a file of descriptors. The texts are those of docs/FORMATS.md.
 //!
 //! The one promise: what is printed is the text of the entries of the scenario that the input spells, or their capture, or
 //! the scenario of the capture that the input is, or a beginning of it where the status isn't 0.
@@ -10,7 +10,8 @@
 //!
 //! - `program.rt`, specs/Program: `trace`, over any reader and writers
 //! - `live.rt`, `lived.rt`, specs/Lived: a scenario run in threads, and which lines it can't have
-//! - `recorded.rt`: the scenario of a capture
+//! - `explain.rt`, `tested.rt`, `picture.rt`: a scenario's run with its reasons, as a test, and as a picture or a page
+//! - `recorded.rt`, `descriptor.rt`: the scenario of a capture; a device's lines and table
 //!
 //! # Contracts
 //!
@@ -22,21 +23,27 @@
 //!   contract says what is written; of `capture` it is the file of its run's events, those of the text's `device` lines
 //!   in front, each entry from its step's line (`capture_bytes`). Of `devices` the input is a capture of at most so
 //!   many bytes, and what was written is the text of its scenario (`recorded_scenario` of `trace_recorded`), in which a
-//!   device is kept. Or the words asked for help, and the input wasn't read. Nothing is on standard error
+//!   device is kept. Of `explain` what was written are the lines of `run --steps` with the reasons of their steps (`explained_text` of
+//!   `trace_explain`). Of `test` the input is a test, what came of it is that it is passed (`IsOutcome` of `trace_test`), and that was
+//!   written; of `device` it is a file of descriptors, and the lines of its device were written (`device_text` of
+//!   `trace_descriptor`); of `describe` and of a page, as of a picture, no contract says what is written. Or the words asked for help, and the input wasn't read. Nothing is on standard error
 //! - `trace`, status 1: a check wrote a line with the number of each bad line, in order, of 1,000 at most, then how
 //!   many more there are, if so, and then the counts, and nothing is on standard error; or under `devices` no device is
-//!   kept, the text of the capture's scenario was written, and nothing is on standard error; or what is on standard error
+//!   kept, the text of the capture's scenario was written, and nothing is on standard error; or under `test` a line
+//!   differs, that was written, and nothing is on standard error; or what is on standard error
 //!   is a beginning of the message of a fault that fits: of a line, only where the words ask for no check and for no
-//!   capture's devices, and it is the text's first bad line (under `live` an `expire` or `unplug` line is bad too); of an
+//!   capture's devices, and it is the text's first bad line, of a test by its number there (under `live` an `expire` or `unplug` line is bad too); of an
 //!   input that is too long, only where it is; of more callbacks than `live` may call, only where some run over the devices
 //!   has more; of a picture with too many steps, only under `draw`; of a capture that is refused, only under `devices`, and
-//!   only the fault that the definition has. Want of memory and a failed stream fit always
+//!   only the fault that the definition has; of a descriptor, only under `device` and `describe`, and under `device` only that of the
+//!   definition. Want of memory and a failed stream fit always
 //! - `trace`, status 2: the words are bad; nothing is written on standard output, and the input isn't read
-//! - `trace`, any status: at a bad line, all but `check` and `devices`, which reads no scenario, write nothing on
-//!   standard output (help, where it is asked for, is written), and `check` doesn't answer 0. Where the words ask for
+//! - `trace`, any status: at a bad line, all but `check`, and those that read something else than a scenario (`test`, `devices`,
+//!   `device`, `describe`), write nothing on standard output (help, where it is asked for, is written), and `check` doesn't answer 0. Where the words ask for
 //!   no task the input isn't read. The status is 0, 1 or 2. However a task ends, what it wrote is a beginning of its
 //!   text: of the lines of the run, of those of the handle, of what callbacks were told in such a run, of what is left,
-//!   of the check's report, of the run's capture, or of a capture's scenario; and nothing where a capture is refused
+//!   of the check's report, of the run's capture, of the run with its reasons, of what came of a test, of a capture's
+//!   scenario, or of a device's lines; and nothing where a capture or a device is refused
 //! - within `usb_trace`: `run`, `run --steps`, `alone` and `capture` print each line or record as the core comes to it,
 //!   and keep no entry. A run that finds no memory prints the lines of a beginning of its entries (`PrintsTo`), or the
 //!   file of a beginning of its events (`PrintsFile`), unless printing fails too. The fault that ended a task is the
@@ -51,9 +58,13 @@
 //! `usbtrace` hands its words and streams to `trace`.
 #![tactic(auto)]
 
+mod descriptor;
+mod explain;
 mod live;
 mod lived;
+mod picture;
 mod program;
 mod recorded;
+mod tested;
 
 pub use program::trace;

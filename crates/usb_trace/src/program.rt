@@ -11,13 +11,17 @@ ghost use Rattle.trace_io.specs.Faults.{message_of, IsOfRun};
 ghost use Rattle.trace_io.specs.declared.fault.Fault.{Fault};
 ghost use Rattle.trace_io.specs.Input.{longest_input};
 ghost use Rattle.trace_io.specs.Output.{AppendsSome};
-ghost use Rattle.usb_trace.specs.Program.{status_of, AskForThreads, Begins, IsAlone, IsSilentAtBad, IsThreaded, Performs, TellsRest, TellsWhy};
+ghost use Rattle.usb_trace.specs.Program.{status_of, AskForOther, AskForThreads, Begins, IsAlone, IsSilentAtBad, IsThreaded, Performs, ReadsOther, TellsRest, TellsWhy};
 ghost use Rattle.trace_io.specs.declared.words.Task.{Task};
-ghost use Rattle.trace_run.specs.declared.tasks.Ending.TheVariants.{BadLines, NoDevices};
+ghost use Rattle.trace_run.specs.declared.tasks.Ending.TheVariants.{BadLines, Differs, NoDevices};
 ghost use Rattle.trace_io.specs.declared.words.Task.TheVariants.{Capture, Check, Devices, Steps};
 
+use crate::descriptor::{describe, device};
+use crate::explain::explain;
 use crate::live::live;
+use crate::picture::drawn;
 use crate::recorded::devices;
+use crate::tested::run_test;
 use clap::Error;
 use clap::error::ErrorKind;
 use std::alloc::Global;
@@ -26,7 +30,8 @@ use std::sync::Wait;
 use std::thread::Threads;
 use trace_io::print::print_findings;
 use trace_io::{Fault, Task, read_whole, read_words, write_bytes};
-use trace_run::{Ending, capture_run, draw_run, print_left, print_steps, run, run_alone};
+use trace_picture::Form;
+use trace_run::{Ending, capture_run, print_left, print_steps, run, run_alone};
 use trace_scenario::{Lined, Scenario, check, read_lined, read_scenario};
 
 /// The status of a run that ended early, of a check that found bad lines, and of a capture without devices.
@@ -56,7 +61,7 @@ pub fn trace<T: Threads + Wait + Sync, R: Read, W: Write, E: Write>(
         × Keeps (W.contents out.old) (W.contents out.new) × (input.new ≡ input.old) }
     ensures silent { IfSome (R.remaining input.old) (λ text.
         IsSilentAtBad text (W.contents out.old) (W.contents out.new) ⊎ AskForHelp (words_of words.now)
-        ⊎ AskFor (words_of words.now) Check ⊎ AskFor (words_of words.now) Devices) }
+        ⊎ AskForOther (words_of words.now)) }
     ensures bad { AskFor (words_of words.now) Check → IfSome (R.remaining input.old) (λ text. bad_lines text ≢ [] → result ≢ 0) }
     ensures unfinished { (task : Task) → AskFor (words_of words.now) task
         → IfSome (R.remaining input.old) (λ text. Begins task text (W.contents out.old) (W.contents out.new)) }
@@ -102,7 +107,7 @@ fn status_of<E: Write>(ended: Result<Ending, Fault>, notes: &[u8], err: &mut E) 
             tell_notes(notes, err);
             0
         }
-        Ok(Ending::BadLines | Ending::NoDevices) => {
+        Ok(Ending::BadLines | Ending::NoDevices | Ending::Differs) => {
             tell_notes(notes, err);
             FAILED
         }
@@ -141,7 +146,8 @@ fn perform<T: Threads + Wait + Sync, R: Read, W: Write>(
     ensures alone { IfErr result (IsAlone notes.new.items) }
     ensures bad_lines { result ≡ Ok BadLines → notes.new.items ≡ [] }
     ensures no_devices { result ≡ Ok NoDevices → notes.new.items ≡ [] }
-    ensures silent { IfSome (R.remaining input.old) (λ text. task ≢ Check → task ≢ Devices → IsSilentAtBad text (W.contents out.old) (W.contents out.new)) }
+    ensures differs { result ≡ Ok Differs → notes.new.items ≡ [] }
+    ensures silent { IfSome (R.remaining input.old) (λ text. ReadsOther task ⊎ IsSilentAtBad text (W.contents out.old) (W.contents out.new)) }
     ensures begun { IfSome (R.remaining input.old) (λ text. Begins task text (W.contents out.old) (W.contents out.new)) }
 {
     let text = read_whole(alloc, input)?;
@@ -156,11 +162,14 @@ fn perform<T: Threads + Wait + Sync, R: Read, W: Write>(
         Task::Live(rounds) => live(rt, alloc, text.as_slice(), rounds, out, notes),
         Task::Left => print_left(alloc, read_scenario(alloc, text.as_slice())?, out),
         Task::Check => report(alloc, text.as_slice(), out),
-        Task::Draw { from, to } => {
-            draw_run(alloc, read_scenario(alloc, text.as_slice())?, from, to, out)
-        }
+        Task::Draw { from, to } => drawn(alloc, text.as_slice(), Form::Picture, from, to, out),
+        Task::Page { from, to } => drawn(alloc, text.as_slice(), Form::Page, from, to, out),
         Task::Capture => capture(alloc, text.as_slice(), out),
         Task::Devices => devices(alloc, text.as_slice(), out),
+        Task::Explain => explain(alloc, text.as_slice(), out),
+        Task::Test => run_test(alloc, text.as_slice(), out),
+        Task::Device => device(alloc, text.as_slice(), out),
+        Task::Describe => describe(alloc, text.as_slice(), out),
     }
 }
 

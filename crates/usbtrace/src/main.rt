@@ -3,6 +3,8 @@
 //! # Files
 //!
 //! - `main.rt`: the process's words and streams
+//! - `program.rt`: what the words ask for, over standard input or files
+//! - `files.rt`: files that are named in the place of standard input, and tests of many files
 //! - `tests.rt`: whole runs of `trace`: long ones, and lines of every form; streams that fail, and what crosses
 //!   crates
 #![tactic(auto)]
@@ -10,11 +12,14 @@
 ghost use Rattle.std.specs.Prelude.{◌≡◌, ℕ, List, map, IfOk, string_bytes};
 ghost use denote.Ref.{Bor};
 
+use crate::files::{CommandLine, command_line};
+use crate::program::perform;
 use std::alloc::{AllocError, Global};
 use std::process::ExitCode;
 use std::{env, io};
-use usb_trace::trace;
 
+mod files;
+mod program;
 #[cfg(test)]
 mod tests;
 
@@ -57,7 +62,19 @@ fn main(rt: HostRuntime) -> ExitCode {
         let _ = eprintln!(rt; "usbtrace: out of memory");
         return ExitCode::FAILURE;
     };
+    let Ok(CommandLine { words, files }) = command_line(alloc, texts.as_slice()) else {
+        let _ = eprintln!(rt; "usbtrace: out of memory");
+        return ExitCode::FAILURE;
+    };
     let (mut input, mut out, mut err) = (rt.stdin(), rt.stdout(), rt.stderr());
-    let status = trace(&rt, alloc, texts.as_slice(), &mut input, &mut out, &mut err);
+    let status = perform(
+        &rt,
+        alloc,
+        words.as_slice(),
+        files.as_slice(),
+        &mut input,
+        &mut out,
+        &mut err,
+    );
     ExitCode::from(status)
 }

@@ -42,24 +42,43 @@ fn a_run_is_drawn_whole_or_not_at_all(rt: HostRuntime) {
 }
 
 #[test]
-fn some_steps_are_drawn_with_their_numbers(rt: HostRuntime) {
+fn some_steps_are_drawn_with_their_lines_numbers(rt: HostRuntime) {
     let drawn = run(
         &rt,
         rt.alloc(),
-        &["usbtrace", "draw", "--from", "5", "--to", "6"],
+        &["usbtrace", "draw", "--from", "7", "--to", "8"],
         Input::new(CANCELLED.as_bytes(), 100),
     );
     assert!(rt; drawn.ends_well());
     for part in [
-        ">5</text>",
-        ">6</text>",
+        ">7</text>",
+        ">8</text>",
         ">cancel</text>",
         ">command</text>",
     ] {
         assert!(rt; drawn.shows(part), "{part}");
     }
-    for part in [">4</text>", ">7</text>", ">serve</text>", ">deliver</text>"] {
+    for part in [">6</text>", ">9</text>", ">serve</text>", ">deliver</text>"] {
         assert!(rt; !drawn.shows(part), "{part}");
+    }
+}
+
+#[test]
+fn a_page_has_the_picture_and_the_steps(rt: HostRuntime) {
+    let page = run(
+        &rt,
+        rt.alloc(),
+        &["usbtrace", "draw", "--html"],
+        Input::new(CANCELLED.as_bytes(), 100),
+    );
+    assert!(rt; page.ends_well());
+    for part in [
+        "<!DOCTYPE html>",
+        "<svg ",
+        "h1 ran stop 81 ok",
+        "submit 1 81 bulk 24",
+    ] {
+        assert!(rt; page.shows(part), "{part}");
     }
 }
 

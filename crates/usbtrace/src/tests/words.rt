@@ -10,7 +10,7 @@ use std::thread::Threads;
 static BAD: &str = "\
 === usbtrace
 error: 'usbtrace' requires a subcommand but one was not provided
-  [subcommands: run, alone, live, left, check, draw, capture, devices]
+  [subcommands: run, alone, live, left, check, draw, capture, devices, explain, test, device, describe]
 
 Usage: usbtrace <COMMAND>
 
@@ -135,14 +135,18 @@ fn shows<X: Threads + Wait + Sync>(rt: &X, alloc: Global, words: &[&str], parts:
 fn help_is_printed_and_no_fault(rt: HostRuntime) {
     let parts = [
         "\n\nUsage: usbtrace <COMMAND>\n",
-        "\n  run      Runs the scenario and prints its entries\n",
-        "\n  alone    Prints the entries of one handle, alone over its own steps\n",
-        "\n  live     Runs the scenario in threads, and prints what its callbacks were told\n",
-        "\n  left     Prints what the scenario's run leaves behind, handle by handle\n",
-        "\n  check    Prints what is wrong with the scenario, line by line\n",
-        "\n  draw     Prints a picture of the scenario's run, an SVG document\n",
-        "\n  capture  Writes the scenario's run as a capture of usbmon, a pcap file\n",
-        "\n  devices  Prints the devices of a capture, and what they answered, as lines of a scenario\n",
+        "\n  run       Runs the scenario and prints its entries\n",
+        "\n  alone     Prints the entries of one handle, alone over its own steps\n",
+        "\n  live      Runs the scenario in threads, and prints what its callbacks were told\n",
+        "\n  left      Prints what the scenario's run leaves behind, handle by handle\n",
+        "\n  check     Prints what is wrong with the scenario, line by line\n",
+        "\n  draw      Prints a picture of the scenario's run, an SVG document\n",
+        "\n  capture   Writes the scenario's run as a capture of usbmon, a pcap file\n",
+        "\n  devices   Prints the devices of a capture, and what they answered, as lines of a scenario\n",
+        "\n  explain   Runs the scenario, and says of each refusal, idle step and end why it came\n",
+        "\n  test      Runs a scenario with `expect` lines, and compares what it prints\n",
+        "\n  device    Prints the device line of a configuration descriptor\n",
+        "\n  describe  Prints descriptors as a table, as lsusb does\n",
         "\n  -h, --help  Print help\n",
     ];
     assert!(rt; shows(&rt, rt.alloc(), &["usbtrace", "-h"], &parts));

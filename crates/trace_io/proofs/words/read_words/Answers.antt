@@ -4,8 +4,8 @@ use Rattle.clap.specs.Matches.{found_of}
 use Rattle.clap.specs.Simple.{app_of}
 use Rattle.clap.specs.Walk.{rows_of}
 use Rattle.trace_scenario.specs.Words.{words_of}
-use Rattle.trace_io.specs.declared.words.Task.TheVariants.{Alone, Capture, Check, Devices, Left, Live, Run}
-use Rattle.trace_io.proofs.CommandLines.{asks_behind, asks_for, has_one, met, without_fault}
+use Rattle.trace_io.specs.declared.words.Task.TheVariants.{Alone, Capture, Check, Describe, Device, Devices, Explain, Left, Live, Run, Test}
+use Rattle.trace_io.proofs.CommandLines.{asks_behind, asks_for, has_one, met, with_fault, without_fault}
 use Rattle.trace_io.proofs.words.read_words.Goals as goal
 
 pub returns-in-Some-clause-fault : goal.returns-in-Some-clause-fault
@@ -95,6 +95,54 @@ returns-then-is_some-4-clause-task c =
           (search rules),
     )
 
+pub returns-then-is_some-5-clause-fault : goal.returns-then-is_some-5-clause-fault
+returns-then-is_some-5-clause-fault c = without_fault (app_of c.in_ok-command.field-0) (words_of c.args.words.now) c.in_ok-command.ensures c.in_ok-matches.ensures.kinds
+
+pub returns-then-is_some-5-clause-task : goal.returns-then-is_some-5-clause-task
+returns-then-is_some-5-clause-task c =
+    let words = words_of c.args.words.now in
+    let a = app_of c.in_ok-command.field-0 in (
+      without_fault a words c.in_ok-command.ensures c.in_ok-matches.ensures.kinds,
+      asks_for (codes "explain") Explain (λ rows. refl) words c.in_ok-matches.matches (met a words c.in_ok-matches.matches c.in_ok-command.ensures c.in_ok-matches.ensures.matches)
+          (search rules),
+    )
+
+pub returns-then-is_some-6-clause-fault : goal.returns-then-is_some-6-clause-fault
+returns-then-is_some-6-clause-fault c = without_fault (app_of c.in_ok-command.field-0) (words_of c.args.words.now) c.in_ok-command.ensures c.in_ok-matches.ensures.kinds
+
+pub returns-then-is_some-6-clause-task : goal.returns-then-is_some-6-clause-task
+returns-then-is_some-6-clause-task c =
+    let words = words_of c.args.words.now in
+    let a = app_of c.in_ok-command.field-0 in (
+      without_fault a words c.in_ok-command.ensures c.in_ok-matches.ensures.kinds,
+      asks_for (codes "test") Test (λ rows. refl) words c.in_ok-matches.matches (met a words c.in_ok-matches.matches c.in_ok-command.ensures c.in_ok-matches.ensures.matches)
+          (search rules),
+    )
+
+pub returns-then-is_some-7-clause-fault : goal.returns-then-is_some-7-clause-fault
+returns-then-is_some-7-clause-fault c = without_fault (app_of c.in_ok-command.field-0) (words_of c.args.words.now) c.in_ok-command.ensures c.in_ok-matches.ensures.kinds
+
+pub returns-then-is_some-7-clause-task : goal.returns-then-is_some-7-clause-task
+returns-then-is_some-7-clause-task c =
+    let words = words_of c.args.words.now in
+    let a = app_of c.in_ok-command.field-0 in (
+      without_fault a words c.in_ok-command.ensures c.in_ok-matches.ensures.kinds,
+      asks_for (codes "device") Device (λ rows. refl) words c.in_ok-matches.matches (met a words c.in_ok-matches.matches c.in_ok-command.ensures c.in_ok-matches.ensures.matches)
+          (search rules),
+    )
+
+pub returns-then-is_some-8-clause-fault : goal.returns-then-is_some-8-clause-fault
+returns-then-is_some-8-clause-fault c = without_fault (app_of c.in_ok-command.field-0) (words_of c.args.words.now) c.in_ok-command.ensures c.in_ok-matches.ensures.kinds
+
+pub returns-then-is_some-8-clause-task : goal.returns-then-is_some-8-clause-task
+returns-then-is_some-8-clause-task c =
+    let words = words_of c.args.words.now in
+    let a = app_of c.in_ok-command.field-0 in (
+      without_fault a words c.in_ok-command.ensures c.in_ok-matches.ensures.kinds,
+      asks_for (codes "describe") Describe (λ rows. refl) words c.in_ok-matches.matches (met a words c.in_ok-matches.matches c.in_ok-command.ensures c.in_ok-matches.ensures.matches)
+          (search rules),
+    )
+
 pub returns-in-Some-subcommand_matches-3-clause-fault : goal.returns-in-Some-subcommand_matches-3-clause-fault
 returns-in-Some-subcommand_matches-3-clause-fault c = without_fault (app_of c.in_ok-command.field-0) (words_of c.args.words.now) c.in_ok-command.ensures c.in_ok-matches.ensures.kinds
 
@@ -118,5 +166,11 @@ returns-clause-task c =
     let clear = without_fault a words c.in_ok-command.ensures c.in_ok-matches.ensures.kinds in (
       clear,
       has_one words c.in_ok-matches.matches Run (met a words c.in_ok-matches.matches c.in_ok-command.ensures c.in_ok-matches.ensures.matches)
-          (search rules) (search rules) (search rules) (search rules) (search rules) (search rules) (search rules) (search rules) clear,
+          (search rules) (search rules) (search rules) (search rules) (search rules) (search rules) (search rules) (search rules) (search rules) (search rules)
+          (search rules) (search rules) clear,
     )
+
+pub returns-in_err-matches-clause-fault : goal.returns-in_err-matches-clause-fault
+returns-in_err-matches-clause-fault c =
+    with_fault (app_of c.in_ok-command.field-0) (words_of c.args.words.now) c.in_err-matches.field-0.0 c.from_residual-in_err-matches.result
+    c.in_ok-command.ensures c.in_err-matches.ensures.kinds c.from_residual-in_err-matches.ensures.1

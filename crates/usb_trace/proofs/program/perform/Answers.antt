@@ -1,5 +1,5 @@
 -- A task over all that the input has.
-use Rattle.trace_io.specs.declared.words.Task.TheVariants.{Capture, Check, Devices, Live, Steps}
+use Rattle.trace_io.specs.declared.words.Task.TheVariants.{Capture, Check, Describe, Device, Devices, Live, Steps}
 use Rattle.usb_trace.proofs.Begun.{bytes_begun}
 use Rattle.usb_trace.proofs.program.perform.Goals as goal
 
@@ -23,7 +23,17 @@ returns-in-Capture-clause-begun g c =
     bytes_begun (g.R.Read.remaining c.args.input.now) c.args.task Capture c.as_slice-in-Capture.result.now (g.W.Write.contents c.args.out.now) (g.W.Write.contents c.capture.new.out)
     c.in-Capture.is (rw c.as_slice-in-Capture.ensures.value c.in_ok-text.ensures.whole) c.capture.ensures.begun
 
-pub returns-clause-begun : goal.returns-clause-begun
-returns-clause-begun g c =
+pub returns-in-Devices-clause-begun : goal.returns-in-Devices-clause-begun
+returns-in-Devices-clause-begun g c =
     bytes_begun (g.R.Read.remaining c.args.input.now) c.args.task Devices c.as_slice-in-Devices.result.now (g.W.Write.contents c.args.out.now) (g.W.Write.contents c.devices.new.out)
     c.in-Devices.is (rw c.as_slice-in-Devices.ensures.value c.in_ok-text.ensures.whole) c.devices.ensures.begun
+
+pub returns-in-Device-clause-begun : goal.returns-in-Device-clause-begun
+returns-in-Device-clause-begun g c =
+    bytes_begun (g.R.Read.remaining c.args.input.now) c.args.task Device c.as_slice-in-Device.result.now (g.W.Write.contents c.args.out.now) (g.W.Write.contents c.device.new.out)
+    c.in-Device.is (rw c.as_slice-in-Device.ensures.value c.in_ok-text.ensures.whole) c.device.ensures.begun
+
+pub returns-clause-begun : goal.returns-clause-begun
+returns-clause-begun g c =
+    bytes_begun (g.R.Read.remaining c.args.input.now) c.args.task Describe c.as_slice-in-Describe.result.now (g.W.Write.contents c.args.out.now) (g.W.Write.contents c.describe.new.out)
+    c.in-Describe.is (rw c.as_slice-in-Describe.ensures.value c.in_ok-text.ensures.whole) c.describe.ensures.begun

@@ -18,7 +18,7 @@ pub returns-in-Ok-clause-told : goal.returns-in-Ok-clause-told
 returns-in-Ok-clause-told g c =
     told_of (words_of c.args.words.now) (g.R.Read.remaining c.args.input.now) c.in-Ok.task c.perform-ended.new.notes.items c.perform-ended.result c.status_of.result
     (g.W.Write.contents c.args.out.now) (g.W.Write.contents c.perform-ended.new.out) (g.E.Write.contents c.args.err.now) (g.E.Write.contents c.status_of.new.err)
-    c.in-Ok.ensures.task c.perform-ended.ensures.ends c.perform-ended.ensures.alone c.status_of.ensures.status (rw c.as_slice.ensures.value at c.status_of.ensures.quiet) c.perform-ended.ensures.bad_lines c.perform-ended.ensures.no_devices (rw c.as_slice.ensures.value at c.status_of.ensures.told)
+    c.in-Ok.ensures.task c.perform-ended.ensures.ends c.perform-ended.ensures.alone c.status_of.ensures.status (rw c.as_slice.ensures.value at c.status_of.ensures.quiet) c.perform-ended.ensures.bad_lines c.perform-ended.ensures.no_devices c.perform-ended.ensures.differs (rw c.as_slice.ensures.value at c.status_of.ensures.told)
 
 pub returns-in-Ok-clause-done : goal.returns-in-Ok-clause-done
 returns-in-Ok-clause-done g c zero =

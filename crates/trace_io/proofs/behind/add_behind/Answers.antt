@@ -2,8 +2,8 @@
 use Rattle.std.proofs.Common.{◌≡◌, ◌++◌, codes, rules}
 use Rattle.std.specs.Fmt.{decimal}
 use Rattle.usb_model.specs.Text.{entry_text}
-use Rattle.trace_run.proofs.Lined.{behind_parts}
-use Rattle.trace_run.proofs.stepwise.add_behind.Goals as goal
+use Rattle.trace_io.proofs.BehindLines.{behind_parts}
+use Rattle.trace_io.proofs.behind.add_behind.Goals as goal
 
 pub returns : goal.returns
 returns c =

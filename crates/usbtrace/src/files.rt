@@ -1,0 +1,87 @@
+//! Files that are named in the place of standard input, and tests of many files.
+
+use std::alloc::{AllocError, Global};
+use std::io::{Read, Write};
+use std::rt::Files;
+use std::{fs, io};
+use trace_io::{Fault, read_whole};
+use trace_test::{Outcome, report, test};
+
+/// The words of a command line, and the files that it names.
+#[derive(Drop)]
+pub struct CommandLine<'a> {
+    /// The words that name no file, the program's name first.
+    pub words: Vec<&'a str>,
+    /// The files.
+    pub files: Vec<&'a str>,
+}
+
+/// Whether a word names a file: it has a dot or a slash in it, and is no option.
+pub fn names_a_file(word: &str) -> bool {
+    !word.starts_with('-') && (word.contains('.') || word.contains('/'))
+}
+
+/// Tells words and files apart. The first word is the program's name, whatever is in it.
+pub fn command_line<'a>(alloc: Global, texts: &[&'a str]) -> Result<CommandLine<'a>, AllocError> {
+    let (mut words, mut files) = (Vec::new(alloc), Vec::new(alloc));
+    for text in texts {
+        if !words.is_empty() && names_a_file(text) {
+            files.push(*text)?;
+        } else {
+            words.push(*text)?;
+        }
+    }
+    Ok(CommandLine { words, files })
+}
+
+/// Tests what a file has: whether it is passed, and what is told of it.
+fn test_input<R: Read>(alloc: Global, input: &mut R) -> Result<(bool, Vec<u8>), Fault> {
+    let text = read_whole(alloc, input)?;
+    let outcome = test(alloc, text.as_slice())?;
+    let told = report(alloc, &outcome)?;
+    Ok((matches!(outcome, Outcome::Passed), told))
+}
+
+/// Tests a file, and tells what came of it behind its name: whether it is passed.
+fn tell_file<R: Files, W: Write>(
+    rt: &R,
+    alloc: Global,
+    file: &str,
+    out: &mut W,
+) -> io::Result<bool> {
+    write!(out, "{file}: ")?;
+    let Ok(mut input) = fs::open(rt, file) else {
+        out.write_all(b"it can't be read\n")?;
+        return Ok(false);
+    };
+    match test_input(alloc, &mut input) {
+        Ok((passed, told)) => {
+            out.write_all(told.as_slice())?;
+            Ok(passed)
+        }
+        Err(fault) => {
+            write!(out, "{fault}\n")?;
+            Ok(false)
+        }
+    }
+}
+
+/// Tests files, and tells what came of each, and how many are passed: whether all are.
+pub fn test_files<R: Files, W: Write>(
+    rt: &R,
+    alloc: Global,
+    files: &[&str],
+    out: &mut W,
+) -> io::Result<bool> {
+    let (mut passed, mut failed) = (0u64, 0u64);
+    for file in files {
+        if tell_file(rt, alloc, file, out)? {
+            passed = passed.saturating_add(1);
+        } else {
+            failed = failed.saturating_add(1);
+        }
+    }
+    write!(out, "{passed} passed, {failed} failed\n")?;
+    out.flush()?;
+    Ok(failed == 0)
+}

@@ -1,0 +1,80 @@
+//! What the words ask for, over standard input or files.
+
+use crate::files::test_files;
+use std::alloc::Global;
+use std::fs;
+use std::io::{Read, Write};
+use std::rt::Files;
+use std::sync::Wait;
+use std::thread::Threads;
+use usb_trace::trace;
+
+/// The status of a run that ended early.
+const FAILED: u8 = 1;
+
+/// The status of bad words.
+const BAD_WORDS: u8 = 2;
+
+/// What `--version` prints.
+const VERSION: &[u8] = b"usbtrace 0.1.0\n";
+
+/// Runs the program on its words and a file.
+fn run_file<T: Threads + Wait + Sync + Files, W: Write, E: Write>(
+    rt: &T,
+    alloc: Global,
+    words: &[&str],
+    file: &str,
+    out: &mut W,
+    err: &mut E,
+) -> u8 {
+    match fs::open(rt, file) {
+        Ok(mut input) => trace(rt, alloc, words, &mut input, out, err),
+        Err(_) => {
+            let _ = write!(err, "usbtrace: {file} can't be read\n");
+            FAILED
+        }
+    }
+}
+
+/// Tests files.
+fn run_tests<T: Files, W: Write, E: Write>(
+    rt: &T,
+    alloc: Global,
+    files: &[&str],
+    out: &mut W,
+    err: &mut E,
+) -> u8 {
+    match test_files(rt, alloc, files, out) {
+        Ok(true) => 0,
+        Ok(false) => FAILED,
+        Err(_) => {
+            let _ = err.write_all(b"usbtrace: input or output failed\n");
+            FAILED
+        }
+    }
+}
+
+/// Does what the words ask for, and answers the status. Where they name no file, standard input is read.
+pub fn perform<T: Threads + Wait + Sync + Files, R: Read, W: Write, E: Write>(
+    rt: &T,
+    alloc: Global,
+    words: &[&str],
+    files: &[&str],
+    input: &mut R,
+    out: &mut W,
+    err: &mut E,
+) -> u8 {
+    match (words, files) {
+        ([_, "--version" | "-V"], []) => match out.write_all(VERSION) {
+            Ok(()) => 0,
+            Err(_) => FAILED,
+        },
+        (_, []) => trace(rt, alloc, words, input, out, err),
+        ([_, "test"], _) => run_tests(rt, alloc, files, out, err),
+        (_, [file]) => run_file(rt, alloc, words, file, out, err),
+        _ => {
+            let _ = err.write_all(b"usbtrace: only `test` takes more than one file\n");
+            BAD_WORDS
+        }
+    }
+}
