@@ -30,6 +30,7 @@ test:
 	RT_JOBS=$$(nproc) rt ci
 	@tools/program.py keep
 	@tools/pictures.py check
+	@tools/scenarios.py check
 	@python3 tools/hostile gate
 
 fmt:

@@ -8,8 +8,8 @@ A run is made undisturbed, which counts the calls of malloc and realloc, and the
 refused, and once this call and all behind it. So with the threads that are made. What a run comes to is one of three classes:
 
     unharmed   it prints what the undisturbed run does, and ends as that does
-    early      a beginning of that, of whole lines, or records of `capture`, then `usbtrace: out of memory` and status 1; of `left`
-               and `draw` nothing
+    early      a beginning of that, of whole lines, or records of `capture`, then `usbtrace: out of memory` and status 1; of `left`,
+               `draw`, `explain`, `test`, `device` and `describe` nothing
     wrong      all else: a cut line, another message or status, a signal, or no end within --seconds (10) of processor time, or
                within six times that by the clock
 
@@ -31,8 +31,8 @@ import sys
 import tempfile
 
 # The words of usbtrace that read a scenario, and those that print all or nothing where memory is wanting.
-WORDS = ("run", "run --steps", "alone 1", "left", "draw", "check", "live", "capture")
-WHOLE = ("left", "draw")
+WORDS = ("run", "run --steps", "alone 1", "left", "draw", "draw --html", "check", "live", "capture", "explain")
+WHOLE = ("left", "draw", "draw --html", "explain", "test", "device", "describe")
 # The bytes in front of a capture's records, and those in front of each record's own.
 FILE_HEADER, RECORD_HEADER = 24, 16
 # What a handle may do under `live` that a schedule can meet earlier or later.

@@ -6,7 +6,8 @@ from runs import ROWS, Part, Tried, row_input
 GATE = (
     ("run", "cancel_amid_transfer"), ("run", "resubmit_three_rounds"), ("run", "unplug_amid_transfers"),
     ("run --steps", "again_without_a_place"), ("alone 2", "interface_changes_hands"), ("left", "all_that_can_be_left"),
-    ("draw", "stall_and_clear_halt"), ("check", "a_good_scenario_is_counted"), ("check", "slips_of_editors"),
+    ("draw", "stall_and_clear_halt"), ("draw --html", "stall_and_clear_halt"), ("explain", "explained_ends"),
+    ("test", "a_test_is_passed"), ("device", "a_device_of_its_descriptor"), ("check", "a_good_scenario_is_counted"), ("check", "slips_of_editors"),
     ("live", "resubmit_three_rounds_live"), ("live", "handles_by_their_names"), ("live", "an_unplug_line_behind_a_bad_one"),
 )
 
