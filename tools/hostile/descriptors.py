@@ -2,6 +2,7 @@
 import itertools
 
 from runs import Part, is_refusal, wrong_unless
+from texts import refused_in
 
 # The README's device; and one with a second setting, a descriptor of a class, and endpoints of all kinds.
 DEVICES = (
@@ -117,6 +118,12 @@ def is_good(it, printed):
     return (it.status, it.out, it.err) == (0, printed, b"")
 
 
+def is_checked(check, entries):
+    """Whether `check` counts what is said, and tells which of these entries are refused."""
+    counts, _, told = check.out.partition(b"\n")
+    return (check.status, counts, check.err) == (0, b"1 device, 0 scripts, 5 steps", b"") and refused_in(told) == refused_in(entries)
+
+
 def tried(runs, name, data):
     """A descriptor, which `check` finds good, or tells its fault, and `run` takes or refuses; its interfaces are claimed."""
     reader, name = Reader(data), f"{name} of {data.hex()}"
@@ -126,7 +133,7 @@ def tried(runs, name, data):
         yield wrong_unless(is_told(check, reader.fault), "refused", f"check: {name}", check)
         yield wrong_unless(is_refusal(run, 1), "refused", f"run: {name}", run)
     else:
-        yield wrong_unless(is_good(check, b"1 device, 0 scripts, 5 steps\n"), "taken", f"check: {name}", check)
+        yield wrong_unless(is_checked(check, reader.entries()), "taken", f"check: {name}", check)
         yield wrong_unless(is_good(run, reader.entries()), "taken", f"run: {name}", run)
 
 

@@ -12,11 +12,13 @@ GATE_COUNT = 60
 # How many callbacks are called: a rule of a row has no end.
 ROUNDS = 1_000
 LIVE = f"live --rounds {ROUNDS}"
+# How much `check` says of a scenario; and behind that a refused line, its reason, and the end of a callback whose resubmission is refused.
+COUNTS = rb"\d+ devices?, \d+ scripts?, \d+ steps?\n"
+CHECKED = COUNTS + rb"(\d+ .+ \| (h\d+|-) refused \d\n    .+\n(\d+ .+ \| h\d+ done\n)?)*"
 # What the lines of some words look like, where the scenario is good.
 SHAPES = {
     "left": rb"(h\d+ (device \d open|interface \d+ held|ep [0-9a-f]{2} .+)\n)*",
     LIVE: rb"(h\d+ called \d+ ep [0-9a-f]{2} round \d+ [A-Z_]+ \d+ data ([0-9a-f]+|-)\n)*",
-    "check": rb"\d+ devices?, \d+ scripts?, \d+ steps?\n",
 }
 
 
@@ -56,6 +58,16 @@ def is_alone(alone, run, h):
     return own == own_lines(run, h) and len(own) == alone.count(b"\n")
 
 
+def refused_in(text):
+    """The entries of a run that are refused, perhaps each behind its line."""
+    return [line.split(b" | ")[-1] for line in text.splitlines() if re.search(rb"(h\d+|-) refused \d$", line)]
+
+
+def is_checked(check, run):
+    """Whether a check of a good scenario tells what its run refuses."""
+    return re.fullmatch(CHECKED, check) is not None and refused_in(check) == refused_in(run)
+
+
 def is_picture(text):
     try:
         return xml.etree.ElementTree.fromstring(text).tag.endswith("svg")
@@ -73,6 +85,8 @@ def is_taken(word, it, run, given):
         return re.fullmatch(SHAPES[word], it.out) is not None
     if word.startswith("alone"):
         return is_alone(it.out, run.out, int(word.split()[1]))
+    if word == "check":
+        return is_checked(it.out, run.out)
     if word == "draw":
         return is_picture(it.out)
     if word == "capture":

@@ -3,30 +3,30 @@ use Rattle.std.proofs.Common.{◌≡◌, ℕ, ◌+◌, ◌<◌, ◌≤◌, List,
 use Rattle.std.proofs.lemmas.List.{drop-map, drop_more, drop_all}
 use Rattle.usb_model.specs.declared.plan.Plan.{Plan}
 use Rattle.usb_model.specs.Setup.{Setup}
-use Rattle.usb_model.specs.World.Journal.{run_from}
 use Rattle.usb_model.specs.World.Plans.{Stage, stage_after, steps_of}
-use Rattle.trace_explain.specs.Explained.{explained_entries, explained_from, first_reason}
+use Rattle.trace_explain.specs.Explained.{explained_from, told_piece}
+use Rattle.trace_explain.specs.declared.explained.Selection.{Selection}
 
 -- what is told of a piece stands behind the others, and the rest is told from the stage behind it
-pub explained-further : (setup : Setup) (s t : Stage) (piece : Plan) (plan : List Plan) (i : ℕ) (line : ℕ × List ℕ) (lines : List (ℕ × List ℕ)) (before after all : List ℕ)
+pub explained-further : (told : Selection) (setup : Setup) (s t : Stage) (piece : Plan) (plan : List Plan) (i : ℕ) (line : ℕ × List ℕ) (lines : List (ℕ × List ℕ)) (before after all : List ℕ)
     → i < length plan → piece ≡ slice_index_or plan i piece
-    → before ++ explained_from setup s (drop i plan) (line ∷ lines) ≡ all
-    → after ≡ before ++ explained_entries line (first_reason setup s piece) (run_from setup s.world (steps_of setup s piece))
+    → before ++ explained_from told setup s (drop i plan) (line ∷ lines) ≡ all
+    → after ≡ before ++ told_piece told setup s piece line
     → t ≡ stage_after setup s piece (steps_of setup s piece)
-    → after ++ explained_from setup t (drop (i + 1) plan) lines ≡ all
+    → after ++ explained_from told setup t (drop (i + 1) plan) lines ≡ all
 unfolding explained_from
-explained-further setup s t piece plan i line lines before after all within item so_far put behind =
+explained-further told setup s t piece plan i line lines before after all within item so_far put behind =
     let rest : drop i plan ≡ piece ∷ drop (i + 1) plan = drop_more plan i piece within ∙ ap (λ y. y ∷ drop (i + 1) plan) (sym item) in
-    let told : List ℕ = explained_entries line (first_reason setup s piece) (run_from setup s.world (steps_of setup s piece)) in
-    let more : List ℕ = explained_from setup (stage_after setup s piece (steps_of setup s piece)) (drop (i + 1) plan) lines in
-    rw (put, behind) (append_assoc before told more ∙ sym (ap (λ l. before ++ explained_from setup s l (line ∷ lines)) rest) ∙ so_far)
+    let text : List ℕ = told_piece told setup s piece line in
+    let more : List ℕ = explained_from told setup (stage_after setup s piece (steps_of setup s piece)) (drop (i + 1) plan) lines in
+    rw (put, behind) (append_assoc before text more ∙ sym (ap (λ l. before ++ explained_from told setup s l (line ∷ lines)) rest) ∙ so_far)
 
 -- at the end of the plan nothing is left to tell
-pub explained-end : (setup : Setup) (s : Stage) (plan : List Plan) (i : ℕ) (lines : List (ℕ × List ℕ)) (text all : List ℕ) → length plan ≤ i
-    → text ++ explained_from setup s (drop i plan) lines ≡ all → text ≡ all
+pub explained-end : (told : Selection) (setup : Setup) (s : Stage) (plan : List Plan) (i : ℕ) (lines : List (ℕ × List ℕ)) (text all : List ℕ) → length plan ≤ i
+    → text ++ explained_from told setup s (drop i plan) lines ≡ all → text ≡ all
 unfolding explained_from
-explained-end setup s plan i lines text all past so_far =
-    sym (append-nil text) ∙ (sym (ap (λ l. text ++ explained_from setup s l lines) (drop_all i plan past)) ∙ so_far)
+explained-end told setup s plan i lines text all past so_far =
+    sym (append-nil text) ∙ (sym (ap (λ l. text ++ explained_from told setup s l lines) (drop_all i plan past)) ∙ so_far)
 
 -- the line of a piece, and those behind it
 pub line_at : {A B : Type 0} (f : A → B) (xs : List A) (i : ℕ) (d : A) → i < length xs → drop i (map f xs) ≡ f (get_or xs i d) ∷ drop (i + 1) (map f xs)

@@ -1,7 +1,7 @@
 //! A scenario's run with the reasons of its entries.
 //!
-//! The one promise: what is told of a run are its entries, each behind its line, and behind the first of a line the reason of its step in
-//! the world before it, where there is one.
+//! The one promise: what is told of a run are its entries, all or those of refused lines, each behind its line, and behind the first of a
+//! line the reason of its step in the world before it, where there is one.
 //!
 //! # Files
 //!
@@ -16,4 +16,4 @@
 
 mod explained;
 
-pub use explained::explained_run;
+pub use explained::{Selection, explained_run};

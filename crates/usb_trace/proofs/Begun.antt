@@ -17,7 +17,7 @@ use Rattle.trace_recorded.specs.Scenario.{recorded_scenario}
 use Rattle.trace_run.specs.Tasks.{AppendsAny, alone_text, capture_bytes, left_lines, run_text, steps_text}
 use Rattle.trace_descriptor.specs.declared.fault.DescriptorFault.{DescriptorFault}
 use Rattle.trace_descriptor.specs.Device.{device_text}
-use Rattle.usb_trace.specs.Program.{reasons_text, Begins, BeginsDevice, BeginsEntries, BeginsOutcome, BeginsPicture, BeginsRecorded}
+use Rattle.usb_trace.specs.Program.{check_text, reasons_text, Begins, BeginsCheck, BeginsDevice, BeginsEntries, BeginsOutcome, BeginsPicture, BeginsRecorded}
 
 -- known bytes stay
 pub keeps_same : (old : Option (List ℕ)) → Keeps old old
@@ -44,6 +44,11 @@ pub no_device : (said : Result (List ℕ) DescriptorFault) (old : Option (List �
 no_device (Ok lines) old = none_yet lines old
 no_device (Err fault) old = keeps_same old
 
+-- nothing of a check
+pub no_check : (text : List ℕ) (said : Result Scenario ℕ) (old : Option (List ℕ)) → BeginsCheck text said old old
+no_check text (Ok s) old = none_yet (check_text text s) old
+no_check text (Err line) old = no_report (bad_lines text) (counts_of (good_lines text)) old
+
 -- nothing of a table is told
 pub no_table : (old : Option (List ℕ)) → AppendsAny old old
 no_table old = let none = none_yet [] old in (none.0, none.2)
@@ -68,7 +73,7 @@ nothing_of Steps text old = no_entries (steps_text text) (scenario_of text) old
 nothing_of (Alone h) text old = no_entries (alone_text h) (scenario_of text) old
 nothing_of (Live rounds) text old = no_callbacks (lived_of text) old
 nothing_of Left text old = no_entries left_lines (scenario_of text) old
-nothing_of Check text old = no_report (bad_lines text) (counts_of (good_lines text)) old
+nothing_of Check text old = no_check text (scenario_of text) old
 nothing_of (Draw from to) text old = no_picture (scenario_of text) old
 nothing_of Capture text old = no_entries (capture_bytes text) (scenario_of text) old
 nothing_of Devices text old = no_recorded (recorded_scenario text) old

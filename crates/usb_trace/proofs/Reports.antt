@@ -1,6 +1,5 @@
 -- What a check that finds nothing bad says.
 use Rattle.std.proofs.Common.{◌≡◌, ◌≢◌, ◌⊎◌, ◌==◌, ◌<◌, inl, inr, IfSome, IfErr, IfOk, OnOk, refl, ℕ, ◌≤◌, List, [], ◌∷◌, ◌++◌, length, map, Option, Some, None, Result, Ok, Err, sym, ◌∙◌, ap, subst, arith}
-use Rattle.std.specs.List.{flat_map}
 use Rattle.std.specs.Io.KnownBytes.{Appends, Keeps}
 use Rattle.std.specs.List.{slice_split}
 use Rattle.std.proofs.lemmas.List.{nil_from_length}
@@ -32,7 +31,7 @@ use Rattle.trace_recorded.specs.Faults.{IsCaptureFault}
 use Rattle.trace_recorded.specs.Scenario.{recorded_scenario}
 use Rattle.trace_scenario.specs.declared.scenario.Scenario.{Scenario}
 use Rattle.usb_trace.specs.Lived.{lived_of, AppendsCallbacks, GoesOn, IsOfLive}
-use Rattle.usb_trace.specs.Program.{status_of, AskForOther, AskForThreads, Begins, Draws, EndsLate, FindsDifference, FindsNone, IsAlone, IsBadDescriptor, IsBadLine, IsDone, IsReported, IsSilentAtBad, IsThreaded, Performs, ReadsOther, TellsRest, TellsWhy}
+use Rattle.usb_trace.specs.Program.{status_of, AskForOther, AskForThreads, Begins, BeginsCheck, Draws, EndsLate, FindsDifference, FindsNone, IsAlone, IsBadDescriptor, IsBadLine, IsDone, IsReported, IsSilentAtBad, IsThreaded, Performs, ReadsOther, TellsRest, TellsWhy}
 use Rattle.trace_run.specs.declared.tasks.Ending.{Ending}
 use Rattle.trace_run.specs.declared.tasks.Ending.TheVariants.{Good, BadLines, NoDevices, Differs}
 use Rattle.usb_trace.proofs.Begun.{keeps_same, nothing_begun, told_front}
@@ -40,32 +39,45 @@ use Rattle.trace_io.specs.declared.words.Task.{Task}
 use Rattle.trace_io.specs.declared.words.Task.TheVariants.{Run, Steps, Alone, Live, Left, Check, Draw, Page, Capture, Devices, Explain, Test, Device, Describe}
 use Rattle.trace_scenario.specs.declared.findings.Counts.{Counts}
 use Rattle.trace_scenario.specs.declared.findings.Finding.{Finding}
-use Rattle.trace_io.specs.Output.{finding_text, counts_line, AppendsReport, AppendsSome}
+use Rattle.trace_io.specs.Output.{counts_line, AppendsReport, AppendsSome, AppendsSomeReport}
+use Rattle.trace_scenario.specs.StepLines.{step_lines}
+use Rattle.trace_explain.specs.Explained.{explained_text}
+use Rattle.trace_explain.specs.declared.explained.Selection.TheVariants.{Refusals}
 
--- where no line is bad, the counts alone
-pub counts_alone : (numbers : List ℕ) (counts : Counts) (old new : Option (List ℕ)) → AppendsReport numbers counts old new → numbers ≡ []
-    → Appends old new (counts_line counts)
-counts_alone [] counts old new written none = by_found written.0 written.1 written.2
-  where
-    by_found : (found : List (ℕ × List ℕ)) → map (λ (f : ℕ × List ℕ). f.0) found ≡ []
-        → Appends old new (flat_map finding_text found ++ counts_line counts) → Appends old new (counts_line counts)
-    by_found [] same line = line
-    by_found (f ∷ fs) same line = cc
-counts_alone (n ∷ ns) counts old new written none = cc
+-- a result has one value
+one_value : (r : Result Scenario ℕ) (a b : Scenario) → r ≡ Ok a → r ≡ Ok b → a ≡ b
+one_value (Ok x) a b first second = let same : x ≡ a = cc first in let other : x ≡ b = cc second in sym same ∙ other
+one_value (Err line) a b first second = cc
 
--- a check that finds nothing bad: the text is that of a scenario, and its counts are written
-pub all_good : (text : List ℕ) (bad : List Finding) (counts : Counts) (old new : Option (List ℕ))
-    → map (λ (f : Finding). f.line) bad ≡ bad_lines text → counts ≡ counts_of (good_lines text) → length bad ≡ 0 → length text ≤ longest_input
-    → AppendsReport (map (λ (f : Finding). f.line) bad) counts old new → IsDone Check text [] old new
-all_good text bad counts old new numbers said empty short written =
-    let nothing : map (λ (f : Finding). f.line) bad ≡ [] = ap (map (λ (f : Finding). f.line)) (nil_from_length bad empty) in
-    let none : bad_lines text ≡ [] = sym numbers ∙ nothing in
-    let line : Appends old new (counts_line counts) = counts_alone (map (λ (f : Finding). f.line) bad) counts old new written nothing in (
-      good_lines text,
-      none_bad 1 nothing_said (slice_split (λ b. b == 10) text) none,
+-- a text without a bad line is that of its good lines
+good_is : (text : List ℕ) (s : Scenario) → bad_lines text ≡ [] → scenario_of text ≡ Ok s → good_lines text ≡ s
+good_is text s none read = one_value (scenario_of text) (good_lines text) s (none_bad 1 nothing_said (slice_split (λ b. b == 10) text) none) read
+
+-- a check that finds nothing bad: what is said of the scenario is written
+pub all_good : (text : List ℕ) (s : Scenario) (counts : Counts) (old new : Option (List ℕ)) → bad_lines text ≡ [] → counts ≡ counts_of (good_lines text) → scenario_of text ≡ Ok s
+    → length text ≤ longest_input → Appends old new (counts_line counts ++ explained_text Refusals s.setup s.plan s.rules (step_lines text)) → IsDone Check text [] old new
+all_good text s counts old new none said read short written =
+    let same : counts ≡ counts_of s = said ∙ ap counts_of (good_is text s none read) in (
+      s,
+      read,
       short,
-      (subst (λ (c : Counts). Appends old new (counts_line c)) said line, refl),
+      (subst (λ c. Appends old new (counts_line c ++ explained_text Refusals s.setup s.plan s.rules (step_lines text))) same written, refl),
     )
+
+-- or a beginning of it
+pub good_begun : (text : List ℕ) (s : Scenario) (counts : Counts) (old new : Option (List ℕ)) → bad_lines text ≡ [] → counts ≡ counts_of (good_lines text) → scenario_of text ≡ Ok s
+    → AppendsSome (counts_line counts ++ explained_text Refusals s.setup s.plan s.rules (step_lines text)) old new → Begins Check text old new
+good_begun text s counts old new none said read some =
+    let same : counts ≡ counts_of s = said ∙ ap counts_of (good_is text s none read) in
+    subst (λ r. BeginsCheck text r old new) (sym read) (subst (λ c. AppendsSome (counts_line c ++ explained_text Refusals s.setup s.plan s.rules (step_lines text)) old new) same some)
+
+-- of a text with a bad line a beginning of the report
+pub bad_begun : (text : List ℕ) (old new : Option (List ℕ)) → bad_lines text ≢ [] → AppendsSomeReport (bad_lines text) (counts_of (good_lines text)) old new → Begins Check text old new
+bad_begun text old new some report = by_read (scenario_of text) refl
+  where
+    by_read : (r : Result Scenario ℕ) → scenario_of text ≡ r → BeginsCheck text r old new
+    by_read (Ok s) read = absurd (some (scenario_good 1 nothing_said s (slice_split (λ b. b == 10) text) read))
+    by_read (Err line) read = report
 
 -- where a bad line was found, there is one
 pub some_bad : (text : List ℕ) (bad : List Finding) → map (λ (f : Finding). f.line) bad ≡ bad_lines text → length bad ≢ 0 → bad_lines text ≢ []

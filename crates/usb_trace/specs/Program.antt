@@ -13,6 +13,7 @@ use Rattle.trace_descriptor.specs.declared.fault.DescriptorFault.{DescriptorFaul
 use Rattle.trace_descriptor.specs.Device.{device_text}
 use Rattle.trace_scenario.specs.StepLines.{step_lines}
 use Rattle.trace_explain.specs.Explained.{explained_text}
+use Rattle.trace_explain.specs.declared.explained.Selection.TheVariants.{All, Refusals}
 use Rattle.trace_test.specs.Tests.{IsOfTest, IsOutcome, outcome_text}
 use Rattle.trace_test.specs.declared.difference.Difference.{Difference}
 use Rattle.trace_test.specs.declared.difference.Outcome.{Outcome}
@@ -58,16 +59,20 @@ scenario_for task.Describe text = scenario_of text
 
 -- all entries, each behind the line of its step in this text, with their reasons
 abbrev pub reasons_text : List ℕ → Scenario → List ℕ
-reasons_text text s = explained_text s.setup s.plan s.rules (step_lines text)
+reasons_text text s = explained_text All s.setup s.plan s.rules (step_lines text)
 
--- what a task writes of the scenario of a text: all entries, perhaps behind their lines, those of one handle alone, what callbacks were told in threads, what is left behind, how much the scenario says, a picture, of which no more is said, a capture, or all entries with their reasons; and what is to be told behind it: of a run in threads what wasn't finished, and else nothing
+-- what a check says of a text without a bad line: how much the scenario says, and which lines its run refuses, with the reasons
+abbrev pub check_text : List ℕ → Scenario → List ℕ
+check_text text s = counts_line (counts_of s) ++ explained_text Refusals s.setup s.plan s.rules (step_lines text)
+
+-- what a task writes of the scenario of a text: all entries, perhaps behind their lines, those of one handle alone, what callbacks were told in threads, what is left behind, how much the scenario says and what its run refuses, a picture, of which no more is said, a capture, or all entries with their reasons; and what is to be told behind it: of a run in threads what wasn't finished, and else nothing
 abbrev pub Writes : Task → List ℕ → Scenario → (notes : List ℕ) → Option (List ℕ) → Option (List ℕ) → Type 0
 Writes task.Run text s notes old new = Appends old new (run_text s) × (notes ≡ [])
 Writes task.Steps text s notes old new = Appends old new (steps_text text s) × (notes ≡ [])
 Writes (task.Alone h) text s notes old new = Appends old new (alone_text h s) × (notes ≡ [])
 Writes (task.Live rounds) text s notes old new = AppendsCallbacks s notes old new
 Writes task.Left text s notes old new = Appends old new (left_lines s) × (notes ≡ [])
-Writes task.Check text s notes old new = Appends old new (counts_line (counts_of s)) × (notes ≡ [])
+Writes task.Check text s notes old new = Appends old new (check_text text s) × (notes ≡ [])
 Writes (task.Draw from to) text s notes old new = AppendsAny old new × (notes ≡ [])
 Writes (task.Page from to) text s notes old new = AppendsAny old new × (notes ≡ [])
 Writes task.Capture text s notes old new = Appends old new (capture_bytes text s) × (notes ≡ [])
@@ -169,6 +174,11 @@ abbrev pub BeginsRecorded : Result RecordedScenario CaptureFault → Option (Lis
 BeginsRecorded (Ok r) old new = AppendsSome r.text old new
 BeginsRecorded (Err fault) old new = Keeps old new
 
+-- what a check may have written: a beginning of what it says of a scenario, or of the report on bad lines
+abbrev pub BeginsCheck : List ℕ → Result Scenario ℕ → Option (List ℕ) → Option (List ℕ) → Type 0
+BeginsCheck text (Ok s) old new = AppendsSome (check_text text s) old new
+BeginsCheck text (Err line) old new = AppendsSomeReport (bad_lines text) (counts_of (good_lines text)) old new
+
 -- what a test may have written: a beginning of what came of it
 abbrev pub BeginsOutcome : List ℕ → Option (List ℕ) → Option (List ℕ) → Type 0
 BeginsOutcome text old new = Keeps old new ⊎ ((outcome : Outcome) × IsOutcome text outcome × AppendsSome (outcome_text outcome) old new)
@@ -185,7 +195,7 @@ Begins task.Steps text old new = BeginsEntries (steps_text text) (scenario_of te
 Begins (task.Alone h) text old new = BeginsEntries (alone_text h) (scenario_of text) old new
 Begins (task.Live rounds) text old new = BeginsCallbacks (lived_of text) old new
 Begins task.Left text old new = BeginsEntries left_lines (scenario_of text) old new
-Begins task.Check text old new = AppendsSomeReport (bad_lines text) (counts_of (good_lines text)) old new
+Begins task.Check text old new = BeginsCheck text (scenario_of text) old new
 Begins (task.Draw from to) text old new = BeginsPicture (scenario_of text) old new
 Begins (task.Page from to) text old new = BeginsPicture (scenario_of text) old new
 Begins task.Capture text old new = BeginsEntries (capture_bytes text) (scenario_of text) old new

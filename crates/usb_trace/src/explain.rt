@@ -10,13 +10,13 @@ ghost use Rattle.usb_trace.specs.Program.{Begins, IsSilentAtBad, Performs};
 
 use std::alloc::Global;
 use std::io::Write;
-use trace_explain::explained_run;
+use trace_explain::{Selection, explained_run};
 use trace_io::{Fault, write_bytes};
 use trace_run::Ending;
 use trace_scenario::{Lined, Scenario, into_setups, read_lined};
 
 /// Writes a text, and all that is to be written with it.
-fn write_all<W: Write>(out: &mut W, text: &[u8]) -> Result<(), Fault>
+pub(crate) fn write_all<W: Write>(out: &mut W, text: &[u8]) -> Result<(), Fault>
     ensures whole { OnOk result (Appends (W.contents out.old) (W.contents out.new) text.now) }
     ensures begun { AppendsSome text.now (W.contents out.old) (W.contents out.new) }
     ensures fault { IfErr result (λ fault. IsOfRun fault) }
@@ -42,6 +42,7 @@ pub(crate) fn explain<W: Write>(alloc: Global, text: &[u8], out: &mut W) -> Resu
     let setup = into_setups(alloc, setup)?;
     let explained = explained_run(
         alloc,
+        Selection::All,
         &setup,
         plan.as_slice(),
         rules.as_slice(),

@@ -10,7 +10,8 @@
 //!
 //! - `program.rt`, specs/Program: `trace`, over any reader and writers
 //! - `live.rt`, `lived.rt`, specs/Lived: a scenario run in threads, and which lines it can't have
-//! - `explain.rt`, `tested.rt`, `picture.rt`: a scenario's run with its reasons, as a test, and as a picture or a page
+//! - `checked.rt`, `explain.rt`, `tested.rt`, `picture.rt`: what is wrong with a scenario, and what its run refuses; its run with its
+//!   reasons, as a test, and as a picture or a page
 //! - `recorded.rt`, `descriptor.rt`: the scenario of a capture; a device's lines and table
 //!
 //! # Contracts
@@ -19,7 +20,8 @@
 //!   what was written is, byte for byte, the lines of its run, these with the number and the text of its step's line
 //!   before each (`run --steps`), those of one handle alone, what callbacks were told in a run of the definitions over
 //!   its devices, all of it, by handle and number (`live`: in that run stand the calls of the scenario's lines, each
-//!   handle's in their order, and no others, until nothing is left to be done), what is left behind (`left`), or, of a check, the counts; of `draw` no
+//!   handle's in their order, and no others, until nothing is left to be done), what is left behind (`left`), or, of a check, the counts, and the lines that the run refuses, with
+//!   the reasons; of `draw` no
 //!   contract says what is written; of `capture` it is the file of its run's events, those of the text's `device` lines
 //!   in front, each entry from its step's line (`capture_bytes`). Of `devices` the input is a capture of at most so
 //!   many bytes, and what was written is the text of its scenario (`recorded_scenario` of `trace_recorded`), in which a
@@ -58,6 +60,7 @@
 //! `usbtrace` hands its words and streams to `trace`.
 #![tactic(auto)]
 
+mod checked;
 mod descriptor;
 mod explain;
 mod live;

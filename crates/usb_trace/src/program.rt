@@ -16,6 +16,7 @@ ghost use Rattle.trace_io.specs.declared.words.Task.{Task};
 ghost use Rattle.trace_run.specs.declared.tasks.Ending.TheVariants.{BadLines, Differs, NoDevices};
 ghost use Rattle.trace_io.specs.declared.words.Task.TheVariants.{Capture, Check, Devices, Steps};
 
+use crate::checked::report;
 use crate::descriptor::{describe, device};
 use crate::explain::explain;
 use crate::live::live;
@@ -28,11 +29,10 @@ use std::alloc::Global;
 use std::io::{Read, Write};
 use std::sync::Wait;
 use std::thread::Threads;
-use trace_io::print::print_findings;
 use trace_io::{Fault, Task, read_whole, read_words, write_bytes};
 use trace_picture::Form;
 use trace_run::{Ending, capture_run, print_left, print_steps, run, run_alone};
-use trace_scenario::{Lined, Scenario, check, read_lined, read_scenario};
+use trace_scenario::{Lined, Scenario, read_lined, read_scenario};
 
 /// The status of a run that ended early, of a check that found bad lines, and of a capture without devices.
 const FAILED: u8 = 1;
@@ -171,20 +171,6 @@ fn perform<T: Threads + Wait + Sync, R: Read, W: Write>(
         Task::Device => device(alloc, text.as_slice(), out),
         Task::Describe => describe(alloc, text.as_slice(), out),
     }
-}
-
-/// Checks a text: prints its bad lines, and how much the good ones say.
-fn report<W: Write>(alloc: Global, text: &[u8], out: &mut W) -> Result<Ending, Fault>
-    requires { length text.now ≤ longest_input }
-    ensures ends { Performs Check text.now [] (W.contents out.old) (W.contents out.new) result }
-    ensures begun { Begins Check text.now (W.contents out.old) (W.contents out.new) }
-{
-    let findings = check(alloc, text)?;
-    print_findings(alloc, out, &findings)?;
-    if findings.bad.is_empty() {
-        return Ok(Ending::Good);
-    }
-    Ok(Ending::BadLines)
 }
 
 /// Prints the entries of a text's scenario, each behind the number and the text of its step's line.
