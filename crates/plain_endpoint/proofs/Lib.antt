@@ -2,3 +2,4 @@ pub mod Walks
 mod LineWalks
 mod StandIns
 mod Fronts
+mod Received
