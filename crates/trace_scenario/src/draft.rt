@@ -5,6 +5,7 @@ ghost use Rattle.trace_scenario.specs.Counts.{counts_of, scripts_of, written_scr
 ghost use Rattle.trace_scenario.specs.Scenario.{says_nothing, empty_scripts, is_free, takes_script};
 ghost use Rattle.trace_scenario.specs.TextResults.{Becomes, IsJudged};
 
+use crate::endpoint_set::EndpointSet;
 use crate::findings::Counts;
 use crate::scenario::Scenario;
 use crate::scripted::ScriptedDevice;
@@ -185,7 +186,8 @@ impl Draft {
             .get(place)
             .ok_or(Problem::Place(Misplaced::NoDevice))?;
         if !takes_script(&device.config, ep) {
-            return Err(LineFault::Bad(Problem::Place(Misplaced::NoEndpoint)));
+            let there = EndpointSet::scripted(&device.config);
+            return Err(LineFault::Bad(Problem::Place(Misplaced::NoEndpoint(there))));
         }
         if !is_free(device.scripts.as_slice(), id) {
             return Err(LineFault::Bad(Problem::Place(Misplaced::SecondScript)));

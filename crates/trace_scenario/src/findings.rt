@@ -1,22 +1,58 @@
 //! What is wrong with a text, line by line.
 
-ghost use Rattle.std.specs.Prelude.{◌≡◌, IfOk, map, Some};
+ghost use Rattle.std.specs.Prelude.{◌≡◌, ◌++◌, ◌∷◌, [], IfOk, map, Some};
 ghost use Rattle.trace_scenario.specs.Counts.{counts_of, counts_text, plural_end};
 ghost use Rattle.trace_scenario.specs.Findings.{bad_lines, good_lines};
 
-use crate::Problem;
+use crate::culprit::culprit;
 use crate::draft::Draft;
+use crate::shown::ShownWord;
 use crate::slip::Slip;
+use crate::{Problem, Verb};
 use std::alloc::{AllocError, Global};
 use std::fmt;
 
 /// A bad line.
 #[derive(Clone, Copy, PartialEq, Eq, Debug)]
-pub struct Finding {
+pub struct Finding<'a> {
     /// Its number, from 1.
     pub line: u64,
+    /// Its bytes, without the line feed.
+    pub text: &'a [u8],
     /// What is wrong with it.
     pub problem: Problem,
+}
+
+impl<'a> Finding<'a> {
+    /// The word that its problem is about, if it is about one.
+    pub fn word(&self) -> Option<&'a str> {
+        culprit(self.text, &self.problem)
+    }
+
+    /// The verb that its first word is almost, where that is none.
+    fn verb_meant(&self) -> Option<Verb> {
+        match self.problem {
+            Problem::FirstWord => Verb::near(self.word()?),
+            _ => None,
+        }
+    }
+}
+
+/// The word that the problem is about, what is wrong, and which verb may be meant.
+impl fmt::Display for Finding<'_> {
+    fn fmt<W: fmt::Write>(&self, f: &mut fmt::Formatter<W>) -> fmt::Result {
+        let problem = self.problem;
+        if let Some(word) = self.word() {
+            let word = ShownWord(word);
+            write!(f, "`{word}`: ")?;
+        }
+        write!(f, "{problem}")?;
+        if let Some(verb) = self.verb_meant() {
+            let word = verb.word();
+            write!(f, "; do you mean `{word}`?")?;
+        }
+        Ok(())
+    }
 }
 
 /// How much the good lines of a text say.
@@ -53,9 +89,9 @@ fn plural_end(count: usize) -> &'static str
 
 /// What a check of a text finds.
 #[derive(Debug, Drop)]
-pub struct Findings {
+pub struct Findings<'a> {
     /// Its bad lines, in order.
-    pub bad: Vec<Finding>,
+    pub bad: Vec<Finding<'a>>,
     /// What the others say, counted.
     pub counts: Counts,
 }
@@ -68,9 +104,30 @@ fn told(line: &[u8], problem: Problem) -> Problem {
     }
 }
 
+/// Notes a bad line.
+fn note<'a>(
+    bad: &mut Vec<Finding<'a>>,
+    line: u64,
+    text: &'a [u8],
+    problem: Problem,
+) -> Result<(), AllocError>
+    ensures { IfOk result (λ _. map (λ finding. finding.line) bad.new.items ≡ map (λ finding. finding.line) bad.old.items ++ line ∷ []) }
+{
+    let problem = told(text, problem);
+    let finding = Finding {
+        line,
+        text,
+        problem,
+    };
+    match bad.push(finding) {
+        Ok(()) => Ok(()),
+        Err(_) => Err(AllocError),
+    }
+}
+
 /// Reads a text as `read_scenario` does, but skips each bad line and tells of it. Each line is judged by what the good
 /// ones before it say.
-pub fn check(alloc: Global, text: &[u8]) -> Result<Findings, AllocError>
+pub fn check<'a>(alloc: Global, text: &'a [u8]) -> Result<Findings<'a>, AllocError>
     ensures bad { IfOk result (λ findings. map (λ finding. finding.line) findings.bad.items ≡ bad_lines text.now) }
     ensures counts { IfOk result (λ findings. findings.counts ≡ counts_of (good_lines text.now)) }
 {
@@ -80,8 +137,7 @@ pub fn check(alloc: Global, text: &[u8]) -> Result<Findings, AllocError>
     for words in text.split(|byte| *byte == b'\n') {
         line = line.saturating_add(1);
         if let Some(problem) = draft.judge(alloc, words)? {
-            let problem = told(words, problem);
-            bad.push(Finding { line, problem })?;
+            note(&mut bad, line, words, problem)?;
         }
     }
     let counts = draft.counts()?;

@@ -18,6 +18,8 @@
 //! - `lined.rt`, specs/StepLines: a scenario with the line of each piece of its plan, and of each device
 //! - `described.rt`, specs/DeviceLines: a device's line, with the bytes of its configuration
 //! - `findings.rt`: the bad lines of a text, and how much the others say
+//! - `culprit.rt`, `shown.rt`, `near.rt`, `endpoint_set.rt`: the word that a problem is about; how it is shown; words that are almost
+//!   another; which endpoints a device has
 //! - `text_fault.rt`, `laws.rt`: why a text isn't read; a text has no bad line exactly where it is that of a
 //!   scenario, and each scenario can be run
 //! - specs/Runnable: what a program needs of a scenario to run it: devices that can be made, a plan without verdicts,
@@ -45,8 +47,10 @@
 //!   says no verdict itself; and it has a rule for each submission, none of which is Free
 #![tactic(auto)]
 
+mod culprit;
 mod described;
 mod draft;
+mod endpoint_set;
 mod expected;
 mod fault;
 mod findings;
@@ -54,6 +58,7 @@ pub mod laws;
 mod line;
 mod lined;
 mod names;
+mod near;
 pub mod number;
 mod option;
 mod prefix;
@@ -61,6 +66,7 @@ mod problem;
 mod scenario;
 mod script;
 mod scripted;
+mod shown;
 mod slip;
 mod step;
 mod submit;
@@ -68,6 +74,7 @@ mod text_fault;
 mod verb;
 
 pub use described::DescribedDevice;
+pub use endpoint_set::EndpointSet;
 pub use expected::Expected;
 pub use fault::LineFault;
 pub use findings::{Counts, Finding, Findings, check};

@@ -2,6 +2,7 @@
 //! line.
 
 use crate::Expected;
+use crate::endpoint_set::EndpointSet;
 use crate::slip::Slip;
 use crate::verb::Verb;
 use std::fmt;
@@ -42,8 +43,8 @@ pub enum Misplaced {
     Turn(usize),
     /// A script is that of a device without a line.
     NoDevice,
-    /// A script's endpoint is no bulk or interrupt endpoint of its device.
-    NoEndpoint,
+    /// A script's endpoint is no bulk or interrupt endpoint of its device, which has these.
+    NoEndpoint(EndpointSet),
     /// A script's endpoint has one.
     SecondScript,
 }
@@ -77,9 +78,10 @@ impl fmt::Display for Misplaced {
             }
             Misplaced::Turn(_) => f.write_str("there are 4 devices already, and may be no more"),
             Misplaced::NoDevice => f.write_str("no line before this one has the device"),
-            Misplaced::NoEndpoint => {
-                f.write_str("the device has no bulk or interrupt endpoint of this address")
-            }
+            Misplaced::NoEndpoint(endpoints) => write!(
+                f,
+                "the device has no bulk or interrupt endpoint of this address; it has {endpoints}"
+            ),
             Misplaced::SecondScript => f.write_str("the endpoint has a script already"),
         }
     }

@@ -51,9 +51,13 @@ impl Slip {
 }
 
 /// Whether a word begins with `0x`.
+pub(crate) fn has_zero_x(word: &[u8]) -> bool {
+    matches!(word, [b'0', b'x', ..])
+}
+
+/// Whether one of a line's words begins with `0x`.
 fn has_prefix(line: &[u8]) -> bool {
-    line.split(|byte| *byte == b' ')
-        .any(|word| matches!(word, [b'0', b'x', ..]))
+    line.split(|byte| *byte == b' ').any(has_zero_x)
 }
 
 /// Whether a word begins as a device descriptor does (USB 2.0, 9.6.1).

@@ -3,6 +3,8 @@
 ghost use Rattle.std.specs.Prelude.{◌≡◌};
 ghost use Rattle.trace_scenario.specs.Verb.{verb_of};
 
+use crate::near::is_near;
+
 /// What a line is about: its first word.
 #[derive(Clone, Copy, PartialEq, Eq, Debug)]
 pub enum Verb {
@@ -41,6 +43,27 @@ pub enum Verb {
     /// `unplug`
     Unplug,
 }
+
+/// All verbs.
+const ALL: [Verb; 17] = [
+    Verb::Device,
+    Verb::Script,
+    Verb::Open,
+    Verb::Close,
+    Verb::Claim,
+    Verb::Release,
+    Verb::Reset,
+    Verb::Clear,
+    Verb::Submit,
+    Verb::Cancel,
+    Verb::Expire,
+    Verb::Serve,
+    Verb::Command,
+    Verb::Deliver,
+    Verb::Take,
+    Verb::Return,
+    Verb::Unplug,
+];
 
 impl Verb {
     /// The verb of a word.
@@ -91,5 +114,19 @@ impl Verb {
             Verb::Return => "return H N",
             Verb::Unplug => "unplug D",
         }
+    }
+
+    /// Its word, with which its form begins.
+    pub fn word(self) -> &'static str {
+        let form = self.form();
+        match form.split_once(' ') {
+            Some((word, _)) => word,
+            None => form,
+        }
+    }
+
+    /// The first verb whose word a word is almost.
+    pub(crate) fn near(word: &str) -> Option<Verb> {
+        ALL.iter().find(|verb| is_near(word, verb.word())).copied()
     }
 }

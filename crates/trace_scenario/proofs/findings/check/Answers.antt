@@ -1,9 +1,8 @@
 use Rattle.std.proofs.Common.{◌≡◌, ◌+◌, ◌<◌, ◌^◌, ◌==◌, ◌++◌, ◌∷◌, [], ℕ, List, Option, Some, None, length, drop, map, sym, ap, ◌∙◌, arith, rules, tests}
 use Rattle.std.specs.List.{slice_split}
-use Rattle.std.proofs.lemmas.List.{append-nil, length_push, map-append}
+use Rattle.std.proofs.lemmas.List.{append-nil, length_push}
 use Rattle.std.proofs.lemmas.Iterator.Splits.{YieldsList-from_slice_split}
 use Rattle.std.proofs.lemmas.Iterator.Consumers.{YieldsList-turn, YieldsList-end}
-use Rattle.trace_scenario.specs.declared.findings.Finding.{Finding}
 use Rattle.trace_scenario.specs.declared.problem.Problem.{Problem}
 use Rattle.trace_scenario.specs.TextResults.{IsJudged}
 use Rattle.trace_scenario.specs.Scenario.{with_text}
@@ -23,11 +22,9 @@ loop-words-preserved-in-Continue-branch-3 c =
     let at : c.saturating_add-line.result ≡ i + 1 = counted c.args.text.now i c.loop-words.line _ small t.0 c.loop-words.invariant.counted c.saturating_add-line.ensures in
     let judges : IsJudged (Some c.in-Some-2.problem) (with_text c.loop-words.draft c.in-Some.words.now) c.loop-words.draft c.judge.new.self = judged_as _ _ _ _ _ c.in_ok-problem.ensures c.in-Some-2.is in
     let before : List ℕ = map (λ finding. finding.line) c.loop-words.bad.items in
-    let after : List ℕ = map (λ finding. finding.line) c.push.new.self.items in
+    let after : List ℕ = map (λ finding. finding.line) c.note.new.bad.items in
     let noted : after ≡ before ++ noted_number (i + 1) ((Some c.in-Some-2.problem)) =
-    ap (map (λ finding. finding.line)) c.in_ok-push.ensures.items
-    ∙ map-append (λ (finding : Finding). finding.line) c.loop-words.bad.items (record { line = c.saturating_add-line.result; problem = c.told-problem.result } ∷ [])
-    ∙ ap (λ n. before ++ n ∷ []) at in
+    c.in_ok-note.ensures ∙ ap (λ n. before ++ n ∷ []) at in
     record {
       counted = at ∙ sym grows;
       found =

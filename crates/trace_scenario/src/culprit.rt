@@ -1,0 +1,111 @@
+//! The word of a bad line that its problem is about. No contract says which word that is.
+
+use crate::expected::Expected;
+use crate::line::ascii;
+use crate::prefix::behind;
+use crate::problem::Problem;
+use crate::slip::{Slip, has_zero_x};
+use crate::verb::Verb;
+use usb_model::limits::LARGEST_PACKET;
+
+/// How many words stand before the answers of a script.
+const BEFORE_ANSWERS: usize = 3;
+
+/// How many words stand before the options of a submission.
+const BEFORE_OPTIONS: usize = 5;
+
+/// How the options of a submission begin, in their order.
+const OPTIONS: [&str; 3] = ["flags=", "timeout=", "then="];
+
+/// The word that the problem of a line is about, where it is about one.
+pub(crate) fn culprit<'a>(line: &'a [u8], problem: &Problem) -> Option<&'a str> {
+    let line = ascii(line)?;
+    match problem {
+        Problem::FirstWord => line.split(' ').next(),
+        Problem::Word(expected) => unexpected(line, *expected),
+        Problem::Packet => first_wrong_answer(line, true),
+        Problem::Slip(Slip::Prefix) => line.split(' ').find(|word| has_zero_x(word.as_bytes())),
+        _ => None,
+    }
+}
+
+/// The word that isn't what was expected.
+fn unexpected(line: &str, expected: Expected) -> Option<&str> {
+    match expected {
+        Expected::Handle => named(line, "H"),
+        Expected::Device => named(line, "D"),
+        Expected::Interface => named(line, "I"),
+        Expected::Endpoint => named(line, "EP"),
+        Expected::Number => named(line, "N"),
+        Expected::Kind => named(line, "K"),
+        Expected::Length => named(line, "B"),
+        Expected::Bytes => not_bytes(line),
+        Expected::Flags => beginning(line, "flags="),
+        Expected::Timeout => beginning(line, "timeout="),
+        Expected::Rule => beginning(line, "then="),
+        Expected::Option => out_of_turn(line),
+        Expected::InAnswer => first_wrong_answer(line, true),
+        Expected::OutAnswer => first_wrong_answer(line, false),
+    }
+}
+
+/// The word that stands where the line's form has this one.
+fn named<'a>(line: &'a str, name: &str) -> Option<&'a str> {
+    let verb = Verb::read(line.split(' ').next()?)?;
+    let place = verb.form().split(' ').position(|word| word == name)?;
+    line.split(' ').nth(place)
+}
+
+/// The first word that begins so.
+fn beginning<'a>(line: &'a str, begin: &str) -> Option<&'a str> {
+    line.split(' ').find(|word| word.starts_with(begin))
+}
+
+/// The word that had to be bytes: a descriptor, the body of a submission, or else an answer.
+fn not_bytes(line: &str) -> Option<&str> {
+    named(line, "HEX")
+        .or(named(line, "B"))
+        .or(first_wrong_answer(line, true))
+}
+
+/// The first answer of an endpoint of this direction that isn't one.
+fn first_wrong_answer(line: &str, is_in: bool) -> Option<&str> {
+    line.split(' ')
+        .skip(BEFORE_ANSWERS)
+        .find(|word| !is_answer(word, is_in))
+}
+
+/// Whether a word is an answer of an endpoint of this direction.
+fn is_answer(word: &str, is_in: bool) -> bool {
+    match word {
+        "n" | "s" | "b" => true,
+        "a" => !is_in,
+        _ => is_in && is_packet(word),
+    }
+}
+
+/// Whether a word is a packet.
+fn is_packet(word: &str) -> bool {
+    match behind("d:", word) {
+        Some(digits) => are_packet_digits(digits),
+        None => false,
+    }
+}
+
+/// Whether digits are the bytes of a packet.
+fn are_packet_digits(digits: &str) -> bool {
+    digits.len() % 2 == 0
+        && digits.len() / 2 <= LARGEST_PACKET
+        && digits.bytes().all(|digit| digit.is_ascii_hexdigit())
+}
+
+/// The first word behind a submission's body that is no option, or not in its turn.
+fn out_of_turn(line: &str) -> Option<&str> {
+    let mut options = OPTIONS.iter();
+    for word in line.split(' ').skip(BEFORE_OPTIONS) {
+        if !options.any(|begin| word.starts_with(*begin)) {
+            return Some(word);
+        }
+    }
+    None
+}
