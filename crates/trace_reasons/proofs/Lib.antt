@@ -1,5 +1,6 @@
 mod Fronts
 mod Homes
+mod Listed
 mod Named
 mod FullFronts
 mod OfSorts

@@ -47,13 +47,13 @@ absent_told setup h w ep none = by_device (w.names h).device refl none
     only (Some r) = refl
 
     by_interface : (d : ℕ) (o : Option ℕ) → (if is_its h (option_and_then (λ i. w.claims d i) o) then Some (w.endpoints d ep) else None) ≡ None → (w.names h).device ≡ Some d
-        → sort_told (unclaimed h (machine_of setup h w) ep o) ≡ Refuses refused.NotFound
+        → sort_told (unclaimed setup h (machine_of setup h w) ep o) ≡ Refuses refused.NotFound
     by_interface d None e opened = refl
     by_interface d (Some i) e opened = rw opened (by_claim d i (is_its h (w.claims d i)) e)
 
     by_device : (o : Option ℕ) → (w.names h).device ≡ o → option_and_then (λ d. own_endpoint setup h w d ep) o ≡ None → sort_told (absent setup h (machine_of setup h w) ep) ≡ Refuses refused.NotFound
     by_device None e q = rw e refl
-    by_device (Some d) e q = rw e (ap sort_told (only (unclaimed h (machine_of setup h w) ep (interface_of setup d ep))) ∙ by_interface d (interface_of setup d ep) q e)
+    by_device (Some d) e q = rw e (ap sort_told (only (unclaimed setup h (machine_of setup h w) ep (interface_of setup d ep))) ∙ by_interface d (interface_of setup d ep) q e)
 
 -- something is told of a line that isn't empty
 line_told : (ep : ℕ) (line : List Item) → is_some (in_line ep line) ≡ not (length line == 0)

@@ -1,4 +1,5 @@
 pub mod First
+pub mod Endpoints
 pub mod Text
 pub mod Caller
 pub mod Refusals

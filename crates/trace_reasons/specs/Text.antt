@@ -1,5 +1,5 @@
 -- The sentence of a reason.
-use Rattle.std.specs.Prelude.{ℕ, List, ◌++◌, codes}
+use Rattle.std.specs.Prelude.{ℕ, zero, suc, List, [], ◌∷◌, ◌++◌, length, codes}
 use Rattle.std.specs.Fmt.{decimal}
 use Rattle.usb_model.specs.declared.endpoint.EndpointState.{EndpointState}
 use Rattle.usb_model.specs.declared.endpoint.EndpointState.TheVariants.{Running, Stopped, Halted}
@@ -8,6 +8,7 @@ use Rattle.usb_model.specs.declared.request.Kind.TheVariants.{Control, Isochrono
 use Rattle.usb_model.specs.declared.status.Status.{Status}
 use Rattle.usb_model.specs.declared.status.Status.TheVariants as status
 use Rattle.usb_model.specs.Text.{hex_byte}
+use Rattle.trace_reasons.specs.Endpoints.{addresses_in}
 use Rattle.trace_reasons.specs.declared.refusal.Missing.{Missing}
 use Rattle.trace_reasons.specs.declared.refusal.Missing.TheVariants as missing
 use Rattle.trace_reasons.specs.declared.refusal.Obstacle.{Obstacle}
@@ -46,11 +47,27 @@ state_text Running = codes "running"
 state_text Stopped = codes "stopped"
 state_text Halted = codes "halted"
 
+-- what stands behind a word of a list of which so many follow
+abbrev pub between : ℕ → List ℕ
+between zero = []
+between (suc zero) = codes " and "
+between (suc (suc more)) = codes ", "
+
+-- addresses in a row, as 81, 02 and 83
+abbrev pub row_text : List ℕ → List ℕ
+row_text [] = []
+row_text (ep ∷ eps) = hex_byte ep ++ (between (length eps) ++ row_text eps)
+
+-- which endpoints there are
+abbrev pub endpoints_text : List ℕ → List ℕ
+endpoints_text [] = codes "none"
+endpoints_text (ep ∷ eps) = row_text (ep ∷ eps)
+
 abbrev pub missing_text : Missing → List ℕ
 missing_text (missing.Device dev) = codes "there is no " ++ device_text dev
 missing_text (missing.Open h) = handle_text h ++ codes " has no device open"
 missing_text (missing.Interface dev i) = device_text dev ++ (codes " has no interface " ++ decimal i)
-missing_text (missing.Endpoint dev ep) = device_text dev ++ (codes " has no endpoint " ++ hex_byte ep)
+missing_text (missing.Endpoint dev ep list) = device_text dev ++ (codes " has no endpoint " ++ (hex_byte ep ++ (codes "; it has " ++ endpoints_text (addresses_in list))))
 missing_text (missing.Claim h i) = handle_text h ++ (codes " doesn't hold interface " ++ decimal i)
 missing_text (missing.ClaimFor h i ep) = handle_text h ++ (codes " doesn't hold interface " ++ (decimal i ++ (codes ", which endpoint " ++ (hex_byte ep ++ codes " belongs to"))))
 missing_text (missing.Number h n) = handle_text h ++ (codes " was never given number " ++ decimal n)

@@ -6,7 +6,8 @@
 //!
 //! # Files
 //!
-//! - `refusal.rt`, `sentence.rt`, `names.rt`: reasons and their sentences; how these name handles, devices and transfers
+//! - `refusal.rt`, `sentence.rt`, `names.rt`, `endpoints.rt`: reasons and their sentences; how these name handles, devices,
+//!   transfers and the endpoints of a device
 //! - `caller.rt`, `calls.rt`, `quiet.rt`: what a call reads; open, close, claim, release, reset and Unplug; what is under
 //!   way at an endpoint
 //! - `submissions.rt`, `shape.rt`, `asks.rt`: the end of a halt, submit and the verdicts of callbacks; a request without
@@ -28,6 +29,7 @@ mod answers;
 mod asks;
 mod caller;
 mod calls;
+mod endpoints;
 mod ends;
 mod laws;
 mod names;
@@ -39,6 +41,7 @@ mod step;
 mod submissions;
 mod turns;
 
+pub use endpoints::EndpointList;
 pub use laws::{others, refusals, sorts};
 pub use refusal::{Misfit, Missing, Obstacle, Refusal};
 pub use sentence::{Ending, Idleness, Reason, Unready};

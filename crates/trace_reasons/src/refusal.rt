@@ -4,6 +4,7 @@ ghost use Rattle.std.specs.Prelude.{◌≡◌, Some};
 ghost use Rattle.trace_reasons.specs.Refusals.{refused_of};
 ghost use Rattle.trace_reasons.specs.Text.{missing_text, misfit_text, obstacle_text, refusal_text};
 
+use crate::endpoints::EndpointList;
 use crate::names::{DeviceName, HandleName, KindName, TransferName};
 use std::fmt;
 use usb_model::{DeviceNo, EpAddr, Kind, Name, Refused};
@@ -12,27 +13,56 @@ use usb_model::{DeviceNo, EpAddr, Kind, Name, Refused};
 #[derive(Clone, Copy, PartialEq, Eq, Debug)]
 pub enum Missing {
     /// There is no such device.
-    Device { dev: DeviceNo },
+    Device {
+        dev: DeviceNo,
+    },
     /// The handle has no device open.
-    Open { h: Name },
+    Open {
+        h: Name,
+    },
     /// The device has no such interface.
-    Interface { dev: DeviceNo, i: u8 },
-    /// The device has no such endpoint.
-    Endpoint { dev: DeviceNo, ep: EpAddr },
+    Interface {
+        dev: DeviceNo,
+        i: u8,
+    },
+    /// The device has no such endpoint, but these.
+    Endpoint {
+        dev: DeviceNo,
+        ep: EpAddr,
+        list: EndpointList,
+    },
     /// The handle doesn't hold the interface.
-    Claim { h: Name, i: u8 },
+    Claim {
+        h: Name,
+        i: u8,
+    },
     /// The handle doesn't hold the interface of the endpoint.
-    ClaimFor { h: Name, i: u8, ep: EpAddr },
+    ClaimFor {
+        h: Name,
+        i: u8,
+        ep: EpAddr,
+    },
     /// The handle was never given the number.
-    Number { h: Name, n: u64 },
+    Number {
+        h: Name,
+        n: u64,
+    },
     /// The transfer isn't in progress any more.
-    Progress { n: u64 },
+    Progress {
+        n: u64,
+    },
     /// The transfer was asked to end already, so it can't be asked again.
-    Ask { n: u64 },
+    Ask {
+        n: u64,
+    },
     /// The transfer has no timeout.
-    Timeout { n: u64 },
+    Timeout {
+        n: u64,
+    },
     /// The transfer isn't in its callback.
-    Callback { n: u64 },
+    Callback {
+        n: u64,
+    },
 }
 
 /// What of the handle's own is in the way.
@@ -117,9 +147,9 @@ impl fmt::Display for Missing {
                 let dev = DeviceName(*dev);
                 write!(f, "{dev} has no interface {i}")
             }
-            Missing::Endpoint { dev, ep } => {
+            Missing::Endpoint { dev, ep, list } => {
                 let dev = DeviceName(*dev);
-                write!(f, "{dev} has no endpoint {ep}")
+                write!(f, "{dev} has no endpoint {ep}; it has {list}")
             }
             Missing::Claim { h, i } => {
                 let h = HandleName(*h);

@@ -7,6 +7,7 @@ ghost use Rattle.usb_model.specs.Limits.{most_places};
 ghost use Rattle.usb_model.specs.Machine.{endpoint_at, places};
 
 use crate::caller::Caller;
+use crate::endpoints::EndpointList;
 use crate::quiet::{in_line, results_at};
 use crate::refusal::{Misfit, Missing, Obstacle, Refusal};
 use crate::shape::Shape;
@@ -44,7 +45,8 @@ impl<'a> Caller<'a> {
             return Some(Refusal::NotFound(Missing::Open { h }));
         };
         let Some(i) = self.setup.interface_of(dev, ep) else {
-            return Some(Refusal::NotFound(Missing::Endpoint { dev, ep }));
+            let list = EndpointList::of(self.setup.endpoints_of(dev));
+            return Some(Refusal::NotFound(Missing::Endpoint { dev, ep, list }));
         };
         if !self.system.is_claimed(h, dev, i) {
             Some(Refusal::NotFound(Missing::ClaimFor { h, i, ep }))

@@ -10,7 +10,7 @@ use Rattle.usb_model.specs.declared.verdict.Verdict.{Verdict}
 use Rattle.usb_model.specs.declared.verdict.Verdict.TheVariants.{Stop, Again, AgainWith}
 use Rattle.usb_model.specs.Limits.{last_number, most_bytes, most_places}
 use Rattle.usb_model.specs.Requests.{is_same_kind, is_unsupported, length_of}
-use Rattle.usb_model.specs.Setup.{Setup, interface_of, is_in, kind_of}
+use Rattle.usb_model.specs.Setup.{Setup, endpoints_of, interface_of, is_in, kind_of}
 use Rattle.usb_model.specs.Machine.{Machine, is_open, device_of, is_gone, endpoint_at, places}
 use Rattle.usb_model.specs.Machine.Calls.{callback_of}
 use Rattle.trace_reasons.specs.declared.refusal.Missing.TheVariants as missing
@@ -19,17 +19,18 @@ use Rattle.trace_reasons.specs.declared.refusal.Misfit.TheVariants as misfit
 use Rattle.trace_reasons.specs.declared.refusal.Refusal.{Refusal}
 use Rattle.trace_reasons.specs.declared.refusal.Refusal.TheVariants.{NotFound, NoDevice, Busy, InvalidParam, NotSupported}
 use Rattle.trace_reasons.specs.declared.shape.Shape.{Shape}
+use Rattle.trace_reasons.specs.Endpoints.{listed}
 use Rattle.trace_reasons.specs.First.{first_told, when}
 use Rattle.trace_reasons.specs.Refusals.Quiet.{busy, in_line}
 
 -- an endpoint that the device hasn't, or whose interface the handle doesn't hold
-abbrev pub unclaimed : ℕ → Machine → ℕ → Option ℕ → Option Refusal
-unclaimed h m ep None = Some (NotFound (missing.Endpoint (device_of m) ep))
-unclaimed h m ep (Some i) = when (not (m.held (device_of m) i)) (NotFound (missing.ClaimFor h i ep))
+abbrev pub unclaimed : Setup → ℕ → Machine → ℕ → Option ℕ → Option Refusal
+unclaimed setup h m ep None = Some (NotFound (missing.Endpoint (device_of m) ep (listed (endpoints_of setup (device_of m)))))
+unclaimed setup h m ep (Some i) = when (not (m.held (device_of m) i)) (NotFound (missing.ClaimFor h i ep))
 
 -- why a handle has no endpoint of this address
 abbrev pub absent : Setup → ℕ → Machine → ℕ → Option Refusal
-absent setup h m ep = first_told (when (not (is_open m)) (NotFound (missing.Open h)) ∷ unclaimed h m ep (interface_of setup (device_of m) ep) ∷ [])
+absent setup h m ep = first_told (when (not (is_open m)) (NotFound (missing.Open h)) ∷ unclaimed setup h m ep (interface_of setup (device_of m) ep) ∷ [])
 
 -- the end of a halt, at the endpoint that the handle has there
 abbrev pub clear_refusal_at : Setup → ℕ → Machine → ℕ → Option Endpoint → Option Refusal
