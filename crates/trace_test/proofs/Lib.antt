@@ -1,2 +1,4 @@
+mod Calls
 mod Lines
 mod Texts
+mod Judged

@@ -11,11 +11,12 @@ use Rattle.trace_scenario.specs.StepLines.{step_lines}
 use Rattle.trace_scenario.specs.declared.scenario.Scenario.{Scenario}
 use Rattle.trace_test.specs.Comparison.{Uncompared, difference_from}
 use Rattle.trace_test.specs.Expanded.{Expansion, Expands, lines_in, origin_of}
+use Rattle.trace_test.specs.Macros.{unrolled}
 use Rattle.trace_test.specs.declared.difference.Difference.{Difference}
 use Rattle.trace_test.specs.declared.difference.Outcome.{Outcome}
 use Rattle.trace_test.specs.declared.difference.Outcome.TheVariants.{Passed, Differs}
 
--- for each step's line of the scenario, the number of the line of the test that it comes from, and no text
+-- for each step's line of the scenario, the number of the line that it comes from in what the test stands for without macros, and no text
 abbrev pub origin_lines : Expansion → List (ℕ × List ℕ)
 origin_lines e = map (λ line. (origin_of e line.0, [])) (step_lines e.text)
 
@@ -32,15 +33,34 @@ abbrev pub outcome_by : Option Difference → Outcome
 outcome_by None = Passed
 outcome_by (Some difference) = Differs difference
 
--- this came of a test: its lines stand for a scenario, with whose run they were compared
-abbrev pub IsOutcome : List ℕ → Outcome → Type 0
-IsOutcome text outcome =
+-- this came of a test without macros: its lines stand for a scenario, with whose run they were compared
+abbrev pub IsPlainOutcome : List ℕ → Outcome → Type 0
+IsPlainOutcome text outcome =
     (e : Expansion) × (s : Scenario) × Expands text e × (scenario_of e.text ≡ Ok s)
     × (outcome ≡ outcome_by (difference_from 1 (lines_in text) (uncompared e s)))
 
--- a fault of a test: a line is bad, by its number in the test, or memory or a stream failed
+-- a fault of it: a line is bad, by its number, or memory or a stream failed
+abbrev pub IsOfPlainTest : List ℕ → Fault → Type 0
+IsOfPlainTest text (Line at) = (e : Expansion) × Expands text e × ((line : ℕ) × (scenario_of e.text ≡ Err line) × (at ≡ origin_of e line))
+IsOfPlainTest text fault = IsOfRun fault
+
+-- a difference, told by the line that its line comes from
+abbrev pub by_origin : Expansion → Outcome → Outcome
+by_origin u Passed = Passed
+by_origin u (Differs difference) = Differs (record difference { line = origin_of u difference.line })
+
+-- a bad line, in the same way
+abbrev pub fault_by_origin : Expansion → Fault → Fault
+fault_by_origin u (Line line) = Line (origin_of u line)
+fault_by_origin u fault = fault
+
+-- this came of a test: of what it stands for without macros came the same, and a difference is told by the line of the test
+abbrev pub IsOutcome : List ℕ → Outcome → Type 0
+IsOutcome text outcome = (plain : Outcome) × IsPlainOutcome (unrolled text).text plain × (outcome ≡ by_origin (unrolled text) plain)
+
+-- a fault of a test: a line is bad of what it stands for without macros, by its number in the test, or memory or a stream failed
 abbrev pub IsOfTest : List ℕ → Fault → Type 0
-IsOfTest text (Line at) = (e : Expansion) × Expands text e × ((line : ℕ) × (scenario_of e.text ≡ Err line) × (at ≡ origin_of e line))
+IsOfTest text (Line at) = (line : ℕ) × IsOfPlainTest (unrolled text).text (Line line) × (at ≡ origin_of (unrolled text) line)
 IsOfTest text fault = IsOfRun fault
 
 -- what is told of a test

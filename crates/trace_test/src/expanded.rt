@@ -1,9 +1,11 @@
 //! The scenario that the lines of a test stand for.
 
-ghost use Rattle.std.specs.Prelude.{◌≡◌, ◌∷◌, [], IfOk, IfSome, map, replicate};
+ghost use Rattle.std.specs.Prelude.{◌≡◌, ◌++◌, ◌∷◌, [], IfOk, IfSome, map, replicate};
 ghost use Rattle.trace_test.specs.Expanded.{AddsLine, AddsLines, Expands, StandsFor, nothing_added, origin_of, settling_line};
+ghost use Rattle.trace_test.specs.Macros.{with_text};
 
 use crate::expected::expected;
+use crate::macros::line_count;
 use crate::settling::{Settling, steps_to_rest};
 use std::alloc::{AllocError, Global};
 use std::marker::Model;
@@ -34,12 +36,12 @@ struct Repeated<'a> {
     times: u32,
 }
 
-/// How many times a line may stand for itself.
-const MOST_TIMES: u32 = 65_536;
+/// How many times a line may stand for itself, and a macro's body for a call.
+pub(crate) const MOST_TIMES: u32 = 65_536;
 
 impl Expanded {
     /// No line.
-    fn new(alloc: Global) -> Expanded
+    pub(crate) fn new(alloc: Global) -> Expanded
         ensures { result ≡ nothing_added }
     {
         Expanded {
@@ -57,13 +59,21 @@ impl Expanded {
     }
 
     /// Adds a line.
-    fn push(&mut self, at: u64, line: &[u8]) -> Result<(), AllocError>
+    pub(crate) fn push(&mut self, at: u64, line: &[u8]) -> Result<(), AllocError>
         ensures { IfOk result (λ _. AddsLines at (line.now ∷ []) self.old self.new) }
     {
         self.text.extend_from_slice(line)?;
         self.text.push(b'\n')?;
         self.origins.push(at)?;
         Ok(())
+    }
+
+    /// Adds a text whose lines end with a line feed.
+    pub(crate) fn push_text(&mut self, at: u64, text: &[u8]) -> Result<(), AllocError>
+        ensures { IfOk result (λ _. self.new ≡ with_text at text.now self.old) }
+    {
+        self.text.extend_from_slice(text)?;
+        push_number(&mut self.origins, at, line_count(text))
     }
 
     /// Adds a line so many times.
@@ -104,6 +114,16 @@ impl Expanded {
         }
         Ok(())
     }
+}
+
+/// Adds a number so many times.
+fn push_number(numbers: &mut Vec<u64>, number: u64, times: usize) -> Result<(), AllocError>
+    ensures { IfOk result (λ _. numbers.new.items ≡ numbers.old.items ++ replicate times number) }
+{
+    for _ in 0..times {
+        numbers.push(number)?;
+    }
+    Ok(())
 }
 
 /// The line in front of a star, and the number of times behind it; None where a line has no such end.

@@ -9,10 +9,11 @@ ghost use Rattle.trace_run.specs.Stepwise.{stepwise_text};
 ghost use Rattle.trace_run.specs.Tasks.{left_lines};
 ghost use Rattle.trace_test.specs.Comparison.{difference_from, texts_of};
 ghost use Rattle.trace_test.specs.Expanded.{lines_in, origin_of};
-ghost use Rattle.trace_test.specs.Tests.{IsOfTest, IsOutcome, outcome_by, outcome_text};
+ghost use Rattle.trace_test.specs.Tests.{IsOfPlainTest, IsOfTest, IsOutcome, IsPlainOutcome, by_origin, fault_by_origin, outcome_by, outcome_text};
 
 use crate::difference::{Difference, Outcome};
 use crate::expanded::{Expanded, expand};
+use crate::macros::unroll;
 use crate::unmet::Unmet;
 use std::alloc::{AllocError, Global};
 use trace_io::Fault;
@@ -97,10 +98,33 @@ fn outcome(alloc: Global, text: &[u8], printed: &[u8], left: &[u8]) -> Result<Ou
     }
 }
 
-/// Runs a test: what came of it. A fault where a line is bad, by its number in the test, or memory is refused.
-pub fn test(alloc: Global, text: &[u8]) -> Result<Outcome, Fault>
-    ensures outcome { IfOk result (IsOutcome text.now) }
-    ensures fault { IfErr result (IsOfTest text.now) }
+/// What came of a test, where a difference is told by the line that its line comes from.
+fn by_origin(unrolled: &Expanded, outcome: Outcome) -> Outcome
+    ensures { result ≡ by_origin unrolled.now outcome }
+{
+    match outcome {
+        Outcome::Passed => Outcome::Passed,
+        Outcome::Differs(difference) => Outcome::Differs(Difference {
+            line: unrolled.origin(difference.line),
+            ..difference
+        }),
+    }
+}
+
+/// A fault of a test, where a bad line is told by the line that it comes from.
+fn fault_by_origin(unrolled: &Expanded, fault: Fault) -> Fault
+    ensures { result ≡ fault_by_origin unrolled.now fault }
+{
+    match fault {
+        Fault::Line(line) => Fault::Line(unrolled.origin(line)),
+        _ => fault,
+    }
+}
+
+/// What came of a test without macros. A fault where a line is bad, by its number, or memory is refused.
+fn judge(alloc: Global, text: &[u8]) -> Result<Outcome, Fault>
+    ensures outcome { IfOk result (IsPlainOutcome text.now) }
+    ensures fault { IfErr result (IsOfPlainTest text.now) }
 {
     let expanded = expand(alloc, text)?;
     let Lined {
@@ -119,6 +143,20 @@ pub fn test(alloc: Global, text: &[u8]) -> Result<Outcome, Fault>
     let printed = printed(alloc, scenario, origins.as_slice())?;
     let left = left(alloc, again)?;
     Ok(outcome(alloc, text, printed.as_slice(), left.as_slice())?)
+}
+
+/// Runs a test: what came of it. A fault where a line is bad, by its number in the test, or memory is refused. What a call of a macro
+/// stands for is told by the number of the call's line.
+#[tactic(auto, using(crate::proofs::Judged::outcome_told, crate::proofs::Judged::fault_told))]
+pub fn test(alloc: Global, text: &[u8]) -> Result<Outcome, Fault>
+    ensures outcome { IfOk result (IsOutcome text.now) }
+    ensures fault { IfErr result (IsOfTest text.now) }
+{
+    let unrolled = unroll(alloc, text)?;
+    match judge(alloc, unrolled.text.as_slice()) {
+        Ok(outcome) => Ok(by_origin(&unrolled, outcome)),
+        Err(fault) => Err(fault_by_origin(&unrolled, fault)),
+    }
 }
 
 /// The text of what came of a test. An error where memory is refused.

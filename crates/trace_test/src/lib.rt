@@ -6,6 +6,7 @@
 //! # Files
 //!
 //! - `expected.rt`: lines that expect something
+//! - `macros.rt`, specs/Macros: macros of a test's own, and what it stands for without them
 //! - `expanded.rt`, specs/Expanded: the scenario that a test's other lines stand for
 //! - `settling.rt`: the steps of a `settle` line
 //! - `unmet.rt`, specs/Comparison: what a run printed and left, as far as nothing was compared with it
@@ -14,11 +15,13 @@
 //!
 //! # Contracts
 //!
+//! - `unroll`: what a test stands for without macros (`unrolled`), each line with the number of the line that it comes from. What is wrong
+//!   of a macro stands for itself, and is refused where the scenario is read
 //! - `expand`: each line that expects something stands for nothing; `settle` for some command, deliver and take lines; a line with
 //!   ` *N` behind it for itself so many times; each other line for itself (`Expands`). Each line of the scenario knows the line of the
 //!   test that it comes from
 //! - `test`: what came of a test (`IsOutcome`): the scenario's run is the core's on rings, whose entries are those of the definitions. Where a line
-//!   is bad, it is the first of the scenario, by its number in the test
+//!   is bad, it is the first of the scenario, by its number in the test. What a call of a macro stands for has the number of the call's line
 //! - `report`: the text of what came of it, byte for byte
 //!
 //! That a `settle` goes on until nothing is to be done is only tested.
@@ -28,9 +31,11 @@ mod difference;
 mod expanded;
 mod expected;
 mod judge;
+mod macros;
 mod settling;
 mod unmet;
 
 pub use difference::{Difference, Outcome};
 pub use expanded::{Expanded, expand};
 pub use judge::{report, test};
+pub use macros::unroll;

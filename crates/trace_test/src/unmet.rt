@@ -38,7 +38,7 @@ fn front_of(alloc: Global, at: u64) -> Result<String, AllocError>
 }
 
 /// The first of some texts; none where there is none.
-fn first_text<'a>(texts: &[&'a [u8]]) -> &'a [u8]
+pub(crate) fn first_text<'a>(texts: &[&'a [u8]]) -> &'a [u8]
     ensures { result.now ≡ first_text (texts_of texts.now) }
 {
     match texts {

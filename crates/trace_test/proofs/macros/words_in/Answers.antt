@@ -1,0 +1,7 @@
+use Rattle.std.proofs.Common.{◌==◌, rules, tests}
+use Rattle.std.proofs.lemmas.Iterator.Splits.{YieldsList-from_slice_split}
+use Rattle.std.proofs.lemmas.Iterator.Consumers.{map_from_collect}
+use Rattle.trace_test.proofs.macros.words_in.Goals as goal
+
+pub returns : goal.returns
+returns c = map_from_collect c.collect.result c.collect.ensures.ran (YieldsList-from_slice_split {s = c.split.result} _ (λ b. b == 32) c.args.line.now (cc) (cc) (cc) (λ x b q k. search (rules, tests)))
