@@ -1,14 +1,14 @@
--- A run with its reasons, piece by piece.
+-- A run with what is said of its entries, piece by piece.
 use Rattle.std.proofs.Common.{◌≡◌, ℕ, ◌+◌, ◌<◌, ◌≤◌, List, [], ◌∷◌, ◌++◌, length, drop, get_or, map, slice_index_or, sym, ap, ◌∙◌, append-nil, append_assoc}
 use Rattle.std.proofs.lemmas.List.{drop-map, drop_more, drop_all}
 use Rattle.usb_model.specs.declared.plan.Plan.{Plan}
 use Rattle.usb_model.specs.Setup.{Setup}
 use Rattle.usb_model.specs.World.Plans.{Stage, stage_after, steps_of}
 use Rattle.trace_explain.specs.Explained.{explained_from, told_piece}
-use Rattle.trace_explain.specs.declared.explained.Selection.{Selection}
+use Rattle.trace_explain.specs.declared.telling.Telling.{Telling}
 
 -- what is told of a piece stands behind the others, and the rest is told from the stage behind it
-pub explained-further : (told : Selection) (setup : Setup) (s t : Stage) (piece : Plan) (plan : List Plan) (i : ℕ) (line : ℕ × List ℕ) (lines : List (ℕ × List ℕ)) (before after all : List ℕ)
+pub explained-further : (told : Telling) (setup : Setup) (s t : Stage) (piece : Plan) (plan : List Plan) (i : ℕ) (line : ℕ × List ℕ) (lines : List (ℕ × List ℕ)) (before after all : List ℕ)
     → i < length plan → piece ≡ slice_index_or plan i piece
     → before ++ explained_from told setup s (drop i plan) (line ∷ lines) ≡ all
     → after ≡ before ++ told_piece told setup s piece line
@@ -22,7 +22,7 @@ explained-further told setup s t piece plan i line lines before after all within
     rw (put, behind) (append_assoc before text more ∙ sym (ap (λ l. before ++ explained_from told setup s l (line ∷ lines)) rest) ∙ so_far)
 
 -- at the end of the plan nothing is left to tell
-pub explained-end : (told : Selection) (setup : Setup) (s : Stage) (plan : List Plan) (i : ℕ) (lines : List (ℕ × List ℕ)) (text all : List ℕ) → length plan ≤ i
+pub explained-end : (told : Telling) (setup : Setup) (s : Stage) (plan : List Plan) (i : ℕ) (lines : List (ℕ × List ℕ)) (text all : List ℕ) → length plan ≤ i
     → text ++ explained_from told setup s (drop i plan) lines ≡ all → text ≡ all
 unfolding explained_from
 explained-end told setup s plan i lines text all past so_far =

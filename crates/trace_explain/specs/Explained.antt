@@ -1,4 +1,4 @@
--- A run with the reasons of its entries.
+-- A run with what there is to say of its entries.
 use Rattle.std.specs.Prelude.{ℕ, ◌++◌, Bool, true, false, List, [], ◌∷◌, Option, Some, None, codes}
 use Rattle.std.specs.List.{flat_map}
 use Rattle.usb_model.specs.declared.entry.Entry.{Entry}
@@ -10,13 +10,14 @@ use Rattle.usb_model.specs.declared.verdict.Rule.{Rule}
 use Rattle.usb_model.specs.Setup.{Setup}
 use Rattle.usb_model.specs.World.Journal.{run_from}
 use Rattle.usb_model.specs.World.Plans.{Stage, first_stage, returning, stage_after, steps_of, verdict_by}
-use Rattle.trace_io.specs.Output.{behind_line}
+use Rattle.trace_io.specs.Output.{behind_line, line_text}
 use Rattle.trace_reasons.specs.Reasons.{reason_of}
 use Rattle.trace_reasons.specs.Text.{reason_text}
 use Rattle.trace_reasons.specs.declared.sentence.Reason.{Reason}
 use Rattle.trace_reasons.specs.declared.sentence.Reason.TheVariants.{Refused}
-use Rattle.trace_explain.specs.declared.explained.Selection.{Selection}
-use Rattle.trace_explain.specs.declared.explained.Selection.TheVariants.{All, Refusals}
+use Rattle.trace_explain.specs.Packets.{packet_lines}
+use Rattle.trace_explain.specs.declared.telling.Telling.{Telling}
+use Rattle.trace_explain.specs.declared.telling.Telling.TheVariants.{Reasons, Refusals, Packets, StepPackets}
 
 -- the first step that a piece of a plan stands for
 abbrev pub first_step : Stage → Plan → Step
@@ -32,10 +33,22 @@ abbrev pub reason_line : Option Reason → List ℕ
 reason_line None = []
 reason_line (Some reason) = codes "    " ++ (reason_text reason ++ codes "\n")
 
--- the entries of a piece, each behind its line, and the reason behind the first
-abbrev pub explained_entries : ℕ × List ℕ → Option Reason → List Entry → List ℕ
-explained_entries line reason [] = []
-explained_entries line reason (entry ∷ entries) = behind_line line entry ++ (reason_line reason ++ flat_map (behind_line line) entries)
+-- what stands below the first entry of a piece: the reason of its first step, or the packets that this moves
+abbrev pub note_text : Telling → Setup → Stage → Plan → List ℕ
+note_text Reasons setup s piece = reason_line (first_reason setup s piece)
+note_text Refusals setup s piece = reason_line (first_reason setup s piece)
+note_text Packets setup s piece = packet_lines setup s.world (first_step s piece)
+note_text StepPackets setup s piece = packet_lines setup s.world (first_step s piece)
+
+-- an entry: behind its line, or alone
+abbrev pub told_entry : Telling → ℕ × List ℕ → Entry → List ℕ
+told_entry Packets line entry = line_text entry
+told_entry telling line entry = behind_line line entry
+
+-- the entries of a piece, and the note below the first
+abbrev pub explained_entries : Telling → ℕ × List ℕ → (note : List ℕ) → List Entry → List ℕ
+explained_entries telling line note [] = []
+explained_entries telling line note (entry ∷ entries) = told_entry telling line entry ++ (note ++ flat_map (told_entry telling line) entries)
 
 -- whether a reason is that of a refusal
 abbrev pub is_refusal : Option Reason → Bool
@@ -43,9 +56,9 @@ is_refusal (Some (Refused refusal)) = true
 is_refusal reason = false
 
 -- whether a piece is told whose first step has this reason: each, or those alone that are refused
-abbrev pub is_told : Selection → Option Reason → Bool
-is_told All reason = true
+abbrev pub is_told : Telling → Option Reason → Bool
 is_told Refusals reason = is_refusal reason
+is_told telling reason = true
 
 -- a text, where it is told
 abbrev pub where_told : Bool → List ℕ → List ℕ
@@ -53,17 +66,18 @@ where_told true text = text
 where_told false text = []
 
 -- what is told of a piece
-abbrev pub told_piece : Selection → Setup → Stage → Plan → ℕ × List ℕ → List ℕ
-told_piece told setup s piece line =
-    where_told (is_told told (first_reason setup s piece)) (explained_entries line (first_reason setup s piece) (run_from setup s.world (steps_of setup s piece)))
+abbrev pub told_piece : Telling → Setup → Stage → Plan → ℕ × List ℕ → List ℕ
+told_piece telling setup s piece line =
+    where_told (is_told telling (first_reason setup s piece))
+    (explained_entries telling line (note_text telling setup s piece) (run_from setup s.world (steps_of setup s piece)))
 
 -- of a plan from a stage on, as far as there are lines
-unfoldable pub explained_from : Selection → Setup → Stage → List Plan → List (ℕ × List ℕ) → List ℕ
-explained_from told setup s [] lines = []
-explained_from told setup s (piece ∷ plan) [] = []
-explained_from told setup s (piece ∷ plan) (line ∷ lines) =
-    told_piece told setup s piece line ++ explained_from told setup (stage_after setup s piece (steps_of setup s piece)) plan lines
+unfoldable pub explained_from : Telling → Setup → Stage → List Plan → List (ℕ × List ℕ) → List ℕ
+explained_from telling setup s [] lines = []
+explained_from telling setup s (piece ∷ plan) [] = []
+explained_from telling setup s (piece ∷ plan) (line ∷ lines) =
+    told_piece telling setup s piece line ++ explained_from telling setup (stage_after setup s piece (steps_of setup s piece)) plan lines
 
 -- of a plan under these rules
-abbrev pub explained_text : Selection → Setup → List Plan → List Rule → List (ℕ × List ℕ) → List ℕ
-explained_text told setup plan rules lines = explained_from told setup (first_stage setup rules) plan lines
+abbrev pub explained_text : Telling → Setup → List Plan → List Rule → List (ℕ × List ℕ) → List ℕ
+explained_text telling setup plan rules lines = explained_from telling setup (first_stage setup rules) plan lines

@@ -10,7 +10,7 @@ use Rattle.clap.specs.declared.error.kind.ErrorKind.TheVariants as kind
 use Rattle.clap.proofs.OnLiterals.{clap_on_literals}
 use Rattle.trace_io.specs.CommandLine.{AreBad, AskFor, AskForHelp, grammar, task_of}
 use Rattle.trace_io.specs.declared.words.Task.{Task}
-use Rattle.trace_io.specs.declared.words.Task.TheVariants.{Run, Steps, Alone, Live, Left, Check, Draw, Page, Capture, Devices, Explain, Test, Device, Describe}
+use Rattle.trace_io.specs.declared.words.Task.TheVariants.{Run, Steps, Packets, Alone, Live, Left, Check, Draw, Page, Capture, Devices, Explain, Test, Device, Describe}
 
 pub run_asks : (name : Text) → AskFor (name ∷ codes "run" ∷ []) Run
 unfolding clap_on_literals
@@ -19,6 +19,18 @@ run_asks name = (refl, refl)
 pub steps_ask : (name : Text) → AskFor (name ∷ codes "run" ∷ codes "--steps" ∷ []) Steps
 unfolding clap_on_literals
 steps_ask name = (refl, refl)
+
+pub packets_ask : (name : Text) → AskFor (name ∷ codes "run" ∷ codes "--packets" ∷ []) (Packets false)
+unfolding clap_on_literals
+packets_ask name = (refl, refl)
+
+pub both_ask : (name : Text) → AskFor (name ∷ codes "run" ∷ codes "--packets" ∷ codes "--steps" ∷ []) (Packets true)
+unfolding clap_on_literals
+both_ask name = (refl, refl)
+
+pub both_turned_ask : (name : Text) → AskFor (name ∷ codes "run" ∷ codes "--steps" ∷ codes "--packets" ∷ []) (Packets true)
+unfolding clap_on_literals
+both_turned_ask name = (refl, refl)
 
 pub live_asks : (name : Text) → AskFor (name ∷ codes "live" ∷ []) (Live 1000000)
 unfolding clap_on_literals
@@ -152,6 +164,7 @@ abbrev is_alone : ℕ → Option Task → Bool
 is_alone h (Some (Alone k)) = nat_eq k h
 is_alone h (Some Run) = false
 is_alone h (Some Steps) = false
+is_alone h (Some (Packets steps)) = false
 is_alone h (Some (Live n)) = false
 is_alone h (Some Left) = false
 is_alone h (Some Check) = false
@@ -169,6 +182,7 @@ is_alone_says : (h : ℕ) (task : Option Task) → is_alone h task ≡ true → 
 is_alone_says h (Some (Alone k)) e = ap (λ (n : ℕ). Some (Alone n)) (eqb-true k h e)
 is_alone_says h (Some Run) e = let bad : false ≡ true = e in cc
 is_alone_says h (Some Steps) e = let bad : false ≡ true = e in cc
+is_alone_says h (Some (Packets steps)) e = let bad : false ≡ true = e in cc
 is_alone_says h (Some (Live n)) e = let bad : false ≡ true = e in cc
 is_alone_says h (Some Left) e = let bad : false ≡ true = e in cc
 is_alone_says h (Some Check) e = let bad : false ≡ true = e in cc

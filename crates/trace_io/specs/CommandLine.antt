@@ -13,7 +13,7 @@ use Rattle.clap.specs.declared.error.kind.ErrorKind.{ErrorKind}
 use Rattle.clap.specs.declared.error.kind.ErrorKind.TheVariants.{DisplayHelp}
 use Rattle.trace_scenario.specs.Number.{last_handle}
 use Rattle.trace_io.specs.declared.words.Task.{Task}
-use Rattle.trace_io.specs.declared.words.Task.TheVariants.{Run, Steps, Alone, Live, Left, Check, Draw, Page, Capture, Devices, Explain, Test, Device, Describe}
+use Rattle.trace_io.specs.declared.words.Task.TheVariants.{Run, Steps, Packets, Alone, Live, Left, Check, Draw, Page, Capture, Devices, Explain, Test, Device, Describe}
 
 -- the word H: a whole number from 0 to the last name, which has to be there
 abbrev pub handle_word : Rule
@@ -23,17 +23,27 @@ handle_word = record (new_rule (codes "H")) { action = Some Set; parser = Some (
 abbrev pub steps_word : Rule
 steps_word = record (new_rule (codes "steps")) { long = Some (codes "steps"); action = Some SetTrue }
 
--- run, or run --steps
+-- the word --packets: a flag
+abbrev pub packets_word : Rule
+packets_word = record (new_rule (codes "packets")) { long = Some (codes "packets"); action = Some SetTrue }
+
+-- run, with --steps and --packets, or one of them
 abbrev pub run_words : Shape
-run_words = record (new_shape (codes "run")) { rules = steps_word ∷ [] }
+run_words = record (new_shape (codes "run")) { rules = steps_word ∷ packets_word ∷ [] }
 
 -- whether a flag is there
 abbrev pub is_set : Text → List Row → Bool
 is_set id rows = option_map_or (λ text. bytes_eq text (codes "true")) (first_of id rows) false
 
--- whether --steps is
-abbrev pub is_stepwise : List Row → Bool
-is_stepwise rows = is_set (codes "steps") rows
+-- a run, with lines in front of its entries or packets below them
+abbrev pub run_by : (packets steps : Bool) → Task
+run_by true steps = Packets steps
+run_by false true = Steps
+run_by false false = Run
+
+-- which run is asked for
+abbrev pub run_in : List Row → Task
+run_in rows = run_by (is_set (codes "packets") rows) (is_set (codes "steps") rows)
 
 -- alone H
 abbrev pub alone_words : Shape
@@ -181,7 +191,7 @@ task_named name rows =
     else (if bytes_eq name (codes "test") then Some Test
     else (if bytes_eq name (codes "device") then Some Device
     else (if bytes_eq name (codes "describe") then Some Describe
-    else (if bytes_eq name (codes "run") then Some (if is_stepwise rows then Steps else Run) else None)))))))))))
+    else (if bytes_eq name (codes "run") then Some (run_in rows) else None)))))))))))
 
 -- the task of the subcommand that the words name
 abbrev pub task_of : Option (Text × List Row) → Option Task

@@ -1,12 +1,12 @@
 //! What the command line's definition makes of its words. A law is the contract of a function with an empty body.
 
-ghost use Rattle.std.specs.Prelude.{◌<◌, ◌∷◌, [], ℕ, List, codes};
+ghost use Rattle.std.specs.Prelude.{◌<◌, ◌∷◌, [], ℕ, true, false, List, codes};
 ghost use Rattle.std.specs.Fmt.{decimal};
 ghost use Rattle.trace_io.specs.CommandLine.{AreBad, AskFor, AskForHelp};
-ghost use Rattle.trace_io.specs.declared.words.Task.TheVariants.{Run, Steps, Alone, Live, Left, Check, Draw, Page, Capture, Devices, Explain, Test, Device, Describe};
+ghost use Rattle.trace_io.specs.declared.words.Task.TheVariants.{Run, Steps, Packets, Alone, Live, Left, Check, Draw, Page, Capture, Devices, Explain, Test, Device, Describe};
 
-/// Whatever name the program is called by: `run` asks for a run, `run --steps` for a run step by step, `alone H` for
-/// each of the 64 handles alone, a plus sign or leading zeros before its number included, `live` for a run in threads of
+/// Whatever name the program is called by: `run` asks for a run, `run --steps` for a run step by step, `run --packets` for one with its
+/// packets, `run --packets --steps` for both, in either order, `alone H` for each of the 64 handles alone, a plus sign or leading zeros before its number included, `live` for a run in threads of
 /// a million callbacks at most, `live --rounds 25` for one of 25, `left` for what is left, `check` for a check, `draw` for
 /// a picture, `draw --from 11 --to 20` for one of ten steps, `capture` for a capture, `devices` for the devices of one, `draw --html`
 /// for a page, `explain` for reasons, `test` for a test, `device` and `describe` for a descriptor's line and table, and `-h` for help. No words, a second
@@ -14,6 +14,9 @@ ghost use Rattle.trace_io.specs.declared.words.Task.TheVariants.{Run, Steps, Alo
 pub fn words()
     ensures run { (name : List ℕ) → AskFor (name ∷ codes "run" ∷ []) Run }
     ensures steps { (name : List ℕ) → AskFor (name ∷ codes "run" ∷ codes "--steps" ∷ []) Steps }
+    ensures packets { (name : List ℕ) → AskFor (name ∷ codes "run" ∷ codes "--packets" ∷ []) (Packets false) }
+    ensures both { (name : List ℕ) → AskFor (name ∷ codes "run" ∷ codes "--packets" ∷ codes "--steps" ∷ []) (Packets true) }
+    ensures both_turned { (name : List ℕ) → AskFor (name ∷ codes "run" ∷ codes "--steps" ∷ codes "--packets" ∷ []) (Packets true) }
     ensures alone { (name : List ℕ) (h : ℕ) → h < 64 → AskFor (name ∷ codes "alone" ∷ decimal h ∷ []) (Alone h) }
     ensures plus_sign { (name : List ℕ) → AskFor (name ∷ codes "alone" ∷ codes "+5" ∷ []) (Alone 5) }
     ensures leading_zeros { (name : List ℕ) → AskFor (name ∷ codes "alone" ∷ codes "007" ∷ []) (Alone 7) }

@@ -6,7 +6,7 @@
 //!
 //! # Files
 //!
-//! - `words.rt`, `help.rt`: the words of the command line: `run`, `run --steps`, `alone H`, `live`, `left`, `check`,
+//! - `words.rt`, `help.rt`: the words of the command line: `run`, `run --steps`, `run --packets`, `alone H`, `live`, `left`, `check`,
 //!   `draw`, `capture`, `devices`, `explain`, `test`, `device`, `describe`; what help says
 //! - `laws.rt`: what the definition of the command line makes of words
 //! - `read.rt`, `write.rt`, `fault.rt`: the whole input; bytes that are written whole, or as far as it goes; why a
@@ -18,7 +18,7 @@
 //! # Contracts
 //!
 //! - `trace_io::laws::words`: computed from the definition of the command line, whatever the program's name: which
-//!   words ask for `run`, for `run --steps`, for `live`, for `left`, for `check`, for `draw`, for `capture`, for `devices`,
+//!   words ask for `run`, for `run --steps`, for `run --packets`, for `live`, for `left`, for `check`, for `draw`, for `capture`, for `devices`,
 //!   for `alone H` with each of the 64 handles (`+5` and `007` too), and for help; some that are bad
 //! - `trace_io`: `write_bytes`, `print`, `print_findings`, `Fault::tell`: where they succeed, all of the text is
 //!   appended; always, a beginning of it, also where a write fails amid a line. `tell` takes no memory

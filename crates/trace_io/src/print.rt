@@ -35,7 +35,7 @@ pub fn print<W: Write>(alloc: Global, out: &mut W, entries: &[Entry]) -> Result<
 pub fn print_findings<W: Write>(
     alloc: Global,
     out: &mut W,
-    findings: &Findings,
+    findings: &Findings<'_>,
 ) -> Result<(), Fault>
     ensures report { OnOk result (AppendsReport (map (λ finding. finding.line) findings.now.bad.items) findings.now.counts
         (W.contents out.old) (W.contents out.new)) }
@@ -50,21 +50,21 @@ pub fn print_findings<W: Write>(
 }
 
 /// The bad lines that are told.
-fn told_of(bad: &[Finding]) -> &[Finding]
+fn told_of<'a, 'b>(bad: &'a [Finding<'b>]) -> &'a [Finding<'b>]
     ensures { map (λ finding. finding.line) result.now ≡ take most_findings (map (λ finding. finding.line) bad.now) }
 {
     &bad[..MOST_FINDINGS.min(bad.len())]
 }
 
 /// How many bad lines aren't told.
-fn untold_of(bad: &[Finding]) -> usize
+fn untold_of(bad: &[Finding<'_>]) -> usize
     ensures { result ≡ length (map (λ finding. finding.line) bad.now) - most_findings }
 {
     bad.len().saturating_sub(MOST_FINDINGS)
 }
 
 /// Prints the bad lines, one line each.
-fn print_bad<W: Write>(alloc: Global, out: &mut W, bad: &[Finding]) -> Result<(), Fault>
+fn print_bad<W: Write>(alloc: Global, out: &mut W, bad: &[Finding<'_>]) -> Result<(), Fault>
     ensures lines { OnOk result (AppendsFindings (map (λ finding. finding.line) bad.now) (W.contents out.old) (W.contents out.new)) }
     ensures begun { OnErr result (AppendsSomeFindings (map (λ finding. finding.line) bad.now) (W.contents out.old) (W.contents out.new)) }
     ensures fault { IfErr result (λ fault. IsOfRun fault) }
@@ -76,13 +76,13 @@ fn print_bad<W: Write>(alloc: Global, out: &mut W, bad: &[Finding]) -> Result<()
 }
 
 /// Prints a bad line's number and what is wrong with it.
-fn print_finding<W: Write>(alloc: Global, out: &mut W, finding: &Finding) -> Result<(), Fault>
+fn print_finding<W: Write>(alloc: Global, out: &mut W, finding: &Finding<'_>) -> Result<(), Fault>
     ensures line { OnOk result ((sentence : List ℕ) × Appends (W.contents out.old) (W.contents out.new) (finding_text (finding.now.line, sentence))) }
     ensures begun { OnErr result ((sentence : List ℕ) × AppendsSome (finding_text (finding.now.line, sentence)) (W.contents out.old) (W.contents out.new)) }
     ensures fault { IfErr result (λ fault. IsOfRun fault) }
 {
-    let problem = finding.problem.to_string(alloc)?;
-    let (number, sentence) = (finding.line, problem.as_str());
+    let told = finding.to_string(alloc)?;
+    let (number, sentence) = (finding.line, told.as_str());
     let line = format!(in alloc; "line {number}: {sentence}\n")?;
     write_bytes(out, line.as_bytes())
 }

@@ -9,9 +9,8 @@ ghost use Rattle.clap.specs.Matches.{found_of};
 ghost use Rattle.clap.specs.Simple.{app_of, shape_of};
 ghost use Rattle.clap.specs.declared.builder.command.Command.TheViews.{out-Command as fields_of};
 ghost use Rattle.clap.specs.Walk.{rows_of, rule_of};
-ghost use Rattle.trace_io.specs.CommandLine.{AskFor, alone_words, capture_words, check_words, describe_words, device_words, devices_words, draw_words, drawing_in, explain_words, from_word, grammar, handle_in, handle_word, html_word, is_set, is_stepwise, left_words, live_words, number_in, program_alone, program_of_captures, program_of_reasons, program_of_runs, program_of_scenarios, rounds_word, run_words, steps_word, test_words, to_word};
+ghost use Rattle.trace_io.specs.CommandLine.{AskFor, alone_words, capture_words, check_words, describe_words, device_words, devices_words, draw_words, drawing_in, explain_words, from_word, grammar, handle_in, handle_word, html_word, is_set, left_words, live_words, number_in, packets_word, program_alone, program_of_captures, program_of_reasons, program_of_runs, program_of_scenarios, rounds_word, run_in, run_words, steps_word, test_words, to_word};
 ghost use Rattle.trace_scenario.specs.Words.{words_of};
-ghost use Rattle.trace_io.specs.declared.words.Task.TheVariants.{Run, Steps};
 
 use crate::help;
 use clap::builder::ValueParser;
@@ -26,6 +25,11 @@ pub enum Task {
     Run,
     /// The same, each entry behind the line of its step.
     Steps,
+    /// Run the scenario, and print all entries with the packets that moved.
+    Packets {
+        /// Whether each entry stands behind the line of its step.
+        steps: bool,
+    },
     /// Print the entries of this handle alone.
     Alone(Name),
     /// Run the scenario in threads, and print what its callbacks were told, of which at most so many are called.
@@ -172,7 +176,7 @@ fn program<'a>(alloc: Global) -> Command<'a>
         .subcommand_required(true)
 }
 
-/// The words `run` and `run --steps`.
+/// The words `run`, `run --steps`, `run --packets` and both.
 fn run<'a>(alloc: Global) -> Result<Command<'a>, AllocError>
     ensures words { IfOk result (λ command. shape_of command ≡ run_words) }
     ensures local { IfOk result (λ command. (fields_of command).has_globals ≡ false) }
@@ -180,7 +184,8 @@ fn run<'a>(alloc: Global) -> Result<Command<'a>, AllocError>
     Command::new(alloc, "run")
         .about("Runs the scenario and prints its entries")
         .after_help(help::RUN)
-        .arg(steps(alloc))
+        .arg(steps(alloc))?
+        .arg(packets(alloc))
 }
 
 /// The word `--steps`.
@@ -192,6 +197,17 @@ fn steps<'a>(alloc: Global) -> Arg<'a>
         .long("steps")
         .action(ArgAction::SetTrue)
         .help("Each entry behind the number and the text of its step's line")
+}
+
+/// The word `--packets`.
+fn packets<'a>(alloc: Global) -> Arg<'a>
+    ensures word { rule_of result ≡ packets_word }
+    ensures local { result.global ≡ false }
+{
+    Arg::new(alloc, "packets")
+        .long("packets")
+        .action(ArgAction::SetTrue)
+        .help("Below each entry the packet that its step moved, with its bytes")
 }
 
 /// Whether a flag's text says that it is there.
@@ -213,12 +229,12 @@ fn is_set(found: &ArgMatches<'_>, id: &str) -> bool
 
 /// Which run the words behind `run` ask for.
 fn run_task(found: &ArgMatches<'_>) -> Task
-    ensures { result ≡ (if is_stepwise (rows_of (found_of found.now)) then Steps else Run) }
+    ensures { result ≡ run_in (rows_of (found_of found.now)) }
 {
-    if is_set(found, "steps") {
-        Task::Steps
-    } else {
-        Task::Run
+    match (is_set(found, "packets"), is_set(found, "steps")) {
+        (true, steps) => Task::Packets { steps },
+        (false, true) => Task::Steps,
+        (false, false) => Task::Run,
     }
 }
 

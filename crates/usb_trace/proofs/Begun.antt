@@ -6,7 +6,7 @@ use Rattle.trace_scenario.specs.Findings.{bad_lines, good_lines}
 use Rattle.trace_scenario.specs.Scenario.{scenario_of}
 use Rattle.trace_scenario.specs.declared.scenario.Scenario.{Scenario}
 use Rattle.trace_io.specs.declared.words.Task.{Task}
-use Rattle.trace_io.specs.declared.words.Task.TheVariants.{Run, Steps, Alone, Live, Left, Check, Draw, Page, Capture, Devices, Explain, Test, Device, Describe}
+use Rattle.trace_io.specs.declared.words.Task.TheVariants.{Run, Steps, Packets, Alone, Live, Left, Check, Draw, Page, Capture, Devices, Explain, Test, Device, Describe}
 use Rattle.trace_io.specs.Output.{AppendsSome}
 use Rattle.trace_io.proofs.Beginnings.{none_yet, some_behind, some_of_front}
 use Rattle.trace_io.proofs.Findings.{no_report}
@@ -17,7 +17,7 @@ use Rattle.trace_recorded.specs.Scenario.{recorded_scenario}
 use Rattle.trace_run.specs.Tasks.{AppendsAny, alone_text, capture_bytes, left_lines, run_text, steps_text}
 use Rattle.trace_descriptor.specs.declared.fault.DescriptorFault.{DescriptorFault}
 use Rattle.trace_descriptor.specs.Device.{device_text}
-use Rattle.usb_trace.specs.Program.{check_text, reasons_text, Begins, BeginsCheck, BeginsDevice, BeginsEntries, BeginsOutcome, BeginsPicture, BeginsRecorded}
+use Rattle.usb_trace.specs.Program.{check_text, packets_text, reasons_text, Begins, BeginsCheck, BeginsDevice, BeginsEntries, BeginsOutcome, BeginsPicture, BeginsRecorded}
 
 -- known bytes stay
 pub keeps_same : (old : Option (List ℕ)) → Keeps old old
@@ -70,6 +70,7 @@ no_callbacks (Err line) old = keeps_same old
 nothing_of : (t : Task) (text : List ℕ) (old : Option (List ℕ)) → Begins t text old old
 nothing_of Run text old = no_entries run_text (scenario_of text) old
 nothing_of Steps text old = no_entries (steps_text text) (scenario_of text) old
+nothing_of (Packets steps) text old = no_entries (packets_text steps text) (scenario_of text) old
 nothing_of (Alone h) text old = no_entries (alone_text h) (scenario_of text) old
 nothing_of (Live rounds) text old = no_callbacks (lived_of text) old
 nothing_of Left text old = no_entries left_lines (scenario_of text) old

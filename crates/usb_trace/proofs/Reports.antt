@@ -36,13 +36,13 @@ use Rattle.trace_run.specs.declared.tasks.Ending.{Ending}
 use Rattle.trace_run.specs.declared.tasks.Ending.TheVariants.{Good, BadLines, NoDevices, Differs}
 use Rattle.usb_trace.proofs.Begun.{keeps_same, nothing_begun, told_front}
 use Rattle.trace_io.specs.declared.words.Task.{Task}
-use Rattle.trace_io.specs.declared.words.Task.TheVariants.{Run, Steps, Alone, Live, Left, Check, Draw, Page, Capture, Devices, Explain, Test, Device, Describe}
+use Rattle.trace_io.specs.declared.words.Task.TheVariants.{Run, Steps, Packets, Alone, Live, Left, Check, Draw, Page, Capture, Devices, Explain, Test, Device, Describe}
 use Rattle.trace_scenario.specs.declared.findings.Counts.{Counts}
 use Rattle.trace_scenario.specs.declared.findings.Finding.{Finding}
 use Rattle.trace_io.specs.Output.{counts_line, AppendsReport, AppendsSome, AppendsSomeReport}
 use Rattle.trace_scenario.specs.StepLines.{step_lines}
 use Rattle.trace_explain.specs.Explained.{explained_text}
-use Rattle.trace_explain.specs.declared.explained.Selection.TheVariants.{Refusals}
+use Rattle.trace_explain.specs.declared.telling.Telling.TheVariants.{Refusals}
 
 -- a result has one value
 one_value : (r : Result Scenario ℕ) (a b : Scenario) → r ≡ Ok a → r ≡ Ok b → a ≡ b
@@ -176,6 +176,7 @@ threads_asked : (words : List Text) (t : Task) → AskFor words t → IsThreaded
 threads_asked words (Live rounds) asks threaded = (rounds, asks)
 threads_asked words Run asks threaded = absurd threaded
 threads_asked words Steps asks threaded = absurd threaded
+threads_asked words (Packets steps) asks threaded = absurd threaded
 threads_asked words (Alone h) asks threaded = absurd threaded
 threads_asked words Left asks threaded = absurd threaded
 threads_asked words Check asks threaded = absurd threaded

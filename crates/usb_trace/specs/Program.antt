@@ -1,5 +1,5 @@
 -- What the program does.
-use Rattle.std.specs.Prelude.{◌≡◌, ◌≢◌, ◌≤◌, ◌<◌, ◌⊎◌, ◌++◌, ℕ, true, false, length, ⊤, IfSome, List, [], Option, Result, Ok, Err}
+use Rattle.std.specs.Prelude.{◌≡◌, ◌≢◌, ◌≤◌, ◌<◌, ◌⊎◌, ◌++◌, ℕ, Bool, true, false, length, ⊤, IfSome, List, [], Option, Result, Ok, Err}
 use Rattle.std.specs.Io.KnownBytes.{Appends, Keeps}
 use Rattle.trace_io.specs.declared.fault.Fault.{Fault}
 use Rattle.trace_io.specs.declared.fault.Fault.TheVariants.{Line, Memory, InputOutput, TooLong, Rounds, Wide, Capture, Descriptor}
@@ -13,7 +13,8 @@ use Rattle.trace_descriptor.specs.declared.fault.DescriptorFault.{DescriptorFaul
 use Rattle.trace_descriptor.specs.Device.{device_text}
 use Rattle.trace_scenario.specs.StepLines.{step_lines}
 use Rattle.trace_explain.specs.Explained.{explained_text}
-use Rattle.trace_explain.specs.declared.explained.Selection.TheVariants.{All, Refusals}
+use Rattle.trace_explain.specs.declared.telling.Telling.{Telling}
+use Rattle.trace_explain.specs.declared.telling.Telling.TheVariants.{Reasons, Refusals, Packets, StepPackets}
 use Rattle.trace_test.specs.Tests.{IsOfTest, IsOutcome, outcome_text}
 use Rattle.trace_test.specs.declared.difference.Difference.{Difference}
 use Rattle.trace_test.specs.declared.difference.Outcome.{Outcome}
@@ -44,6 +45,7 @@ ReadsOther t = ⊥
 abbrev pub scenario_for : Task → List ℕ → Result Scenario ℕ
 scenario_for task.Run text = scenario_of text
 scenario_for task.Steps text = scenario_of text
+scenario_for (task.Packets steps) text = scenario_of text
 scenario_for (task.Alone h) text = scenario_of text
 scenario_for (task.Live rounds) text = lived_of text
 scenario_for task.Left text = scenario_of text
@@ -57,18 +59,32 @@ scenario_for task.Test text = scenario_of text
 scenario_for task.Device text = scenario_of text
 scenario_for task.Describe text = scenario_of text
 
+-- what is told of the run of this text's scenario
+abbrev pub told_text : Telling → List ℕ → Scenario → List ℕ
+told_text telling text s = explained_text telling s.setup s.plan s.rules (step_lines text)
+
 -- all entries, each behind the line of its step in this text, with their reasons
 abbrev pub reasons_text : List ℕ → Scenario → List ℕ
-reasons_text text s = explained_text All s.setup s.plan s.rules (step_lines text)
+reasons_text text s = told_text Reasons text s
+
+-- packets, below entries that stand behind their lines or alone
+abbrev pub packets_told : Bool → Telling
+packets_told true = StepPackets
+packets_told false = Packets
+
+-- all entries with the packets that moved, perhaps each behind the line of its step
+abbrev pub packets_text : Bool → List ℕ → Scenario → List ℕ
+packets_text steps text s = told_text (packets_told steps) text s
 
 -- what a check says of a text without a bad line: how much the scenario says, and which lines its run refuses, with the reasons
 abbrev pub check_text : List ℕ → Scenario → List ℕ
 check_text text s = counts_line (counts_of s) ++ explained_text Refusals s.setup s.plan s.rules (step_lines text)
 
--- what a task writes of the scenario of a text: all entries, perhaps behind their lines, those of one handle alone, what callbacks were told in threads, what is left behind, how much the scenario says and what its run refuses, a picture, of which no more is said, a capture, or all entries with their reasons; and what is to be told behind it: of a run in threads what wasn't finished, and else nothing
+-- what a task writes of the scenario of a text: all entries, perhaps behind their lines, those of one handle alone, what callbacks were told in threads, what is left behind, how much the scenario says and what its run refuses, a picture, of which no more is said, a capture, or all entries with their reasons or their packets; and what is to be told behind it: of a run in threads what wasn't finished, and else nothing
 abbrev pub Writes : Task → List ℕ → Scenario → (notes : List ℕ) → Option (List ℕ) → Option (List ℕ) → Type 0
 Writes task.Run text s notes old new = Appends old new (run_text s) × (notes ≡ [])
 Writes task.Steps text s notes old new = Appends old new (steps_text text s) × (notes ≡ [])
+Writes (task.Packets steps) text s notes old new = Appends old new (packets_text steps text s) × (notes ≡ [])
 Writes (task.Alone h) text s notes old new = Appends old new (alone_text h s) × (notes ≡ [])
 Writes (task.Live rounds) text s notes old new = AppendsCallbacks s notes old new
 Writes task.Left text s notes old new = Appends old new (left_lines s) × (notes ≡ [])
@@ -192,6 +208,7 @@ BeginsDevice (Err fault) old new = Keeps old new
 abbrev pub Begins : Task → List ℕ → Option (List ℕ) → Option (List ℕ) → Type 0
 Begins task.Run text old new = BeginsEntries run_text (scenario_of text) old new
 Begins task.Steps text old new = BeginsEntries (steps_text text) (scenario_of text) old new
+Begins (task.Packets steps) text old new = BeginsEntries (packets_text steps text) (scenario_of text) old new
 Begins (task.Alone h) text old new = BeginsEntries (alone_text h) (scenario_of text) old new
 Begins (task.Live rounds) text old new = BeginsCallbacks (lived_of text) old new
 Begins task.Left text old new = BeginsEntries left_lines (scenario_of text) old new
@@ -204,6 +221,11 @@ Begins task.Explain text old new = BeginsEntries (reasons_text text) (scenario_o
 Begins task.Test text old new = BeginsOutcome text old new
 Begins task.Device text old new = BeginsDevice (device_text text) old new
 Begins task.Describe text old new = AppendsAny old new
+
+-- why what is to be told of a text's run can't be: its first bad line, or memory
+abbrev pub IsUntold : List ℕ → Fault → Type 0
+IsUntold text (Line line) = scenario_of text ≡ Err line
+IsUntold text fault = fault ≡ Memory
 
 -- whether this fault may be what ended a run with these words over this input, and this is to be told behind it: a line is one where the words ask for a task that reads a scenario, and it is the first that is bad for that; an input is too long where they ask for a task and it is; callbacks are too many where they ask for so many at most and a run has more, of which then it is told what wasn't finished; steps are too many where they ask for a picture; a capture is refused where they ask for its devices, and so; a descriptor where they ask for its lines or its table; memory and streams may fail always
 abbrev pub MayEnd : List Text → Option (List ℕ) → (notes : List ℕ) → Fault → Type 0

@@ -2,7 +2,7 @@
 
 ghost use Rattle.std.specs.Prelude.{◌≡◌, ◌++◌, ◌≤◌, [], IfOk, length, map};
 ghost use Rattle.trace_explain.specs.Explained.{explained_text};
-ghost use Rattle.trace_explain.specs.declared.explained.Selection.TheVariants.{Refusals};
+ghost use Rattle.trace_explain.specs.declared.telling.Telling.TheVariants.{Refusals};
 ghost use Rattle.trace_io.specs.Input.{longest_input};
 ghost use Rattle.trace_io.specs.Output.{counts_line};
 ghost use Rattle.trace_io.specs.declared.words.Task.TheVariants.{Check};
@@ -11,10 +11,10 @@ ghost use Rattle.trace_scenario.specs.Findings.{bad_lines, good_lines};
 ghost use Rattle.trace_scenario.specs.StepLines.{numbered};
 ghost use Rattle.usb_trace.specs.Program.{Begins, Performs};
 
-use crate::explain::write_all;
+use crate::told::write_all;
 use std::alloc::{AllocError, Global};
 use std::io::Write;
-use trace_explain::{Selection, explained_run};
+use trace_explain::{Telling, explained_run};
 use trace_io::Fault;
 use trace_io::print::print_findings;
 use trace_run::Ending;
@@ -26,7 +26,9 @@ pub(crate) fn report<W: Write>(alloc: Global, text: &[u8], out: &mut W) -> Resul
     ensures ends { Performs Check text.now [] (W.contents out.old) (W.contents out.new) result }
     ensures begun { Begins Check text.now (W.contents out.old) (W.contents out.new) }
 {
-    let findings = check(alloc, text)?;
+    let Ok(findings) = check(alloc, text) else {
+        return Err(Fault::Memory);
+    };
     if findings.bad.is_empty() {
         return report_good(alloc, text, &findings.counts, out);
     }
@@ -47,7 +49,7 @@ fn said(
     let Scenario { setup, plan, rules } = scenario;
     let setup = into_setups(alloc, setup)?;
     let (plan, rules) = (plan.as_slice(), rules.as_slice());
-    let refused = explained_run(alloc, Selection::Refusals, &setup, plan, rules, lines)?;
+    let refused = explained_run(alloc, Telling::Refusals, &setup, plan, rules, lines)?;
     let mut text = Vec::new(alloc);
     let front = format!(in alloc; "{counts}\n")?;
     text.extend_from_slice(front.as_bytes())?;

@@ -10,15 +10,15 @@
 //!
 //! - `program.rt`, specs/Program: `trace`, over any reader and writers
 //! - `live.rt`, `lived.rt`, specs/Lived: a scenario run in threads, and which lines it can't have
-//! - `checked.rt`, `explain.rt`, `tested.rt`, `picture.rt`: what is wrong with a scenario, and what its run refuses; its run with its
-//!   reasons, as a test, and as a picture or a page
+//! - `checked.rt`, `told.rt`, `tested.rt`, `picture.rt`: what is wrong with a scenario, and what its run refuses; its run with
+//!   its reasons or its packets, as a test, and as a picture or a page
 //! - `recorded.rt`, `descriptor.rt`: the scenario of a capture; a device's lines and table
 //!
 //! # Contracts
 //!
 //! - `trace`, status 0: the words asked for a task, the input is a scenario's text of at most 67,108,864 bytes, and
 //!   what was written is, byte for byte, the lines of its run, these with the number and the text of its step's line
-//!   before each (`run --steps`), those of one handle alone, what callbacks were told in a run of the definitions over
+//!   before each (`run --steps`) or the packets that their steps moved below each (`run --packets`), those of one handle alone, what callbacks were told in a run of the definitions over
 //!   its devices, all of it, by handle and number (`live`: in that run stand the calls of the scenario's lines, each
 //!   handle's in their order, and no others, until nothing is left to be done), what is left behind (`left`), or, of a check, the counts, and the lines that the run refuses, with
 //!   the reasons; of `draw` no
@@ -62,12 +62,12 @@
 
 mod checked;
 mod descriptor;
-mod explain;
 mod live;
 mod lived;
 mod picture;
 mod program;
 mod recorded;
 mod tested;
+mod told;
 
 pub use program::trace;

@@ -18,11 +18,11 @@ ghost use Rattle.trace_io.specs.declared.words.Task.TheVariants.{Capture, Check,
 
 use crate::checked::report;
 use crate::descriptor::{describe, device};
-use crate::explain::explain;
 use crate::live::live;
 use crate::picture::drawn;
 use crate::recorded::devices;
 use crate::tested::run_test;
+use crate::told::{explain, packets};
 use clap::Error;
 use clap::error::ErrorKind;
 use std::alloc::Global;
@@ -154,6 +154,7 @@ fn perform<T: Threads + Wait + Sync, R: Read, W: Write>(
     match task {
         Task::Run => run(alloc, read_scenario(alloc, text.as_slice())?, out),
         Task::Steps => run_steps(alloc, text.as_slice(), out),
+        Task::Packets { steps } => packets(alloc, steps, text.as_slice(), out),
         Task::Alone(h) => {
             let Scenario { setup, .. } = read_scenario(alloc, text.as_slice())?;
             let scenario = read_scenario(alloc, text.as_slice())?;

@@ -80,20 +80,21 @@ fn first_to_differ<X: Threads + Wait + Sync>(
 
 /// Bad steps, and what is said of them.
 static STEPS: &str = "\
-scan 1 => the first word is no verb, as `device`, `open` or `submit`
- open 1 0 => the first word is no verb, as `device`, `open` or `submit`
-open 64 0 => the handle isn't a decimal number from 0 to 63
-open 1 4 => the device isn't a decimal number from 0 to 3
-claim 1 256 => the interface isn't a decimal number from 0 to 255
-clear 1 8 => the endpoint isn't two hexadecimal digits
-cancel 1 18446744073709551616 => the number isn't decimal and below 2^64
-submit 1 02 bulk x:0 => the bytes aren't an even number of hexadecimal digits
-submit 1 81 iso 8 => the kind is neither `bulk` nor `int`
-submit 1 81 bulk 4294967296 => the length isn't a decimal number below 2^32, nor are there bytes behind `x:`
-submit 1 81 bulk 8 flags=FAST => flags= has something other than SHORT_NOT_OK, FREE_BUFFER, FREE_TRANSFER and ADD_ZERO_PACKET between its plus signs
-submit 1 81 bulk 8 timeout=4294967296 => timeout= isn't a decimal number below 2^32
-submit 1 81 bulk 8 then=again:DONE:1 => then= is neither `stop` nor `again:S+S..:R` with names of statuses and a decimal number below 2^64
-submit 1 81 bulk 8 then=stop timeout=1 => the options are flags=, timeout= and then=, in this order and each at most once
+scan 1 => `scan`: the first word is no verb, as `device`, `open` or `submit`
+ open 1 0 => ``: the first word is no verb, as `device`, `open` or `submit`
+sumbit 1 81 bulk 8 => `sumbit`: the first word is no verb, as `device`, `open` or `submit`; do you mean `submit`?
+open 64 0 => `64`: the handle isn't a decimal number from 0 to 63
+open 1 4 => `4`: the device isn't a decimal number from 0 to 3
+claim 1 256 => `256`: the interface isn't a decimal number from 0 to 255
+clear 1 8 => `8`: the endpoint isn't two hexadecimal digits
+cancel 1 18446744073709551616 => `18446744073709551616`: the number isn't decimal and below 2^64
+submit 1 02 bulk x:0 => `x:0`: the bytes aren't an even number of hexadecimal digits
+submit 1 81 iso 8 => `iso`: the kind is neither `bulk` nor `int`
+submit 1 81 bulk 4294967296 => `4294967296`: the length isn't a decimal number below 2^32, nor are there bytes behind `x:`
+submit 1 81 bulk 8 flags=FAST => `flags=FAST`: flags= has something other than SHORT_NOT_OK, FREE_BUFFER, FREE_TRANSFER and ADD_ZERO_PACKET between its plus signs
+submit 1 81 bulk 8 timeout=4294967296 => `timeout=4294967296`: timeout= isn't a decimal number below 2^32
+submit 1 81 bulk 8 then=again:DONE:1 => `then=again:DONE:1`: then= is neither `stop` nor `again:S+S..:R` with names of statuses and a decimal number below 2^64
+submit 1 81 bulk 8 then=stop timeout=1 => `timeout=1`: the options are flags=, timeout= and then=, in this order and each at most once
 device 1 090209000001008032 => device and script lines stand before the first step
 script 0 81 n => device and script lines stand before the first step
 ";
@@ -102,11 +103,11 @@ script 0 81 n => device and script lines stand before the first step
 static SETUPS: &str = "\
 device 2 090209000001008032 => the next device has the number 1
 script 1 81 n => no line before this one has the device
-script 0 91 n => the device has no bulk or interrupt endpoint of this address
+script 0 91 n => the device has no bulk or interrupt endpoint of this address; it has 81, 02 and 83
 script 0 83 n => the endpoint has a script already
 script 0 81 => a script has 1 to 65536 answers
-script 0 81 n a => an answer of an IN endpoint isn't `d:` and a packet's bytes, `n`, `s` or `b`
-script 0 02 a d:00 => an answer of an OUT endpoint isn't `a`, `n`, `s` or `b`
+script 0 81 n a => `a`: an answer of an IN endpoint isn't `d:` and a packet's bytes, `n`, `s` or `b`
+script 0 02 a d:00 => `d:00`: an answer of an OUT endpoint isn't `a`, `n`, `s` or `b`
 ";
 
 /// Descriptors that are refused, each with its fault and where it is.
@@ -172,12 +173,14 @@ fn a_packet_past_2048_bytes_is_told(rt: HostRuntime) {
         Times(2049, "5a"),
         Once("\nscript 0 02 a\n"),
     ];
-    let said = [Once("line 5: a packet has at most 2048 bytes\n1 device, 2 scripts, 0 steps\n")];
+    let said = [Once(
+        "line 5: `d:5a5a5a5a5a5a5a5a5a5a5a..`: a packet has at most 2048 bytes\n1 device, 2 scripts, 0 steps\n",
+    )];
     assert!(rt; checks_as(&rt, rt.alloc(), &text, 1, &said));
 }
 
 /// What is said of a line without a verb, behind its number.
-const NO_VERB: &str = ": the first word is no verb, as `device`, `open` or `submit`\n";
+const NO_VERB: &str = ": `x`: the first word is no verb, as `device`, `open` or `submit`\n";
 
 #[test]
 fn a_thousand_bad_lines_are_told_and_then_how_many_more(rt: HostRuntime) {

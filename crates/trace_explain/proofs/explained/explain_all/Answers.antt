@@ -17,13 +17,13 @@ loop-piece-preserved c =
     record {
       counted = ap (λ n. n + 1) c.loop-piece.invariant.counted;
       told =
-          explained-further c.args.selection setup s t c.piece-item.result c.args.plan.now i _ (drop (c.loop-piece.at + 1) (map numbered c.args.lines.now)) c.loop-piece.text.items c.explain_piece.new.text.items _
+          explained-further c.args.telling setup s t c.piece-item.result c.args.plan.now i _ (drop (c.loop-piece.at + 1) (map numbered c.args.lines.now)) c.loop-piece.text.items c.explain_piece.new.text.items _
           c.loop-piece-test.true c.piece-item.is
-          (sym (ap (λ l. c.loop-piece.text.items ++ explained_from c.args.selection setup s (drop i c.args.plan.now) l) (line_at numbered c.args.lines.now c.loop-piece.at _ here)) ∙ c.loop-piece.invariant.told)
+          (sym (ap (λ l. c.loop-piece.text.items ++ explained_from c.args.telling setup s (drop i c.args.plan.now) l) (line_at numbered c.args.lines.now c.loop-piece.at _ here)) ∙ c.loop-piece.invariant.told)
           told.text (ap (stage_of setup c.explain_piece.new.run) c.rules_after-left.ensures ∙ told.stage);
     }
 
 pub returns : goal.returns
 returns c = record {
-  text = explained-end c.args.selection c.args.setup.now (stage_of c.args.setup.now c.loop-piece.run c.loop-piece.left.now) c.args.plan.now c.loop-piece.piece-index (drop c.loop-piece.at (map numbered c.args.lines.now)) c.loop-piece.text.items _ c.loop-piece-test.false c.loop-piece.invariant.told;
+  text = explained-end c.args.telling c.args.setup.now (stage_of c.args.setup.now c.loop-piece.run c.loop-piece.left.now) c.args.plan.now c.loop-piece.piece-index (drop c.loop-piece.at (map numbered c.args.lines.now)) c.loop-piece.text.items _ c.loop-piece-test.false c.loop-piece.invariant.told;
 }

@@ -9,6 +9,6 @@ pub returns : goal.returns
 returns c = record {
   text =
       c.in_ok-explain_all.ensures.text
-      ∙ ap (λ xs. xs ++ explained_from c.args.selection c.args.setup.now (stage_of c.args.setup.now c.in_ok-run.run' c.args.rules.now) c.args.plan.now (map numbered c.args.lines.now)) c.new-text.ensures.items
-      ∙ ap (λ (s : Stage). explained_from c.args.selection c.args.setup.now s c.args.plan.now (map numbered c.args.lines.now)) (c.in_ok-run.ensures.stage c.args.rules.now);
+      ∙ ap (λ xs. xs ++ explained_from c.args.telling c.args.setup.now (stage_of c.args.setup.now c.in_ok-run.run' c.args.rules.now) c.args.plan.now (map numbered c.args.lines.now)) c.new-text.ensures.items
+      ∙ ap (λ (s : Stage). explained_from c.args.telling c.args.setup.now s c.args.plan.now (map numbered c.args.lines.now)) (c.in_ok-run.ensures.stage c.args.rules.now);
 }

@@ -7,27 +7,27 @@ use Rattle.usb_trace.proofs.Begun.{no_check}
 use Rattle.usb_trace.proofs.Reports.{bad_begun, some_bad}
 use Rattle.usb_trace.proofs.checked.report.Goals as goal
 
-pub returns-in_err-findings-clause-begun : goal.returns-in_err-findings-clause-begun
-returns-in_err-findings-clause-begun g c = no_check c.args.text.now (scenario_of c.args.text.now) (g.W.Write.contents c.args.out.now)
+pub returns-in_default-clause-begun : goal.returns-in_default-clause-begun
+returns-in_default-clause-begun g c = no_check c.args.text.now (scenario_of c.args.text.now) (g.W.Write.contents c.args.out.now)
 
 pub returns-in_err-print_findings-clause-begun : goal.returns-in_err-print_findings-clause-begun
 returns-in_err-print_findings-clause-begun g c =
     bad_begun c.args.text.now (g.W.Write.contents c.args.out.now) (g.W.Write.contents c.print_findings.new.out)
-    (some_bad c.args.text.now c.in_ok-findings.findings.bad.items c.in_ok-findings.ensures.bad (λ none. grind (arith, common_steps)))
-    (rw (c.in_ok-findings.ensures.bad, c.in_ok-findings.ensures.counts) at c.print_findings.ensures.begun)
+    (some_bad c.args.text.now c.in-Ok.findings.bad.items c.in-Ok.ensures.bad (λ none. grind (arith, common_steps)))
+    (rw (c.in-Ok.ensures.bad, c.in-Ok.ensures.counts) at c.print_findings.ensures.begun)
 
 pub returns-clause-begun : goal.returns-clause-begun
 returns-clause-begun g c =
     bad_begun c.args.text.now (g.W.Write.contents c.args.out.now) (g.W.Write.contents c.print_findings.new.out)
-    (some_bad c.args.text.now c.in_ok-findings.findings.bad.items c.in_ok-findings.ensures.bad (λ none. grind (arith, common_steps)))
-    (rw (c.in_ok-findings.ensures.bad, c.in_ok-findings.ensures.counts) at c.print_findings.ensures.begun)
+    (some_bad c.args.text.now c.in-Ok.findings.bad.items c.in-Ok.ensures.bad (λ none. grind (arith, common_steps)))
+    (rw (c.in-Ok.ensures.bad, c.in-Ok.ensures.counts) at c.print_findings.ensures.begun)
 
 pub returns-clause-ends : goal.returns-clause-ends
 returns-clause-ends g c = (
   refl,
   (
-    some_bad c.args.text.now c.in_ok-findings.findings.bad.items c.in_ok-findings.ensures.bad (λ none. grind (arith, common_steps)),
+    some_bad c.args.text.now c.in-Ok.findings.bad.items c.in-Ok.ensures.bad (λ none. grind (arith, common_steps)),
     c.requires,
-    rw (c.in_ok-findings.ensures.bad, c.in_ok-findings.ensures.counts) at c.in_ok-print_findings.ensures.report,
+    rw (c.in-Ok.ensures.bad, c.in-Ok.ensures.counts) at c.in_ok-print_findings.ensures.report,
   ),
 )

@@ -2,7 +2,7 @@
 use Rattle.std.proofs.Common.{◌≡◌, ◌++◌, ◌∙◌, map, ap, sym, subst, Ok}
 use Rattle.std.specs.Io.KnownBytes.{Appends}
 use Rattle.trace_explain.specs.Explained.{explained_text}
-use Rattle.trace_explain.specs.declared.explained.Selection.TheVariants.{Refusals}
+use Rattle.trace_explain.specs.declared.telling.Telling.TheVariants.{Refusals}
 use Rattle.trace_io.specs.Output.{counts_line, AppendsSome}
 use Rattle.trace_scenario.specs.Scenario.{scenario_of}
 use Rattle.trace_scenario.specs.StepLines.{numbered, step_lines}

@@ -1,0 +1,94 @@
+//! The packets that a step moves, as lines.
+
+ghost use Rattle.std.specs.Prelude.{◌≡◌, ◌++◌, IfOk, string_bytes};
+ghost use Rattle.std.specs.List.{flat_map};
+ghost use Rattle.plain_system.specs.System.{world_of};
+ghost use Rattle.trace_explain.specs.Packets.{data_text, packet_line, packet_lines, packets_at, way_text};
+ghost use Rattle.usb_model.specs.World.{holder};
+
+use plain_endpoint::moved::packets_moved;
+use plain_system::System;
+use std::alloc::{AllocError, Global};
+use usb_model::{Bytes, DeviceNo, EpAddr, Setup, Step};
+
+/// Which way an endpoint's packets go.
+fn way(is_in: bool) -> &'static str
+    ensures { result.now ≡ way_text is_in }
+{
+    if is_in { " IN " } else { " OUT " }
+}
+
+/// A packet's bytes, or a dash where there are none.
+fn data(alloc: Global, bytes: &[u8]) -> Result<String, AllocError>
+    ensures { IfOk result (λ text. string_bytes text ≡ data_text bytes.now) }
+{
+    if bytes.is_empty() {
+        return String::from_str(alloc, "-");
+    }
+    hex::encode(alloc, bytes)
+}
+
+/// Puts the line of a packet behind a text.
+fn put_packet(
+    alloc: Global,
+    text: &mut Vec<u8>,
+    ep: EpAddr,
+    packet: &Bytes,
+) -> Result<(), AllocError>
+    ensures { IfOk result (λ _. text.new.items ≡ text.old.items ++ packet_line ep packet.now) }
+{
+    let bytes = packet.as_slice();
+    let (way, length, data) = (way(ep.is_in()), bytes.len(), data(alloc, bytes)?);
+    let line = format!(in alloc; "    packet ep {ep}{way}{length} data {data}\n")?;
+    text.extend_from_slice(line.as_bytes())
+}
+
+/// The packets that move at an endpoint where its device answers, if a handle holds it.
+fn packets_at(
+    alloc: Global,
+    setup: &Setup,
+    system: &System,
+    dev: DeviceNo,
+    ep: EpAddr,
+) -> Result<Vec<Bytes>, AllocError>
+    ensures { let w = world_of setup.now system.now in IfOk result (λ packets. packets.items ≡ packets_at setup.now w dev ep (holder setup.now w.claims dev ep)) }
+{
+    if system.holder(setup, dev, ep).is_none() {
+        return Ok(Vec::new(alloc));
+    }
+    let endpoint = system.endpoints.get(dev, ep.address());
+    let size = setup.packet_size_of(dev, ep);
+    packets_moved(alloc, endpoint, size, system.is_gone(dev))
+}
+
+/// Puts the lines of some packets behind a text.
+fn put_packets(
+    alloc: Global,
+    text: &mut Vec<u8>,
+    ep: EpAddr,
+    packets: &[Bytes],
+) -> Result<(), AllocError>
+    ensures { IfOk result (λ _. text.new.items ≡ text.old.items ++ flat_map (packet_line ep) packets.now) }
+{
+    for packet in packets {
+        put_packet(alloc, text, ep, packet)?;
+    }
+    Ok(())
+}
+
+/// The lines of the packets that a step in this system moves. It is asked before the step is made.
+pub(crate) fn packet_lines(
+    alloc: Global,
+    setup: &Setup,
+    system: &System,
+    step: &Step,
+) -> Result<Vec<u8>, AllocError>
+    ensures { IfOk result (λ lines. lines.items ≡ packet_lines setup.now (world_of setup.now system.now) step.now) }
+{
+    let mut lines = Vec::new(alloc);
+    if let Step::Serve { dev, ep } = step {
+        let packets = packets_at(alloc, setup, system, *dev, *ep)?;
+        put_packets(alloc, &mut lines, *ep, packets.as_slice())?;
+    }
+    Ok(lines)
+}
