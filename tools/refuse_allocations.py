@@ -31,8 +31,8 @@ import sys
 import tempfile
 
 # The words of usbtrace that read a scenario, and those that print all or nothing where memory is wanting.
-WORDS = ("run", "run --steps", "alone 1", "left", "draw", "draw --html", "check", "live", "capture", "explain")
-WHOLE = ("left", "draw", "draw --html", "explain", "test", "device", "describe")
+WORDS = ("run", "run --steps", "run --packets", "alone 1", "left", "draw", "draw --html", "check", "live", "capture", "explain")
+WHOLE = ("run --packets", "left", "draw", "draw --html", "explain", "test", "device", "describe")
 # The bytes in front of a capture's records, and those in front of each record's own.
 FILE_HEADER, RECORD_HEADER = 24, 16
 # What a handle may do under `live` that a schedule can meet earlier or later.
