@@ -60,7 +60,7 @@ working_runs x first work = by_state x.state work
     by_state Halted there = absurd cc
 
 -- what holds of the slot, the endpoint and the TRB where the controller works
-has_here : (k : Controller) (d e : ℕ) (F : DeviceSlot → Context → TrbAt → Type 0) (s : DeviceSlot) (x : Context) (first : TrbAt) → slice_get k.slots d ≡ Some s → context_of s e ≡ Some x → working x ≡ Some first → F s x first
+pub has_here : (k : Controller) (d e : ℕ) (F : DeviceSlot → Context → TrbAt → Type 0) (s : DeviceSlot) (x : Context) (first : TrbAt) → slice_get k.slots d ≡ Some s → context_of s e ≡ Some x → working x ≡ Some first → F s x first
     → IfSome (slice_get k.slots d) (λ s. IfSome (context_of s e) (λ c. IfSome (working c) (λ f. F s c f)))
 has_here k d e F s x first there context work is =
     subst (λ (o : Option DeviceSlot). IfSome o (λ s. IfSome (context_of s e) (λ c. IfSome (working c) (λ f. F s c f)))) (sym there)

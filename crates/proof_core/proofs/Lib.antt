@@ -14,6 +14,11 @@ pub mod Askable
 pub mod Orders
 pub mod Packets
 pub mod Turns
+pub mod Rows
+pub mod Between
+pub mod Stays
+pub mod Skims
+pub mod Rests
 pub mod Made
 pub mod Counts
 pub mod Transfers

@@ -48,7 +48,7 @@ told_none k d e rests = by_slot (slice_get k.slots d) refl
     by_slot (Some s) is = ap (λ (o : Option DeviceSlot). option_and_then (λ v. option_map (λ v. v.packet) (serving v e)) o) is ∙ by_context s (context_of s e) is refl
 
 -- an endpoint in its own place is no change
-own_end : (endpoints : ℕ → ℕ → KeptEndpoint) (d e dev ep : ℕ) → (if (d == dev) && (e == ep) then endpoints d e else endpoints dev ep) ≡ endpoints dev ep
+pub own_end : (endpoints : ℕ → ℕ → KeptEndpoint) (d e dev ep : ℕ) → (if (d == dev) && (e == ep) then endpoints d e else endpoints dev ep) ≡ endpoints dev ep
 own_end endpoints d e dev ep = by_test ((d == dev) && (e == ep)) refl
   where
     by_test : (b : Bool) → ((d == dev) && (e == ep)) ≡ b → (if b then endpoints d e else endpoints dev ep) ≡ endpoints dev ep
@@ -103,25 +103,31 @@ module _ {P : Type 0} where
         results = append-nil c.results;
       })
 
-  -- a packet of the transfer where it works
-  pub serves_packet : (setup : Setup) (w : World) (old new : State P) (c : Core) (h d e item n : ℕ) (told : ServedPacket) → IsAt setup old c h d e → Shows setup w c → IsFront old d e (Some item) → MovesPacket old new h d e item n told
+  -- what a packet of an endpoint that is held leaves
+  pub core_served : (setup : Setup) (old : State P) (c : Core) (h d e : ℕ) → IsAt setup old c h d e → (serve_core setup c d e).core ≡ behind_packet setup c d e
+  core_served setup old c h d e at = ap (λ (t : Stepped). t.core) (served_held setup old c h d e at) ∙ core_as (works h d e (Serve d e) (answer_work (packet_of setup c d e)) c).core (behind_packet setup c d e) (record {
+    names = λ g. sym (own_name c.names h g);
+    claims = λ dev i. refl;
+    gone = λ dev. refl;
+    endpoints = λ dev ep. refl;
+    orders = append-nil c.orders;
+    events = refl;
+    posted = refl;
+    results = append-nil c.results;
+  })
+
+  -- a packet that the parts made is the core's
+  pub serves_moved : (setup : Setup) (old new : State P) (c : Core) (h d e n : ℕ) (told : ServedPacket) → IsAt setup old c h d e → ((packet_of setup c d e).reply ≡ reply_of n told) × Keeps setup new (behind_packet setup c d e)
       → Is setup (serve_core setup c d e) (record { owner = Some h; reply = reply_of n told }) new
-  serves_packet setup w old new c h d e item n told at shows front moves = (
-    ap entry_of (sym (moves setup w c at shows front).0) ∙ sym (ap (λ (t : Stepped). t.entry) (served_held setup old c h d e at)),
-    subst (λ (x : Core). Keeps setup new x) (sym (ap (λ (t : Stepped). t.core) (served_held setup old c h d e at) ∙ same)) (moves setup w c at shows front).1,
+  serves_moved setup old new c h d e n told at moved = (
+    ap entry_of (sym moved.0) ∙ sym (ap (λ (t : Stepped). t.entry) (served_held setup old c h d e at)),
+    subst (λ (x : Core). Keeps setup new x) (sym (core_served setup old c h d e at)) moved.1,
   )
     where
       entry_of : Reply → Entry
       entry_of r = record { owner = Some h; reply = r }
 
-      same : (works h d e (Serve d e) (answer_work (packet_of setup c d e)) c).core ≡ behind_packet setup c d e
-      same = core_as (works h d e (Serve d e) (answer_work (packet_of setup c d e)) c).core (behind_packet setup c d e) (record {
-        names = λ g. sym (own_name c.names h g);
-        claims = λ dev i. refl;
-        gone = λ dev. refl;
-        endpoints = λ dev ep. refl;
-        orders = append-nil c.orders;
-        events = refl;
-        posted = refl;
-        results = append-nil c.results;
-      })
+  -- a packet of the transfer where it works
+  pub serves_packet : (setup : Setup) (w : World) (old new : State P) (c : Core) (h d e item n : ℕ) (told : ServedPacket) → IsAt setup old c h d e → Shows setup w c → IsFront old d e (Some item) → MovesPacket old new h d e item n told
+      → Is setup (serve_core setup c d e) (record { owner = Some h; reply = reply_of n told }) new
+  serves_packet setup w old new c h d e item n told at shows front moves = serves_moved setup old new c h d e n told at (moves setup w c at shows front)

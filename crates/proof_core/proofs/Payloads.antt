@@ -9,7 +9,7 @@ use Rattle.usb_transfer.specs.declared.transfer.Transfer.{Transfer as InFlight}
 use Rattle.usb_tables.specs.declared.ending.Ending.{Ending}
 use Rattle.usb_tables.specs.ByEndpoint.{lane_at}
 use Rattle.usb_tables.specs.Flights.{EndedOf, Flights, blanked_at, item_at, left_at, line_at, with_item, with_line}
-use Rattle.proof_core.specs.Packets.{Serves}
+use Rattle.proof_core.specs.Packets.{Serves, Skims}
 use Rattle.usb_xhc.specs.Controller.{Controller}
 use Rattle.proof_lemmas.proofs.Lists.Pieces.{same_name}
 use Rattle.proof_core.specs.Payloads.{Carries, CarriesMore, EachHas, IsKept, Kept, StillCarries, kept_with}
@@ -174,6 +174,17 @@ module _ {P : Type 0} where
       by_item : (o : Option (InFlight P)) → item_at f d e item ≡ o → IsSome o → EachHas R g
       by_item None at some = absurd cc
       by_item (Some t) at some = has_changed R f g d e item (serves t at).served (serves t at).put (one_has R t (serves t at).served (one t (serves t at)) (each.in_line d e item t at)) each
+
+  -- so many packets of it are
+  pub follows_skim : (f g : Flights (InFlight P)) (k : Controller) (d e item count : ℕ) → IsSome (item_at f d e item) → ((t : InFlight P) → item_at f d e item ≡ Some t → Skims f g k d e item count t) → Follows f g
+  follows_skim f g k d e item count live skims R each = by_item (item_at f d e item) refl live
+    where
+      one : (t : InFlight P) (s : Skims f g k d e item count t) → IsOne t s.skimmed
+      one t s = record { name = ap (λ (v : InFlight P). v.name) s.behind.rest; number = ap (λ (v : InFlight P). v.n) s.behind.rest; payload = ap (λ (v : InFlight P). v.payload) s.behind.rest }
+
+      by_item : (o : Option (InFlight P)) → item_at f d e item ≡ o → IsSome o → EachHas R g
+      by_item None at some = absurd cc
+      by_item (Some t) at some = has_changed R f g d e item (skims t at).skimmed (skims t at).put (one_has R t (skims t at).skimmed (one t (skims t at)) (each.in_line d e item t at)) each
 
   -- items leave
   pub follows_leave : (f g : Flights (InFlight P)) (d e count : ℕ) → g ≡ left_at f d e count → Follows f g

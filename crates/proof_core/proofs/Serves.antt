@@ -8,8 +8,8 @@ use Rattle.usb_model.specs.declared.endpoint.EndpointState.TheVariants.{Halted, 
 use Rattle.usb_model.specs.declared.request.Body.{Body}
 use Rattle.usb_model.specs.declared.request.Body.TheVariants.{In, Out}
 use Rattle.usb_model.specs.declared.request.Request.{Request}
-use Rattle.usb_model.specs.Setup.{packet_size_of}
-use Rattle.usb_model.specs.World.{Claims, holder}
+use Rattle.usb_model.specs.Setup.{Setup, packet_size_of}
+use Rattle.usb_model.specs.World.{Claims, World, holder}
 use Rattle.usb_model.specs.World.Shared.{pieces_of}
 use Rattle.usb_model.specs.Endpoint.Status.{halts}
 use Rattle.usb_design.specs.Kept.{KeptEndpoint, KeptTransfer, SentErrand, first_place}
@@ -27,7 +27,7 @@ use Rattle.usb_tables.specs.Flights.{Flights, item_at, keys_at, line_at, with_li
 use Rattle.proof_core.specs.Packets.{IsServed, Serves, bytes_for}
 use Rattle.proof_core.specs.Packets as flight
 use Rattle.proof_controller.specs.Reports.{reply_of}
-use Rattle.proof_design.specs.Shows.{Core}
+use Rattle.proof_design.specs.Shows.{Core, Shows}
 use Rattle.proof_design.proofs.RunningEndpoints.{fresh_while_running}
 use Rattle.proof_controller.specs.Holds.{HoldsCore}
 use Rattle.proof_controller.specs.Laws.{ServesEnd, out_of}
@@ -35,8 +35,8 @@ use Rattle.proof_controller.specs.Laws as slots
 use Rattle.proof_controller.proofs.Ends.{here}
 use Rattle.proof_controller.proofs.Lookups.{set_same}
 use Rattle.proof_controller.proofs.SlotServes.{serves}
-use Rattle.proof_core.specs.State.{AllItems, IsFlight, KeepsEnd, State, in_ring, result_of}
-use Rattle.proof_core.specs.Works.{MovesPacket, behind_packet, context_in, packet_of}
+use Rattle.proof_core.specs.State.{AllItems, IsFlight, Keeps, KeepsEnd, State, in_ring, result_of}
+use Rattle.proof_core.specs.Works.{IsAt, MovesPacket, behind_packet, context_in, packet_of}
 use Rattle.proof_core.proofs.Buffers.{buffers_line, set_named}
 use Rattle.proof_core.proofs.Changed.{keeps_with, name_still}
 use Rattle.proof_core.proofs.Items.{found_at}
@@ -121,14 +121,15 @@ same_out k d e (In n) = refl
 same_out k d e (Out bytes) = refl
 
 module _ {P : Type 0} where
-  -- a packet of an item is the core's
-  pub moves : (old : State P) (k : Controller) (f : Flights (InFlight P)) (h d e item n : ℕ) (told : ServedPacket) → (x : Context) → (first : TrbAt) → context_in old.controller d e ≡ Some x → working x ≡ Some first
+  -- a packet of the item that is at work in a core is this core's
+  pub moves_at : (old : State P) (k : Controller) (f : Flights (InFlight P)) (h d e item n : ℕ) (told : ServedPacket) → (x : Context) → (first : TrbAt) → context_in old.controller d e ≡ Some x → working x ≡ Some first
       → Some told ≡ told_at old.controller d e → ((t : InFlight P) → item_at old.flights d e item ≡ Some t → t.n ≡ n)
       → ((t : InFlight P) → item_at old.flights d e item ≡ Some t → k ≡ served_at old.controller d e (flight.out_of e t.request.body))
       → ((t : InFlight P) → item_at old.flights d e item ≡ Some t → Serves old.flights f old.controller d e item t)
       → f.ended ≡ old.flights.ended
-      → MovesPacket old (record old { controller = k; flights = f }) h d e item n told
-  moves old k f h d e item n told x first there work is_told number is_k is_f ended setup w c at shows front = (
+      → (setup : Setup) (w : World) (c : Core) → IsAt setup old c h d e → Shows setup w c → IsAtWork setup old c h d e item x first
+      → ((packet_of setup c d e).reply ≡ reply_of n told) × Keeps setup (record old { controller = k; flights = f }) (behind_packet setup c d e)
+  moves_at old k f h d e item n told x first there work is_told number is_k is_f ended setup w c at shows it = (
     reply,
     keeps_with setup old new c after h d e at
         (but_line old new d e line at.keeps.lanes (ap (λ (v : Flights (InFlight P)). length v.keys) served.put ∙ at.keeps.keyed) at.keeps.cells refl refl lines)
@@ -165,9 +166,6 @@ module _ {P : Type 0} where
 
       after : Core
       after = behind_packet setup c d e
-
-      it : IsAtWork setup old c h d e item x first
-      it = at_work setup w old c h d e item x first at shows there work front
 
       t : InFlight P
       t = it.is.t
@@ -245,3 +243,13 @@ module _ {P : Type 0} where
             at = it.is.same.at;
             whose = it.is.same.whose;
           })
+
+  -- a packet of an item is the core's
+  pub moves : (old : State P) (k : Controller) (f : Flights (InFlight P)) (h d e item n : ℕ) (told : ServedPacket) → (x : Context) → (first : TrbAt) → context_in old.controller d e ≡ Some x → working x ≡ Some first
+      → Some told ≡ told_at old.controller d e → ((t : InFlight P) → item_at old.flights d e item ≡ Some t → t.n ≡ n)
+      → ((t : InFlight P) → item_at old.flights d e item ≡ Some t → k ≡ served_at old.controller d e (flight.out_of e t.request.body))
+      → ((t : InFlight P) → item_at old.flights d e item ≡ Some t → Serves old.flights f old.controller d e item t)
+      → f.ended ≡ old.flights.ended
+      → MovesPacket old (record old { controller = k; flights = f }) h d e item n told
+  moves old k f h d e item n told x first there work is_told number is_k is_f ended setup w c at shows front =
+      moves_at old k f h d e item n told x first there work is_told number is_k is_f ended setup w c at shows (at_work setup w old c h d e item x first at shows there work front)

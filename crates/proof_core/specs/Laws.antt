@@ -1,5 +1,5 @@
 -- The theorems, as the contracts of src/laws.rt name them. P: what callers keep with their transfers.
-use Rattle.std.specs.Prelude.{◌≡◌, ℕ, ◌+◌, ◌-◌, ◌<◌, ◌≤◌, ◌==◌, List, [], ◌∷◌, ◌++◌, length, drop, Option, Some, None, slice_set, if◌then◌else◌}
+use Rattle.std.specs.Prelude.{◌≡◌, ℕ, ◌+◌, ◌-◌, ◌<◌, ◌≤◌, ◌==◌, List, [], ◌∷◌, ◌++◌, length, drop, replicate, Option, Some, None, slice_set, if◌then◌else◌}
 use Rattle.usb_tables.specs.Caller.{Kept as Caller}
 use Rattle.usb_tables.specs.Callers.{SameCallbacks, SameCounts, SameNumbers, SameResults, is_there, number_of, results_at}
 use Rattle.usb_tables.specs.declared.outstanding.Sent.{Sent}
@@ -8,10 +8,11 @@ use Rattle.usb_xhc.specs.Host.{rung, with_blank, with_pushed, with_ring, without
 use Rattle.usb_xhc.specs.Posts.{posted_one}
 use Rattle.usb_xhc.specs.Transaction.{working}
 use Rattle.usb_xhc.specs.declared.packet.Packet.{Packet as ServedPacket}
+use Rattle.usb_xhc.specs.declared.packet.Packet.TheVariants as served
 use Rattle.usb_xhc.specs.declared.trb_at.TrbAt.{TrbAt}
 use Rattle.usb_tables.specs.ByEndpoint.{lane_at}
 use Rattle.usb_tables.specs.Flights.{Flights, blanked_at, item_at, left_at, line_at, with_item, with_last}
-use Rattle.proof_core.specs.Packets.{Serves}
+use Rattle.proof_core.specs.Packets.{Serves, Skims}
 use Rattle.usb_tables.specs.declared.ending.Ending.{Ending}
 use Rattle.usb_design.specs.Kept.{trbs_of}
 use Rattle.usb_model.specs.Setup.{Setup, endpoint_id}
@@ -20,17 +21,20 @@ use Rattle.usb_model.specs.declared.entry.Entry.{Entry}
 use Rattle.usb_model.specs.declared.errand.Errand.{Errand}
 use Rattle.usb_model.specs.declared.item.Ask.{Ask}
 use Rattle.usb_model.specs.declared.request.Request.{Request}
+use Rattle.usb_model.specs.declared.reply.Reply.TheVariants.{Moved}
 use Rattle.usb_model.specs.declared.step.Step.{Step}
+use Rattle.usb_model.specs.declared.step.Step.TheVariants.{Serve}
 use Rattle.usb_segment.specs.Places.{index_of}
 use Rattle.proof_design.specs.Shows.{Core, Shows}
 use Rattle.proof_core.specs.State.{IsState, State}
-use Rattle.proof_core.specs.Steps.{DoesCoreStep, TurnsWorld}
-use Rattle.proof_core.specs.Works.{Asks, CanServeItem, Finishes, IsAt, IsFront, IsUnstarted, Leaves, MovesPacket, Pauses, Posts, Resumes, Starts, Withdraws, context_in, leading, order_by}
+use Rattle.proof_core.specs.Steps.{DoesCoreStep, DoesCoreSteps, TurnsInRow, TurnsWorld}
+use Rattle.proof_core.specs.Works.{Asks, CanServeItem, CanSkimItem, Finishes, IsAt, IsFront, IsHolder, IsUnstarted, Leaves, MovesPacket, Pauses, Posts, Resumes, Starts, Withdraws, context_in, leading, order_by}
 use Rattle.usb_transfer.specs.Tds.{tds_of}
 use Rattle.usb_transfer.specs.Trbs.{normals_of}
 use Rattle.usb_transfer.specs.declared.transfer.Transfer.{Transfer as InFlight}
 use Rattle.usb_tring.specs.Line.{capacity, normals, used}
 use Rattle.usb_xhc.specs.Controller.{Controller, served_at, slot_changed, told_at}
+use Rattle.usb_xhc.specs.Skims.{controller_skimmed}
 use Rattle.usb_xhc.specs.Slots.{changed}
 use Rattle.proof_core.specs.Packets as flight
 
@@ -79,3 +83,19 @@ module _ (P : Type 0) where
   -- a step that is the core's is the world's, and leaves parts that show a world
   abbrev pub TurnsWorlds : Type 0
   TurnsWorlds = (old new : State P) (step : Step) (entry : Entry) → DoesCoreStep old step entry new → TurnsWorld old step entry new × (IsState old → IsState new)
+
+  -- two rows of steps of the core are one
+  abbrev pub JoinsSteps : Type 0
+  JoinsSteps = (old mid new : State P) (first behind : List Step) (es fs : List Entry) → DoesCoreSteps old first es mid → DoesCoreSteps mid behind fs new → DoesCoreSteps old (first ++ behind) (es ++ fs) new
+
+  -- whole packets in a row are the core's
+  abbrev pub SkimsPackets : Type 0
+  SkimsPackets = (old : State P) (k : Controller) (f : Flights (InFlight P)) (h d e item count n size : ℕ) → IsHolder old d e (Some h) → IsFront old d e (Some item) → ((t : InFlight P) → item_at old.flights d e item ≡ Some t → t.n ≡ n) → ((t : InFlight P) → item_at old.flights d e item ≡ Some t → (i : ℕ) → i < count → told_at (controller_skimmed d e (flight.out_of e t.request.body) i old.controller) d e ≡ Some (served.Moved size)) → ((t : InFlight P) → item_at old.flights d e item ≡ Some t → k ≡ controller_skimmed d e (flight.out_of e t.request.body) count old.controller) → ((t : InFlight P) → item_at old.flights d e item ≡ Some t → Skims old.flights f old.controller d e item count t) → DoesCoreSteps old (replicate count (Serve d e)) (replicate count (record { owner = Some h; reply = Moved n size })) (record old { controller = k; flights = f })
+
+  -- of the item where the controller works whole packets in a row can be served: there is room for the rest of it, or there are the TRB's bytes
+  abbrev pub SkimsSafely : Type 0
+  SkimsSafely = (s : State P) (h d e item : ℕ) → IsState s → IsHolder s d e (Some h) → IsFront s d e (Some item) → CanSkimItem s d e item
+
+  -- steps that are the core's are turns of the world, and leave parts that show a world
+  abbrev pub RunsWorlds : Type 0
+  RunsWorlds = (old new : State P) (steps : List Step) (entries : List Entry) → DoesCoreSteps old steps entries new → TurnsInRow old steps entries new

@@ -1,5 +1,5 @@
 -- A step of the parts, by what it makes of every core that they keep.
-use Rattle.std.specs.Prelude.{◌≡◌, ℕ, suc, ◌==◌, ◌<◌, Bool, true, false, List, ◌++◌, length, slice_get, Option, Some, None}
+use Rattle.std.specs.Prelude.{◌≡◌, ℕ, suc, ◌==◌, ◌<◌, Bool, true, false, List, [], ◌∷◌, ◌++◌, length, slice_get, Option, Some, None}
 use Rattle.std.specs.Option.{option_and_then}
 use Rattle.usb_model.specs.declared.entry.Entry.{Entry}
 use Rattle.usb_model.specs.declared.errand.Errand.{Errand}
@@ -12,7 +12,8 @@ use Rattle.usb_model.specs.declared.step.Step.{Step}
 use Rattle.usb_model.specs.Machine.Turns.{takes_news, takes_order}
 use Rattle.usb_model.specs.Requests.{is_unsupported}
 use Rattle.usb_model.specs.Setup.{Setup, endpoint_id, endpoints_of, kind_of}
-use Rattle.usb_model.specs.World.{World, holder, turn}
+use Rattle.usb_model.specs.World.{World, holder, turn, world_from}
+use Rattle.usb_model.specs.World.Journal.{run_from}
 use Rattle.usb_model.specs.World.Shared.{past_first, tagged}
 use Rattle.usb_design.specs.Kept.{KeptEndpoint, KeptTransfer}
 use Rattle.usb_trb.specs.declared.kind.TrbKind.{TrbKind}
@@ -26,14 +27,32 @@ use Rattle.proof_controller.specs.Holds.{with_end}
 use Rattle.proof_core.specs.State.{Keeps, ShowsWorld, State}
 use Rattle.proof_core.specs.Works.{IsAt}
 
+-- the entries of steps of the core, one behind another
+unfoldable pub core_entries : Setup → Core → List Step → List Entry
+core_entries setup c [] = []
+core_entries setup c (step ∷ steps) = (step_core setup c step).entry ∷ core_entries setup (step_core setup c step).core steps
+
+-- the core behind them
+unfoldable pub core_behind : Setup → Core → List Step → Core
+core_behind setup c [] = c
+core_behind setup c (step ∷ steps) = core_behind setup (step_core setup c step).core steps
+
 module _ {P : Type 0} where
   -- a step is the core's: its entry, and the core that is then kept
   abbrev pub DoesCoreStep : State P → Step → Entry → State P → Type 0
   DoesCoreStep old step entry new = (setup : Setup) (w : World) (c : Core) → Keeps setup old c → Shows setup w c → (entry ≡ (step_core setup c step).entry) × Keeps setup new (step_core setup c step).core
 
+  -- steps are the core's, one behind another: their entries, and the core that is kept behind the last
+  abbrev pub DoesCoreSteps : State P → List Step → List Entry → State P → Type 0
+  DoesCoreSteps old steps entries new = (setup : Setup) (w : World) (c : Core) → Keeps setup old c → Shows setup w c → (entries ≡ core_entries setup c steps) × Keeps setup new (core_behind setup c steps)
+
   -- a step is the world's: its entry is that of the world's turn, and the parts then show the next world
   abbrev pub TurnsWorld : State P → Step → Entry → State P → Type 0
   TurnsWorld old step entry new = (setup : Setup) (w : World) → ShowsWorld setup old w → (entry ≡ (turn setup w step).entry) × ShowsWorld setup new (turn setup w step).world
+
+  -- steps are the world's, one behind another: their entries are those of the world's turns, and the parts then show the world behind the last
+  abbrev pub TurnsInRow : State P → List Step → List Entry → State P → Type 0
+  TurnsInRow old steps entries new = (setup : Setup) (w : World) → ShowsWorld setup old w → (entries ≡ run_from setup w steps) × ShowsWorld setup new (world_from setup w steps)
 
   -- a step whose entry and core these are
   abbrev pub Is : Setup → Stepped → Entry → State P → Type 0

@@ -29,7 +29,7 @@ use Rattle.usb_xhc.specs.Context.{Context}
 use Rattle.usb_xhc.specs.Controller.{Controller}
 use Rattle.usb_xhc.specs.Slots.{context_of}
 use Rattle.usb_tables.specs.Flights.{item_at, line_at}
-use Rattle.proof_core.specs.Packets.{CanServe}
+use Rattle.proof_core.specs.Packets.{CanServe, CanSkim}
 use Rattle.usb_tables.specs.declared.ending.Ending.{Ending}
 use Rattle.proof_controller.specs.Reports.{reply_of}
 use Rattle.proof_design.specs.Shows.{Core, Shows, event_at, order_at}
@@ -138,6 +138,11 @@ pub record CanServeItem {P : Type 0} (s : State P) (d e item : ℕ) : Type 0 whe
   pub live : IsSome (item_at s.flights d e item)
   pub bytes : IfSome (item_at s.flights d e item) (λ t. CanServe s.controller d e t.request.body t)
   pub room : length s.controller.events.waits < 4095
+
+-- whole packets of an item in a row can be served
+pub record CanSkimItem {P : Type 0} (s : State P) (d e item : ℕ) : Type 0 where
+  pub live : IsSome (item_at s.flights d e item)
+  pub bytes : IfSome (item_at s.flights d e item) (λ t. CanSkim s.controller d e t.request.body t)
 
 -- what the core's endpoint leaves of one packet
 abbrev pub packet_of : Setup → Core → ℕ → ℕ → Answered

@@ -1,6 +1,6 @@
 //! What is proved of the definitions in specs/. Each is the contract of a function with an empty body.
 
-ghost use Rattle.proof_core.specs.Laws.{AsksTransfers, FinishesTransfers, LeavesBlanks, MovesPackets, OrdersErrands, PausesTransfers, ResumesEndpoints, ServesSafely, StartsTransfers, TurnsWorlds, WithdrawsTransfers};
+ghost use Rattle.proof_core.specs.Laws.{AsksTransfers, FinishesTransfers, JoinsSteps, LeavesBlanks, MovesPackets, OrdersErrands, PausesTransfers, ResumesEndpoints, RunsWorlds, ServesSafely, SkimsPackets, SkimsSafely, StartsTransfers, TurnsWorlds, WithdrawsTransfers};
 
 /// An errand that is ordered is ordered in the core.
 pub fn posts<P>()
@@ -55,4 +55,24 @@ pub fn moves<P>()
 /// A step that is the core's is the world's, and leaves parts that show a world.
 pub fn turns<P>()
     ensures { TurnsWorlds P }
+{}
+
+/// Steps that are the core's, and steps behind them, are the core's together.
+pub fn joins<P>()
+    ensures { JoinsSteps P }
+{}
+
+/// Whole packets in a row are the core's: of each what is told, and what the last leaves.
+pub fn skims<P>()
+    ensures { SkimsPackets P }
+{}
+
+/// Of the item where the controller works whole packets in a row can be served: there is room for them, or there are bytes.
+pub fn can_skim<P>()
+    ensures { SkimsSafely P }
+{}
+
+/// Steps that are the core's are the world's, one behind another, and leave parts that show a world.
+pub fn runs<P>()
+    ensures { RunsWorlds P }
 {}

@@ -7,13 +7,13 @@
 //! - specs/ State: the parts; when they keep a core (`Keeps`), and when they show a world; that each TRB has the
 //!   buffer of its own transfer (`NameBuffers`)
 //! - specs/ Works: pieces of work, each by what it makes of every core that the parts keep
-//! - specs/ Steps: a step, by what it makes of every core that the parts keep and that shows a world; what steps are
-//!   made of
+//! - specs/ Steps: a step, and steps in a row, by what they make of every core that the parts keep and that shows a
+//!   world; what steps are made of
 //! - specs/ Calls, Submissions, Handles, Deliveries: the same for results and callbacks, submissions, the calls of
 //!   handles, and events
 //! - specs/ Made: devices that are set up, and parts that are unused
 //! - specs/ Payloads: what callers keep with the transfers in flight
-//! - specs/ Laws: the statements of the eleven laws of `laws.rt`
+//! - specs/ Laws: the statements of the laws of `laws.rt`
 //!
 //! # Contracts
 //!
@@ -32,8 +32,13 @@
 //! - `can_serve`: of the item where the controller works one packet can be served: room for it, or its bytes, are
 //!   there. Premise: the core shows a world
 //! - `moves`: a packet is the core's: its reply, its event, and the core behind it. Premise: the same
+//! - `can_skim`, `skims`: whole packets in a row of that item: room for the rest of it, or the bytes of its TRB, are
+//!   there; each is the core's packet, with its reply, and the parts behind the last keep the core behind it. Premise
+//!   of `skims`: each is told as moved with the same bytes
 //! - `turns`: a step that does what the core of lists does is the world's turn: its entry is the world's, and the
 //!   parts then show the next world
+//! - `joins`, `runs`: steps in a row and steps behind them are one row; a row of the core's steps are the world's turns,
+//!   one behind another
 //!
 //! Lemmas of its proofs/ are cited by `usb_steps`: a step in code is the core's, case by case.
 #![tactic(auto)]

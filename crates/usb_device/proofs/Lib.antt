@@ -3,3 +3,4 @@ pub mod Appends
 pub mod Fits
 pub mod Filled
 pub mod Sizes
+mod Skims

@@ -1,3 +1,4 @@
 pub mod Pipe
+pub mod Skims
 pub mod Taken
 pub mod Scripts

@@ -31,6 +31,14 @@ impl Device for BoxedDevice {
         self.device.answer_in(ep, room, bytes)
     }
 
+    fn skim_in(&mut self, ep: EpAddr, size: usize, most: usize, bytes: &mut Vec<u8>) -> usize {
+        self.device.skim_in(ep, size, most, bytes)
+    }
+
+    fn skim_out(&mut self, ep: EpAddr, size: usize, most: usize, bytes: &[u8]) -> usize {
+        self.device.skim_out(ep, size, most, bytes)
+    }
+
     fn ready(&self, ep: EpAddr) -> bool {
         self.device.ready(ep)
     }

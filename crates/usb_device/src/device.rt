@@ -1,8 +1,9 @@
 //! What a device is to the controller.
 
-ghost use Rattle.std.specs.Prelude.{◌≡◌, ◌≤◌, ◌+◌, ℕ, List, None, Some, IfSome, length, slice_get, slice_set, vec_capacity, vec_len};
+ghost use Rattle.std.specs.Prelude.{◌≡◌, ◌≤◌, ◌+◌, ◌*◌, ◌++◌, ℕ, true, List, None, Some, IfSome, length, slice_get, slice_set, vec_capacity, vec_len};
 ghost use Rattle.std.specs.Option.{option_copied};
 ghost use Rattle.usb_model.specs.Setup.{endpoint_id};
+ghost use Rattle.usb_device.specs.Skims.{are_taken, are_whole, pipe_behind, pipe_given, read_in};
 ghost use Rattle.usb_device.specs.Pipe.{Pipe, IsLawful, act_of, answer_of, buffer_after, bytes_after, cleared, is_ready, pipe_after, pipe_at, rewound};
 
 use crate::append::{append_zeros, count_within};
@@ -55,6 +56,37 @@ pub trait Device: Drop {
         let act = self.answer(ep, None, &mut bytes[before..]);
         bytes.truncate(before + count_within(act, room));
         act
+    }
+
+    /// Transactions in a row at an endpoint to which no packet is sent, at most so many: as long as each is met by a packet of just
+    /// `size` bytes, which joins the others in `bytes`. How many they were. A device may stop before it has to, so none is always right:
+    /// what it leaves is asked for one by one.
+    #[tactic(auto, using(crate::proofs::Skims::none_whole, crate::proofs::Skims::none_behind, crate::proofs::Skims::none_read))]
+    fn skim_in(&mut self, ep: EpAddr, size: usize, most: usize, bytes: &mut Vec<u8>) -> usize
+        requires room { vec_len bytes.old + most * size ≤ vec_capacity bytes.old }
+        ensures most { result ≤ most }
+        ensures whole { are_whole size result (pipe_at (pipes self.old) ep) ≡ true }
+        ensures pipes { pipes self.new ≡ slice_set (pipes self.old) (endpoint_id ep) (pipe_behind result (pipe_at (pipes self.old) ep)) }
+        ensures bytes { bytes.new.items ≡ bytes.old.items ++ read_in result (pipe_at (pipes self.old) ep) }
+        ensures capacity { vec_capacity bytes.old ≤ vec_capacity bytes.new }
+        ensures length { vec_len bytes.new ≡ vec_len bytes.old + result * size }
+    {
+        let _ = (ep, size, most, bytes.len());
+        0
+    }
+
+    /// Transactions in a row at an endpoint, at most so many, to which these bytes are sent, `size` to a packet: as long as each is taken.
+    /// How many they were; a device may stop before it has to.
+    #[tactic(auto, using(crate::proofs::Skims::none_taken, crate::proofs::Skims::none_given))]
+    fn skim_out(&mut self, ep: EpAddr, size: usize, most: usize, bytes: &[u8]) -> usize
+        requires size { size ≤ (pipe_at (pipes self.old) ep).size }
+        requires bytes { most * size ≤ length bytes.now }
+        ensures most { result ≤ most }
+        ensures taken { are_taken size bytes.now result (pipe_at (pipes self.old) ep) ≡ true }
+        ensures pipes { pipes self.new ≡ slice_set (pipes self.old) (endpoint_id ep) (pipe_given size bytes.now result (pipe_at (pipes self.old) ep)) }
+    {
+        let _ = (ep, size, most, bytes.len());
+        0
     }
 
     /// Whether an endpoint has an answer left, or is halted; else it isn't ready.

@@ -1,10 +1,11 @@
 //! One endpoint that answers by a script.
 
-ghost use Rattle.std.specs.Prelude.{◌≡◌, ◌≤◌, ◌+◌, ◌++◌, ◌<◌, [], true, None, IfSome, count_by, length, slice_get, vec_capacity, vec_len, nat_lt, if◌then◌else◌, drop};
+ghost use Rattle.std.specs.Prelude.{◌≡◌, ◌≤◌, ◌+◌, ◌*◌, ◌++◌, ◌<◌, [], true, false, None, Some, IfSome, count_by, length, slice_get, vec_capacity, vec_len, nat_lt, if◌then◌else◌, drop};
 ghost use Rattle.std.specs.List.{list_all};
 ghost use Rattle.std.specs.Option.{option_copied};
-ghost use Rattle.usb_device.specs.Pipe.{act_of, answer_of, buffer_after, bytes_after, cleared, is_ack, is_ready, pipe_after, rewound};
+ghost use Rattle.usb_device.specs.Pipe.{act_of, answer_of, buffer_after, bytes_after, cleared, is_ack, is_ready, packet_of, pipe_after, rewound};
 ghost use Rattle.usb_device.specs.Scripts.{pipe_of, is_short};
+ghost use Rattle.usb_device.specs.Skims.{are_taken, are_whole, is_whole, packet_in, pipe_behind, pipe_given, read_in};
 
 use crate::device::Act;
 use crate::taken::{TakenPackets, extend_reserved};
@@ -63,6 +64,16 @@ fn append_packet(packet: &[u8], room: usize, bytes: &mut Vec<u8>)
     if packet.len() <= room {
         extend_reserved(bytes, packet);
     }
+}
+
+/// The packet of this number, where bytes are sent so many to a packet.
+fn packet_in(size: usize, bytes: &[u8], count: usize) -> &[u8]
+    requires { (count + 1) * size ≤ length bytes.now }
+    ensures packet { result.now ≡ packet_in size bytes.now count }
+    ensures size { length result.now ≤ size }
+{
+    let at = count * size;
+    &bytes[at..at + size]
 }
 
 impl TablePipe {
@@ -149,6 +160,80 @@ impl TablePipe {
             }
             Response::Broken => Act::Broken,
         }
+    }
+
+    /// One transaction to which no packet is sent, if it is met by a packet of just so many bytes, which joins the others; whether it is.
+    fn skim_one_in(&mut self, size: usize, bytes: &mut Vec<u8>) -> bool
+        requires room { vec_len bytes.old + size ≤ vec_capacity bytes.old }
+        ensures met { result ≡ true → (is_whole size (answer_of self.old) ≡ true) × (self.new ≡ pipe_after None self.old)
+            × (bytes.new.items ≡ bytes.old.items ++ packet_of (answer_of self.old)) × (vec_len bytes.new ≡ vec_len bytes.old + size) }
+        ensures kept { result ≡ false → (self.new ≡ self.old) × (bytes.new ≡ bytes.old) }
+        ensures capacity { vec_capacity bytes.old ≤ vec_capacity bytes.new }
+    {
+        if self.halted || self.place >= self.script.len() {
+            return false;
+        }
+        let at = self.place;
+        match &self.script[at] {
+            Response::Data(packet) if packet.len() == size => {
+                extend_reserved(bytes, packet.as_slice());
+            }
+            _ => return false,
+        }
+        self.place += 1;
+        true
+    }
+
+    /// `Device::skim_in` at this endpoint.
+    pub(crate) fn skim_in(&mut self, size: usize, most: usize, bytes: &mut Vec<u8>) -> usize
+        requires room { vec_len bytes.old + most * size ≤ vec_capacity bytes.old }
+        ensures most { result ≤ most }
+        ensures whole { are_whole size result self.old ≡ true }
+        ensures pipe { self.new ≡ pipe_behind result self.old }
+        ensures bytes { bytes.new.items ≡ bytes.old.items ++ read_in result self.old }
+        ensures capacity { vec_capacity bytes.old ≤ vec_capacity bytes.new }
+        ensures length { vec_len bytes.new ≡ vec_len bytes.old + result * size }
+    {
+        for count in 0..most {
+            if !self.skim_one_in(size, bytes) {
+                return count;
+            }
+        }
+        most
+    }
+
+    /// One transaction to which this packet is sent, if it is taken; whether it is.
+    fn skim_one_out(&mut self, packet: &[u8]) -> bool
+        requires size { length packet.now ≤ self.old.size }
+        ensures taken { result ≡ true → (is_ack (answer_of self.old) ≡ true) × (self.new ≡ pipe_after (Some packet.now) self.old) }
+        ensures kept { result ≡ false → self.new ≡ self.old }
+    {
+        if self.halted || self.place >= self.script.len() {
+            return false;
+        }
+        let at = self.place;
+        if !matches!(&self.script[at], Response::Ack) {
+            return false;
+        }
+        self.place += 1;
+        self.taken.push(packet);
+        true
+    }
+
+    /// `Device::skim_out` at this endpoint.
+    pub(crate) fn skim_out(&mut self, size: usize, most: usize, bytes: &[u8]) -> usize
+        requires size { size ≤ self.old.size }
+        requires bytes { most * size ≤ length bytes.now }
+        ensures most { result ≤ most }
+        ensures taken { are_taken size bytes.now result self.old ≡ true }
+        ensures pipe { self.new ≡ pipe_given size bytes.now result self.old }
+    {
+        for count in 0..most {
+            if !self.skim_one_out(packet_in(size, bytes, count)) {
+                return count;
+            }
+        }
+        most
     }
 
     /// The most bytes of a packet that it takes.

@@ -133,6 +133,18 @@ impl Device for TableDevice {
         pipe.answer_in(room, bytes)
     }
 
+    #[tactic(auto, using(crate::proofs::Skims::script_behind))]
+    fn skim_in(&mut self, ep: EpAddr, size: usize, most: usize, bytes: &mut Vec<u8>) -> usize {
+        let pipe = &mut self.pipes[usize::from(ep.id())];
+        pipe.skim_in(size, most, bytes)
+    }
+
+    #[tactic(auto, using(crate::proofs::Skims::script_given))]
+    fn skim_out(&mut self, ep: EpAddr, size: usize, most: usize, bytes: &[u8]) -> usize {
+        let pipe = &mut self.pipes[usize::from(ep.id())];
+        pipe.skim_out(size, most, bytes)
+    }
+
     fn ready(&self, ep: EpAddr) -> bool {
         self.pipes[usize::from(ep.id())].ready()
     }

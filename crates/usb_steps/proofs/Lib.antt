@@ -2,6 +2,7 @@ mod Views
 mod Asks
 mod Runs
 mod Serves
+mod Wholes
 mod Worth
 mod Circle
 mod Waits
@@ -9,3 +10,5 @@ mod Called
 mod Callbacks
 mod Carried
 mod Readings
+mod Drains
+mod TakesDone

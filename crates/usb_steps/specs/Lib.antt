@@ -7,3 +7,5 @@ pub mod Pending
 pub mod Packets
 pub mod Calls
 pub mod Inventory
+pub mod Bursts
+pub mod Drains

@@ -7,7 +7,7 @@
 //!
 //! - parts, setup, made: the parts: claims, controller, transfers in flight, callers, errands; devices, and the
 //!   parts made of them
-//! - packets, orders: a packet; the oldest order
+//! - packets, bursts, orders: a packet; packets in a row; the oldest order
 //! - events, reports, ends, settlement, sender: the oldest event; what it tells of a transfer; a transfer's
 //!   end; the end of an errand; whose order an event is of
 //! - submission, results, verdicts: a transfer joins its line; the oldest result goes out to its callback; a callback
@@ -17,6 +17,7 @@
 //! - claim, reset, renewal: an interface is claimed; a device is reset; endpoints are made new
 //! - errands: an errand is ordered
 //! - call: a step that takes no memory, whichever it is
+//! - drain: events and orders in a row
 //! - reads, pending: how long the next result is; whether a transfer can expire; what is to be done next
 //! - inventory: who holds what, and what isn't finished at an endpoint or waits in a ring
 //!
@@ -29,6 +30,8 @@
 //! - `Parts::call`: a step that takes no memory is the call that it names
 //! - `Parts::serve`: a packet of the transfer where the controller works does as Serve does; nothing is asked at run
 //!   time: room for it, or its bytes, are there
+//! - `Parts::serve_burst`: packets in a row, at most so many and at least one, each of which does as Serve does
+//!   (`DoesCoreSteps`, of as many Serves): all but the last have one entry, of bytes that moved of one transfer
 //! - `Parts::command`: the oldest order of the ring, whatever it is, is carried out as Command does: whose it was is
 //!   found by slot and endpoint id
 //! - `Parts::cancel`, `Parts::expire`: the transfer is found, and asked, or refused, as Cancel and Expire do; Stop is
@@ -37,6 +40,8 @@
 //!   the core as it was, and whatever is refused gives request and payload back
 //! - `Parts::take`: the oldest result goes out as Take does, with the payload that its submission brought; want of
 //!   memory leaves the core as it was
+//! - `Parts::take_done`: the oldest result goes out as Take does, and its callback ends as an Answer with Stop does: two
+//!   steps of the core in one, which take no memory
 //! - `Parts::open`, `close`, `claim`, `release`, `reset`, `clear_halt`, `unplug`: as Open, Close, Claim, Release,
 //!   Reset, ClearHalt and Unplug do, with their refusals in libusb's order
 //! - `Parts::deliver`: the oldest event is handled as Deliver does: a transfer stands or it ended, or an errand
@@ -54,6 +59,8 @@
 //!   from behind one, where a packet does something; whether Command, Deliver and Take do; whether a transfer is in
 //!   its callback
 //! - `Parts::deliver_at`: as `deliver`, and the endpoint of the world's oldest event
+//! - `Parts::drain`: so many events and orders as there are until a result waits, an event before an order: as many steps
+//!   of the core, one behind another, as `drained_steps` says of the world
 //! - `Parts::device_of`, `owner`, `holder`, `config`, `next_number`, `callback`, `ended_at`, `line_len`, `number_at`,
 //!   `orders_waiting`, `events_waiting`: what the parts keep there; `is_halted`, `answers_left`: of a device that tells
 //!   how far it is
@@ -67,8 +74,10 @@
 #![tactic(auto)]
 
 mod ask;
+mod bursts;
 mod call;
 mod claim;
+mod drain;
 mod ends;
 mod errands;
 mod events;
@@ -92,6 +101,7 @@ mod setup;
 mod submission;
 mod verdicts;
 
+pub use bursts::{Burst, Whole};
 pub use events::Delivered;
 pub use parts::Parts;
 pub use pending::Pending;

@@ -50,7 +50,7 @@ impl<P, D: Device> Parts<P, D> {
     }
 
     /// The item where the controller works at an endpoint, if it works there.
-    fn front(&self, dev: DeviceNo, ep: EpAddr) -> Option<usize>
+    pub(crate) fn front(&self, dev: DeviceNo, ep: EpAddr) -> Option<usize>
         ensures { IsFront self.now dev ep result }
     {
         let context = self.controller.slot(dev)?.context(ep)?;

@@ -2,16 +2,17 @@
 
 ghost use Rattle.std.specs.Prelude.{◌≡◌, IfOk, OnErr, option_map, slice_get};
 ghost use Rattle.usb_model.specs.declared.step.Step.TheVariants.{Take};
-ghost use Rattle.proof_core.specs.Calls.{Stays, called_entry};
+ghost use Rattle.usb_tables.specs.Flights.{ended_of};
+ghost use Rattle.proof_core.specs.Calls.{Stays, called_entry, returned_of};
 ghost use Rattle.proof_core.specs.Payloads.{Carries, Kept, StillCarries};
-ghost use Rattle.proof_core.specs.State.{IsState};
+ghost use Rattle.proof_core.specs.State.{IsState, result_of};
 ghost use Rattle.proof_core.specs.Steps.{DoesCoreStep};
-ghost use Rattle.usb_steps.specs.Results.{CarriesOut};
+ghost use Rattle.usb_steps.specs.Results.{CarriesOut, TakesDone};
 
 use crate::parts::Parts;
 use std::alloc::AllocError;
 use usb_device::Device;
-use usb_model::{Bytes, InCallback, Returned};
+use usb_model::{Bytes, EpAddr, InCallback, Name, Returned};
 use usb_tables::Ended;
 use usb_transfer::Transfer;
 
@@ -72,5 +73,57 @@ impl<P, D: Device> Parts<P, D> {
             },
             payload,
         }))
+    }
+
+    /// The same, and the callback ends at once, as `stop` ends it. Where none waits nothing changes. Takes no memory.
+    pub fn take_done(&mut self) -> Option<Taken<P>>
+        requires { IsState self.old }
+        ensures taken { TakesDone self.old result self.new }
+        ensures payload { option_map (λ t. t.payload) result ≡ option_map (λ y. y.transfer.payload) (slice_get self.old.flights.ended 0) }
+        ensures carries { (kept : Kept P) → Carries kept self.old → CarriesOut kept result × Carries kept self.new }
+    {
+        let Some(ended) = self.flights.take() else {
+            return None;
+        };
+        let (name, ep) = whose(&ended);
+        self.callers.result_taken(name, ep);
+        Some(taken_of(ended))
+    }
+}
+
+/// Whose a transfer that ended is, and its endpoint.
+fn whose<P>(ended: &Ended<P>) -> (Name, EpAddr)
+    ensures name { result.0 ≡ ended.now.transfer.name }
+    ensures ep { result.1 ≡ ended.now.transfer.request.ep }
+{
+    (ended.transfer.name, ended.transfer.request.ep)
+}
+
+/// What goes out of a transfer that ended.
+fn taken_of<P>(ended: Ended<P>) -> Taken<P>
+    ensures returned { result.returned ≡ returned_of (result_of (ended_of ended)) }
+    ensures payload { result.payload ≡ ended.transfer.payload }
+{
+    let Ended { transfer, ending } = ended;
+    let Transfer {
+        name,
+        n,
+        round,
+        request,
+        bytes,
+        payload,
+        ..
+    } = transfer;
+    Taken {
+        returned: Returned {
+            h: name,
+            n,
+            ep: request.ep,
+            round,
+            status: ending.status,
+            actual: ending.actual,
+            bytes: Bytes::from_vec(bytes),
+        },
+        payload,
     }
 }

@@ -11,11 +11,11 @@ use Rattle.usb_design.specs.Packets.{Packet, packet_by}
 use Rattle.usb_xhc.specs.Ahead.{lengths, goes_on, room, Reaches}
 
 -- a number isn't a greater one
-other : (n m : ℕ) → n < m → (n == m) ≡ false
+pub other : (n m : ℕ) → n < m → (n == m) ≡ false
 other n m k = grind arith
 
 -- a packet is less than more
-least : (n m : ℕ) → n < m → min n m ≡ n
+pub least : (n m : ℕ) → n < m → min n m ≡ n
 least n m k = min-eq_left (omega arith)
 
 -- a packet for the host, by whether it is too long

@@ -5,3 +5,6 @@ pub mod Nexts
 pub mod Serves
 pub mod Moves
 pub mod Renewed
+pub mod Skims
+pub mod SlotSkims
+pub mod ControllerSkims

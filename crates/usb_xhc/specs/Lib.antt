@@ -8,3 +8,4 @@ pub mod Host
 pub mod Slots
 pub mod Made
 pub mod Controller
+pub mod Skims

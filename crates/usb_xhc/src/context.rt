@@ -1,6 +1,6 @@
 //! An endpoint as the controller keeps it.
 
-ghost use Rattle.std.specs.Prelude.{◌≡◌, ◌+◌, ◌<◌, ◌≤◌, ◌^◌, None, Some, length, suc, IfOk, IfSome, is_some};
+ghost use Rattle.std.specs.Prelude.{◌≡◌, ◌+◌, ◌*◌, ◌<◌, ◌≤◌, ◌^◌, None, Some, length, suc, IfOk, IfSome, is_some};
 ghost use Rattle.usb_model.specs.declared.endpoint.EndpointState.TheVariants.{Running, Stopped, Halted};
 ghost use Rattle.usb_tring.specs.Line.{capacity, normals, used};
 ghost use Rattle.usb_xhc.specs.Ahead.{Reaches, room};
@@ -8,6 +8,7 @@ ghost use Rattle.usb_xhc.specs.Context.{Context, configured, trbs, stand_by, eve
 ghost use Rattle.usb_xhc.specs.Transaction.{trb_at, working};
 ghost use Rattle.usb_xhc.specs.Commands.{before, moved_at};
 ghost use Rattle.usb_xhc.specs.Host.{rung, with_ring, with_pushed, with_blank, without_first};
+ghost use Rattle.usb_xhc.specs.Skims.{skipped};
 
 use crate::outcome::Reach;
 use crate::trb_at::TrbAt;
@@ -194,6 +195,32 @@ impl EndpointContext {
         self.ring.pass(standing.index);
         self.within = standing.within;
         self.begun = self.begun || count > 0;
+    }
+
+    /// How many whole packets leave at least a byte of the TRB at dequeue, which is this; none where a packet has no bytes.
+    pub(crate) fn whole_within(&self, first: &TrbAt) -> usize
+        ensures some { 0 < result → 0 < self.now.size }
+        ensures fits { 0 < result → self.now.within + result * self.now.size < first.now.trb.length }
+    {
+        let size = u32::from(self.size);
+        if size == 0 {
+            return 0;
+        }
+        let left = first.bytes().saturating_sub(self.within);
+        (left.saturating_sub(1) / size) as usize
+    }
+
+    /// So many whole packets moved inside the TRB at dequeue: dequeue goes past no TRB.
+    pub(crate) fn skip(&mut self, count: usize)
+        requires some { 0 < self.old.size }
+        requires fits { self.old.within + count * self.old.size ≤ 65536 }
+        ensures { self.new ≡ skipped self.old count }
+    {
+        if count > 0 {
+            self.ring.pass(0);
+            self.within += count as u32 * u32::from(self.size);
+            self.begun = true;
+        }
     }
 
     /// Past the transfer at dequeue, and the No Ops behind it.

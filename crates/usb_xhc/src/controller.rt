@@ -1,6 +1,6 @@
 //! The controller.
 
-ghost use Rattle.std.specs.Prelude.{◌≡◌, ◌+◌, ◌-◌, ◌≤◌, ◌<◌, ◌∷◌, ◌++◌, [], None, Some, length, suc, IfErr, IfOk, IfSome, OnErr, OnOk, option_map, slice_get, vec_capacity, vec_len, true, drop, slice_set};
+ghost use Rattle.std.specs.Prelude.{◌≡◌, ◌+◌, ◌-◌, ◌≤◌, ◌<◌, ◌∷◌, ◌++◌, [], None, Some, length, suc, IfErr, IfOk, IfSome, OnErr, OnOk, ℕ, option_map, slice_get, vec_capacity, vec_len, true, drop, slice_set};
 ghost use Rattle.std.specs.Option.{option_copied, option_map_or};
 ghost use Rattle.usb_model.specs.Setup.{endpoint_id};
 ghost use Rattle.usb_segment.specs.Places.{index_of};
@@ -10,6 +10,10 @@ ghost use Rattle.usb_device.specs.Pipe.{cleared, pipe_at};
 ghost use Rattle.usb_xhc.specs.Host.{rung, with_ring, with_pushed, with_blank, without_first};
 ghost use Rattle.usb_xhc.specs.Made.{slot_for};
 ghost use Rattle.usb_xhc.specs.Posts.{posted_one};
+ghost use Rattle.usb_xhc.specs.declared.packet.Packet.TheVariants.{Moved};
+ghost use Rattle.usb_xhc.specs.Ahead.{room};
+ghost use Rattle.usb_xhc.specs.Context.{trbs};
+ghost use Rattle.usb_xhc.specs.Skims.{controller_read, controller_skimmed, size_at};
 ghost use Rattle.usb_xhc.specs.Transaction.{offset_by, packet_room, working};
 ghost use Rattle.usb_xhc.specs.Slots.{changed, context_of, read_after, renewed, sends};
 ghost use Rattle.usb_xhc.specs.Controller.{AreLawfulAll, all_renewed, slot_changed, served_at, told_at, endpoint_in, code_for, carried_at, slot_in, run_of};
@@ -124,6 +128,39 @@ impl<D: Device> Controller<D> {
             Some(slot) => slot.serve_out(ep, bytes, &mut self.events),
             None => None,
         }
+    }
+
+    /// Whole packets in a row of the transfer at an endpoint's dequeue, from the device, whose bytes join these: at most so
+    /// many, and none that ends a TRB. How many they were; each is as one of `serve_in`, which tells no end.
+    #[tactic(auto, unfolding(crate::specs::Skims::controller_skimmed, crate::specs::Skims::controller_read))]
+    pub fn skim_in(&mut self, dev: DeviceNo, ep: EpAddr, most: usize, bytes: &mut Vec<u8>) -> usize
+        requires bytes { IfSome (slice_get self.old.slots dev) (λ s. IfSome (context_of s ep) (λ c. IfSome (working c) (λ _. vec_len bytes.old + room (trbs c) c.within ≤ vec_capacity bytes.old))) }
+        ensures most { result ≤ most }
+        ensures whole { (i : ℕ) → i < result → told_at (controller_skimmed dev ep (λ _. None) i self.old) dev ep ≡ Some (Moved (size_at self.old dev ep)) }
+        ensures controller { self.new ≡ controller_skimmed dev ep (λ _. None) result self.old }
+        ensures bytes { bytes.new.items ≡ controller_read dev ep result self.old bytes.old.items }
+        ensures capacity { vec_capacity bytes.old ≤ vec_capacity bytes.new }
+    {
+        let Some(slot) = self.slots.get_mut(usize::from(dev.number())) else {
+            return 0;
+        };
+        slot.skim_in(ep, most, bytes)
+    }
+
+    /// Whole packets in a row of the transfer at an endpoint's dequeue, to the device, of these bytes of the transfer: at
+    /// most so many, and none that ends a TRB. How many they were; each is as one of `serve_out`, which tells no end.
+    #[tactic(auto, unfolding(crate::specs::Skims::controller_skimmed))]
+    pub fn skim_out(&mut self, dev: DeviceNo, ep: EpAddr, most: usize, bytes: &[u8]) -> usize
+        requires size { IfSome (slice_get self.old.slots dev) (λ s. IfSome (context_of s ep) (λ c. IfSome (working c) (λ _. c.size ≤ (pipe_at s.pipes ep).size))) }
+        requires bytes { IfSome (slice_get self.old.slots dev) (λ s. IfSome (context_of s ep) (λ c. IfSome (working c) (λ f. offset_by f.trb c.within + (f.trb.length - c.within) ≤ length bytes.now))) }
+        ensures most { result ≤ most }
+        ensures whole { (i : ℕ) → i < result → told_at (controller_skimmed dev ep (λ s. sends s ep bytes.now) i self.old) dev ep ≡ Some (Moved (size_at self.old dev ep)) }
+        ensures controller { self.new ≡ controller_skimmed dev ep (λ s. sends s ep bytes.now) result self.old }
+    {
+        let Some(slot) = self.slots.get_mut(usize::from(dev.number())) else {
+            return 0;
+        };
+        slot.skim_out(ep, most, bytes)
     }
 
     /// Carries out the oldest order of the command ring, and posts its completion: the order, and the completion's code.

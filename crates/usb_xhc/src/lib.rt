@@ -7,16 +7,16 @@
 //!
 //! # Files
 //!
-//! - `controller.rt`: `Controller`: new, add, slot, into_slots; serve_in, serve_out; order, run_command, take_event;
-//!   ring_doorbell, renew, renew_all, push, blank, drop_front, clear_halt, unplug; orders_waiting, events_waiting,
-//!   command_ring, event_ring
+//! - `controller.rt`: `Controller`: new, add, slot, into_slots; serve_in, serve_out, skim_in, skim_out; order,
+//!   run_command, take_event; ring_doorbell, renew, renew_all, push, blank, drop_front, clear_halt, unplug;
+//!   orders_waiting, events_waiting, command_ring, event_ring
 //! - `slot.rt`: `DeviceSlot`: a device, whether it is gone, and its endpoints by their ids; the calls above at one
 //!   device, and context, ready, taken, answers_left, is_halted
 //! - `renewal.rt`: a device, its contexts and all slots are made new, piece by piece
 //! - `rings.rt`: a ring for each bulk or interrupt endpoint of a configuration
 //! - `context.rt`: `EndpointContext`: state, ring, and how far the transfer at dequeue has come. What is ahead of
-//!   dequeue: the transfer's first TRB, how far its bytes reach, where it stands some bytes on. The host's: push,
-//!   blank, drop_front, renew, ring_doorbell
+//!   dequeue: the transfer's first TRB, how far its bytes reach, where it stands some bytes on, how many whole packets
+//!   its TRB has left. The host's: push, blank, drop_front, renew, ring_doorbell
 //! - `transaction.rt`, `outcome.rt`, `packet.rt`: a packet: the bytes that it may have, what the device's act did, the
 //!   event where the transfer ended; `Packet`, what is told
 //! - `commands.rt`: Stop Endpoint with its pause, Reset Endpoint, Set TR Dequeue Pointer, and their codes
@@ -25,6 +25,8 @@
 //! - specs/ Ahead, Context, Transaction, Commands, Host: the TRBs of the transfer at dequeue; the endpoint; a
 //!   packet; an order; what the host does
 //! - specs/ NormalTrbs, Posts: a TRB as it is read from a ring; TRBs that are posted one behind another
+//! - specs/ Skims: whole packets in a row, inside one TRB; proofs/ Skims, SlotSkims, ControllerSkims: at an endpoint, at
+//!   its device's slot, and at the controller
 //!
 //! # Contracts
 //!
@@ -39,6 +41,9 @@
 //!   device: USB Transaction Error, halted, and the device as it was. All other endpoints, devices and orders stay
 //! - `serve_in`, clause `bytes`; `serve_out`: the packet's bytes behind those that were read, where it fits; what is
 //!   sent are the transfer's bytes from the TRB's place in its buffer on
+//! - `skim_in`, `skim_out`: what so many packets in a row leave, each as `serve_in` or `serve_out` leaves one: the same
+//!   slot, controller and bytes. Each moves a whole packet, and none ends its transfer: no event is posted. They are at
+//!   most as many as asked for; none is always right
 //! - `run_command`: None just where no order waits, and then nothing changed. Else the oldest order leaves, its
 //!   endpoint is as the order says, and the completion is posted with the order's address, behind the event of a
 //!   pause; the result is the order and that code. The endpoint's other fields, and all other endpoints, stay

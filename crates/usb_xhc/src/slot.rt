@@ -1,8 +1,11 @@
 //! A device's slot.
 
-ghost use Rattle.std.specs.Prelude.{◌≡◌, ◌+◌, ◌≤◌, ◌<◌, None, length, IfSome, option_map, slice_set, vec_capacity, vec_len, true, slice_get, IfOk, IfErr};
+ghost use Rattle.std.specs.Prelude.{◌≡◌, ◌+◌, ◌-◌, ◌≤◌, ◌<◌, None, length, IfSome, option_map, slice_set, vec_capacity, vec_len, true, slice_get, IfOk, IfErr};
 ghost use Rattle.usb_model.specs.Setup.{endpoint_id};
 ghost use Rattle.usb_device.specs.Pipe.{IsLawful, pipe_at, cleared, is_ready};
+ghost use Rattle.usb_xhc.specs.Ahead.{room};
+ghost use Rattle.usb_xhc.specs.Context.{trbs};
+ghost use Rattle.usb_xhc.specs.Skims.{AreWhole, read_skimmed, slot_skimmed};
 ghost use Rattle.usb_xhc.specs.Transaction.{offset_by, packet_room, working};
 ghost use Rattle.usb_xhc.specs.Slots.{context_of, serving, sends, slot_after, events_after, read_after, changed, order_code, order_events, renewed, slot_renewed};
 ghost use Rattle.usb_xhc.specs.Made.{slot_for};
@@ -109,6 +112,60 @@ impl<D: Device> DeviceSlot<D> {
         let packet = context.packet(&first, reach, bytes);
         let act = self.device.answer(ep, Some(packet), &mut []);
         Some(context.take(&first, reach, act, events))
+    }
+
+    /// Whole packets in a row of the transfer at an endpoint's dequeue, from the device, whose bytes join these: at most so
+    /// many, and none that ends a TRB. How many they were.
+    #[tactic(auto, unfolding(crate::specs::Skims::slot_skimmed, crate::specs::Skims::read_skimmed))]
+    pub fn skim_in(&mut self, ep: EpAddr, most: usize, bytes: &mut Vec<u8>) -> usize
+        requires bytes { IfSome (context_of self.old ep) (λ c. IfSome (working c) (λ _. vec_len bytes.old + room (trbs c) c.within ≤ vec_capacity bytes.old)) }
+        ensures most { result ≤ most }
+        ensures whole { AreWhole (λ _. None) ep result self.old }
+        ensures slot { self.new ≡ slot_skimmed (λ _. None) ep result self.old }
+        ensures bytes { bytes.new.items ≡ read_skimmed ep result self.old bytes.old.items }
+        ensures capacity { vec_capacity bytes.old ≤ vec_capacity bytes.new }
+    {
+        let Some(context) = &mut self.contexts[usize::from(ep.id())] else {
+            return 0;
+        };
+        let Some(first) = context.working() else {
+            return 0;
+        };
+        let few = context.whole_within(&first).min(most);
+        if self.gone || few == 0 {
+            return 0;
+        }
+        let size = usize::from(context.size());
+        let full = self.device.skim_in(ep, size, few, bytes);
+        context.skip(full);
+        full
+    }
+
+    /// Whole packets in a row of the transfer at an endpoint's dequeue, to the device, of these bytes of the transfer: at
+    /// most so many, and none that ends a TRB. How many they were.
+    #[tactic(auto, unfolding(crate::specs::Skims::slot_skimmed))]
+    pub fn skim_out(&mut self, ep: EpAddr, most: usize, bytes: &[u8]) -> usize
+        requires size { IfSome (context_of self.old ep) (λ c. IfSome (working c) (λ _. c.size ≤ (pipe_at self.old.pipes ep).size)) }
+        requires bytes { IfSome (context_of self.old ep) (λ c. IfSome (working c) (λ f. offset_by f.trb c.within + (f.trb.length - c.within) ≤ length bytes.now)) }
+        ensures most { result ≤ most }
+        ensures whole { AreWhole (λ s. sends s ep bytes.now) ep result self.old }
+        ensures slot { self.new ≡ slot_skimmed (λ s. sends s ep bytes.now) ep result self.old }
+    {
+        let Some(context) = &mut self.contexts[usize::from(ep.id())] else {
+            return 0;
+        };
+        let Some(first) = context.working() else {
+            return 0;
+        };
+        let few = context.whole_within(&first).min(most);
+        if self.gone || few == 0 {
+            return 0;
+        }
+        let size = usize::from(context.size());
+        let packets = context.packets(&first, few, bytes);
+        let full = self.device.skim_out(ep, size, few, packets);
+        context.skip(full);
+        full
     }
 
     /// Carries an order out at the endpoint of this id, and gives the code of its completion.

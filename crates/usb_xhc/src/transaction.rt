@@ -1,6 +1,6 @@
 //! A packet of the transfer where an endpoint stands.
 
-ghost use Rattle.std.specs.Prelude.{◌≡◌, ◌+◌, ◌≤◌, ◌<◌, ◌∷◌, [], Some, length, if◌then◌else◌};
+ghost use Rattle.std.specs.Prelude.{◌≡◌, ◌+◌, ◌*◌, ◌≤◌, ◌<◌, ◌∷◌, [], Some, drop, length, take, if◌then◌else◌};
 ghost use Rattle.usb_model.specs.Endpoint.Serve.{is_no_packet};
 ghost use Rattle.usb_xhc.specs.declared.packet.Packet.TheVariants.{Nak, Moved};
 ghost use Rattle.usb_model.specs.declared.response.Response.{Response};
@@ -57,6 +57,15 @@ impl EndpointContext {
     {
         let at = (first.trb.buffer % 0x4_0000) as usize + self.within() as usize;
         &bytes[at..at + self.packet_room(reach)]
+    }
+
+    /// So many whole packets for the device, one behind another, of these bytes of the transfer.
+    pub(crate) fn packets<'a>(&self, first: &TrbAt, count: usize, bytes: &'a [u8]) -> &'a [u8]
+        requires { offset_by first.now.trb self.now.within + count * self.now.size ≤ length bytes.now }
+        ensures { result.now ≡ take (count * self.now.size) (drop (offset_by first.now.trb self.now.within) bytes.now) }
+    {
+        let at = (first.trb.buffer % 0x4_0000) as usize + self.within() as usize;
+        &bytes[at..at + count * usize::from(self.size())]
     }
 
     /// The transfer ended with this code, so many bytes on.
