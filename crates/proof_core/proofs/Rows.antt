@@ -21,7 +21,7 @@ core_entries_on setup c [] behind = refl
 core_entries_on setup c (step ∷ steps) behind = ap (λ (es : List Entry). (step_core setup c step).entry ∷ es) (core_entries_on setup (step_core setup c step).core steps behind)
 
 -- and the core is that behind both
-core_behind_on : (setup : Setup) (c : Core) (first behind : List Step) → core_behind setup c (first ++ behind) ≡ core_behind setup (core_behind setup c first) behind
+pub core_behind_on : (setup : Setup) (c : Core) (first behind : List Step) → core_behind setup c (first ++ behind) ≡ core_behind setup (core_behind setup c first) behind
 unfolding core_behind
 core_behind_on setup c [] behind = refl
 core_behind_on setup c (step ∷ steps) behind = core_behind_on setup (step_core setup c step).core steps behind

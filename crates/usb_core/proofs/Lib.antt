@@ -1,5 +1,6 @@
 mod Instances
 mod Turns
+mod Bursts
 mod Reached
 mod Shown
 mod Unfinished

@@ -7,14 +7,15 @@
 //! # Files
 //!
 //! - `calls.rt`: `Core`: its parts, of which the invariant is that they show some world; a function a step
+//! - `bursts.rt`: steps in a row, in one call
 //! - `step.rt`: any step, with its payload
 //! - `runs.rt`: a list of steps, from a core in which nothing is open; of its run the laws hold with nothing asked
 //!   of the devices
 //! - `inventory.rt`: what handles haven't finished, part by part
 //! - `reads.rt`: what can be asked without a step; the controller, with its rings; the devices handed back
 //!   (`into_setup`)
-//! - specs/ Steps, Runs, Reads, Inventory: what comes of a step and its payload; the laws of a run, together; what
-//!   can be asked of a world; what handles haven't finished in it
+//! - specs/ Steps, Bursts, Runs, Reads, Inventory: what comes of a step and its payload; of steps in a row; the laws
+//!   of a run, together; what can be asked of a world; what handles haven't finished in it
 //! - `laws.rt`: the laws, and `instances`: bounds, calls and cuts, computed at worked rows
 //!
 //! # Contracts
@@ -63,6 +64,12 @@
 //!   whatever is refused gives request and payload back
 //! - `Core::take`: the oldest result goes out as Take says, with the payload of its transfer; want of memory leaves
 //!   each world that was shown shown
+//! - `Core::serve_burst`: is so many turns of Serve in a row, whose entries are told by a count: all but the last moved as
+//!   many bytes of one transfer, which goes on. It ends with the first that does something else, or with `most`
+//! - `Core::drain`: is the turns of Deliver and Command that are to be done until a result waits, an event before an
+//!   order, at most so many (`drained_steps`)
+//! - `Core::take_done`: is the turns of a Take and of an Answer with Stop, which is done; the payload comes with it. Where
+//!   no result waits nothing changes. It takes no memory
 //! - `Core::step`: any step: its entry is the world's turn's. A payload that was given and not taken comes back; with
 //!   a Take the payload comes out that stands with the first result. Only Submit, Take and an Answer with Again or
 //!   AgainWith can find no memory; then the payload comes back, and each world that was shown is shown. Premise: a
@@ -93,6 +100,7 @@
 //!   cancelled or timed out
 #![tactic(auto)]
 
+mod bursts;
 mod calls;
 mod inventory;
 pub mod laws;
@@ -104,4 +112,4 @@ pub use calls::Core;
 pub use inventory::WaitingResult;
 pub use runs::{Stopped, run};
 pub use step::{NoMemory, Stepped};
-pub use usb_steps::{Delivered, Pending, Setup, Taken, Unaccepted, Unadded};
+pub use usb_steps::{Burst, Delivered, Pending, Setup, Taken, Unaccepted, Unadded, Whole};

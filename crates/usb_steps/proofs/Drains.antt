@@ -11,14 +11,9 @@ use Rattle.proof_design.specs.Shows.{Core, Shows}
 use Rattle.proof_design.proofs.Calls.Whole.{whole_steps}
 use Rattle.proof_core.specs.State.{IsState, Keeps, State}
 use Rattle.proof_core.specs.Steps.{core_behind}
+use Rattle.proof_core.proofs.Rows.{core_behind_on}
 use Rattle.usb_steps.specs.Drains.{DrainsOne, drained_steps, next_drained}
 use Rattle.usb_steps.specs.Pending.{does_something}
-
--- of two rows of steps the core is that behind both
-behind_both : (setup : Setup) (c : Core) (first behind : List Step) → core_behind setup c (first ++ behind) ≡ core_behind setup (core_behind setup c first) behind
-unfolding core_behind
-behind_both setup c [] behind = refl
-behind_both setup c (step ∷ steps) behind = behind_both setup (step_core setup c step).core steps behind
 
 -- one step more, at the head
 drained_more : (most : ℕ) (setup : Setup) (w : World) (step : Step) → next_drained setup w ≡ Some step → drained_steps (suc most) setup w ≡ step ∷ drained_steps most setup (turn setup w step).world
@@ -75,7 +70,7 @@ module _ {P : Type 0} where
       let core = core_behind setup c has.steps in
       let done = one setup has.world core has.keeps has.shows in
       let step = done.0 in
-      let both = sym (behind_both setup c has.steps (step ∷ [])) in
+      let both = sym (core_behind_on setup c has.steps (step ∷ [])) in
       let world = (turn setup has.world step).world in
       record {
         steps = has.steps ++ (step ∷ []);

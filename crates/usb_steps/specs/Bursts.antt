@@ -23,6 +23,11 @@ whole_entries (Some x) count = replicate count (whole_entry x)
 abbrev pub burst_entries : Burst → List Entry
 burst_entries x = whole_entries x.each x.full ++ x.last ∷ []
 
+-- a packet did something else than those before it; with none before it, it didn't move bytes of a transfer that goes on
+abbrev pub Differs : Option Whole → Entry → Type 0
+Differs None last = (x : Whole) → last ≡ whole_entry x → ⊥
+Differs (Some x) last = last ≡ whole_entry x → ⊥
+
 -- the item where the controller works is a transfer of this name and number, and the endpoint's packets have this size
 pub record IsWholeAt {P : Type 0} (s : State P) (d e : ℕ) (x : Whole) (item : ℕ) : Type 0 where
   pub held : IsHolder s d e (Some x.owner)

@@ -1,6 +1,6 @@
 //! Packets in a row at an endpoint, in one call.
 
-ghost use Rattle.std.specs.Prelude.{◌≡◌, ◌+◌, ◌≤◌, ◌<◌, ◌∷◌, [], ◌++◌, ℕ, max, replicate, true, IfSome, IsSome, Some};
+ghost use Rattle.std.specs.Prelude.{◌≡◌, ◌+◌, ◌≤◌, ◌<◌, ◌∷◌, [], ◌++◌, ℕ, max, replicate, false, true, IfNone, IfSome, IsSome, Some};
 ghost use Rattle.usb_tables.specs.Flights.{item_at};
 ghost use Rattle.usb_model.specs.declared.step.Step.TheVariants.{Serve};
 ghost use Rattle.usb_transfer.specs.declared.transfer.Transfer.{Transfer as InFlight};
@@ -11,7 +11,7 @@ ghost use Rattle.proof_core.specs.Packets.{CanSkim, IsSkimmed, Skims, out_of};
 ghost use Rattle.proof_core.specs.Payloads.{StillCarries};
 ghost use Rattle.proof_core.specs.State.{IsState};
 ghost use Rattle.proof_core.specs.Steps.{DoesCoreSteps};
-ghost use Rattle.usb_steps.specs.Bursts.{IsWholeAt, burst_entries, whole_entry};
+ghost use Rattle.usb_steps.specs.Bursts.{Differs, IsWholeAt, burst_entries, whole_entry};
 
 use crate::parts::Parts;
 use usb_device::Device;
@@ -44,12 +44,14 @@ pub struct Burst {
 
 impl<P, D: Device> Parts<P, D> {
     /// Packets in a row where the controller works at an endpoint, each as one of `serve`: at most so many, and at least
-    /// one. They end where one doesn't move a packet's bytes of the same transfer, which goes on.
+    /// one. They end with the first that doesn't do what the one before it did: move as many bytes of the same transfer,
+    /// which goes on.
     pub fn serve_burst(&mut self, dev: DeviceNo, ep: EpAddr, most: u32) -> Burst
         requires { IsState self.old }
         ensures turns { DoesCoreSteps self.old (replicate (result.full + 1) (Serve dev ep)) (burst_entries result) self.new }
         ensures carries { StillCarries self.old self.new }
         ensures few { result.full + 1 ≤ max 1 most }
+        ensures ends { result.full + 1 < most → Differs result.each result.last }
     {
         let first = self.serve(dev, ep);
         let Some(each) = whole_of(&first) else {
@@ -81,6 +83,7 @@ impl<P, D: Device> Parts<P, D> {
         ensures turns { DoesCoreSteps self.old (replicate (result.0 + 1) (Serve dev ep)) (replicate result.0 (whole_entry each.now) ++ result.1 ∷ []) self.new }
         ensures carries { StillCarries self.old self.new }
         ensures few { result.0 + 1 ≤ most }
+        ensures ends { result.0 + 1 < most → Differs (Some each.now) result.1 }
     {
         let mut full = 0;
         loop {
@@ -199,7 +202,8 @@ fn skim<P, D: Device>(
 
 /// What a packet did, where it moved bytes of a transfer that goes on.
 fn whole_of(entry: &Entry) -> Option<Whole>
-    ensures { IfSome result (λ x. entry.now ≡ whole_entry x) }
+    ensures whole { IfSome result (λ x. entry.now ≡ whole_entry x) }
+    ensures other { IfNone result (Differs None entry.now) }
 {
     let owner = entry.owner?;
     match entry.reply {
@@ -214,7 +218,8 @@ fn whole_of(entry: &Entry) -> Option<Whole>
 
 /// Whether a packet did this.
 fn is_it(entry: &Entry, each: &Whole) -> bool
-    ensures { result ≡ true → entry.now ≡ whole_entry each.now }
+    ensures whole { result ≡ true → entry.now ≡ whole_entry each.now }
+    ensures other { result ≡ false → Differs (Some each.now) entry.now }
 {
     match whole_of(entry) {
         Some(x) => x == *each,
