@@ -1,6 +1,6 @@
 mod Instances
 mod Turns
-mod Bursts
+mod InRows
 mod Reached
 mod Shown
 mod Unfinished

@@ -84,8 +84,8 @@
 //! - `Core::pending`: what is to be done next, by the world: the first endpoint, by device and address in a circle
 //!   from behind one, where a packet does something; whether Command, Deliver and Take do; whether a transfer is in
 //!   its callback
-//! - `Core::has_order`, `has_event`, `has_result`: the same of Command, of Deliver and of Take alone, without a look
-//!   at the endpoints
+//! - `Core::has_packet`, `has_order`, `has_event`, `has_result`: the same of one endpoint's packet, of Command, of Deliver
+//!   and of Take alone, without a look at all endpoints
 //! - `Core::device_of`, `owner`, `holder`, `config`, `next_number`, `callback_at`, `result_at`, `orders_waiting`,
 //!   `events_waiting`: who has and holds what in the world, a transfer in its callback, a result that waits, and how
 //!   many orders and events wait

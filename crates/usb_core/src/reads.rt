@@ -7,7 +7,7 @@ ghost use Rattle.usb_model.specs.Setup.{Setup as ModelSetup, interface_of};
 ghost use Rattle.usb_model.specs.World.{World};
 ghost use Rattle.proof_core.specs.Made.{setup_of};
 ghost use Rattle.proof_core.specs.State.{ShowsWorld};
-ghost use Rattle.usb_steps.specs.Pending.{IsPending, does_something};
+ghost use Rattle.usb_steps.specs.Pending.{IsPending, does_something, serves};
 ghost use Rattle.usb_core.specs.Reads.{IsLeft, would_expire};
 
 use crate::calls::Core;
@@ -45,6 +45,14 @@ impl<P, D: Device> Core<P, D> {
         ensures { (setup : ModelSetup) (w : World) → ShowsWorld setup self.now w → IsPending setup w after result }
     {
         self.parts.pending(after)
+    }
+
+    /// Whether a packet does something at an endpoint: there is a transfer to serve, and the device is ready or goes on in
+    /// its script. Takes no memory.
+    pub fn has_packet(&self, dev: DeviceNo, ep: EpAddr) -> bool
+        ensures { (setup : ModelSetup) (w : World) → ShowsWorld setup self.now w → result ≡ serves setup w dev ep }
+    {
+        self.parts.has_packet(dev, ep)
     }
 
     /// Whether an order waits for the controller. Takes no memory.

@@ -3,3 +3,4 @@ pub mod Booked
 pub mod Records
 pub mod Kept
 pub mod Timers
+pub mod Rows

@@ -31,6 +31,21 @@ pub struct Whole {
     pub size: u32,
 }
 
+impl Whole {
+    /// The entry of such a packet.
+    pub fn entry(&self) -> Entry
+        ensures { result ≡ whole_entry self.now }
+    {
+        Entry {
+            owner: Some(self.owner),
+            reply: Reply::Moved {
+                n: self.n,
+                bytes: self.size,
+            },
+        }
+    }
+}
+
 /// Packets in a row at an endpoint: so many that each did the same, and what the one behind them did.
 #[derive(Debug, Drop)]
 pub struct Burst {

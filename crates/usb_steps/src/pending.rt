@@ -70,15 +70,15 @@ impl<P, D: Device> Parts<P, D> {
     {
         for i in 0..120_usize {
             let (dev, ep) = end_of((start + i) % 120);
-            if self.is_to_serve(dev, ep) {
+            if self.has_packet(dev, ep) {
                 return Some((dev, ep));
             }
         }
         None
     }
 
-    /// Whether a packet does something at an endpoint. Where its line is empty nothing else is looked at.
-    fn is_to_serve(&self, dev: DeviceNo, ep: EpAddr) -> bool
+    /// Whether a packet does something at an endpoint. Where its line is empty nothing else is looked at. Takes no memory.
+    pub fn has_packet(&self, dev: DeviceNo, ep: EpAddr) -> bool
         ensures { (setup : Setup) (w : World) (c : Core) → Keeps setup self.now c → Shows setup w c → result ≡ serves setup w dev ep }
     {
         if self.flights.len(dev, ep) == 0 || self.claims.holder(dev, ep).is_none() {

@@ -5,8 +5,8 @@ use Rattle.usb_tables.specs.Flights.{line_at}
 use Rattle.proof_core.specs.State.{State}
 use Rattle.proof_core.specs.Works.{IsHolder}
 use Rattle.usb_steps.proofs.Worth.{with_holder, without_holder, without_line}
-use Rattle.usb_steps.proofs.parts.Parts.is_to_serve.Goals.{then-len-eq0-via-then-len-eq0, then-len-eq0-via-else-len-eq0+then-is_none}
-use Rattle.usb_steps.proofs.parts.Parts.is_to_serve.Goals as goal
+use Rattle.usb_steps.proofs.parts.Parts.has_packet.Goals.{then-len-eq0-via-then-len-eq0, then-len-eq0-via-else-len-eq0+then-is_none}
+use Rattle.usb_steps.proofs.parts.Parts.has_packet.Goals as goal
 
 pub returns-then-len-eq0 : goal.returns-then-len-eq0
 returns-then-len-eq0 g c = λ setup w core keeps shows. elim c.then-len-eq0.branch [

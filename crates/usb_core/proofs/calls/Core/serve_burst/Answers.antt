@@ -5,7 +5,7 @@ use Rattle.proof_core.specs.State.{State}
 use Rattle.proof_core.specs.Steps.{TurnsInRow}
 use Rattle.proof_core.proofs.Rows.{runs, shows_behind}
 use Rattle.usb_steps.specs.Bursts.{burst_entries}
-use Rattle.usb_core.proofs.bursts.Core.serve_burst.Goals as goal
+use Rattle.usb_core.proofs.calls.Core.serve_burst.Goals as goal
 
 pub invariant_of-self : goal.invariant_of-self
 invariant_of-self g c = shows_behind c.self.inside.parts c.serve_burst.new.self (replicate (c.serve_burst.result.full + 1) (Serve c.args.dev c.args.ep)) (burst_entries c.serve_burst.result) c.serve_burst.ensures.turns c.self.invariant

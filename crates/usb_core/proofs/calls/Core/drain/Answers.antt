@@ -1,7 +1,7 @@
 use Rattle.std.proofs.Common.{subst, sym}
 use Rattle.proof_core.specs.State.{ShowsWorld, State}
-use Rattle.usb_core.proofs.Bursts.{drains}
-use Rattle.usb_core.proofs.bursts.Core.drain.Goals as goal
+use Rattle.usb_core.proofs.InRows.{drains}
+use Rattle.usb_core.proofs.calls.Core.drain.Goals as goal
 
 pub invariant_of-self : goal.invariant_of-self
 invariant_of-self g c =

@@ -1,0 +1,71 @@
+-- Steps in a row, each at a place of its own.
+use Rattle.std.specs.Prelude.{◌≡◌, ℕ, zero, suc, false, true, Bool, List, [], ◌∷◌, ◌++◌, drop, length, map, Some}
+use Rattle.usb_model.specs.declared.entry.Entry.{Entry}
+use Rattle.usb_model.specs.declared.reply.Reply.{Reply}
+use Rattle.usb_model.specs.declared.reply.Reply.TheVariants.{Ended, Moved, Settled}
+use Rattle.usb_model.specs.declared.step.Step.{Step}
+use Rattle.usb_model.specs.declared.step.Step.TheVariants.{Command, Deliver}
+use Rattle.usb_model.specs.Setup.{Setup}
+use Rattle.usb_model.specs.World.{World, turn}
+use Rattle.usb_model.specs.World.Journal.{run_from}
+use Rattle.usb_core.specs.Public.{Kept, Taken, does_something}
+use Rattle.usb_steps.specs.Pending.{serves}
+use Rattle.usb_journal.specs.declared.place.Place.{Place}
+use Rattle.usb_journal.specs.declared.rows.Row.{Row}
+use Rattle.usb_journal.specs.Booked.{Booked, Sees, asked, asks, entries_of, world_where}
+use Rattle.usb_journal.specs.Seen.{Positioned}
+
+-- the places that a book has more than before
+abbrev pub new_places : {P : Type 0} → (old new : Booked P) → List Place
+new_places old new = drop (length old.journal) new.journal
+
+-- steps in a row were made for the bearer of a position: one place each, behind the journal so far, with the entries of the run there
+pub record EntersRow {P : Type 0} (steps : List Step) (old : Booked P) (before : Positioned) (row : Row) (new : Booked P) (after : Positioned) : Type 0 where
+  pub first : row.first ≡ length old.journal
+  pub count : row.count ≡ length steps
+  pub journal : new.journal ≡ old.journal ++ new_places old new
+  pub each : map asked (new_places old new) ≡ asks before.number old.moment steps
+  pub entries : entries_of (new_places old new) ≡ run_from old.setup (world_where old.setup old.journal) steps
+  pub own : after.own ≡ before.own ++ new_places old new
+  pub number : after.number ≡ before.number
+  pub saw : Sees before old.journal after new.journal
+  pub setup : new.setup ≡ old.setup
+  pub moment : new.moment ≡ old.moment
+
+-- packets at an endpoint may stop behind one with this reply, in the world behind it: it moved no bytes of a transfer that goes on; and where it ended one, no other packet does anything there
+abbrev pub MayStop : Setup → World → (d e : ℕ) → Reply → Type 0
+MayStop setup w d e (Moved n bytes) = ⊥
+MayStop setup w d e (Ended n code) = serves setup w d e ≡ false
+MayStop setup w d e reply = Unit {0}
+
+-- the same of the last of these
+abbrev pub MayStopBehind : Setup → World → (d e : ℕ) → List Entry → Type 0
+MayStopBehind setup w d e [] = ⊥
+MayStopBehind setup w d e (x ∷ []) = MayStop setup w d e x.reply
+MayStopBehind setup w d e (x ∷ y ∷ xs) = MayStopBehind setup w d e (y ∷ xs)
+
+-- a packet ended a transfer
+abbrev pub is_end : Reply → Bool
+is_end (Ended n code) = true
+is_end reply = false
+
+-- none of these ended a transfer
+abbrev pub EndNone : List Entry → Type 0
+EndNone [] = Unit {0}
+EndNone (x ∷ xs) = (is_end x.reply ≡ false) × EndNone xs
+
+-- an errand ended
+abbrev pub is_settled : Reply → Bool
+is_settled (Settled ep errand ok) = true
+is_settled reply = false
+
+-- of so many events from a world on: by none of them an errand ended, and behind none of them an order waits
+abbrev pub AreQuiet : Setup → World → ℕ → Type 0
+AreQuiet setup w zero = Unit {0}
+AreQuiet setup w (suc count) =
+    (is_settled (turn setup w Deliver).entry.reply ≡ false) × (does_something setup (turn setup w Deliver).world Command ≡ false) × AreQuiet setup (turn setup w Deliver).world count
+
+-- each payload is what is kept under the name and the number that its callback is given
+abbrev pub AreKept : {P : Type 0} → Kept P → List (Taken P) → Type 0
+AreKept kept [] = Unit {0}
+AreKept kept (t ∷ ts) = (kept t.returned.h t.returned.n ≡ Some t.payload) × AreKept kept ts
