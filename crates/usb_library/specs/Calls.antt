@@ -1,6 +1,7 @@
 -- What contracts see of the library's values, and what a call makes.
-use Rattle.std.specs.Prelude.{◌≡◌, ◌≤◌, ◌+◌, ◌-◌, ◌^◌, ◌||◌, not, find, is_some, min, ℕ, Bool, true, false, List, [], ◌∷◌, ◌++◌, length, map, Option, Some, None}
+use Rattle.std.specs.Prelude.{◌≡◌, ◌≤◌, ◌+◌, ◌-◌, ◌^◌, ◌||◌, not, find, is_some, min, ℕ, Bool, true, false, List, [], ◌∷◌, ◌++◌, drop, length, map, Option, Some, None}
 use Rattle.atomic_table.specs.Seated.{TableId}
+use Rattle.usb_model.specs.declared.entry.Entry.{Entry}
 use Rattle.usb_model.specs.declared.refused.Refused.{Refused}
 use Rattle.usb_model.specs.declared.reply.Reply.{Reply}
 use Rattle.usb_model.specs.declared.reply.Reply.TheVariants.{Idle, Refused as IsRefused}
@@ -9,11 +10,13 @@ use Rattle.usb_model.specs.declared.step.Step.TheVariants.{Command, Deliver, Tak
 use Rattle.usb_model.specs.Setup.{Setup}
 use Rattle.usb_model.specs.World.{World}
 use Rattle.usb_model.specs.World.Due.{due}
+use Rattle.usb_model.specs.World.Journal.{run_from}
 use Rattle.usb_journal.specs.declared.events.Events.{Events}
 use Rattle.usb_journal.specs.declared.place.Place.{Place}
+use Rattle.usb_journal.specs.declared.rows.Row.{Row}
 use Rattle.usb_core.specs.Public.{IsPending, Pending, does_something}
 use Rattle.usb_steps.specs.Pending.{in_circle, serves}
-use Rattle.usb_journal.specs.Booked.{HasEvents, IsRun, asked, asks, dated, next_entry, world_where}
+use Rattle.usb_journal.specs.Booked.{HasEvents, IsRun, asked, asks, dated, entries_of, next_entry, world_where}
 use Rattle.usb_journal.specs.Seen.{Receipted, places_of, receipts_from}
 use Rattle.usb_receipts.specs.Rule.{BeginsWith}
 
@@ -50,6 +53,26 @@ pub record Makes (setup : Setup) (step : Step) (old new : Calling) (r : Receipte
   pub place : r.place ≡ length before
   pub saw : new.seen ≡ before ++ r.entry ∷ []
   pub entry : r.entry.entry ≡ next_entry setup before step
+
+-- a call makes steps in a row: one place each, consecutive and above the caller's earlier ones, which have these steps of this caller, as the last of its own, with the entries of the definitions' run from where that of the journal before them ends
+pub record MakesRow (setup : Setup) (steps : List Step) (old : Calling) (row : Row) (new : Calling) : Type 0 where
+  pub before : List Place
+  pub moment : ℕ
+  pub places : List Place
+  pub first : row.first ≡ length before
+  pub count : row.count ≡ length steps
+  pub above : old.position ≤ row.first
+  pub each : map asked places ≡ asks old.number moment steps
+  pub entries : entries_of places ≡ run_from setup (world_where setup before) steps
+  pub own : new.own ≡ old.own ++ places
+  pub number : new.number ≡ old.number
+  pub missed : new.missed ≡ old.missed
+  pub began : BeginsWith old.seen before
+  pub saw : new.seen ≡ before ++ places
+
+-- the entries of a row that a caller made last
+abbrev pub row_entries : Row → Calling → List Entry
+row_entries row c = entries_of (drop row.first c.seen)
 
 -- what a caller had seen, by its number
 abbrev pub position_of : Calling → ℕ × List Place

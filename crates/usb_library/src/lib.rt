@@ -8,6 +8,7 @@
 //! - `opening.rt`: what a library is made of, before a type names it
 //! - `library.rt`, `calls.rt`, `transfers.rt`: the library; its calls, those of handles and of the controller, those
 //!   of transfers and of time
+//! - `rows.rt`: calls that make steps in a row, under one hold of the lock
 //! - `caller.rt`, `answered.rt`: a caller; what a call gave
 //! - `callers.rt`, `look.rt`: how many callers were made, and the parts of the ledger for those to come; where the next packet
 //!   is looked for
@@ -16,7 +17,7 @@
 //! - `laws.rt`: that whoever has new work by a step is named by the rule
 //! - `met.rt`: want of memory that a worker met, and callbacks that ended early
 //! - `finish.rt`: the end: the journal, or which callers are missing
-//! - specs/Calls: what a call makes (`Makes`), what a tick does (`Ticks`), and what a caller sees who looks (`LooksOn`)
+//! - specs/Calls: what a call makes (`Makes`, `MakesRow`), what a tick does (`Ticks`), and what a caller sees who looks (`LooksOn`)
 //! - specs/Wakes: what work each worker has (`HasWork`), for whom a step makes some (`work_of`), and that this names all who
 //!   have more than before (`Wakes`)
 //!
@@ -34,6 +35,13 @@
 //!   as the last of the caller's own; what is answered is the entry there, which is that of the definitions' turn where
 //!   the run of the journal before it ends. A refused step has its place too. An error is want of memory: the caller is
 //!   as it was, but that it counts it (`Caller::missed`), and what was given comes back
+//! - `serve_all`, `deliver_all`, `take_all`: the call makes steps in a row (`MakesRow`), at most as many as are wanted: its
+//!   places are consecutive, above the caller's earlier ones and the last of its own, each of this caller, with the step
+//!   that it names and the entry of the definitions' run from where the journal before them ends. `serve_all` makes at
+//!   least one packet, and stops behind one that moved no bytes, or that ended a transfer behind which no packet does
+//!   anything; `deliver_all` stops where no event waits; `take_all` gives the results with what was kept, and gives none
+//!   only where none waits. They have no receipts: the caller's own places and what it has seen say the same. An error
+//!   is want of memory before the first of them
 //! - `tick`: `Ticks`: one Expire for each transfer that is due at the moment, which is `now` or later, in the
 //!   definitions' order, at consecutive places behind the journal so far, which began with all that the caller had seen,
 //!   and no other step
@@ -77,6 +85,7 @@ mod library;
 mod look;
 mod met;
 mod opening;
+mod rows;
 mod transfers;
 mod wakes;
 

@@ -1,0 +1,119 @@
+//! Calls that make steps in a row, under one hold of the lock.
+//!
+//! Each makes what single calls would make one behind another with nobody between, and wakes whom those would wake, once. How
+//! many steps it makes at most is its caller's to say: so long others wait for the lock. An error is want of memory: then
+//! nothing changed, and nothing is left of the call.
+
+ghost use Rattle.std.specs.Prelude.{◌≡◌, ◌<◌, ◌≤◌, [], false, IfOk, OnErr, Some, map, max, replicate};
+ghost use Rattle.usb_model.specs.declared.step.Step.TheVariants.{Deliver, Serve, Take};
+ghost use Rattle.usb_core.specs.Public.{called_entry, does_something};
+ghost use Rattle.usb_journal.specs.Booked.{world_where};
+ghost use Rattle.usb_journal.specs.Rows.{MayStopBehind};
+ghost use Rattle.usb_library.specs.Calls.{MakesRow, misses, row_entries};
+ghost use Rattle.usb_library.specs.Wakes.{WakesSince};
+
+use crate::caller::Caller;
+use crate::library::Library;
+use crate::wakes::{Part, Work};
+use std::alloc::AllocError;
+use std::sync::Wait;
+use usb_core::Taken;
+use usb_device::Device;
+use usb_journal::{Naming, Recorder, Row};
+use usb_model::{DeviceNo, EpAddr};
+
+impl<L: Naming, P: Drop, D: Device, J: Recorder> Library<L, P, D, J> {
+    /// A device answers packets in a row at an endpoint (USB 2.0, 8.5): at most so many, and at least one. They end behind one
+    /// that moved no bytes; one that ended a transfer is the last only where no other packet does anything there.
+    pub fn serve_all<R: Wait>(
+        &self,
+        rt: &R,
+        caller: &mut Caller<L>,
+        dev: DeviceNo,
+        ep: EpAddr,
+        most: u32,
+    ) -> Result<Row, AllocError>
+        ensures made { IfOk result (λ row. MakesRow L.setup (replicate row.count (Serve dev ep)) caller.old row caller.new) }
+        ensures some { IfOk result (λ row. (0 < row.count) × (row.count ≤ max 1 most)) }
+        ensures ends { IfOk result (λ row. row.count < most → MayStopBehind L.setup (world_where L.setup caller.new.seen) dev ep (row_entries row caller.new)) }
+        ensures refused { OnErr result (caller.new ≡ misses caller.old) }
+    {
+        let mut guarded = self.guarded.lock(rt);
+        guarded.look.serve(dev, ep);
+        let made = guarded.book.serve_all(dev, ep, most, &mut caller.position);
+        drop(guarded);
+        let served = caller.counted(made)?;
+        let work = if served.ended {
+            Work::Of(Part::Events)
+        } else {
+            Work::None
+        };
+        self.wake_row(rt, caller, served.row, work);
+        Ok(served.row)
+    }
+
+    /// The oldest events are handled (xHCI 1.2, 4.11.3; libusb 1.0, `libusb_handle_events`), as many as there are and at most so
+    /// many.
+    pub fn deliver_all<R: Wait>(
+        &self,
+        rt: &R,
+        caller: &mut Caller<L>,
+        most: u32,
+    ) -> Result<Row, AllocError>
+        ensures made { IfOk result (λ row. MakesRow L.setup (replicate row.count Deliver) caller.old row caller.new) }
+        ensures few { IfOk result (λ row. row.count ≤ most) }
+        ensures ends { IfOk result (λ row. row.count < most → does_something L.setup (world_where L.setup caller.new.seen) Deliver ≡ false) }
+        ensures refused { OnErr result (caller.new ≡ misses caller.old) }
+    {
+        let made = self
+            .guarded
+            .lock(rt)
+            .book
+            .deliver_all(most, &mut caller.position);
+        let delivered = caller.counted(made)?;
+        let work = if delivered.quiet {
+            Work::None
+        } else {
+            Work::Of(Part::Controller)
+        };
+        self.wake_row(rt, caller, delivered.row, work);
+        Ok(delivered.row)
+    }
+
+    /// The oldest results go out to their callbacks, at most so many, and stand in `taken`, in order, each with what was kept
+    /// with its transfer (libusb 1.0, `libusb_transfer_cb_fn`): whoever takes them calls these, with no lock held, and tells
+    /// the verdict of each. Where memory is refused to one, they are those before it; an error only where that is the first.
+    pub fn take_all<R: Wait>(
+        &self,
+        rt: &R,
+        caller: &mut Caller<L>,
+        most: u32,
+        taken: &mut Vec<Taken<P>>,
+    ) -> Result<Row, AllocError>
+        requires empty { taken.old.items ≡ [] }
+        ensures made { IfOk result (λ row. MakesRow L.setup (replicate row.count Take) caller.old row caller.new) }
+        ensures entries { IfOk result (λ row. row_entries row caller.new ≡ map (λ t. called_entry (Some t.returned)) taken.new.items) }
+        ensures few { IfOk result (λ row. row.count ≤ most) }
+        ensures none { IfOk result (λ row. row.count ≡ 0 → 0 < most → does_something L.setup (world_where L.setup caller.new.seen) Take ≡ false) }
+        ensures refused { OnErr result ((caller.new ≡ misses caller.old) × (taken.new.items ≡ [])) }
+    {
+        let made = self
+            .guarded
+            .lock(rt)
+            .book
+            .take_all(most, taken, &mut caller.position);
+        let row = caller.counted(made)?;
+        self.wake_row(rt, caller, row, Work::None);
+        Ok(row)
+    }
+
+    /// Those are woken who wait for a change. `work` names each worker that has work since the caller's steps of this row, which
+    /// are its last, and had none before.
+    fn wake_row<R: Wait>(&self, rt: &R, caller: &Caller<L>, row: Row, work: Work)
+        requires { WakesSince L.setup caller.now.seen row.first work }
+    {
+        if row.count > 0 {
+            self.watchers.wake(rt, work);
+        }
+    }
+}
