@@ -64,7 +64,8 @@
 //! - `Parts::device_of`, `owner`, `holder`, `config`, `next_number`, `callback`, `ended_at`, `line_len`, `number_at`,
 //!   `orders_waiting`, `events_waiting`: what the parts keep there; `is_halted`, `answers_left`: of a device that tells
 //!   how far it is
-//! - `Parts::has_order`, `has_event`, `has_result`: the same of Command, of Deliver and of Take alone
+//! - `Parts::has_packet`, `has_order`, `has_event`, `has_result`: the same of one endpoint's packet, of Command, of Deliver
+//!   and of Take alone
 //! - `Setup::add`: a device joins the setup, with the scripts that it has, wherever it stands in them; refused, it
 //!   comes back as it is, with its configuration: InvalidParam just where there are four already, and NoMem else.
 //!   Premise: the device takes packets as long as its configuration says, which `TableDevice::new` ensures

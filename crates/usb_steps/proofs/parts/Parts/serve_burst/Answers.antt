@@ -15,4 +15,4 @@ pub serve_on-rest-requires-clause-state : goal.serve_on-rest-requires-clause-sta
 serve_on-rest-requires-clause-state g c = shows_again c.args.self.now c.serve-first.new.self (Serve c.args.dev c.args.ep) c.serve-first.result c.serve-first.ensures.done c.requires
 
 pub returns-clause-turns : goal.returns-clause-turns
-returns-clause-turns g c = row_first c.args.self.now c.serve-first.new.self c.serve_on-rest.new.self (Serve c.args.dev c.args.ep) c.serve-first.result (whole_entry c.in-Some.each) c.serve_on-rest.result.1 c.serve_on-rest.result.0 c.in-Some.ensures c.serve-first.ensures.done c.serve_on-rest.ensures.turns
+returns-clause-turns g c = row_first c.args.self.now c.serve-first.new.self c.serve_on-rest.new.self (Serve c.args.dev c.args.ep) c.serve-first.result (whole_entry c.in-Some.each) c.serve_on-rest.result.1 c.serve_on-rest.result.0 c.in-Some.ensures.whole c.serve-first.ensures.done c.serve_on-rest.ensures.turns

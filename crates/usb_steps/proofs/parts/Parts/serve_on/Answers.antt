@@ -16,7 +16,7 @@ pub loop-full-preserved : goal.loop-full-preserved
 loop-full-preserved g c = (
   c.serve_row-row.ensures.state,
   omega (arith, c.serve_row-row.ensures.few, c.loop-full.invariant.1, c.if-full-most.false),
-  row_more c.args.self.now c.serve_row-row.new.self (Serve c.args.dev c.args.ep) (whole_entry c.args.each.now) c.serve_row-row.result.1 (c.loop-full.full + c.serve_row-row.result.0) (c.if-not-is_it.ensures refl)
+  row_more c.args.self.now c.serve_row-row.new.self (Serve c.args.dev c.args.ep) (whole_entry c.args.each.now) c.serve_row-row.result.1 (c.loop-full.full + c.serve_row-row.result.0) (c.if-not-is_it.ensures.whole refl)
       (row_on c.args.self.now c.loop-full.self c.serve_row-row.new.self (Serve c.args.dev c.args.ep) (whole_entry c.args.each.now) c.serve_row-row.result.1 c.loop-full.full c.serve_row-row.result.0 c.loop-full.invariant.2 c.serve_row-row.ensures.turns),
   still_on c.args.self.now c.loop-full.self c.serve_row-row.new.self c.loop-full.invariant.3 c.serve_row-row.ensures.carries,
 )
