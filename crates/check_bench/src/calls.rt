@@ -61,6 +61,19 @@ impl Calls {
         let _ = self.core.serve(dev, ep);
     }
 
+    /// The device answers so many packets in a row.
+    #[inline(never)]
+    pub fn serve_row(&mut self, dev: DeviceNo, ep: EpAddr, packets: u32) {
+        let mut left = packets;
+        for _ in 0..packets {
+            if left == 0 {
+                return;
+            }
+            let burst = self.core.serve_burst(dev, ep, left);
+            left = left.saturating_sub(burst.full.saturating_add(1));
+        }
+    }
+
     /// The oldest event is handled.
     #[inline(never)]
     pub fn deliver(&mut self) {

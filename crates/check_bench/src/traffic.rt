@@ -157,8 +157,9 @@ impl Traffic {
 
     fn serve(&mut self, at: u64) {
         if let Some(target) = self.target(at) {
-            for _ in 0..self.shape.packets() {
-                self.calls.serve(target.device, target.ep);
+            match self.shape.packets() {
+                1 => self.calls.serve(target.device, target.ep),
+                packets => self.calls.serve_row(target.device, target.ep, packets),
             }
         }
     }

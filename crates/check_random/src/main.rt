@@ -8,6 +8,7 @@
 //! - `dice.rt`: numbers that look random, the same at each run
 //! - `scene.rt`, `steps.rt`: two devices with random scripts, for both programs; random steps
 //! - `seen.rt`, `trial.rt`: which kinds of replies were seen; one scenario, run by both
+//! - `rows.rt`: the same steps in rows and one by one, by two cores
 //! - `plan.rt`: a plan whose callbacks are called, and what is told of it
 //! - `refusals.rt`, `drives.rt`: steps with their payloads, and a random plan, made again where memory is refused
 #![tactic(auto)]
@@ -16,6 +17,7 @@ mod dice;
 mod drives;
 mod plan;
 mod refusals;
+mod rows;
 mod scene;
 mod seen;
 mod steps;
@@ -46,6 +48,12 @@ fn check<R: Print>(rt: &R, alloc: Global) -> Result<()> {
     println!(rt;
         "{SCENARIOS} scenarios of {STEPS} steps: the same entries, each kind of reply among them"
     )?;
+    let mut met = rows::Met::default();
+    for seed in 0..SCENARIOS {
+        rows::run(alloc, seed, STEPS, &mut met)?;
+    }
+    met.is_all()?;
+    println!(rt; "the same in rows of packets, events and orders as one by one")?;
     plan::run(alloc)?;
     println!(rt; "a plan whose callbacks are called: as the rules have it")?;
     Ok(())
