@@ -166,7 +166,7 @@ pub fn run(alloc: Global, seed: u64, count: u64, met: &mut Met) -> Result<()> {
     let steps = busy(alloc, seed, count)?;
     let mut dice = Dice::new(seed);
     let mut pair = Pair::new(alloc, seed)?;
-    for it in steps.iter() {
+    for it in steps.as_slice() {
         pair.make(it, 1 + u32::from(dice.up_to(MOST - 1)), met)?;
     }
     if pair.is_alike(alloc) {
