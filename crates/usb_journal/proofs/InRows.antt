@@ -2,7 +2,7 @@
 use Rattle.std.proofs.Common.{◌≡◌, ◌∙◌, ◌+◌, ◌++◌, ℕ, zero, suc, false, List, [], ◌∷◌, None, ap, ap₂, append_assoc, append-nil, arith, drop, length, map, refl, subst, sym}
 use Rattle.std.specs.Prelude.{replicate}
 use Rattle.std.proofs.Math.Seq.{drop-append_seam}
-use Rattle.std.proofs.lemmas.List.{length-append, length-map, map-append, replicate-append-replicate}
+use Rattle.std.proofs.lemmas.List.{length-append, length-map, length-replicate, map-append, replicate-append-replicate}
 use Rattle.usb_model.specs.declared.entry.Entry.{Entry}
 use Rattle.usb_model.specs.declared.step.Step.{Step}
 use Rattle.usb_model.specs.declared.step.Step.TheVariants.{Deliver}
@@ -10,7 +10,7 @@ use Rattle.usb_model.specs.Setup.{Setup}
 use Rattle.usb_model.specs.World.{World, new_world, turn, world_from}
 use Rattle.usb_model.specs.World.Journal.{journal, journal_from, run_from, world_run}
 use Rattle.proof_core.specs.Steps.{TurnsInRow}
-use Rattle.usb_core.specs.Public.{ShowsWorld, State, StillCarries, takes_memory}
+use Rattle.usb_core.specs.Public.{ShowsWorld, State, StillCarries, TurnsWorld, takes_memory}
 use Rattle.usb_receipts.specs.Rule.{BeginsWith}
 use Rattle.usb_journal.specs.declared.place.Place.{Place}
 use Rattle.usb_journal.specs.declared.rows.Row.{Row}
@@ -148,6 +148,16 @@ module _ {P : Type 0} (setup : Setup) (moment : ℕ) where
         carries = carries;
       }
 
+  -- one step, as the core made it and as it was entered
+  pub makes_one : (step : Step) (entry : Entry) (caller : ℕ) (old : State P) (first : List Place) (before : Positioned) (new : State P) (later : List Place) (after : Positioned) (receipt : Receipted) → takes_memory step ≡ false → ending step ≡ None → TurnsWorld old step entry new
+      → caller ≡ before.number → receipt ≡ record { place = length first; entry = record { step = step; caller = caller; entry = entry; moment = moment } } → later ≡ first ++ receipt.entry ∷ [] → IsMoved before receipt after → Sees before first after later → StillCarries old new → Replays setup first old
+      → MakesRow setup moment (step ∷ []) old first before new later after
+  unfolding journal_from world_from
+  makes_one step entry caller old first before new later after receipt plain none turn bearer told is moved saw carries run =
+      let turns : TurnsInRow old (replicate 1 step) (entry ∷ []) new = λ s w shown. let one = turn s w shown in (ap (λ (e : Entry). e ∷ []) one.0, one.1) in
+      makes_of 1 step (entry ∷ []) old first before new later after plain none turns
+      (subst (λ n. IsRow n moment (step ∷ []) (entry ∷ []) first before later after) bearer (row_one caller moment step entry first before later after receipt (length first) told is moved saw)) carries run
+
   -- a row behind another
   pub makes_on : (xs ys : List Step) (old : State P) (first : List Place) (before : Positioned) (core : State P) (mid : List Place) (between : Positioned) (new : State P) (later : List Place) (after : Positioned) → MakesRow setup moment xs old first before core mid between → MakesRow setup moment ys core mid between new later after
       → MakesRow setup moment (xs ++ ys) old first before new later after
@@ -168,6 +178,19 @@ module _ {P : Type 0} (setup : Setup) (moment : ℕ) where
       → MakesRow setup moment (replicate k step) core mid between new later after → MakesRow setup moment (replicate (n + k) step) old first before new later after
   makes_more n k step old first before core mid between new later after a b =
       subst (λ ss. MakesRow setup moment ss old first before new later after) (replicate-append-replicate n k step) (makes_on (replicate n step) (replicate k step) old first before core mid between new later after a b)
+
+  -- as many places as steps
+  pub makes_count : (n : ℕ) (step : Step) (old : State P) (first : List Place) (before : Positioned) (new : State P) (later : List Place) (after : Positioned) → MakesRow setup moment (replicate n step) old first before new later after → length later ≡ length first + n
+  makes_count n step old first before new later after a =
+      row_count before.number moment (replicate n step) (run_from setup (world_where setup first) (replicate n step)) first before later after a.row ∙ ap (λ k. length first + k) (length-replicate n step)
+
+  -- the entries of so many of the same step, and of more of it
+  pub run_more : (n k : ℕ) (step : Step) (old : State P) (first : List Place) (before : Positioned) (core : State P) (mid : List Place) (between : Positioned) → MakesRow setup moment (replicate n step) old first before core mid between
+      → run_from setup (world_where setup first) (replicate (n + k) step) ≡ run_from setup (world_where setup first) (replicate n step) ++ run_from setup (world_where setup mid) (replicate k step)
+  run_more n k step old first before core mid between a =
+      let w = world_where setup first in
+      let behind = world_behind before.number moment (replicate n step) (run_from setup w (replicate n step)) first before mid between a.row setup in
+      ap (run_from setup w) (sym (replicate-append-replicate n k step)) ∙ (run_on setup w (replicate n step) (replicate k step) ∙ ap (λ v. run_from setup w (replicate n step) ++ run_from setup v (replicate k step)) (sym behind))
 
 module _ {P : Type 0} where
   -- a row of places is what a caller is told
@@ -191,6 +214,11 @@ module _ {P : Type 0} where
   -- and the other way
   pub entered_row : (steps : List Step) (old new : Booked P) (before after : Positioned) (row : Row) → EntersRow steps old before row new after → IsRow before.number old.moment steps (run_from old.setup (world_where old.setup old.journal) steps) old.journal before new.journal after
   entered_row steps old new before after row e = record { places = new_places old new; journal = e.journal; each = e.each; entries = e.entries; own = e.own; number = e.number; seen = e.saw.1 }
+
+-- where there was no packet none ended a transfer
+pub none_ended : (setup : Setup) (w : World) → EndNone (run_from setup w [])
+unfolding journal_from
+none_ended setup w = tt
 
 -- where neither these nor those ended a transfer, none did
 pub end_none_on : (xs ys : List Entry) → EndNone xs → EndNone ys → EndNone (xs ++ ys)

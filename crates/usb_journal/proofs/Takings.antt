@@ -1,8 +1,8 @@
 -- Results that go out in a row.
 use Rattle.std.proofs.Common.{◌≡◌, ◌∙◌, ◌+◌, ◌++◌, ℕ, suc, true, false, List, [], ◌∷◌, Option, Some, None, ap, ap₂, drop, length, map, option_map, refl, subst, sym}
 use Rattle.std.specs.Prelude.{replicate}
-use Rattle.std.proofs.lemmas.List.{append-nil, length-append, map-append, replicate-append-replicate}
-use Rattle.std.proofs.Math.Seq.{drop-length}
+use Rattle.std.proofs.lemmas.List.{append-nil, append_assoc, length-append, map-append, replicate-append-replicate}
+use Rattle.std.proofs.Math.Seq.{drop-append_seam, drop-length}
 use Rattle.usb_model.specs.declared.entry.Entry.{Entry}
 use Rattle.usb_model.specs.declared.step.Step.{Step}
 use Rattle.usb_model.specs.declared.step.Step.TheVariants.{Take}
@@ -39,6 +39,11 @@ module _ {P : Type 0} where
       subst (λ es. IsRow before.number old.moment (xs ++ ys) es old.journal before new.journal after) (sym (run_on old.setup (world_where old.setup old.journal) xs ys))
       (row_on before.number old.moment xs ys _ _ old.journal before mid.journal between new.journal after one two)
 
+  -- the places of both
+  both_places : (xs ys : List Step) (old mid new : Booked P) (before between after : Positioned) (first second : Row) → EntersRow xs old before first mid between → EntersRow ys mid between second new after → new_places old new ≡ new_places old mid ++ new_places mid new
+  both_places xs ys old mid new before between after first second a b =
+      ap (drop (length old.journal)) (b.journal ∙ (ap (λ l. l ++ new_places mid new) a.journal ∙ append_assoc old.journal (new_places old mid) (new_places mid new))) ∙ drop-append_seam old.journal (new_places old mid ++ new_places mid new)
+
   -- no result went out
   pub takes_none : (old : Booked P) (before : Positioned) → before.seen ≡ old.journal → TakesRow [] old before old before
   unfolding journal_from
@@ -55,7 +60,7 @@ module _ {P : Type 0} where
   takes_on ts us old mid new before between after a b =
       let row = both_rows (replicate (length ts) Take) (replicate (length us) Take) old mid new before between after _ _ a.row b.row in
       let steps : replicate (length ts) Take ++ replicate (length us) Take ≡ replicate (length (ts ++ us)) Take = replicate-append-replicate (length ts) (length us) Take ∙ ap (λ n. replicate n Take) (sym (length-append ts us)) in
-      let places = row_places before.number old.moment _ _ old.journal before new.journal after row in
+      let places = both_places (replicate (length ts) Take) (replicate (length us) Take) old mid new before between after _ _ a.row b.row in
       record {
         row = subst (λ ss. EntersRow ss old before (record { first = length old.journal; count = length (ts ++ us) }) new after) steps (enters _ old new before after _ row refl _ a.row.saw.0 (b.row.setup ∙ a.row.setup) (b.row.moment ∙ a.row.moment));
         entries = ap entries_of places ∙ (map-append (λ (p : Place). p.entry) (new_places old mid) (new_places mid new) ∙ (ap₂ (λ (l k : List Entry). l ++ k) a.entries b.entries ∙ sym (map-append (λ (t : Taken P). called_entry (Some t.returned)) ts us)));

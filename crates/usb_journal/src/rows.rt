@@ -219,12 +219,13 @@ fn serve_each<L: Naming, P, D: Device, J: Recorder>(
 {
     let mut count = 0;
     let mut ended = false;
-    let mut stops = false;
-    while count < most && !stops {
+    while count < most {
         let burst = serve_row(core, log, position, moment, dev, ep, most - count);
         count += burst.full + 1;
         ended = or_ends(ended, &burst.last.reply);
-        stops = may_stop(core, dev, ep, &burst.last.reply);
+        if may_stop(core, dev, ep, &burst.last.reply) {
+            return (count, ended);
+        }
     }
     (count, ended)
 }
@@ -361,14 +362,15 @@ fn deliver_next<L: Naming, P, D: Device, J: Recorder>(
     let entry = core.deliver();
     let caller = position.number();
     let _ = log.enter(position, Step::Deliver, caller, &entry, moment);
-    quiet && leaves_nothing(core, &entry.reply)
+    leaves_nothing(core, &entry.reply, quiet)
 }
 
-/// Whether an event with this reply left nothing for the controller: by it no errand ended, and no order waits.
-fn leaves_nothing<P, D: Device>(core: &Core<P, D>, reply: &Reply) -> bool
-    ensures { (setup : Setup) (w : World) → ShowsWorld setup core.now w → result ≡ true → (is_settled reply.now ≡ false) × (does_something setup w Command ≡ false) }
+/// Whether an event with this reply left nothing for the controller, nor those before it: by it no errand ended, and no
+/// order waits.
+fn leaves_nothing<P, D: Device>(core: &Core<P, D>, reply: &Reply, quiet: bool) -> bool
+    ensures { (setup : Setup) (w : World) → ShowsWorld setup core.now w → result ≡ true → (quiet ≡ true) × (is_settled reply.now ≡ false) × (does_something setup w Command ≡ false) }
 {
-    !is_settled(reply) && !core.has_order()
+    quiet && !is_settled(reply) && !core.has_order()
 }
 
 /// Whether an errand ended.
