@@ -1,7 +1,7 @@
 -- Results that go out in a row.
 use Rattle.std.proofs.Common.{◌≡◌, ◌∙◌, ◌+◌, ◌++◌, ℕ, suc, true, false, List, [], ◌∷◌, Option, Some, None, ap, ap₂, drop, length, map, option_map, refl, subst, sym}
 use Rattle.std.specs.Prelude.{replicate}
-use Rattle.std.proofs.lemmas.List.{append-nil, append_assoc, length-append, map-append, replicate-append-replicate}
+use Rattle.std.proofs.lemmas.List.{append-nil, append_assoc, length-append, length-replicate, map-append, replicate-append-replicate}
 use Rattle.std.proofs.Math.Seq.{drop-append_seam, drop-length}
 use Rattle.usb_model.specs.declared.entry.Entry.{Entry}
 use Rattle.usb_model.specs.declared.step.Step.{Step}
@@ -11,12 +11,13 @@ use Rattle.usb_model.specs.World.{World}
 use Rattle.usb_model.specs.World.Journal.{journal_from, run_from}
 use Rattle.usb_core.specs.Public.{Carries, CarriesOut, Kept, StillCarries, Taken, called_entry, does_something}
 use Rattle.usb_steps.specs.Pending.{tells_work}
+use Rattle.usb_receipts.specs.Rule.{BeginsWith}
 use Rattle.usb_journal.specs.declared.place.Place.{Place}
 use Rattle.usb_journal.specs.declared.rows.Row.{Row}
 use Rattle.usb_journal.specs.Booked.{Booked, IsMoved, IsSame, Sees, asked, entries_of, next_entry, next_receipt, world_where}
 use Rattle.usb_journal.specs.Entered.{IsRow, TakesRow}
 use Rattle.usb_journal.specs.Rows.{AreKept, EntersRow, new_places}
-use Rattle.usb_journal.specs.Seen.{Positioned, Receipted}
+use Rattle.usb_journal.specs.Seen.{Positioned, Receipted, positioned}
 use Rattle.usb_journal.proofs.InRows.{entered_row, enters, row_on, row_one, row_places, run_on, world_behind}
 
 -- the payloads of these and of those
@@ -55,6 +56,15 @@ module _ {P : Type 0} where
         carries = λ kept has. (tt, has);
       }
 
+  -- no step, from where all of the journal so far is seen
+  pub looks_none : (old new : Booked P) (before after : Positioned) (first : ℕ) → after ≡ positioned before.number old.journal → after.own ≡ before.own → BeginsWith before.seen old.journal → first ≡ length old.journal → new.journal ≡ old.journal → new.setup ≡ old.setup → new.moment ≡ old.moment
+      → EntersRow [] old before (record { first = first; count = 0 }) new after
+  unfolding journal_from
+  looks_none old new before after first at own began len same setup moment =
+      enters [] old new before after (record { first = first; count = 0 })
+      (record { places = []; journal = same ∙ sym (append-nil old.journal); each = refl; entries = refl; own = own ∙ sym (append-nil before.own); number = ap (λ (p : Positioned). p.number) at; seen = ap (λ (p : Positioned). p.seen) at ∙ sym same })
+      len refl began setup moment
+
   -- some went out, and more
   pub takes_on : (ts us : List (Taken P)) (old mid new : Booked P) (before between after : Positioned) → TakesRow ts old before mid between → TakesRow us mid between new after → TakesRow (ts ++ us) old before new after
   takes_on ts us old mid new before between after a b =
@@ -62,7 +72,7 @@ module _ {P : Type 0} where
       let steps : replicate (length ts) Take ++ replicate (length us) Take ≡ replicate (length (ts ++ us)) Take = replicate-append-replicate (length ts) (length us) Take ∙ ap (λ n. replicate n Take) (sym (length-append ts us)) in
       let places = both_places (replicate (length ts) Take) (replicate (length us) Take) old mid new before between after _ _ a.row b.row in
       record {
-        row = subst (λ ss. EntersRow ss old before (record { first = length old.journal; count = length (ts ++ us) }) new after) steps (enters _ old new before after _ row refl _ a.row.saw.0 (b.row.setup ∙ a.row.setup) (b.row.moment ∙ a.row.moment));
+        row = subst (λ ss. EntersRow ss old before (record { first = length old.journal; count = length (ts ++ us) }) new after) steps (enters _ old new before after _ row refl (sym (ap length steps ∙ length-replicate (length (ts ++ us)) Take)) a.row.saw.0 (b.row.setup ∙ a.row.setup) (b.row.moment ∙ a.row.moment));
         entries = ap entries_of places ∙ (map-append (λ (p : Place). p.entry) (new_places old mid) (new_places mid new) ∙ (ap₂ (λ (l k : List Entry). l ++ k) a.entries b.entries ∙ sym (map-append (λ (t : Taken P). called_entry (Some t.returned)) ts us)));
         carries = λ kept has. let first = a.carries kept has in let second = b.carries kept first.1 in (are_kept_on kept ts us first.0 second.0, second.1);
       }

@@ -8,12 +8,14 @@ use Rattle.usb_journal.proofs.InRows.{makes_count, makes_more, makes_none, quiet
 use Rattle.usb_journal.proofs.rows.deliver_each.Goals as goal
 
 pub loop-done-init : goal.loop-done-init
-loop-done-init g c = record {
-  row = makes_none g.L.Naming.setup c.args.moment c.args.core.now c.args.log.now.journal c.args.position.now c.requires.seen c.requires.run;
-  count = refl;
-  room = c.requires.room.1;
-  quiet = λ quiet. tt;
-}
+loop-done-init g c =
+    let all : c.args.most ≡ c.args.most - 0 = omega arith in
+    record {
+      row = makes_none g.L.Naming.setup c.args.moment c.args.core.now c.args.log.now.journal c.args.position.now c.requires.seen c.requires.run;
+      count = omega arith;
+      room = subst (λ n. g.J.Recorder.has_room c.args.log.now.recorder n 0) all c.requires.room.1;
+      quiet = λ quiet. tt;
+    }
 
 pub loop-done-preserved : goal.loop-done-preserved
 loop-done-preserved g c =

@@ -10,11 +10,12 @@ use Rattle.usb_journal.proofs.rows.serve_each.Goals as goal
 pub loop-count-init : goal.loop-count-init
 loop-count-init g c =
     let setup = g.L.Naming.setup in
+    let all : c.args.most ≡ c.args.most - 0 = omega arith in
     record {
       row = makes_none setup c.args.moment c.args.core.now c.args.log.now.journal c.args.position.now c.requires.seen c.requires.run;
-      count = refl;
+      count = omega arith;
       few = omega arith;
-      room = c.requires.room.1;
+      room = subst (λ n. g.J.Recorder.has_room c.args.log.now.recorder n 0) all c.requires.room.1;
       quiet = λ none. none_ended setup (world_where setup c.args.log.now.journal);
     }
 
