@@ -1,5 +1,5 @@
 -- Results that go out in a row.
-use Rattle.std.proofs.Common.{◌≡◌, ◌∙◌, ◌+◌, ◌++◌, ℕ, suc, true, false, List, [], ◌∷◌, Option, Some, None, ap, ap₂, drop, length, map, option_map, refl, subst, sym}
+use Rattle.std.proofs.Common.{◌≡◌, ◌∙◌, ◌++◌, ℕ, true, false, List, [], ◌∷◌, Option, Some, None, ap, ap₂, drop, length, map, option_map, refl, subst, sym}
 use Rattle.std.specs.Prelude.{replicate}
 use Rattle.std.proofs.lemmas.List.{append-nil, append_assoc, length-append, length-replicate, map-append, replicate-append-replicate}
 use Rattle.std.proofs.Math.Seq.{drop-append_seam, drop-length}
@@ -9,7 +9,7 @@ use Rattle.usb_model.specs.declared.step.Step.TheVariants.{Take}
 use Rattle.usb_model.specs.Setup.{Setup}
 use Rattle.usb_model.specs.World.{World}
 use Rattle.usb_model.specs.World.Journal.{journal_from, run_from}
-use Rattle.usb_core.specs.Public.{Carries, CarriesOut, Kept, StillCarries, Taken, called_entry, does_something}
+use Rattle.usb_core.specs.Public.{Carries, CarriesOut, Kept, Taken, called_entry, does_something}
 use Rattle.usb_steps.specs.Pending.{tells_work}
 use Rattle.usb_receipts.specs.Rule.{BeginsWith}
 use Rattle.usb_journal.specs.declared.place.Place.{Place}

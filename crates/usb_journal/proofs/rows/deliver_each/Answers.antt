@@ -1,4 +1,4 @@
-use Rattle.std.proofs.Common.{◌≡◌, ◌∙◌, ◌+◌, ◌-◌, ap, arith, refl, subst, sym}
+use Rattle.std.proofs.Common.{◌≡◌, ◌+◌, ◌-◌, arith, subst}
 use Rattle.std.specs.Prelude.{replicate}
 use Rattle.usb_model.specs.declared.step.Step.TheVariants.{Deliver}
 use Rattle.usb_model.specs.World.Journal.{run_from}

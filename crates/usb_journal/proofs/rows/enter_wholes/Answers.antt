@@ -1,4 +1,3 @@
-use Rattle.std.proofs.Common.{◌≡◌, ◌∙◌, [], refl}
 use Rattle.usb_journal.proofs.InRows.{row_none}
 use Rattle.usb_journal.proofs.rows.enter_wholes.Goals as goal
 

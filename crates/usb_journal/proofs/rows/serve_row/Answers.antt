@@ -1,4 +1,4 @@
-use Rattle.std.proofs.Common.{◌≡◌, ◌∙◌, ◌+◌, ◌-◌, ap, length, refl, subst, sym}
+use Rattle.std.proofs.Common.{◌+◌, ◌-◌, refl, subst}
 use Rattle.std.specs.Prelude.{replicate}
 use Rattle.usb_model.specs.declared.step.Step.TheVariants.{Serve}
 use Rattle.usb_steps.specs.Bursts.{burst_entries, whole_entries}

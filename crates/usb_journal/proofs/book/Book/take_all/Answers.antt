@@ -3,7 +3,6 @@ use Rattle.std.specs.Prelude.{replicate}
 use Rattle.usb_model.specs.declared.step.Step.TheVariants.{Take}
 use Rattle.usb_journal.specs.Booked.{Booked}
 use Rattle.usb_journal.specs.Rows.{EntersRow}
-use Rattle.usb_journal.specs.Seen.{Logged}
 use Rattle.usb_journal.proofs.Takings.{looks_none, takes_on}
 use Rattle.usb_journal.proofs.book.Book.take_all.Goals as goal
 

@@ -1,4 +1,4 @@
-use Rattle.std.proofs.Common.{◌≡◌, ◌∙◌, ◌+◌, ◌++◌, [], ◌∷◌, ap, append_assoc, append-nil, refl, sym}
+use Rattle.std.proofs.Common.{◌∙◌, ◌+◌, ◌++◌, [], ◌∷◌, ap, append_assoc, append-nil, refl, sym}
 use Rattle.std.proofs.lemmas.List.{length_push}
 use Rattle.usb_journal.proofs.Takings.{takes_none, takes_on}
 use Rattle.usb_journal.proofs.book.Book.take_more.Goals as goal

@@ -1,4 +1,4 @@
-use Rattle.std.proofs.Common.{◌≡◌, ◌∙◌, ◌++◌, [], ◌∷◌, ap}
+use Rattle.std.proofs.Common.{◌∙◌, ◌++◌, [], ◌∷◌, ap}
 use Rattle.usb_journal.proofs.Takings.{takes_one}
 use Rattle.usb_journal.proofs.book.Book.take_next.Goals as goal
 
