@@ -20,6 +20,14 @@ use Rattle.usb_journal.specs.Rows.{AreKept, EntersRow, new_places}
 use Rattle.usb_journal.specs.Seen.{Positioned, Receipted, positioned}
 use Rattle.usb_journal.proofs.InRows.{entered_row, enters, row_on, row_one, row_places, run_on, world_behind}
 
+-- one more stands behind what was held
+pub put_behind : {A : Type 0} (before held after : List A) (x : A) → after ≡ held ++ x ∷ [] → held ≡ before → after ≡ before ++ x ∷ []
+put_behind before held after x put same = put ∙ ap (λ l. l ++ x ∷ []) same
+
+-- and behind what came before it
+pub put_more : {A : Type 0} (before more held after : List A) (x : A) → after ≡ held ++ x ∷ [] → held ≡ before ++ more → after ≡ before ++ (more ++ x ∷ [])
+put_more before more held after x put so_far = put ∙ (ap (λ l. l ++ x ∷ []) so_far ∙ append_assoc before more (x ∷ []))
+
 -- the payloads of these and of those
 are_kept_on : {P : Type 0} (kept : Kept P) (ts us : List (Taken P)) → AreKept kept ts → AreKept kept us → AreKept kept (ts ++ us)
 are_kept_on kept [] us a b = b
