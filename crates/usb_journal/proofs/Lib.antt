@@ -10,4 +10,7 @@ mod Journals
 mod Due
 mod Loops
 mod Expiries
+mod InRows
+mod Bursts
+mod Takings
 mod KeptPlaces

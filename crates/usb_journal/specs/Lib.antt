@@ -4,3 +4,4 @@ pub mod Records
 pub mod Kept
 pub mod Timers
 pub mod Rows
+pub mod Entered

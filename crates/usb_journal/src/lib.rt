@@ -9,6 +9,8 @@
 //!   is to do with events
 //! - `submissions.rt`, `results.rt`: the calls that give back what was given: `submit`, `again`, `again_with`; `take`
 //! - `rounds.rt`: the other calls of every transfer: `serve`, `deliver`, `stop`
+//! - `rows.rt`, specs/Rows, Entered: steps of one kind in a row, in one call: `serve_all`, `deliver_all`, `take_all`; what
+//!   a caller is told of their places, and how places in a row are entered
 //! - `record.rt`: any step, with its payload
 //! - `ticks.rt`: time passes: an Expire for each transfer that is due
 //! - `timer.rt`, specs/Timers: when each transfer was submitted whose callback hasn't ended
@@ -22,6 +24,8 @@
 //! - proofs/KeptPlaces: what a kept place stands for stays, whatever bytes come behind its own
 //! - proofs/Runs, Replies, Answers: one step more of a journal; how many bytes a reply has; what a submission is
 //!   answered
+//! - proofs/InRows, Bursts, Takings: a row of steps behind another; packets that the core serves in one burst; results
+//!   that go out in a row
 //! - proofs/Known, Owns, Tracks, Steps, Journals, Due: the timers of a handle go with its transfers over any step,
 //!   and so what is due is what they say
 //!
@@ -37,6 +41,14 @@
 //!   What payload goes out, comes back or stays with its
 //!   transfer, as of the core. After want of memory the journal, the moment and what the core shows are as before,
 //!   and what was given comes back
+//! - `serve_all`, `deliver_all`, `take_all`: as many steps of one kind as there is something to do, at most so many, at
+//!   consecutive places behind the others, with the entries that the definitions' run has for them; the position goes
+//!   behind them, and the row is told by its first number and its count, without receipts (`EntersRow`). Packets end
+//!   early only behind one that moved no bytes of a transfer that goes on, and behind one that ended a transfer only
+//!   where no other packet does anything at the endpoint (`MayStop`); events only where none waits. There is no result in
+//!   a row only where none waits; each that goes out has the payload that was kept with its transfer. Of packets it is
+//!   told whether one may have ended a transfer, of events whether they left nothing for the controller. After want of
+//!   memory nothing changed
 //! - `tick`: the moment becomes the later of it and `now`; behind the others stand, at consecutive places, just the
 //!   steps that the definitions say are due at that moment (`due` of the journal with its moments), in their order,
 //!   as asked for by the caller; a receipt for each; and the position goes behind them. After want of memory nothing changed

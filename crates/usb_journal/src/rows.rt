@@ -1,10 +1,16 @@
 //! Steps in a row, each at a place of its own, in one call.
 
-ghost use Rattle.std.specs.Prelude.{◌≡◌, ℕ, ◌+◌, ◌<◌, ◌≤◌, [], false, true, IfOk, OnErr, OnOk, length, map, max, replicate, Some};
-ghost use Rattle.usb_model.specs.declared.step.Step.TheVariants.{Deliver, Serve, Take};
-ghost use Rattle.usb_core.specs.Public.{Carries, Kept, StillCarries, called_entry, does_something};
-ghost use Rattle.usb_journal.specs.Booked.{IsSame, entries_of, world_where};
-ghost use Rattle.usb_journal.specs.Rows.{AreKept, AreQuiet, EndNone, EntersRow, MayStopBehind, is_settled, new_places};
+ghost use Rattle.std.specs.Prelude.{◌≡◌, ℕ, ◌+◌, ◌-◌, ◌++◌, ◌∷◌, ◌||◌, ◌^◌, ◌<◌, ◌≤◌, List, [], false, true, IfOk, OnErr, OnOk, length, map, max, replicate, Some};
+ghost use Rattle.usb_model.specs.declared.step.Step.TheVariants.{Command, Deliver, Serve, Take};
+ghost use Rattle.usb_model.specs.Setup.{Setup};
+ghost use Rattle.usb_model.specs.World.{World};
+ghost use Rattle.usb_model.specs.World.Journal.{run_from};
+ghost use Rattle.usb_core.specs.Public.{Carries, Kept, ShowsWorld, StillCarries, called_entry, does_something};
+ghost use Rattle.usb_steps.specs.Bursts.{burst_entries, whole_entries};
+ghost use Rattle.usb_journal.specs.Booked.{IsSame, Replays, entries_of, world_where};
+ghost use Rattle.usb_journal.specs.Entered.{IsQuiet, IsRow, MakesRow, TakesRow};
+ghost use Rattle.usb_journal.specs.Records.{bytes_in};
+ghost use Rattle.usb_journal.specs.Rows.{AreKept, AreQuiet, EndNone, EntersRow, MayStop, MayStopBehind, is_end, is_settled, new_places};
 
 use crate::book::Book;
 use crate::log::Log;
@@ -62,7 +68,8 @@ impl<L: Naming, P, D: Device, J: Recorder> Book<L, P, D, J> {
         ensures carries { StillCarries self.old.core self.new.core }
         ensures err { OnErr result (IsSame self.old self.new × (position.new ≡ position.old)) }
     {
-        self.log.reserve(most.max(1) as usize, 0)?;
+        let most = most.max(1);
+        self.log.reserve(most as usize, 0)?;
         self.log.look(position);
         let first = self.log.len();
         let Book {
@@ -71,7 +78,7 @@ impl<L: Naming, P, D: Device, J: Recorder> Book<L, P, D, J> {
             log,
             ..
         } = self;
-        let (count, ended) = serve_each(core, log, position, *moment, dev, ep, most.max(1));
+        let (count, ended) = serve_each(core, log, position, *moment, dev, ep, most);
         Ok(Served {
             row: Row {
                 first,
@@ -134,47 +141,64 @@ impl<L: Naming, P, D: Device, J: Recorder> Book<L, P, D, J> {
         ensures err { OnErr result (IsSame self.old self.new × (position.new ≡ position.old) × (taken.new.items ≡ [])) }
     {
         let first = self.log.len();
-        for count in 0..most {
-            if !self.core.has_result() {
-                self.log.look(position);
-                return Ok(Row {
-                    first,
-                    count: u64::from(count),
-                });
-            }
-            let Ok(()) = self.take_next(taken, position) else {
-                if count == 0 {
-                    return Err(AllocError);
-                }
-                return Ok(Row {
-                    first,
-                    count: u64::from(count),
-                });
-            };
+        if most == 0 || !self.has_result() {
+            self.log.look(position);
+            return Ok(Row { first, count: 0 });
         }
-        self.log.look(position);
+        self.take_next(taken, position)?;
+        let more = self.take_more(most - 1, taken, position);
         Ok(Row {
             first,
-            count: u64::from(most),
+            count: u64::from(more) + 1,
         })
     }
 
-    /// The oldest result goes out, which stands behind these; there is one.
+    /// Whether a result waits to go out.
+    fn has_result(&self) -> bool
+        ensures { result ≡ does_something self.now.setup (world_where self.now.setup self.now.journal) Take }
+    {
+        self.core.has_result()
+    }
+
+    /// The oldest result goes out, which stands behind these; there is one. Where memory is wanting nothing changed.
     fn take_next(
         &mut self,
         taken: &mut Vec<Taken<P>>,
         position: &mut Position<L>,
-    ) -> Result<(), AllocError> {
+    ) -> Result<(), AllocError>
+        requires { does_something self.old.setup (world_where self.old.setup self.old.journal) Take ≡ true }
+        ensures ok { OnOk result ((t : Taken P) × (taken.new.items ≡ taken.old.items ++ t ∷ []) × TakesRow (t ∷ []) self.old position.old self.new position.new) }
+        ensures err { OnErr result (IsSame self.old self.new × (position.new ≡ position.old) × (taken.new.items ≡ taken.old.items)) }
+    {
         taken.reserve(1)?;
         let (_receipt, next) = self.take(position)?;
-        if let Some(next) = next {
-            taken.push_reserved(next);
-        }
+        let Some(next) = next else {
+            unreachable!();
+        };
+        taken.push_reserved(next);
         Ok(())
+    }
+
+    /// The oldest results go out, as many as there are and at most so many, and stand behind these; where memory is refused to
+    /// one, those before it. How many they were.
+    fn take_more(&mut self, most: u32, taken: &mut Vec<Taken<P>>, position: &mut Position<L>) -> u32
+        requires { position.old.seen ≡ self.old.journal }
+        ensures taken { (more : List (Taken P)) × (taken.new.items ≡ taken.old.items ++ more) × (length more ≡ result) × TakesRow more self.old position.old self.new position.new }
+        ensures few { result ≤ most }
+    {
+        for done in 0..most {
+            if !self.has_result() {
+                return done;
+            }
+            let Ok(()) = self.take_next(taken, position) else {
+                return done;
+            };
+        }
+        most
     }
 }
 
-/// Packets at an endpoint, where there is room for so many places.
+/// Packets at an endpoint, where there is room for so many places: how many, and whether one ended a transfer.
 fn serve_each<L: Naming, P, D: Device, J: Recorder>(
     core: &mut Core<P, D>,
     log: &mut Log<L, J>,
@@ -183,51 +207,115 @@ fn serve_each<L: Naming, P, D: Device, J: Recorder>(
     dev: DeviceNo,
     ep: EpAddr,
     most: u32,
-) -> (u32, bool) {
-    let caller = position.number();
+) -> (u32, bool)
+    requires some { 0 < most }
+    requires seen { position.old.seen ≡ log.old.journal }
+    requires room { (length log.old.journal + most < 2 ^ 64) × J.has_room log.old.recorder most 0 }
+    requires run { Replays L.setup log.old.journal core.old }
+    ensures row { MakesRow L.setup moment (replicate result.0 (Serve dev ep)) core.old log.old.journal position.old core.new log.new.journal position.new }
+    ensures some { (0 < result.0) × (result.0 ≤ most) }
+    ensures ends { result.0 < most → MayStopBehind L.setup (world_where L.setup log.new.journal) dev ep (run_from L.setup (world_where L.setup log.old.journal) (replicate result.0 (Serve dev ep))) }
+    ensures quiet { result.1 ≡ false → EndNone (run_from L.setup (world_where L.setup log.old.journal) (replicate result.0 (Serve dev ep))) }
+{
     let mut count = 0;
     let mut ended = false;
     while count < most {
-        let burst = core.serve_burst(dev, ep, most - count);
+        let burst = serve_row(core, log, position, moment, dev, ep, most - count);
         count += burst.full + 1;
-        enter_burst(log, position, caller, moment, dev, ep, &burst);
-        match burst.last.reply {
-            Reply::Moved { .. } => {}
-            Reply::Ended { .. } => {
-                ended = true;
-                if !core.has_packet(dev, ep) {
-                    return (count, ended);
-                }
-            }
-            _ => return (count, ended),
+        ended = or_ends(ended, &burst.last.reply);
+        if may_stop(core, dev, ep, &burst.last.reply) {
+            return (count, ended);
         }
     }
     (count, ended)
+}
+
+/// Packets at an endpoint in one burst, each at a place.
+fn serve_row<L: Naming, P, D: Device, J: Recorder>(
+    core: &mut Core<P, D>,
+    log: &mut Log<L, J>,
+    position: &mut Position<L>,
+    moment: u64,
+    dev: DeviceNo,
+    ep: EpAddr,
+    most: u32,
+) -> Burst
+    requires some { 0 < most }
+    requires seen { position.old.seen ≡ log.old.journal }
+    requires room { (length log.old.journal + most < 2 ^ 64) × J.has_room log.old.recorder most 0 }
+    requires run { Replays L.setup log.old.journal core.old }
+    ensures row { MakesRow L.setup moment (replicate (result.full + 1) (Serve dev ep)) core.old log.old.journal position.old core.new log.new.journal position.new }
+    ensures entries { burst_entries result ≡ run_from L.setup (world_where L.setup log.old.journal) (replicate (result.full + 1) (Serve dev ep)) }
+    ensures few { result.full + 1 ≤ most }
+    ensures room { J.has_room log.new.recorder (most - (result.full + 1)) 0 }
+{
+    let burst = core.serve_burst(dev, ep, most);
+    enter_burst(log, position, moment, dev, ep, &burst);
+    burst
 }
 
 /// The places of a burst.
 fn enter_burst<L: Naming, J: Recorder>(
     log: &mut Log<L, J>,
     position: &mut Position<L>,
-    caller: u32,
     moment: u64,
     dev: DeviceNo,
     ep: EpAddr,
     burst: &Burst,
-) {
-    if let Some(each) = &burst.each {
-        let entry = each.entry();
-        for _ in 0..burst.full {
-            let _ = log.enter(position, Step::Serve { dev, ep }, caller, &entry, moment);
-        }
+)
+    requires seen { position.old.seen ≡ log.old.journal }
+    requires room { (places : ℕ) × (length (burst_entries burst.now) ≤ places) × (length log.old.journal + places < 2 ^ 64) × J.has_room log.old.recorder places 0 }
+    requires bytes { bytes_in burst.now.last.reply ≡ 0 }
+    ensures row { IsRow position.old.number moment (replicate (length (burst_entries burst.now)) (Serve dev ep)) (burst_entries burst.now) log.old.journal position.old log.new.journal position.new }
+    ensures room { (places : ℕ) → J.has_room log.old.recorder places 0 → J.has_room log.new.recorder (places - length (burst_entries burst.now)) 0 }
+{
+    enter_wholes(log, position, moment, dev, ep, burst);
+    let step = Step::Serve { dev, ep };
+    let caller = position.number();
+    let _ = log.enter(position, step, caller, &burst.last, moment);
+}
+
+/// The places of all its packets but the last.
+fn enter_wholes<L: Naming, J: Recorder>(
+    log: &mut Log<L, J>,
+    position: &mut Position<L>,
+    moment: u64,
+    dev: DeviceNo,
+    ep: EpAddr,
+    burst: &Burst,
+)
+    requires seen { position.old.seen ≡ log.old.journal }
+    requires room { (places : ℕ) × (length (whole_entries burst.now.each burst.now.full) ≤ places) × (length log.old.journal + places < 2 ^ 64) × J.has_room log.old.recorder places 0 }
+    ensures row { IsRow position.old.number moment (replicate (length (whole_entries burst.now.each burst.now.full)) (Serve dev ep)) (whole_entries burst.now.each burst.now.full) log.old.journal position.old log.new.journal position.new }
+    ensures room { (places : ℕ) → J.has_room log.old.recorder places 0 → J.has_room log.new.recorder (places - length (whole_entries burst.now.each burst.now.full)) 0 }
+{
+    let Some(each) = &burst.each else {
+        return;
+    };
+    let entry = each.entry();
+    let caller = position.number();
+    for _ in 0..burst.full {
+        let step = Step::Serve { dev, ep };
+        let _ = log.enter(position, step, caller, &entry, moment);
     }
-    let _ = log.enter(
-        position,
-        Step::Serve { dev, ep },
-        caller,
-        &burst.last,
-        moment,
-    );
+}
+
+/// Whether one ended a transfer before, or does by this reply.
+fn or_ends(ended: bool, reply: &Reply) -> bool
+    ensures { result ≡ (ended || is_end reply.now) }
+{
+    ended || matches!(reply, Reply::Ended { .. })
+}
+
+/// Whether packets may stop behind one with this reply.
+fn may_stop<P, D: Device>(core: &Core<P, D>, dev: DeviceNo, ep: EpAddr, reply: &Reply) -> bool
+    ensures { (setup : Setup) (w : World) → ShowsWorld setup core.now w → result ≡ true → MayStop setup w dev ep reply.now }
+{
+    match reply {
+        Reply::Moved { .. } => false,
+        Reply::Ended { .. } => !core.has_packet(dev, ep),
+        _ => true,
+    }
 }
 
 /// Events, where there is room for so many places: how many, and whether they left nothing for the controller.
@@ -237,18 +325,52 @@ fn deliver_each<L: Naming, P, D: Device, J: Recorder>(
     position: &mut Position<L>,
     moment: u64,
     most: u32,
-) -> (u32, bool) {
-    let caller = position.number();
+) -> (u32, bool)
+    requires seen { position.old.seen ≡ log.old.journal }
+    requires room { (length log.old.journal + most < 2 ^ 64) × J.has_room log.old.recorder most 0 }
+    requires run { Replays L.setup log.old.journal core.old }
+    ensures row { MakesRow L.setup moment (replicate result.0 Deliver) core.old log.old.journal position.old core.new log.new.journal position.new }
+    ensures few { result.0 ≤ most }
+    ensures ends { result.0 < most → does_something L.setup (world_where L.setup log.new.journal) Deliver ≡ false }
+    ensures quiet { result.1 ≡ true → AreQuiet L.setup (world_where L.setup log.old.journal) result.0 }
+{
     let mut quiet = true;
     for done in 0..most {
         if !core.has_event() {
             return (done, quiet);
         }
-        let entry = core.deliver();
-        quiet = quiet && !core.has_order() && !is_settled(&entry.reply);
-        let _ = log.enter(position, Step::Deliver, caller, &entry, moment);
+        quiet = deliver_next(core, log, position, moment, quiet);
     }
     (most, quiet)
+}
+
+/// The oldest event, at a place: whether it left nothing for the controller, nor those before it.
+fn deliver_next<L: Naming, P, D: Device, J: Recorder>(
+    core: &mut Core<P, D>,
+    log: &mut Log<L, J>,
+    position: &mut Position<L>,
+    moment: u64,
+    quiet: bool,
+) -> bool
+    requires seen { position.old.seen ≡ log.old.journal }
+    requires room { (places : ℕ) × (1 ≤ places) × (length log.old.journal + places < 2 ^ 64) × J.has_room log.old.recorder places 0 }
+    requires run { Replays L.setup log.old.journal core.old }
+    ensures row { MakesRow L.setup moment (Deliver ∷ []) core.old log.old.journal position.old core.new log.new.journal position.new }
+    ensures quiet { result ≡ true → (quiet ≡ true) × IsQuiet L.setup (world_where L.setup log.old.journal) }
+    ensures room { (places : ℕ) → J.has_room log.old.recorder places 0 → J.has_room log.new.recorder (places - 1) 0 }
+{
+    let entry = core.deliver();
+    let caller = position.number();
+    let _ = log.enter(position, Step::Deliver, caller, &entry, moment);
+    leaves_nothing(core, &entry.reply, quiet)
+}
+
+/// Whether an event with this reply left nothing for the controller, nor those before it: by it no errand ended, and no
+/// order waits.
+fn leaves_nothing<P, D: Device>(core: &Core<P, D>, reply: &Reply, quiet: bool) -> bool
+    ensures { (setup : Setup) (w : World) → ShowsWorld setup core.now w → result ≡ true → (quiet ≡ true) × (is_settled reply.now ≡ false) × (does_something setup w Command ≡ false) }
+{
+    quiet && !is_settled(reply) && !core.has_order()
 }
 
 /// Whether an errand ended.

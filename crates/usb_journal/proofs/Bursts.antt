@@ -1,0 +1,71 @@
+-- Packets in a row, by their entries.
+use Rattle.std.proofs.Common.{◌≡◌, ◌∙◌, ◌+◌, ◌++◌, ℕ, zero, suc, Bool, false, List, [], ◌∷◌, Option, Some, None, ap, append_assoc, length, refl, subst, sym}
+use Rattle.std.specs.Prelude.{◌||◌, replicate}
+use Rattle.std.proofs.lemmas.Bool.{or_parts}
+use Rattle.std.proofs.lemmas.List.{length-replicate}
+use Rattle.usb_model.specs.declared.entry.Entry.{Entry}
+use Rattle.usb_model.specs.declared.step.Step.{Step}
+use Rattle.usb_model.specs.declared.step.Step.TheVariants.{Serve}
+use Rattle.usb_model.specs.Setup.{Setup}
+use Rattle.usb_model.specs.World.{World, turn}
+use Rattle.usb_model.specs.World.Journal.{journal_from, run_from}
+use Rattle.usb_model.specs.Machine.Turns.{takes_result}
+use Rattle.usb_core.specs.Public.{State}
+use Rattle.usb_steps.specs.Bursts.{burst_entries, whole_entries, whole_entry}
+use Rattle.usb_steps.specs.declared.bursts.Burst.{Burst}
+use Rattle.usb_steps.specs.declared.bursts.Whole.{Whole}
+use Rattle.usb_journal.specs.declared.place.Place.{Place}
+use Rattle.usb_journal.specs.Booked.{world_where}
+use Rattle.usb_journal.specs.Entered.{MakesRow}
+use Rattle.usb_journal.specs.Records.{bytes_in}
+use Rattle.usb_journal.specs.Rows.{EndNone, MayStop, MayStopBehind, is_end}
+use Rattle.usb_journal.specs.Seen.{Positioned}
+use Rattle.usb_journal.proofs.Replies.{plain_bytes}
+use Rattle.usb_journal.proofs.InRows.{end_none_on, may_stop_last, run_length, run_more}
+
+-- the last entry of a run of the same step, which takes no result, has no bytes
+pub last_bytes : (setup : Setup) (w : World) (step : Step) (n : ℕ) (xs : List Entry) (y : Entry) → takes_result step ≡ false → xs ++ y ∷ [] ≡ run_from setup w (replicate n step) → bytes_in y.reply ≡ 0
+unfolding journal_from
+last_bytes setup w step zero [] y other run = absurd cc
+last_bytes setup w step zero (x ∷ xs) y other run = absurd cc
+last_bytes setup w step (suc n) [] y other run =
+    let first : y ≡ (turn setup w step).entry = cc in
+    ap (λ (e : Entry). bytes_in e.reply) first ∙ plain_bytes setup w step other
+last_bytes setup w step (suc n) (x ∷ xs) y other run =
+    let rest : xs ++ y ∷ [] ≡ run_from setup (turn setup w step).world (replicate n step) = cc in
+    last_bytes setup (turn setup w step).world step n xs y other rest
+
+-- packets that move bytes of a transfer that goes on end none
+none_ends : (x : Whole) (n : ℕ) → EndNone (replicate n (whole_entry x))
+none_ends x zero = tt
+none_ends x (suc n) = (refl, none_ends x n)
+
+pub wholes_end_none : (each : Option Whole) (n : ℕ) → EndNone (whole_entries each n)
+wholes_end_none None n = tt
+wholes_end_none (Some x) n = none_ends x n
+
+-- a burst whose last packet ended none
+pub burst_ends_none : (b : Burst) → is_end b.last.reply ≡ false → EndNone (burst_entries b)
+burst_ends_none b none = end_none_on (whole_entries b.each b.full) (b.last ∷ []) (wholes_end_none b.each b.full) (none, tt)
+
+-- a burst has an entry for each packet
+pub burst_length : (setup : Setup) (w : World) (step : Step) (b : Burst) → burst_entries b ≡ run_from setup w (replicate (b.full + 1) step) → length (burst_entries b) ≡ b.full + 1
+burst_length setup w step b run = ap length run ∙ (run_length setup w (replicate (b.full + 1) step) ∙ length-replicate (b.full + 1) step)
+
+module _ {P : Type 0} (setup : Setup) (moment d e n : ℕ) (old : State P) (first : List Place) (before : Positioned) (core : State P) (mid : List Place) (between : Positioned) (b : Burst) (row : MakesRow setup moment (replicate n (Serve d e)) old first before core mid between)
+    (told : burst_entries b ≡ run_from setup (world_where setup mid) (replicate (b.full + 1) (Serve d e))) where
+  -- a burst behind other packets
+  burst_run : run_from setup (world_where setup first) (replicate (n + (b.full + 1)) (Serve d e)) ≡ run_from setup (world_where setup first) (replicate n (Serve d e)) ++ burst_entries b
+  burst_run = run_more setup moment n (b.full + 1) (Serve d e) old first before core mid between row ∙ ap (λ l. run_from setup (world_where setup first) (replicate n (Serve d e)) ++ l) (sym told)
+
+  -- none ended a transfer, where none before it did and its last didn't
+  pub burst_quiet : (ended ends : Bool) → ends ≡ (ended || is_end b.last.reply) → (ended ≡ false → EndNone (run_from setup (world_where setup first) (replicate n (Serve d e)))) → ends ≡ false → EndNone (run_from setup (world_where setup first) (replicate (n + (b.full + 1)) (Serve d e)))
+  burst_quiet ended ends is none_before none =
+      let parts = or_parts ended (is_end b.last.reply) (sym is ∙ none) in
+      subst EndNone (sym burst_run) (end_none_on (run_from setup (world_where setup first) (replicate n (Serve d e))) (burst_entries b) (none_before parts.0) (burst_ends_none b parts.1))
+
+  -- they may stop, where they may behind its last
+  pub burst_stops : (w : World) → MayStop setup w d e b.last.reply → MayStopBehind setup w d e (run_from setup (world_where setup first) (replicate (n + (b.full + 1)) (Serve d e)))
+  burst_stops w may =
+      let packets = run_from setup (world_where setup first) (replicate n (Serve d e)) in
+      subst (MayStopBehind setup w d e) (sym (burst_run ∙ sym (append_assoc packets (whole_entries b.each b.full) (b.last ∷ [])))) (may_stop_last setup w d e (packets ++ whole_entries b.each b.full) b.last may)

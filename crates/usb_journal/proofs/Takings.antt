@@ -1,0 +1,131 @@
+-- Results that go out in a row.
+use Rattle.std.proofs.Common.{◌≡◌, ◌∙◌, ◌++◌, ℕ, true, false, List, [], ◌∷◌, Option, Some, None, ap, ap₂, drop, length, map, option_map, refl, subst, sym}
+use Rattle.std.specs.Prelude.{replicate}
+use Rattle.std.proofs.lemmas.List.{append-nil, append_assoc, length-append, length-replicate, map-append, replicate-append-replicate}
+use Rattle.std.proofs.Math.Seq.{drop-append_seam, drop-length}
+use Rattle.usb_model.specs.declared.entry.Entry.{Entry}
+use Rattle.usb_model.specs.declared.step.Step.{Step}
+use Rattle.usb_model.specs.declared.step.Step.TheVariants.{Take}
+use Rattle.usb_model.specs.Setup.{Setup}
+use Rattle.usb_model.specs.World.{World}
+use Rattle.usb_model.specs.World.Journal.{journal_from, run_from}
+use Rattle.usb_core.specs.Public.{Carries, CarriesOut, Kept, Taken, called_entry, does_something}
+use Rattle.usb_steps.specs.Pending.{tells_work}
+use Rattle.usb_receipts.specs.Rule.{BeginsWith}
+use Rattle.usb_journal.specs.declared.place.Place.{Place}
+use Rattle.usb_journal.specs.declared.rows.Row.{Row}
+use Rattle.usb_journal.specs.Booked.{Booked, IsMoved, IsSame, Sees, asked, entries_of, next_entry, next_receipt, world_where}
+use Rattle.usb_journal.specs.Entered.{IsRow, TakesRow}
+use Rattle.usb_journal.specs.Rows.{AreKept, EntersRow, new_places}
+use Rattle.usb_journal.specs.Seen.{Positioned, Receipted, positioned}
+use Rattle.usb_journal.proofs.InRows.{entered_row, enters, row_on, row_one, row_places, run_on, world_behind}
+
+-- one more stands behind what was held
+pub put_behind : {A : Type 0} (before held after : List A) (x : A) → after ≡ held ++ x ∷ [] → held ≡ before → after ≡ before ++ x ∷ []
+put_behind before held after x put same = put ∙ ap (λ l. l ++ x ∷ []) same
+
+-- and behind what came before it
+pub put_more : {A : Type 0} (before more held after : List A) (x : A) → after ≡ held ++ x ∷ [] → held ≡ before ++ more → after ≡ before ++ (more ++ x ∷ [])
+put_more before more held after x put so_far = put ∙ (ap (λ l. l ++ x ∷ []) so_far ∙ append_assoc before more (x ∷ []))
+
+-- the payloads of these and of those
+are_kept_on : {P : Type 0} (kept : Kept P) (ts us : List (Taken P)) → AreKept kept ts → AreKept kept us → AreKept kept (ts ++ us)
+are_kept_on kept [] us a b = b
+are_kept_on kept (t ∷ ts) us a b = (a.0, are_kept_on kept ts us a.1 b)
+
+module _ {P : Type 0} where
+  -- rows of steps behind one another are one
+  both_rows : (xs ys : List Step) (old mid new : Booked P) (before between after : Positioned) (first second : Row) → EntersRow xs old before first mid between → EntersRow ys mid between second new after
+      → IsRow before.number old.moment (xs ++ ys) (run_from old.setup (world_where old.setup old.journal) (xs ++ ys)) old.journal before new.journal after
+  both_rows xs ys old mid new before between after first second a b =
+      let one = entered_row xs old mid before between first a in
+      let world : world_where mid.setup mid.journal ≡ _ = ap (λ (s : Setup). world_where s mid.journal) a.setup ∙ world_behind before.number old.moment xs (run_from old.setup (world_where old.setup old.journal) xs) old.journal before mid.journal between one old.setup in
+      let told : run_from mid.setup (world_where mid.setup mid.journal) ys ≡ _ = ap₂ (λ (s : Setup) (w : World). run_from s w ys) a.setup world in
+      let two : IsRow before.number old.moment ys _ mid.journal between new.journal after =
+      subst (λ es. IsRow before.number old.moment ys es mid.journal between new.journal after) told
+      (subst (λ n. IsRow n old.moment ys (run_from mid.setup (world_where mid.setup mid.journal) ys) mid.journal between new.journal after) a.number
+      (subst (λ m. IsRow between.number m ys (run_from mid.setup (world_where mid.setup mid.journal) ys) mid.journal between new.journal after) a.moment (entered_row ys mid new between after second b))) in
+      subst (λ es. IsRow before.number old.moment (xs ++ ys) es old.journal before new.journal after) (sym (run_on old.setup (world_where old.setup old.journal) xs ys))
+      (row_on before.number old.moment xs ys _ _ old.journal before mid.journal between new.journal after one two)
+
+  -- the places of both
+  both_places : (xs ys : List Step) (old mid new : Booked P) (before between after : Positioned) (first second : Row) → EntersRow xs old before first mid between → EntersRow ys mid between second new after → new_places old new ≡ new_places old mid ++ new_places mid new
+  both_places xs ys old mid new before between after first second a b =
+      ap (drop (length old.journal)) (b.journal ∙ (ap (λ l. l ++ new_places mid new) a.journal ∙ append_assoc old.journal (new_places old mid) (new_places mid new))) ∙ drop-append_seam old.journal (new_places old mid ++ new_places mid new)
+
+  -- no result went out
+  pub takes_none : (old : Booked P) (before : Positioned) → before.seen ≡ old.journal → TakesRow [] old before old before
+  unfolding journal_from
+  takes_none old before seen =
+      let none = drop-length old.journal in
+      record {
+        row = enters [] old old before before _ (record { places = []; journal = sym (append-nil old.journal); each = refl; entries = refl; own = sym (append-nil before.own); number = refl; seen = seen }) refl refl ([], sym (append-nil before.seen ∙ seen)) refl refl;
+        entries = ap entries_of none;
+        carries = λ kept has. (tt, has);
+      }
+
+  -- no step, from where all of the journal so far is seen
+  pub looks_none : (old new : Booked P) (before after : Positioned) (first : ℕ) → after ≡ positioned before.number old.journal → after.own ≡ before.own → BeginsWith before.seen old.journal → first ≡ length old.journal → new.journal ≡ old.journal → new.setup ≡ old.setup → new.moment ≡ old.moment
+      → EntersRow [] old before (record { first = first; count = 0 }) new after
+  unfolding journal_from
+  looks_none old new before after first at own began len same setup moment =
+      enters [] old new before after (record { first = first; count = 0 })
+      (record { places = []; journal = same ∙ sym (append-nil old.journal); each = refl; entries = refl; own = own ∙ sym (append-nil before.own); number = ap (λ (p : Positioned). p.number) at; seen = ap (λ (p : Positioned). p.seen) at ∙ sym same })
+      len refl began setup moment
+
+  -- some went out, and more
+  pub takes_on : (ts us : List (Taken P)) (old mid new : Booked P) (before between after : Positioned) → TakesRow ts old before mid between → TakesRow us mid between new after → TakesRow (ts ++ us) old before new after
+  takes_on ts us old mid new before between after a b =
+      let row = both_rows (replicate (length ts) Take) (replicate (length us) Take) old mid new before between after _ _ a.row b.row in
+      let steps : replicate (length ts) Take ++ replicate (length us) Take ≡ replicate (length (ts ++ us)) Take = replicate-append-replicate (length ts) (length us) Take ∙ ap (λ n. replicate n Take) (sym (length-append ts us)) in
+      let places = both_places (replicate (length ts) Take) (replicate (length us) Take) old mid new before between after _ _ a.row b.row in
+      record {
+        row = subst (λ ss. EntersRow ss old before (record { first = length old.journal; count = length (ts ++ us) }) new after) steps (enters _ old new before after _ row refl (sym (ap length steps ∙ length-replicate (length (ts ++ us)) Take)) a.row.saw.0 (b.row.setup ∙ a.row.setup) (b.row.moment ∙ a.row.moment));
+        entries = ap entries_of places ∙ (map-append (λ (p : Place). p.entry) (new_places old mid) (new_places mid new) ∙ (ap₂ (λ (l k : List Entry). l ++ k) a.entries b.entries ∙ sym (map-append (λ (t : Taken P). called_entry (Some t.returned)) ts us)));
+        carries = λ kept has. let first = a.carries kept has in let second = b.carries kept first.1 in (are_kept_on kept ts us first.0 second.0, second.1);
+      }
+
+  -- one went out
+  pub takes_one : (old new : Booked P) (before after : Positioned) (receipt : Receipted) (o : Option (Taken P)) (t : Taken P) → o ≡ Some t → receipt ≡ next_receipt old Take before.number (called_entry (option_map (λ x. x.returned) o)) → new.journal ≡ old.journal ++ receipt.entry ∷ []
+      → called_entry (option_map (λ x. x.returned) o) ≡ next_entry old.setup old.journal Take → IsMoved before receipt after → Sees before old.journal after new.journal → (new.setup ≡ old.setup) × (new.moment ≡ old.moment)
+      → ((kept : Kept P) → Carries kept old.core → CarriesOut kept o × Carries kept new.core) → TakesRow (t ∷ []) old before new after
+  unfolding journal_from
+  takes_one old new before after receipt o t some told is entry moved saw rest carries =
+      let its : Entry = called_entry (Some t.returned) in
+      let out : called_entry (option_map (λ x. x.returned) o) ≡ its = ap (λ (y : Option (Taken P)). called_entry (option_map (λ x. x.returned) y)) some in
+      let row = row_one before.number old.moment Take its old.journal before new.journal after receipt (length old.journal) (told ∙ ap (λ (e : Entry). next_receipt old Take before.number e) out) is moved saw in
+      let run : IsRow before.number old.moment (Take ∷ []) (run_from old.setup (world_where old.setup old.journal) (Take ∷ [])) old.journal before new.journal after =
+      subst (λ (e : Entry). IsRow before.number old.moment (Take ∷ []) (e ∷ []) old.journal before new.journal after) (sym out ∙ entry) row in
+      record {
+        row = enters (Take ∷ []) old new before after _ run refl refl saw.0 rest.0 rest.1;
+        entries = ap entries_of (row_places before.number old.moment (Take ∷ []) (its ∷ []) old.journal before new.journal after row) ∙ row.entries;
+        carries = λ kept has. let both = carries kept has in ((subst (CarriesOut kept) some both.0, tt), both.1);
+      }
+
+  -- behind them nothing changed that anybody sees
+  pub takes_same : (ts : List (Taken P)) (old mid new : Booked P) (before between after : Positioned) → after ≡ between → IsSame mid new → TakesRow ts old before mid between → TakesRow ts old before new after
+  takes_same ts old mid new before between after at same a =
+      let places : new_places old new ≡ new_places old mid = ap (drop (length old.journal)) same.journal in
+      let r = a.row in
+      record {
+        row = record {
+          first = r.first;
+          count = r.count;
+          journal = same.journal ∙ (r.journal ∙ ap (λ l. old.journal ++ l) (sym places));
+          each = ap (map asked) places ∙ r.each;
+          entries = ap entries_of places ∙ r.entries;
+          own = ap (λ (p : Positioned). p.own) at ∙ (r.own ∙ ap (λ l. before.own ++ l) (sym places));
+          number = ap (λ (p : Positioned). p.number) at ∙ r.number;
+          saw = (r.saw.0, ap (λ (p : Positioned). p.seen) at ∙ (r.saw.1 ∙ sym same.journal));
+          setup = same.setup ∙ r.setup;
+          moment = same.moment ∙ r.moment;
+        };
+        entries = ap entries_of places ∙ a.entries;
+        carries = λ kept has. let both = a.carries kept has in (both.0, same.carries kept both.1);
+      }
+
+-- where a result waits one goes out
+pub one_goes : (setup : Setup) (places : List Place) → called_entry None ≡ next_entry setup places Take → does_something setup (world_where setup places) Take ≡ true → ⊥
+one_goes setup places idle some =
+    let none : tells_work false (next_entry setup places Take).reply ≡ false = ap (λ (e : Entry). tells_work false e.reply) (sym idle) in
+    absurd (cc (none, some))

@@ -1,0 +1,41 @@
+-- Places in a row as they are entered, before a caller is told of them.
+use Rattle.std.specs.Prelude.{◌≡◌, ℕ, false, List, ◌++◌, length, map, replicate, Some}
+use Rattle.usb_model.specs.declared.entry.Entry.{Entry}
+use Rattle.usb_model.specs.declared.step.Step.{Step}
+use Rattle.usb_model.specs.declared.step.Step.TheVariants.{Command, Deliver, Take}
+use Rattle.usb_model.specs.Setup.{Setup}
+use Rattle.usb_model.specs.World.{World, turn}
+use Rattle.usb_model.specs.World.Journal.{run_from}
+use Rattle.usb_core.specs.Public.{Carries, Kept, State, StillCarries, Taken, called_entry, does_something}
+use Rattle.usb_journal.specs.declared.place.Place.{Place}
+use Rattle.usb_journal.specs.Booked.{Booked, Replays, asked, asks, entries_of, world_where}
+use Rattle.usb_journal.specs.Rows.{AreKept, EntersRow, is_settled, new_places}
+use Rattle.usb_journal.specs.Seen.{Positioned}
+use Rattle.usb_journal.specs.Timers.{timers_of}
+
+-- places behind a journal, for the bearer of a position: one for each of these steps, with these entries
+pub record IsRow (caller moment : ℕ) (steps : List Step) (told : List Entry) (first : List Place) (before : Positioned) (later : List Place) (after : Positioned) : Type 0 where
+  pub places : List Place
+  pub journal : later ≡ first ++ places
+  pub each : map asked places ≡ asks caller moment steps
+  pub entries : entries_of places ≡ told
+  pub own : after.own ≡ before.own ++ places
+  pub number : after.number ≡ before.number
+  pub seen : after.seen ≡ later
+
+-- a core made these steps, each at a place: the entries are those of the run, the core shows the world behind it, and the timers stay
+pub record MakesRow {P : Type 0} (setup : Setup) (moment : ℕ) (steps : List Step) (old : State P) (first : List Place) (before : Positioned) (new : State P) (later : List Place) (after : Positioned) : Type 0 where
+  pub row : IsRow before.number moment steps (run_from setup (world_where setup first) steps) first before later after
+  pub run : Replays setup later new
+  pub timers : timers_of later ≡ timers_of first
+  pub carries : StillCarries old new
+
+-- by the oldest event no errand ends, and behind it no order waits
+abbrev pub IsQuiet : Setup → World → Type 0
+IsQuiet setup w = (is_settled (turn setup w Deliver).entry.reply ≡ false) × (does_something setup (turn setup w Deliver).world Command ≡ false)
+
+-- these results went out, in order, each at a place, and with the payload that was kept with its transfer
+pub record TakesRow {P : Type 0} (taken : List (Taken P)) (old : Booked P) (before : Positioned) (new : Booked P) (after : Positioned) : Type 0 where
+  pub row : EntersRow (replicate (length taken) Take) old before (record { first = length old.journal; count = length taken }) new after
+  pub entries : entries_of (new_places old new) ≡ map (λ t. called_entry (Some t.returned)) taken
+  pub carries : (kept : Kept P) → Carries kept old.core → AreKept kept taken × Carries kept new.core
