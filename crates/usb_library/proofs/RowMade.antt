@@ -27,11 +27,11 @@ asks_steps caller moment [] = refl
 asks_steps caller moment (step ∷ steps) = ap (λ l. step ∷ l) (asks_steps caller moment steps)
 
 -- the last places of what is seen, from this one on, are a row of these steps behind what was before
-pub record IsLastRow (setup : Setup) (steps : List Step) (before places seen : List Place) (first : ℕ) : Type 0 where
-  pub first : first ≡ length before
+pub record IsLastRow (setup : Setup) (made : List Step) (before places seen : List Place) (place : ℕ) : Type 0 where
+  pub first : place ≡ length before
   pub saw : seen ≡ before ++ places
-  pub steps : steps_of places ≡ steps
-  pub entries : entries_of places ≡ run_from setup (world_where setup before) steps
+  pub steps : steps_of places ≡ made
+  pub entries : entries_of places ≡ run_from setup (world_where setup before) made
 
 -- by what a book says of the row, and a caller that counts no want of memory
 pub row_of_book : {X E P : Type 0} (setup : Setup) (steps : X → List Step) (row : X → Row) (old new : Booked P) (before after : Positioned) (missed : ℕ) (done : Calling) (result : Result X E) (x : X)
@@ -58,8 +58,8 @@ none_seen setup step count before places seen first last none = last.saw ∙ (ap
 -- so what a call makes, where the row is above the caller's earlier places
 pub makes_row : {X E P : Type 0} (setup : Setup) (steps : X → List Step) (row : X → Row) (old new : Booked P) (before after : Positioned) (missed : ℕ) (called done : Calling) (result : Result X E) (x : X)
     → result ≡ Ok x → IfOk result (λ y. EntersRow (steps y) old before (row y) new after) → old.setup ≡ setup → OnOk result (done ≡ calling after missed) → calling before missed ≡ called
-    → before.position ≤ (row x).first → MakesRow setup (steps x) called (row x) done
-makes_row setup steps row old new before after missed called done result x is enters its same view above =
+    → MakesRow setup (steps x) called (row x) done
+makes_row setup steps row old new before after missed called done result x is enters its same view =
     let e : EntersRow (steps x) old before (row x) new after = at_ok (λ y. EntersRow (steps y) old before (row y) new after) result x is enters in
     let same : done ≡ calling after missed = subst (λ y. OnOk y (done ≡ calling after missed)) is same in
     subst (λ c. MakesRow setup (steps x) c (row x) done) view (subst (MakesRow setup (steps x) (calling before missed) (row x)) (sym same) (record {
@@ -68,7 +68,7 @@ makes_row setup steps row old new before after missed called done result x is en
       places = new_places old new;
       first = e.first;
       count = e.count;
-      above = above;
+      above = e.above;
       each = e.each;
       entries = e.entries ∙ ap (λ s. run_from s (world_where s old.journal) (steps x)) its;
       own = e.own;

@@ -1,5 +1,5 @@
 -- Whom a row of steps has to wake: whom one of its steps names, and nobody else.
-use Rattle.std.proofs.Common.{Bool, List, [], Unit, tt, ap, false, inl, inr, refl, subst, sym, true, zero, suc, ℕ, ◌++◌, ◌∙◌, ◌∷◌, ◌≡◌, ◌⊎◌}
+use Rattle.std.proofs.Common.{Bool, List, [], ap, false, inl, inr, refl, subst, sym, true, zero, suc, ℕ, ◌++◌, ◌∙◌, ◌∷◌, ◌≡◌, ◌⊎◌}
 use Rattle.std.proofs.lemmas.List.{map-append}
 use Rattle.std.proofs.Math.Seq.{take-append_seam}
 use Rattle.std.specs.Prelude.{if◌then◌else◌, replicate, take}
@@ -91,7 +91,7 @@ event_covered quiet false _ is part named = absurd cc
 -- where nothing changed nobody is named
 if_covered : (changed : Bool) (less more : Work) → Covers less more → Covers (if_changed changed less) more
 if_covered true less more covers = covers
-if_covered false less more covers part named = absurd cc
+if_covered false less more covers = λ part named. absurd cc
 
 -- so do events in a row
 pub events_name : (setup : Setup) (quiet : Bool) (count : ℕ) (w : World) → (quiet ≡ true → AreQuiet setup w count) → NameNoMore setup w (replicate count Deliver) (if quiet then None else Of Controller)

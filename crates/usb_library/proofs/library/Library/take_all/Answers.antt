@@ -20,7 +20,7 @@ pub returns-clause-made : goal.returns-clause-made
 returns-clause-made g c =
     let row = c.in_ok-row.row in
     let e = c.take_all-made.ensures in
-    makes_row g.L.Naming.setup (λ y. replicate y.count Take) (λ y. y) c.deref_mut.result.now.book c.take_all-made.new.self _ _ _ _ c.counted.new.self c.take_all-made.result row (sym c.counted.ensures.given ∙ c.in_ok-row.was) e.made e.library c.counted.ensures.made c.caller.view_is ?
+    makes_row g.L.Naming.setup (λ y. replicate y.count Take) (λ y. y) c.deref_mut.result.now.book c.take_all-made.new.self _ _ _ _ c.counted.new.self c.take_all-made.result row (sym c.counted.ensures.given ∙ c.in_ok-row.was) e.made e.library c.counted.ensures.made c.caller.view_is
 
 pub returns-clause-none : goal.returns-clause-none
 returns-clause-none g c = λ none some.
