@@ -4,3 +4,5 @@ mod NewWork
 mod Served
 mod Works
 mod Rests
+mod RowMade
+mod RowWakes
