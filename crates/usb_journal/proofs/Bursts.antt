@@ -1,5 +1,5 @@
 -- Packets in a row, by their entries.
-use Rattle.std.proofs.Common.{◌≡◌, ◌∙◌, ◌+◌, ◌++◌, ℕ, zero, suc, Bool, false, List, [], ◌∷◌, Option, Some, None, ap, append_assoc, length, refl, subst, sym}
+use Rattle.std.proofs.Common.{◌≡◌, ◌∙◌, ◌+◌, ◌++◌, ℕ, zero, suc, Bool, false, true, List, [], ◌∷◌, Option, Some, None, ap, append_assoc, length, refl, subst, sym}
 use Rattle.std.specs.Prelude.{◌||◌, replicate}
 use Rattle.std.proofs.lemmas.Bool.{or_parts}
 use Rattle.std.proofs.lemmas.List.{length-replicate}
@@ -18,7 +18,7 @@ use Rattle.usb_journal.specs.declared.place.Place.{Place}
 use Rattle.usb_journal.specs.Booked.{world_where}
 use Rattle.usb_journal.specs.Entered.{MakesRow}
 use Rattle.usb_journal.specs.Records.{bytes_in}
-use Rattle.usb_journal.specs.Rows.{EndNone, MayStop, MayStopBehind, is_end}
+use Rattle.usb_journal.specs.Rows.{AreProgress, EndNone, GoOn, MayStop, MayStopBehind, is_end, is_progress}
 use Rattle.usb_journal.specs.Seen.{Positioned}
 use Rattle.usb_journal.proofs.Replies.{plain_bytes}
 use Rattle.usb_journal.proofs.InRows.{end_none_on, may_stop_last, run_length, run_more}
@@ -48,6 +48,34 @@ wholes_end_none (Some x) n = none_ends x n
 pub burst_ends_none : (b : Burst) → is_end b.last.reply ≡ false → EndNone (burst_entries b)
 burst_ends_none b none = end_none_on (whole_entries b.each b.full) (b.last ∷ []) (wholes_end_none b.each b.full) (none, tt)
 
+-- no packets
+pub none_progress : (setup : Setup) (w : World) → AreProgress (run_from setup w [])
+unfolding journal_from
+none_progress setup w = tt
+
+-- of two rows
+progress_on : (xs ys : List Entry) → AreProgress xs → AreProgress ys → AreProgress (xs ++ ys)
+progress_on [] ys one two = two
+progress_on (x ∷ xs) ys one two = (one.0, progress_on xs ys one.1 two)
+
+-- where each did, so did each but the last
+pub progress_goes_on : (xs : List Entry) → AreProgress xs → GoOn xs
+progress_goes_on [] are = tt
+progress_goes_on (x ∷ []) are = tt
+progress_goes_on (x ∷ y ∷ xs) are = (are.0, progress_goes_on (y ∷ xs) are.1)
+
+-- whatever the last did
+progress_last : (xs : List Entry) (y : Entry) → AreProgress xs → GoOn (xs ++ y ∷ [])
+progress_last [] y are = tt
+progress_last (x ∷ []) y are = (are.0, tt)
+progress_last (x ∷ z ∷ xs) y are = (are.0, progress_last (z ∷ xs) y are.1)
+
+-- the packets of a burst but the last
+wholes_progress : (each : Option Whole) (n : ℕ) → AreProgress (whole_entries each n)
+wholes_progress None n = tt
+wholes_progress (Some x) zero = tt
+wholes_progress (Some x) (suc n) = (refl, wholes_progress (Some x) n)
+
 -- a burst has an entry for each packet
 pub burst_length : (setup : Setup) (w : World) (step : Step) (b : Burst) → burst_entries b ≡ run_from setup w (replicate (b.full + 1) step) → length (burst_entries b) ≡ b.full + 1
 burst_length setup w step b run = ap length run ∙ (run_length setup w (replicate (b.full + 1) step) ∙ length-replicate (b.full + 1) step)
@@ -69,3 +97,14 @@ module _ {P : Type 0} (setup : Setup) (moment d e n : ℕ) (old : State P) (firs
   burst_stops w may =
       let packets = run_from setup (world_where setup first) (replicate n (Serve d e)) in
       subst (MayStopBehind setup w d e) (sym (burst_run ∙ sym (append_assoc packets (whole_entries b.each b.full) (b.last ∷ [])))) (may_stop_last setup w d e (packets ++ whole_entries b.each b.full) b.last may)
+
+  -- each packet so far moved bytes or ended a transfer, and so did all of the burst
+  pub burst_goes_on : AreProgress (run_from setup (world_where setup first) (replicate n (Serve d e))) → is_progress b.last.reply ≡ true → AreProgress (run_from setup (world_where setup first) (replicate (n + (b.full + 1)) (Serve d e)))
+  burst_goes_on are last =
+      subst AreProgress (sym burst_run) (progress_on (run_from setup (world_where setup first) (replicate n (Serve d e))) (burst_entries b) are (progress_on (whole_entries b.each b.full) (b.last ∷ []) (wholes_progress b.each b.full) (last, tt)))
+
+  -- or all but its last
+  pub burst_halts : AreProgress (run_from setup (world_where setup first) (replicate n (Serve d e))) → GoOn (run_from setup (world_where setup first) (replicate (n + (b.full + 1)) (Serve d e)))
+  burst_halts are =
+      let packets = run_from setup (world_where setup first) (replicate n (Serve d e)) in
+      subst GoOn (sym (burst_run ∙ sym (append_assoc packets (whole_entries b.each b.full) (b.last ∷ [])))) (progress_last (packets ++ whole_entries b.each b.full) b.last (progress_on packets (whole_entries b.each b.full) are (wholes_progress b.each b.full)))

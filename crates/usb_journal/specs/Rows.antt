@@ -44,6 +44,23 @@ MayStopBehind setup w d e [] = ⊥
 MayStopBehind setup w d e (x ∷ []) = MayStop setup w d e x.reply
 MayStopBehind setup w d e (x ∷ y ∷ xs) = MayStopBehind setup w d e (y ∷ xs)
 
+-- a packet moved bytes of a transfer that goes on, or ended one
+abbrev pub is_progress : Reply → Bool
+is_progress (Moved n bytes) = true
+is_progress (Ended n code) = true
+is_progress reply = false
+
+-- each of these did
+abbrev pub AreProgress : List Entry → Type 0
+AreProgress [] = Unit {0}
+AreProgress (x ∷ xs) = (is_progress x.reply ≡ true) × AreProgress xs
+
+-- each of these but the last did
+abbrev pub GoOn : List Entry → Type 0
+GoOn [] = Unit {0}
+GoOn (x ∷ []) = Unit {0}
+GoOn (x ∷ y ∷ xs) = (is_progress x.reply ≡ true) × GoOn (y ∷ xs)
+
 -- a packet ended a transfer
 abbrev pub is_end : Reply → Bool
 is_end (Ended n code) = true

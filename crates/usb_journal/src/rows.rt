@@ -10,7 +10,7 @@ ghost use Rattle.usb_steps.specs.Bursts.{burst_entries, whole_entries};
 ghost use Rattle.usb_journal.specs.Booked.{IsSame, Replays, entries_of, world_where};
 ghost use Rattle.usb_journal.specs.Entered.{IsQuiet, IsRow, MakesRow, TakesRow};
 ghost use Rattle.usb_journal.specs.Records.{bytes_in};
-ghost use Rattle.usb_journal.specs.Rows.{AreKept, AreQuiet, EndNone, EntersRow, MayStop, MayStopBehind, is_end, is_settled, new_places};
+ghost use Rattle.usb_journal.specs.Rows.{AreKept, AreQuiet, EndNone, EntersRow, GoOn, MayStop, MayStopBehind, is_end, is_progress, is_settled, new_places};
 
 use crate::book::Book;
 use crate::log::Log;
@@ -51,7 +51,7 @@ pub struct Delivered {
 
 impl<L: Naming, P, D: Device, J: Recorder> Book<L, P, D, J> {
     /// A device answers packets in a row at an endpoint (USB 2.0, 8.5), at the next places of the journal: at most so many,
-    /// and at least one. They end behind one that moved no bytes; one that ended a transfer is the last only where no other
+    /// and at least one. They end behind the first that moved no bytes; one that ended a transfer is the last only where no other
     /// packet does anything there. Where memory is wanting nothing changed.
     pub fn serve_all(
         &mut self,
@@ -62,6 +62,7 @@ impl<L: Naming, P, D: Device, J: Recorder> Book<L, P, D, J> {
     ) -> Result<Served, AllocError>
         ensures made { IfOk result (λ x. EntersRow (replicate x.row.count (Serve dev ep)) self.old position.old x.row self.new position.new) }
         ensures some { IfOk result (λ x. (0 < x.row.count) × (x.row.count ≤ max 1 most)) }
+        ensures on { IfOk result (λ x. GoOn (entries_of (new_places self.old self.new))) }
         ensures ends { IfOk result (λ x. x.row.count < most → MayStopBehind self.old.setup (world_where self.old.setup self.new.journal) dev ep (entries_of (new_places self.old self.new))) }
         ensures quiet { IfOk result (λ x. x.ended ≡ false → EndNone (entries_of (new_places self.old self.new))) }
         ensures library { self.old.setup ≡ L.setup }
@@ -214,6 +215,7 @@ fn serve_each<L: Naming, P, D: Device, J: Recorder>(
     requires run { Replays L.setup log.old.journal core.old }
     ensures row { MakesRow L.setup moment (replicate result.0 (Serve dev ep)) core.old log.old.journal position.old core.new log.new.journal position.new }
     ensures some { (0 < result.0) × (result.0 ≤ most) }
+    ensures on { GoOn (run_from L.setup (world_where L.setup log.old.journal) (replicate result.0 (Serve dev ep))) }
     ensures ends { result.0 < most → MayStopBehind L.setup (world_where L.setup log.new.journal) dev ep (run_from L.setup (world_where L.setup log.old.journal) (replicate result.0 (Serve dev ep))) }
     ensures quiet { result.1 ≡ false → EndNone (run_from L.setup (world_where L.setup log.old.journal) (replicate result.0 (Serve dev ep))) }
 {
@@ -309,7 +311,8 @@ fn or_ends(ended: bool, reply: &Reply) -> bool
 
 /// Whether packets may stop behind one with this reply.
 fn may_stop<P, D: Device>(core: &Core<P, D>, dev: DeviceNo, ep: EpAddr, reply: &Reply) -> bool
-    ensures { (setup : Setup) (w : World) → ShowsWorld setup core.now w → result ≡ true → MayStop setup w dev ep reply.now }
+    ensures stops { (setup : Setup) (w : World) → ShowsWorld setup core.now w → result ≡ true → MayStop setup w dev ep reply.now }
+    ensures on { result ≡ false → is_progress reply.now ≡ true }
 {
     match reply {
         Reply::Moved { .. } => false,

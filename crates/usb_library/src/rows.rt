@@ -8,7 +8,7 @@ ghost use Rattle.std.specs.Prelude.{◌≡◌, ◌<◌, ◌≤◌, [], false, If
 ghost use Rattle.usb_model.specs.declared.step.Step.TheVariants.{Deliver, Serve, Take};
 ghost use Rattle.usb_core.specs.Public.{called_entry, does_something};
 ghost use Rattle.usb_journal.specs.Booked.{world_where};
-ghost use Rattle.usb_journal.specs.Rows.{MayStopBehind};
+ghost use Rattle.usb_journal.specs.Rows.{GoOn, MayStopBehind};
 ghost use Rattle.usb_library.specs.Calls.{MakesRow, misses, row_entries};
 ghost use Rattle.usb_library.specs.Wakes.{WakesSince};
 
@@ -23,7 +23,7 @@ use usb_journal::{Naming, Recorder, Row};
 use usb_model::{DeviceNo, EpAddr};
 
 impl<L: Naming, P: Drop, D: Device, J: Recorder> Library<L, P, D, J> {
-    /// A device answers packets in a row at an endpoint (USB 2.0, 8.5): at most so many, and at least one. They end behind one
+    /// A device answers packets in a row at an endpoint (USB 2.0, 8.5): at most so many, and at least one. They end behind the first
     /// that moved no bytes; one that ended a transfer is the last only where no other packet does anything there.
     pub fn serve_all<R: Wait>(
         &self,
@@ -35,6 +35,7 @@ impl<L: Naming, P: Drop, D: Device, J: Recorder> Library<L, P, D, J> {
     ) -> Result<Row, AllocError>
         ensures made { IfOk result (λ row. MakesRow L.setup (replicate row.count (Serve dev ep)) caller.old row caller.new) }
         ensures some { IfOk result (λ row. (0 < row.count) × (row.count ≤ max 1 most)) }
+        ensures on { IfOk result (λ row. GoOn (row_entries row caller.new)) }
         ensures ends { IfOk result (λ row. row.count < most → MayStopBehind L.setup (world_where L.setup caller.new.seen) dev ep (row_entries row caller.new)) }
         ensures refused { OnErr result (caller.new ≡ misses caller.old) }
     {

@@ -1,7 +1,7 @@
 use Rattle.std.proofs.Common.{◌≡◌, ◌+◌, ◌-◌, arith, subst}
 use Rattle.usb_model.specs.declared.step.Step.TheVariants.{Serve}
 use Rattle.usb_journal.specs.Booked.{world_where}
-use Rattle.usb_journal.proofs.Bursts.{burst_quiet, burst_stops}
+use Rattle.usb_journal.proofs.Bursts.{burst_goes_on, burst_halts, burst_quiet, burst_stops, none_progress, progress_goes_on}
 use Rattle.usb_journal.proofs.InRows.{makes_count, makes_more, makes_none, none_ended}
 use Rattle.usb_journal.proofs.rows.serve_each.Goals as goal
 
@@ -15,6 +15,7 @@ loop-count-init g c =
       few = omega arith;
       room = subst (λ n. g.J.Recorder.has_room c.args.log.now.recorder n 0) all c.requires.room.1;
       quiet = λ none. none_ended setup (world_where setup c.args.log.now.journal);
+      on = none_progress setup (world_where setup c.args.log.now.journal);
     }
 
 pub returns-then-may_stop-clause-row : goal.returns-then-may_stop-clause-row
@@ -29,7 +30,7 @@ returns-then-may_stop-clause-ends g c = λ fewer.
     let l = c.loop-count in
     let s = c.serve_row-burst in
     let w = world_where setup s.new.log.journal in
-    burst_stops setup c.args.moment c.args.dev c.args.ep l.count c.args.core.now c.args.log.now.journal c.args.position.now l.core l.log.journal l.position s.result l.invariant.row s.ensures.entries w (c.may_stop.ensures setup w s.ensures.row.run.1 c.if-may_stop.true)
+    burst_stops setup c.args.moment c.args.dev c.args.ep l.count c.args.core.now c.args.log.now.journal c.args.position.now l.core l.log.journal l.position s.result l.invariant.row s.ensures.entries w (c.may_stop.ensures.stops setup w s.ensures.row.run.1 c.if-may_stop.true)
 
 pub returns-then-may_stop-clause-quiet : goal.returns-then-may_stop-clause-quiet
 returns-then-may_stop-clause-quiet g c =
@@ -53,6 +54,7 @@ loop-count-preserved-else-may_stop g c =
       few = omega (arith, s.ensures.few, c.loop-count-test.true);
       room = subst (λ n. g.J.Recorder.has_room s.new.log.recorder n 0) left s.ensures.room;
       quiet = burst_quiet setup c.args.moment c.args.dev c.args.ep l.count c.args.core.now c.args.log.now.journal c.args.position.now l.core l.log.journal l.position s.result l.invariant.row s.ensures.entries l.ended c.or_ends-ended.result c.or_ends-ended.ensures l.invariant.quiet;
+      on = burst_goes_on setup c.args.moment c.args.dev c.args.ep l.count c.args.core.now c.args.log.now.journal c.args.position.now l.core l.log.journal l.position s.result l.invariant.row s.ensures.entries l.invariant.on (c.may_stop.ensures.on c.if-may_stop.false);
     }
 
 pub loop-count-preserved : goal.loop-count-preserved
@@ -70,4 +72,14 @@ loop-count-preserved g c =
       few = omega (arith, s.ensures.few, c.loop-count-test.true);
       room = subst (λ n. g.J.Recorder.has_room s.new.log.recorder n 0) left s.ensures.room;
       quiet = burst_quiet setup c.args.moment c.args.dev c.args.ep l.count c.args.core.now c.args.log.now.journal c.args.position.now l.core l.log.journal l.position s.result l.invariant.row s.ensures.entries l.ended c.or_ends-ended.result c.or_ends-ended.ensures l.invariant.quiet;
+      on = burst_goes_on setup c.args.moment c.args.dev c.args.ep l.count c.args.core.now c.args.log.now.journal c.args.position.now l.core l.log.journal l.position s.result l.invariant.row s.ensures.entries l.invariant.on (c.may_stop.ensures.on c.if-may_stop.false);
     }
+
+pub returns-then-may_stop-clause-on : goal.returns-then-may_stop-clause-on
+returns-then-may_stop-clause-on g c =
+    let l = c.loop-count in
+    let s = c.serve_row-burst in
+    burst_halts g.L.Naming.setup c.args.moment c.args.dev c.args.ep l.count c.args.core.now c.args.log.now.journal c.args.position.now l.core l.log.journal l.position s.result l.invariant.row s.ensures.entries l.invariant.on
+
+pub returns-clause-on : goal.returns-clause-on
+returns-clause-on g c = progress_goes_on _ c.loop-count.invariant.on
