@@ -40,6 +40,7 @@ none_ends : (x : Whole) (n : ℕ) → EndNone (replicate n (whole_entry x))
 none_ends x zero = tt
 none_ends x (suc n) = (refl, none_ends x n)
 
+-- nor do those before the last of a burst
 pub wholes_end_none : (each : Option Whole) (n : ℕ) → EndNone (whole_entries each n)
 wholes_end_none None n = tt
 wholes_end_none (Some x) n = none_ends x n

@@ -115,10 +115,6 @@ module _ (caller moment : ℕ) where
         ap (world_where setup) r.journal ∙ (ap (world_from setup (new_world setup)) (map-append (λ (p : Place). p.step) first r.places)
         ∙ (world_on setup (new_world setup) (steps_of first) (steps_of r.places) ∙ ap (world_from setup (world_where setup first)) (steps_asked caller moment steps r.places r.each)))
 
-    -- from another position with the same number and the same places
-    pub row_from : (other : Positioned) → before.number ≡ other.number → before.own ≡ other.own → IsRow caller moment steps told first other later after
-    row_from other number own = record { places = r.places; journal = r.journal; each = r.each; entries = r.entries; own = r.own ∙ ap (λ l. l ++ r.places) own; number = r.number ∙ number; seen = r.seen }
-
   -- a journal of a run goes on being one
   pub run_behind : (setup : Setup) (steps : List Step) (first : List Place) (before : Positioned) (later : List Place) (after : Positioned) → IsRow caller moment steps (run_from setup (world_where setup first) steps) first before later after → IsRun setup first → IsRun setup later
   unfolding journal

@@ -1,5 +1,5 @@
 -- Results that go out in a row.
-use Rattle.std.proofs.Common.{◌≡◌, ◌∙◌, ◌++◌, ℕ, true, false, List, [], ◌∷◌, Option, Some, None, ap, ap₂, drop, length, map, option_map, refl, subst, sym}
+use Rattle.std.proofs.Common.{◌≡◌, ◌∙◌, ◌++◌, ℕ, List, [], ◌∷◌, Option, Some, ap, ap₂, drop, length, option_map, refl, subst, sym}
 use Rattle.std.specs.Prelude.{replicate}
 use Rattle.std.proofs.lemmas.List.{append-nil, append_assoc, length-append, length-replicate, map-append, replicate-append-replicate}
 use Rattle.std.proofs.Math.Seq.{drop-append_seam, drop-length}
@@ -9,12 +9,11 @@ use Rattle.usb_model.specs.declared.step.Step.TheVariants.{Take}
 use Rattle.usb_model.specs.Setup.{Setup}
 use Rattle.usb_model.specs.World.{World}
 use Rattle.usb_model.specs.World.Journal.{journal_from, run_from}
-use Rattle.usb_core.specs.Public.{Carries, CarriesOut, Kept, Taken, called_entry, does_something}
-use Rattle.usb_steps.specs.Pending.{tells_work}
+use Rattle.usb_core.specs.Public.{Carries, CarriesOut, Kept, Taken, called_entry}
 use Rattle.usb_receipts.specs.Rule.{BeginsWith}
 use Rattle.usb_journal.specs.declared.place.Place.{Place}
 use Rattle.usb_journal.specs.declared.rows.Row.{Row}
-use Rattle.usb_journal.specs.Booked.{Booked, IsMoved, IsSame, Sees, asked, entries_of, next_entry, next_receipt, world_where}
+use Rattle.usb_journal.specs.Booked.{Booked, IsMoved, Sees, entries_of, next_entry, next_receipt, world_where}
 use Rattle.usb_journal.specs.Entered.{IsRow, TakesRow}
 use Rattle.usb_journal.specs.Rows.{AreKept, EntersRow, new_places}
 use Rattle.usb_journal.specs.Seen.{Positioned, Receipted, positioned}
@@ -101,31 +100,3 @@ module _ {P : Type 0} where
         entries = ap entries_of (row_places before.number old.moment (Take ∷ []) (its ∷ []) old.journal before new.journal after row) ∙ row.entries;
         carries = λ kept has. let both = carries kept has in ((subst (CarriesOut kept) some both.0, tt), both.1);
       }
-
-  -- behind them nothing changed that anybody sees
-  pub takes_same : (ts : List (Taken P)) (old mid new : Booked P) (before between after : Positioned) → after ≡ between → IsSame mid new → TakesRow ts old before mid between → TakesRow ts old before new after
-  takes_same ts old mid new before between after at same a =
-      let places : new_places old new ≡ new_places old mid = ap (drop (length old.journal)) same.journal in
-      let r = a.row in
-      record {
-        row = record {
-          first = r.first;
-          count = r.count;
-          journal = same.journal ∙ (r.journal ∙ ap (λ l. old.journal ++ l) (sym places));
-          each = ap (map asked) places ∙ r.each;
-          entries = ap entries_of places ∙ r.entries;
-          own = ap (λ (p : Positioned). p.own) at ∙ (r.own ∙ ap (λ l. before.own ++ l) (sym places));
-          number = ap (λ (p : Positioned). p.number) at ∙ r.number;
-          saw = (r.saw.0, ap (λ (p : Positioned). p.seen) at ∙ (r.saw.1 ∙ sym same.journal));
-          setup = same.setup ∙ r.setup;
-          moment = same.moment ∙ r.moment;
-        };
-        entries = ap entries_of places ∙ a.entries;
-        carries = λ kept has. let both = a.carries kept has in (both.0, same.carries kept both.1);
-      }
-
--- where a result waits one goes out
-pub one_goes : (setup : Setup) (places : List Place) → called_entry None ≡ next_entry setup places Take → does_something setup (world_where setup places) Take ≡ true → ⊥
-one_goes setup places idle some =
-    let none : tells_work false (next_entry setup places Take).reply ≡ false = ap (λ (e : Entry). tells_work false e.reply) (sym idle) in
-    absurd (cc (none, some))
