@@ -1,5 +1,5 @@
 -- Steps in a row, and the places where they are entered.
-use Rattle.std.proofs.Common.{◌≡◌, ◌∙◌, ◌+◌, ◌++◌, ℕ, zero, suc, false, List, [], ◌∷◌, None, ap, ap₂, append_assoc, append-nil, arith, drop, length, map, refl, subst, sym}
+use Rattle.std.proofs.Common.{◌≡◌, ◌∙◌, ◌+◌, ◌++◌, ◌≤◌, ℕ, zero, suc, false, List, [], ◌∷◌, None, ap, ap₂, append_assoc, append-nil, arith, drop, length, map, refl, subst, sym}
 use Rattle.std.specs.Prelude.{replicate}
 use Rattle.std.proofs.Math.Seq.{drop-append_seam}
 use Rattle.std.proofs.lemmas.List.{length-append, length-map, length-replicate, map-append, replicate-append-replicate}
@@ -16,9 +16,9 @@ use Rattle.usb_journal.specs.declared.place.Place.{Place}
 use Rattle.usb_journal.specs.declared.rows.Row.{Row}
 use Rattle.usb_journal.specs.declared.timer.Timer.{Timer}
 use Rattle.usb_journal.specs.Booked.{Asked, Booked, IsMoved, IsRun, Replays, Sees, asked, asks, entries_of, steps_of, world_where}
-use Rattle.usb_journal.specs.Entered.{IsQuiet, IsRow, MakesRow}
+use Rattle.usb_journal.specs.Entered.{GoesOn, IsQuiet, IsRow, MakesRow}
 use Rattle.usb_journal.specs.Rows.{AreQuiet, EndNone, EntersRow, MayStop, MayStopBehind, new_places}
-use Rattle.usb_journal.specs.Seen.{Positioned, Receipted}
+use Rattle.usb_journal.specs.Seen.{Positioned, Receipted, positioned}
 use Rattle.usb_journal.specs.Timers.{ending, stopped_if, timers_by, timers_from, timers_of}
 use Rattle.usb_journal.proofs.Replies.{plain_timers}
 
@@ -188,28 +188,57 @@ module _ {P : Type 0} (setup : Setup) (moment : ℕ) where
       let behind = world_behind before.number moment (replicate n step) (run_from setup w (replicate n step)) first before mid between a.row setup in
       ap (run_from setup w) (sym (replicate-append-replicate n k step)) ∙ (run_on setup w (replicate n step) (replicate k step) ∙ ap (λ v. run_from setup w (replicate n step) ++ run_from setup v (replicate k step)) (sym behind))
 
+-- a row, of a position that looks behind it
+pub row_looked : (caller moment : ℕ) (steps : List Step) (told : List Entry) (first : List Place) (before : Positioned) (later : List Place) (mid after : Positioned) → IsRow caller moment steps told first before later mid → after ≡ positioned mid.number later → after.own ≡ mid.own → IsRow caller moment steps told first before later after
+row_looked caller moment steps told first before later mid after r at own = record {
+  places = r.places;
+  journal = r.journal;
+  each = r.each;
+  entries = r.entries;
+  own = own ∙ r.own;
+  number = ap (λ (p : Positioned). p.number) at ∙ r.number;
+  seen = ap (λ (p : Positioned). p.seen) at;
+}
+
 module _ {P : Type 0} where
   -- a row of places is what a caller is told
   pub enters : (steps : List Step) (old new : Booked P) (before after : Positioned) (row : Row) → IsRow before.number old.moment steps (run_from old.setup (world_where old.setup old.journal) steps) old.journal before new.journal after
-      → row.first ≡ length old.journal → row.count ≡ length steps → BeginsWith before.seen old.journal → new.setup ≡ old.setup → new.moment ≡ old.moment → EntersRow steps old before row new after
-  enters steps old new before after row r first count began setup moment =
+      → row.first ≡ length old.journal → row.count ≡ length steps → GoesOn before old.journal → after.position ≡ length new.journal → new.setup ≡ old.setup → new.moment ≡ old.moment → EntersRow steps old before row new after
+  enters steps old new before after row r first count on position setup moment =
       let fresh = row_places before.number old.moment steps (run_from old.setup (world_where old.setup old.journal) steps) old.journal before new.journal after r in
       record {
         first = first;
+        above = subst (λ n. before.position ≤ n) (sym first) on.above;
         count = count;
         journal = r.journal ∙ ap (λ l. old.journal ++ l) (sym fresh);
         each = ap (map asked) fresh ∙ r.each;
         entries = ap entries_of fresh ∙ r.entries;
+        position = position ∙ (row_count before.number old.moment steps (run_from old.setup (world_where old.setup old.journal) steps) old.journal before new.journal after r ∙ ap₂ (λ (a b : ℕ). a + b) (sym first) (sym count));
         own = r.own ∙ ap (λ l. before.own ++ l) (sym fresh);
         number = r.number;
-        saw = (began, r.seen);
+        saw = (on.began, r.seen);
         setup = setup;
         moment = moment;
       }
 
-  -- and the other way
-  pub entered_row : (steps : List Step) (old new : Booked P) (before after : Positioned) (row : Row) → EntersRow steps old before row new after → IsRow before.number old.moment steps (run_from old.setup (world_where old.setup old.journal) steps) old.journal before new.journal after
-  entered_row steps old new before after row e = record { places = new_places old new; journal = e.journal; each = e.each; entries = e.entries; own = e.own; number = e.number; seen = e.saw.1 }
+  -- the same where the position looks before the row and behind it
+  pub enters_looking : (steps : List Step) (old new : Booked P) (before looked mid after : Positioned) (row : Row) → looked ≡ positioned before.number old.journal → looked.own ≡ before.own → BeginsWith before.seen old.journal → before.position ≤ length old.journal
+      → IsRow looked.number old.moment steps (run_from old.setup (world_where old.setup old.journal) steps) old.journal looked new.journal mid → after ≡ positioned mid.number new.journal → after.own ≡ mid.own
+      → row.first ≡ length old.journal → row.count ≡ length steps → new.setup ≡ old.setup → new.moment ≡ old.moment → EntersRow steps old before row new after
+  enters_looking steps old new before looked mid after row at own began above r end same first count setup moment =
+      let its : looked.number ≡ before.number = ap (λ (p : Positioned). p.number) at in
+      let behind = row_looked looked.number old.moment steps (run_from old.setup (world_where old.setup old.journal) steps) old.journal looked new.journal mid after r end same in
+      let from : IsRow looked.number old.moment steps (run_from old.setup (world_where old.setup old.journal) steps) old.journal before new.journal after = record {
+        places = behind.places;
+        journal = behind.journal;
+        each = behind.each;
+        entries = behind.entries;
+        own = behind.own ∙ ap (λ l. l ++ behind.places) own;
+        number = behind.number ∙ its;
+        seen = behind.seen;
+      } in
+      enters steps old new before after row (subst (λ n. IsRow n old.moment steps (run_from old.setup (world_where old.setup old.journal) steps) old.journal before new.journal after) its from) first count
+      (record { above = above; began = began }) (ap (λ (p : Positioned). p.position) end) setup moment
 
 -- where there was no packet none ended a transfer
 pub none_ended : (setup : Setup) (w : World) → EndNone (run_from setup w [])

@@ -1,5 +1,5 @@
 -- Places in a row as they are entered, before a caller is told of them.
-use Rattle.std.specs.Prelude.{◌≡◌, ℕ, false, List, ◌++◌, length, map, replicate, Some}
+use Rattle.std.specs.Prelude.{◌≡◌, ◌≤◌, ℕ, false, List, ◌++◌, length, map, replicate, Some}
 use Rattle.usb_model.specs.declared.entry.Entry.{Entry}
 use Rattle.usb_model.specs.declared.step.Step.{Step}
 use Rattle.usb_model.specs.declared.step.Step.TheVariants.{Command, Deliver, Take}
@@ -9,7 +9,8 @@ use Rattle.usb_model.specs.World.Journal.{run_from}
 use Rattle.usb_core.specs.Public.{Carries, Kept, State, StillCarries, Taken, called_entry, does_something}
 use Rattle.usb_journal.specs.declared.place.Place.{Place}
 use Rattle.usb_journal.specs.Booked.{Booked, Replays, asked, asks, entries_of, world_where}
-use Rattle.usb_journal.specs.Rows.{AreKept, EntersRow, is_settled, new_places}
+use Rattle.usb_journal.specs.Rows.{AreKept, is_settled, new_places}
+use Rattle.usb_receipts.specs.Rule.{BeginsWith}
 use Rattle.usb_journal.specs.Seen.{Positioned}
 use Rattle.usb_journal.specs.Timers.{timers_of}
 
@@ -36,6 +37,13 @@ IsQuiet setup w = (is_settled (turn setup w Deliver).entry.reply ≡ false) × (
 
 -- these results went out, in order, each at a place, and with the payload that was kept with its transfer
 pub record TakesRow {P : Type 0} (taken : List (Taken P)) (old : Booked P) (before : Positioned) (new : Booked P) (after : Positioned) : Type 0 where
-  pub row : EntersRow (replicate (length taken) Take) old before (record { first = length old.journal; count = length taken }) new after
+  pub row : IsRow before.number old.moment (replicate (length taken) Take) (run_from old.setup (world_where old.setup old.journal) (replicate (length taken) Take)) old.journal before new.journal after
   pub entries : entries_of (new_places old new) ≡ map (λ t. called_entry (Some t.returned)) taken
   pub carries : (kept : Kept P) → Carries kept old.core → AreKept kept taken × Carries kept new.core
+  pub setup : new.setup ≡ old.setup
+  pub moment : new.moment ≡ old.moment
+
+-- a position can go on from where a journal ends: it had seen a beginning of it
+pub record GoesOn (before : Positioned) (journal : List Place) : Type 0 where
+  pub above : before.position ≤ length journal
+  pub began : BeginsWith before.seen journal

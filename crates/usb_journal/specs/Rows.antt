@@ -1,5 +1,5 @@
 -- Steps in a row, each at a place of its own.
-use Rattle.std.specs.Prelude.{◌≡◌, ℕ, zero, suc, false, true, Bool, List, [], ◌∷◌, ◌++◌, drop, length, map, Some}
+use Rattle.std.specs.Prelude.{◌≡◌, ◌≤◌, ◌+◌, ℕ, zero, suc, false, true, Bool, List, [], ◌∷◌, ◌++◌, drop, length, map, Some}
 use Rattle.usb_model.specs.declared.entry.Entry.{Entry}
 use Rattle.usb_model.specs.declared.reply.Reply.{Reply}
 use Rattle.usb_model.specs.declared.reply.Reply.TheVariants.{Ended, Moved, Settled}
@@ -22,10 +22,12 @@ new_places old new = drop (length old.journal) new.journal
 -- steps in a row were made for the bearer of a position: one place each, behind the journal so far, with the entries of the run there
 pub record EntersRow {P : Type 0} (steps : List Step) (old : Booked P) (before : Positioned) (row : Row) (new : Booked P) (after : Positioned) : Type 0 where
   pub first : row.first ≡ length old.journal
+  pub above : before.position ≤ row.first
   pub count : row.count ≡ length steps
   pub journal : new.journal ≡ old.journal ++ new_places old new
   pub each : map asked (new_places old new) ≡ asks before.number old.moment steps
   pub entries : entries_of (new_places old new) ≡ run_from old.setup (world_where old.setup old.journal) steps
+  pub position : after.position ≡ row.first + row.count
   pub own : after.own ≡ before.own ++ new_places old new
   pub number : after.number ≡ before.number
   pub saw : Sees before old.journal after new.journal

@@ -94,6 +94,7 @@ impl<L: Naming, J: Recorder> Log<L, J> {
         ensures position { position.new ≡ positioned position.old.number self.old.journal }
         ensures own { position.new.own ≡ position.old.own }
         ensures began { BeginsWith position.old.seen self.old.journal }
+        ensures above { position.old.position ≤ length self.old.journal }
         ensures same { self.new ≡ self.old }
     {
         self.log.look(&mut self.keeper, &mut position.position);

@@ -8,7 +8,7 @@ ghost use Rattle.usb_model.specs.World.Journal.{run_from};
 ghost use Rattle.usb_core.specs.Public.{Carries, Kept, ShowsWorld, StillCarries, called_entry, does_something};
 ghost use Rattle.usb_steps.specs.Bursts.{burst_entries, whole_entries};
 ghost use Rattle.usb_journal.specs.Booked.{IsSame, Replays, entries_of, world_where};
-ghost use Rattle.usb_journal.specs.Entered.{IsQuiet, IsRow, MakesRow, TakesRow};
+ghost use Rattle.usb_journal.specs.Entered.{GoesOn, IsQuiet, IsRow, MakesRow, TakesRow};
 ghost use Rattle.usb_journal.specs.Records.{bytes_in};
 ghost use Rattle.usb_journal.specs.Rows.{AreKept, AreQuiet, EndNone, EntersRow, GoOn, MayStop, MayStopBehind, is_end, is_progress, is_settled, new_places};
 
@@ -80,6 +80,7 @@ impl<L: Naming, P, D: Device, J: Recorder> Book<L, P, D, J> {
             ..
         } = self;
         let (count, ended) = serve_each(core, log, position, *moment, dev, ep, most);
+        log.look(position);
         Ok(Served {
             row: Row {
                 first,
@@ -114,6 +115,7 @@ impl<L: Naming, P, D: Device, J: Recorder> Book<L, P, D, J> {
             ..
         } = self;
         let (count, quiet) = deliver_each(core, log, position, *moment, most);
+        log.look(position);
         Ok(Delivered {
             row: Row {
                 first,
@@ -148,6 +150,7 @@ impl<L: Naming, P, D: Device, J: Recorder> Book<L, P, D, J> {
         }
         self.take_next(taken, position)?;
         let more = self.take_more(most - 1, taken, position);
+        self.log.look(position);
         Ok(Row {
             first,
             count: u64::from(more) + 1,
@@ -169,6 +172,7 @@ impl<L: Naming, P, D: Device, J: Recorder> Book<L, P, D, J> {
     ) -> Result<(), AllocError>
         requires { does_something self.old.setup (world_where self.old.setup self.old.journal) Take ≡ true }
         ensures ok { OnOk result ((t : Taken P) × (taken.new.items ≡ taken.old.items ++ t ∷ []) × TakesRow (t ∷ []) self.old position.old self.new position.new) }
+        ensures on { OnOk result (GoesOn position.old self.old.journal) }
         ensures err { OnErr result (IsSame self.old self.new × (position.new ≡ position.old) × (taken.new.items ≡ taken.old.items)) }
     {
         taken.reserve(1)?;

@@ -62,6 +62,7 @@ pub record MakesRow (setup : Setup) (steps : List Step) (old : Calling) (row : R
   pub first : row.first ≡ length before
   pub count : row.count ≡ length steps
   pub above : old.position ≤ row.first
+  pub position : new.position ≡ row.first + row.count
   pub each : map asked places ≡ asks old.number moment steps
   pub entries : entries_of places ≡ run_from setup (world_where setup before) steps
   pub own : new.own ≡ old.own ++ places
