@@ -43,4 +43,8 @@ impl<'a> Gate for Turnstile<'a> {
             self.board.hold();
         }
     }
+
+    fn burst(&self) -> u32 {
+        1
+    }
 }

@@ -1,5 +1,5 @@
 -- What a call makes of a row of a book's steps.
-use Rattle.std.proofs.Common.{◌≡◌, ◌≤◌, ◌+◌, ◌++◌, ◌∙◌, ◌∷◌, List, [], ℕ, Result, Ok, ap, append-nil, length, map, refl, subst, sym}
+use Rattle.std.proofs.Common.{◌≡◌, ◌++◌, ◌∙◌, ◌∷◌, List, [], ℕ, Result, Ok, ap, append-nil, length, map, refl, subst, sym}
 use Rattle.std.specs.Prelude.{IfOk, OnOk, replicate}
 use Rattle.usb_model.specs.declared.step.Step.{Step}
 use Rattle.usb_model.specs.Setup.{Setup}

@@ -2,7 +2,7 @@
 use Rattle.std.proofs.Common.{Bool, List, [], ap, false, inl, inr, refl, subst, sym, true, zero, suc, ℕ, ◌++◌, ◌∙◌, ◌∷◌, ◌≡◌, ◌⊎◌}
 use Rattle.std.proofs.lemmas.List.{map-append}
 use Rattle.std.proofs.Math.Seq.{take-append_seam}
-use Rattle.std.specs.Prelude.{if◌then◌else◌, replicate, take}
+use Rattle.std.specs.Prelude.{if◌then◌else◌, replicate}
 use Rattle.usb_model.specs.declared.reply.Reply.{Reply}
 use Rattle.usb_model.specs.declared.reply.Reply.TheVariants as reply
 use Rattle.usb_model.specs.declared.step.Step.{Step}

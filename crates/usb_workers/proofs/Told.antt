@@ -1,26 +1,31 @@
 -- How the workers' calls are told of: a step, a resubmission, a result that is taken out.
-use Rattle.std.proofs.Common.{◌≡◌, ◌<◌, ◌≤◌, ◌^◌, ◌+◌, ℕ, suc, arith, Bool, true, false, Option, Some, None, Result, Ok, Err, refl, ap, ◌∙◌, subst}
-use Rattle.std.specs.Prelude.{IfErr, IfOk, OnErr, is_err, is_ok}
-use Rattle.std.specs.Option.{option_map}
+use Rattle.std.proofs.Common.{◌≡◌, ◌<◌, ◌≤◌, ◌^◌, ◌+◌, ◌++◌, ◌∷◌, [], List, map, ℕ, suc, arith, Bool, true, false, Some, Result, Ok, Err, refl, ap, ◌∙◌, subst}
+use Rattle.std.specs.Prelude.{IfErr, IfOk, OnErr, is_err, is_ok, replicate}
 use Rattle.usb_model.specs.declared.entry.Entry.{Entry}
 use Rattle.usb_model.specs.declared.reply.Returned.{Returned}
 use Rattle.usb_model.specs.declared.step.Step.{Step}
-use Rattle.usb_model.specs.declared.step.Step.TheVariants.{Answer, Take}
+use Rattle.usb_model.specs.declared.step.Step.TheVariants.{Answer, Deliver, Serve, Take}
 use Rattle.usb_model.specs.declared.verdict.Verdict.{Verdict}
 use Rattle.usb_model.specs.declared.verdict.Verdict.TheVariants.{Stop}
 use Rattle.usb_model.specs.Numbers.{is_stop}
 use Rattle.usb_model.specs.Setup.{Setup}
-use Rattle.usb_core.specs.Public.{Unaccepted, called_entry}
-use Rattle.usb_journal.specs.Booked.{answer_entry}
+use Rattle.usb_core.specs.Public.{Taken, Unaccepted, called_entry, does_something}
+use Rattle.usb_journal.specs.declared.rows.Row.{Row}
+use Rattle.usb_journal.specs.Booked.{answer_entry, world_where}
 use Rattle.usb_journal.specs.Seen.{Receipted}
-use Rattle.usb_library.specs.Calls.{Calling, Makes, misses}
-use Rattle.usb_workers.specs.Rounds.{AreCounted, CallsBack, Does, Ends, Resubmits, Takes, Tells, is_accepted, missed_by}
+use Rattle.usb_library.specs.Calls.{Calling, Makes, MakesRow, misses, row_entries}
+use Rattle.usb_workers.specs.Rounds.{AreCounted, DeliversRow, Does, Ends, Resubmits, ServesRow, Takes, Tells, TellsAll, is_accepted, missed_by}
 use Rattle.usb_workers.specs.Rounds as R
 
 -- memory wasn't refused yet
 pub not_missed : (c : Calling) → c ≡ missed_by 0 c
 unfolding missed_by
 not_missed c = refl
+
+-- the entries of results that go out
+called_returned : {P : Type 0} (taken : List (Taken P)) → map (λ t. called_entry (Some t.returned)) taken ≡ map (λ x. called_entry (Some x)) (map (λ t. t.returned) taken)
+called_returned [] = refl
+called_returned (t ∷ ts) = ap (λ l. called_entry (Some t.returned) ∷ l) (called_returned ts)
 
 module _ (setup : Setup) where
   -- a step is made, or memory is refused to it
@@ -56,18 +61,29 @@ module _ (setup : Setup) where
   once_more k old mid new (Ok a) is m t = absurd (cc)
   once_more k old mid new (Err e) is m t = m ∙ ap misses is
 
-  -- the oldest result goes out, if one waits
-  pub takes_made : (given : Option Returned) (old new : Calling) (r : Receipted) → Makes setup Take old new r → r.entry.entry ≡ called_entry given → Takes setup given old new
-  takes_made None old new r m entry = R.Takes.idle refl r m (ap (λ (e : Entry). e.reply) entry)
-  takes_made (Some x) old new r m entry = R.Takes.out x refl r m (ap (λ (e : Entry). e.reply) entry)
+  -- packets in a row are made, or memory is refused
+  pub serves_either : {E : Type 0} (dev ep most : ℕ) (old new : Calling) (x : Result Row E) → IfOk x (λ row. MakesRow setup (replicate row.count (Serve dev ep)) old row new) → IfOk x (λ row. (0 < row.count) × (row.count ≤ most)) → OnErr x (new ≡ misses old)
+      → ServesRow setup dev ep old new
+  serves_either dev ep most old new (Ok row) m some e = R.ServesRow.made row some.0 m
+  serves_either dev ep most old new (Err x) m some e = R.ServesRow.missed e
 
-  -- what was taken out is called back, and its verdict is told
-  pub calls_back : {X : Type 0} (may : Returned → Verdict → Type 0) (a b c : Calling) (returned : X → Returned) (given : Option X) (x : X) (v : Verdict) → given ≡ Some x
-      → Takes setup (option_map returned given) a b → may (returned x) v → Tells setup (returned x).h (returned x).n v b c → CallsBack setup may a c
-  calls_back may a b c returned given x v e t fits tells = R.CallsBack.called b (returned x) v (subst (λ (o : Option _). Takes setup (option_map returned o) a b) e t) fits tells
+  -- events in a row are handled, of which at least one was wanted; or memory is refused
+  pub delivers_either : {E : Type 0} (most : ℕ) (old new : Calling) (x : Result Row E) → 0 < most → IfOk x (λ row. MakesRow setup (replicate row.count Deliver) old row new)
+      → IfOk x (λ row. row.count < most → does_something setup (world_where setup new.seen) Deliver ≡ false) → OnErr x (new ≡ misses old) → DeliversRow setup old new
+  delivers_either most old new (Ok row) some m ends e = R.DeliversRow.made row (λ none. ends (omega (arith, none, some))) m
+  delivers_either most old new (Err x) some m ends e = R.DeliversRow.missed e
 
-  pub calls_none : {X : Type 0} (may : Returned → Verdict → Type 0) (a b : Calling) (returned : X → Returned) (given : Option X) → given ≡ None → Takes setup (option_map returned given) a b → CallsBack setup may a b
-  calls_none may a b returned given e t = R.CallsBack.none (subst (λ (o : Option _). Takes setup (option_map returned o) a b) e t)
+  -- the oldest results go out in a row, of which at least one was wanted; or memory is refused to the first
+  pub takes_either : {E P : Type 0} (most : ℕ) (old new : Calling) (taken : List (Taken P)) (x : Result Row E) → 0 < most → IfOk x (λ row. MakesRow setup (replicate row.count Take) old row new)
+      → IfOk x (λ row. row_entries row new ≡ map (λ t. called_entry (Some t.returned)) taken) → IfOk x (λ row. row.count ≡ 0 → 0 < most → does_something setup (world_where setup new.seen) Take ≡ false)
+      → OnErr x ((new ≡ misses old) × (taken ≡ [])) → Takes setup (map (λ t. t.returned) taken) old new
+  takes_either most old new taken (Ok row) some m entries none e = R.Takes.out row (λ zero. none zero some) m (entries ∙ called_returned taken)
+  takes_either most old new taken (Err x) some m entries none e = R.Takes.missed (ap (map (λ t. t.returned)) e.1) e.0
+
+  -- one verdict more is told
+  pub tells_more : (may : Returned → Verdict → Type 0) (xs : List Returned) (x : Returned) (v : Verdict) (old mid new : Calling) → TellsAll setup may xs old mid → may x v → Tells setup x.h x.n v mid new → TellsAll setup may (xs ++ x ∷ []) old new
+  tells_more may [] x v old mid new all fits tells = (new, v, fits, subst (λ c. Tells setup x.h x.n v c new) all tells, refl)
+  tells_more may (y ∷ ys) x v old mid new all fits tells = (all.0, all.1, all.2, all.3, tells_more may ys x v all.0 mid new all.4 fits tells)
 
   -- a resubmission leaves what is counted counted
   pub still_counted : (refused h n : ℕ) (v : Verdict) (left : Bool) (old new : Calling) → Resubmits setup h n v left old new → AreCounted refused old → AreCounted refused new

@@ -1,7 +1,7 @@
--- What the workers make of each look: of all that it showed one step, and what a callback answers.
-use Rattle.std.specs.Prelude.{◌≡◌, ◌≤◌, ◌<◌, ◌^◌, ◌⊎◌, ℕ, zero, suc, Bool, true, false, List, Option, Some, None}
+-- What the workers make of each look: of all that it showed steps in a row, and what callbacks answer.
+use Rattle.std.specs.Prelude.{◌≡◌, ◌≤◌, ◌<◌, ◌^◌, ◌⊎◌, ℕ, zero, suc, Bool, true, false, List, [], ◌∷◌, map, replicate, Option, Some, None}
 use Rattle.usb_model.specs.declared.reply.Reply.{Reply}
-use Rattle.usb_model.specs.declared.reply.Reply.TheVariants.{Called, Idle, Number}
+use Rattle.usb_model.specs.declared.reply.Reply.TheVariants.{Number}
 use Rattle.usb_model.specs.declared.reply.Returned.{Returned}
 use Rattle.usb_model.specs.declared.step.Step.{Step}
 use Rattle.usb_model.specs.declared.step.Step.TheVariants.{Answer, Command, Deliver, Serve, Take}
@@ -10,12 +10,14 @@ use Rattle.usb_model.specs.declared.verdict.Verdict.{Verdict}
 use Rattle.usb_model.specs.declared.verdict.Verdict.TheVariants.{Stop}
 use Rattle.usb_model.specs.Numbers.{is_stop}
 use Rattle.usb_model.specs.Setup.{Setup}
-use Rattle.usb_core.specs.Public.{Pending}
+use Rattle.usb_core.specs.Public.{Pending, called_entry, does_something}
 use Rattle.usb_callback.specs.Callbacks.{Fits}
 use Rattle.usb_journal.specs.declared.events.Events.{Events}
 use Rattle.usb_journal.specs.declared.place.Place.{Place}
+use Rattle.usb_journal.specs.declared.rows.Row.{Row}
+use Rattle.usb_journal.specs.Booked.{world_where}
 use Rattle.usb_journal.specs.Seen.{Receipted}
-use Rattle.usb_library.specs.Calls.{Calling, LooksOn, Makes, misses}
+use Rattle.usb_library.specs.Calls.{Calling, LooksOn, Makes, MakesRow, misses, row_entries}
 
 -- a caller to whom memory was refused so often, in a row
 unfoldable pub missed_by : ℕ → Calling → Calling
@@ -51,12 +53,31 @@ module _ (setup : Setup) where
   DoesIf true step old new = Does step old new
   DoesIf false step old new = new ≡ old
 
-  -- the packet that a look showed, if it showed one
+  -- packets in a row are made at an endpoint, at least one; or memory is refused, which the caller counts
+  pub data ServesRow (dev ep : ℕ) (old new : Calling) : Type 0 where
+    made : (row : Row) → 0 < row.count → MakesRow setup (replicate row.count (Serve dev ep)) old row new → ServesRow dev ep old new
+    missed : new ≡ misses old → ServesRow dev ep old new
+
+  -- they are at the endpoint where a look showed a packet, if it showed one
   abbrev pub Serves : Option (ℕ × ℕ) → Calling → Calling → Type 0
   Serves None old new = new ≡ old
-  Serves (Some at) old new = Does (Serve at.0 at.1) old new
+  Serves (Some at) old new = ServesRow at.0 at.1 old new
 
-  -- a look of the controller's worker: the packet that it showed, then the order
+  -- nothing is to be done by such a step where a caller has seen the journal
+  abbrev pub HasNone : Step → Calling → Type 0
+  HasNone step c = does_something setup (world_where setup c.seen) step ≡ false
+
+  -- events in a row are handled, none only where none waits; or memory is refused
+  pub data DeliversRow (old new : Calling) : Type 0 where
+    made : (row : Row) → (row.count ≡ 0 → HasNone Deliver new) → MakesRow setup (replicate row.count Deliver) old row new → DeliversRow old new
+    missed : new ≡ misses old → DeliversRow old new
+
+  -- they are where a look showed an event
+  abbrev pub DeliversIf : Bool → Calling → Calling → Type 0
+  DeliversIf true old new = DeliversRow old new
+  DeliversIf false old new = new ≡ old
+
+  -- a look of the controller's worker: packets in a row where it showed one, then the order
   pub record Controls (look : Pending) (old new : Calling) : Type 0 where
     pub between : Calling
     pub packet : Serves look.serve old between
@@ -79,26 +100,32 @@ module _ (setup : Setup) where
     goes_on : Resubmits h n v false old new → Tells h n v old new
     ends : (between : Calling) → Resubmits h n v true old between → Ends h n between new → Tells h n v old new
 
-  -- the oldest result is taken out for whoever is given it, if one waits; or there is no memory for that
-  pub data Takes (given : Option Returned) (old new : Calling) : Type 0 where
-    idle : given ≡ None → (r : Receipted) → Makes setup Take old new r → r.entry.entry.reply ≡ Idle → Takes given old new
-    out : (x : Returned) → given ≡ Some x → (r : Receipted) → Makes setup Take old new r → r.entry.entry.reply ≡ Called x → Takes given old new
-    missed : given ≡ None → new ≡ misses old → Takes given old new
+  -- the oldest results are taken out in a row, and are these: none only where none waits; or there is no memory for the first
+  pub data Takes (given : List Returned) (old new : Calling) : Type 0 where
+    out : (row : Row) → (row.count ≡ 0 → HasNone Take new) → MakesRow setup (replicate row.count Take) old row new → row_entries row new ≡ map (λ x. called_entry (Some x)) given → Takes given old new
+    missed : given ≡ [] → new ≡ misses old → Takes given old new
 
-  -- a result is taken out, and the verdict of its callback is told; or none waits, or there is no memory for that
-  pub data CallsBack (may : Returned → Verdict → Type 0) (old new : Calling) : Type 0 where
-    none : Takes None old new → CallsBack may old new
-    called : (between : Calling) (x : Returned) (v : Verdict) → Takes (Some x) old between → may x v → Tells x.h x.n v between new → CallsBack may old new
+  -- of the callbacks of these results verdicts are told that they may give, one behind another
+  abbrev pub TellsAll : (Returned → Verdict → Type 0) → List Returned → Calling → Calling → Type 0
+  TellsAll may [] old new = new ≡ old
+  TellsAll may (x ∷ xs) old new = (between : Calling) × (v : Verdict) × may x v × Tells x.h x.n v old between × TellsAll may xs between new
+
+  -- results are taken out in a row, and behind it the verdicts of their callbacks are told, in the same order
+  pub record CallsBackAll (may : Returned → Verdict → Type 0) (old new : Calling) : Type 0 where
+    pub results : List Returned
+    pub between : Calling
+    pub taken : Takes results old between
+    pub told : TellsAll may results between new
 
   -- where a look showed a result
   abbrev pub CallsBackIf : (Returned → Verdict → Type 0) → Bool → Calling → Calling → Type 0
-  CallsBackIf may true old new = CallsBack may old new
+  CallsBackIf may true old new = CallsBackAll may old new
   CallsBackIf may false old new = new ≡ old
 
-  -- a look of the worker that handles events: the event that it showed, then the result
+  -- a look of the worker that handles events: events in a row where it showed one, then results
   pub record Handles (may : Returned → Verdict → Type 0) (look : Events) (old new : Calling) : Type 0 where
     pub between : Calling
-    pub event : DoesIf look.deliver Deliver old between
+    pub event : DeliversIf look.deliver old between
     pub result : CallsBackIf may look.take between new
 
 -- look by look: what each showed is what there was to be seen in the journal so far, and is made

@@ -15,7 +15,8 @@ use usb_device::Device;
 use usb_journal::{Naming, Recorder};
 use usb_library::{Caller, Library, Part};
 
-/// A device answers one packet at the endpoint that the look showed. Where memory is refused, the next look shows it again.
+/// A device answers packets at the endpoint that the look showed, in a row, as many as the gate lets by. Where memory is refused, the
+/// next look shows them again.
 fn serve<L: Naming, P: Drop, D: Device, J: Recorder, G: Gate, R: Wait>(
     rt: &R,
     library: &Library<L, P, D, J>,
@@ -29,7 +30,7 @@ fn serve<L: Naming, P: Drop, D: Device, J: Recorder, G: Gate, R: Wait>(
 {
     if let Some((dev, ep)) = pending.serve {
         gate.pass(rt, Point::Serve);
-        match library.serve(rt, caller, dev, ep) {
+        match library.serve_all(rt, caller, dev, ep, gate.burst()) {
             Ok(_) => tries.done(),
             Err(_) => tries.refused(rt, library),
         }
@@ -77,11 +78,11 @@ fn turn<L: Naming, P: Drop, D: Device, J: Recorder, G: Gate, R: Wait>(
     }
 }
 
-/// Does the controller's part (xHCI 1.2, 4.6 and 4.10) until the library is rested: a packet or an order only where
-/// `pending` showed one, each behind the gate. With nothing to do it parks. Where memory is refused it says so (`has_lacked_memory`) and
+/// Does the controller's part (xHCI 1.2, 4.6 and 4.10) until the library is rested: packets or an order only where
+/// `pending` showed one, each behind the gate, and packets in a row behind one pass. With nothing to do it parks. Where memory is refused it says so (`has_lacked_memory`) and
 /// tries again; but once it was asked to stop, and a hundred tries in a row were refused, it gives up, and asks the other worker to
 /// end too. The caller comes back, and only where what it saw last has neither a packet nor an order, or memory was refused to it a hundred
-/// times. Look by look it made what was there to be seen: the packet, then the order. What memory was refused to
+/// times. Look by look it made what was there to be seen: packets in a row, then the order. What memory was refused to
 /// the caller has counted, and nothing else was made.
 pub fn controller_loop<L: Naming, P: Drop, D: Device, J: Recorder, G: Gate, R: Wait>(
     rt: &R,

@@ -1,11 +1,10 @@
 //! The worker that handles events and calls callbacks.
 
-ghost use Rattle.std.specs.Prelude.{◌≡◌, option_map};
-ghost use Rattle.usb_model.specs.declared.step.Step.TheVariants.{Deliver};
+ghost use Rattle.std.specs.Prelude.{◌≡◌, ◌<◌, [], map};
 ghost use Rattle.usb_model.specs.declared.verdict.Verdict.{Verdict};
 ghost use Rattle.usb_callback.specs.Callbacks.{Fits};
 ghost use Rattle.usb_library.specs.Calls.{LacksEvents, ShowsEvents};
-ghost use Rattle.usb_workers.specs.Rounds.{AreCounted, CallsBackIf, DoesIf, Handles, HasEnded, MayAnswer, Rounds, Takes, Tells};
+ghost use Rattle.usb_workers.specs.Rounds.{AreCounted, CallsBackIf, DeliversIf, Handles, HasEnded, MayAnswer, Rounds, Takes, Tells, TellsAll};
 
 use crate::answers::answer;
 use crate::gate::{Gate, Point};
@@ -19,7 +18,8 @@ use usb_device::Device;
 use usb_journal::{Events, Naming, Recorder};
 use usb_library::{Caller, Library, Part};
 
-/// An event is handled, if the look showed one. Where memory is refused, the next look shows it again.
+/// Events are handled in a row, if the look showed one, as many as wait and as the gate lets by. Where memory is refused, the next look
+/// shows them again.
 fn deliver<L: Naming, C: Callback, D: Device, J: Recorder, G: Gate, R: Wait>(
     rt: &R,
     library: &Library<L, C, D, J>,
@@ -28,37 +28,35 @@ fn deliver<L: Naming, C: Callback, D: Device, J: Recorder, G: Gate, R: Wait>(
     tries: &mut Tries,
     events: &Events,
 )
-    ensures made { DoesIf L.setup events.now.deliver Deliver caller.old caller.new }
+    ensures made { DeliversIf L.setup events.now.deliver caller.old caller.new }
     ensures counted { AreCounted tries.old.refused caller.old → AreCounted tries.new.refused caller.new }
 {
     if events.deliver {
         gate.pass(rt, Point::Deliver);
-        match library.deliver(rt, caller) {
+        match library.deliver_all(rt, caller, gate.burst().max(1)) {
             Ok(_) => tries.done(),
             Err(_) => tries.refused(rt, library),
         }
     }
 }
 
-/// A result goes out, if one waits.
+/// The oldest results go out, as many as wait and at most so many.
 fn take<L: Naming, C: Callback, D: Device, J: Recorder, R: Wait>(
     rt: &R,
     library: &Library<L, C, D, J>,
     caller: &mut Caller<L>,
     tries: &mut Tries,
-) -> Option<Taken<C>>
-    ensures made { Takes L.setup (option_map (λ t. t.returned) result) caller.old caller.new }
+    most: u32,
+    taken: &mut Vec<Taken<C>>,
+)
+    requires some { 0 < most }
+    requires empty { taken.old.items ≡ [] }
+    ensures made { Takes L.setup (map (λ t. t.returned) taken.new.items) caller.old caller.new }
     ensures counted { AreCounted tries.old.refused caller.old → AreCounted tries.new.refused caller.new }
 {
-    match library.take(rt, caller) {
-        Ok((_receipt, taken)) => {
-            tries.done();
-            taken
-        }
-        Err(_) => {
-            tries.refused(rt, library);
-            None
-        }
+    match library.take_all(rt, caller, most, taken) {
+        Ok(_) => tries.done(),
+        Err(_) => tries.refused(rt, library),
     }
 }
 
@@ -85,7 +83,25 @@ fn call_back<L: Naming, C: Callback, D: Device, J: Recorder, G: Gate, R: Wait>(
     answer(rt, library, caller, tries, h, n, verdict, callback);
 }
 
-/// A result that the look showed goes out, and its callback is called.
+/// Calls these callbacks one by one, each with no lock held, and tells the verdict of each before the next is called.
+fn call_all<L: Naming, C: Callback, D: Device, J: Recorder, G: Gate, R: Wait>(
+    rt: &R,
+    library: &Library<L, C, D, J>,
+    gate: &mut G,
+    caller: &mut Caller<L>,
+    tries: &mut Tries,
+    taken: &mut Vec<Taken<C>>,
+)
+    ensures told { TellsAll L.setup (MayAnswer C.may_answer C.rule) (map (λ t. t.returned) taken.old.items) caller.old caller.new }
+    ensures counted { AreCounted tries.old.refused caller.old → AreCounted tries.new.refused caller.new }
+    ensures empty { taken.new.items ≡ [] }
+{
+    for each in taken.drain(..) {
+        call_back(rt, library, gate, caller, tries, each);
+    }
+}
+
+/// Results go out in a row, if the look showed one, and their callbacks are called.
 fn take_and_call<L: Naming, C: Callback, D: Device, J: Recorder, G: Gate, R: Wait>(
     rt: &R,
     library: &Library<L, C, D, J>,
@@ -93,17 +109,19 @@ fn take_and_call<L: Naming, C: Callback, D: Device, J: Recorder, G: Gate, R: Wai
     caller: &mut Caller<L>,
     tries: &mut Tries,
     events: &Events,
+    taken: &mut Vec<Taken<C>>,
 )
+    requires empty { taken.old.items ≡ [] }
     ensures made { CallsBackIf L.setup (MayAnswer C.may_answer C.rule) events.now.take caller.old caller.new }
     ensures counted { AreCounted tries.old.refused caller.old → AreCounted tries.new.refused caller.new }
+    ensures empty { taken.new.items ≡ [] }
 {
     if !events.take {
         return;
     }
     gate.pass(rt, Point::Take);
-    if let Some(taken) = take(rt, library, caller, tries) {
-        call_back(rt, library, gate, caller, tries, taken);
-    }
+    take(rt, library, caller, tries, gate.burst().max(1), taken);
+    call_all(rt, library, gate, caller, tries, taken);
 }
 
 /// What one look showed; it waits where that was nothing of its part.
@@ -115,25 +133,28 @@ fn turn<L: Naming, C: Callback, D: Device, J: Recorder, G: Gate, R: Wait>(
     tries: &mut Tries,
     parking: &Parking,
     events: &Events,
+    taken: &mut Vec<Taken<C>>,
 )
+    requires empty { taken.old.items ≡ [] }
     ensures made { Handles L.setup (MayAnswer C.may_answer C.rule) events.now caller.old caller.new }
     ensures counted { AreCounted tries.old.refused caller.old → AreCounted tries.new.refused caller.new }
+    ensures empty { taken.new.items ≡ [] }
 {
     deliver(rt, library, gate, caller, tries, events);
-    take_and_call(rt, library, gate, caller, tries, events);
+    take_and_call(rt, library, gate, caller, tries, events, taken);
     if events.is_none() {
         parking.park(rt);
     }
 }
 
 /// Handles events (libusb 1.0, `libusb_handle_events`), takes results out, calls their callbacks with no lock held and tells their
-/// verdicts, until the library is rested: a Deliver or Take only where a look showed one, each behind the gate.
+/// verdicts, until the library is rested: a row of Delivers or of Takes only where a look showed one, each behind the gate.
 /// With nothing to do it parks. A callback that can't be submitted once more has ended, and is told so (`Callback::ended`). Where memory
 /// is refused it says so (`has_lacked_memory`) and tries again; but once it was asked to stop, and a hundred tries in a row were refused,
 /// it gives up, and asks the other worker to end too. The caller comes back, and only where what it saw last has neither an event nor a
-/// result, or memory was refused to it a hundred times. Look by look it made what was there to be seen: the event;
-/// then the result, whose callback is called, and a verdict that it may give told behind that, by its Answer, or by Stop where the transfer
-/// isn't submitted once more. What memory was refused to the caller has counted, and nothing else was made.
+/// result, or memory was refused to it a hundred times. Look by look it made what was there to be seen: events in a row;
+/// then results in a row, whose callbacks are called one by one, and behind the row, in its order, for each a verdict that it may give told,
+/// by its Answer, or by Stop where the transfer isn't submitted once more. What memory was refused to the caller has counted, and nothing else was made.
 pub fn event_loop<L: Naming, C: Callback, D: Device, J: Recorder, G: Gate, R: Wait>(
     rt: &R,
     alloc: Global,
@@ -147,6 +168,7 @@ pub fn event_loop<L: Naming, C: Callback, D: Device, J: Recorder, G: Gate, R: Wa
     let mut caller = caller;
     let mut tries = Tries::new();
     let parking = Parking::new(rt, alloc, library, Part::Events);
+    let mut taken = Vec::new(alloc);
     for _ in rt.forever() {
         let Some(events) = library.events(rt, &mut caller) else {
             return caller;
@@ -159,6 +181,7 @@ pub fn event_loop<L: Naming, C: Callback, D: Device, J: Recorder, G: Gate, R: Wa
             &mut tries,
             &parking,
             &events,
+            &mut taken,
         );
         if tries.are_over(library) {
             library.end_workers(rt);

@@ -3,12 +3,13 @@ use Rattle.usb_workers.specs.Rounds as R
 use Rattle.usb_workers.proofs.event.event_loop.Goals as goal
 
 pub loop-init : goal.loop-init
-loop-init g c = record { rounds = R.Rounds.none; counted = (omega (arith, c.new-tries.ensures), omega (arith, c.new-tries.ensures)) }
+loop-init g c = record { rounds = R.Rounds.none; counted = (omega (arith, c.new-tries.ensures), omega (arith, c.new-tries.ensures)); empty = c.new-taken.ensures.items }
 
 pub loop-preserved : goal.loop-preserved
 loop-preserved g c = record {
   rounds = R.Rounds.more c.in-Some-events.events c.loop.caller c.events.new.caller c.turn.new.caller c.loop.invariant.rounds c.events.ensures.looks c.in-Some-events.ensures.events c.turn.ensures.made;
   counted = c.turn.ensures.counted (omega (arith, c.loop.invariant.counted.0, c.events.ensures.looks.missed), c.loop.invariant.counted.1);
+  empty = c.turn.ensures.empty;
 }
 
 pub returns-in_default-clause-rounds : goal.returns-in_default-clause-rounds

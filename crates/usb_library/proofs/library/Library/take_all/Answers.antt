@@ -1,8 +1,6 @@
 use Rattle.std.proofs.Common.{sym, ◌∙◌}
 use Rattle.std.specs.Prelude.{replicate}
 use Rattle.usb_model.specs.declared.step.Step.TheVariants.{Take}
-use Rattle.usb_core.specs.Public.{does_something}
-use Rattle.usb_journal.specs.Booked.{world_where}
 use Rattle.usb_journal.specs.Rows.{new_places}
 use Rattle.usb_library.proofs.CallWakes.{at_ok}
 use Rattle.usb_library.proofs.RowMade.{makes_row, none_seen, row_of_book}

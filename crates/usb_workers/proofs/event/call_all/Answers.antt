@@ -1,0 +1,18 @@
+use Rattle.std.proofs.Common.{ap, append_assoc, map, sym, ◌++◌, ◌∙◌, ◌∷◌, []}
+use Rattle.std.proofs.lemmas.List.{map-append}
+use Rattle.usb_workers.specs.Rounds.{MayAnswer}
+use Rattle.usb_workers.proofs.Told.{tells_more}
+use Rattle.usb_workers.proofs.event.call_all.Goals as goal
+
+pub loop-each-preserved : goal.loop-each-preserved
+loop-each-preserved g c =
+    let i = c.loop-each.invariant in
+    let x = c.in-Some.each in
+    let told = c.call_back.ensures.told in
+    record {
+      told =
+          rw (map-append (λ t. t.returned) c.loop-each.yielded (x ∷ []))
+          (tells_more g.L.Naming.setup (MayAnswer g.C.Callback.may_answer g.C.Callback.rule) (map (λ t. t.returned) c.loop-each.yielded) x.returned told.0 c.args.caller.now c.loop-each.caller c.call_back.new.caller i.told (x.payload, told.1, told.2) told.3);
+      counted = λ counted. c.call_back.ensures.counted (i.counted counted);
+      left = append_assoc c.loop-each.yielded (x ∷ []) _ ∙ (ap (λ l. c.loop-each.yielded ++ l) (sym c.in-Some.ensures.steps.0) ∙ i.left);
+    }
