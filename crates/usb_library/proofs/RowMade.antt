@@ -69,6 +69,7 @@ makes_row setup steps row old new before after missed called done result x is en
       first = e.first;
       count = e.count;
       above = e.above;
+      position = e.position;
       each = e.each;
       entries = e.entries ∙ ap (λ s. run_from s (world_where s old.journal) (steps x)) its;
       own = e.own;
