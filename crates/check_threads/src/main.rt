@@ -4,7 +4,7 @@
 //!
 //! # Files
 //!
-//! - `gates.rt`, `callers.rt`, `absence.rt`, `wakes.rt`: the scenes
+//! - `gates.rt`, `callers.rt`, `absence.rt`, `wakes.rt`, `rows.rt`: the scenes
 //! - `scene.rt`, `acts.rt`: a scene as data; what a thread does, act by act
 //! - `stage.rt`, `player.rt`: a scene is played; a thread that does its acts
 //! - `board.rt`, `turnstile.rt`, `callback.rt`, `counted.rt`: what threads tell each other; gates, callbacks and a device
@@ -19,6 +19,7 @@ mod callers;
 mod counted;
 mod gates;
 mod player;
+mod rows;
 mod scene;
 mod stage;
 mod turnstile;
@@ -71,9 +72,19 @@ fn play_wakes<R: Threads + Wait + Sync + Print>(rt: &R, alloc: Global) -> Result
     say(rt, "idle workers park: they look a few times, and wait")
 }
 
+/// Plays those of workers that go by rows.
+fn play_rows<R: Threads + Wait + Sync + Print>(rt: &R, alloc: Global) -> Result<()> {
+    rows::rows_have_a_bound(rt, alloc)?;
+    say(
+        rt,
+        "rows: a call waits behind 64 packets of another transfer at most",
+    )
+}
+
 fn main(rt: HostRuntime) -> Result<()> {
     let alloc = rt.alloc();
     play_gates(&rt, alloc)?;
     play_callers(&rt, alloc)?;
-    play_wakes(&rt, alloc)
+    play_wakes(&rt, alloc)?;
+    play_rows(&rt, alloc)
 }

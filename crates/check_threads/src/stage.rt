@@ -97,18 +97,18 @@ fn play_with<'a, D: Device + Send, R: Threads + Wait + Sync>(
     alloc: Global,
     setup: Setup<D>,
     board: &'a Board,
-    stop: Stop,
+    gates: Gates<Turnstile<'a>>,
     players: Vec<Player<'a>>,
 ) -> Result<Seen> {
-    let life = lived(rt, alloc, setup, Turnstile::both(stop, board), players)?;
+    let life = lived(rt, alloc, setup, gates, players)?;
     if board.is_said(Mark::Late) {
         return Err(anyhow!("a worker waited in vain"));
     }
     seen_of(alloc, life)
 }
 
-/// Plays these threads over the devices, each of a handle, where workers are held at a stop. An error where one waited in
-/// vain.
+/// Plays these threads over the devices, each of a handle, where workers go step by step and are held at a stop. An error
+/// where one waited in vain.
 pub fn play<D: Device + Send, R: Threads + Wait + Sync>(
     rt: &R,
     alloc: Global,
@@ -117,10 +117,24 @@ pub fn play<D: Device + Send, R: Threads + Wait + Sync>(
     readers: &[Reader],
     threads: &[&[Act]],
 ) -> Result<Seen> {
+    play_in_rows(rt, alloc, setup, stop, 1, readers, threads)
+}
+
+/// The same where workers go by rows of at most so many steps.
+pub fn play_in_rows<D: Device + Send, R: Threads + Wait + Sync>(
+    rt: &R,
+    alloc: Global,
+    setup: Setup<D>,
+    stop: Stop,
+    burst: u32,
+    readers: &[Reader],
+    threads: &[&[Act]],
+) -> Result<Seen> {
     let parker = Parker::new(alloc)?;
     let board = Board::new(parker.unparker().clone()?);
     let players = players(alloc, readers, threads, &board, parker)?;
-    play_with(rt, alloc, setup, &board, stop, players)
+    let gates = Turnstile::both(stop, burst, &board);
+    play_with(rt, alloc, setup, &board, gates, players)
 }
 
 /// The line of an entry, behind these.

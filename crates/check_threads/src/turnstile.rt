@@ -18,16 +18,28 @@ pub struct Turnstile<'a> {
     at: Point,
     /// How many times the point is still to be passed.
     nth: u64,
+    /// How many steps may follow one pass.
+    burst: u32,
     board: &'a Board,
 }
 
 impl<'a> Turnstile<'a> {
-    /// The gates of both workers, which hold the one that comes to this stop.
-    pub fn both(stop: Stop, board: &'a Board) -> Gates<Turnstile<'a>> {
+    /// The gates of both workers, which hold the one that comes to this stop, and let so many steps by at each pass.
+    pub fn both(stop: Stop, burst: u32, board: &'a Board) -> Gates<Turnstile<'a>> {
         let Stop(at, nth) = stop;
         Gates {
-            controller: Turnstile { at, nth, board },
-            events: Turnstile { at, nth, board },
+            controller: Turnstile {
+                at,
+                nth,
+                burst,
+                board,
+            },
+            events: Turnstile {
+                at,
+                nth,
+                burst,
+                board,
+            },
         }
     }
 }
@@ -45,6 +57,6 @@ impl<'a> Gate for Turnstile<'a> {
     }
 
     fn burst(&self) -> u32 {
-        1
+        self.burst
     }
 }
