@@ -78,8 +78,8 @@ fn turn<L: Naming, P: Drop, D: Device, J: Recorder, G: Gate, R: Wait>(
     }
 }
 
-/// Does the controller's part (xHCI 1.2, 4.6 and 4.10) until the library is rested: packets or an order only where
-/// `pending` showed one, each behind the gate, and packets in a row behind one pass. With nothing to do it parks. Where memory is refused it says so (`has_lacked_memory`) and
+/// Does the controller's part (xHCI 1.2, 4.6 and 4.10) until the library is rested: a packet or an order only where
+/// `pending` showed one, each behind the gate; behind one pass packets go in a row. With nothing to do it parks. Where memory is refused it says so (`has_lacked_memory`) and
 /// tries again; but once it was asked to stop, and a hundred tries in a row were refused, it gives up, and asks the other worker to
 /// end too. The caller comes back, and only where what it saw last has neither a packet nor an order, or memory was refused to it a hundred
 /// times. Look by look it made what was there to be seen: packets in a row, then the order. What memory was refused to
