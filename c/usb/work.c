@@ -1,9 +1,6 @@
 /* What devices, controller and events have to do, until nothing is left. It is done where the program handles events. */
 #include "bus.h"
 
-/* More than a device can answer, and the core can have to do, at once. */
-#define ALL (1u << 20)
-
 static unsigned dice(unsigned sides)
 {
     process.bus.seed = process.bus.seed * 6364136223846793005u + 1442695040888963407u;
@@ -103,6 +100,22 @@ static bool serve_all(void)
     return any;
 }
 
+/* The one endpoint where something is to be done, whose answers needn't be looked at one by one; NULL where there is none, or several.
+ * With several each has its turn, so that their results come as their packets do. */
+static struct pipe *only_one(void)
+{
+    struct bus *bus = &process.bus;
+    struct pipe *pipe = bus->active_count == 1 ? bus->active[0] : NULL;
+    return pipe && !bus->seed && !bus->controls.first && !is_watched(pipe->device) ? pipe : NULL;
+}
+
+/* The quick way for the one endpoint. What is left behind it is done as with several. */
+static bool turn_only_one(void)
+{
+    struct pipe *pipe = only_one();
+    return pipe && turn_over(pipe);
+}
+
 static bool feed_all(void)
 {
     struct bus *bus = &process.bus;
@@ -131,6 +144,7 @@ void work_off(void)
     process.bus.rounds++;
     while (any) {
         any = answer_controls();
+        any |= turn_only_one();
         any |= serve_all();
         if (any || process.bus.active_count) {
             any |= core_settle(ALL);

@@ -1,17 +1,18 @@
--- Packets one after another, and steps until nothing is to be done.
-use Rattle.std.proofs.Common.{◌≡◌, ℕ, zero, suc, ◌+◌, ◌<◌, ◌≤◌, Bool, true, false, Option, Some, None, ◌⊎◌, inl, inr, nat_lt, refl, sym, ap, ◌∙◌, subst, arith}
+-- Packets row by row, and steps until nothing is to be done.
+use Rattle.std.proofs.Common.{◌≡◌, ℕ, zero, suc, ◌+◌, ◌-◌, ◌<◌, ◌≤◌, Bool, true, false, Option, Some, None, ◌⊎◌, inl, inr, nat_lt, refl, sym, ap, ◌∙◌, subst, arith}
 use Rattle.std.proofs.lemmas.Bool.{ltb-false, ltb-true}
 use Rattle.usb_core.specs.Public.{ShowsWorld, StillCarries, TurnsWorld}
 use Rattle.usb_model.specs.declared.entry.Entry.{Entry}
 use Rattle.usb_model.specs.declared.reply.Reply.{Reply}
 use Rattle.usb_model.specs.declared.reply.Reply.TheVariants.{Called, Done, Ended, Finished, Idle, Moved, Nak, Number, Paused, Ran, Refused as IsRefused, Settled}
 use Rattle.usb_model.specs.declared.step.Step.{Step}
+use Rattle.usb_model.specs.declared.step.Step.TheVariants.{Serve}
 use Rattle.usb_model.specs.Setup.{Setup}
 use Rattle.usb_model.specs.World.{World, turn}
 use Rattle.tirnouch_c.specs.declared.session.Session.{Session}
 use Rattle.tirnouch_c.specs.declared.told.Told.{Told}
 use Rattle.tirnouch_c.specs.Calls.{SameBeside}
-use Rattle.tirnouch_c.specs.Packets.{Serves, ServesOne, ends_nothing, entry_behind, goes_on, served}
+use Rattle.tirnouch_c.specs.Packets.{Serves, ServesRow, ends_nothing, entry_behind, goes_on, served}
 use Rattle.tirnouch_c.specs.Settling.{NoneAsked, Settles, behind_step, is_nothing, next_step, worked}
 use Rattle.tirnouch_c.proofs.Quiet.{quiet_ends}
 use Rattle.tirnouch_c.specs.Told.{bit, of_kind, reply_told, told_by, told_of}
@@ -80,49 +81,89 @@ none_yet dev ep told s none = record {
   same = (refl, refl);
 }
 
-module _ (dev ep done : ℕ) (told one : Told) (further : Bool) (s mid t : Session) (so_far : Going dev ep done told s mid) (packet : ServesOne dev ep (one, further) mid t) where
-  -- the world behind one more
-  shown : (setup : Setup) (w : World) → ShowsWorld setup s.core w → ShowsWorld setup t.core (served setup dev ep w (suc done))
-  unfolding served
-  shown setup w shows = (packet.turned setup (served setup dev ep w done) (so_far.shows setup w shows)).1
+-- before so many, or so many behind them
+place_of : (done k : ℕ) → (k < done) ⊎ ((j : ℕ) × (done + j ≡ k))
+place_of done k = by_test (nat_lt k done) refl
+  where
+    by_test : (b : Bool) → nat_lt k done ≡ b → (k < done) ⊎ ((j : ℕ) × (done + j ≡ k))
+    by_test true is = inl (ltb-true k done is)
+    by_test false is = inr (k - done, let le = ltb-false k done is in omega (arith, le))
 
-  last_is : (setup : Setup) (w : World) (k : ℕ) → ShowsWorld setup s.core w → suc done ≡ suc k → record one { amount = suc done } ≡ record (told_of (entry_behind setup dev ep w k)) { amount = suc k }
+-- some are one and others
+one_of_some : (n : ℕ) → 0 < n → (j : ℕ) × (n ≡ suc j)
+one_of_some zero some = absurd (omega (arith, some))
+one_of_some (suc j) some = (j, refl)
+
+-- so many packets and then more
+served_on : (setup : Setup) (dev ep : ℕ) (w : World) (a b : ℕ) → served setup dev ep (served setup dev ep w a) b ≡ served setup dev ep w (a + b)
+unfolding served
+served_on setup dev ep w a zero =
+    let same : a ≡ a + 0 = omega arith in
+    ap (λ (n : ℕ). served setup dev ep w n) same
+served_on setup dev ep w a (suc b) =
+    let same : suc (a + b) ≡ a + suc b = omega arith in
+    ap (λ (v : World). (turn setup v (Serve dev ep)).world) (served_on setup dev ep w a b) ∙ ap (λ (n : ℕ). served setup dev ep w n) same
+
+module _ (dev ep done rest : ℕ) (told one : Told) (further : Bool) (s mid t : Session) (so_far : Going dev ep done told s mid) (row : ServesRow dev ep rest (one, further) mid t) where
+  -- the world behind a row more
+  shown : (setup : Setup) (w : World) → ShowsWorld setup s.core w → ShowsWorld setup t.core (served setup dev ep w (done + one.amount))
+  shown setup w shows = subst (λ (v : World). ShowsWorld setup t.core v) (served_on setup dev ep w done one.amount) (row.shows setup (served setup dev ep w done) (so_far.shows setup w shows))
+
+  -- the entry of a packet of the row
+  entry_on : (setup : Setup) (w : World) (j k : ℕ) → done + j ≡ k → entry_behind setup dev ep (served setup dev ep w done) j ≡ entry_behind setup dev ep w k
+  entry_on setup w j k at = ap (λ (v : World). (turn setup v (Serve dev ep)).entry) (served_on setup dev ep w done j) ∙ ap (λ (n : ℕ). entry_behind setup dev ep w n) at
+
+  last_is : (setup : Setup) (w : World) (k : ℕ) → ShowsWorld setup s.core w → done + one.amount ≡ suc k → record one { amount = suc k } ≡ record (told_of (entry_behind setup dev ep w k)) { amount = suc k }
   last_is setup w k shows is =
-      let same : done ≡ k = omega (arith, is) in
-      subst (λ (j : ℕ). record one { amount = suc done } ≡ record (told_of (entry_behind setup dev ep w j)) { amount = suc j }) same
-      (ap (λ (x : Told). record x { amount = suc done }) (packet.turned setup (served setup dev ep w done) (so_far.shows setup w shows)).0)
+      let some = one_of_some one.amount row.some in
+      ap (λ (x : Told). record x { amount = suc k }) (row.last setup (served setup dev ep w done) some.0 (so_far.shows setup w shows) some.1)
+      ∙ ap (λ (e : Entry). record (told_of e) { amount = suc k }) (entry_on setup w some.0 k (omega (arith, is, some.1)))
+
+  -- a packet of which none ended a transfer, but perhaps the last of the row
+  before_last : (setup : Setup) (w : World) (k : ℕ) → ShowsWorld setup s.core w → suc k < done + one.amount → ends_nothing (entry_behind setup dev ep w k).reply ≡ true
+  before_last setup w k shows low = by_place (place_of done k)
+    where
+      by_place : (k < done) ⊎ ((j : ℕ) × (done + j ≡ k)) → ends_nothing (entry_behind setup dev ep w k).reply ≡ true
+      by_place (inl lower) = so_far.goes setup w k shows lower
+      by_place (inr at) = subst (λ (e : Entry). ends_nothing e.reply ≡ true) (entry_on setup w at.0 k at.1) (row.before setup (served setup dev ep w done) at.0 (so_far.shows setup w shows) (omega (arith, low, at.1)))
+
+  -- nor the last, where the endpoint may be served once more
+  none_ended : (setup : Setup) (w : World) (k : ℕ) → ShowsWorld setup s.core w → further ≡ true → k < done + one.amount → ends_nothing (entry_behind setup dev ep w k).reply ≡ true
+  none_ended setup w k shows on low = by_place (place_of (suc k) (done + one.amount))
+    where
+      by_place : (done + one.amount < suc k) ⊎ ((j : ℕ) × (suc k + j ≡ done + one.amount)) → ends_nothing (entry_behind setup dev ep w k).reply ≡ true
+      by_place (inl lower) = absurd (omega (arith, low, lower))
+      by_place (inr (zero, at)) =
+          let some = one_of_some one.amount row.some in
+          subst (λ (e : Entry). ends_nothing e.reply ≡ true) (entry_on setup w some.0 k (omega (arith, at, some.1))) (row.further setup (served setup dev ep w done) some.0 (so_far.shows setup w shows) on some.1)
+      by_place (inr (suc j, at)) = before_last setup w k shows (omega (arith, at))
 
   still : StillCarries s.core t.core
-  still kept carried = packet.carries kept (so_far.carries kept carried)
+  still kept carried = row.carries kept (so_far.carries kept carried)
 
   same_beside : SameBeside s t
-  same_beside = (packet.same.0 ∙ so_far.same.0, packet.same.1 ∙ so_far.same.1)
+  same_beside = (row.same.0 ∙ so_far.same.0, row.same.1 ∙ so_far.same.1)
 
-  -- one more, which ended nothing
-  pub one_more : (next : ℕ) → next ≡ suc done → further ≡ true → Going dev ep next (record one { amount = next }) s t
-  one_more next is on = subst (λ (n : ℕ). Going dev ep n (record one { amount = n }) s t) (sym is) (record {
+  -- a row more, which ended nothing
+  pub row_more : (next : ℕ) → next ≡ done + one.amount → further ≡ true → Going dev ep next (record one { amount = next }) s t
+  row_more next is on = subst (λ (n : ℕ). Going dev ep n (record one { amount = n }) s t) (sym is) (record {
     amount = refl;
     shows = shown;
-    last = last_is;
-    goes = λ setup w k shows low. by_place setup w k shows (at_or_before k done low);
+    last = λ setup w k shows at. ap (λ (n : ℕ). record one { amount = n }) at ∙ last_is setup w k shows at;
+    goes = λ setup w k shows low. none_ended setup w k shows on low;
     carries = still;
     same = same_beside;
   })
-    where
-      by_place : (setup : Setup) (w : World) (k : ℕ) → ShowsWorld setup s.core w → (k < done) ⊎ (k ≡ done) → ends_nothing (entry_behind setup dev ep w k).reply ≡ true
-      by_place setup w k shows (inl low) = so_far.goes setup w k shows low
-      by_place setup w k shows (inr is) = subst (λ (j : ℕ). ends_nothing (entry_behind setup dev ep w j).reply ≡ true) (sym is)
-          (packet.further setup (served setup dev ep w done) (so_far.shows setup w shows) on)
 
-  -- the last one
-  pub last_one : (most next : ℕ) → next ≡ suc done → done < most → further ≡ false → Serves dev ep most (record one { amount = next }) s t
-  last_one most next is low off = subst (λ (n : ℕ). Serves dev ep most (record one { amount = n }) s t) (sym is) (record {
-    within = omega (arith, low);
-    begun = λ none. absurd (omega (arith, none));
+  -- the last row
+  pub last_row : (most next : ℕ) → next ≡ done + one.amount → next ≤ most → further ≡ false → Serves dev ep most (record one { amount = next }) s t
+  last_row most next is within off = subst (λ (n : ℕ). Serves dev ep most (record one { amount = n }) s t) (sym is) (record {
+    within = omega (arith, within, is);
+    begun = λ none. let some = row.some in absurd (omega (arith, none, some));
     shows = shown;
-    last = last_is;
-    before = λ setup w k shows lower. so_far.goes setup w k shows (omega (arith, lower));
-    stops = λ fewer five. packet.stops off five;
+    last = λ setup w k shows at. ap (λ (n : ℕ). record one { amount = n }) at ∙ last_is setup w k shows at;
+    before = before_last;
+    stops = λ fewer five. row.stops off five;
     carries = still;
     same = same_beside;
   })

@@ -1,7 +1,7 @@
 //! Packets at an endpoint.
 
-ghost use Rattle.std.specs.Prelude.{◌≡◌};
-ghost use Rattle.tirnouch_c.specs.Packets.{Serves, ServesOne, goes_on};
+ghost use Rattle.std.specs.Prelude.{◌≡◌, ◌<◌};
+ghost use Rattle.tirnouch_c.specs.Packets.{Serves, ServesRow, goes_on};
 
 use crate::session::Session;
 use crate::told::Told;
@@ -27,13 +27,19 @@ fn is_ready(session: &Session, dev: DeviceNo, ep: EpAddr) -> bool {
     }
 }
 
-/// A device answers one packet: what is told of it, and whether it may be served once more.
-fn serve_one(session: &mut Session, dev: DeviceNo, ep: EpAddr) -> (Told, bool)
-    ensures { ServesOne dev ep result session.old session.new }
+/// A device answers packets in a row at an endpoint, at most so many: what is told of the last one, with how many they were, and
+/// whether the endpoint may be served once more.
+fn serve_row(session: &mut Session, dev: DeviceNo, ep: EpAddr, most: u32) -> (Told, bool)
+    requires { 0 < most }
+    ensures { ServesRow dev ep most result session.old session.new }
 {
-    let entry = session.core.serve(dev, ep);
-    let further = goes_on(&entry.reply, is_ready(session, dev, ep));
-    (Told::of(&entry), further)
+    let burst = session.core.serve_burst(dev, ep, most);
+    let further = goes_on(&burst.last.reply, is_ready(session, dev, ep));
+    let told = Told {
+        amount: burst.full + 1,
+        ..Told::of(&burst.last)
+    };
+    (told, further)
 }
 
 /// A device answers packets at an endpoint, at most so many: until one ends a transfer, or it has no answer. What is told is the
@@ -42,11 +48,13 @@ pub fn serve(session: &mut Session, dev: DeviceNo, ep: EpAddr, most: u32, told: 
     ensures { Serves dev ep most told.new session.old session.new }
 {
     *told = Told::nothing();
-    for done in 0..most {
-        let (one, further) = serve_one(session, dev, ep);
+    let mut done = 0;
+    while done < most {
+        let (row, further) = serve_row(session, dev, ep, most - done);
+        done += row.amount;
         *told = Told {
-            amount: done + 1,
-            ..one
+            amount: done,
+            ..row
         };
         if !further {
             return;

@@ -1,0 +1,1 @@
+-- The bytes of the wanted one are fetched.
