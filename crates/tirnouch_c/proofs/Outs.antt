@@ -1,12 +1,14 @@
 -- A result that goes out, and whose callback ends.
-use Rattle.std.proofs.Common.{◌≡◌, ◌∷◌, [], ℕ, false, List, Option, Some, None, is_some, refl, sym, ap, ◌∙◌, subst}
+use Rattle.std.proofs.Common.{◌≡◌, ◌∷◌, [], ℕ, ℤ, pos, ◌==◌, Bool, true, false, List, Option, Some, None, is_some, refl, sym, ap, ◌∙◌, subst}
+use Rattle.std.proofs.lemmas.Bool.{eqb-false, eqb-true}
 use Rattle.usb_core.specs.Bursts.{TakesAndStops}
 use Rattle.usb_core.specs.Public.{Carries, CarriesOut, Kept, State, Taken}
 use Rattle.usb_model.specs.declared.entry.Entry.{Entry}
 use Rattle.usb_model.specs.World.{world_from}
 use Rattle.usb_model.specs.World.Journal.{journal_from}
 use Rattle.tirnouch_c.specs.declared.session.Session.{Session}
-use Rattle.tirnouch_c.specs.Results.{GoesOut}
+use Rattle.tirnouch_c.specs.declared.told.Told.{Told}
+use Rattle.tirnouch_c.specs.Results.{Fetches, FetchesIf, FetchesWanted, GoesOut, Takes, TakesFor, went_number, went_told}
 
 -- of lists that are the same the first are
 first_is : {A : Type 0} (x y : A) (xs ys : List A) → x ∷ xs ≡ y ∷ ys → x ≡ y
@@ -21,6 +23,38 @@ out_at_once x old new turned carries = record {
   its = λ kept carried. (carries kept carried).0;
   carries = λ kept carried. (carries kept carried).1;
 }
+
+-- none went out: nothing is fetched
+pub none_stays : (want : ℕ) (answer : ℤ) (told : Told) (bytes : List ℕ) (s t : Session) → Takes answer told s t → answer ≡ pos 0 → TakesFor want (pos 0) told bytes bytes s t
+none_stays want answer told bytes s t takes is = record { went = answer; out = t; takes = takes; fetches = by_went takes.went (sym takes.answered ∙ is) }
+  where
+    by_went : (went : Option (Taken ℕ)) → went_number went ≡ pos 0 → FetchesWanted want went (pos 0) bytes bytes t t
+    by_went None none = (refl, refl, refl)
+    by_went (Some x) none = absurd cc
+
+-- another went out: its bytes are still to be fetched
+pub another_stays : (want : ℕ) (answer : ℤ) (told : Told) (bytes : List ℕ) (s t : Session) → Takes answer told s t → (answer ≡ pos 0 → ⊥) → (told.payload ≡ want → ⊥) → TakesFor want (pos 2) told bytes bytes s t
+another_stays want answer told bytes s t takes some other = record { went = answer; out = t; takes = takes; fetches = by_went takes.went takes.answered takes.told_is }
+  where
+    by_test : (x : Taken ℕ) (b : Bool) → (x.payload == want) ≡ b → (x.payload ≡ want → ⊥) → FetchesIf b (pos 2) bytes bytes t t
+    by_test x true is differs = absurd (differs (eqb-true x.payload want is))
+    by_test x false is differs = (refl, refl, refl)
+
+    by_went : (went : Option (Taken ℕ)) → answer ≡ went_number went → told ≡ went_told went → FetchesWanted want went (pos 2) bytes bytes t t
+    by_went None is told_is = absurd (some is)
+    by_went (Some x) is told_is = by_test x (x.payload == want) refl (λ same. other (ap (λ (y : Told). y.payload) told_is ∙ same))
+
+-- the wanted one went out: its bytes are fetched
+pub wanted_fetched : (want : ℕ) (answer count : ℤ) (told : Told) (old new : List ℕ) (s mid t : Session) → Takes answer told s mid → (answer ≡ pos 0 → ⊥) → told.payload ≡ want → Fetches count old new mid t → TakesFor want (pos 1) told old new s t
+wanted_fetched want answer count told old new s mid t takes some same fetches = record { went = answer; out = mid; takes = takes; fetches = by_went takes.went takes.answered takes.told_is }
+  where
+    by_test : (x : Taken ℕ) (b : Bool) → (x.payload == want) ≡ b → x.payload ≡ want → FetchesIf b (pos 1) old new mid t
+    by_test x true is it = (refl, (count, fetches))
+    by_test x false is it = absurd (eqb-false x.payload want is it)
+
+    by_went : (went : Option (Taken ℕ)) → answer ≡ went_number went → told ≡ went_told went → FetchesWanted want went (pos 1) old new mid t
+    by_went None is told_is = absurd (some is)
+    by_went (Some x) is told_is = by_test x (x.payload == want) refl (sym (ap (λ (y : Told). y.payload) told_is) ∙ same)
 
 -- where there is no session
 pub empty : (o : Option Session) → is_some o ≡ false → o ≡ None

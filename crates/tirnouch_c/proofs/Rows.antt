@@ -43,17 +43,13 @@ module _ (setup : Setup) (dev ep : ℕ) where
       → (last ≡ entry_behind setup dev ep w full) × ((k : ℕ) → k < full → each ≡ entry_behind setup dev ep w k)
   unfolding served journal_from
   rowed w each last zero is = (first_is _ _ _ _ is, λ k low. absurd (omega (arith, low)))
-  rowed w each last (suc full) is = (more.0 ∙ ap (λ (v : World). (turn setup v (Serve dev ep)).entry) (served_first w full), by_place)
+  rowed w each last (suc full) is =
+      let more = rowed (turn setup w (Serve dev ep)).world each last full (others_are _ _ _ _ is) in
+      (more.0 ∙ ap (λ (v : World). (turn setup v (Serve dev ep)).entry) (served_first w full), by_place (first_is _ _ _ _ is) more.1)
     where
-      here : each ≡ entry_behind setup dev ep w 0
-      here = first_is _ _ _ _ is
-
-      more : (last ≡ entry_behind setup dev ep (turn setup w (Serve dev ep)).world full) × ((k : ℕ) → k < full → each ≡ entry_behind setup dev ep (turn setup w (Serve dev ep)).world k)
-      more = rowed (turn setup w (Serve dev ep)).world each last full (others_are _ _ _ _ is)
-
-      by_place : (k : ℕ) → k < suc full → each ≡ entry_behind setup dev ep w k
-      by_place zero low = here
-      by_place (suc k) low = more.1 k (omega (arith, low)) ∙ ap (λ (v : World). (turn setup v (Serve dev ep)).entry) (served_first w k)
+      by_place : each ≡ entry_behind setup dev ep w 0 → ((k : ℕ) → k < full → each ≡ entry_behind setup dev ep (turn setup w (Serve dev ep)).world k) → (k : ℕ) → k < suc full → each ≡ entry_behind setup dev ep w k
+      by_place here more zero low = here
+      by_place here more (suc k) low = more k (omega (arith, low)) ∙ ap (λ (v : World). (turn setup v (Serve dev ep)).entry) (served_first w k)
 
   -- where there is one entry there is one packet
   alone : (w : World) (last : Entry) (full : ℕ) → last ∷ [] ≡ run_from setup w (replicate (suc full) (Serve dev ep)) → (last ≡ entry_behind setup dev ep w full) × (full ≡ 0)
