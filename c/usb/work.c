@@ -100,22 +100,6 @@ static bool serve_all(void)
     return any;
 }
 
-/* The one endpoint where something is to be done, whose answers needn't be looked at one by one; NULL where there is none, or several.
- * With several each has its turn, so that their results come as their packets do. */
-static struct pipe *only_one(void)
-{
-    struct bus *bus = &process.bus;
-    struct pipe *pipe = bus->active_count == 1 ? bus->active[0] : NULL;
-    return pipe && !bus->seed && !bus->controls.first && !is_watched(pipe->device) ? pipe : NULL;
-}
-
-/* The quick way for the one endpoint. What is left behind it is done as with several. */
-static bool turn_only_one(void)
-{
-    struct pipe *pipe = only_one();
-    return pipe && turn_over(pipe);
-}
-
 static bool feed_all(void)
 {
     struct bus *bus = &process.bus;
@@ -138,13 +122,30 @@ void settle_all(void)
     }
 }
 
+/* The one endpoint where something is to be done, whose answers needn't be looked at one by one; NULL where there is none, or several.
+ * With several each has its turn before an order runs, so that their results come as their packets do. */
+static struct pipe *only_one(void)
+{
+    struct bus *bus = &process.bus;
+    struct pipe *pipe = bus->active_count == 1 ? bus->active[0] : NULL;
+    return pipe && !bus->seed && !bus->controls.first && !is_watched(pipe->device) ? pipe : NULL;
+}
+
+/* The quick way, where there is but one endpoint. */
+static void turn_only_one(void)
+{
+    struct pipe *pipe = only_one();
+    if (pipe && turn_over(pipe))
+        feed_all();
+}
+
 void work_off(void)
 {
     bool any = true;
     process.bus.rounds++;
     while (any) {
+        turn_only_one();
         any = answer_controls();
-        any |= turn_only_one();
         any |= serve_all();
         if (any || process.bus.active_count) {
             any |= core_settle(ALL);
