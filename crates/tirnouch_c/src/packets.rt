@@ -1,29 +1,29 @@
 //! Packets at an endpoint.
 
-ghost use Rattle.std.specs.Prelude.{◌≡◌, ◌<◌};
+ghost use Rattle.std.specs.Prelude.{◌≡◌, ◌<◌, Bool};
 ghost use Rattle.tirnouch_c.specs.Packets.{Serves, ServesRow, goes_on};
 
 use crate::session::Session;
 use crate::told::Told;
 use usb_model::{DeviceNo, EpAddr, Reply};
 
-/// Whether a device that replied so may be served once more: its packet ended no transfer. Where it wasn't ready, it may go on
-/// in its script.
-fn goes_on(reply: &Reply, ready: bool) -> bool
-    ensures { result ≡ goes_on ready reply.now }
-{
-    match reply {
-        Reply::Moved { .. } => true,
-        Reply::Nak { .. } => ready,
-        _ => false,
-    }
-}
-
 /// Whether a device has an answer left at an endpoint, or is halted there.
 fn is_ready(session: &Session, dev: DeviceNo, ep: EpAddr) -> bool {
     match session.core.controller().slot(dev) {
         None => false,
         Some(slot) => slot.ready(ep),
+    }
+}
+
+/// Whether a device that replied so may be served once more: its packet ended no transfer. Where it wasn't ready, it may go on
+/// in its script.
+fn goes_on(session: &Session, dev: DeviceNo, ep: EpAddr, reply: &Reply) -> bool
+    ensures { (ready : Bool) × (result ≡ goes_on ready reply.now) }
+{
+    match reply {
+        Reply::Moved { .. } => true,
+        Reply::Nak { .. } => is_ready(session, dev, ep),
+        _ => false,
     }
 }
 
@@ -34,7 +34,7 @@ fn serve_row(session: &mut Session, dev: DeviceNo, ep: EpAddr, most: u32) -> (To
     ensures { ServesRow dev ep most result session.old session.new }
 {
     let burst = session.core.serve_burst(dev, ep, most);
-    let further = goes_on(&burst.last.reply, is_ready(session, dev, ep));
+    let further = goes_on(session, dev, ep, &burst.last.reply);
     let told = Told {
         amount: burst.full + 1,
         ..Told::of(&burst.last)
