@@ -4,6 +4,7 @@ pub mod MadeDevices
 pub mod Quiet
 pub mod Progress
 pub mod Rows
+pub mod Steps
 pub mod Requested
 pub mod Outs
 pub mod Submitting

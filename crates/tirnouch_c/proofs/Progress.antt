@@ -1,5 +1,5 @@
 -- Packets row by row, and steps until nothing is to be done.
-use Rattle.std.proofs.Common.{◌≡◌, ℕ, zero, suc, ◌+◌, ◌-◌, ◌<◌, ◌≤◌, Bool, true, false, Option, Some, None, ◌⊎◌, inl, inr, nat_lt, refl, sym, ap, ◌∙◌, subst, arith}
+use Rattle.std.proofs.Common.{◌≡◌, ℕ, zero, suc, ◌+◌, ◌-◌, ◌<◌, ◌≤◌, Bool, true, false, not, Option, Some, None, ◌⊎◌, inl, inr, nat_lt, refl, sym, ap, ◌∙◌, subst, arith}
 use Rattle.std.proofs.lemmas.Bool.{ltb-false, ltb-true}
 use Rattle.usb_core.specs.Public.{ShowsWorld, StillCarries, TurnsWorld}
 use Rattle.usb_model.specs.declared.entry.Entry.{Entry}
@@ -13,7 +13,7 @@ use Rattle.tirnouch_c.specs.declared.session.Session.{Session}
 use Rattle.tirnouch_c.specs.declared.told.Told.{Told}
 use Rattle.tirnouch_c.specs.Calls.{SameBeside}
 use Rattle.tirnouch_c.specs.Packets.{Serves, ServesRow, ends_nothing, entry_behind, goes_on, served}
-use Rattle.tirnouch_c.specs.Settling.{NoneAsked, Settles, behind_step, is_nothing, next_step, worked}
+use Rattle.tirnouch_c.specs.Settling.{Advances, NoneAsked, Settles, behind_step, is_something, next_step, worked}
 use Rattle.tirnouch_c.proofs.Quiet.{quiet_ends}
 use Rattle.tirnouch_c.specs.Told.{bit, of_kind, reply_told, told_by, told_of}
 
@@ -193,33 +193,48 @@ pub no_step_yet : (packets : Bool) (s : Session) → Working packets 0 s s
 unfolding worked
 no_step_yet packets s = record { shows = λ setup w shows. shows; each = λ setup w k shows low. absurd (omega (arith, low)); carries = λ kept carried. carried; same = (refl, refl) }
 
--- what is to be done next where a core is
-abbrev pub IsNext : Bool → Session → Option Step → Type 0
-IsNext packets s o = (setup : Setup) (w : World) → ShowsWorld setup s.core w → o ≡ next_step setup packets w
+-- what is tested to be nothing is nothing
+none_is : (o : Option Step) → is_something o ≡ false → o ≡ None
+none_is None is = refl
+none_is (Some step) is = absurd cc
 
 -- one step more
-pub one_step_more : (packets : Bool) (done next : ℕ) (s mid t : Session) (o : Option Step) (step : Step) (entry : Entry) → Working packets done s mid → next ≡ suc done → IsNext packets mid o → o ≡ Some step
-    → TurnsWorld mid.core step entry t.core → StillCarries mid.core t.core → SameBeside mid t → Working packets next s t
+pub one_step_more : (packets : Bool) (done next : ℕ) (s mid t : Session) → Working packets done s mid → next ≡ suc done → Advances packets true mid.core t.core → SameBeside mid t → Working packets next s t
 unfolding worked
-one_step_more packets done next s mid t o step entry so_far is next_is here turned carries same = subst (λ (n : ℕ). Working packets n s t) (sym is) (record {
-  shows = λ setup w shows.
-      let before = so_far.shows setup w shows in
-      subst (λ (x : Option Step). ShowsWorld setup t.core (behind_step setup (worked setup packets w done) x)) (sym here ∙ next_is setup (worked setup packets w done) before) (turned setup (worked setup packets w done) before).1;
+one_step_more packets done next s mid t so_far is advanced same = subst (λ (n : ℕ). Working packets n s t) (sym is) (record {
+  shows = λ setup w shows. advanced.shows setup (worked setup packets w done) (so_far.shows setup w shows);
   each = λ setup w k shows low. by_place setup w k shows (at_or_before k done low);
-  carries = λ kept carried. carries kept (so_far.carries kept carried);
+  carries = λ kept carried. advanced.carries kept (so_far.carries kept carried);
   same = (same.0 ∙ so_far.same.0, same.1 ∙ so_far.same.1);
 })
   where
     by_place : (setup : Setup) (w : World) (k : ℕ) → ShowsWorld setup s.core w → (k < done) ⊎ (k ≡ done) → next_step setup packets (worked setup packets w k) ≡ None → ⊥
     by_place setup w k shows (inl low) none = so_far.each setup w k shows low none
     by_place setup w k shows (inr at) none =
-        let there : next_step setup packets (worked setup packets w done) ≡ Some step = sym (next_is setup (worked setup packets w done) (so_far.shows setup w shows)) ∙ here in
-        cc (none, there, at)
+        let there : true ≡ is_something (next_step setup packets (worked setup packets w done)) = advanced.made_is setup (worked setup packets w done) (so_far.shows setup w shows) in
+        let not_there : is_something (next_step setup packets (worked setup packets w done)) ≡ false = subst (λ (j : ℕ). is_something (next_step setup packets (worked setup packets w j)) ≡ false) at (ap is_something none) in
+        absurd cc
 
--- where it ends: nothing is to be done any more, or as many were made as were wanted
-pub settled : (packets quiet : Bool) (most done : ℕ) (s t : Session) (told : Told) (o : Option Step) → Working packets done s t → done ≤ most → IsNext packets t o → (quiet ≡ true → o ≡ None) → (quiet ≡ false → done ≡ most)
+-- nothing is to be done where a core is
+abbrev pub IsQuiet : Bool → Session → Type 0
+IsQuiet packets s = (setup : Setup) (w : World) → ShowsWorld setup s.core w → is_something (next_step setup packets w) ≡ false
+
+-- where nothing was to be done there are as many steps as before
+pub no_step_more : (packets : Bool) (done : ℕ) (s mid t : Session) → Working packets done s mid → Advances packets false mid.core t.core → SameBeside mid t → Working packets done s t
+no_step_more packets done s mid t so_far advanced same = record {
+  shows = λ setup w shows.
+      let before = so_far.shows setup w shows in
+      let none = none_is _ (sym (advanced.made_is setup (worked setup packets w done) before)) in
+      subst (λ (o : Option Step). ShowsWorld setup t.core (behind_step setup (worked setup packets w done) o)) none (advanced.shows setup (worked setup packets w done) before);
+  each = so_far.each;
+  carries = λ kept carried. advanced.carries kept (so_far.carries kept carried);
+  same = (same.0 ∙ so_far.same.0, same.1 ∙ so_far.same.1);
+}
+
+-- where it ends: nothing was to be done any more where it was last, or as many were made as were wanted
+pub settled : (packets quiet : Bool) (most done : ℕ) (s mid t : Session) (told : Told) → Working packets done s mid → Working packets done s t → done ≤ most → (quiet ≡ true → IsQuiet packets mid) → (quiet ≡ false → done ≡ most)
     → told ≡ record (of_kind 255 0) { amount = done; status = bit quiet } → Settles packets most told s t
-settled packets quiet most done s t told o so_far within next_is none whole told_is =
+settled packets quiet most done s mid t told before so_far within none whole told_is =
     let amount : told.amount ≡ done = ap (λ (x : Told). x.amount) told_is in
     record {
       quiet = quiet;
@@ -227,16 +242,18 @@ settled packets quiet most done s t told o so_far within next_is none whole told
       within = omega (arith, within, amount);
       shows = λ setup w shows. subst (λ (n : ℕ). ShowsWorld setup t.core (worked setup packets w n)) (sym amount) (so_far.shows setup w shows);
       each = λ setup w k shows low. so_far.each setup w k shows (omega (arith, low, amount));
-      nothing_left = λ setup w shows is. subst (λ (n : ℕ). next_step setup packets (worked setup packets w n) ≡ None) (sym amount)
-          (sym (next_is setup (worked setup packets w done) (so_far.shows setup w shows)) ∙ none is);
+      nothing_left = λ setup w shows is. subst (λ (n : ℕ). next_step setup packets (worked setup packets w n) ≡ None) (sym amount) (nothing setup w shows is);
       ended = λ setup w shows is. subst (λ (n : ℕ). NoneAsked setup (worked setup packets w n)) (sym amount)
-          (quiet_ends setup t.core (worked setup packets w done) packets (so_far.shows setup w shows) (sym (next_is setup (worked setup packets w done) (so_far.shows setup w shows)) ∙ none is));
+          (quiet_ends setup t.core (worked setup packets w done) packets (so_far.shows setup w shows) (nothing setup w shows is));
       whole = λ is. amount ∙ whole is;
       carries = so_far.carries;
       same = so_far.same;
     }
+  where
+    nothing : (setup : Setup) (w : World) → ShowsWorld setup s.core w → quiet ≡ true → next_step setup packets (worked setup packets w done) ≡ None
+    nothing setup w shows is = none_is _ (none is setup (worked setup packets w done) (before.shows setup w shows))
 
--- what is tested to be nothing is nothing
-pub none_is : (o : Option Step) → is_nothing o ≡ true → o ≡ None
-none_is None is = refl
-none_is (Some step) is = absurd cc
+-- what isn't so is false
+pub not_so : (b : Bool) → not b ≡ true → b ≡ false
+not_so true is = absurd cc
+not_so false is = refl
