@@ -1,7 +1,7 @@
 -- Packets row by row, and steps until nothing is to be done.
 use Rattle.std.proofs.Common.{◌≡◌, ℕ, zero, suc, ◌+◌, ◌-◌, ◌<◌, ◌≤◌, Bool, true, false, not, Option, Some, None, ◌⊎◌, inl, inr, nat_lt, refl, sym, ap, ◌∙◌, subst, arith}
 use Rattle.std.proofs.lemmas.Bool.{ltb-false, ltb-true}
-use Rattle.usb_core.specs.Public.{ShowsWorld, StillCarries, TurnsWorld}
+use Rattle.usb_core.specs.Public.{ShowsWorld, StillCarries}
 use Rattle.usb_model.specs.declared.entry.Entry.{Entry}
 use Rattle.usb_model.specs.declared.reply.Reply.{Reply}
 use Rattle.usb_model.specs.declared.reply.Reply.TheVariants.{Called, Done, Ended, Finished, Idle, Moved, Nak, Number, Paused, Ran, Refused as IsRefused, Settled}

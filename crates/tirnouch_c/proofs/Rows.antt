@@ -1,5 +1,5 @@
 -- Packets in a row, as the core serves them at once.
-use Rattle.std.proofs.Common.{◌≡◌, ℕ, zero, suc, ◌+◌, ◌<◌, ◌≤◌, Bool, true, false, Option, Some, None, List, [], ◌∷◌, ◌++◌, refl, sym, ap, ◌∙◌, subst, arith}
+use Rattle.std.proofs.Common.{◌≡◌, ℕ, zero, suc, ◌+◌, ◌<◌, ◌≤◌, Bool, true, Option, Some, None, List, [], ◌∷◌, ◌++◌, refl, sym, ap, ◌∙◌, subst, arith}
 use Rattle.std.specs.Prelude.{max, replicate}
 use Rattle.proof_core.specs.Steps.{TurnsInRow}
 use Rattle.usb_core.specs.Public.{ShowsWorld, StillCarries}
@@ -12,7 +12,6 @@ use Rattle.usb_steps.specs.Bursts.{burst_entries, whole_entries, whole_entry}
 use Rattle.usb_steps.specs.declared.bursts.Burst.{Burst}
 use Rattle.usb_steps.specs.declared.bursts.Whole.{Whole}
 use Rattle.tirnouch_c.specs.declared.session.Session.{Session}
-use Rattle.tirnouch_c.specs.declared.told.Told.{Told}
 use Rattle.tirnouch_c.specs.Calls.{SameBeside}
 use Rattle.tirnouch_c.specs.Packets.{ServesRow, ends_nothing, entry_behind, goes_on, served}
 use Rattle.tirnouch_c.specs.Told.{told_of}

@@ -1,5 +1,5 @@
 -- It is done, where there is such a device.
-use Rattle.std.proofs.Common.{◌≡◌, ◌∙◌, ℕ, Option, Some, negsuc, refl, sym, subst, rules}
+use Rattle.std.proofs.Common.{◌∙◌, ℕ, Option, Some, negsuc, refl, sym, subst, rules}
 use Rattle.tirnouch_c.specs.Exports.{WorksBy, WorksIf}
 use Rattle.tirnouch_c.proofs.exports.turn_in.Goals as goal
 

@@ -1,5 +1,5 @@
 -- A row of packets more each turn.
-use Rattle.std.proofs.Common.{◌≡◌, ◌+◌, ◌≤◌, Bool, true, false, refl, ap, arith, rules}
+use Rattle.std.proofs.Common.{◌≡◌, ◌+◌, ◌≤◌, true, false, refl, ap, arith, rules}
 use Rattle.tirnouch_c.specs.declared.told.Told.{Told}
 use Rattle.tirnouch_c.proofs.Progress.{all_of_them, last_row, none_yet, row_more}
 use Rattle.tirnouch_c.proofs.packets.serve.Goals as goal

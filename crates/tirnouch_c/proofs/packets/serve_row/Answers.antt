@@ -1,7 +1,5 @@
 -- Packets in a row are turns of the world.
-use Rattle.std.proofs.Common.{◌≡◌, Bool, ap, sym, subst, refl, rules}
-use Rattle.tirnouch_c.specs.declared.told.Told.{Told}
-use Rattle.tirnouch_c.specs.Packets.{ServesRow}
+use Rattle.std.proofs.Common.{refl, rules}
 use Rattle.tirnouch_c.proofs.Rows.{row_is}
 use Rattle.tirnouch_c.proofs.packets.serve_row.Goals as goal
 

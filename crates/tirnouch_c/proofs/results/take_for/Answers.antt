@@ -1,6 +1,5 @@
 -- The bytes of the wanted one are fetched.
-use Rattle.std.proofs.Common.{◌≡◌, ◌==◌, ◌∙◌, Bool, true, false, ap, refl, sym, rules}
-use Rattle.tirnouch_c.specs.declared.told.Told.{Told}
+use Rattle.std.proofs.Common.{rules}
 use Rattle.tirnouch_c.proofs.Outs.{another_stays, none_stays, wanted_fetched}
 use Rattle.tirnouch_c.proofs.results.take_for.Goals as goal
 

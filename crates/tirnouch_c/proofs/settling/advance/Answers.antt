@@ -1,5 +1,5 @@
 -- The next step is made.
-use Rattle.std.proofs.Common.{◌≡◌, ◌∙◌, Bool, true, subst, sym, refl}
+use Rattle.std.proofs.Common.{◌∙◌, Bool, subst, sym}
 use Rattle.tirnouch_c.specs.Settling.{Advances, next_step}
 use Rattle.usb_model.specs.declared.step.Step.TheVariants.{Command, Deliver}
 use Rattle.tirnouch_c.proofs.Steps.{by_turn, event_next, order_next, packet_made, packet_next}

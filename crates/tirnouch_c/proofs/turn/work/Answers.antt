@@ -1,5 +1,5 @@
 -- One call behind the other.
-use Rattle.std.proofs.Common.{◌≡◌, rules}
+use Rattle.std.proofs.Common.{rules}
 use Rattle.tirnouch_c.specs.Turn.{Works}
 use Rattle.tirnouch_c.proofs.turn.work.Goals as goal
 
