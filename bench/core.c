@@ -65,13 +65,12 @@ static uint64_t read_8(uint64_t payload)
     return told.payload + told.amount + data[7];
 }
 
-/* The same with a call less or two. */
+/* The same in two calls. */
 static uint64_t read_8_in_turns(uint64_t payload)
 {
     uint8_t data[8];
     must(tirnouch_submit(&slot, 1, 0x81, 2, 0, 0, 8, (const uint8_t *)"", 0, payload, &told), "submit");
-    must(tirnouch_turn(&slot, 0, 0x81, 4, 16, &told), "turn");
-    must(tirnouch_fetch(&slot, data, sizeof data), "fetch");
+    must(tirnouch_turn(&slot, 0, 0x81, 4, 16, payload, data, sizeof data, &told), "turn");
     return told.payload + told.amount + data[7];
 }
 

@@ -4,8 +4,8 @@
 Each program of c/tests/usb that has an .expected file is built and run: by gcc and, where it is there, clang; and with c/usb under the
 address, undefined and thread sanitizers. Without a seed its lines are those of the file. With TIRNOUCH_SEED, where devices and controller
 go ahead by dice, it must end well. Each run is traced, and bin/usbtrace, where it is built, makes the same steps once more: every refusal,
-number and callback is compared, bytes too (tools/replay.py). Then the example of docs/C.md is run as that page says. `--quick` is gcc
-alone, with one seed."""
+number and callback is compared, bytes too (tools/replay.py). Those without a seed are made without a trace too, since packets then go a
+quicker way: the lines must be the same. Then the example of docs/C.md is run as that page says. `--quick` is gcc alone, with one seed."""
 import os
 import pathlib
 import shutil
@@ -63,10 +63,10 @@ def replay(traces):
     return "" if ran.returncode == 0 else "\n".join(told)[:2000] + ran.stderr[-2000:]
 
 
-def run(program, name, words, seed, label):
+def run(program, name, words, seed, label, is_traced=True):
     """Runs a program once: what is wrong with that, if something is."""
     with tempfile.TemporaryDirectory() as folder:
-        env = {**os.environ, "TIRNOUCH_TRACE": str(pathlib.Path(folder) / "trace")}
+        env = {**os.environ, **({"TIRNOUCH_TRACE": str(pathlib.Path(folder) / "trace")} if is_traced else {})}
         if seed:
             env["TIRNOUCH_SEED"] = str(seed)
         try:
@@ -84,15 +84,16 @@ def run(program, name, words, seed, label):
 
 
 def runs(way, names):
-    """The runs of a way: program, its name, its words, its seed, and what it is called."""
+    """The runs of a way: program, its name, its words, its seed, what it is called, and whether it is traced."""
     for name in names:
         if name in LEFT_OUT.get(way.sanitizers, ()):
             continue
         program = way.build(name)
         for dice in range(1, 1 + (DICE[way.kind()] if name == "races" else 1)):
-            yield program, name, [str(dice)], None, f"{name} {dice}, {way.name}"
+            yield program, name, [str(dice)], None, f"{name} {dice}, {way.name}", True
+            yield program, name, [str(dice)], None, f"{name} {dice}, untraced, {way.name}", False
         for seed in range(1, 1 + (0 if name in ("memory", "races") else SEEDS[way.kind()])):
-            yield program, name, ["1"], seed, f"{name}, seed {seed}, {way.name}"
+            yield program, name, ["1"], seed, f"{name}, seed {seed}, {way.name}", True
 
 
 def example():

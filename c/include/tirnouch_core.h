@@ -91,14 +91,15 @@ int32_t tirnouch_settle(struct tirnouch_slot *slot, uint8_t packets, uint32_t mo
  * endpoint, looked for from behind this one on; `status` has 1 for an order, 2 for an event, 4 for a result. */
 int32_t tirnouch_pending(struct tirnouch_slot *slot, uint8_t dev, uint8_t ep, struct tirnouch_told *told);
 
-/* The oldest result goes out, and its callback ends: 1, and it is told; 0 where none waits. NoMem where memory
- * is refused, with nothing changed. */
+/* The oldest result goes out, and its callback ends: 1, and it is told; 0 where none waits. It takes no memory. */
 int32_t tirnouch_take(struct tirnouch_slot *slot, struct tirnouch_told *told);
 
 /* `tirnouch_serve`, `tirnouch_settle` without packets, and `tirnouch_take`, in one call: at most so many
- * packets, and so many steps. The answer is that of the last, and so is what is told. */
+ * packets, and so many steps. What is told is the last of them. 1 where a result went out with which `want` was
+ * kept: its bytes stand in `buffer`, as `tirnouch_fetch` puts them there; 2 where another went out, whose bytes
+ * are still to be fetched; 0 where none waits. */
 int32_t tirnouch_turn(struct tirnouch_slot *slot, uint8_t dev, uint8_t ep, uint32_t packets, uint32_t steps,
-    struct tirnouch_told *told);
+    uint64_t want, uint8_t *buffer, size_t buffer_room, struct tirnouch_told *told);
 
 /* The bytes of the result that went out last, as far as there is room, just once; how many they were. */
 int32_t tirnouch_fetch(struct tirnouch_slot *slot, uint8_t *buffer, size_t buffer_room);

@@ -116,12 +116,22 @@ static void a_cancel(void)
     tell("take", tirnouch_take(&slot, &told));
 }
 
-static void a_turn(void)
+static int32_t turn(uint8_t ep, uint64_t want, uint8_t data[4])
 {
-    uint8_t data[4];
+    return tirnouch_turn(&slot, 0, ep, 10, 100, want, data, 4, &told);
+}
+
+static void turns(void)
+{
+    uint8_t data[4] = { 0 };
     tell("read of 4", read_at(0x81, 4, 9));
-    tell("turn", tirnouch_turn(&slot, 0, 0x81, 10, 100, &told));
-    bytes("fetch", tirnouch_fetch(&slot, data, sizeof data), data, 1);
+    tell("turn", turn(0x81, 9, data));
+    bytes("its buffer and fetch", tirnouch_fetch(&slot, data + 1, 3), data, 4);
+    tell("write of ab", tirnouch_submit(&slot, 1, 0x02, 2, 0, 0, 0, (const uint8_t *)"ab", 2, 6, &told));
+    tell("turn of another", turn(0x02, 9, data));
+    bytes("its buffer and fetch", tirnouch_fetch(&slot, data + 1, 3), data, 4);
+    tell("turn of nothing", turn(0x02, 9, data));
+    say("turn of device 4", tirnouch_turn(&slot, 4, 0x81, 10, 100, 9, data, 4, &told));
 }
 
 static void request(const char *what, const char *setup)
@@ -174,7 +184,7 @@ int main(void)
     a_read();
     a_write();
     a_cancel();
-    a_turn();
+    turns();
     requests();
     descriptions();
     tell("unplug 0", call(TIRNOUCH_UNPLUG, 0, 0, 0));

@@ -27,6 +27,8 @@
 /* How many control requests of a device are kept, and how often one is asked again that isn't ready. */
 #define MOST_REQUESTS 4096
 #define MOST_NAKS 4096
+/* More than a device can answer, and the core can have to do, at once. */
+#define ALL (1u << 20)
 
 struct device;
 struct pipe;
@@ -37,7 +39,7 @@ enum ask { ASKED_NOTHING, ASKED_TO_CANCEL, ASKED_TO_EXPIRE };
 /* A transfer as it is kept here. What the program sees of it stands behind it in memory (`seen`). */
 struct transfer {
     struct transfer *previous, *next; /* those in progress in its context, in order of submission */
-    struct transfer *behind;          /* in its endpoint's queue, among control transfers, or among those that ended */
+    struct transfer *behind;          /* in its endpoint's queue or line, among control transfers, or among those that ended */
     struct libusb_context *context;
     struct libusb_device_handle *handle;
     struct pipe *pipe;                /* its endpoint; NULL for a control transfer */
@@ -61,6 +63,7 @@ struct pipe {
     uint16_t packet;
     int most;                         /* bytes of a piece but the last: whole packets, so that none goes past a piece's end */
     struct transfers queue;
+    struct transfers line;            /* those in the core, as they were submitted to it: the first one's result is expected next */
     struct transfer *cut;             /* the one that goes in pieces, while there are more than the one in the core */
     int in_core;
     uint32_t answers;                 /* how many it gave since it was made new, where that counts (`watched`) */
@@ -219,6 +222,7 @@ bool core_serves(const struct pipe *pipe);
 bool core_serve(struct pipe *pipe, uint32_t most, struct tirnouch_told *told);
 bool core_settle(uint32_t most);
 bool core_take(struct tirnouch_told *told);
+bool core_turn(const struct pipe *pipe, struct tirnouch_told *told);
 
 /* claims.c */
 int claim(struct libusb_device_handle *handle, int interface);
@@ -230,6 +234,7 @@ int make_new(struct device *device, int interface);
 int submit_at_endpoint(struct transfer *transfer);
 bool feed(struct pipe *pipe);
 bool reap(void);
+bool turn_over(struct pipe *pipe);
 void join(struct transfers *queue, struct transfer *transfer);
 void leave(struct transfers *queue, struct transfer *transfer);
 

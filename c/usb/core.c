@@ -118,22 +118,52 @@ bool core_settle(uint32_t most)
 
 static const char *const statuses[] = { "COMPLETED", "ERROR", "TIMED_OUT", "CANCELLED", "STALL", "NO_DEVICE", "OVERFLOW" };
 
+/* Where the bytes of a piece go that a transfer has in the core; NULL where it reads none, or was dropped. */
+static uint8_t *place_for(struct transfer *transfer)
+{
+    if (!transfer || !is_in(transfer->pipe->ep) || transfer->is_dropped || !transfer->piece)
+        return NULL;
+    return seen(transfer)->buffer + transfer->moved;
+}
+
+static void trace_result(const struct tirnouch_told *told, const uint8_t *bytes, int count)
+{
+    trace("take\n# called %" PRIu64 " ep %02x %s %" PRIu32 " ", told->n, told->ep, statuses[told->status], told->amount);
+    if (bytes)
+        trace_bytes(bytes, count);
+    else
+        trace(is_in(told->ep) ? "?" : "-");
+    trace("\nreturn %u %" PRIu64 "\n# done\n", told->h, told->n);
+}
+
+/* The bytes of the result that went out, into its transfer's buffer. */
+static void fetch(const struct tirnouch_told *told)
+{
+    struct transfer *transfer = (struct transfer *)(uintptr_t)told->payload;
+    uint8_t none[1] = { 0 }, *to = place_for(transfer);
+    int count = tirnouch_fetch(&process.bus.core, to ? to : none, to ? (size_t)transfer->piece : 0);
+    if (process.bus.trace)
+        trace_result(told, to, count);
+}
+
 /* The oldest result goes out, and its bytes into the transfer's buffer; whether there was one. */
 bool core_take(struct tirnouch_told *told)
 {
     if (tirnouch_take(&process.bus.core, told) != 1)
         return false;
-    struct transfer *transfer = (struct transfer *)(uintptr_t)told->payload;
-    bool reads = is_in(transfer->pipe->ep) && !transfer->is_dropped && transfer->piece;
-    uint8_t none[1] = { 0 }, *to = reads ? seen(transfer)->buffer + transfer->moved : none;
-    int count = tirnouch_fetch(&process.bus.core, to, reads ? (size_t)transfer->piece : 0);
-    if (process.bus.trace) {
-        trace("take\n# called %" PRIu64 " ep %02x %s %" PRIu32 " ", told->n, told->ep, statuses[told->status], told->amount);
-        if (reads)
-            trace_bytes(to, count);
-        else
-            trace(is_in(transfer->pipe->ep) ? "?" : "-");
-        trace("\nreturn %u %" PRIu64 "\n# done\n", told->h, told->n);
-    }
+    fetch(told);
     return true;
+}
+
+/* In one call, which no trace has: a device answers packets at an endpoint, what is to be done behind them is done, and the oldest
+ * result goes out; whether there was one. The first of the endpoint's line is expected: its bytes go into its buffer at once. */
+bool core_turn(const struct pipe *pipe, struct tirnouch_told *told)
+{
+    struct transfer *expected = pipe->line.first;
+    uint8_t none[1] = { 0 }, *to = place_for(expected);
+    int answer = tirnouch_turn(&process.bus.core, (uint8_t)pipe->device->number, pipe->ep, ALL, ALL, (uint64_t)(uintptr_t)expected,
+                               to ? to : none, to ? (size_t)expected->piece : 0, told);
+    if (answer == 2)
+        fetch(told);
+    return answer > 0;
 }

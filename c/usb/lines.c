@@ -70,6 +70,7 @@ static int submit_piece(struct transfer *transfer)
         return r;
     transfer->piece = piece;
     transfer->stage = IN_CORE;
+    join(&pipe->line, transfer);
     pipe->cut = is_last ? NULL : transfer;
     pipe->in_core++;
     process.bus.in_core++;
@@ -97,11 +98,13 @@ bool feed(struct pipe *pipe)
     bool any = false;
     struct transfer *transfer;
     while ((transfer = pipe->queue.first) && may_go(pipe, transfer)) {
-        int r = submit_piece(transfer);
-        if (r == LIBUSB_ERROR_BUSY)
-            break;
-        any = true;
         leave(&pipe->queue, transfer);
+        int r = submit_piece(transfer);
+        if (r == LIBUSB_ERROR_BUSY) {
+            join_first(&pipe->queue, transfer);
+            break;
+        }
+        any = true;
         if (r)
             end_transfer(transfer, r == LIBUSB_ERROR_NO_DEVICE ? LIBUSB_TRANSFER_NO_DEVICE : LIBUSB_TRANSFER_ERROR, transfer->moved);
     }
@@ -112,6 +115,7 @@ static void finish_piece(struct transfer *transfer, const struct tirnouch_told *
 {
     struct pipe *pipe = transfer->pipe;
     bool is_cut = pipe->cut == transfer;
+    leave(&pipe->line, transfer);
     pipe->in_core--;
     process.bus.in_core--;
     if (!is_cut || told->status != LIBUSB_TRANSFER_COMPLETED || (int)told->amount != transfer->piece || transfer->is_dropped) {
@@ -128,16 +132,34 @@ static void finish_piece(struct transfer *transfer, const struct tirnouch_told *
     join_first(&pipe->queue, transfer);
 }
 
+/* A result went out of the core. */
+static void finish(const struct tirnouch_told *told)
+{
+    struct transfer *transfer = (struct transfer *)(uintptr_t)told->payload;
+    struct pipe *pipe = transfer->pipe;
+    finish_piece(transfer, told);
+    feed(pipe);
+}
+
 /* Results go out of the core; whether there was one. */
 bool reap(void)
 {
     struct tirnouch_told told;
     bool any = false;
     while (process.bus.in_core && core_take(&told)) {
-        struct transfer *transfer = (struct transfer *)(uintptr_t)told.payload;
-        struct pipe *pipe = transfer->pipe;
-        finish_piece(transfer, &told);
-        feed(pipe);
+        finish(&told);
+        any = true;
+    }
+    return any;
+}
+
+/* Results of an endpoint's packets, one behind the other, until they bring about none; whether there was one. */
+bool turn_over(struct pipe *pipe)
+{
+    struct tirnouch_told told;
+    bool any = false;
+    while (pipe->in_core && core_turn(pipe, &told)) {
+        finish(&told);
         any = true;
     }
     return any;

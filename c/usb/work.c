@@ -1,9 +1,6 @@
 /* What devices, controller and events have to do, until nothing is left. It is done where the program handles events. */
 #include "bus.h"
 
-/* More than a device can answer, and the core can have to do, at once. */
-#define ALL (1u << 20)
-
 static unsigned dice(unsigned sides)
 {
     process.bus.seed = process.bus.seed * 6364136223846793005u + 1442695040888963407u;
@@ -125,11 +122,29 @@ void settle_all(void)
     }
 }
 
+/* The one endpoint where something is to be done, whose answers needn't be looked at one by one; NULL where there is none, or several.
+ * With several each has its turn before an order runs, so that their results come as their packets do. */
+static struct pipe *only_one(void)
+{
+    struct bus *bus = &process.bus;
+    struct pipe *pipe = bus->active_count == 1 ? bus->active[0] : NULL;
+    return pipe && !bus->seed && !bus->controls.first && !is_watched(pipe->device) ? pipe : NULL;
+}
+
+/* The quick way, where there is but one endpoint. */
+static void turn_only_one(void)
+{
+    struct pipe *pipe = only_one();
+    if (pipe && turn_over(pipe))
+        feed_all();
+}
+
 void work_off(void)
 {
     bool any = true;
     process.bus.rounds++;
     while (any) {
+        turn_only_one();
         any = answer_controls();
         any |= serve_all();
         if (any || process.bus.active_count) {

@@ -155,16 +155,15 @@ static void long_endings(void)
 }
 
 /* The bytes of several reads are those of the device, one behind the other. */
-static void between_short_ones(void)
+static void reads(const char *name, const int *lengths, int count)
 {
-    static const int lengths[] = { PACKET, 300032, 2 * PACKET, 262144, 262656, PACKET };
     struct libusb_transfer *some[6];
     size_t total = 0;
-    begin_wide("long ones between short ones", 3000, 0, "\n");
-    for (int i = 0; i < 6; i++)
+    begin_wide(name, 3000, 0, "\n");
+    for (int i = 0; i < count; i++)
         some[i] = submit(i, 0x81, lengths[i]);
     work();
-    for (int i = 0; i < 6; i++) {
+    for (int i = 0; i < count; i++) {
         size_t wrong = 0;
         for (int j = 0; j < lengths[i]; j++)
             wrong += some[i]->buffer[j] != (total + (size_t)j) % 251;
@@ -173,6 +172,14 @@ static void between_short_ones(void)
         discard(some[i]);
     }
     end();
+}
+
+static void several_reads(void)
+{
+    static const int mixed[] = { PACKET, 300032, 2 * PACKET, 262144, 262656, PACKET };
+    static const int rows[] = { 65536, 65536, 8 * PACKET, 65536, PACKET, 65536 };
+    reads("long ones between short ones", mixed, 6);
+    reads("some of 65,536 in packets of 512", rows, 6);
 }
 
 static void count_taken(void)
@@ -276,12 +283,71 @@ static void two_endpoints(void)
     end();
 }
 
+/* Answers of 8 bytes: those of one count from 0 on, of the next from 1 on; and so on. */
+static size_t count_up(char *script, unsigned ep, unsigned first)
+{
+    size_t length = (size_t)sprintf(script, "script 0 %02x", ep);
+    for (unsigned i = 0; i < COUNT; i++) {
+        length += (size_t)sprintf(script + length, " d:");
+        for (unsigned j = 0; j < 8; j++)
+            length += (size_t)sprintf(script + length, "%02x", first + i + j);
+    }
+    return length + (size_t)sprintf(script + length, "\n");
+}
+
+/* Of those at an endpoint, which are every second from this one on, each that wasn't cancelled has the next answer. */
+static void check_line(const char *name, int from, int first)
+{
+    int completed = 0, wrong = 0, last = -1, behind = 0;
+    for (int i = from; i < COUNT; i += 2) {
+        if (transfers[i]->status != LIBUSB_TRANSFER_COMPLETED)
+            continue;
+        for (int j = 0; j < 8; j++)
+            wrong += transfers[i]->buffer[j] != first + completed + j;
+        completed++;
+    }
+    for (int i = 0; i < order_count; i++) {
+        if (order[i] % 2 != from)
+            continue;
+        behind += order[i] < last;
+        last = order[i];
+    }
+    number(name, completed);
+    number("other bytes", wrong);
+    number("out of order", behind);
+}
+
+/* Every fifth is cancelled: some are in the core, the last ones still wait; with them it is the same. */
+static void two_lines(void)
+{
+    static char script[2 * (sizeof "script 0 81" + COUNT * 20)];
+    count_up(script + count_up(script, 0x81, 0), 0x83, 100);
+    begin("twenty at each of two endpoints, and every fifth is cancelled", script);
+    order_count = 0;
+    memset(ended, 0, sizeof ended);
+    for (int i = 0; i < COUNT; i++) {
+        transfers[i] = make(i, i % 2 ? 0x83 : 0x81, 8);
+        transfers[i]->callback = collect;
+        send_off(transfers[i]);
+    }
+    for (int i = 3; i < COUNT; i += 5)
+        answer("cancel", libusb_cancel_transfer(transfers[i]));
+    work();
+    check_line("completed at 81", 0, 0);
+    check_line("completed at 83", 1, 100);
+    number("cancelled", ended[LIBUSB_TRANSFER_CANCELLED]);
+    number("calls", calls);
+    discard_all(COUNT);
+    end();
+}
+
 int main(void)
 {
     forty("forty at once", -1);
     forty("forty, and the sixth is cancelled", 5);
     forty("forty, and the thirtieth is cancelled", 29);
     two_endpoints();
+    two_lines();
     zero_packets();
     waiting_ones();
     long_read("a read of 600,000", 1171, 448, " d:aabb\n", LONG);
@@ -290,7 +356,10 @@ int main(void)
     long_read("a read of 600,000 that stalls", 586, 0, " s\n", LONG);
     long_read("a read of 600,000 that is cancelled in the midst", 586, 0, "\n", LONG);
     long_endings();
-    between_short_ones();
+    several_reads();
+    long_read("a read of 65,536", 128, 0, " d:aabb\n", 65536);
+    long_read("a read of 65,536 that is short", 100, 200, " d:aabb\n", 65536);
+    long_write("a write of 65,536", 129, 65536, 0, 1);
     long_write("a write of 600,000", 1173, LONG, 0, 1);
     long_write("a write of 524,288 and a packet of no bytes", 1025, 524288, LIBUSB_TRANSFER_ADD_ZERO_PACKET, 0);
     long_write("a write of 524,288", 1025, 524288, 0, 0);

@@ -3,6 +3,8 @@ pub mod Values
 pub mod MadeDevices
 pub mod Quiet
 pub mod Progress
+pub mod Rows
+pub mod Steps
 pub mod Requested
 pub mod Outs
 pub mod Submitting

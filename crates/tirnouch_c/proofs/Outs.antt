@@ -1,39 +1,59 @@
 -- A result that goes out, and whose callback ends.
-use Rattle.std.specs.Prelude.{is_some}
+use Rattle.std.proofs.Common.{◌≡◌, ◌∷◌, ℕ, ℤ, pos, ◌==◌, Bool, true, false, List, Option, Some, None, is_some, refl, sym, ap, ◌∙◌}
+use Rattle.std.proofs.lemmas.Bool.{eqb-false, eqb-true}
+use Rattle.usb_core.specs.Bursts.{TakesAndStops}
+use Rattle.usb_core.specs.Public.{Carries, CarriesOut, Kept, State, Taken}
+use Rattle.usb_model.specs.World.{world_from}
+use Rattle.usb_model.specs.World.Journal.{journal_from}
 use Rattle.tirnouch_c.specs.declared.session.Session.{Session}
-use Rattle.std.proofs.Common.{◌≡◌, ℕ, false, Option, Some, None, option_map, refl, sym, ap, ◌∙◌, subst}
-use Rattle.std.specs.Option.{unwrap_or}
-use Rattle.usb_core.specs.Public.{Carries, Kept, ShowsWorld, State, StillCarries, Taken, CarriesOut, TurnsWorld, called_entry}
-use Rattle.usb_model.specs.declared.entry.Entry.{Entry}
-use Rattle.usb_model.specs.declared.step.Step.TheVariants.{Answer, Take}
-use Rattle.usb_model.specs.declared.verdict.Verdict.TheVariants.{Stop}
-use Rattle.usb_model.specs.Setup.{Setup}
-use Rattle.usb_model.specs.World.{World, turn}
-use Rattle.tirnouch_c.specs.Results.{GoesOutIf, named, out_and_ended}
+use Rattle.tirnouch_c.specs.declared.told.Told.{Told}
+use Rattle.tirnouch_c.specs.Results.{Fetches, FetchesIf, FetchesWanted, GoesOut, Takes, TakesFor, went_number, went_told}
 
--- none goes out
-pub none_out : (out : Option (Taken ℕ)) (old new : State ℕ) → named out ≡ None → TurnsWorld old Take (called_entry (option_map (λ x. x.returned) out)) new
-    → ((kept : Kept ℕ) → Carries kept old → CarriesOut kept out × Carries kept new) → GoesOutIf out old new
-none_out None old new is taken carries = (taken, λ kept carried. (carries kept carried).1)
-none_out (Some x) old new is taken carries = absurd cc
+-- of lists that are the same the first are
+first_is : {A : Type 0} (x y : A) (xs ys : List A) → x ∷ xs ≡ y ∷ ys → x ≡ y
+first_is x y xs ys is = cc
 
--- one goes out
-pub one_out : (out : Option (Taken ℕ)) (h n : ℕ) (old mid new : State ℕ) (entry : Entry) → named out ≡ Some (h, n) → TurnsWorld old Take (called_entry (option_map (λ x. x.returned) out)) mid
-    → ((kept : Kept ℕ) → Carries kept old → CarriesOut kept out × Carries kept mid) → TurnsWorld mid (Answer h n Stop) entry new → StillCarries mid new → GoesOutIf out old new
-one_out None h n old mid new entry is taken carries stopped still = absurd cc
-one_out (Some x) h n old mid new entry is taken carries stopped still =
-    let d : ℕ × ℕ = (h, n) in
-    let both = ap (λ (o : Option (ℕ × ℕ)). unwrap_or o d) is in
-    let same_h : h ≡ x.returned.h = sym (ap (λ (p : ℕ × ℕ). p.0) both) in
-    let same_n : n ≡ x.returned.n = sym (ap (λ (p : ℕ × ℕ). p.1) both) in
-    record {
-      oldest = λ setup w shows. sym (taken setup w shows).0;
-      shows = λ setup w shows.
-          subst (λ (k : ℕ). ShowsWorld setup new (out_and_ended setup w x.returned.h k)) same_n
-          (subst (λ (g : ℕ). ShowsWorld setup new (out_and_ended setup w g n)) same_h (stopped setup (turn setup w Take).world (taken setup w shows).1).1);
-      its = λ kept carried. (carries kept carried).0;
-      carries = λ kept carried. still kept (carries kept carried).1;
-    }
+-- a result that goes out, and whose callback ends at once
+pub out_at_once : (x : Taken ℕ) (old new : State ℕ) → TakesAndStops old (Some x) new → ((kept : Kept ℕ) → Carries kept old → CarriesOut kept (Some x) × Carries kept new) → GoesOut x old new
+unfolding world_from journal_from
+out_at_once x old new turned carries = record {
+  oldest = λ setup w shows. sym (first_is _ _ _ _ (turned setup w shows).0);
+  shows = λ setup w shows. (turned setup w shows).1;
+  its = λ kept carried. (carries kept carried).0;
+  carries = λ kept carried. (carries kept carried).1;
+}
+
+-- none went out: nothing is fetched
+pub none_stays : (want : ℕ) (answer : ℤ) (told : Told) (bytes : List ℕ) (s t : Session) → Takes answer told s t → answer ≡ pos 0 → TakesFor want (pos 0) told bytes bytes s t
+none_stays want answer told bytes s t takes is = record { went = answer; out = t; takes = takes; fetches = by_went takes.went (sym takes.answered ∙ is) }
+  where
+    by_went : (went : Option (Taken ℕ)) → went_number went ≡ pos 0 → FetchesWanted want went (pos 0) bytes bytes t t
+    by_went None none = (refl, refl, refl)
+    by_went (Some x) none = absurd cc
+
+-- another went out: its bytes are still to be fetched
+pub another_stays : (want : ℕ) (answer : ℤ) (told : Told) (bytes : List ℕ) (s t : Session) → Takes answer told s t → (answer ≡ pos 0 → ⊥) → (told.payload ≡ want → ⊥) → TakesFor want (pos 2) told bytes bytes s t
+another_stays want answer told bytes s t takes some other = record { went = answer; out = t; takes = takes; fetches = by_went takes.went takes.answered takes.told_is }
+  where
+    by_test : (x : Taken ℕ) (b : Bool) → (x.payload == want) ≡ b → (x.payload ≡ want → ⊥) → FetchesIf b (pos 2) bytes bytes t t
+    by_test x true is differs = absurd (differs (eqb-true x.payload want is))
+    by_test x false is differs = (refl, refl, refl)
+
+    by_went : (went : Option (Taken ℕ)) → answer ≡ went_number went → told ≡ went_told went → FetchesWanted want went (pos 2) bytes bytes t t
+    by_went None is told_is = absurd (some is)
+    by_went (Some x) is told_is = by_test x (x.payload == want) refl (λ same. other (ap (λ (y : Told). y.payload) told_is ∙ same))
+
+-- the wanted one went out: its bytes are fetched
+pub wanted_fetched : (want : ℕ) (answer count : ℤ) (told : Told) (old new : List ℕ) (s mid t : Session) → Takes answer told s mid → (answer ≡ pos 0 → ⊥) → told.payload ≡ want → Fetches count old new mid t → TakesFor want (pos 1) told old new s t
+wanted_fetched want answer count told old new s mid t takes some same fetches = record { went = answer; out = mid; takes = takes; fetches = by_went takes.went takes.answered takes.told_is }
+  where
+    by_test : (x : Taken ℕ) (b : Bool) → (x.payload == want) ≡ b → x.payload ≡ want → FetchesIf b (pos 1) old new mid t
+    by_test x true is it = (refl, (count, fetches))
+    by_test x false is it = absurd (eqb-false x.payload want is it)
+
+    by_went : (went : Option (Taken ℕ)) → answer ≡ went_number went → told ≡ went_told went → FetchesWanted want went (pos 1) old new mid t
+    by_went None is told_is = absurd (some is)
+    by_went (Some x) is told_is = by_test x (x.payload == want) refl (sym (ap (λ (y : Told). y.payload) told_is) ∙ same)
 
 -- where there is no session
 pub empty : (o : Option Session) → is_some o ≡ false → o ≡ None

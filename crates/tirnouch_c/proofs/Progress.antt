@@ -1,18 +1,19 @@
--- Packets one after another, and steps until nothing is to be done.
-use Rattle.std.proofs.Common.{◌≡◌, ℕ, zero, suc, ◌+◌, ◌<◌, ◌≤◌, Bool, true, false, Option, Some, None, ◌⊎◌, inl, inr, nat_lt, refl, sym, ap, ◌∙◌, subst, arith}
+-- Packets row by row, and steps until nothing is to be done.
+use Rattle.std.proofs.Common.{◌≡◌, ℕ, zero, suc, ◌+◌, ◌-◌, ◌<◌, ◌≤◌, Bool, true, false, not, Option, Some, None, ◌⊎◌, inl, inr, nat_lt, refl, sym, ap, ◌∙◌, subst, arith}
 use Rattle.std.proofs.lemmas.Bool.{ltb-false, ltb-true}
-use Rattle.usb_core.specs.Public.{ShowsWorld, StillCarries, TurnsWorld}
+use Rattle.usb_core.specs.Public.{ShowsWorld, StillCarries}
 use Rattle.usb_model.specs.declared.entry.Entry.{Entry}
 use Rattle.usb_model.specs.declared.reply.Reply.{Reply}
 use Rattle.usb_model.specs.declared.reply.Reply.TheVariants.{Called, Done, Ended, Finished, Idle, Moved, Nak, Number, Paused, Ran, Refused as IsRefused, Settled}
 use Rattle.usb_model.specs.declared.step.Step.{Step}
+use Rattle.usb_model.specs.declared.step.Step.TheVariants.{Serve}
 use Rattle.usb_model.specs.Setup.{Setup}
 use Rattle.usb_model.specs.World.{World, turn}
 use Rattle.tirnouch_c.specs.declared.session.Session.{Session}
 use Rattle.tirnouch_c.specs.declared.told.Told.{Told}
 use Rattle.tirnouch_c.specs.Calls.{SameBeside}
-use Rattle.tirnouch_c.specs.Packets.{Serves, ServesOne, ends_nothing, entry_behind, goes_on, served}
-use Rattle.tirnouch_c.specs.Settling.{NoneAsked, Settles, behind_step, is_nothing, next_step, worked}
+use Rattle.tirnouch_c.specs.Packets.{Serves, ServesRow, ends_nothing, entry_behind, goes_on, served}
+use Rattle.tirnouch_c.specs.Settling.{Advances, NoneAsked, Settles, behind_step, is_something, next_step, worked}
 use Rattle.tirnouch_c.proofs.Quiet.{quiet_ends}
 use Rattle.tirnouch_c.specs.Told.{bit, of_kind, reply_told, told_by, told_of}
 
@@ -80,49 +81,89 @@ none_yet dev ep told s none = record {
   same = (refl, refl);
 }
 
-module _ (dev ep done : ℕ) (told one : Told) (further : Bool) (s mid t : Session) (so_far : Going dev ep done told s mid) (packet : ServesOne dev ep (one, further) mid t) where
-  -- the world behind one more
-  shown : (setup : Setup) (w : World) → ShowsWorld setup s.core w → ShowsWorld setup t.core (served setup dev ep w (suc done))
-  unfolding served
-  shown setup w shows = (packet.turned setup (served setup dev ep w done) (so_far.shows setup w shows)).1
+-- before so many, or so many behind them
+place_of : (done k : ℕ) → (k < done) ⊎ ((j : ℕ) × (done + j ≡ k))
+place_of done k = by_test (nat_lt k done) refl
+  where
+    by_test : (b : Bool) → nat_lt k done ≡ b → (k < done) ⊎ ((j : ℕ) × (done + j ≡ k))
+    by_test true is = inl (ltb-true k done is)
+    by_test false is = inr (k - done, let le = ltb-false k done is in omega (arith, le))
 
-  last_is : (setup : Setup) (w : World) (k : ℕ) → ShowsWorld setup s.core w → suc done ≡ suc k → record one { amount = suc done } ≡ record (told_of (entry_behind setup dev ep w k)) { amount = suc k }
+-- some are one and others
+one_of_some : (n : ℕ) → 0 < n → (j : ℕ) × (n ≡ suc j)
+one_of_some zero some = absurd (omega (arith, some))
+one_of_some (suc j) some = (j, refl)
+
+-- so many packets and then more
+served_on : (setup : Setup) (dev ep : ℕ) (w : World) (a b : ℕ) → served setup dev ep (served setup dev ep w a) b ≡ served setup dev ep w (a + b)
+unfolding served
+served_on setup dev ep w a zero =
+    let same : a ≡ a + 0 = omega arith in
+    ap (λ (n : ℕ). served setup dev ep w n) same
+served_on setup dev ep w a (suc b) =
+    let same : suc (a + b) ≡ a + suc b = omega arith in
+    ap (λ (v : World). (turn setup v (Serve dev ep)).world) (served_on setup dev ep w a b) ∙ ap (λ (n : ℕ). served setup dev ep w n) same
+
+module _ (dev ep done rest : ℕ) (told one : Told) (further : Bool) (s mid t : Session) (so_far : Going dev ep done told s mid) (row : ServesRow dev ep rest (one, further) mid t) where
+  -- the world behind a row more
+  shown : (setup : Setup) (w : World) → ShowsWorld setup s.core w → ShowsWorld setup t.core (served setup dev ep w (done + one.amount))
+  shown setup w shows = subst (λ (v : World). ShowsWorld setup t.core v) (served_on setup dev ep w done one.amount) (row.shows setup (served setup dev ep w done) (so_far.shows setup w shows))
+
+  -- the entry of a packet of the row
+  entry_on : (setup : Setup) (w : World) (j k : ℕ) → done + j ≡ k → entry_behind setup dev ep (served setup dev ep w done) j ≡ entry_behind setup dev ep w k
+  entry_on setup w j k at = ap (λ (v : World). (turn setup v (Serve dev ep)).entry) (served_on setup dev ep w done j) ∙ ap (λ (n : ℕ). entry_behind setup dev ep w n) at
+
+  last_is : (setup : Setup) (w : World) (k : ℕ) → ShowsWorld setup s.core w → done + one.amount ≡ suc k → record one { amount = suc k } ≡ record (told_of (entry_behind setup dev ep w k)) { amount = suc k }
   last_is setup w k shows is =
-      let same : done ≡ k = omega (arith, is) in
-      subst (λ (j : ℕ). record one { amount = suc done } ≡ record (told_of (entry_behind setup dev ep w j)) { amount = suc j }) same
-      (ap (λ (x : Told). record x { amount = suc done }) (packet.turned setup (served setup dev ep w done) (so_far.shows setup w shows)).0)
+      let some = one_of_some one.amount row.some in
+      ap (λ (x : Told). record x { amount = suc k }) (row.last setup (served setup dev ep w done) some.0 (so_far.shows setup w shows) some.1)
+      ∙ ap (λ (e : Entry). record (told_of e) { amount = suc k }) (entry_on setup w some.0 k (omega (arith, is, some.1)))
+
+  -- a packet of which none ended a transfer, but perhaps the last of the row
+  before_last : (setup : Setup) (w : World) (k : ℕ) → ShowsWorld setup s.core w → suc k < done + one.amount → ends_nothing (entry_behind setup dev ep w k).reply ≡ true
+  before_last setup w k shows low = by_place (place_of done k)
+    where
+      by_place : (k < done) ⊎ ((j : ℕ) × (done + j ≡ k)) → ends_nothing (entry_behind setup dev ep w k).reply ≡ true
+      by_place (inl lower) = so_far.goes setup w k shows lower
+      by_place (inr at) = subst (λ (e : Entry). ends_nothing e.reply ≡ true) (entry_on setup w at.0 k at.1) (row.before setup (served setup dev ep w done) at.0 (so_far.shows setup w shows) (omega (arith, low, at.1)))
+
+  -- nor the last, where the endpoint may be served once more
+  none_ended : (setup : Setup) (w : World) (k : ℕ) → ShowsWorld setup s.core w → further ≡ true → k < done + one.amount → ends_nothing (entry_behind setup dev ep w k).reply ≡ true
+  none_ended setup w k shows on low = by_place (place_of (suc k) (done + one.amount))
+    where
+      by_place : (done + one.amount < suc k) ⊎ ((j : ℕ) × (suc k + j ≡ done + one.amount)) → ends_nothing (entry_behind setup dev ep w k).reply ≡ true
+      by_place (inl lower) = absurd (omega (arith, low, lower))
+      by_place (inr (zero, at)) =
+          let some = one_of_some one.amount row.some in
+          subst (λ (e : Entry). ends_nothing e.reply ≡ true) (entry_on setup w some.0 k (omega (arith, at, some.1))) (row.further setup (served setup dev ep w done) some.0 (so_far.shows setup w shows) on some.1)
+      by_place (inr (suc j, at)) = before_last setup w k shows (omega (arith, at))
 
   still : StillCarries s.core t.core
-  still kept carried = packet.carries kept (so_far.carries kept carried)
+  still kept carried = row.carries kept (so_far.carries kept carried)
 
   same_beside : SameBeside s t
-  same_beside = (packet.same.0 ∙ so_far.same.0, packet.same.1 ∙ so_far.same.1)
+  same_beside = (row.same.0 ∙ so_far.same.0, row.same.1 ∙ so_far.same.1)
 
-  -- one more, which ended nothing
-  pub one_more : (next : ℕ) → next ≡ suc done → further ≡ true → Going dev ep next (record one { amount = next }) s t
-  one_more next is on = subst (λ (n : ℕ). Going dev ep n (record one { amount = n }) s t) (sym is) (record {
+  -- a row more, which ended nothing
+  pub row_more : (next : ℕ) → next ≡ done + one.amount → further ≡ true → Going dev ep next (record one { amount = next }) s t
+  row_more next is on = subst (λ (n : ℕ). Going dev ep n (record one { amount = n }) s t) (sym is) (record {
     amount = refl;
     shows = shown;
-    last = last_is;
-    goes = λ setup w k shows low. by_place setup w k shows (at_or_before k done low);
+    last = λ setup w k shows at. ap (λ (n : ℕ). record one { amount = n }) at ∙ last_is setup w k shows at;
+    goes = λ setup w k shows low. none_ended setup w k shows on low;
     carries = still;
     same = same_beside;
   })
-    where
-      by_place : (setup : Setup) (w : World) (k : ℕ) → ShowsWorld setup s.core w → (k < done) ⊎ (k ≡ done) → ends_nothing (entry_behind setup dev ep w k).reply ≡ true
-      by_place setup w k shows (inl low) = so_far.goes setup w k shows low
-      by_place setup w k shows (inr is) = subst (λ (j : ℕ). ends_nothing (entry_behind setup dev ep w j).reply ≡ true) (sym is)
-          (packet.further setup (served setup dev ep w done) (so_far.shows setup w shows) on)
 
-  -- the last one
-  pub last_one : (most next : ℕ) → next ≡ suc done → done < most → further ≡ false → Serves dev ep most (record one { amount = next }) s t
-  last_one most next is low off = subst (λ (n : ℕ). Serves dev ep most (record one { amount = n }) s t) (sym is) (record {
-    within = omega (arith, low);
-    begun = λ none. absurd (omega (arith, none));
+  -- the last row
+  pub last_row : (most next : ℕ) → next ≡ done + one.amount → next ≤ most → further ≡ false → Serves dev ep most (record one { amount = next }) s t
+  last_row most next is within off = subst (λ (n : ℕ). Serves dev ep most (record one { amount = n }) s t) (sym is) (record {
+    within = omega (arith, within, is);
+    begun = λ none. let some = row.some in absurd (omega (arith, none, some));
     shows = shown;
-    last = last_is;
-    before = λ setup w k shows lower. so_far.goes setup w k shows (omega (arith, lower));
-    stops = λ fewer five. packet.stops off five;
+    last = λ setup w k shows at. ap (λ (n : ℕ). record one { amount = n }) at ∙ last_is setup w k shows at;
+    before = before_last;
+    stops = λ fewer five. row.stops off five;
     carries = still;
     same = same_beside;
   })
@@ -152,33 +193,48 @@ pub no_step_yet : (packets : Bool) (s : Session) → Working packets 0 s s
 unfolding worked
 no_step_yet packets s = record { shows = λ setup w shows. shows; each = λ setup w k shows low. absurd (omega (arith, low)); carries = λ kept carried. carried; same = (refl, refl) }
 
--- what is to be done next where a core is
-abbrev pub IsNext : Bool → Session → Option Step → Type 0
-IsNext packets s o = (setup : Setup) (w : World) → ShowsWorld setup s.core w → o ≡ next_step setup packets w
+-- what is tested to be nothing is nothing
+none_is : (o : Option Step) → is_something o ≡ false → o ≡ None
+none_is None is = refl
+none_is (Some step) is = absurd cc
 
 -- one step more
-pub one_step_more : (packets : Bool) (done next : ℕ) (s mid t : Session) (o : Option Step) (step : Step) (entry : Entry) → Working packets done s mid → next ≡ suc done → IsNext packets mid o → o ≡ Some step
-    → TurnsWorld mid.core step entry t.core → StillCarries mid.core t.core → SameBeside mid t → Working packets next s t
+pub one_step_more : (packets : Bool) (done next : ℕ) (s mid t : Session) → Working packets done s mid → next ≡ suc done → Advances packets true mid.core t.core → SameBeside mid t → Working packets next s t
 unfolding worked
-one_step_more packets done next s mid t o step entry so_far is next_is here turned carries same = subst (λ (n : ℕ). Working packets n s t) (sym is) (record {
-  shows = λ setup w shows.
-      let before = so_far.shows setup w shows in
-      subst (λ (x : Option Step). ShowsWorld setup t.core (behind_step setup (worked setup packets w done) x)) (sym here ∙ next_is setup (worked setup packets w done) before) (turned setup (worked setup packets w done) before).1;
+one_step_more packets done next s mid t so_far is advanced same = subst (λ (n : ℕ). Working packets n s t) (sym is) (record {
+  shows = λ setup w shows. advanced.shows setup (worked setup packets w done) (so_far.shows setup w shows);
   each = λ setup w k shows low. by_place setup w k shows (at_or_before k done low);
-  carries = λ kept carried. carries kept (so_far.carries kept carried);
+  carries = λ kept carried. advanced.carries kept (so_far.carries kept carried);
   same = (same.0 ∙ so_far.same.0, same.1 ∙ so_far.same.1);
 })
   where
     by_place : (setup : Setup) (w : World) (k : ℕ) → ShowsWorld setup s.core w → (k < done) ⊎ (k ≡ done) → next_step setup packets (worked setup packets w k) ≡ None → ⊥
     by_place setup w k shows (inl low) none = so_far.each setup w k shows low none
     by_place setup w k shows (inr at) none =
-        let there : next_step setup packets (worked setup packets w done) ≡ Some step = sym (next_is setup (worked setup packets w done) (so_far.shows setup w shows)) ∙ here in
-        cc (none, there, at)
+        let there : true ≡ is_something (next_step setup packets (worked setup packets w done)) = advanced.made_is setup (worked setup packets w done) (so_far.shows setup w shows) in
+        let not_there : is_something (next_step setup packets (worked setup packets w done)) ≡ false = subst (λ (j : ℕ). is_something (next_step setup packets (worked setup packets w j)) ≡ false) at (ap is_something none) in
+        absurd cc
 
--- where it ends: nothing is to be done any more, or as many were made as were wanted
-pub settled : (packets quiet : Bool) (most done : ℕ) (s t : Session) (told : Told) (o : Option Step) → Working packets done s t → done ≤ most → IsNext packets t o → (quiet ≡ true → o ≡ None) → (quiet ≡ false → done ≡ most)
+-- nothing is to be done where a core is
+abbrev pub IsQuiet : Bool → Session → Type 0
+IsQuiet packets s = (setup : Setup) (w : World) → ShowsWorld setup s.core w → is_something (next_step setup packets w) ≡ false
+
+-- where nothing was to be done there are as many steps as before
+pub no_step_more : (packets : Bool) (done : ℕ) (s mid t : Session) → Working packets done s mid → Advances packets false mid.core t.core → SameBeside mid t → Working packets done s t
+no_step_more packets done s mid t so_far advanced same = record {
+  shows = λ setup w shows.
+      let before = so_far.shows setup w shows in
+      let none = none_is _ (sym (advanced.made_is setup (worked setup packets w done) before)) in
+      subst (λ (o : Option Step). ShowsWorld setup t.core (behind_step setup (worked setup packets w done) o)) none (advanced.shows setup (worked setup packets w done) before);
+  each = so_far.each;
+  carries = λ kept carried. advanced.carries kept (so_far.carries kept carried);
+  same = (same.0 ∙ so_far.same.0, same.1 ∙ so_far.same.1);
+}
+
+-- where it ends: nothing was to be done any more where it was last, or as many were made as were wanted
+pub settled : (packets quiet : Bool) (most done : ℕ) (s mid t : Session) (told : Told) → Working packets done s mid → Working packets done s t → done ≤ most → (quiet ≡ true → IsQuiet packets mid) → (quiet ≡ false → done ≡ most)
     → told ≡ record (of_kind 255 0) { amount = done; status = bit quiet } → Settles packets most told s t
-settled packets quiet most done s t told o so_far within next_is none whole told_is =
+settled packets quiet most done s mid t told before so_far within none whole told_is =
     let amount : told.amount ≡ done = ap (λ (x : Told). x.amount) told_is in
     record {
       quiet = quiet;
@@ -186,16 +242,18 @@ settled packets quiet most done s t told o so_far within next_is none whole told
       within = omega (arith, within, amount);
       shows = λ setup w shows. subst (λ (n : ℕ). ShowsWorld setup t.core (worked setup packets w n)) (sym amount) (so_far.shows setup w shows);
       each = λ setup w k shows low. so_far.each setup w k shows (omega (arith, low, amount));
-      nothing_left = λ setup w shows is. subst (λ (n : ℕ). next_step setup packets (worked setup packets w n) ≡ None) (sym amount)
-          (sym (next_is setup (worked setup packets w done) (so_far.shows setup w shows)) ∙ none is);
+      nothing_left = λ setup w shows is. subst (λ (n : ℕ). next_step setup packets (worked setup packets w n) ≡ None) (sym amount) (nothing setup w shows is);
       ended = λ setup w shows is. subst (λ (n : ℕ). NoneAsked setup (worked setup packets w n)) (sym amount)
-          (quiet_ends setup t.core (worked setup packets w done) packets (so_far.shows setup w shows) (sym (next_is setup (worked setup packets w done) (so_far.shows setup w shows)) ∙ none is));
+          (quiet_ends setup t.core (worked setup packets w done) packets (so_far.shows setup w shows) (nothing setup w shows is));
       whole = λ is. amount ∙ whole is;
       carries = so_far.carries;
       same = so_far.same;
     }
+  where
+    nothing : (setup : Setup) (w : World) → ShowsWorld setup s.core w → quiet ≡ true → next_step setup packets (worked setup packets w done) ≡ None
+    nothing setup w shows is = none_is _ (none is setup (worked setup packets w done) (before.shows setup w shows))
 
--- what is tested to be nothing is nothing
-pub none_is : (o : Option Step) → is_nothing o ≡ true → o ≡ None
-none_is None is = refl
-none_is (Some step) is = absurd cc
+-- what isn't so is false
+pub not_so : (b : Bool) → not b ≡ true → b ≡ false
+not_so true is = absurd cc
+not_so false is = refl

@@ -1,5 +1,5 @@
 -- Where no order and no event waits, each transfer that was asked to end has ended.
-use Rattle.std.proofs.Common.{◌≡◌, ℕ, ◌==◌, Bool, true, false, List, [], ◌∷◌, ◌++◌, Option, Some, None, inl, inr, refl, sym, ap, ◌∙◌, subst}
+use Rattle.std.proofs.Common.{◌≡◌, ℕ, Bool, true, false, List, [], ◌∷◌, ◌++◌, Option, Some, None, inl, inr, refl, sym, ap, ◌∙◌, subst}
 use Rattle.std.specs.Prelude.{if◌then◌else◌}
 use Rattle.usb_model.specs.declared.endpoint.Endpoint.{Endpoint}
 use Rattle.usb_model.specs.declared.endpoint.EndpointState.{EndpointState}
@@ -17,9 +17,9 @@ use Rattle.usb_model.specs.declared.reply.Reply.TheVariants as reply
 use Rattle.usb_model.specs.declared.shared.Tagged.{Tagged}
 use Rattle.usb_model.specs.declared.step.Step.{Step}
 use Rattle.usb_model.specs.declared.step.Step.TheVariants.{Command, Deliver}
-use Rattle.usb_model.specs.Coherence.{Coheres, IsCoherent, IsPhase, ended, has_asked, move_ran, move_waits, reset_ran, reset_waits, runs, served_events, stop_failed, stop_ran, stop_ran_paused, stop_waits, stop_waits_halted}
+use Rattle.usb_model.specs.Coherence.{IsCoherent, IsPhase, ended, has_asked, move_ran, move_waits, reset_ran, reset_waits, runs, served_events, stop_failed, stop_ran, stop_ran_paused, stop_waits, stop_waits_halted}
 use Rattle.usb_model.specs.Endpoint.Command.{command}
-use Rattle.usb_model.specs.Endpoint.Deliver.{blanked, deliver, leads_blank, needs_reset, resume}
+use Rattle.usb_model.specs.Endpoint.Deliver.{deliver, leads_blank, needs_reset, resume}
 use Rattle.usb_model.specs.Fitness.{Fits, IsWell, errands_of, events_of}
 use Rattle.usb_model.specs.Laws.Bounds.{line_at}
 use Rattle.usb_model.specs.Machine.{Machine, at_endpoint, endpoint_at}

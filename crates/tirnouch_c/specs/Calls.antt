@@ -1,6 +1,5 @@
 -- What a call of a slot says.
 use Rattle.std.specs.Prelude.{◌≡◌, ℕ, ℤ, negsuc, ◌==◌, nat_lt, Option, Some, None, if◌then◌else◌}
-use Rattle.usb_model.specs.declared.entry.Entry.{Entry}
 use Rattle.usb_model.specs.declared.step.Step.{Step}
 use Rattle.usb_model.specs.declared.step.Step.TheVariants.{Cancel, Claim, ClearHalt, Close, Expire, Open, Release, Reset, Unplug}
 use Rattle.usb_core.specs.Public.{ShowsWorld, StillCarries}

@@ -75,9 +75,9 @@ abbrev pub TakenBy : (dev ep i : ℕ) → ℤ → (old new : List ℕ) → Sessi
 TakenBy dev ep i answer old new s = TakenIf (device_by dev) ep i answer old new s
 
 -- packets, what is to be done and the oldest result, of a number that may be no device's
-abbrev pub WorksIf : Option ℕ → (ep packets steps : ℕ) → ℤ → Told → (s t : Session) → Type 0
-WorksIf None ep packets steps answer told s t = (answer ≡ out_of_range) × (t ≡ s)
-WorksIf (Some dev) ep packets steps answer told s t = Works dev ep packets steps answer told s t
+abbrev pub WorksIf : Option ℕ → (ep packets steps want : ℕ) → ℤ → Told → (old new : List ℕ) → (s t : Session) → Type 0
+WorksIf None ep packets steps want answer told old new s t = (answer ≡ out_of_range) × (new ≡ old) × (t ≡ s)
+WorksIf (Some dev) ep packets steps want answer told old new s t = Works dev ep packets steps want answer told old new s t
 
-abbrev pub WorksBy : (dev ep packets steps : ℕ) → ℤ → Told → (s t : Session) → Type 0
-WorksBy dev ep packets steps answer told s t = WorksIf (device_by dev) ep packets steps answer told s t
+abbrev pub WorksBy : (dev ep packets steps want : ℕ) → ℤ → Told → (old new : List ℕ) → (s t : Session) → Type 0
+WorksBy dev ep packets steps want answer told old new s t = WorksIf (device_by dev) ep packets steps want answer told old new s t

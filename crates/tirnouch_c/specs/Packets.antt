@@ -31,10 +31,14 @@ served setup dev ep w (suc k) = (turn setup (served setup dev ep w k) (Serve dev
 abbrev pub entry_behind : Setup → (dev ep : ℕ) → World → ℕ → Entry
 entry_behind setup dev ep w k = (turn setup (served setup dev ep w k) (Serve dev ep)).entry
 
--- one packet: what is told of it, and whether the endpoint may be served once more
-pub record ServesOne (dev ep : ℕ) (result : Told × Bool) (s t : Session) : Type 0 where
-  pub turned : (setup : Setup) (w : World) → ShowsWorld setup s.core w → (result.0 ≡ told_of (turn setup w (Serve dev ep)).entry) × ShowsWorld setup t.core (turn setup w (Serve dev ep)).world
-  pub further : (setup : Setup) (w : World) → ShowsWorld setup s.core w → result.1 ≡ true → ends_nothing (turn setup w (Serve dev ep)).entry.reply ≡ true
+-- packets in a row: at least one, and none behind one that ended a transfer. What is told is the last, with how many they were, and whether the endpoint may be served once more
+pub record ServesRow (dev ep most : ℕ) (result : Told × Bool) (s t : Session) : Type 0 where
+  pub some : 0 < result.0.amount
+  pub within : result.0.amount ≤ most
+  pub shows : (setup : Setup) (w : World) → ShowsWorld setup s.core w → ShowsWorld setup t.core (served setup dev ep w result.0.amount)
+  pub last : (setup : Setup) (w : World) (k : ℕ) → ShowsWorld setup s.core w → result.0.amount ≡ suc k → result.0 ≡ record (told_of (entry_behind setup dev ep w k)) { amount = suc k }
+  pub before : (setup : Setup) (w : World) (k : ℕ) → ShowsWorld setup s.core w → suc k < result.0.amount → ends_nothing (entry_behind setup dev ep w k).reply ≡ true
+  pub further : (setup : Setup) (w : World) (k : ℕ) → ShowsWorld setup s.core w → result.1 ≡ true → result.0.amount ≡ suc k → ends_nothing (entry_behind setup dev ep w k).reply ≡ true
   pub stops : result.1 ≡ false → result.0.kind ≡ 5 → ⊥
   pub carries : StillCarries s.core t.core
   pub same : SameBeside s t

@@ -1,6 +1,6 @@
 -- What is said of results.
-use Rattle.std.specs.Prelude.{◌≡◌, ℕ, ℤ, pos, negsuc, List, [], Option, Some, None}
-use Rattle.usb_core.specs.Public.{Carries, Kept, ShowsWorld, State, Stays, StillCarries, Taken, TurnsWorld, called_entry}
+use Rattle.std.specs.Prelude.{◌≡◌, ℕ, ℤ, pos, ◌==◌, Bool, true, false, List, [], Option, Some, None}
+use Rattle.usb_core.specs.Public.{Carries, Kept, ShowsWorld, State, StillCarries, Taken, TurnsWorld, called_entry}
 use Rattle.usb_model.specs.declared.step.Step.TheVariants.{Answer, Take}
 use Rattle.usb_model.specs.declared.verdict.Verdict.TheVariants.{Stop}
 use Rattle.usb_model.specs.Setup.{Setup}
@@ -8,29 +8,20 @@ use Rattle.usb_model.specs.World.{World, turn}
 use Rattle.tirnouch_c.specs.declared.session.Session.{Session}
 use Rattle.tirnouch_c.specs.declared.told.Told.{Told}
 use Rattle.tirnouch_c.specs.Buffers.{answer_of, filled, taken_count}
-use Rattle.tirnouch_c.specs.Calls.{SameBeside}
 use Rattle.tirnouch_c.specs.Told.{of_kind, told_of}
 
--- what came of asking for a result: none waits, one went out, or there was no memory
-pub data Went : Type 0 where
-  Nothing : Went
-  Out : Taken ℕ → Went
-  NoMemory : Went
-
--- what is answered: 0, 1, libusb's number of want of memory
-abbrev pub went_number : Went → ℤ
-went_number Nothing = pos 0
-went_number (Out taken) = pos 1
-went_number NoMemory = negsuc 10
+-- what is answered where a result is asked for: 0 where none waits, 1 where one goes out
+abbrev pub went_number : Option (Taken ℕ) → ℤ
+went_number None = pos 0
+went_number (Some taken) = pos 1
 
 -- what is told: of a result that went out what it is, and what was kept with it
 abbrev pub told_taken : Taken ℕ → Told
 told_taken x = record (told_of (called_entry (Some x.returned))) { payload = x.payload }
 
-abbrev pub went_told : Went → Told
-went_told Nothing = of_kind 255 3
-went_told (Out taken) = told_taken taken
-went_told NoMemory = of_kind 255 2
+abbrev pub went_told : Option (Taken ℕ) → Told
+went_told None = of_kind 255 3
+went_told (Some taken) = told_taken taken
 
 -- the world behind a result that goes out, and whose callback ends at once
 abbrev pub out_and_ended : Setup → World → (h n : ℕ) → World
@@ -43,23 +34,13 @@ pub record GoesOut (x : Taken ℕ) (s t : State ℕ) : Type 0 where
   pub its : (kept : Kept ℕ) → Carries kept s → kept x.returned.h x.returned.n ≡ Some x.payload
   pub carries : StillCarries s t
 
--- the handle and the number of a result, if there is one
-abbrev pub named : Option (Taken ℕ) → Option (ℕ × ℕ)
-named None = None
-named (Some x) = Some (x.returned.h, x.returned.n)
-
--- the same of a result that may not be there
-abbrev pub GoesOutIf : Option (Taken ℕ) → (s t : State ℕ) → Type 0
-GoesOutIf None s t = TurnsWorld s Take (called_entry None) t × StillCarries s t
-GoesOutIf (Some x) s t = GoesOut x s t
-
-abbrev pub TakesAs : Went → (s t : Session) → Type 0
-TakesAs Nothing s t = TurnsWorld s.core Take (called_entry None) t.core × StillCarries s.core t.core × SameBeside s t
-TakesAs (Out x) s t = GoesOut x s.core t.core × (t.out ≡ Some x) × (t.devices ≡ s.devices)
-TakesAs NoMemory s t = Stays s.core t.core × StillCarries s.core t.core × SameBeside s t
+-- the same of a session, and of a result that may not be there: nothing changes then
+abbrev pub TakesAs : Option (Taken ℕ) → (s t : Session) → Type 0
+TakesAs None s t = TurnsWorld s.core Take (called_entry None) t.core × (t ≡ s)
+TakesAs (Some x) s t = GoesOut x s.core t.core × (t.out ≡ Some x) × (t.devices ≡ s.devices)
 
 pub record Takes (answer : ℤ) (told : Told) (s t : Session) : Type 0 where
-  pub went : Went
+  pub went : Option (Taken ℕ)
   pub answered : answer ≡ went_number went
   pub told_is : told ≡ went_told went
   pub made : TakesAs went s t
@@ -76,3 +57,20 @@ pub record Fetches (answer : ℤ) (old new : List ℕ) (s t : Session) : Type 0 
   pub out : t.out ≡ None
   pub core : t.core ≡ s.core
   pub devices : t.devices ≡ s.devices
+
+-- the bytes of a result that is the wanted one are fetched at once: 1; those of another are still to be fetched: 2
+abbrev pub FetchesIf : Bool → ℤ → (old new : List ℕ) → (s t : Session) → Type 0
+FetchesIf true answer old new s t = (answer ≡ pos 1) × ((count : ℤ) × Fetches count old new s t)
+FetchesIf false answer old new s t = (answer ≡ pos 2) × (new ≡ old) × (t ≡ s)
+
+-- the same of a result that may not be there: 0 then
+abbrev pub FetchesWanted : ℕ → Option (Taken ℕ) → ℤ → (old new : List ℕ) → (s t : Session) → Type 0
+FetchesWanted want None answer old new s t = (answer ≡ pos 0) × (new ≡ old) × (t ≡ s)
+FetchesWanted want (Some x) answer old new s t = FetchesIf (x.payload == want) answer old new s t
+
+-- the oldest result goes out, with its bytes where it is the wanted one
+pub record TakesFor (want : ℕ) (answer : ℤ) (told : Told) (old new : List ℕ) (s t : Session) : Type 0 where
+  pub went : ℤ
+  pub out : Session
+  pub takes : Takes went told s out
+  pub fetches : FetchesWanted want takes.went answer old new out t

@@ -1,5 +1,5 @@
 -- A session that is made of a text.
-use Rattle.std.specs.Prelude.{◌≡◌, ℕ, List, Option, None, Ok}
+use Rattle.std.specs.Prelude.{◌≡◌, ℕ, List, None, Ok}
 use Rattle.usb_core.specs.Public.{Carries, Kept, ShowsWorld}
 use Rattle.usb_desk.specs.declared.desk.Desk.{Desk}
 use Rattle.usb_desk.specs.Desk.{desk_of}

@@ -1,7 +1,7 @@
 -- What is to be done, until nothing is.
 use Rattle.std.specs.Prelude.{◌≡◌, ℕ, zero, suc, ◌<◌, ◌≤◌, Bool, true, false, find, Option, Some, None, if◌then◌else◌}
 use Rattle.std.specs.Option.{option_map}
-use Rattle.usb_core.specs.Public.{ShowsWorld, StillCarries, does_something}
+use Rattle.usb_core.specs.Public.{ShowsWorld, State, StillCarries, does_something}
 use Rattle.usb_steps.specs.Pending.{in_circle, serves}
 use Rattle.usb_model.specs.declared.step.Step.{Step}
 use Rattle.usb_model.specs.declared.step.Step.TheVariants.{Command, Deliver, Serve}
@@ -27,15 +27,27 @@ next_step setup packets w =
     else if packets then next_packet setup w
     else None
 
--- whether there is none
-abbrev pub is_nothing : Option Step → Bool
-is_nothing None = true
-is_nothing (Some step) = false
+-- whether there is one
+abbrev pub is_something : Option Step → Bool
+is_something None = false
+is_something (Some step) = true
 
 -- the world behind a step, if there is one
 abbrev pub behind_step : Setup → World → Option Step → World
 behind_step setup w None = w
 behind_step setup w (Some step) = (turn setup w step).world
+
+-- the step that was to be made next was made, if there was one
+pub record AdvancesBy (next : Setup → World → Option Step) (made : Bool) (s t : State ℕ) : Type 0 where
+  pub made_is : (setup : Setup) (w : World) → ShowsWorld setup s w → made ≡ is_something (next setup w)
+  pub shows : (setup : Setup) (w : World) → ShowsWorld setup s w → ShowsWorld setup t (behind_step setup w (next setup w))
+  pub carries : StillCarries s t
+
+abbrev pub Advances : Bool → Bool → (s t : State ℕ) → Type 0
+Advances packets made s t = AdvancesBy (λ setup w. next_step setup packets w) made s t
+
+abbrev pub ServesNext : Bool → (s t : State ℕ) → Type 0
+ServesNext made s t = AdvancesBy next_packet made s t
 
 -- the world behind so many of them
 unfoldable pub worked : Setup → Bool → World → ℕ → World

@@ -287,8 +287,7 @@ fn after(dev: u8, ep: u8) -> Option<(DeviceNo, EpAddr)>
     }
 }
 
-/// The oldest result goes out, and its callback ends: 1, and it is told; 0 where none waits. NoMem where memory is refused, with
-/// nothing changed.
+/// The oldest result goes out, and its callback ends: 1, and it is told; 0 where none waits. It takes no memory.
 #[unsafe(no_mangle)]
 pub extern "C" fn tirnouch_take(alloc: Global, slot: &mut Slot, told: &mut Told) -> i32
     ensures { InSlot slot.old.held.value slot.new.held.value result (Takes result told.new) }
@@ -302,17 +301,36 @@ pub extern "C" fn tirnouch_take(alloc: Global, slot: &mut Slot, told: &mut Told)
 }
 
 /// Packets, what is to be done and the oldest result, of a number that may be no device's.
-fn turn_in(session: &mut Session, dev: u8, ep: u8, packets: u32, steps: u32, told: &mut Told) -> i32
-    ensures { WorksBy dev ep packets steps result told.new session.old session.new }
+fn turn_in(
+    session: &mut Session,
+    dev: u8,
+    ep: u8,
+    packets: u32,
+    steps: u32,
+    want: u64,
+    buffer: &mut [u8],
+    told: &mut Told,
+) -> i32
+    ensures { WorksBy dev ep packets steps want result told.new buffer.old buffer.new session.old session.new }
 {
     match device(dev) {
         None => INVALID,
-        Some(dev) => turn::work(session, dev, EpAddr::new(ep), packets, steps, told),
+        Some(dev) => turn::work(
+            session,
+            dev,
+            EpAddr::new(ep),
+            packets,
+            steps,
+            want,
+            buffer,
+            told,
+        ),
     }
 }
 
 /// `tirnouch_serve`, `tirnouch_settle` without packets, and `tirnouch_take`, in one call: at most so many packets, and so many steps.
-/// The answer is that of the last, and so is what is told.
+/// What is told is the last of them. 1 where a result went out with which `want` was kept: its bytes stand in `buffer`, as
+/// `tirnouch_fetch` puts them there; 2 where another went out, whose bytes are still to be fetched; 0 where none waits.
 #[unsafe(no_mangle)]
 pub extern "C" fn tirnouch_turn(
     alloc: Global,
@@ -321,14 +339,16 @@ pub extern "C" fn tirnouch_turn(
     ep: u8,
     packets: u32,
     steps: u32,
+    want: u64,
+    buffer: &mut [u8],
     told: &mut Told,
 ) -> i32
-    ensures { InSlot slot.old.held.value slot.new.held.value result (WorksBy dev ep packets steps result told.new) }
+    ensures { InSlot slot.old.held.value slot.new.held.value result (WorksBy dev ep packets steps want result told.new buffer.old buffer.new) }
 {
     let Some(mut session) = slot.take(alloc) else {
         return NO_SESSION;
     };
-    let answer = turn_in(&mut session, dev, ep, packets, steps, told);
+    let answer = turn_in(&mut session, dev, ep, packets, steps, want, buffer, told);
     slot.put(alloc, session);
     answer
 }

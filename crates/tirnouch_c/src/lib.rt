@@ -12,8 +12,8 @@
 //! - `calls.rt`, `submission.rt`, `packets.rt`, `settling.rt`, `results.rt`, `reads.rt`: steps that carry nothing; submissions;
 //!   packets; what is to be done until nothing is; results and their bytes; what can be asked without a step
 //! - `requests.rt`, `descriptions.rt`: requests on the default control endpoint; what the text says of a device
-//! - specs/ by the same names: what each call says of a session before and behind. proofs/ Progress, Quiet: packets one after
-//!   another; that where nothing is to be done each transfer that was asked to end has ended
+//! - specs/ by the same names: what each call says of a session before and behind. proofs/ Rows, Progress, Quiet: packets in a
+//!   row, and row after row; that where nothing is to be done each transfer that was asked to end has ended
 //!
 //! # Contracts
 //!
@@ -29,7 +29,8 @@
 //! - `tirnouch_pending`: what is to be done next (`IsPending`)
 //! - `tirnouch_take`: the oldest result, with what was kept under its handle and number; its callback ends (`GoesOut`).
 //!   `tirnouch_fetch`: its bytes, just once
-//! - `tirnouch_turn`: packets, what is to be done, and the oldest result, one behind the other (`Works`)
+//! - `tirnouch_turn`: packets, what is to be done, and the oldest result, one behind the other; and its bytes, where it is the one
+//!   that is wanted (`Works`)
 //! - `tirnouch_taken`: a packet that a device took
 //! - `tirnouch_request`: what `usb_desk` says that the device answers; `tirnouch_needs`: what a host has to hold for that; `tirnouch_describe`, `tirnouch_tell`: what it has of the text
 //!

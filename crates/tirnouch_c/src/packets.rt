@@ -1,23 +1,11 @@
 //! Packets at an endpoint.
 
-ghost use Rattle.std.specs.Prelude.{◌≡◌};
-ghost use Rattle.tirnouch_c.specs.Packets.{Serves, ServesOne, goes_on};
+ghost use Rattle.std.specs.Prelude.{◌≡◌, ◌<◌, Bool};
+ghost use Rattle.tirnouch_c.specs.Packets.{Serves, ServesRow, goes_on};
 
 use crate::session::Session;
 use crate::told::Told;
 use usb_model::{DeviceNo, EpAddr, Reply};
-
-/// Whether a device that replied so may be served once more: its packet ended no transfer. Where it wasn't ready, it may go on
-/// in its script.
-fn goes_on(reply: &Reply, ready: bool) -> bool
-    ensures { result ≡ goes_on ready reply.now }
-{
-    match reply {
-        Reply::Moved { .. } => true,
-        Reply::Nak { .. } => ready,
-        _ => false,
-    }
-}
 
 /// Whether a device has an answer left at an endpoint, or is halted there.
 fn is_ready(session: &Session, dev: DeviceNo, ep: EpAddr) -> bool {
@@ -27,13 +15,31 @@ fn is_ready(session: &Session, dev: DeviceNo, ep: EpAddr) -> bool {
     }
 }
 
-/// A device answers one packet: what is told of it, and whether it may be served once more.
-fn serve_one(session: &mut Session, dev: DeviceNo, ep: EpAddr) -> (Told, bool)
-    ensures { ServesOne dev ep result session.old session.new }
+/// Whether a device that replied so may be served once more: its packet ended no transfer. Where it wasn't ready, it may go on
+/// in its script.
+fn goes_on(session: &Session, dev: DeviceNo, ep: EpAddr, reply: &Reply) -> bool
+    ensures { (ready : Bool) × (result ≡ goes_on ready reply.now) }
 {
-    let entry = session.core.serve(dev, ep);
-    let further = goes_on(&entry.reply, is_ready(session, dev, ep));
-    (Told::of(&entry), further)
+    match reply {
+        Reply::Moved { .. } => true,
+        Reply::Nak { .. } => is_ready(session, dev, ep),
+        _ => false,
+    }
+}
+
+/// A device answers packets in a row at an endpoint, at most so many: what is told of the last one, with how many they were, and
+/// whether the endpoint may be served once more.
+fn serve_row(session: &mut Session, dev: DeviceNo, ep: EpAddr, most: u32) -> (Told, bool)
+    requires { 0 < most }
+    ensures { ServesRow dev ep most result session.old session.new }
+{
+    let burst = session.core.serve_burst(dev, ep, most);
+    let further = goes_on(session, dev, ep, &burst.last.reply);
+    let told = Told {
+        amount: burst.full + 1,
+        ..Told::of(&burst.last)
+    };
+    (told, further)
 }
 
 /// A device answers packets at an endpoint, at most so many: until one ends a transfer, or it has no answer. What is told is the
@@ -42,11 +48,13 @@ pub fn serve(session: &mut Session, dev: DeviceNo, ep: EpAddr, most: u32, told: 
     ensures { Serves dev ep most told.new session.old session.new }
 {
     *told = Told::nothing();
-    for done in 0..most {
-        let (one, further) = serve_one(session, dev, ep);
+    let mut done = 0;
+    while done < most {
+        let (row, further) = serve_row(session, dev, ep, most - done);
+        done += row.amount;
         *told = Told {
-            amount: done + 1,
-            ..one
+            amount: done,
+            ..row
         };
         if !further {
             return;

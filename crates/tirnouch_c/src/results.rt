@@ -1,21 +1,11 @@
 //! Results, and their bytes.
 
-ghost use Rattle.std.specs.Prelude.{◌≡◌, ◌≤◌, IfOk, OnErr, Some, length};
-ghost use Rattle.usb_core.specs.Public.{Stays, StillCarries, TurnsWorld};
-ghost use Rattle.usb_model.specs.declared.step.Step.TheVariants.{Answer};
-ghost use Rattle.usb_model.specs.declared.verdict.Verdict.TheVariants.{Stop};
+ghost use Rattle.std.specs.Prelude.{◌≡◌, ◌≤◌, length};
 ghost use Rattle.tirnouch_c.specs.Buffers.{answer_of, filled, taken_count};
-ghost use Rattle.tirnouch_c.specs.Results.{Fetches, GoesOutIf, Takes, named};
+ghost use Rattle.tirnouch_c.specs.Results.{Fetches, Takes, TakesFor};
 
 use crate::session::Session;
 use crate::told::Told;
-use std::alloc::AllocError;
-use usb_core::{Core, Taken};
-use usb_device::TableDevice;
-use usb_model::{Name, Reply};
-
-/// libusb's number of want of memory (libusb 1.0, `libusb_error`).
-const NO_MEM: i32 = -11;
 
 /// A count as an answer, as far as it fits.
 pub fn answer_of(count: usize) -> i32
@@ -38,57 +28,20 @@ pub fn fill(buffer: &mut [u8], bytes: &[u8]) -> usize
     count
 }
 
-/// The oldest result goes out, and its callback ends: 1, and what it is is told; 0 where none waits. Without memory nothing changes.
+/// The oldest result goes out, and its callback ends: 1, and what it is is told; 0 where none waits.
 pub fn take(session: &mut Session, told: &mut Told) -> i32
     ensures { Takes result told.new session.old session.new }
 {
-    match go_out(&mut session.core) {
-        Err(_) => {
-            *told = Told::refused();
-            NO_MEM
-        }
-        Ok(None) => {
+    match session.core.take_done() {
+        None => {
             *told = Told::nothing();
             0
         }
-        Ok(Some(taken)) => {
+        Some(taken) => {
             *told = Told::taken(&taken);
             session.out = Some(taken);
             1
         }
-    }
-}
-
-/// The oldest result goes out, and its callback ends; None where none waits. Nothing changes where memory is refused.
-fn go_out(core: &mut Core<u64, TableDevice>) -> Result<Option<Taken<u64>>, AllocError>
-    ensures out { IfOk result (λ out. GoesOutIf out core.old core.new) }
-    ensures kept { OnErr result (Stays core.old core.new × StillCarries core.old core.new) }
-{
-    let out = core.take()?;
-    match named(&out) {
-        None => Ok(out),
-        Some(which) => {
-            let _ = end(core, which);
-            Ok(out)
-        }
-    }
-}
-
-/// The callback of this handle's transfer of this number ends.
-fn end(core: &mut Core<u64, TableDevice>, which: (Name, u64)) -> Reply
-    ensures turned { TurnsWorld core.old (Answer which.0 which.1 Stop) (record { owner = Some which.0; reply = result }) core.new }
-    ensures carries { StillCarries core.old core.new }
-{
-    core.stop(which.0, which.1)
-}
-
-/// The handle and the number of a result, if there is one.
-fn named(out: &Option<Taken<u64>>) -> Option<(Name, u64)>
-    ensures { result ≡ named out.now }
-{
-    match out {
-        None => None,
-        Some(taken) => Some((taken.returned.h, taken.returned.n)),
     }
 }
 
@@ -102,4 +55,19 @@ pub fn fetch(session: &mut Session, buffer: &mut [u8]) -> i32
     };
     session.out = None;
     answer_of(count)
+}
+
+/// `take`, and `fetch` where what is kept with the result is `want`: 1; 2 where it is another, whose bytes are still to be fetched;
+/// 0 where none waits.
+pub fn take_for(session: &mut Session, want: u64, buffer: &mut [u8], told: &mut Told) -> i32
+    ensures { TakesFor want result told.new buffer.old buffer.new session.old session.new }
+{
+    if take(session, told) == 0 {
+        return 0;
+    }
+    if told.payload != want {
+        return 2;
+    }
+    let _ = fetch(session, buffer);
+    1
 }

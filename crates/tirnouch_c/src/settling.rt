@@ -1,51 +1,59 @@
 //! What is to be done, until nothing is.
 
-ghost use Rattle.std.specs.Prelude.{◌≡◌, false, true, IfSome};
-ghost use Rattle.usb_core.specs.Public.{ShowsWorld, StillCarries, TurnsWorld, takes_memory};
+ghost use Rattle.std.specs.Prelude.{◌≡◌, option_map};
+ghost use Rattle.usb_model.specs.declared.step.Step.TheVariants.{Serve};
+ghost use Rattle.usb_core.specs.Public.{ShowsWorld};
 ghost use Rattle.usb_model.specs.Setup.{Setup};
 ghost use Rattle.usb_model.specs.World.{World};
-ghost use Rattle.tirnouch_c.specs.Settling.{Settles, is_nothing, next_packet, next_step};
+ghost use Rattle.tirnouch_c.specs.Settling.{Advances, ServesNext, Settles, is_something, next_packet, next_step};
 
 use crate::session::Session;
 use crate::told::Told;
 use usb_core::Core;
 use usb_device::TableDevice;
-use usb_model::{Entry, Step};
+use usb_model::{DeviceNo, EpAddr, Step};
 
-/// The step that is to be made next: an event is handled before an order runs, and an order runs before a packet is served.
-fn next_step(core: &Core<u64, TableDevice>, packets: bool) -> Option<Step>
-    ensures step { (setup : Setup) (w : World) → ShowsWorld setup core.now w → result ≡ next_step setup packets w }
-    ensures free { IfSome result (λ step. takes_memory step ≡ false) }
+/// Where the packet is that is to be served next.
+fn next_packet(core: &Core<u64, TableDevice>) -> Option<(DeviceNo, EpAddr)>
+    ensures { (setup : Setup) (w : World) → ShowsWorld setup core.now w → option_map (λ x. Serve x.0 x.1) result ≡ next_packet setup w }
+{
+    core.pending(None).serve
+}
+
+/// Makes the step that is to be made next, if there is one: an event is handled before an order runs, and an order runs before a
+/// packet is served. Whether there was one.
+fn advance(core: &mut Core<u64, TableDevice>, packets: bool) -> bool
+    ensures { Advances packets result core.old core.new }
 {
     if core.has_event() {
-        return Some(Step::Deliver);
+        let _ = core.deliver();
+        return true;
     }
     if core.has_order() {
-        return Some(Step::Command);
+        let _ = core.call(Step::Command);
+        return true;
     }
-    if packets { next_packet(core) } else { None }
+    packets && serve_next(core)
 }
 
-/// The packet that is to be served next.
-fn next_packet(core: &Core<u64, TableDevice>) -> Option<Step>
-    ensures step { (setup : Setup) (w : World) → ShowsWorld setup core.now w → result ≡ next_packet setup w }
-    ensures free { IfSome result (λ step. takes_memory step ≡ false) }
+/// Serves the packet that is to be served next, if there is one; whether there was.
+fn serve_next(core: &mut Core<u64, TableDevice>) -> bool
+    ensures { ServesNext result core.old core.new }
 {
-    let (dev, ep) = core.pending(None).serve?;
-    Some(Step::Serve { dev, ep })
+    match next_packet(core) {
+        None => false,
+        Some(at) => {
+            let _ = core.serve(at.0, at.1);
+            true
+        }
+    }
 }
 
-/// Makes a step that takes no memory. An event, which each transfer has, is handled by the call that it names.
-#[inline(always)]
-fn make_step(core: &mut Core<u64, TableDevice>, step: Step) -> Entry
-    requires { takes_memory step ≡ false }
-    ensures turned { TurnsWorld core.old step result core.new }
-    ensures carries { StillCarries core.old core.new }
+/// Whether something is to be done.
+fn is_left(core: &Core<u64, TableDevice>, packets: bool) -> bool
+    ensures { (setup : Setup) (w : World) → ShowsWorld setup core.now w → result ≡ is_something (next_step setup packets w) }
 {
-    match step {
-        Step::Deliver => core.deliver(),
-        step => core.call(step),
-    }
+    core.has_event() || core.has_order() || packets && next_packet(core).is_some()
 }
 
 /// Makes what is to be done, at most so many steps, with packets or without; how many they were is told, and whether nothing is
@@ -54,26 +62,11 @@ pub fn settle(session: &mut Session, packets: bool, most: u32, told: &mut Told)
     ensures { Settles packets most told.new session.old session.new }
 {
     for done in 0..most {
-        match next_step(&session.core, packets) {
-            None => {
-                *told = Told::settled(done, true);
-                return;
-            }
-            Some(step) => {
-                let _ = make_step(&mut session.core, step);
-            }
+        if !advance(&mut session.core, packets) {
+            *told = Told::settled(done, true);
+            return;
         }
     }
-    let left = next_step(&session.core, packets);
-    *told = Told::settled(most, is_nothing(&left));
-}
-
-/// Whether nothing is to be done.
-fn is_nothing(step: &Option<Step>) -> bool
-    ensures { result ≡ is_nothing step.now }
-{
-    match step {
-        None => true,
-        Some(_) => false,
-    }
+    let left = is_left(&session.core, packets);
+    *told = Told::settled(most, !left);
 }

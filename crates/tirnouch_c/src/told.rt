@@ -102,13 +102,6 @@ impl Told {
         }
     }
 
-    /// There was no memory.
-    pub fn refused() -> Told
-        ensures { result ≡ of_kind 255 2 }
-    {
-        Told::of_kind(255, 2)
-    }
-
     /// A result that went out.
     #[tactic(auto, unfolding(crate::specs::Told::reply_told))]
     pub fn taken(taken: &Taken<u64>) -> Told

@@ -1,21 +1,29 @@
 -- A step more each turn, until nothing is to be done.
-use Rattle.std.proofs.Common.{◌≡◌, ◌+◌, ℕ, suc, Bool, true, false, None, refl, sym, ◌∙◌, subst, arith}
-use Rattle.std.specs.Prelude.{is_none}
-use Rattle.tirnouch_c.proofs.Progress.{Working, no_step_yet, none_is, one_step_more, settled}
+use Rattle.std.proofs.Common.{◌≡◌, ◌+◌, ℕ, suc, Bool, true, false, not, refl, sym, ◌∙◌, subst, arith, rules}
+use Rattle.tirnouch_c.specs.Settling.{Advances}
+use Rattle.tirnouch_c.proofs.Progress.{Working, no_step_more, no_step_yet, not_so, one_step_more, settled}
 use Rattle.tirnouch_c.proofs.settling.settle.Goals as goal
 
 pub loop-done-init : goal.loop-done-init
 loop-done-init c = no_step_yet c.args.packets c.args.session.now
 
-pub returns-in-None : goal.returns-in-None
-returns-in-None c = settled c.args.packets true c.args.most c.loop-done.done c.args.session.now _ c.settled.result c.next_step.result c.loop-done.invariant (omega arith) c.next_step.ensures.step (λ _. c.in-None.is) (λ is. absurd cc) c.settled.ensures
+pub returns-then-not-advance : goal.returns-then-not-advance
+returns-then-not-advance c =
+    let off : c.advance.result ≡ false = search rules in
+    let none : Advances c.args.packets false c.loop-done.session.core c.advance.new.core = subst (λ (b : Bool). Advances c.args.packets b c.loop-done.session.core c.advance.new.core) off c.advance.ensures in
+    settled c.args.packets true c.args.most c.loop-done.done c.args.session.now c.loop-done.session _ c.settled.result c.loop-done.invariant
+    (no_step_more c.args.packets c.loop-done.done c.args.session.now c.loop-done.session _ c.loop-done.invariant none (refl, refl)) (omega arith) (λ _ setup w shows. sym (none.made_is setup w shows)) (λ is. absurd cc) c.settled.ensures
 
 pub loop-done-preserved : goal.loop-done-preserved
 loop-done-preserved c =
+    let on : c.advance.result ≡ true = search rules in
+    let one : Advances c.args.packets true c.loop-done.session.core c.advance.new.core = subst (λ (b : Bool). Advances c.args.packets b c.loop-done.session.core c.advance.new.core) on c.advance.ensures in
     let next : c.loop-done.done + 1 ≡ suc c.loop-done.done = omega arith in
-    one_step_more c.args.packets c.loop-done.done (c.loop-done.done + 1) c.args.session.now c.loop-done.session _ c.next_step.result c.in-Some.step _ c.loop-done.invariant next c.next_step.ensures.step c.in-Some.is c.make_step.ensures.turned c.make_step.ensures.carries (refl, refl)
+    one_step_more c.args.packets c.loop-done.done (c.loop-done.done + 1) c.args.session.now c.loop-done.session _ c.loop-done.invariant next one (refl, refl)
 
 pub returns : goal.returns
 returns c =
     let all : c.loop-done.done ≡ c.args.most = omega arith in
-    settled c.args.packets c.is_nothing.result c.args.most c.args.most c.args.session.now c.loop-done.session c.settled-2.result c.next_step-left.result (subst (λ (n : ℕ). Working c.args.packets n c.args.session.now c.loop-done.session) all c.loop-done.invariant) (omega arith) c.next_step-left.ensures.step (λ is. none_is c.next_step-left.result (sym c.is_nothing.ensures ∙ is)) (λ _. refl) c.settled-2.ensures
+    let so_far : Working c.args.packets c.args.most c.args.session.now c.loop-done.session = subst (λ (n : ℕ). Working c.args.packets n c.args.session.now c.loop-done.session) all c.loop-done.invariant in
+    settled c.args.packets (not c.is_left-left.result) c.args.most c.args.most c.args.session.now c.loop-done.session c.loop-done.session c.settled-2.result so_far so_far (omega arith)
+    (λ is setup w shows. sym (c.is_left-left.ensures setup w shows) ∙ not_so c.is_left-left.result is) (λ _. refl) c.settled-2.ensures
