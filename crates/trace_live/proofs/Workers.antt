@@ -1,5 +1,6 @@
--- What the workers make, step by step: nothing that a test passes which no step of theirs passes.
-use Rattle.std.proofs.Common.{◌≡◌, ℕ, zero, suc, Bool, true, false, List, [], ◌∷◌, ◌++◌, filter, cond, Option, Some, None, refl, ap, ◌∙◌}
+-- What the workers make, row by row: nothing that a test passes which no step of theirs passes.
+use Rattle.std.proofs.Common.{◌≡◌, ℕ, zero, suc, Bool, true, false, List, [], ◌∷◌, ◌++◌, filter, map, cond, Option, Some, None, refl, ap, ◌∙◌}
+use Rattle.std.specs.Prelude.{replicate}
 use Rattle.std.proofs.lemmas.List.{map-append}
 use Rattle.std.proofs.lemmas.List.Elements.{filter-append}
 use Rattle.usb_model.specs.declared.reply.Returned.{Returned}
@@ -11,10 +12,11 @@ use Rattle.usb_model.specs.Setup.{Setup}
 use Rattle.usb_core.specs.Public.{Pending}
 use Rattle.usb_journal.specs.declared.events.Events.{Events}
 use Rattle.usb_journal.specs.declared.place.Place.{Place}
-use Rattle.usb_journal.specs.Booked.{steps_of}
+use Rattle.usb_journal.specs.declared.rows.Row.{Row}
+use Rattle.usb_journal.specs.Booked.{Asked, asked, asks, steps_of}
 use Rattle.usb_journal.specs.Seen.{Receipted}
-use Rattle.usb_library.specs.Calls.{Calling, Makes}
-use Rattle.usb_workers.specs.Rounds.{CallsBack, CallsBackIf, Controls, Does, DoesIf, Ends, Handles, Resubmits, Rounds, Serves, Takes, Tells, missed_by}
+use Rattle.usb_library.specs.Calls.{Calling, Makes, MakesRow}
+use Rattle.usb_workers.specs.Rounds.{CallsBackAll, CallsBackIf, Controls, DeliversIf, DeliversRow, Does, DoesIf, Ends, Handles, Resubmits, Rounds, Serves, ServesRow, Takes, Tells, TellsAll, missed_by}
 use Rattle.usb_workers.specs.Rounds as R
 
 -- no step of a worker passes a test
@@ -24,6 +26,20 @@ pub record Passes_none (test : Step → Bool) : Type 0 where
   pub deliver : test Deliver ≡ false
   pub take : test Take ≡ false
   pub answer : (h n : ℕ) (v : Verdict) → test (Answer h n v) ≡ false
+
+-- the steps of places are those that were asked for
+steps_asked : (places : List Place) → steps_of places ≡ map (λ (a : Asked). a.step) (map asked places)
+steps_asked [] = refl
+steps_asked (p ∷ ps) = ap (λ l. p.step ∷ l) (steps_asked ps)
+
+asked_steps : (n moment : ℕ) (steps : List Step) → map (λ (a : Asked). a.step) (asks n moment steps) ≡ steps
+asked_steps n moment [] = refl
+asked_steps n moment (step ∷ steps) = ap (λ l. step ∷ l) (asked_steps n moment steps)
+
+-- of many of one step that doesn't pass none passes
+none_pass : (test : Step → Bool) (count : ℕ) (step : Step) → test step ≡ false → filter test (replicate count step) ≡ []
+none_pass test zero step none = refl
+none_pass test (suc k) step none = ap (λ b. cond b (step ∷ filter test (replicate k step)) (filter test (replicate k step))) none ∙ none_pass test k step none
 
 module _ (setup : Setup) (test : Step → Bool) (silent : Passes_none test) where
   -- nothing that a caller made passes
@@ -37,6 +53,15 @@ module _ (setup : Setup) (test : Step → Bool) (silent : Passes_none test) wher
       ∙ (filter-append test (steps_of old.own) (r.entry.step ∷ [])
       ∙ (ap (λ l. l ++ filter test (r.entry.step ∷ [])) quiet
       ∙ ap (λ b. cond b (r.entry.step ∷ []) []) (ap test makes.asked ∙ none))))
+
+  made_row : (count : ℕ) (step : Step) (old new : Calling) (row : Row) → test step ≡ false → MakesRow setup (replicate count step) old row new → Quiet old → Quiet new
+  made_row count step old new row none makes quiet =
+      let steps : steps_of makes.places ≡ replicate count step = steps_asked makes.places ∙ (ap (map (λ (a : Asked). a.step)) makes.each ∙ asked_steps old.number makes.moment (replicate count step)) in
+      ap (λ l. filter test (steps_of l)) makes.own
+      ∙ (ap (filter test) (map-append (λ (p : Place). p.step) old.own makes.places)
+      ∙ (filter-append test (steps_of old.own) (steps_of makes.places)
+      ∙ (ap (λ l. l ++ filter test (steps_of makes.places)) quiet
+      ∙ (ap (filter test) steps ∙ none_pass test count step none))))
 
   same : (old new : Calling) → new.own ≡ old.own → Quiet old → Quiet new
   same old new is quiet = ap (λ l. filter test (steps_of l)) is ∙ quiet
@@ -54,9 +79,21 @@ module _ (setup : Setup) (test : Step → Bool) (silent : Passes_none test) wher
   does_if true step old new none it quiet = does step old new none it quiet
   does_if false step old new none it quiet = same old new (ap (λ c. c.own) it) quiet
 
+  serves_row : (dev ep : ℕ) (old new : Calling) → ServesRow setup dev ep old new → Quiet old → Quiet new
+  serves_row dev ep old new (R.ServesRow.made row some makes) quiet = made_row row.count (Serve dev ep) old new row (silent.serve dev ep) makes quiet
+  serves_row dev ep old new (R.ServesRow.missed is) quiet = same old new (ap (λ c. c.own) is) quiet
+
   serves : (at : Option (ℕ × ℕ)) (old new : Calling) → Serves setup at old new → Quiet old → Quiet new
   serves None old new it quiet = same old new (ap (λ c. c.own) it) quiet
-  serves (Some at) old new it quiet = does (Serve at.0 at.1) old new (silent.serve at.0 at.1) it quiet
+  serves (Some at) old new it quiet = serves_row at.0 at.1 old new it quiet
+
+  delivers_row : (old new : Calling) → DeliversRow setup old new → Quiet old → Quiet new
+  delivers_row old new (R.DeliversRow.made row none makes) quiet = made_row row.count Deliver old new row silent.deliver makes quiet
+  delivers_row old new (R.DeliversRow.missed is) quiet = same old new (ap (λ c. c.own) is) quiet
+
+  delivers_if : (b : Bool) (old new : Calling) → DeliversIf setup b old new → Quiet old → Quiet new
+  delivers_if true old new it quiet = delivers_row old new it quiet
+  delivers_if false old new it quiet = same old new (ap (λ c. c.own) it) quiet
 
   pub controls : (look : Pending) (old new : Calling) → Controls setup look old new → Quiet old → Quiet new
   controls look old new it quiet = does_if look.command Command it.between new silent.command it.order (serves look.serve old it.between it.packet quiet)
@@ -75,21 +112,26 @@ module _ (setup : Setup) (test : Step → Bool) (silent : Passes_none test) wher
   tells h n v old new (R.Tells.goes_on again) quiet = resubmits h n v false old new again quiet
   tells h n v old new (R.Tells.ends between again end) quiet = ends h n between new end (resubmits h n v true old between again quiet)
 
-  takes : (given : Option Returned) (old new : Calling) → Takes setup given old new → Quiet old → Quiet new
-  takes given old new (R.Takes.idle none r makes is) quiet = made Take old new r silent.take makes quiet
-  takes given old new (R.Takes.out x some r makes is) quiet = made Take old new r silent.take makes quiet
+  takes : (given : List Returned) (old new : Calling) → Takes setup given old new → Quiet old → Quiet new
+  takes given old new (R.Takes.out row none makes are) quiet = made_row row.count Take old new row silent.take makes quiet
   takes given old new (R.Takes.missed none is) quiet = same old new (ap (λ c. c.own) is) quiet
 
-  calls_back : (may : Returned → Verdict → Type 0) (old new : Calling) → CallsBack setup may old new → Quiet old → Quiet new
-  calls_back may old new (R.CallsBack.none it) quiet = takes None old new it quiet
-  calls_back may old new (R.CallsBack.called between x v it can tell) quiet = tells x.h x.n v between new tell (takes (Some x) old between it quiet)
+  tells_all : (may : Returned → Verdict → Type 0) (given : List Returned) (old new : Calling) → TellsAll setup may given old new → Quiet old → Quiet new
+  tells_all may [] old new it quiet = same old new (ap (λ c. c.own) it) quiet
+  tells_all may (x ∷ xs) old new it quiet =
+      let between = it.0 in
+      let v = it.1 in
+      tells_all may xs between new it.2.2.1 (tells x.h x.n v old between it.2.2.0 quiet)
+
+  calls_back : (may : Returned → Verdict → Type 0) (old new : Calling) → CallsBackAll setup may old new → Quiet old → Quiet new
+  calls_back may old new it quiet = tells_all may it.results it.between new it.told (takes it.results old it.between it.taken quiet)
 
   calls_back_if : (may : Returned → Verdict → Type 0) (b : Bool) (old new : Calling) → CallsBackIf setup may b old new → Quiet old → Quiet new
   calls_back_if may true old new it quiet = calls_back may old new it quiet
   calls_back_if may false old new it quiet = same old new (ap (λ c. c.own) it) quiet
 
   pub handles : (may : Returned → Verdict → Type 0) (look : Events) (old new : Calling) → Handles setup may look old new → Quiet old → Quiet new
-  handles may look old new it quiet = calls_back_if may look.take it.between new it.result (does_if look.deliver Deliver old it.between silent.deliver it.event quiet)
+  handles may look old new it quiet = calls_back_if may look.take it.between new it.result (delivers_if look.deliver old it.between it.event quiet)
 
   -- so it stays look by look
   pub rounds : {Look : Type 0} (Shows : List Place → Look → Type 0) (Act : Look → Calling → Calling → Type 0) → ((look : Look) (old new : Calling) → Act look old new → Quiet old → Quiet new)
