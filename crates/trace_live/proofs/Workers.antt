@@ -121,7 +121,7 @@ module _ (setup : Setup) (test : Step → Bool) (silent : Passes_none test) wher
   tells_all may (x ∷ xs) old new it quiet =
       let between = it.0 in
       let v = it.1 in
-      tells_all may xs between new it.2.2.1 (tells x.h x.n v old between it.2.2.0 quiet)
+      tells_all may xs between new it.4 (tells x.h x.n v old between it.3 quiet)
 
   calls_back : (may : Returned → Verdict → Type 0) (old new : Calling) → CallsBackAll setup may old new → Quiet old → Quiet new
   calls_back may old new it quiet = tells_all may it.results it.between new it.told (takes it.results old it.between it.taken quiet)
