@@ -135,25 +135,24 @@ struct notice {
 
 struct libusb_context {
     struct libusb_context *next;
-    bool is_open;
-    int users;                        /* of the default context: how often it was begun */
-    struct libusb_device devices[DEVICES];
     struct transfers flying, ended;   /* in progress; to be called back */
     uint64_t earliest;                /* no deadline is before this moment; 0 for none */
-    pthread_cond_t moved;             /* with process.lock: a callback returned, or nobody handles events any more */
-    int waiting;                      /* for that */
-    bool is_handled;                  /* somebody handles events */
     pthread_t handler;
     struct libusb_device_handle *calling; /* whose callback runs; */
     bool is_calling;                      /* or one of hotplug */
+    bool is_open, is_handled;         /* is_handled: somebody handles events */
     bool is_interrupted, is_asleep, is_polled;
+    int users;                        /* of the default context: how often it was begun */
+    int lockers;                      /* atomic: who holds `waiters`, or is about to; it grows under `process.lock` alone */
+    int waiting;                      /* for `moved` */
     int event;                        /* an eventfd: it ends the handler's sleep, and tells those who poll by themselves */
+    struct notice *notices;           /* not told yet, of `all_notices` */
+    struct hotplug *hotplugs;
+    pthread_cond_t moved;             /* with process.lock: a callback returned, or nobody handles events any more */
     pthread_mutex_t waiters;
     pthread_cond_t happened;          /* with `waiters`: a callback returned, or nobody handles events any more */
-    int lockers;                      /* atomic: who holds `waiters`, or is about to */
-    struct hotplug *hotplugs;
-    struct notice *notices;           /* not told yet, of these: */
     struct notice all_notices[DEVICES][2];
+    struct libusb_device devices[DEVICES];
     int hotplug_ids;
     int log_level;
     bool log_is_fixed;                /* by LIBUSB_DEBUG */
@@ -163,18 +162,18 @@ struct libusb_context {
 /* What all contexts share, as programs on one machine share its bus. */
 struct bus {
     int users;
+    int in_core;                      /* transfers, or pieces of them */
     struct tirnouch_slot core;
-    struct device devices[DEVICES];
-    bool named[NAMES];
-    struct pipe *active[DEVICES * ENDPOINTS]; /* where something waits or is in the core */
-    size_t active_count;
-    int in_core;                     /* transfers, or pieces of them */
-    struct transfers controls;
-    struct libusb_device_handle *handles;
     uint64_t seed;                    /* 0 for none */
-    bool is_virtual;                  /* time passes only where nothing else is to be done */
-    uint64_t moment, rounds;
     FILE *trace;
+    struct transfers controls;
+    uint64_t moment, rounds;
+    bool is_virtual;                  /* time passes only where nothing else is to be done */
+    size_t active_count;
+    struct pipe *active[DEVICES * ENDPOINTS]; /* where something waits or is in the core */
+    struct libusb_device_handle *handles;
+    bool named[NAMES];
+    struct device devices[DEVICES];
 };
 
 extern struct process {
@@ -212,21 +211,21 @@ bool is_present(const struct device *device);
 void note(struct libusb_context *context, enum libusb_log_level level, const char *format, ...) __attribute__((format(printf, 3, 4)));
 
 /* context.c */
-struct libusb_context *context_of(struct libusb_context *context);
+struct libusb_context *usual_context(void);
 void release_context(struct libusb_context *context);
 
 /* core.c: the core's calls, each of which the trace has. A negative answer is libusb's. */
 int core_call(enum tirnouch_verb verb, int name, uint8_t a, uint64_t n);
-int core_submit(struct transfer *transfer, int length, uint8_t flags);
+void trace_submission(struct transfer *transfer, int length, uint8_t flags, int answer);
 bool core_serves(const struct pipe *pipe);
 bool core_serve(struct pipe *pipe, uint32_t most, struct tirnouch_told *told);
 bool core_settle(uint32_t most);
 bool core_take(struct tirnouch_told *told);
-bool core_turn(const struct pipe *pipe, struct tirnouch_told *told);
+void core_fetch(const struct tirnouch_told *told);
 
 /* claims.c */
 int claim(struct libusb_device_handle *handle, int interface);
-int claim_in_passing(struct libusb_device_handle *handle, int interface);
+int claim_unasked(struct libusb_device_handle *handle, int interface);
 void unclaim(struct libusb_device_handle *handle, int interface);
 int make_new(struct device *device, int interface);
 
@@ -235,13 +234,12 @@ int submit_at_endpoint(struct transfer *transfer);
 bool feed(struct pipe *pipe);
 bool reap(void);
 bool turn_over(struct pipe *pipe);
-void join(struct transfers *queue, struct transfer *transfer);
-void leave(struct transfers *queue, struct transfer *transfer);
+void leave_amid(struct transfers *queue, struct transfer *transfer);
 
 /* work.c: devices, controller and events */
 void work_off(void);
 void settle_all(void);
-void shake(void);
+void shake_by_dice(void);
 int pull_out(struct device *device);
 
 /* transfers.c */
@@ -255,21 +253,16 @@ bool answer_controls(void);
 
 /* timeouts.c */
 uint64_t now(void);
-uint64_t deadline_of(unsigned milliseconds);
 uint64_t end_of(const struct timeval *wait);
 struct timespec moment_of(uint64_t nanoseconds);
 struct timespec moment_in(uint64_t nanoseconds);
 void expire(struct libusb_context *context);
 
 /* events.c */
-void wake(struct libusb_context *context);
+void ring(struct libusb_context *context);
 void disturb(struct libusb_context *context);
-void tell_waiters(struct libusb_context *context);
-void step_down(struct libusb_context *context);
-int handle_events(struct libusb_context *context, uint64_t end);
-bool is_handler(const struct libusb_context *context);
+void tell_lockers(struct libusb_context *context);
 void wait_for_move(struct libusb_context *context);
-bool is_set(int *completed);
 
 /* hotplug.c */
 void tell_all(struct device *device, libusb_hotplug_event event);
@@ -280,5 +273,129 @@ void trace_devices(const char *text, size_t length);
 void trace(const char *format, ...) __attribute__((format(printf, 1, 2)));
 void trace_bytes(const uint8_t *bytes, int count);
 void trace_answer(int answer);
+
+/* What each transfer comes by, and where most often nothing is to be done. */
+
+/* The context that a call is for: NULL stands for the default one, and for another where that one wasn't begun. */
+static inline struct libusb_context *context_of(struct libusb_context *context)
+{
+    return context ? context : usual_context();
+}
+
+static inline bool is_handler(const struct libusb_context *context)
+{
+    return context->is_handled && pthread_equal(context->handler, pthread_self());
+}
+
+static inline bool is_set(int *completed)
+{
+    return completed && __atomic_load_n(completed, __ATOMIC_ACQUIRE);
+}
+
+/* Who sleeps over the context's events, or polls by itself, is told that there is something to do. */
+static inline void wake(struct libusb_context *context)
+{
+    if (context->is_asleep || context->is_polled)
+        ring(context);
+}
+
+/* Those who wait by libusb_wait_for_event. The lock is let go meanwhile, and the context stays. */
+static inline void tell_waiters(struct libusb_context *context)
+{
+    if (__atomic_load_n(&context->lockers, __ATOMIC_ACQUIRE))
+        tell_lockers(context);
+}
+
+/* Nobody handles events any more. */
+static inline void step_down(struct libusb_context *context)
+{
+    context->is_handled = false;
+    if (context->waiting)
+        pthread_cond_broadcast(&context->moved);
+    tell_waiters(context);
+}
+
+/* With a seed: before each call a few single steps, by dice, so that races come out; for the same number the same. */
+static inline void shake(void)
+{
+    if (process.bus.seed)
+        shake_by_dice();
+}
+
+static inline uint64_t deadline_of(unsigned milliseconds)
+{
+    return milliseconds ? now() + (uint64_t)milliseconds * 1000000u : 0;
+}
+
+/* An interface that is used before it was claimed is claimed, as Linux has it: the handle holds it until it is closed, or claims it itself
+ * and releases it. */
+static inline int claim_in_passing(struct libusb_device_handle *handle, int interface)
+{
+    return handle->claimed >> interface & 1 ? 0 : claim_unasked(handle, interface);
+}
+
+static inline void join(struct transfers *queue, struct transfer *transfer)
+{
+    transfer->behind = NULL;
+    if (queue->last)
+        queue->last->behind = transfer;
+    else
+        queue->first = transfer;
+    queue->last = transfer;
+}
+
+static inline void leave(struct transfers *queue, struct transfer *transfer)
+{
+    if (queue->first != transfer) {
+        leave_amid(queue, transfer);
+        return;
+    }
+    queue->first = transfer->behind;
+    if (!queue->first)
+        queue->last = NULL;
+}
+
+static inline int name_of(const struct pipe *pipe)
+{
+    return pipe->device->interfaces[pipe->interface].name;
+}
+
+/* Where the bytes of a piece go that a transfer has in the core; NULL where it reads none, or was dropped. */
+static inline uint8_t *place_for(struct transfer *transfer)
+{
+    if (!transfer || !is_in(transfer->pipe->ep) || transfer->is_dropped || !transfer->piece)
+        return NULL;
+    return seen(transfer)->buffer + transfer->moved;
+}
+
+/* A transfer's next piece, of so many bytes. That its time is over is told by an expiry, so any timeout but 0 will do. */
+static inline int core_submit(struct transfer *transfer, int length, uint8_t flags)
+{
+    const struct pipe *pipe = transfer->pipe;
+    bool writes = !is_in(pipe->ep);
+    uint8_t none[1] = { 0 };
+    const uint8_t *bytes = writes && length ? seen(transfer)->buffer + transfer->moved : none;
+    struct tirnouch_told told;
+    int answer = tirnouch_submit(&process.bus.core, (uint8_t)name_of(pipe), pipe->ep, pipe->kind, flags, transfer->deadline ? 1 : 0,
+                                 (uint32_t)length, bytes, writes ? (size_t)length : 0, (uint64_t)(uintptr_t)transfer, &told);
+    if (!answer)
+        transfer->number = told.n;
+    if (process.bus.trace)
+        trace_submission(transfer, length, flags, answer);
+    return answer;
+}
+
+/* In one call, which no trace has: a device answers packets at an endpoint, what is to be done behind them is done, and the oldest
+ * result goes out; whether there was one. The first of the endpoint's line is expected: its bytes go into its buffer at once. */
+static inline bool core_turn(const struct pipe *pipe, struct tirnouch_told *told)
+{
+    struct transfer *expected = pipe->line.first;
+    uint8_t none[1] = { 0 }, *to = place_for(expected);
+    int answer = tirnouch_turn(&process.bus.core, (uint8_t)pipe->device->number, pipe->ep, ALL, ALL, (uint64_t)(uintptr_t)expected,
+                               to ? to : none, to ? (size_t)expected->piece : 0, told);
+    if (answer == 2)
+        core_fetch(told);
+    return answer > 0;
+}
 
 #endif

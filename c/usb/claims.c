@@ -65,12 +65,8 @@ int claim(struct libusb_device_handle *handle, int interface)
     return 0;
 }
 
-/* An interface that is used before it was claimed is claimed, as Linux has it: the handle holds it until it is closed, or claims it itself
- * and releases it. */
-int claim_in_passing(struct libusb_device_handle *handle, int interface)
+int claim_unasked(struct libusb_device_handle *handle, int interface)
 {
-    if (handle->claimed >> interface & 1)
-        return 0;
     int r = claim(handle, interface);
     if (!r)
         note(handle->context, LIBUSB_LOG_LEVEL_WARNING, "interface %d is used before it is claimed: it is claimed", interface);

@@ -6,11 +6,8 @@
 #include <sys/eventfd.h>
 #include <unistd.h>
 
-/* The context that a call is for: NULL stands for the default one, and for another where that one wasn't begun. */
-struct libusb_context *context_of(struct libusb_context *context)
+struct libusb_context *usual_context(void)
 {
-    if (context)
-        return context;
     return !process.usual.is_open && process.fallback ? process.fallback : &process.usual;
 }
 

@@ -3,8 +3,6 @@
 
 #include <inttypes.h>
 
-static const uint8_t nothing[1];
-
 static void trace_call(enum tirnouch_verb verb, int name, uint8_t a, uint64_t n)
 {
     switch (verb) {
@@ -31,21 +29,17 @@ int core_call(enum tirnouch_verb verb, int name, uint8_t a, uint64_t n)
     return answer;
 }
 
-static int name_of(const struct pipe *pipe)
-{
-    return pipe->device->interfaces[pipe->interface].name;
-}
-
-static void trace_submission(const struct transfer *transfer, const uint8_t *bytes, int length, uint8_t flags)
+static void trace_request(struct transfer *transfer, int length, uint8_t flags)
 {
     const struct pipe *pipe = transfer->pipe;
+    const uint8_t *bytes = seen(transfer)->buffer;
     trace("submit %d %02x %s ", name_of(pipe), pipe->ep, pipe->kind == LIBUSB_TRANSFER_TYPE_INTERRUPT ? "int" : "bulk");
     if (is_in(pipe->ep)) {
         trace("%d", length);
     } else {
         trace("x:");
         for (int i = 0; i < length; i++)
-            trace("%02x", bytes[i]);
+            trace("%02x", bytes[transfer->moved + i]);
     }
     if (flags & LIBUSB_TRANSFER_SHORT_NOT_OK)
         trace(" flags=SHORT_NOT_OK%s", flags & LIBUSB_TRANSFER_ADD_ZERO_PACKET ? "+ADD_ZERO_PACKET" : "");
@@ -56,28 +50,17 @@ static void trace_submission(const struct transfer *transfer, const uint8_t *byt
     trace("\n");
 }
 
-/* A transfer's next piece, of so many bytes. That its time is over is told by an expiry, so any timeout but 0 will do. */
-int core_submit(struct transfer *transfer, int length, uint8_t flags)
+void trace_submission(struct transfer *transfer, int length, uint8_t flags, int answer)
 {
-    const struct libusb_transfer *it = seen(transfer);
-    const struct pipe *pipe = transfer->pipe;
-    bool writes = !is_in(pipe->ep);
-    const uint8_t *bytes = writes && length ? it->buffer + transfer->moved : nothing;
-    struct tirnouch_told told = { 0 };
-    int answer = tirnouch_submit(&process.bus.core, (uint8_t)name_of(pipe), pipe->ep, pipe->kind, flags, transfer->deadline ? 1 : 0,
-                                 (uint32_t)length, bytes, writes ? (size_t)length : 0, (uint64_t)(uintptr_t)transfer, &told);
-    if (process.bus.trace && answer == LIBUSB_ERROR_NO_MEM)
+    if (answer == LIBUSB_ERROR_NO_MEM) {
         trace("# no memory, and no step\n");
-    else if (process.bus.trace) {
-        trace_submission(transfer, bytes, length, flags);
-        if (answer < 0)
-            trace_answer(answer);
-        else
-            trace("# number %" PRIu64 "\n", told.n);
+        return;
     }
-    if (!answer)
-        transfer->number = told.n;
-    return answer;
+    trace_request(transfer, length, flags);
+    if (answer < 0)
+        trace_answer(answer);
+    else
+        trace("# number %" PRIu64 "\n", transfer->number);
 }
 
 /* Whether a packet at an endpoint does something: it is the first that does, looked for from there on. */
@@ -118,14 +101,6 @@ bool core_settle(uint32_t most)
 
 static const char *const statuses[] = { "COMPLETED", "ERROR", "TIMED_OUT", "CANCELLED", "STALL", "NO_DEVICE", "OVERFLOW" };
 
-/* Where the bytes of a piece go that a transfer has in the core; NULL where it reads none, or was dropped. */
-static uint8_t *place_for(struct transfer *transfer)
-{
-    if (!transfer || !is_in(transfer->pipe->ep) || transfer->is_dropped || !transfer->piece)
-        return NULL;
-    return seen(transfer)->buffer + transfer->moved;
-}
-
 static void trace_result(const struct tirnouch_told *told, const uint8_t *bytes, int count)
 {
     trace("take\n# called %" PRIu64 " ep %02x %s %" PRIu32 " ", told->n, told->ep, statuses[told->status], told->amount);
@@ -137,7 +112,7 @@ static void trace_result(const struct tirnouch_told *told, const uint8_t *bytes,
 }
 
 /* The bytes of the result that went out, into its transfer's buffer. */
-static void fetch(const struct tirnouch_told *told)
+void core_fetch(const struct tirnouch_told *told)
 {
     struct transfer *transfer = (struct transfer *)(uintptr_t)told->payload;
     uint8_t none[1] = { 0 }, *to = place_for(transfer);
@@ -151,19 +126,6 @@ bool core_take(struct tirnouch_told *told)
 {
     if (tirnouch_take(&process.bus.core, told) != 1)
         return false;
-    fetch(told);
+    core_fetch(told);
     return true;
-}
-
-/* In one call, which no trace has: a device answers packets at an endpoint, what is to be done behind them is done, and the oldest
- * result goes out; whether there was one. The first of the endpoint's line is expected: its bytes go into its buffer at once. */
-bool core_turn(const struct pipe *pipe, struct tirnouch_told *told)
-{
-    struct transfer *expected = pipe->line.first;
-    uint8_t none[1] = { 0 }, *to = place_for(expected);
-    int answer = tirnouch_turn(&process.bus.core, (uint8_t)pipe->device->number, pipe->ep, ALL, ALL, (uint64_t)(uintptr_t)expected,
-                               to ? to : none, to ? (size_t)expected->piece : 0, told);
-    if (answer == 2)
-        fetch(told);
-    return answer > 0;
 }

@@ -9,21 +9,10 @@
 
 #define MINUTE 60
 
-bool is_handler(const struct libusb_context *context)
-{
-    return context->is_handled && pthread_equal(context->handler, pthread_self());
-}
-
-bool is_set(int *completed)
-{
-    return completed && __atomic_load_n(completed, __ATOMIC_ACQUIRE);
-}
-
-/* Who sleeps over the context's events, or polls by itself, is told that there is something to do. */
-void wake(struct libusb_context *context)
+void ring(struct libusb_context *context)
 {
     uint64_t one = 1;
-    if ((context->is_asleep || context->is_polled) && write(context->event, &one, sizeof one) < 0)
+    if (write(context->event, &one, sizeof one) < 0)
         note(context, LIBUSB_LOG_LEVEL_DEBUG, "it was told already");
 }
 
@@ -52,11 +41,8 @@ void disturb(struct libusb_context *context)
         pthread_cond_broadcast(&context->moved);
 }
 
-/* Those who wait by libusb_wait_for_event. The lock is let go meanwhile, and the context stays. */
-void tell_waiters(struct libusb_context *context)
+void tell_lockers(struct libusb_context *context)
 {
-    if (!__atomic_add_fetch(&context->lockers, 0, __ATOMIC_SEQ_CST))
-        return;
     context->waiting++;
     unlock();
     pthread_mutex_lock(&context->waiters);
@@ -64,14 +50,6 @@ void tell_waiters(struct libusb_context *context)
     pthread_mutex_unlock(&context->waiters);
     lock();
     context->waiting--;
-}
-
-void step_down(struct libusb_context *context)
-{
-    context->is_handled = false;
-    if (context->waiting)
-        pthread_cond_broadcast(&context->moved);
-    tell_waiters(context);
 }
 
 static void call_back(struct libusb_context *context, struct transfer *transfer)
@@ -131,16 +109,17 @@ static bool sleep_until(struct libusb_context *context, uint64_t end)
 }
 
 /* Until something was called back, that moment, or an interruption. With the lock, as the one who handles events. A moment of 0 is now. */
-int handle_events(struct libusb_context *context, uint64_t end)
+static int handle_events(struct libusb_context *context, uint64_t end)
 {
     int r = 0;
     for (;;) {
         drain(context);
-        expire(context);
+        if (context->earliest)
+            expire(context);
         work_off();
-        bool any = call_hotplugs(context);
+        bool any = context->notices && call_hotplugs(context);
         any |= call_ended(context);
-        if (any || context->is_interrupted || now() >= end)
+        if (any || context->is_interrupted || !end || now() >= end)
             break;
         uint64_t until = context->earliest && context->earliest < end ? context->earliest : end;
         if (sleep_until(context, until)) {
@@ -172,9 +151,9 @@ static int handle_or_wait(struct libusb_context *context, uint64_t end, int *com
 {
     if (!context->is_open)
         return LIBUSB_ERROR_OTHER;
-    if (is_handler(context) && context->is_calling)
-        return LIBUSB_ERROR_BUSY;
     if (context->is_handled) {
+        if (context->is_calling && is_handler(context))
+            return LIBUSB_ERROR_BUSY;
         if (end)
             await_handler(context, end, completed);
         return 0;

@@ -2,16 +2,6 @@
  * place, and longer ones go in pieces, with nobody between. */
 #include "bus.h"
 
-void join(struct transfers *queue, struct transfer *transfer)
-{
-    transfer->behind = NULL;
-    if (queue->last)
-        queue->last->behind = transfer;
-    else
-        queue->first = transfer;
-    queue->last = transfer;
-}
-
 static void join_first(struct transfers *queue, struct transfer *transfer)
 {
     transfer->behind = queue->first;
@@ -20,7 +10,8 @@ static void join_first(struct transfers *queue, struct transfer *transfer)
         queue->last = transfer;
 }
 
-void leave(struct transfers *queue, struct transfer *transfer)
+/* From any place in it. */
+void leave_amid(struct transfers *queue, struct transfer *transfer)
 {
     struct transfer **at = &queue->first, *before = NULL;
     while (*at && *at != transfer) {
@@ -46,24 +37,20 @@ static int left_of(struct transfer *transfer)
     return seen(transfer)->length - transfer->moved;
 }
 
-static bool is_last_piece(struct transfer *transfer)
-{
-    return left_of(transfer) <= transfer->pipe->most;
-}
-
 static bool may_go(const struct pipe *pipe, struct transfer *transfer)
 {
     if (pipe->cut && pipe->cut != transfer)
         return false;
-    return pipe->in_core < (is_last_piece(transfer) ? PLACES : 1);
+    return !pipe->in_core || (pipe->in_core < PLACES && left_of(transfer) <= pipe->most);
 }
 
 /* Its next piece goes into the core. */
-static int submit_piece(struct transfer *transfer)
+static inline int submit_piece(struct transfer *transfer)
 {
     struct pipe *pipe = transfer->pipe;
-    bool is_last = is_last_piece(transfer);
-    int piece = is_last ? left_of(transfer) : pipe->most;
+    int left = left_of(transfer);
+    bool is_last = left <= pipe->most;
+    int piece = is_last ? left : pipe->most;
     uint8_t flags = LIBUSB_TRANSFER_SHORT_NOT_OK | (is_last ? LIBUSB_TRANSFER_ADD_ZERO_PACKET : 0);
     int r = core_submit(transfer, piece, seen(transfer)->flags & flags);
     if (r)
@@ -111,14 +98,10 @@ bool feed(struct pipe *pipe)
     return any;
 }
 
+/* Of a transfer that goes in pieces: the next one waits for its place, before all others. */
 static void finish_piece(struct transfer *transfer, const struct tirnouch_told *told)
 {
-    struct pipe *pipe = transfer->pipe;
-    bool is_cut = pipe->cut == transfer;
-    leave(&pipe->line, transfer);
-    pipe->in_core--;
-    process.bus.in_core--;
-    if (!is_cut || told->status != LIBUSB_TRANSFER_COMPLETED || (int)told->amount != transfer->piece || transfer->is_dropped) {
+    if (told->status != LIBUSB_TRANSFER_COMPLETED || (int)told->amount != transfer->piece || transfer->is_dropped) {
         end_transfer(transfer, told->status, transfer->moved + (int)told->amount);
         return;
     }
@@ -129,16 +112,23 @@ static void finish_piece(struct transfer *transfer, const struct tirnouch_told *
         return;
     }
     transfer->stage = QUEUED;
-    join_first(&pipe->queue, transfer);
+    join_first(&transfer->pipe->queue, transfer);
 }
 
 /* A result went out of the core. */
-static void finish(const struct tirnouch_told *told)
+static inline void finish(const struct tirnouch_told *told)
 {
     struct transfer *transfer = (struct transfer *)(uintptr_t)told->payload;
     struct pipe *pipe = transfer->pipe;
-    finish_piece(transfer, told);
-    feed(pipe);
+    leave(&pipe->line, transfer);
+    pipe->in_core--;
+    process.bus.in_core--;
+    if (pipe->cut == transfer)
+        finish_piece(transfer, told);
+    else
+        end_transfer(transfer, told->status, transfer->moved + (int)told->amount);
+    if (pipe->queue.first)
+        feed(pipe);
 }
 
 /* Results go out of the core; whether there was one. */

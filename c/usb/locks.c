@@ -60,8 +60,10 @@ static struct libusb_context *opened(libusb_context *context)
 
 void libusb_lock_event_waiters(libusb_context *context)
 {
-    struct libusb_context *x = opened(context);
+    lock();
+    struct libusb_context *x = context_of(context);
     __atomic_add_fetch(&x->lockers, 1, __ATOMIC_SEQ_CST);
+    unlock();
     pthread_mutex_lock(&x->waiters);
 }
 

@@ -15,11 +15,6 @@ uint64_t now(void)
     return (uint64_t)it.tv_sec * SECOND + (uint64_t)it.tv_nsec;
 }
 
-uint64_t deadline_of(unsigned milliseconds)
-{
-    return milliseconds ? now() + (uint64_t)milliseconds * 1000000u : 0;
-}
-
 uint64_t end_of(const struct timeval *wait)
 {
     return now() + (uint64_t)wait->tv_sec * SECOND + (uint64_t)wait->tv_usec * 1000u;

@@ -47,13 +47,13 @@ void end_transfer(struct transfer *transfer, enum libusb_transfer_status status,
     take_off(transfer);
     if (transfer->pipe && transfer->pipe->cut == transfer)
         transfer->pipe->cut = NULL;
-    transfer->stage = transfer->is_dropped ? AT_REST : ENDED;
-    if (transfer->is_freed) {
-        free(transfer);
+    if (transfer->is_dropped) {
+        transfer->stage = AT_REST;
+        if (transfer->is_freed)
+            free(transfer);
         return;
     }
-    if (transfer->is_dropped)
-        return;
+    transfer->stage = ENDED;
     seen(transfer)->status = status;
     seen(transfer)->actual_length = moved;
     join(&context->ended, transfer);
@@ -144,6 +144,20 @@ static int submit_to_pipe(struct transfer *transfer)
     return submit_at_endpoint(transfer);
 }
 
+/* As a new one. Its places in lists are set where it joins them. */
+static void begin_anew(struct transfer *transfer, struct libusb_device_handle *handle, uint64_t deadline)
+{
+    transfer->context = handle->context;
+    transfer->handle = handle;
+    transfer->pipe = NULL;
+    transfer->number = 0;
+    transfer->deadline = deadline;
+    transfer->moved = transfer->piece = 0;
+    transfer->naks = 0;
+    transfer->ask = ASKED_NOTHING;
+    transfer->is_dropped = transfer->is_freed = false;
+}
+
 static int submit(struct transfer *transfer)
 {
     struct libusb_transfer *it = seen(transfer);
@@ -157,7 +171,7 @@ static int submit(struct transfer *transfer)
     bool is_control = it->type == LIBUSB_TRANSFER_TYPE_CONTROL;
     if (!is_control && it->type != LIBUSB_TRANSFER_TYPE_BULK && it->type != LIBUSB_TRANSFER_TYPE_INTERRUPT)
         return LIBUSB_ERROR_NOT_SUPPORTED;
-    *transfer = (struct transfer){ .context = handle->context, .handle = handle, .deadline = deadline_of(it->timeout) };
+    begin_anew(transfer, handle, deadline_of(it->timeout));
     int r = is_control ? submit_control(transfer) : submit_to_pipe(transfer);
     if (r)
         return r;

@@ -131,35 +131,43 @@ static struct pipe *only_one(void)
     return pipe && !bus->seed && !bus->controls.first && !is_watched(pipe->device) ? pipe : NULL;
 }
 
-/* The quick way, where there is but one endpoint. */
+/* The quick way, where there is but one endpoint. What waited there went on with each result. */
 static void turn_only_one(void)
 {
     struct pipe *pipe = only_one();
-    if (pipe && turn_over(pipe))
-        feed_all();
+    if (!pipe || !turn_over(pipe) || pipe->in_core || pipe->queue.first)
+        return;
+    pipe->is_active = false;
+    process.bus.active_count = 0;
+}
+
+/* All there is to do in one go; whether some was done. */
+static bool work_once(void)
+{
+    struct bus *bus = &process.bus;
+    bool any = bus->controls.first && answer_controls();
+    any |= serve_all();
+    if (any || bus->active_count) {
+        any |= core_settle(ALL);
+        any |= reap();
+        any |= feed_all();
+    }
+    return any;
 }
 
 void work_off(void)
 {
-    bool any = true;
+    const struct bus *bus = &process.bus;
     process.bus.rounds++;
-    while (any) {
+    do
         turn_only_one();
-        any = answer_controls();
-        any |= serve_all();
-        if (any || process.bus.active_count) {
-            any |= core_settle(ALL);
-            any |= reap();
-            any |= feed_all();
-        }
-    }
+    while ((bus->active_count || bus->controls.first) && work_once());
 }
 
-/* With a seed: before each call a few single steps, by dice, so that races come out; for the same number the same. */
-void shake(void)
+void shake_by_dice(void)
 {
     struct bus *bus = &process.bus;
-    for (unsigned left = bus->seed ? dice(4) : 0; left; left--) {
+    for (unsigned left = dice(4); left; left--) {
         unsigned step = dice(3);
         if (step == 0 && bus->active_count)
             serve(bus->active[dice((unsigned)bus->active_count)], 1);
