@@ -59,14 +59,14 @@ struct transfers {
 /* An endpoint but 0. Where its line in the core is full, or a transfer goes in pieces, the others wait here. */
 struct pipe {
     struct device *device;
-    uint8_t ep, kind, interface;      /* kind: libusb_transfer_type; 0 where the device has no such endpoint */
-    uint16_t packet;
-    int most;                         /* bytes of a piece but the last: whole packets, so that none goes past a piece's end */
     struct transfers queue;
     struct transfers line;            /* those in the core, as they were submitted to it: the first one's result is expected next */
     struct transfer *cut;             /* the one that goes in pieces, while there are more than the one in the core */
-    int in_core;
+    int most;                         /* bytes of a piece but the last: whole packets, so that none goes past a piece's end */
     uint32_t answers;                 /* how many it gave since it was made new, where that counts (`watched`) */
+    uint16_t packet;
+    uint8_t ep, kind, interface;      /* kind: libusb_transfer_type; 0 where the device has no such endpoint */
+    uint8_t in_core;                  /* at most PLACES */
     bool is_halted, is_active;
 };
 
@@ -230,14 +230,15 @@ void unclaim(struct libusb_device_handle *handle, int interface);
 int make_new(struct device *device, int interface);
 
 /* lines.c: from the endpoints' queues into the core, and out of it */
-int submit_at_endpoint(struct transfer *transfer);
+int submit_piece(struct transfer *transfer);
+void queue_up(struct transfer *transfer);
 bool feed(struct pipe *pipe);
 bool reap(void);
-bool turn_over(struct pipe *pipe);
+bool turn_only_one(void);
 void leave_amid(struct transfers *queue, struct transfer *transfer);
 
 /* work.c: devices, controller and events */
-void work_off(void);
+void work_on(void);
 void settle_all(void);
 void shake_by_dice(void);
 int pull_out(struct device *device);
@@ -306,6 +307,14 @@ static inline void tell_waiters(struct libusb_context *context)
         tell_lockers(context);
 }
 
+/* What devices, controller and events have to do, until nothing is left. */
+static inline void work_off(void)
+{
+    process.bus.rounds++;
+    if (turn_only_one())
+        work_on();
+}
+
 /* Nobody handles events any more. */
 static inline void step_down(struct libusb_context *context)
 {
@@ -353,6 +362,35 @@ static inline void leave(struct transfers *queue, struct transfer *transfer)
     queue->first = transfer->behind;
     if (!queue->first)
         queue->last = NULL;
+}
+
+static inline int left_of(struct transfer *transfer)
+{
+    return seen(transfer)->length - transfer->moved;
+}
+
+static inline bool may_go(const struct pipe *pipe, struct transfer *transfer)
+{
+    if (pipe->cut && pipe->cut != transfer)
+        return false;
+    return !pipe->in_core || (pipe->in_core < PLACES && left_of(transfer) <= pipe->most);
+}
+
+static inline int submit_at_endpoint(struct transfer *transfer)
+{
+    if (!transfer->pipe->queue.first && may_go(transfer->pipe, transfer)) {
+        int r = submit_piece(transfer);
+        if (r != LIBUSB_ERROR_BUSY)
+            return r;
+    }
+    queue_up(transfer);
+    return 0;
+}
+
+/* Whether a device's answers are looked at one by one. */
+static inline bool is_watched(const struct device *device)
+{
+    return device->gate_count || device->leaves || process.bus.trace;
 }
 
 static inline int name_of(const struct pipe *pipe)

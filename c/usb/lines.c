@@ -32,20 +32,8 @@ static void activate(struct pipe *pipe)
     pipe->is_active = true;
 }
 
-static int left_of(struct transfer *transfer)
-{
-    return seen(transfer)->length - transfer->moved;
-}
-
-static bool may_go(const struct pipe *pipe, struct transfer *transfer)
-{
-    if (pipe->cut && pipe->cut != transfer)
-        return false;
-    return !pipe->in_core || (pipe->in_core < PLACES && left_of(transfer) <= pipe->most);
-}
-
 /* Its next piece goes into the core. */
-static inline int submit_piece(struct transfer *transfer)
+int submit_piece(struct transfer *transfer)
 {
     struct pipe *pipe = transfer->pipe;
     int left = left_of(transfer);
@@ -65,18 +53,12 @@ static inline int submit_piece(struct transfer *transfer)
     return 0;
 }
 
-int submit_at_endpoint(struct transfer *transfer)
+/* Behind those that wait at its endpoint. */
+void queue_up(struct transfer *transfer)
 {
-    struct pipe *pipe = transfer->pipe;
-    if (!pipe->queue.first && may_go(pipe, transfer)) {
-        int r = submit_piece(transfer);
-        if (r != LIBUSB_ERROR_BUSY)
-            return r;
-    }
     transfer->stage = QUEUED;
-    join(&pipe->queue, transfer);
-    activate(pipe);
-    return 0;
+    join(&transfer->pipe->queue, transfer);
+    activate(transfer->pipe);
 }
 
 /* Those that wait go on into the core, as far as there is room; whether one did. */
@@ -144,7 +126,7 @@ bool reap(void)
 }
 
 /* Results of an endpoint's packets, one behind the other, until they bring about none; whether there was one. */
-bool turn_over(struct pipe *pipe)
+static bool turn_over(struct pipe *pipe)
 {
     struct tirnouch_told told;
     bool any = false;
@@ -153,4 +135,25 @@ bool turn_over(struct pipe *pipe)
         any = true;
     }
     return any;
+}
+
+/* The one endpoint where something is to be done, whose answers needn't be looked at one by one; NULL where there is none, or several.
+ * With several each has its turn before an order runs, so that their results come as their packets do. */
+static struct pipe *only_one(void)
+{
+    struct bus *bus = &process.bus;
+    struct pipe *pipe = bus->active_count == 1 ? bus->active[0] : NULL;
+    return pipe && !bus->seed && !bus->controls.first && !is_watched(pipe->device) ? pipe : NULL;
+}
+
+/* The quick way, where there is but one endpoint. What waited there went on with each result. Whether something is left to be done. */
+bool turn_only_one(void)
+{
+    struct bus *bus = &process.bus;
+    struct pipe *pipe = only_one();
+    if (pipe && turn_over(pipe) && !pipe->in_core && !pipe->queue.first) {
+        pipe->is_active = false;
+        bus->active_count = 0;
+    }
+    return bus->active_count || bus->controls.first;
 }

@@ -7,12 +7,6 @@ static unsigned dice(unsigned sides)
     return (unsigned)(process.bus.seed >> 33) % sides;
 }
 
-/* Whether a device's answers are looked at one by one. */
-static bool is_watched(const struct device *device)
-{
-    return device->gate_count || device->leaves || process.bus.trace;
-}
-
 static bool is_reached(const struct device *device, const struct gate *gate)
 {
     uint8_t none[1];
@@ -122,25 +116,6 @@ void settle_all(void)
     }
 }
 
-/* The one endpoint where something is to be done, whose answers needn't be looked at one by one; NULL where there is none, or several.
- * With several each has its turn before an order runs, so that their results come as their packets do. */
-static struct pipe *only_one(void)
-{
-    struct bus *bus = &process.bus;
-    struct pipe *pipe = bus->active_count == 1 ? bus->active[0] : NULL;
-    return pipe && !bus->seed && !bus->controls.first && !is_watched(pipe->device) ? pipe : NULL;
-}
-
-/* The quick way, where there is but one endpoint. What waited there went on with each result. */
-static void turn_only_one(void)
-{
-    struct pipe *pipe = only_one();
-    if (!pipe || !turn_over(pipe) || pipe->in_core || pipe->queue.first)
-        return;
-    pipe->is_active = false;
-    process.bus.active_count = 0;
-}
-
 /* All there is to do in one go; whether some was done. */
 static bool work_once(void)
 {
@@ -155,13 +130,10 @@ static bool work_once(void)
     return any;
 }
 
-void work_off(void)
+void work_on(void)
 {
-    const struct bus *bus = &process.bus;
-    process.bus.rounds++;
-    do
-        turn_only_one();
-    while ((bus->active_count || bus->controls.first) && work_once());
+    while (work_once() && turn_only_one()) {
+    }
 }
 
 void shake_by_dice(void)
