@@ -76,7 +76,7 @@ c: bin/libtirnouch_core.a bin/libtirnouch_core.so
 USB_OBJECTS = $(patsubst c/usb/%.c,bin/usb/%.o,$(wildcard c/usb/*.c))
 USB_NAMES = libusb_* tirnouch_plug tirnouch_on_control tirnouch_pull tirnouch_show tirnouch_took tirnouch_requests
 
-bin/usb/%.o: c/usb/%.c c/usb/bus.h $(wildcard c/include/*.h)
+bin/usb/%.o: c/usb/%.c $(wildcard c/usb/*.h) $(wildcard c/include/*.h)
 	@mkdir -p bin/usb
 	@$(CC) $(C_FLAGS) -D_GNU_SOURCE -c $< -o $@
 

@@ -1,0 +1,167 @@
+/* What each transfer comes by, inline. Where most often nothing is to be done, that is found out here, and only the rest is a call.
+ * bus.h includes this file. */
+#ifndef QUICK_H
+#define QUICK_H
+
+#include "bus.h"
+
+/* The context that a call is for: NULL stands for the default one, and for another where that one wasn't begun. */
+static inline struct libusb_context *context_of(struct libusb_context *context)
+{
+    return context ? context : usual_context();
+}
+
+static inline bool is_handler(const struct libusb_context *context)
+{
+    return context->is_handled && pthread_equal(context->handler, pthread_self());
+}
+
+static inline bool is_set(int *completed)
+{
+    return completed && __atomic_load_n(completed, __ATOMIC_ACQUIRE);
+}
+
+/* Who sleeps over the context's events, or polls by itself, is told that there is something to do. */
+static inline void wake(struct libusb_context *context)
+{
+    if (context->is_asleep || context->is_polled)
+        ring(context);
+}
+
+/* Those who wait by libusb_wait_for_event. The lock is let go meanwhile, and the context stays. */
+static inline void tell_waiters(struct libusb_context *context)
+{
+    if (__atomic_load_n(&context->lockers, __ATOMIC_ACQUIRE))
+        tell_lockers(context);
+}
+
+/* What devices, controller and events have to do, until nothing is left. */
+static inline void work_off(void)
+{
+    process.bus.rounds++;
+    if (turn_only_one())
+        work_on();
+}
+
+/* Nobody handles events any more. */
+static inline void step_down(struct libusb_context *context)
+{
+    context->is_handled = false;
+    if (context->waiting)
+        pthread_cond_broadcast(&context->moved);
+    tell_waiters(context);
+}
+
+/* With a seed: before each call a few single steps, by dice, so that races come out; for the same number the same. */
+static inline void shake(void)
+{
+    if (process.bus.seed)
+        shake_by_dice();
+}
+
+static inline uint64_t deadline_of(unsigned milliseconds)
+{
+    return milliseconds ? now() + (uint64_t)milliseconds * 1000000u : 0;
+}
+
+/* An interface that is used before it was claimed is claimed, as Linux has it: the handle holds it until it is closed, or claims it itself
+ * and releases it. */
+static inline int claim_in_passing(struct libusb_device_handle *handle, int interface)
+{
+    return handle->claimed >> interface & 1 ? 0 : claim_unasked(handle, interface);
+}
+
+static inline void join(struct transfers *queue, struct transfer *transfer)
+{
+    transfer->behind = NULL;
+    if (queue->last)
+        queue->last->behind = transfer;
+    else
+        queue->first = transfer;
+    queue->last = transfer;
+}
+
+static inline void leave(struct transfers *queue, struct transfer *transfer)
+{
+    if (queue->first != transfer) {
+        leave_amid(queue, transfer);
+        return;
+    }
+    queue->first = transfer->behind;
+    if (!queue->first)
+        queue->last = NULL;
+}
+
+static inline int left_of(struct transfer *transfer)
+{
+    return seen(transfer)->length - transfer->moved;
+}
+
+static inline bool may_go(const struct pipe *pipe, struct transfer *transfer)
+{
+    if (pipe->cut && pipe->cut != transfer)
+        return false;
+    return !pipe->in_core || (pipe->in_core < PLACES && left_of(transfer) <= pipe->most);
+}
+
+static inline int submit_at_endpoint(struct transfer *transfer)
+{
+    if (!transfer->pipe->queue.first && may_go(transfer->pipe, transfer)) {
+        int r = submit_piece(transfer);
+        if (r != LIBUSB_ERROR_BUSY)
+            return r;
+    }
+    queue_up(transfer);
+    return 0;
+}
+
+/* Whether a device's answers are looked at one by one. */
+static inline bool is_watched(const struct device *device)
+{
+    return device->gate_count || device->leaves || process.bus.trace;
+}
+
+static inline int name_of(const struct pipe *pipe)
+{
+    return pipe->device->interfaces[pipe->interface].name;
+}
+
+/* Where the bytes of a piece go that a transfer has in the core; NULL where it reads none, or was dropped. */
+static inline uint8_t *place_for(struct transfer *transfer)
+{
+    if (!transfer || !is_in(transfer->pipe->ep) || transfer->is_dropped || !transfer->piece)
+        return NULL;
+    return seen(transfer)->buffer + transfer->moved;
+}
+
+/* A transfer's next piece, of so many bytes. That its time is over is told by an expiry, so any timeout but 0 will do. */
+static inline int core_submit(struct transfer *transfer, int length, uint8_t flags)
+{
+    const struct pipe *pipe = transfer->pipe;
+    bool writes = !is_in(pipe->ep);
+    uint8_t none[1] = { 0 };
+    const uint8_t *bytes = writes && length ? seen(transfer)->buffer + transfer->moved : none;
+    struct tirnouch_told told;
+    int answer = tirnouch_submit(&process.bus.core, (uint8_t)name_of(pipe), pipe->ep, pipe->kind, flags, transfer->deadline ? 1 : 0,
+                                 (uint32_t)length, bytes, writes ? (size_t)length : 0, (uint64_t)(uintptr_t)transfer, &told);
+    if (!answer)
+        transfer->number = told.n;
+    if (process.bus.trace)
+        trace_submission(transfer, length, flags, answer);
+    return answer;
+}
+
+/* In one call, which no trace has: a device answers packets at an endpoint, what is to be done behind them is done, and the oldest
+ * result goes out; whether there was one. The first of the endpoint's line is expected: its bytes go into its buffer at once. */
+static inline bool core_turn(const struct pipe *pipe, struct tirnouch_told *told)
+{
+    struct transfer *expected = pipe->line.first;
+    uint8_t none[1] = { 0 }, *to = place_for(expected);
+    int answer = tirnouch_turn(&process.bus.core, (uint8_t)pipe->device->number, pipe->ep, ALL, ALL, (uint64_t)(uintptr_t)expected,
+                               to ? to : none, to ? (size_t)expected->piece : 0, told);
+    if (answer == 2)
+        core_fetch(told);
+    return answer > 0;
+}
+
+#endif
