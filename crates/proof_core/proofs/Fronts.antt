@@ -1,5 +1,5 @@
 -- The item where the controller works.
-use Rattle.std.proofs.Common.{◌≡◌, ℕ, ◌+◌, ◌-◌, ◌<◌, ◌≤◌, refl, ap, sym, subst, ◌∙◌, arith, length, Option, Some, None, false}
+use Rattle.std.proofs.Common.{List, ◌≡◌, ℕ, ◌+◌, ◌-◌, ◌<◌, ◌≤◌, refl, ap, sym, subst, ◌∙◌, arith, length, Option, Some, None, false}
 use Rattle.std.specs.Prelude.{slice_get, vec_capacity, vec_len, IfSome, is_some, if◌then◌else◌}
 use Rattle.std.proofs.lemmas.Option.{same_Some}
 use Rattle.usb_model.specs.declared.endpoint.EndpointState.{EndpointState}
@@ -23,6 +23,7 @@ use Rattle.usb_xhc.specs.Context.{Context}
 use Rattle.usb_xhc.specs.Transaction.{is_running, offset_by, packet_room, trb_at, working}
 use Rattle.usb_xhc.specs.Controller.{Controller}
 use Rattle.usb_xhc.specs.Slots.{DeviceSlot, context_of}
+use Rattle.usb_tables.specs.Flights.{item_at}
 use Rattle.proof_core.specs.Packets.{CanServe}
 use Rattle.proof_controller.specs.EndpointLaws.{ServedAs, ServesAs, served_here}
 use Rattle.proof_controller.proofs.Serves as match
@@ -119,20 +120,14 @@ module _ {P : Type 0} where
       let works = works_at setup w s c h d e x first at shows there work in
       subst (λ (i : ℕ). IsAtWork setup s c h d e i x first) (sym (same_Some item works.0 (front.found x first works.0 works.1 there work works.2))) works.3
 
-  -- so one packet of it can be served
-  pub can_serve : (setup : Setup) (w : World) (s : State P) (c : Core) (h d e item : ℕ) (x : Context) (first : TrbAt) → IsAt setup s c h d e → Shows setup w c → working x ≡ Some first → IsAtWork setup s c h d e item x first
-      → length s.controller.events.waits < 4095 → CanServeItem s d e item
-  can_serve setup w s c h d e item x first at shows work is room = record {
-    live = ap is_some is.is.found;
-    bytes = subst (λ (o : Option (InFlight P)). IfSome o (λ t. CanServe s.controller d e t.request.body t)) (sym is.is.found) (by_body t.request.body refl);
-    room = room;
-  }
+  -- what holds of a read, by how far it was read, and of a write, by its bytes, holds of an item at work
+  pub by_bytes : (setup : Setup) (w : World) (s : State P) (c : Core) (h d e item : ℕ) (x : Context) (first : TrbAt) → IsAt setup s c h d e → Shows setup w c → working x ≡ Some first → (is : IsAtWork setup s c h d e item x first) (F : Body → InFlight P → Type 0)
+      → ((n : ℕ) → length_of is.y.request.body ≡ n → room_of is.y.request.body ≡ n → vec_len is.is.t.bytes ≡ length is.y.bytes → length is.y.bytes ≤ sent_before (c.endpoints d e) is.y → F (In n) is.is.t)
+      → ((bytes : List ℕ) → length_of is.y.request.body ≡ length bytes → F (Out bytes) is.is.t) → IfSome (item_at s.flights d e item) (λ t. F t.request.body t)
+  by_bytes setup w s c h d e item x first at shows work is F read written = subst (λ (o : Option (InFlight P)). IfSome o (λ t. F t.request.body t)) (sym is.is.found) (by_body t.request.body refl)
     where
       t : InFlight P
       t = is.is.t
-
-      b : KeptEndpoint
-      b = c.endpoints d e
 
       same : t.request ≡ is.y.request
       same = is.is.same.asks_for
@@ -140,22 +135,35 @@ module _ {P : Type 0} where
       holds : holder setup w.claims d e ≡ Some h
       holds = ap (λ (f : Claims). holder setup f d e) (sym shows.claims) ∙ at.holds
 
-      few : length is.y.bytes ≤ sent_before b is.y
+      few : length is.y.bytes ≤ sent_before (c.endpoints d e) is.y
       few = reads_so_far setup w c shows at.keeps.fine h d e holds (sym is.ring.context.runs ∙ working_runs x first work) is.y is.found
 
-      by_body : (body : Body) → t.request.body ≡ body → CanServe s.controller d e body t
+      by_body : (body : Body) → t.request.body ≡ body → F body t
       by_body (In n) in_ =
           let here : is.y.request.body ≡ In n = ap (λ (r : Request). r.body) (sym same) ∙ in_ in
-          let long : length_of is.y.request.body ≡ n = ap length_of here in
-          let room_is : room_of is.y.request.body ≡ n = ap room_of here in
-          let so_far : vec_len t.bytes ≡ length is.y.bytes = t.bytes.ok.0 ∙ ap length is.is.same.read in
-          has_here s.controller d e (λ v z f. vec_len t.bytes + packet_room z ≤ vec_capacity t.bytes) is.slot x first is.there is.context work (omega (arith, few, is.room, is.is.same.room, long, room_is, so_far))
-      by_body (Out bytes) out =
-          let here : is.y.request.body ≡ Out bytes = ap (λ (r : Request). r.body) (sym same) ∙ out in
-          let long : length_of is.y.request.body ≡ length bytes = ap length_of here in (
-            has_here s.controller d e (λ v z f. z.size ≤ (pipe_at v.pipes e).size) is.slot x first is.there is.context work is.ring.fits,
-            has_here s.controller d e (λ v z f. offset_by f.trb z.within + packet_room z ≤ length bytes) is.slot x first is.there is.context work (omega (arith, is.reaches, long)),
-          )
+          read n (ap length_of here) (ap room_of here) (t.bytes.ok.0 ∙ ap length is.is.same.read) few
+      by_body (Out bytes) out = written bytes (ap length_of (ap (λ (r : Request). r.body) (sym same) ∙ out))
+
+  -- so one packet of it can be served
+  pub can_serve : (setup : Setup) (w : World) (s : State P) (c : Core) (h d e item : ℕ) (x : Context) (first : TrbAt) → IsAt setup s c h d e → Shows setup w c → working x ≡ Some first → IsAtWork setup s c h d e item x first
+      → length s.controller.events.waits < 4095 → CanServeItem s d e item
+  can_serve setup w s c h d e item x first at shows work is room = record {
+    live = ap is_some is.is.found;
+    bytes = by_bytes setup w s c h d e item x first at shows work is (CanServe s.controller d e) read written;
+    room = room;
+  }
+    where
+      t : InFlight P
+      t = is.is.t
+
+      read : (n : ℕ) → length_of is.y.request.body ≡ n → room_of is.y.request.body ≡ n → vec_len t.bytes ≡ length is.y.bytes → length is.y.bytes ≤ sent_before (c.endpoints d e) is.y → CanServe s.controller d e (In n) t
+      read n long room_is so_far few = has_here s.controller d e (λ v z f. vec_len t.bytes + packet_room z ≤ vec_capacity t.bytes) is.slot x first is.there is.context work (omega (arith, few, is.room, is.is.same.room, long, room_is, so_far))
+
+      written : (bytes : List ℕ) → length_of is.y.request.body ≡ length bytes → CanServe s.controller d e (Out bytes) t
+      written bytes long = (
+        has_here s.controller d e (λ v z f. z.size ≤ (pipe_at v.pipes e).size) is.slot x first is.there is.context work is.ring.fits,
+        has_here s.controller d e (λ v z f. offset_by f.trb z.within + packet_room z ≤ length bytes) is.slot x first is.there is.context work (omega (arith, is.reaches, long)),
+      )
 
   -- of the item where the controller works one packet can be served
   pub serves_safely : (setup : Setup) (w : World) (s : State P) (c : Core) (h d e item : ℕ) (x : Context) (first : TrbAt) → IsAt setup s c h d e → Shows setup w c → context_in s.controller d e ≡ Some x → working x ≡ Some first

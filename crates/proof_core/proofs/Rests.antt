@@ -1,13 +1,11 @@
 -- There is room for the rest of the transfer where the controller works, or its TRB's bytes are there.
 use Rattle.std.proofs.Common.{◌≡◌, ℕ, ◌+◌, ◌-◌, ◌%◌, ◌<◌, ◌≤◌, refl, ap, sym, subst, ◌∙◌, arith, List, [], ◌∷◌, length, drop, take, Option, Some, None, Bool, true, false, inl, inr, ◌⊎◌, if◌then◌else◌}
-use Rattle.std.specs.Prelude.{IfSome, is_some, option_map, slice_get, vec_capacity, vec_len}
+use Rattle.std.specs.Prelude.{is_some, option_map, slice_get, vec_capacity, vec_len}
 use Rattle.std.proofs.lemmas.Bool.{cases_lt}
-use Rattle.usb_model.specs.declared.request.Body.{Body}
 use Rattle.usb_model.specs.declared.request.Body.TheVariants.{In, Out}
-use Rattle.usb_model.specs.declared.request.Request.{Request}
 use Rattle.usb_model.specs.Requests.{length_of}
 use Rattle.usb_model.specs.Setup.{Setup}
-use Rattle.usb_model.specs.World.{Claims, World, holder}
+use Rattle.usb_model.specs.World.{World}
 use Rattle.usb_trb.specs.declared.kind.Normal.{Normal as NormalTrb}
 use Rattle.usb_design.specs.Stands.{total}
 use Rattle.usb_design.specs.Kept.{KeptEndpoint, KeptTransfer}
@@ -22,7 +20,6 @@ use Rattle.usb_xhc.specs.Ahead.{lengths, room}
 use Rattle.usb_xhc.specs.Context.{Context, trbs}
 use Rattle.usb_xhc.specs.Transaction.{is_running, offset_by, trb_at, working}
 use Rattle.proof_design.specs.Shows.{Core, Shows}
-use Rattle.proof_design.proofs.RunningEndpoints.{reads_so_far}
 use Rattle.proof_controller.specs.Endpoint.{IsContext}
 use Rattle.proof_controller.proofs.Fronts as front
 use Rattle.proof_controller.proofs.Reaches.{offset_is}
@@ -30,7 +27,7 @@ use Rattle.proof_core.specs.Laws.{SkimsSafely}
 use Rattle.proof_core.specs.Packets.{CanSkim}
 use Rattle.proof_core.specs.State.{State}
 use Rattle.proof_core.specs.Works.{CanSkimItem, IsAt}
-use Rattle.proof_core.proofs.Fronts.{IsAtWork, at_work, has_here, working_runs}
+use Rattle.proof_core.proofs.Fronts.{IsAtWork, at_work, by_bytes, has_here}
 use Rattle.proof_core.proofs.Held.{is_at}
 
 -- where the controller works there is a TRB
@@ -102,10 +99,7 @@ has_rest c b y t is f h first = by_size (cases_lt before 262144)
 module _ {P : Type 0} where
   -- of an item at work
   can_skim : (setup : Setup) (w : World) (s : State P) (c : Core) (h d e item : ℕ) (x : Context) (first : TrbAt) → IsAt setup s c h d e → Shows setup w c → working x ≡ Some first → IsAtWork setup s c h d e item x first → CanSkimItem s d e item
-  can_skim setup w s c h d e item x first at shows work is = record {
-    live = ap is_some is.is.found;
-    bytes = subst (λ (o : Option (InFlight P)). IfSome o (λ t. CanSkim s.controller d e t.request.body t)) (sym is.is.found) (by_body t.request.body refl);
-  }
+  can_skim setup w s c h d e item x first at shows work is = record { live = ap is_some is.is.found; bytes = by_bytes setup w s c h d e item x first at shows work is (CanSkim s.controller d e) read written }
     where
       t : InFlight P
       t = is.is.t
@@ -113,31 +107,18 @@ module _ {P : Type 0} where
       b : KeptEndpoint
       b = c.endpoints d e
 
-      same : t.request ≡ is.y.request
-      same = is.is.same.asks_for
-
-      holds : holder setup w.claims d e ≡ Some h
-      holds = ap (λ (f : Claims). holder setup f d e) (sym shows.claims) ∙ at.holds
-
-      few : length is.y.bytes ≤ sent_before b is.y
-      few = reads_so_far setup w c shows at.keeps.fine h d e holds (sym is.ring.context.runs ∙ working_runs x first work) is.y is.found
-
       left : HasRest x b is.y first.trb
       left = has_rest x b is.y first.trb is.ring.context (front.at_front x b is.y is.ring.context is.found is.live) is.found (first_trb x first work)
 
-      by_body : (body : Body) → t.request.body ≡ body → CanSkim s.controller d e body t
-      by_body (In n) in_ =
-          let here : is.y.request.body ≡ In n = ap (λ (r : Request). r.body) (sym same) ∙ in_ in
-          let long : length_of is.y.request.body ≡ n = ap length_of here in
-          let room_is : room_of is.y.request.body ≡ n = ap room_of here in
-          let so_far : vec_len t.bytes ≡ length is.y.bytes = t.bytes.ok.0 ∙ ap length is.is.same.read in
+      read : (n : ℕ) → length_of is.y.request.body ≡ n → room_of is.y.request.body ≡ n → vec_len t.bytes ≡ length is.y.bytes → length is.y.bytes ≤ sent_before b is.y → CanSkim s.controller d e (In n) t
+      read n long room_is so_far few =
           has_here s.controller d e (λ v z f. vec_len t.bytes + room (trbs z) z.within ≤ vec_capacity t.bytes) is.slot x first is.there is.context work (omega (arith, few, left.room, is.is.same.room, long, room_is, so_far))
-      by_body (Out bytes) out =
-          let here : is.y.request.body ≡ Out bytes = ap (λ (r : Request). r.body) (sym same) ∙ out in
-          let long : length_of is.y.request.body ≡ length bytes = ap length_of here in (
-            has_here s.controller d e (λ v z f. z.size ≤ (pipe_at v.pipes e).size) is.slot x first is.there is.context work is.ring.fits,
-            has_here s.controller d e (λ v z f. offset_by f.trb z.within + (f.trb.length - z.within) ≤ length bytes) is.slot x first is.there is.context work (omega (arith, left.reaches, long)),
-          )
+
+      written : (bytes : List ℕ) → length_of is.y.request.body ≡ length bytes → CanSkim s.controller d e (Out bytes) t
+      written bytes long = (
+        has_here s.controller d e (λ v z f. z.size ≤ (pipe_at v.pipes e).size) is.slot x first is.there is.context work is.ring.fits,
+        has_here s.controller d e (λ v z f. offset_by f.trb z.within + (f.trb.length - z.within) ≤ length bytes) is.slot x first is.there is.context work (omega (arith, left.reaches, long)),
+      )
 
 -- of the item where the controller works
 pub skims_safely : {P : Type 0} → SkimsSafely P

@@ -1,6 +1,6 @@
 -- Behind a packet that moved, its transfer is still the one where the controller works.
 use Rattle.std.proofs.Common.{◌≡◌, ℕ, zero, suc, ◌+◌, ◌-◌, ◌<◌, ◌≤◌, refl, ap, ap₂, sym, subst, ◌∙◌, arith, List, [], ◌∷◌, ◌++◌, length, drop, Option, Some, None, Bool, true, false, if◌then◌else◌}
-use Rattle.std.specs.Prelude.{nat_lt, slice_get, slice_set}
+use Rattle.std.specs.Prelude.{slice_get, slice_set}
 use Rattle.std.proofs.lemmas.List.{length-drop}
 use Rattle.std.proofs.lemmas.Option.{same_Some}
 use Rattle.usb_model.specs.declared.endpoint.EndpointState.{EndpointState}
@@ -11,11 +11,11 @@ use Rattle.usb_model.specs.World.{World}
 use Rattle.usb_design.specs.Kept.{InRow, KeptEndpoint, KeptTransfer}
 use Rattle.usb_design.specs.Events.{covers, find_at}
 use Rattle.usb_design.specs.Packets.{Answered, Packet, answer_now, answered_by, answered_gone, got, packet_now, put_at, serve_at, serve_kept, walk}
-use Rattle.usb_design.specs.Stands.{one_on, stand}
 use Rattle.usb_xhc.specs.declared.trb_at.TrbAt.{TrbAt}
 use Rattle.usb_xhc.specs.Context.{Context}
 use Rattle.usb_xhc.specs.Transaction.{working}
 use Rattle.proof_design.specs.Shows.{Core, Shows}
+use Rattle.proof_design.proofs.Places.{stand_behind}
 use Rattle.proof_controller.specs.Endpoint.{IsContext}
 use Rattle.proof_controller.proofs.Fronts as front
 use Rattle.proof_controller.proofs.Goes.{found_within}
@@ -37,19 +37,6 @@ pub record IsNext (b : KeptEndpoint) (p item : ℕ) : Type 0 where
   pub in_line : slice_get b.line item ≡ Some z
   pub low : z.place ≤ b.dequeue
   pub high : b.dequeue < z.place + length z.lengths
-
--- a stand is at a TRB
-stand_inside : (l : ℕ) (ls : List ℕ) (c : ℕ) → (stand (l ∷ ls) c).index < suc (length ls)
-stand_inside l [] c = omega arith
-stand_inside l (m ∷ ls) c = by_test (nat_lt c l) (stand_inside m ls (c - l))
-  where
-    by_test : (b : Bool) → (stand (m ∷ ls) (c - l)).index < suc (length ls) → (if b then record { index = 0; within = c } else one_on (stand (m ∷ ls) (c - l))).index < suc (suc (length ls))
-    by_test true later = omega arith
-    by_test false later = omega (arith, later)
-
-stand_within : (ls : List ℕ) (c : ℕ) → 0 < length ls → (stand ls c).index < length ls
-stand_within [] c some = absurd (omega (arith, some))
-stand_within (l ∷ ls) c some = stand_inside l ls c
 
 -- what was put is found
 find_put : (ys : List KeptTransfer) (p : ℕ) (y z : KeptTransfer) → find_at p ys ≡ Some y → covers p z ≡ covers p y → find_at p (put_at p z ys) ≡ Some z
@@ -94,7 +81,7 @@ moved_next size n bytes false x b y item is runs found there live reply =
     ls = drop (b.dequeue - y.place) y.lengths
 
     inside : (walk b y k.bytes).index < length ls
-    inside = stand_within ls (b.within + k.bytes) (omega (arith, length-drop (b.dequeue - y.place) y.lengths, f.found.low, f.found.high))
+    inside = omega (arith, stand_behind 0 ls (b.within + k.bytes) (omega (arith, length-drop (b.dequeue - y.place) y.lengths, f.found.low, f.found.high)))
 
     goes : serve_kept size false b ≡ answered_by b y k None → IsNext (serve_kept size false b).endpoint b.dequeue item
     goes same =

@@ -1,8 +1,7 @@
 -- A result that goes out, and whose callback ends.
 use Rattle.std.proofs.Common.{◌≡◌, ◌∷◌, ℕ, ℤ, pos, ◌==◌, Bool, true, false, List, Option, Some, None, is_some, refl, sym, ap, ◌∙◌}
 use Rattle.std.proofs.lemmas.Bool.{eqb-false, eqb-true}
-use Rattle.usb_core.specs.Bursts.{TakesAndStops}
-use Rattle.usb_core.specs.Public.{Carries, CarriesOut, Kept, State, Taken}
+use Rattle.usb_core.specs.Public.{Carries, CarriesOut, Kept, State, Taken, TakesAndStops}
 use Rattle.usb_model.specs.World.{world_from}
 use Rattle.usb_model.specs.World.Journal.{journal_from}
 use Rattle.tirnouch_c.specs.declared.session.Session.{Session}

@@ -152,7 +152,7 @@ fn submit_in(
         buffer,
     );
     match request {
-        Ok(Some(request)) => submission::submit(session, name, request, payload, told),
+        Ok(Some(request)) => submission::submit(alloc, session, name, request, payload, told),
         Ok(None) => INVALID,
         Err(_) => submission::refuse(name, told),
     }

@@ -48,6 +48,7 @@ mod requests;
 mod results;
 mod session;
 mod settling;
+mod spares;
 mod submission;
 mod told;
 mod turn;

@@ -5,7 +5,9 @@ ghost use Rattle.tirnouch_c.specs.Buffers.{answer_of, filled, taken_count};
 ghost use Rattle.tirnouch_c.specs.Results.{Fetches, Takes, TakesFor};
 
 use crate::session::Session;
+use crate::spares::Spares;
 use crate::told::Told;
+use usb_model::Bytes;
 
 /// A count as an answer, as far as it fits.
 pub fn answer_of(count: usize) -> i32
@@ -45,16 +47,24 @@ pub fn take(session: &mut Session, told: &mut Told) -> i32
     }
 }
 
+/// Puts bytes into a buffer, as far as there is room, and keeps their memory for transfers to come; how many they were.
+fn hand_over(spares: &mut Spares, bytes: Bytes, buffer: &mut [u8]) -> usize
+    ensures count { result ≡ taken_count bytes buffer.old }
+    ensures filled { buffer.new ≡ filled bytes buffer.old }
+{
+    let count = fill(buffer, bytes.as_slice());
+    spares.keep(bytes.into_vec());
+    count
+}
+
 /// The bytes of the result that went out last, as far as there is room, just once; how many they were.
 pub fn fetch(session: &mut Session, buffer: &mut [u8]) -> i32
     ensures { Fetches result buffer.old buffer.new session.old session.new }
 {
-    let count = match &session.out {
-        Some(taken) => fill(buffer, taken.returned.bytes.as_slice()),
+    match session.out.take() {
+        Some(taken) => answer_of(hand_over(&mut session.spares, taken.returned.bytes, buffer)),
         None => 0,
-    };
-    session.out = None;
-    answer_of(count)
+    }
 }
 
 /// `take`, and `fetch` where what is kept with the result is `want`: 1; 2 where it is another, whose bytes are still to be fetched;
@@ -62,12 +72,16 @@ pub fn fetch(session: &mut Session, buffer: &mut [u8]) -> i32
 pub fn take_for(session: &mut Session, want: u64, buffer: &mut [u8], told: &mut Told) -> i32
     ensures { TakesFor want result told.new buffer.old buffer.new session.old session.new }
 {
-    if take(session, told) == 0 {
+    let Some(taken) = session.core.take_done() else {
+        *told = Told::nothing();
         return 0;
-    }
-    if told.payload != want {
+    };
+    *told = Told::taken(&taken);
+    if taken.payload != want {
+        session.out = Some(taken);
         return 2;
     }
-    let _ = fetch(session, buffer);
+    session.out = None;
+    let _ = hand_over(&mut session.spares, taken.returned.bytes, buffer);
     1
 }

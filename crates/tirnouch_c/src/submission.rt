@@ -7,6 +7,7 @@ ghost use Rattle.tirnouch_c.specs.Told.{code_of, told_of};
 ghost use Rattle.tirnouch_c.specs.Submission.{Submits, body_by, kind_by, request_by};
 
 use crate::session::Session;
+use crate::spares::Spares;
 use crate::told::{Told, code_of};
 use bitflags::Flags as _;
 use std::alloc::{AllocError, Global};
@@ -75,8 +76,17 @@ pub fn answer(h: Name, reply: Reply, told: &mut Told) -> i32
     code_of(&entry.reply)
 }
 
+/// Memory for what is to be read, of bytes that were fetched; no memory where there is none that fits.
+fn spare_for(alloc: Global, spares: &mut Spares, body: &Body) -> Vec<u8> {
+    match body {
+        Body::In(room) => spares.take(alloc, *room as usize),
+        Body::Out(_) => Vec::new(alloc),
+    }
+}
+
 /// Submits a transfer, with which this is kept; its answer is libusb's number of a refusal, else 0, and its number is told.
 pub fn submit(
+    alloc: Global,
     session: &mut Session,
     h: Name,
     request: Request,
@@ -85,7 +95,8 @@ pub fn submit(
 ) -> i32
     ensures { Submits h request payload result told.new session.old session.new }
 {
-    let reply = match session.core.submit(h, request, payload) {
+    let mut spare = spare_for(alloc, &mut session.spares, &request.body);
+    let reply = match session.core.submit_reusing(h, request, payload, &mut spare) {
         Ok(n) => Reply::Number(n),
         Err(Unaccepted { why, .. }) => Reply::Refused(why),
     };

@@ -5,7 +5,7 @@ pub use Rattle.proof_core.specs.Made.{setup_of}
 -- what a core keeps, and the world that it shows
 pub use Rattle.proof_core.specs.State.{State, ShowsWorld, result_of}
 -- a call is a turn of the world; one that ends a callback, or is refused
-pub use Rattle.proof_core.specs.Steps.{TurnsWorld}
+pub use Rattle.proof_core.specs.Steps.{TurnsInRow, TurnsWorld}
 pub use Rattle.proof_core.specs.Calls.{Stays, called_entry}
 pub use Rattle.usb_steps.specs.declared.submission.Unaccepted.{Unaccepted}
 -- the steps that take memory
@@ -16,7 +16,13 @@ pub use Rattle.usb_steps.specs.Results.{CarriesOut}
 pub use Rattle.usb_steps.specs.declared.results.Taken.{Taken}
 -- what is to be done next
 pub use Rattle.usb_steps.specs.declared.pending.Pending.{Pending}
-pub use Rattle.usb_steps.specs.Pending.{IsPending, does_something}
+pub use Rattle.usb_steps.specs.Pending.{IsPending, does_something, serves}
+-- packets in a row, told by a count
+pub use Rattle.usb_steps.specs.declared.bursts.Burst.{Burst}
+pub use Rattle.usb_steps.specs.declared.bursts.Whole.{Whole}
+pub use Rattle.usb_steps.specs.Bursts.{Differs, burst_entries, whole_entries}
+-- a result goes out to its callback, which ends
+pub use Rattle.usb_core.specs.Bursts.{TakesAndStops}
 -- what handles haven't finished, part by part
 pub use Rattle.usb_core.specs.declared.inventory.WaitingResult.{WaitingResult}
 pub use Rattle.usb_core.specs.Inventory.{waiting_result, number_in, halted}

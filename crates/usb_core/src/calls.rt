@@ -25,10 +25,10 @@ use usb_steps::{Parts, Setup, Taken, Unaccepted};
 /// (`TurnsWorld`). What a caller keeps with a transfer, its payload, stays with it: whatever is kept under names and numbers
 /// (`Carries`) is what goes out with the transfer of that name and number.
 ///
-/// Only `new`, `submit`, `again`, `again_with` and `take` take memory.
+/// Only `new`, `submit`, `submit_reusing`, `again`, `again_with` and `take` take memory.
 ///
-/// The five calls on a transfer's way, `submit`, `serve`, `deliver`, `take` and `stop`, are inlined where they are called, so
-/// that what they tell isn't copied once more.
+/// The calls on a transfer's way, `submit`, `submit_reusing`, `serve`, `deliver`, `take` and `stop`, are inlined where they are
+/// called, so that what they tell isn't copied once more.
 #[derive(Drop)]
 pub struct Core<P, D: Device> {
     pub(crate) parts: Parts<P, D>,
@@ -85,7 +85,30 @@ impl<P, D: Device> Core<P, D> {
         ensures carries { IfOk result (λ n. CarriesMore h n payload self.old self.new) }
         ensures still { OnErr result (StillCarries self.old self.new) }
     {
-        self.parts.submit(h, request, payload)
+        let mut none = self.parts.no_spare();
+        self.submit_reusing(h, request, payload, &mut none)
+    }
+
+    /// Submits a transfer whose bytes that are read go into the memory of `spare`, where that has room for just these, as the
+    /// bytes of a transfer before have that was as long: then no memory is taken for them, and `spare` is left without. Else it
+    /// stays, and memory of its own is taken. All else is as of `submit`.
+    #[inline(always)]
+    pub fn submit_reusing(
+        &mut self,
+        h: Name,
+        request: Request,
+        payload: P,
+        spare: &mut Vec<u8>,
+    ) -> Result<u64, Unaccepted<Request, P>>
+        ensures accepted { IfOk result (λ n. TurnsWorld self.old (Submit h request) (record { owner = Some h; reply = Number n }) self.new) }
+        ensures given { IfErr result (λ x. x.given ≡ request) }
+        ensures back { IfErr result (λ x. x.payload ≡ payload) }
+        ensures refused { IfErr result (λ x. (x.why ≡ NoMem → ⊥) → TurnsWorld self.old (Submit h request) (record { owner = Some h; reply = IsRefused x.why }) self.new) }
+        ensures kept { OnErr result (Stays self.old self.new) }
+        ensures carries { IfOk result (λ n. CarriesMore h n payload self.old self.new) }
+        ensures still { OnErr result (StillCarries self.old self.new) }
+    {
+        self.parts.submit(h, request, payload, spare)
     }
 
     /// Asks a transfer to end whose time is over (libusb 1.0, `libusb_transfer`, `timeout`). NotFound as for `cancel`,

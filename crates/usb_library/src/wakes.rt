@@ -8,7 +8,7 @@ use crate::caller::Caller;
 use crate::library::Library;
 use crossbeam_utils::sync::Unparker;
 use std::alloc::{AllocError, Global};
-use std::sync::atomic::{AtomicBool, Ordering};
+use std::sync::atomic::{AtomicBool, AtomicU64, Ordering};
 use std::sync::{Mutex, Wait};
 use usb_core::Pending;
 use usb_device::Device;
@@ -64,6 +64,8 @@ pub(crate) fn of_event(reply: &Reply, has_order: bool) -> Work
 struct Waiting {
     any: AtomicBool,
     unparkers: Mutex<Vec<Unparker>>,
+    /// How often they were woken, over and over again from 0 on. It goes up behind the unparking: who sees it go up has its token.
+    wakes: AtomicU64,
 }
 
 impl Waiting {
@@ -72,6 +74,7 @@ impl Waiting {
         Waiting {
             any: AtomicBool::new(false),
             unparkers: Mutex::new(Vec::new(alloc)),
+            wakes: AtomicU64::new(0),
         }
     }
 
@@ -97,6 +100,7 @@ impl Waiting {
         for unparker in unparkers.iter() {
             unparker.unpark();
         }
+        self.wakes.fetch_add(1, Ordering::SeqCst);
     }
 }
 
@@ -205,6 +209,11 @@ impl<L: Naming, P: Drop, D: Device, J: Recorder> Library<L, P, D, J> {
         unparker: Unparker,
     ) -> Result<(), AllocError> {
         self.watchers.of(part).add(rt, unparker)
+    }
+
+    /// How often the workers of a part were woken: where it isn't what it was, they have a token. No lock is taken.
+    pub fn wakes(&self, part: Part) -> u64 {
+        self.watchers.of(part).wakes.load(Ordering::SeqCst)
     }
 
     /// Asks the workers to end as soon as there is nothing to do.

@@ -31,13 +31,15 @@
 //! - `Parts::serve`: a packet of the transfer where the controller works does as Serve does; nothing is asked at run
 //!   time: room for it, or its bytes, are there
 //! - `Parts::serve_burst`: packets in a row, at most so many and at least one, each of which does as Serve does
-//!   (`DoesCoreSteps`, of as many Serves): all but the last have one entry, of bytes that moved of one transfer
+//!   (`DoesCoreSteps`, of as many Serves): all but the last have one entry, of bytes that moved of one transfer. They are
+//!   fewer than so many only where the last did something else than those before it (`Differs`)
 //! - `Parts::command`: the oldest order of the ring, whatever it is, is carried out as Command does: whose it was is
 //!   found by slot and endpoint id
 //! - `Parts::cancel`, `Parts::expire`: the transfer is found, and asked, or refused, as Cancel and Expire do; Stop is
 //!   ordered where no errand is outstanding
 //! - `Parts::submit`: a submission is accepted or refused as Submit is; its TRBs have room in the ring; NoMem leaves
-//!   the core as it was, and whatever is refused gives request and payload back
+//!   the core as it was, and whatever is refused gives request and payload back. Memory that is given, and has room for
+//!   just the bytes that are read, may be used for them
 //! - `Parts::take`: the oldest result goes out as Take does, with the payload that its submission brought; want of
 //!   memory leaves the core as it was
 //! - `Parts::take_done`: the oldest result goes out as Take does, and its callback ends as an Answer with Stop does: two

@@ -1,6 +1,6 @@
 //! A transfer is submitted (libusb 1.0, `libusb_submit_transfer`).
 
-ghost use Rattle.std.specs.Prelude.{◌≡◌, ◌<◌, ℕ, false, slice_get, IfErr, IfOk, OnErr, Some};
+ghost use Rattle.std.specs.Prelude.{◌≡◌, ◌<◌, ℕ, [], false, slice_get, IfErr, IfOk, OnErr, Some};
 ghost use Rattle.std.specs.Option.{option_map_or};
 ghost use Rattle.usb_model.specs.declared.refused.Refused.TheVariants.{NoMem};
 ghost use Rattle.usb_model.specs.declared.reply.Reply.TheVariants.{Number, Refused as IsRefused};
@@ -56,12 +56,14 @@ pub(crate) struct Place {
 impl<P, D: Device> Parts<P, D> {
     /// A transfer joins the line of its endpoint, under the number that is given. Refused where the endpoint isn't the
     /// name's, the device is gone, the kind is not supported or another's, direction or length is wrong, or no place or
-    /// number is left; NoMem, with nothing changed, where memory is refused. Request and payload then come back.
+    /// number is left; NoMem, with nothing changed, where memory is refused. Request and payload then come back. The
+    /// bytes that are read go into the memory of `spare` where that has room for just these, and it is left without.
     pub fn submit(
         &mut self,
         h: Name,
         request: Request,
         payload: P,
+        spare: &mut Vec<u8>,
     ) -> Result<u64, Unaccepted<Request, P>>
         requires { IsState self.old }
         ensures accepted { IfOk result (λ n. DoesCoreStep self.old (Submit h request) (record { owner = Some h; reply = Number n }) self.new) }
@@ -82,7 +84,7 @@ impl<P, D: Device> Parts<P, D> {
                 });
             }
         };
-        match self.start(h, place, request, 0, payload) {
+        match self.start_over(h, place, request, 0, payload, spare) {
             Ok(n) => Ok(n),
             Err(unmade) => Err(Unaccepted {
                 why: Refused::NoMem,
@@ -90,6 +92,13 @@ impl<P, D: Device> Parts<P, D> {
                 payload: unmade.payload,
             }),
         }
+    }
+
+    /// No memory for bytes, where a submission is to take its own.
+    pub fn no_spare(&self) -> Vec<u8>
+        ensures { result.items ≡ [] }
+    {
+        Vec::new(self.alloc)
     }
 
     /// Where a transfer is to join a line, or what it is refused for.
@@ -137,9 +146,29 @@ impl<P, D: Device> Parts<P, D> {
         ensures kept { OnErr result (self.new ≡ self.old) }
         ensures carries { IfOk result (λ n. CarriesMore h n payload self.old self.new) }
     {
+        self.start_over(h, place, request, round, payload, &mut self.no_spare())
+    }
+
+    /// The same over the memory of `spare`, where that has room for just the bytes that are read.
+    fn start_over(
+        &mut self,
+        h: Name,
+        place: Place,
+        request: Request,
+        round: u64,
+        payload: P,
+        spare: &mut Vec<u8>,
+    ) -> Result<u64, Unmade<P>>
+        requires { CanStart self.old h place.dev request place.tds }
+        ensures number { IfOk result (λ n. n ≡ number_of self.old.callers h) }
+        ensures started { IfOk result (λ _. Starts self.old self.new h place.dev request.ep request round) }
+        ensures back { IfErr result (λ u. u ≡ record { request = request; payload = payload }) }
+        ensures kept { OnErr result (self.new ≡ self.old) }
+        ensures carries { IfOk result (λ n. CarriesMore h n payload self.old self.new) }
+    {
         let (dev, ep) = (place.dev, request.ep);
         let n = self.callers.next_number(h);
-        let transfer = Transfer::new(self.alloc, h, n, request, round, payload)?;
+        let transfer = Transfer::new(self.alloc, h, n, request, round, payload, spare)?;
         let key = match self.flights.push(dev, ep, transfer) {
             Ok(key) => key,
             Err(

@@ -3,7 +3,8 @@
 ghost use Rattle.std.specs.Prelude.{◌≡◌, [], None, IfOk, IfErr, IsOk, vec_capacity};
 ghost use Rattle.usb_transfer.specs.Tds.{room_of};
 
-use std::alloc::Global;
+use std::alloc::{AllocError, Global};
+use std::mem;
 use usb_model::{Ask, Body, Name, Request};
 
 /// A transfer in flight, with its caller's payload.
@@ -37,8 +38,9 @@ pub struct Unmade<P> {
 }
 
 impl<P> Transfer<P> {
-    /// A transfer as it is accepted: not asked to end, no bytes moved, with room for those that it is to read. None is
-    /// taken for OUT. Unmade, with what was given, where memory is refused.
+    /// A transfer as it is accepted: not asked to end, no bytes moved, with room for those that it is to read: the memory of
+    /// `spare` where that has room for just these, which then is left without. None is taken for OUT. Unmade, with what was given,
+    /// where memory is refused.
     pub fn new(
         alloc: Global,
         name: Name,
@@ -46,6 +48,7 @@ impl<P> Transfer<P> {
         request: Request,
         round: u64,
         payload: P,
+        spare: &mut Vec<u8>,
     ) -> Result<Transfer<P>, Unmade<P>>
         ensures made { IfOk result (λ t. t ≡ record { n = n; round = round; request = request; bytes = t.bytes; payload = payload; moved = 0; ask = None; name = name }) }
         ensures empty { IfOk result (λ t. t.bytes.items ≡ []) }
@@ -53,11 +56,7 @@ impl<P> Transfer<P> {
         ensures succeeds { room_of request.body ≡ 0 → IsOk result }
         ensures back { IfErr result (λ u. u ≡ record { request = request; payload = payload }) }
     {
-        let room = match &request.body {
-            Body::In(length) => *length as usize,
-            Body::Out(_) => 0,
-        };
-        match Vec::with_capacity(alloc, room) {
+        match room_for(alloc, &request.body, spare) {
             Ok(bytes) => Ok(Transfer {
                 n,
                 round,
@@ -71,4 +70,21 @@ impl<P> Transfer<P> {
             Err(_) => Err(Unmade { request, payload }),
         }
     }
+}
+
+/// Room for the bytes that are to be read.
+fn room_for(alloc: Global, body: &Body, spare: &mut Vec<u8>) -> Result<Vec<u8>, AllocError>
+    ensures empty { IfOk result (λ bytes. bytes.items ≡ []) }
+    ensures room { IfOk result (λ bytes. vec_capacity bytes ≡ room_of body.now) }
+    ensures succeeds { room_of body.now ≡ 0 → IsOk result }
+{
+    let room = match body {
+        Body::In(length) => *length as usize,
+        Body::Out(_) => 0,
+    };
+    if spare.capacity() == room {
+        spare.clear();
+        return Ok(mem::replace(spare, Vec::new(alloc)));
+    }
+    Vec::with_capacity(alloc, room)
 }

@@ -65,7 +65,7 @@ fn turn<L: Naming, P: Drop, D: Device, J: Recorder, G: Gate, R: Wait>(
     gate: &mut G,
     caller: &mut Caller<L>,
     tries: &mut Tries,
-    parking: &Parking,
+    parking: &mut Parking,
     pending: &Pending,
 )
     ensures made { Controls L.setup pending.now caller.old caller.new }
@@ -74,7 +74,7 @@ fn turn<L: Naming, P: Drop, D: Device, J: Recorder, G: Gate, R: Wait>(
     serve(rt, library, gate, caller, tries, pending);
     command(rt, library, gate, caller, tries, pending);
     if pending.serve.is_none() && !pending.command {
-        parking.park(rt);
+        parking.park(rt, library);
     }
 }
 
@@ -96,7 +96,7 @@ pub fn controller_loop<L: Naming, P: Drop, D: Device, J: Recorder, G: Gate, R: W
 {
     let mut caller = caller;
     let mut tries = Tries::new();
-    let parking = Parking::new(rt, alloc, library, Part::Controller);
+    let mut parking = Parking::new(rt, alloc, library, Part::Controller);
     for _ in rt.forever() {
         let Some(pending) = library.work(rt, &mut caller) else {
             return caller;
@@ -107,7 +107,7 @@ pub fn controller_loop<L: Naming, P: Drop, D: Device, J: Recorder, G: Gate, R: W
             gate,
             &mut caller,
             &mut tries,
-            &parking,
+            &mut parking,
             &pending,
         );
         if tries.are_over(library) {

@@ -131,7 +131,7 @@ fn turn<L: Naming, C: Callback, D: Device, J: Recorder, G: Gate, R: Wait>(
     gate: &mut G,
     caller: &mut Caller<L>,
     tries: &mut Tries,
-    parking: &Parking,
+    parking: &mut Parking,
     events: &Events,
     taken: &mut Vec<Taken<C>>,
 )
@@ -143,7 +143,7 @@ fn turn<L: Naming, C: Callback, D: Device, J: Recorder, G: Gate, R: Wait>(
     deliver(rt, library, gate, caller, tries, events);
     take_and_call(rt, library, gate, caller, tries, events, taken);
     if events.is_none() {
-        parking.park(rt);
+        parking.park(rt, library);
     }
 }
 
@@ -167,7 +167,7 @@ pub fn event_loop<L: Naming, C: Callback, D: Device, J: Recorder, G: Gate, R: Wa
 {
     let mut caller = caller;
     let mut tries = Tries::new();
-    let parking = Parking::new(rt, alloc, library, Part::Events);
+    let mut parking = Parking::new(rt, alloc, library, Part::Events);
     let mut taken = Vec::new(alloc);
     for _ in rt.forever() {
         let Some(events) = library.events(rt, &mut caller) else {
@@ -179,7 +179,7 @@ pub fn event_loop<L: Naming, C: Callback, D: Device, J: Recorder, G: Gate, R: Wa
             gate,
             &mut caller,
             &mut tries,
-            &parking,
+            &mut parking,
             &events,
             &mut taken,
         );

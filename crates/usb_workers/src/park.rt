@@ -1,5 +1,6 @@
 //! How a worker waits.
 
+use crossbeam_utils::Backoff;
 use crossbeam_utils::sync::Parker;
 use std::alloc::Global;
 use std::sync::Wait;
@@ -7,11 +8,18 @@ use usb_device::Device;
 use usb_journal::{Naming, Recorder};
 use usb_library::{Library, Part};
 
+/// How often a worker looks whether it was woken before it sleeps, with pauses that double up to 64, and then yields: some
+/// microseconds, about what it takes to sleep and be woken.
+const LOOKS: u32 = 11;
+
 /// What a worker waits on while there is nothing to do. Where memory was refused for a parker it doesn't wait, and looks
 /// again and again.
 #[derive(Drop)]
 pub(crate) struct Parking {
+    part: Part,
     parker: Option<Parker>,
+    /// How often its part had been woken when it went on last.
+    wakes: u64,
 }
 
 impl Parking {
@@ -23,15 +31,39 @@ impl Parking {
         part: Part,
     ) -> Parking {
         Parking {
+            part,
             parker: watched(rt, alloc, library, part),
+            wakes: library.wakes(part),
         }
     }
 
     /// Waits for work since the last look; what came meanwhile lets it pass at once.
-    pub(crate) fn park<R: Wait>(&self, rt: &R) {
-        if let Some(parker) = &self.parker {
-            parker.park(rt);
+    pub(crate) fn park<L: Naming, P: Drop, D: Device, J: Recorder, R: Wait>(
+        &mut self,
+        rt: &R,
+        library: &Library<L, P, D, J>,
+    ) {
+        let Some(parker) = &self.parker else {
+            return;
+        };
+        watch_for_a_while(library, self.part, self.wakes);
+        parker.park(rt);
+        self.wakes = library.wakes(self.part);
+    }
+}
+
+/// Waits without sleeping until the part is woken once more than so often, but not for long: most often the next work comes soon.
+fn watch_for_a_while<L: Naming, P: Drop, D: Device, J: Recorder>(
+    library: &Library<L, P, D, J>,
+    part: Part,
+    wakes: u64,
+) {
+    let backoff = Backoff::new();
+    for _ in 0..LOOKS {
+        if library.wakes(part) != wakes {
+            return;
         }
+        backoff.snooze();
     }
 }
 
