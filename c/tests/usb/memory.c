@@ -15,6 +15,8 @@
 #define PACKET 1024
 #define ROUNDS 50
 #define MOST_RUNS 20000
+#define AT_ONCE 16
+#define ROUNDS_OVER 8
 
 void *__real_malloc(size_t size);
 void *__real_calloc(size_t count, size_t size);
@@ -268,6 +270,35 @@ static void run(void)
     libusb_exit(context);
 }
 
+/* Reads of as many bytes, one behind the other, and then so many at once: what the first took serves all others. */
+static void read_over_and_over(void)
+{
+    long taken_before = 0;
+    make("plug", plug);
+    make("init", init);
+    make("open_device_with_vid_pid", open_by_numbers);
+    make("claim", claim);
+    for (current = 0; current < AT_ONCE; current++) {
+        make("alloc_transfer", alloc);
+        libusb_fill_bulk_transfer(transfers[current], handle, 0x81, long_data + current * PACKET, PACKET, on_call, NULL, 0);
+    }
+    calls = errors = 0;
+    for (int round = 0; round < 2 * ROUNDS_OVER; round++) {
+        int count = round < ROUNDS_OVER ? 1 : AT_ONCE;
+        if (round == 1 || round == ROUNDS_OVER + 1)
+            taken_before = allocations;
+        for (current = 0; current < count; current++)
+            make("submit_transfer", submit);
+        wait_for("events of reads", calls + count);
+        if (round && round != ROUNDS_OVER)
+            require(allocations == taken_before, "no memory is taken");
+    }
+    for (int i = 0; i < AT_ONCE; i++)
+        libusb_free_transfer(transfers[i]);
+    libusb_close(handle);
+    libusb_exit(context);
+}
+
 static size_t add_script(size_t length, const char *head, int count, const char *answer, int digits)
 {
     length += (size_t)sprintf(text + length, "%s", head);
@@ -310,6 +341,8 @@ int main(void)
     write_text();
     run();
     puts("with ample memory: whole");
+    read_over_and_over();
+    puts("reads over and over: no memory is taken behind the first");
     refuse_each("with each allocation refused in turn");
     refuses_more = 1;
     refuse_each("with all behind it to the end of the call");
