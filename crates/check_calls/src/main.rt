@@ -1,13 +1,14 @@
 //! Calls of one library, by its one caller. What each was answered is printed, and compared by whoever runs this: it knows
 //! nothing of what that has to be.
 //!
-//! With the word `refusals` it plays the last scene alone. Of that the journal is printed, which is the same whichever
-//! allocation was refused: a call is made again where memory is refused, and so is the whole scene where it is refused before
-//! the first call or after the last.
+//! With the word `refusals` it plays the last scene and that of rows alone. Of these the journals are printed, and what was kept
+//! with results that went out in rows, which are the same whichever allocation was refused: a call is made again where memory is
+//! refused, and so is the whole scene where it is refused before the first call or after the last.
 //!
 //! # Files
 //!
 //! - `scenes.rt`, `call.rt`: the calls of each scene; a call as a value, and what it is answered
+//! - `rows.rt`: calls for many steps in a row, and the scene of these
 //! - `scene.rt`, `life.rt`: the calls that a library's one caller makes; the library's beginning and end
 //!
 //! Its stdout is what the rules say, never what a program printed.
@@ -15,11 +16,14 @@
 
 mod call;
 mod life;
+mod rows;
 mod scene;
 mod scenes;
 
 use crate::call::{Answer, Call};
 use crate::life::play;
+use crate::rows::{ROWS, SIZES};
+use crate::scene::Left;
 use crate::scenes::{CALLS, REFUSALS, TICKS};
 use anyhow::{Result, anyhow};
 use std::alloc::{Alloc, Global};
@@ -52,7 +56,16 @@ fn print_answers<R: Print>(rt: &R, answers: &[Answer]) -> Result<()> {
         match answer {
             Answer::Told(entry) => println!(rt; "{entry}")?,
             Answer::Asked(count) => println!(rt; "{count} asked to end")?,
+            Answer::Made(row) => println!(rt; "a row of {} from place {}", row.count, row.first)?,
         }
+    }
+    Ok(())
+}
+
+/// Prints what was kept with the results that went out in rows, a line each.
+fn print_kept<R: Print>(rt: &R, kept: &[u8]) -> Result<()> {
+    for payload in kept {
+        println!(rt; "kept {payload}")?;
     }
     Ok(())
 }
@@ -67,7 +80,7 @@ fn print_entries<R: Print>(rt: &R, places: &[Place]) -> Result<()> {
 }
 
 /// Plays a scene, and prints what its calls were answered, and how many places and receipts came of them, and whether nothing was left to
-/// be done: what was kept of the journal.
+/// be done: what was kept of the journal. An error where memory was refused.
 fn show<J: Recorder, R: Wait + Print>(
     rt: &R,
     alloc: Global,
@@ -75,7 +88,11 @@ fn show<J: Recorder, R: Wait + Print>(
     calls: &[Call],
 ) -> Result<J> {
     let left = play::<J, R>(rt, alloc, sizes, calls)?;
+    if left.missed > 0 {
+        return Err(anyhow!("memory was refused to {} calls", left.missed));
+    }
     print_answers(rt, left.answers.as_slice())?;
+    print_kept(rt, left.kept.as_slice())?;
     let rest = if left.at_rest {
         "at rest"
     } else {
@@ -88,20 +105,33 @@ fn show<J: Recorder, R: Wait + Print>(
     Ok(left.recorder)
 }
 
-/// The places of the last scene's journal.
-fn refusals<R: Wait>(rt: &R, alloc: Global) -> Result<Vec<Place>> {
-    let left = play::<Journal, R>(rt, alloc, &[8, 1], &REFUSALS)?;
-    Ok(left.recorder.places(alloc)?)
+/// The places of a scene's journal, and what was kept with the results that went out in rows.
+fn places<R: Wait>(
+    rt: &R,
+    alloc: Global,
+    sizes: &[u16],
+    calls: &[Call],
+) -> Result<(Vec<Place>, Vec<u8>)> {
+    let Left { recorder, kept, .. } = play::<Journal, R>(rt, alloc, sizes, calls)?;
+    Ok((recorder.places(alloc)?, kept))
 }
 
-/// Plays the last scene, again where memory is refused, and prints its journal. An error where that is often.
-fn show_refusals<R: Wait + Print>(rt: &R, alloc: Global) -> Result<()> {
+/// Plays a scene, again where memory is refused, and prints its journal and what was kept with the results of rows. An error where
+/// that is often.
+fn show_again<R: Wait + Print>(rt: &R, alloc: Global, sizes: &[u16], calls: &[Call]) -> Result<()> {
     for _ in 0..TRIES {
-        if let Ok(places) = refusals(rt, alloc) {
-            return print_entries(rt, places.as_slice());
+        if let Ok((places, kept)) = places(rt, alloc, sizes, calls) {
+            print_entries(rt, places.as_slice())?;
+            return print_kept(rt, kept.as_slice());
         }
     }
     Err(anyhow!("memory is refused again and again"))
+}
+
+/// Plays the scenes in which memory may be refused.
+fn show_refusals<R: Wait + Print>(rt: &R, alloc: Global) -> Result<()> {
+    show_again(rt, alloc, &[8, 1], &REFUSALS)?;
+    show_again(rt, alloc, &SIZES, &ROWS)
 }
 
 fn main(rt: HostRuntime) -> Result<()> {
@@ -115,5 +145,9 @@ fn main(rt: HostRuntime) -> Result<()> {
     println!(rt; "ticks: a transfer is asked to end at its deadline, not before it, and once")?;
     let journal = show::<Journal, _>(&rt, alloc, &[], &TICKS)?;
     print_entries(&rt, journal.places(alloc)?.as_slice())?;
+    println!(rt;
+        "rows: at consecutive places, as many steps as there is something to do, and no more than asked for"
+    )?;
+    show::<Journal, _>(&rt, alloc, &SIZES, &ROWS)?;
     show_refusals(&rt, alloc)
 }

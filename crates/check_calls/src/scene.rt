@@ -3,6 +3,7 @@
 ghost use Rattle.std.specs.Prelude.{◌≡◌};
 
 use crate::call::{Answer, Call};
+use crate::rows;
 use anyhow::{Result, anyhow};
 use crossbeam_utils::sync::Parker;
 use example_devices::Reader;
@@ -15,10 +16,10 @@ use usb_journal::{Naming, NotRecorded, Receipt, Recorder};
 use usb_library::{Answered, Caller, Ended, Library, Missing, Opening, Submitted};
 use usb_model::{Bytes, Entry, EpAddr, Reply, Request};
 
-/// What is kept with each transfer.
+/// What is kept with the first transfer; with each that is accepted behind it, one more.
 const PAYLOAD: u8 = 77;
 
-/// For how many receipts and answers there is room from the beginning.
+/// For how many receipts, answers and payloads there is room from the beginning.
 const ROOM: usize = 64;
 
 /// So often a call is made where memory is refused.
@@ -34,8 +35,10 @@ pub struct Scene<L: Naming, J: Recorder> {
     library: Library<L, u8, TableDevice, J>,
     caller: Caller<L>,
     reader: Reader,
+    payload: u8,
     receipts: Vec<Receipt<L>>,
     answers: Vec<Answer>,
+    kept: Vec<u8>,
 }
 
 /// What a scene leaves.
@@ -43,6 +46,10 @@ pub struct Scene<L: Naming, J: Recorder> {
 pub struct Left<J> {
     /// What each call was answered.
     pub answers: Vec<Answer>,
+    /// What was kept with the results that went out in rows.
+    pub kept: Vec<u8>,
+    /// To how many calls memory was refused.
+    pub missed: u64,
     /// How many receipts the calls gave.
     pub receipts: usize,
     /// How many places the journal has.
@@ -64,14 +71,19 @@ fn finished<L: Naming, J: Recorder>(
     library.finish(callers, receipts)
 }
 
-/// What a scene leaves whose calls were answered so, and gave so many receipts.
+/// What a scene leaves whose calls were answered so, gave so many receipts, and were refused memory so often, and of whose
+/// transfers this was kept.
 fn left_by<L: Naming, J: Recorder>(
     ended: Ended<L, u8, TableDevice, J>,
     answers: Vec<Answer>,
+    kept: Vec<u8>,
+    missed: u64,
     receipts: usize,
 ) -> Left<J> {
     Left {
         answers,
+        kept,
+        missed,
         receipts,
         places: ended.places,
         at_rest: ended.is_at_rest(),
@@ -113,6 +125,7 @@ impl<L: Naming, J: Recorder> Scene<L, J> {
         let reader = Reader::new(1, 0, 0)?;
         let receipts = Vec::with_capacity(alloc, ROOM)?;
         let answers = Vec::with_capacity(alloc, ROOM)?;
+        let kept = Vec::with_capacity(alloc, ROOM)?;
         let library = Library::new(alloc, opening)?;
         let caller = library.caller(rt)?;
         Ok(Scene {
@@ -120,8 +133,10 @@ impl<L: Naming, J: Recorder> Scene<L, J> {
             library,
             caller,
             reader,
+            payload: PAYLOAD,
             receipts,
             answers,
+            kept,
         })
     }
 
@@ -160,7 +175,10 @@ impl<L: Naming, J: Recorder> Scene<L, J> {
             return Err(AllocError);
         };
         let reply = match number {
-            Ok(n) => Reply::Number(n),
+            Ok(n) => {
+                self.payload = self.payload.wrapping_add(1);
+                Reply::Number(n)
+            }
             Err(unaccepted) => Reply::Refused(unaccepted.why),
         };
         let owner = Some(self.reader.h);
@@ -171,13 +189,13 @@ impl<L: Naming, J: Recorder> Scene<L, J> {
         let h = self.reader.h;
         let submitted = self
             .library
-            .submit(rt, &mut self.caller, h, request, PAYLOAD);
+            .submit(rt, &mut self.caller, h, request, self.payload);
         self.submitted(submitted)
     }
 
     fn again<R: Wait>(&mut self, rt: &R, n: u64) -> Came {
         let h = self.reader.h;
-        let submitted = self.library.again(rt, &mut self.caller, h, n, PAYLOAD);
+        let submitted = self.library.again(rt, &mut self.caller, h, n, self.payload);
         self.submitted(submitted)
     }
 
@@ -185,7 +203,7 @@ impl<L: Naming, J: Recorder> Scene<L, J> {
         let (h, bytes) = (self.reader.h, bytes(self.alloc, b"z")?);
         let submitted = self
             .library
-            .again_with(rt, &mut self.caller, h, n, bytes, PAYLOAD);
+            .again_with(rt, &mut self.caller, h, n, bytes, self.payload);
         self.submitted(submitted)
     }
 
@@ -201,11 +219,33 @@ impl<L: Naming, J: Recorder> Scene<L, J> {
         Ok(Answer::Asked(asked))
     }
 
+    /// Makes a call for steps in a row.
+    fn row<R: Wait>(&mut self, rt: &R, call: Call) -> Came {
+        let Scene {
+            alloc,
+            library,
+            caller,
+            reader,
+            kept,
+            ..
+        } = self;
+        match call {
+            Call::ServeAll(most) => rows::serve(rt, library, caller, reader, most),
+            Call::DeliverAll(most) => rows::deliver(rt, library, caller, most),
+            Call::TakeAll(most) => rows::take(rt, *alloc, library, caller, most, kept),
+            _ => Err(AllocError),
+        }
+    }
+
     /// Makes a call.
     fn call<R: Wait>(&mut self, rt: &R, call: Call) -> Came {
         match call {
             Call::Read(timeout) => {
                 let request = self.reader.read(8, timeout);
+                self.submit(rt, request)
+            }
+            Call::ReadOf(bytes) => {
+                let request = self.reader.read(bytes, 0);
                 self.submit(rt, request)
             }
             Call::Write => {
@@ -216,6 +256,7 @@ impl<L: Naming, J: Recorder> Scene<L, J> {
             Call::AgainWith(n) => self.again_with(rt, n),
             Call::Take => self.take(rt),
             Call::Tick(now) => self.tick(rt, now),
+            Call::ServeAll(_) | Call::DeliverAll(_) | Call::TakeAll(_) => self.row(rt, call),
             _ => {
                 let Answered { receipt, entry } = self.ask(rt, call)?;
                 self.keep(receipt, entry)
@@ -261,12 +302,14 @@ impl<L: Naming, J: Recorder> Scene<L, J> {
             caller,
             receipts,
             answers,
+            kept,
             ..
         } = self;
+        let missed = caller.missed();
         let count = receipts.len();
         let callers = Vec::from_array(alloc, [caller])?;
         match finished(library, callers, receipts) {
-            Ok(ended) => Ok(left_by(ended, answers, count)),
+            Ok(ended) => Ok(left_by(ended, answers, kept, missed, count)),
             Err(_) => Err(anyhow!("a caller is missing")),
         }
     }

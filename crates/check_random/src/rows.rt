@@ -42,20 +42,6 @@ struct Pair {
     wanted: Sequence<Entry>,
 }
 
-/// What goes out to a callback, or that nothing does.
-fn called(taken: Option<Taken<()>>) -> Entry {
-    match taken {
-        Some(Taken { returned, .. }) => Entry {
-            owner: Some(returned.h),
-            reply: Reply::Called(returned),
-        },
-        None => Entry {
-            owner: None,
-            reply: Reply::Idle,
-        },
-    }
-}
-
 /// Any step by a core.
 fn step(core: &mut Core<(), TableDevice>, step: &Step) -> Result<Entry> {
     match core.step(step.clone()?, Some(())) {
@@ -122,19 +108,27 @@ impl Pair {
         }
     }
 
-    /// A result whose callback ends at once.
+    /// A result whose callback ends at once, or none.
     fn take(&mut self, met: &mut Met) -> Result<()> {
         let done = self.rows.take_done();
-        met.results |= done.is_some();
-        self.told.push(called(done))?;
-        let Ok(taken) = self.singles.take() else {
-            return Err(anyhow!("there is no memory"));
-        };
-        if let Some(taken) = &taken {
-            let _ = self.singles.stop(taken.returned.h, taken.returned.n);
+        let wanted = step(&mut self.singles, &Step::Take)?;
+        match (done, &wanted.reply) {
+            (Some(Taken { returned, .. }), Reply::Called(called)) => {
+                met.results = true;
+                let _ = self.singles.stop(called.h, called.n);
+                self.told.push(Entry {
+                    owner: Some(returned.h),
+                    reply: Reply::Called(returned),
+                })?;
+                self.wanted.push(wanted)?;
+                Ok(())
+            }
+            (None, Reply::Idle) => Ok(()),
+            (done, reply) => {
+                let done = done.map(|taken| taken.returned);
+                Err(anyhow!("{done:?} where its callback ends at once, {reply} alone"))
+            }
         }
-        self.wanted.push(called(taken))?;
-        Ok(())
     }
 
     /// A step, or a row that begins with it.

@@ -59,7 +59,7 @@
 //! - **Callbacks**: `StoredCallback::once` and `StoredCallback::repeat`; a `Verdict` ends the transfer or submits it once more.
 //! - **The workers**: `controller_loop` and `event_loop`, with `Open` as their gate, go by rows of at most `BURST` steps; `Moments`
 //!   reads a clock for `Library::tick`. Who works without them calls `serve_all`, `deliver_all` and `take_all`, each of which tells
-//!   its places as a `Row`.
+//!   its places as a `Row`, the last with whether memory was refused to one behind them (`Outgoing`).
 //! - **All of it in one call**: `live` makes the library, runs both workers and each `Driver` in a thread, joins them, and ends it.
 #![tactic(auto)]
 
@@ -67,7 +67,7 @@ pub use usb_callback::{Callback, Once, Repeat, StoredCallback};
 pub use usb_core::{Core, Pending, Setup, Taken, Unaccepted, Unadded};
 pub use usb_descriptors::{Config, read_config};
 pub use usb_device::{BoxedDevice, Device, TableDevice};
-pub use usb_journal::{Journal, Naming, NotRecorded, Place, Receipt, Recorder, Row, Unrecorded};
+pub use usb_journal::{Journal, Naming, NotRecorded, Outgoing, Place, Receipt, Recorder, Row, Unrecorded};
 pub use usb_library::{Answered, CALLERS, Caller, Ended, Library, Missing, Opening, Submitted};
 pub use usb_live::{Driver, Gates, Lived, live, live_gated};
 pub use usb_model::{

@@ -1,7 +1,6 @@
 -- Packets in a row, by their entries.
-use Rattle.std.proofs.Common.{◌≡◌, ◌∙◌, ◌+◌, ◌++◌, ℕ, zero, suc, Bool, false, true, List, [], ◌∷◌, Option, Some, None, ap, append_assoc, length, refl, subst, sym}
+use Rattle.std.proofs.Common.{◌≡◌, ◌∙◌, ◌+◌, ◌++◌, ℕ, zero, suc, Bool, false, true, List, [], ◌∷◌, Option, Some, None, ap, ap₂, append_assoc, length, refl, subst, sym}
 use Rattle.std.specs.Prelude.{◌||◌, replicate}
-use Rattle.std.proofs.lemmas.Bool.{or_parts}
 use Rattle.std.proofs.lemmas.List.{length-replicate}
 use Rattle.usb_model.specs.declared.entry.Entry.{Entry}
 use Rattle.usb_model.specs.declared.step.Step.{Step}
@@ -16,12 +15,12 @@ use Rattle.usb_steps.specs.declared.bursts.Burst.{Burst}
 use Rattle.usb_steps.specs.declared.bursts.Whole.{Whole}
 use Rattle.usb_journal.specs.declared.place.Place.{Place}
 use Rattle.usb_journal.specs.Booked.{world_where}
-use Rattle.usb_journal.specs.Entered.{MakesRow}
+use Rattle.usb_journal.specs.Entered.{DoesRow}
 use Rattle.usb_journal.specs.Records.{bytes_in}
-use Rattle.usb_journal.specs.Rows.{AreProgress, EndNone, GoOn, MayStop, MayStopBehind, is_end, is_progress}
+use Rattle.usb_journal.specs.Rows.{AreProgress, GoOn, MayStop, MayStopBehind, ends_any, is_end, is_progress}
 use Rattle.usb_journal.specs.Seen.{Positioned}
 use Rattle.usb_journal.proofs.Replies.{plain_bytes}
-use Rattle.usb_journal.proofs.InRows.{end_none_on, may_stop_last, run_length, run_more}
+use Rattle.usb_journal.proofs.InRows.{ends_on, may_stop_last, run_length, run_more}
 
 -- the last entry of a run of the same step, which takes no result, has no bytes
 pub last_bytes : (setup : Setup) (w : World) (step : Step) (n : ℕ) (xs : List Entry) (y : Entry) → takes_result step ≡ false → xs ++ y ∷ [] ≡ run_from setup w (replicate n step) → bytes_in y.reply ≡ 0
@@ -36,18 +35,22 @@ last_bytes setup w step (suc n) (x ∷ xs) y other run =
     last_bytes setup (turn setup w step).world step n xs y other rest
 
 -- packets that move bytes of a transfer that goes on end none
-none_ends : (x : Whole) (n : ℕ) → EndNone (replicate n (whole_entry x))
-none_ends x zero = tt
-none_ends x (suc n) = (refl, none_ends x n)
+none_ends : (x : Whole) (n : ℕ) → ends_any (replicate n (whole_entry x)) ≡ false
+none_ends x zero = refl
+none_ends x (suc n) = none_ends x n
 
 -- nor do those before the last of a burst
-pub wholes_end_none : (each : Option Whole) (n : ℕ) → EndNone (whole_entries each n)
-wholes_end_none None n = tt
+wholes_end_none : (each : Option Whole) (n : ℕ) → ends_any (whole_entries each n) ≡ false
+wholes_end_none None n = refl
 wholes_end_none (Some x) n = none_ends x n
 
--- a burst whose last packet ended none
-pub burst_ends_none : (b : Burst) → is_end b.last.reply ≡ false → EndNone (burst_entries b)
-burst_ends_none b none = end_none_on (whole_entries b.each b.full) (b.last ∷ []) (wholes_end_none b.each b.full) (none, tt)
+-- only the last of a burst may end one
+burst_ends : (b : Burst) → ends_any (burst_entries b) ≡ is_end b.last.reply
+burst_ends b = ends_on (whole_entries b.each b.full) (b.last ∷ []) ∙ (ap (λ x. x || (is_end b.last.reply || false)) (wholes_end_none b.each b.full) ∙ or_false (is_end b.last.reply))
+  where
+    or_false : (x : Bool) → (x || false) ≡ x
+    or_false true = refl
+    or_false false = refl
 
 -- no packets
 pub none_progress : (setup : Setup) (w : World) → AreProgress (run_from setup w [])
@@ -81,17 +84,17 @@ wholes_progress (Some x) (suc n) = (refl, wholes_progress (Some x) n)
 pub burst_length : (setup : Setup) (w : World) (step : Step) (b : Burst) → burst_entries b ≡ run_from setup w (replicate (b.full + 1) step) → length (burst_entries b) ≡ b.full + 1
 burst_length setup w step b run = ap length run ∙ (run_length setup w (replicate (b.full + 1) step) ∙ length-replicate (b.full + 1) step)
 
-module _ {P : Type 0} (setup : Setup) (moment d e n : ℕ) (old : State P) (first : List Place) (before : Positioned) (core : State P) (mid : List Place) (between : Positioned) (b : Burst) (row : MakesRow setup moment (replicate n (Serve d e)) old first before core mid between)
+module _ {P : Type 0} (setup : Setup) (moment d e n : ℕ) (old : State P) (first : List Place) (before : Positioned) (core : State P) (mid : List Place) (between : Positioned) (b : Burst) (row : DoesRow setup moment (replicate n (Serve d e)) old first before core mid between)
     (told : burst_entries b ≡ run_from setup (world_where setup mid) (replicate (b.full + 1) (Serve d e))) where
   -- a burst behind other packets
   burst_run : run_from setup (world_where setup first) (replicate (n + (b.full + 1)) (Serve d e)) ≡ run_from setup (world_where setup first) (replicate n (Serve d e)) ++ burst_entries b
   burst_run = run_more setup moment n (b.full + 1) (Serve d e) old first before core mid between row ∙ ap (λ l. run_from setup (world_where setup first) (replicate n (Serve d e)) ++ l) (sym told)
 
-  -- none ended a transfer, where none before it did and its last didn't
-  pub burst_quiet : (ended ends : Bool) → ends ≡ (ended || is_end b.last.reply) → (ended ≡ false → EndNone (run_from setup (world_where setup first) (replicate n (Serve d e)))) → ends ≡ false → EndNone (run_from setup (world_where setup first) (replicate (n + (b.full + 1)) (Serve d e)))
-  burst_quiet ended ends is none_before none =
-      let parts = or_parts ended (is_end b.last.reply) (sym is ∙ none) in
-      subst EndNone (sym burst_run) (end_none_on (run_from setup (world_where setup first) (replicate n (Serve d e))) (burst_entries b) (none_before parts.0) (burst_ends_none b parts.1))
+  -- one ended a transfer, where one before it did or its last
+  pub burst_ended : (ended ends : Bool) → ends ≡ (ended || is_end b.last.reply) → ended ≡ ends_any (run_from setup (world_where setup first) (replicate n (Serve d e))) → ends ≡ ends_any (run_from setup (world_where setup first) (replicate (n + (b.full + 1)) (Serve d e)))
+  burst_ended ended ends is before =
+      let packets = run_from setup (world_where setup first) (replicate n (Serve d e)) in
+      is ∙ (ap₂ (λ (x y : Bool). x || y) before (sym (burst_ends b)) ∙ (sym (ends_on packets (burst_entries b)) ∙ ap ends_any (sym burst_run)))
 
   -- they may stop, where they may behind its last
   pub burst_stops : (w : World) → MayStop setup w d e b.last.reply → MayStopBehind setup w d e (run_from setup (world_where setup first) (replicate (n + (b.full + 1)) (Serve d e)))

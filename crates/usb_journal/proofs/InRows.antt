@@ -1,6 +1,6 @@
 -- Steps in a row, and the places where they are entered.
-use Rattle.std.proofs.Common.{◌≡◌, ◌∙◌, ◌+◌, ◌++◌, ◌≤◌, ℕ, zero, suc, false, List, [], ◌∷◌, None, ap, ap₂, append_assoc, append-nil, arith, drop, length, map, refl, subst, sym}
-use Rattle.std.specs.Prelude.{replicate}
+use Rattle.std.proofs.Common.{◌≡◌, ◌∙◌, ◌+◌, ◌++◌, ◌≤◌, ℕ, zero, suc, Bool, false, true, List, [], ◌∷◌, None, ap, ap₂, append_assoc, append-nil, arith, drop, length, map, refl, subst, sym}
+use Rattle.std.specs.Prelude.{◌&&◌, ◌||◌, replicate}
 use Rattle.std.proofs.Math.Seq.{drop-append_seam}
 use Rattle.std.proofs.lemmas.List.{length-append, length-map, length-replicate, map-append, replicate-append-replicate}
 use Rattle.usb_model.specs.declared.entry.Entry.{Entry}
@@ -16,8 +16,8 @@ use Rattle.usb_journal.specs.declared.place.Place.{Place}
 use Rattle.usb_journal.specs.declared.rows.Row.{Row}
 use Rattle.usb_journal.specs.declared.timer.Timer.{Timer}
 use Rattle.usb_journal.specs.Booked.{Asked, Booked, IsMoved, IsRun, Replays, Sees, asked, asks, entries_of, steps_of, world_where}
-use Rattle.usb_journal.specs.Entered.{GoesOn, IsQuiet, IsRow, MakesRow}
-use Rattle.usb_journal.specs.Rows.{AreQuiet, EndNone, EntersRow, MayStop, MayStopBehind, new_places}
+use Rattle.usb_journal.specs.Entered.{DoesRow, IsRow, StandsIn}
+use Rattle.usb_journal.specs.Rows.{EntersRow, MayStop, MayStopBehind, are_quiet, ends_any, is_end, is_quiet}
 use Rattle.usb_journal.specs.Seen.{Positioned, Receipted, positioned}
 use Rattle.usb_journal.specs.Timers.{ending, stopped_if, timers_by, timers_from, timers_of}
 use Rattle.usb_journal.proofs.Replies.{plain_timers}
@@ -126,14 +126,14 @@ module _ (caller moment : ℕ) where
 
 module _ {P : Type 0} (setup : Setup) (moment : ℕ) where
   -- no step
-  pub makes_none : (core : State P) (first : List Place) (before : Positioned) → before.seen ≡ first → Replays setup first core → MakesRow setup moment [] core first before core first before
+  pub makes_none : (core : State P) (first : List Place) (before : Positioned) → before.seen ≡ first → Replays setup first core → DoesRow setup moment [] core first before core first before
   unfolding journal_from
   makes_none core first before seen run = record { row = row_none before.number moment first before seen; run = run; timers = refl; carries = λ kept has. has }
 
   -- the same step so many times, as the core made it and as it was entered
   pub makes_of : (n : ℕ) (step : Step) (told : List Entry) (old : State P) (first : List Place) (before : Positioned) (new : State P) (later : List Place) (after : Positioned) → takes_memory step ≡ false → ending step ≡ None
       → TurnsInRow old (replicate n step) told new → IsRow before.number moment (replicate n step) told first before later after → StillCarries old new → Replays setup first old
-      → MakesRow setup moment (replicate n step) old first before new later after
+      → DoesRow setup moment (replicate n step) old first before new later after
   makes_of n step told old first before new later after plain none turns entered carries run =
       let made = turns setup (world_where setup first) run.1 in
       let row : IsRow before.number moment (replicate n step) (run_from setup (world_where setup first) (replicate n step)) first before later after = subst (λ es. IsRow before.number moment (replicate n step) es first before later after) made.0 entered in
@@ -147,7 +147,7 @@ module _ {P : Type 0} (setup : Setup) (moment : ℕ) where
   -- one step, as the core made it and as it was entered
   pub makes_one : (step : Step) (entry : Entry) (caller : ℕ) (old : State P) (first : List Place) (before : Positioned) (new : State P) (later : List Place) (after : Positioned) (receipt : Receipted) → takes_memory step ≡ false → ending step ≡ None → TurnsWorld old step entry new
       → caller ≡ before.number → receipt ≡ record { place = length first; entry = record { step = step; caller = caller; entry = entry; moment = moment } } → later ≡ first ++ receipt.entry ∷ [] → IsMoved before receipt after → Sees before first after later → StillCarries old new → Replays setup first old
-      → MakesRow setup moment (step ∷ []) old first before new later after
+      → DoesRow setup moment (step ∷ []) old first before new later after
   unfolding journal_from world_from
   makes_one step entry caller old first before new later after receipt plain none turn bearer told is moved saw carries run =
       let turns : TurnsInRow old (replicate 1 step) (entry ∷ []) new = λ s w shown. let one = turn s w shown in (ap (λ (e : Entry). e ∷ []) one.0, one.1) in
@@ -155,8 +155,8 @@ module _ {P : Type 0} (setup : Setup) (moment : ℕ) where
       (subst (λ n. IsRow n moment (step ∷ []) (entry ∷ []) first before later after) bearer (row_one caller moment step entry first before later after receipt (length first) told is moved saw)) carries run
 
   -- a row behind another
-  pub makes_on : (xs ys : List Step) (old : State P) (first : List Place) (before : Positioned) (core : State P) (mid : List Place) (between : Positioned) (new : State P) (later : List Place) (after : Positioned) → MakesRow setup moment xs old first before core mid between → MakesRow setup moment ys core mid between new later after
-      → MakesRow setup moment (xs ++ ys) old first before new later after
+  pub makes_on : (xs ys : List Step) (old : State P) (first : List Place) (before : Positioned) (core : State P) (mid : List Place) (between : Positioned) (new : State P) (later : List Place) (after : Positioned) → DoesRow setup moment xs old first before core mid between → DoesRow setup moment ys core mid between new later after
+      → DoesRow setup moment (xs ++ ys) old first before new later after
   makes_on xs ys old first before core mid between new later after a b =
       let behind = world_behind before.number moment xs (run_from setup (world_where setup first) xs) first before mid between a.row setup in
       let its : IsRow before.number moment ys (run_from setup (world_where setup mid) ys) mid between later after = subst (λ n. IsRow n moment ys (run_from setup (world_where setup mid) ys) mid between later after) a.row.number b.row in
@@ -170,18 +170,18 @@ module _ {P : Type 0} (setup : Setup) (moment : ℕ) where
       }
 
   -- so many of the same step, and more of it
-  pub makes_more : (n k : ℕ) (step : Step) (old : State P) (first : List Place) (before : Positioned) (core : State P) (mid : List Place) (between : Positioned) (new : State P) (later : List Place) (after : Positioned) → MakesRow setup moment (replicate n step) old first before core mid between
-      → MakesRow setup moment (replicate k step) core mid between new later after → MakesRow setup moment (replicate (n + k) step) old first before new later after
+  pub makes_more : (n k : ℕ) (step : Step) (old : State P) (first : List Place) (before : Positioned) (core : State P) (mid : List Place) (between : Positioned) (new : State P) (later : List Place) (after : Positioned) → DoesRow setup moment (replicate n step) old first before core mid between
+      → DoesRow setup moment (replicate k step) core mid between new later after → DoesRow setup moment (replicate (n + k) step) old first before new later after
   makes_more n k step old first before core mid between new later after a b =
-      subst (λ ss. MakesRow setup moment ss old first before new later after) (replicate-append-replicate n k step) (makes_on (replicate n step) (replicate k step) old first before core mid between new later after a b)
+      subst (λ ss. DoesRow setup moment ss old first before new later after) (replicate-append-replicate n k step) (makes_on (replicate n step) (replicate k step) old first before core mid between new later after a b)
 
   -- as many places as steps
-  pub makes_count : (n : ℕ) (step : Step) (old : State P) (first : List Place) (before : Positioned) (new : State P) (later : List Place) (after : Positioned) → MakesRow setup moment (replicate n step) old first before new later after → length later ≡ length first + n
+  pub makes_count : (n : ℕ) (step : Step) (old : State P) (first : List Place) (before : Positioned) (new : State P) (later : List Place) (after : Positioned) → DoesRow setup moment (replicate n step) old first before new later after → length later ≡ length first + n
   makes_count n step old first before new later after a =
       row_count before.number moment (replicate n step) (run_from setup (world_where setup first) (replicate n step)) first before later after a.row ∙ ap (λ k. length first + k) (length-replicate n step)
 
   -- the entries of so many of the same step, and of more of it
-  pub run_more : (n k : ℕ) (step : Step) (old : State P) (first : List Place) (before : Positioned) (core : State P) (mid : List Place) (between : Positioned) → MakesRow setup moment (replicate n step) old first before core mid between
+  pub run_more : (n k : ℕ) (step : Step) (old : State P) (first : List Place) (before : Positioned) (core : State P) (mid : List Place) (between : Positioned) → DoesRow setup moment (replicate n step) old first before core mid between
       → run_from setup (world_where setup first) (replicate (n + k) step) ≡ run_from setup (world_where setup first) (replicate n step) ++ run_from setup (world_where setup mid) (replicate k step)
   run_more n k step old first before core mid between a =
       let w = world_where setup first in
@@ -203,7 +203,7 @@ row_looked caller moment steps told first before later mid after r at own = reco
 module _ {P : Type 0} where
   -- a row of places is what a caller is told
   pub enters : (steps : List Step) (old new : Booked P) (before after : Positioned) (row : Row) → IsRow before.number old.moment steps (run_from old.setup (world_where old.setup old.journal) steps) old.journal before new.journal after
-      → row.first ≡ length old.journal → row.count ≡ length steps → GoesOn before old.journal → after.position ≡ length new.journal → new.setup ≡ old.setup → new.moment ≡ old.moment → EntersRow steps old before row new after
+      → row.first ≡ length old.journal → row.count ≡ length steps → StandsIn before old.journal → after.position ≡ length new.journal → new.setup ≡ old.setup → new.moment ≡ old.moment → EntersRow steps old before row new after
   enters steps old new before after row r first count on position setup moment =
       let fresh = row_places before.number old.moment steps (run_from old.setup (world_where old.setup old.journal) steps) old.journal before new.journal after r in
       record {
@@ -240,15 +240,29 @@ module _ {P : Type 0} where
       enters steps old new before after row (subst (λ n. IsRow n old.moment steps (run_from old.setup (world_where old.setup old.journal) steps) old.journal before new.journal after) its from) first count
       (record { above = above; began = began }) (ap (λ (p : Positioned). p.position) end) setup moment
 
--- where there was no packet none ended a transfer
-pub none_ended : (setup : Setup) (w : World) → EndNone (run_from setup w [])
-unfolding journal_from
-none_ended setup w = tt
+-- of three of which one is so, no matter which two are asked first
+or_behind : (x y z : Bool) → (x || (y || z)) ≡ ((x || y) || z)
+or_behind true y z = refl
+or_behind false y z = refl
 
--- where neither these nor those ended a transfer, none did
-pub end_none_on : (xs ys : List Entry) → EndNone xs → EndNone ys → EndNone (xs ++ ys)
-end_none_on [] ys a b = b
-end_none_on (x ∷ xs) ys a b = (a.0, end_none_on xs ys a.1 b)
+-- or all of which are
+and_behind : (x y z : Bool) → (x && (y && z)) ≡ ((x && y) && z)
+and_behind true y z = refl
+and_behind false y z = refl
+
+and_true : (x : Bool) → (x && true) ≡ x
+and_true true = refl
+and_true false = refl
+
+-- no packet ended a transfer
+pub none_ended : (setup : Setup) (w : World) → ends_any (run_from setup w []) ≡ false
+unfolding journal_from
+none_ended setup w = refl
+
+-- one of these or those ended a transfer
+pub ends_on : (xs ys : List Entry) → ends_any (xs ++ ys) ≡ (ends_any xs || ends_any ys)
+ends_on [] ys = refl
+ends_on (x ∷ xs) ys = ap (λ b. is_end x.reply || b) (ends_on xs ys) ∙ or_behind (is_end x.reply) (ends_any xs) (ends_any ys)
 
 -- where packets may stop behind the last, they may stop behind all
 pub may_stop_last : (setup : Setup) (w : World) (d e : ℕ) (xs : List Entry) (y : Entry) → MayStop setup w d e y.reply → MayStopBehind setup w d e (xs ++ y ∷ [])
@@ -256,10 +270,11 @@ may_stop_last setup w d e [] y may = may
 may_stop_last setup w d e (x ∷ []) y may = may
 may_stop_last setup w d e (x ∷ z ∷ zs) y may = may_stop_last setup w d e (z ∷ zs) y may
 
--- one event more that leaves nothing
-pub quiet_more : (setup : Setup) (w : World) (n : ℕ) → AreQuiet setup w n → IsQuiet setup (world_from setup w (replicate n Deliver)) → AreQuiet setup w (n + 1)
+-- one event more
+pub quiet_more : (setup : Setup) (w : World) (n : ℕ) → are_quiet setup w (n + 1) ≡ (are_quiet setup w n && is_quiet setup (world_from setup w (replicate n Deliver)))
 unfolding world_from
-quiet_more setup w zero quiet one = (one.0, one.1, tt)
-quiet_more setup w (suc n) quiet one =
-    let same : suc (n + 1) ≡ suc n + 1 = omega arith in
-    subst (AreQuiet setup w) same (quiet.0, quiet.1, quiet_more setup (turn setup w Deliver).world n quiet.2 one)
+quiet_more setup w zero = and_true (is_quiet setup w)
+quiet_more setup w (suc n) =
+    let same : suc n + 1 ≡ suc (n + 1) = omega arith in
+    let v = (turn setup w Deliver).world in
+    ap (are_quiet setup w) same ∙ (ap (λ b. is_quiet setup w && b) (quiet_more setup v n) ∙ and_behind (is_quiet setup w) (are_quiet setup v n) (is_quiet setup (world_from setup v (replicate n Deliver))))

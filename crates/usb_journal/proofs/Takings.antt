@@ -1,10 +1,9 @@
 -- Results that go out in a row.
 use Rattle.std.proofs.Common.{◌≡◌, ◌∙◌, ◌++◌, ◌≤◌, ℕ, List, [], ◌∷◌, Option, Some, ap, ap₂, drop, length, option_map, refl, subst, sym}
 use Rattle.std.specs.Prelude.{replicate}
-use Rattle.std.proofs.lemmas.List.{append-nil, append_assoc, length-append, length-replicate, map-append, replicate-append-replicate}
+use Rattle.std.proofs.lemmas.List.{append-nil, append_assoc, length-append, map-append, replicate-append-replicate}
 use Rattle.std.proofs.Math.Seq.{drop-append_seam, drop-length}
 use Rattle.usb_model.specs.declared.entry.Entry.{Entry}
-use Rattle.usb_model.specs.declared.step.Step.{Step}
 use Rattle.usb_model.specs.declared.step.Step.TheVariants.{Take}
 use Rattle.usb_model.specs.Setup.{Setup}
 use Rattle.usb_model.specs.World.{World}
@@ -14,7 +13,7 @@ use Rattle.usb_receipts.specs.Rule.{BeginsWith}
 use Rattle.usb_journal.specs.declared.place.Place.{Place}
 use Rattle.usb_journal.specs.declared.rows.Row.{Row}
 use Rattle.usb_journal.specs.Booked.{Booked, IsMoved, Sees, entries_of, next_entry, next_receipt, world_where}
-use Rattle.usb_journal.specs.Entered.{GoesOn, IsRow, TakesRow}
+use Rattle.usb_journal.specs.Entered.{IsRow, StandsIn, TakesRow}
 use Rattle.usb_journal.specs.Rows.{AreKept, EntersRow, new_places}
 use Rattle.usb_journal.specs.Seen.{Positioned, Receipted, positioned}
 use Rattle.usb_journal.proofs.InRows.{enters, row_on, row_one, row_places, run_on, world_behind}
@@ -91,7 +90,7 @@ module _ {P : Type 0} where
   -- one went out
   pub takes_one : (old new : Booked P) (before after : Positioned) (receipt : Receipted) (o : Option (Taken P)) (t : Taken P) → o ≡ Some t → receipt ≡ next_receipt old Take before.number (called_entry (option_map (λ x. x.returned) o)) → new.journal ≡ old.journal ++ receipt.entry ∷ []
       → called_entry (option_map (λ x. x.returned) o) ≡ next_entry old.setup old.journal Take → IsMoved before receipt after → Sees before old.journal after new.journal → (new.setup ≡ old.setup) × (new.moment ≡ old.moment)
-      → ((kept : Kept P) → Carries kept old.core → CarriesOut kept o × Carries kept new.core) → TakesRow (t ∷ []) old before new after × GoesOn before old.journal
+      → ((kept : Kept P) → Carries kept old.core → CarriesOut kept o × Carries kept new.core) → TakesRow (t ∷ []) old before new after × StandsIn before old.journal
   unfolding journal_from
   takes_one old new before after receipt o t some told is entry moved saw rest carries =
       let its : Entry = called_entry (Some t.returned) in

@@ -1,15 +1,14 @@
 -- Places in a row as they are entered, before a caller is told of them.
-use Rattle.std.specs.Prelude.{◌≡◌, ◌≤◌, ℕ, false, List, ◌++◌, length, map, replicate, Some}
+use Rattle.std.specs.Prelude.{◌≡◌, ◌≤◌, ℕ, List, ◌++◌, length, map, replicate, Some}
 use Rattle.usb_model.specs.declared.entry.Entry.{Entry}
 use Rattle.usb_model.specs.declared.step.Step.{Step}
-use Rattle.usb_model.specs.declared.step.Step.TheVariants.{Command, Deliver, Take}
+use Rattle.usb_model.specs.declared.step.Step.TheVariants.{Take}
 use Rattle.usb_model.specs.Setup.{Setup}
-use Rattle.usb_model.specs.World.{World, turn}
 use Rattle.usb_model.specs.World.Journal.{run_from}
-use Rattle.usb_core.specs.Public.{Carries, Kept, State, StillCarries, Taken, called_entry, does_something}
+use Rattle.usb_core.specs.Public.{Carries, Kept, State, StillCarries, Taken, called_entry}
 use Rattle.usb_journal.specs.declared.place.Place.{Place}
 use Rattle.usb_journal.specs.Booked.{Booked, Replays, asked, asks, entries_of, world_where}
-use Rattle.usb_journal.specs.Rows.{AreKept, is_settled, new_places}
+use Rattle.usb_journal.specs.Rows.{AreKept, new_places}
 use Rattle.usb_receipts.specs.Rule.{BeginsWith}
 use Rattle.usb_journal.specs.Seen.{Positioned}
 use Rattle.usb_journal.specs.Timers.{timers_of}
@@ -25,15 +24,11 @@ pub record IsRow (caller moment : ℕ) (steps : List Step) (told : List Entry) (
   pub seen : after.seen ≡ later
 
 -- a core made these steps, each at a place: the entries are those of the run, the core shows the world behind it, and the timers stay
-pub record MakesRow {P : Type 0} (setup : Setup) (moment : ℕ) (steps : List Step) (old : State P) (first : List Place) (before : Positioned) (new : State P) (later : List Place) (after : Positioned) : Type 0 where
+pub record DoesRow {P : Type 0} (setup : Setup) (moment : ℕ) (steps : List Step) (old : State P) (first : List Place) (before : Positioned) (new : State P) (later : List Place) (after : Positioned) : Type 0 where
   pub row : IsRow before.number moment steps (run_from setup (world_where setup first) steps) first before later after
   pub run : Replays setup later new
   pub timers : timers_of later ≡ timers_of first
   pub carries : StillCarries old new
-
--- by the oldest event no errand ends, and behind it no order waits
-abbrev pub IsQuiet : Setup → World → Type 0
-IsQuiet setup w = (is_settled (turn setup w Deliver).entry.reply ≡ false) × (does_something setup (turn setup w Deliver).world Command ≡ false)
 
 -- these results went out, in order, each at a place, and with the payload that was kept with its transfer
 pub record TakesRow {P : Type 0} (taken : List (Taken P)) (old : Booked P) (before : Positioned) (new : Booked P) (after : Positioned) : Type 0 where
@@ -43,7 +38,7 @@ pub record TakesRow {P : Type 0} (taken : List (Taken P)) (old : Booked P) (befo
   pub setup : new.setup ≡ old.setup
   pub moment : new.moment ≡ old.moment
 
--- a position can go on from where a journal ends: it had seen a beginning of it
-pub record GoesOn (before : Positioned) (journal : List Place) : Type 0 where
+-- a position stands in a journal: no further than its end, and it had seen a beginning of it
+pub record StandsIn (before : Positioned) (journal : List Place) : Type 0 where
   pub above : before.position ≤ length journal
   pub began : BeginsWith before.seen journal

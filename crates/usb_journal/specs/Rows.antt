@@ -1,5 +1,5 @@
 -- Steps in a row, each at a place of its own.
-use Rattle.std.specs.Prelude.{◌≡◌, ◌≤◌, ◌+◌, ℕ, zero, suc, false, true, Bool, List, [], ◌∷◌, ◌++◌, drop, length, map, Some}
+use Rattle.std.specs.Prelude.{◌≡◌, ◌≤◌, ◌+◌, ◌&&◌, ◌||◌, not, ℕ, zero, suc, false, true, Bool, List, [], ◌∷◌, ◌++◌, drop, length, map, Some}
 use Rattle.usb_model.specs.declared.entry.Entry.{Entry}
 use Rattle.usb_model.specs.declared.reply.Reply.{Reply}
 use Rattle.usb_model.specs.declared.reply.Reply.TheVariants.{Ended, Moved, Settled}
@@ -68,21 +68,24 @@ abbrev pub is_end : Reply → Bool
 is_end (Ended n code) = true
 is_end reply = false
 
--- none of these ended a transfer
-abbrev pub EndNone : List Entry → Type 0
-EndNone [] = Unit {0}
-EndNone (x ∷ xs) = (is_end x.reply ≡ false) × EndNone xs
+-- whether one of these ended a transfer
+abbrev pub ends_any : List Entry → Bool
+ends_any [] = false
+ends_any (x ∷ xs) = is_end x.reply || ends_any xs
 
 -- an errand ended
 abbrev pub is_settled : Reply → Bool
 is_settled (Settled ep errand ok) = true
 is_settled reply = false
 
--- of so many events from a world on: by none of them an errand ended, and behind none of them an order waits
-abbrev pub AreQuiet : Setup → World → ℕ → Type 0
-AreQuiet setup w zero = Unit {0}
-AreQuiet setup w (suc count) =
-    (is_settled (turn setup w Deliver).entry.reply ≡ false) × (does_something setup (turn setup w Deliver).world Command ≡ false) × AreQuiet setup (turn setup w Deliver).world count
+-- whether the oldest event leaves nothing for the controller: by it no errand ends, and behind it no order waits
+abbrev pub is_quiet : Setup → World → Bool
+is_quiet setup w = not (is_settled (turn setup w Deliver).entry.reply) && not (does_something setup (turn setup w Deliver).world Command)
+
+-- whether so many events from a world on leave nothing: each of them, where it is the oldest
+abbrev pub are_quiet : Setup → World → ℕ → Bool
+are_quiet setup w zero = true
+are_quiet setup w (suc count) = is_quiet setup w && are_quiet setup (turn setup w Deliver).world count
 
 -- each payload is what is kept under the name and the number that its callback is given
 abbrev pub AreKept : {P : Type 0} → Kept P → List (Taken P) → Type 0

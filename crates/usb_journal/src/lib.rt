@@ -45,10 +45,10 @@
 //!   consecutive places behind the others, with the entries that the definitions' run has for them; the position goes
 //!   behind them, and the row is told by its first number and its count, without receipts (`EntersRow`). Packets end
 //!   early only behind one that moved no bytes of a transfer that goes on, and behind one that ended a transfer only
-//!   where no other packet does anything at the endpoint (`MayStop`); events only where none waits. There is no result in
-//!   a row only where none waits; each that goes out has the payload that was kept with its transfer. Of packets it is
-//!   told whether one may have ended a transfer, of events whether they left nothing for the controller. After want of
-//!   memory nothing changed
+//!   where no other packet does anything at the endpoint (`MayStop`); events only where none waits; results only where
+//!   none waits, or where one waits and memory was refused to it, which is told (`lacked`). Each result that goes out has
+//!   the payload that was kept with its transfer. Of packets it is told whether one of them ended a transfer
+//!   (`ends_any`), of events whether they left nothing for the controller (`are_quiet`). After want of memory nothing changed
 //! - `tick`: the moment becomes the later of it and `now`; behind the others stand, at consecutive places, just the
 //!   steps that the definitions say are due at that moment (`due` of the journal with its moments), in their order,
 //!   as asked for by the caller; a receipt for each; and the position goes behind them. After want of memory nothing changed
@@ -93,5 +93,5 @@ pub use position::Position;
 pub use receipt::Receipt;
 pub use record::NotRecorded;
 pub use recorder::{Recorder, Unrecorded};
-pub use rows::{Delivered, Row, Served};
+pub use rows::{Delivered, Outgoing, Row, Served};
 pub use usb_core::{Pending, Setup, Stepped, Taken, Unaccepted};

@@ -1,6 +1,6 @@
 //! Steps in a row, each at a place of its own, in one call.
 
-ghost use Rattle.std.specs.Prelude.{◌≡◌, ℕ, ◌+◌, ◌-◌, ◌++◌, ◌∷◌, ◌||◌, ◌^◌, ◌<◌, ◌≤◌, List, [], false, true, IfOk, OnErr, OnOk, length, map, max, replicate, Some};
+ghost use Rattle.std.specs.Prelude.{◌≡◌, ℕ, ◌+◌, ◌-◌, ◌++◌, ◌∷◌, ◌&&◌, ◌||◌, ◌^◌, ◌<◌, ◌≤◌, List, [], false, not, true, IfOk, OnErr, OnOk, length, map, max, replicate, Some};
 ghost use Rattle.usb_model.specs.declared.step.Step.TheVariants.{Command, Deliver, Serve, Take};
 ghost use Rattle.usb_model.specs.Setup.{Setup};
 ghost use Rattle.usb_model.specs.World.{World};
@@ -8,9 +8,9 @@ ghost use Rattle.usb_model.specs.World.Journal.{run_from};
 ghost use Rattle.usb_core.specs.Public.{Carries, Kept, ShowsWorld, StillCarries, called_entry, does_something};
 ghost use Rattle.usb_steps.specs.Bursts.{burst_entries, whole_entries};
 ghost use Rattle.usb_journal.specs.Booked.{IsSame, Replays, entries_of, world_where};
-ghost use Rattle.usb_journal.specs.Entered.{GoesOn, IsQuiet, IsRow, MakesRow, TakesRow};
+ghost use Rattle.usb_journal.specs.Entered.{DoesRow, IsRow, StandsIn, TakesRow};
 ghost use Rattle.usb_journal.specs.Records.{bytes_in};
-ghost use Rattle.usb_journal.specs.Rows.{AreKept, AreQuiet, EndNone, EntersRow, GoOn, MayStop, MayStopBehind, is_end, is_progress, is_settled, new_places};
+ghost use Rattle.usb_journal.specs.Rows.{AreKept, EntersRow, GoOn, MayStop, MayStopBehind, are_quiet, ends_any, is_end, is_progress, is_quiet, is_settled, new_places};
 
 use crate::book::Book;
 use crate::log::Log;
@@ -49,6 +49,15 @@ pub struct Delivered {
     pub quiet: bool,
 }
 
+/// What came of results in a row.
+#[derive(Clone, Copy, PartialEq, Eq, Debug)]
+pub struct Outgoing {
+    /// Their places.
+    pub row: Row,
+    /// Whether memory was refused to one behind these.
+    pub lacked: bool,
+}
+
 impl<L: Naming, P, D: Device, J: Recorder> Book<L, P, D, J> {
     /// A device answers packets in a row at an endpoint (USB 2.0, 8.5), at the next places of the journal: at most so many,
     /// and at least one. They end behind the first that moved no bytes; one that ended a transfer is the last only where no other
@@ -64,7 +73,7 @@ impl<L: Naming, P, D: Device, J: Recorder> Book<L, P, D, J> {
         ensures some { IfOk result (λ x. (0 < x.row.count) × (x.row.count ≤ max 1 most)) }
         ensures on { IfOk result (λ x. GoOn (entries_of (new_places self.old self.new))) }
         ensures ends { IfOk result (λ x. x.row.count < most → MayStopBehind self.old.setup (world_where self.old.setup self.new.journal) dev ep (entries_of (new_places self.old self.new))) }
-        ensures quiet { IfOk result (λ x. x.ended ≡ false → EndNone (entries_of (new_places self.old self.new))) }
+        ensures ended { IfOk result (λ x. x.ended ≡ ends_any (entries_of (new_places self.old self.new))) }
         ensures library { self.old.setup ≡ L.setup }
         ensures carries { StillCarries self.old.core self.new.core }
         ensures err { OnErr result (IsSame self.old self.new × (position.new ≡ position.old)) }
@@ -100,7 +109,7 @@ impl<L: Naming, P, D: Device, J: Recorder> Book<L, P, D, J> {
         ensures made { IfOk result (λ x. EntersRow (replicate x.row.count Deliver) self.old position.old x.row self.new position.new) }
         ensures few { IfOk result (λ x. x.row.count ≤ most) }
         ensures ends { IfOk result (λ x. x.row.count < most → does_something self.old.setup (world_where self.old.setup self.new.journal) Deliver ≡ false) }
-        ensures quiet { IfOk result (λ x. x.quiet ≡ true → AreQuiet self.old.setup (world_where self.old.setup self.old.journal) x.row.count) }
+        ensures quiet { IfOk result (λ x. x.quiet ≡ are_quiet self.old.setup (world_where self.old.setup self.old.journal) x.row.count) }
         ensures library { self.old.setup ≡ L.setup }
         ensures carries { StillCarries self.old.core self.new.core }
         ensures err { OnErr result (IsSame self.old self.new × (position.new ≡ position.old)) }
@@ -126,19 +135,20 @@ impl<L: Naming, P, D: Device, J: Recorder> Book<L, P, D, J> {
     }
 
     /// The oldest results go out to their callbacks (libusb 1.0, `libusb_transfer_cb_fn`), at most so many, at the next places
-    /// of the journal, and stand in `taken`, in order, each with the payload of its transfer. Where memory is refused to one,
-    /// they are those before it; where it is refused to the first, nothing changed.
+    /// of the journal, and stand in `taken`, in order, each with the payload of its transfer. They are fewer only where no more
+    /// wait, or memory is refused to one: then they are those before it. Where it is refused to the first, nothing changed.
     pub fn take_all(
         &mut self,
         most: u32,
         taken: &mut Vec<Taken<P>>,
         position: &mut Position<L>,
-    ) -> Result<Row, AllocError>
+    ) -> Result<Outgoing, AllocError>
         requires empty { taken.old.items ≡ [] }
-        ensures made { IfOk result (λ row. EntersRow (replicate row.count Take) self.old position.old row self.new position.new) }
+        ensures made { IfOk result (λ x. EntersRow (replicate x.row.count Take) self.old position.old x.row self.new position.new) }
         ensures entries { OnOk result (entries_of (new_places self.old self.new) ≡ map (λ t. called_entry (Some t.returned)) taken.new.items) }
-        ensures few { IfOk result (λ row. row.count ≤ most) }
-        ensures none { IfOk result (λ row. row.count ≡ 0 → 0 < most → does_something self.old.setup (world_where self.old.setup self.old.journal) Take ≡ false) }
+        ensures few { IfOk result (λ x. x.row.count ≤ most) }
+        ensures ends { IfOk result (λ x. x.lacked ≡ false → x.row.count < most → does_something self.old.setup (world_where self.old.setup self.new.journal) Take ≡ false) }
+        ensures lacks { IfOk result (λ x. x.lacked ≡ true → (0 < x.row.count) × (x.row.count < most) × (does_something self.old.setup (world_where self.old.setup self.new.journal) Take ≡ true)) }
         ensures library { self.old.setup ≡ L.setup }
         ensures carries { (kept : Kept P) → Carries kept self.old.core → AreKept kept taken.new.items × Carries kept self.new.core }
         ensures err { OnErr result (IsSame self.old self.new × (position.new ≡ position.old) × (taken.new.items ≡ [])) }
@@ -146,15 +156,15 @@ impl<L: Naming, P, D: Device, J: Recorder> Book<L, P, D, J> {
         let first = self.log.len();
         if most == 0 || !self.has_result() {
             self.log.look(position);
-            return Ok(Row { first, count: 0 });
+            let row = Row { first, count: 0 };
+            return Ok(Outgoing { row, lacked: false });
         }
         self.take_next(taken, position)?;
-        let more = self.take_more(most - 1, taken, position);
+        let (more, lacked) = self.take_more(most - 1, taken, position);
         self.log.look(position);
-        Ok(Row {
-            first,
-            count: u64::from(more) + 1,
-        })
+        let count = u64::from(more) + 1;
+        let row = Row { first, count };
+        Ok(Outgoing { row, lacked })
     }
 
     /// Whether a result waits to go out.
@@ -172,7 +182,7 @@ impl<L: Naming, P, D: Device, J: Recorder> Book<L, P, D, J> {
     ) -> Result<(), AllocError>
         requires { does_something self.old.setup (world_where self.old.setup self.old.journal) Take ≡ true }
         ensures ok { OnOk result ((t : Taken P) × (taken.new.items ≡ taken.old.items ++ t ∷ []) × TakesRow (t ∷ []) self.old position.old self.new position.new) }
-        ensures on { OnOk result (GoesOn position.old self.old.journal) }
+        ensures on { OnOk result (StandsIn position.old self.old.journal) }
         ensures err { OnErr result (IsSame self.old self.new × (position.new ≡ position.old) × (taken.new.items ≡ taken.old.items)) }
     {
         taken.reserve(1)?;
@@ -185,21 +195,28 @@ impl<L: Naming, P, D: Device, J: Recorder> Book<L, P, D, J> {
     }
 
     /// The oldest results go out, as many as there are and at most so many, and stand behind these; where memory is refused to
-    /// one, those before it. How many they were.
-    fn take_more(&mut self, most: u32, taken: &mut Vec<Taken<P>>, position: &mut Position<L>) -> u32
+    /// one, those before it. How many they were, and whether it was.
+    fn take_more(
+        &mut self,
+        most: u32,
+        taken: &mut Vec<Taken<P>>,
+        position: &mut Position<L>,
+    ) -> (u32, bool)
         requires { position.old.seen ≡ self.old.journal }
-        ensures taken { (more : List (Taken P)) × (taken.new.items ≡ taken.old.items ++ more) × (length more ≡ result) × TakesRow more self.old position.old self.new position.new }
-        ensures few { result ≤ most }
+        ensures taken { (more : List (Taken P)) × (taken.new.items ≡ taken.old.items ++ more) × (length more ≡ result.0) × TakesRow more self.old position.old self.new position.new }
+        ensures few { result.0 ≤ most }
+        ensures ends { result.1 ≡ false → result.0 < most → does_something self.new.setup (world_where self.new.setup self.new.journal) Take ≡ false }
+        ensures lacks { result.1 ≡ true → (result.0 < most) × (does_something self.new.setup (world_where self.new.setup self.new.journal) Take ≡ true) }
     {
         for done in 0..most {
             if !self.has_result() {
-                return done;
+                return (done, false);
             }
             let Ok(()) = self.take_next(taken, position) else {
-                return done;
+                return (done, true);
             };
         }
-        most
+        (most, false)
     }
 }
 
@@ -217,11 +234,11 @@ fn serve_each<L: Naming, P, D: Device, J: Recorder>(
     requires seen { position.old.seen ≡ log.old.journal }
     requires room { (length log.old.journal + most < 2 ^ 64) × J.has_room log.old.recorder most 0 }
     requires run { Replays L.setup log.old.journal core.old }
-    ensures row { MakesRow L.setup moment (replicate result.0 (Serve dev ep)) core.old log.old.journal position.old core.new log.new.journal position.new }
+    ensures row { DoesRow L.setup moment (replicate result.0 (Serve dev ep)) core.old log.old.journal position.old core.new log.new.journal position.new }
     ensures some { (0 < result.0) × (result.0 ≤ most) }
     ensures on { GoOn (run_from L.setup (world_where L.setup log.old.journal) (replicate result.0 (Serve dev ep))) }
     ensures ends { result.0 < most → MayStopBehind L.setup (world_where L.setup log.new.journal) dev ep (run_from L.setup (world_where L.setup log.old.journal) (replicate result.0 (Serve dev ep))) }
-    ensures quiet { result.1 ≡ false → EndNone (run_from L.setup (world_where L.setup log.old.journal) (replicate result.0 (Serve dev ep))) }
+    ensures ended { result.1 ≡ ends_any (run_from L.setup (world_where L.setup log.old.journal) (replicate result.0 (Serve dev ep))) }
 {
     let mut count = 0;
     let mut ended = false;
@@ -250,7 +267,7 @@ fn serve_row<L: Naming, P, D: Device, J: Recorder>(
     requires seen { position.old.seen ≡ log.old.journal }
     requires room { (length log.old.journal + most < 2 ^ 64) × J.has_room log.old.recorder most 0 }
     requires run { Replays L.setup log.old.journal core.old }
-    ensures row { MakesRow L.setup moment (replicate (result.full + 1) (Serve dev ep)) core.old log.old.journal position.old core.new log.new.journal position.new }
+    ensures row { DoesRow L.setup moment (replicate (result.full + 1) (Serve dev ep)) core.old log.old.journal position.old core.new log.new.journal position.new }
     ensures entries { burst_entries result ≡ run_from L.setup (world_where L.setup log.old.journal) (replicate (result.full + 1) (Serve dev ep)) }
     ensures few { result.full + 1 ≤ most }
     ensures room { J.has_room log.new.recorder (most - (result.full + 1)) 0 }
@@ -336,10 +353,10 @@ fn deliver_each<L: Naming, P, D: Device, J: Recorder>(
     requires seen { position.old.seen ≡ log.old.journal }
     requires room { (length log.old.journal + most < 2 ^ 64) × J.has_room log.old.recorder most 0 }
     requires run { Replays L.setup log.old.journal core.old }
-    ensures row { MakesRow L.setup moment (replicate result.0 Deliver) core.old log.old.journal position.old core.new log.new.journal position.new }
+    ensures row { DoesRow L.setup moment (replicate result.0 Deliver) core.old log.old.journal position.old core.new log.new.journal position.new }
     ensures few { result.0 ≤ most }
     ensures ends { result.0 < most → does_something L.setup (world_where L.setup log.new.journal) Deliver ≡ false }
-    ensures quiet { result.1 ≡ true → AreQuiet L.setup (world_where L.setup log.old.journal) result.0 }
+    ensures quiet { result.1 ≡ are_quiet L.setup (world_where L.setup log.old.journal) result.0 }
 {
     let mut quiet = true;
     for done in 0..most {
@@ -362,8 +379,8 @@ fn deliver_next<L: Naming, P, D: Device, J: Recorder>(
     requires seen { position.old.seen ≡ log.old.journal }
     requires room { (places : ℕ) × (1 ≤ places) × (length log.old.journal + places < 2 ^ 64) × J.has_room log.old.recorder places 0 }
     requires run { Replays L.setup log.old.journal core.old }
-    ensures row { MakesRow L.setup moment (Deliver ∷ []) core.old log.old.journal position.old core.new log.new.journal position.new }
-    ensures quiet { result ≡ true → (quiet ≡ true) × IsQuiet L.setup (world_where L.setup log.old.journal) }
+    ensures row { DoesRow L.setup moment (Deliver ∷ []) core.old log.old.journal position.old core.new log.new.journal position.new }
+    ensures quiet { result ≡ (quiet && is_quiet L.setup (world_where L.setup log.old.journal)) }
     ensures room { (places : ℕ) → J.has_room log.old.recorder places 0 → J.has_room log.new.recorder (places - 1) 0 }
 {
     let entry = core.deliver();
@@ -375,7 +392,7 @@ fn deliver_next<L: Naming, P, D: Device, J: Recorder>(
 /// Whether an event with this reply left nothing for the controller, nor those before it: by it no errand ended, and no
 /// order waits.
 fn leaves_nothing<P, D: Device>(core: &Core<P, D>, reply: &Reply, quiet: bool) -> bool
-    ensures { (setup : Setup) (w : World) → ShowsWorld setup core.now w → result ≡ true → (quiet ≡ true) × (is_settled reply.now ≡ false) × (does_something setup w Command ≡ false) }
+    ensures { (setup : Setup) (w : World) → ShowsWorld setup core.now w → result ≡ (quiet && (not (is_settled reply.now) && not (does_something setup w Command))) }
 {
     quiet && !is_settled(reply) && !core.has_order()
 }

@@ -1,6 +1,6 @@
 -- What a call makes of a row of a book's steps.
-use Rattle.std.proofs.Common.{◌≡◌, ◌++◌, ◌∙◌, ◌∷◌, List, [], ℕ, Result, Ok, ap, append-nil, length, map, refl, subst, sym}
-use Rattle.std.specs.Prelude.{IfOk, OnOk, replicate}
+use Rattle.std.proofs.Common.{◌≡◌, ◌++◌, ◌∙◌, ◌∷◌, List, [], ℕ, Result, Ok, ap, length, map, refl, subst, sym}
+use Rattle.std.specs.Prelude.{IfOk, OnOk}
 use Rattle.usb_model.specs.declared.step.Step.{Step}
 use Rattle.usb_model.specs.Setup.{Setup}
 use Rattle.usb_model.specs.World.Journal.{run_from}
@@ -46,14 +46,6 @@ row_of_book setup steps row old new before after missed done result x is enters 
       steps = sym (steps_asked (new_places old new)) ∙ (ap (map (λ a. a.step)) e.each ∙ asks_steps before.number old.moment (steps x));
       entries = e.entries ∙ ap (λ s. run_from s (world_where s old.journal) (steps x)) its;
     }
-
--- a row of no steps leaves what was seen before it
-pub none_seen : (setup : Setup) (step : Step) (count : ℕ) (before places seen : List Place) (first : ℕ) → IsLastRow setup (replicate count step) before places seen first → count ≡ 0 → seen ≡ before
-none_seen setup step count before places seen first last none = last.saw ∙ (ap (λ l. before ++ l) (by_places places (last.steps ∙ ap (λ n. replicate n step) none)) ∙ append-nil before)
-  where
-    by_places : (places : List Place) → steps_of places ≡ [] → places ≡ []
-    by_places [] e = refl
-    by_places (p ∷ ps) e = absurd cc
 
 -- so what a call makes, where the row is above the caller's earlier places
 pub makes_row : {X E P : Type 0} (setup : Setup) (steps : X → List Step) (row : X → Row) (old new : Booked P) (before after : Positioned) (missed : ℕ) (called done : Calling) (result : Result X E) (x : X)

@@ -2,7 +2,8 @@
 use Rattle.std.proofs.Common.{Bool, List, [], ap, false, inl, inr, refl, subst, sym, true, zero, suc, ℕ, ◌++◌, ◌∙◌, ◌∷◌, ◌≡◌, ◌⊎◌}
 use Rattle.std.proofs.lemmas.List.{map-append}
 use Rattle.std.proofs.Math.Seq.{take-append_seam}
-use Rattle.std.specs.Prelude.{if◌then◌else◌, replicate}
+use Rattle.std.proofs.lemmas.Bool.{and_parts, or_parts}
+use Rattle.std.specs.Prelude.{◌&&◌, if◌then◌else◌, not, replicate}
 use Rattle.usb_model.specs.declared.reply.Reply.{Reply}
 use Rattle.usb_model.specs.declared.reply.Reply.TheVariants as reply
 use Rattle.usb_model.specs.declared.step.Step.{Step}
@@ -13,7 +14,7 @@ use Rattle.usb_model.specs.World.Journal.{journal_from, run_from}
 use Rattle.usb_steps.specs.Pending.{does_something}
 use Rattle.usb_journal.specs.declared.place.Place.{Place}
 use Rattle.usb_journal.specs.Booked.{entries_of, steps_of, world_where}
-use Rattle.usb_journal.specs.Rows.{AreQuiet, EndNone, is_end, is_settled}
+use Rattle.usb_journal.specs.Rows.{are_quiet, ends_any, is_end, is_quiet, is_settled}
 use Rattle.proof_lemmas.proofs.Handles.Runs.{world_append}
 use Rattle.usb_library.specs.declared.wakes.Part.{Part}
 use Rattle.usb_library.specs.declared.wakes.Part.TheVariants.{Controller, Events}
@@ -72,13 +73,14 @@ packet_covered false true (reply.Ended n code) quiet part named = absurd (cc (qu
 packet_covered ended true _ quiet part named = absurd cc
 
 -- so do packets in a row
-pub packets_name : (setup : Setup) (d e : ℕ) (ended : Bool) (count : ℕ) (w : World) → (ended ≡ false → EndNone (run_from setup w (replicate count (Serve d e))))
+pub packets_name : (setup : Setup) (d e : ℕ) (ended : Bool) (count : ℕ) (w : World) → (ended ≡ false → ends_any (run_from setup w (replicate count (Serve d e))) ≡ false)
     → NameNoMore setup w (replicate count (Serve d e)) (if ended then Of Events else None)
 unfolding journal_from
-packets_name setup d e ended zero w quiet = tt
-packets_name setup d e ended (suc count) w quiet =
+packets_name setup d e ended zero w none = tt
+packets_name setup d e ended (suc count) w none =
     let t = turn setup w (Serve d e) in
-    (packet_covered ended (changes t.entry.reply) t.entry.reply (λ is. (quiet is).0), packets_name setup d e ended count t.world (λ is. (quiet is).1))
+    let parts : ended ≡ false → (is_end t.entry.reply ≡ false) × (ends_any (run_from setup t.world (replicate count (Serve d e))) ≡ false) = λ is. or_parts (is_end t.entry.reply) (ends_any (run_from setup t.world (replicate count (Serve d e)))) (none is) in
+    (packet_covered ended (changes t.entry.reply) t.entry.reply (λ is. (parts is).0), packets_name setup d e ended count t.world (λ is. (parts is).1))
 
 -- an event names the controller's worker, and that one only where an errand ended or an order waits
 event_covered : (quiet order : Bool) (r : Reply) → (quiet ≡ true → (is_settled r ≡ false) × (order ≡ false)) → Covers (of_event r order) (if quiet then None else Of Controller)
@@ -93,13 +95,20 @@ if_covered : (changed : Bool) (less more : Work) → Covers less more → Covers
 if_covered true less more covers = covers
 if_covered false less more covers = λ part named. absurd cc
 
+-- an event that leaves nothing: no errand ended, and no order waits
+quiet_parts : (settled order : Bool) → (not settled && not order) ≡ true → (settled ≡ false) × (order ≡ false)
+quiet_parts false false is = (refl, refl)
+quiet_parts false true is = absurd cc
+quiet_parts true order is = absurd cc
+
 -- so do events in a row
-pub events_name : (setup : Setup) (quiet : Bool) (count : ℕ) (w : World) → (quiet ≡ true → AreQuiet setup w count) → NameNoMore setup w (replicate count Deliver) (if quiet then None else Of Controller)
+pub events_name : (setup : Setup) (quiet : Bool) (count : ℕ) (w : World) → (quiet ≡ true → are_quiet setup w count ≡ true) → NameNoMore setup w (replicate count Deliver) (if quiet then None else Of Controller)
 events_name setup quiet zero w are = tt
 events_name setup quiet (suc count) w are =
     let t = turn setup w Deliver in
     let order = does_something setup t.world Command in
-    (if_covered (changes t.entry.reply) (of_event t.entry.reply order) (if quiet then None else Of Controller) (event_covered quiet order t.entry.reply (λ is. ((are is).0, (are is).1))), events_name setup quiet count t.world (λ is. (are is).2))
+    let parts : quiet ≡ true → (is_quiet setup w ≡ true) × (are_quiet setup t.world count ≡ true) = λ is. and_parts (is_quiet setup w) (are_quiet setup t.world count) (are is) in
+    (if_covered (changes t.entry.reply) (of_event t.entry.reply order) (if quiet then None else Of Controller) (event_covered quiet order t.entry.reply (λ is. quiet_parts (is_settled t.entry.reply) order (parts is).0)), events_name setup quiet count t.world (λ is. (parts is).1))
 
 -- results that go out name nobody
 pub results_name : (setup : Setup) (count : ℕ) (w : World) → NameNoMore setup w (replicate count Take) None
@@ -121,17 +130,17 @@ row_wakes setup steps before places seen first work last no_more =
 
 -- packets in a row
 pub packets_wake : (setup : Setup) (dev ep count : ℕ) (ended : Bool) (before places seen : List Place) (first : ℕ) (work : Work) → IsLastRow setup (replicate count (Serve dev ep)) before places seen first
-    → (ended ≡ false → EndNone (entries_of places)) → work ≡ (if ended then Of Events else None) → WakesSince setup seen first work
-packets_wake setup dev ep count ended before places seen first work last quiet named =
+    → ended ≡ ends_any (entries_of places) → work ≡ (if ended then Of Events else None) → WakesSince setup seen first work
+packets_wake setup dev ep count ended before places seen first work last is named =
     subst (WakesSince setup seen first) (sym named)
     (row_wakes setup (replicate count (Serve dev ep)) before places seen first (if ended then Of Events else None) last
-    (packets_name setup dev ep ended count (world_where setup before) (λ none. subst EndNone last.entries (quiet none))))
+    (packets_name setup dev ep ended count (world_where setup before) (λ none. ap ends_any (sym last.entries) ∙ (sym is ∙ none))))
 
 -- events in a row
 pub events_wake : (setup : Setup) (count : ℕ) (quiet : Bool) (before places seen : List Place) (first : ℕ) (work : Work) → IsLastRow setup (replicate count Deliver) before places seen first
-    → (quiet ≡ true → AreQuiet setup (world_where setup before) count) → work ≡ (if quiet then None else Of Controller) → WakesSince setup seen first work
+    → quiet ≡ are_quiet setup (world_where setup before) count → work ≡ (if quiet then None else Of Controller) → WakesSince setup seen first work
 events_wake setup count quiet before places seen first work last are named =
-    subst (WakesSince setup seen first) (sym named) (row_wakes setup (replicate count Deliver) before places seen first (if quiet then None else Of Controller) last (events_name setup quiet count (world_where setup before) are))
+    subst (WakesSince setup seen first) (sym named) (row_wakes setup (replicate count Deliver) before places seen first (if quiet then None else Of Controller) last (events_name setup quiet count (world_where setup before) (λ all. sym are ∙ all)))
 
 -- results in a row
 pub results_wake : (setup : Setup) (count : ℕ) (before places seen : List Place) (first : ℕ) → IsLastRow setup (replicate count Take) before places seen first → WakesSince setup seen first None

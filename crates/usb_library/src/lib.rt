@@ -39,9 +39,9 @@
 //!   places are consecutive, above the caller's earlier ones and the last of its own, each of this caller, with the step
 //!   that it names and the entry of the definitions' run from where the journal before them ends. `serve_all` makes at
 //!   least one packet, and stops behind one that moved no bytes, or that ended a transfer behind which no packet does
-//!   anything; `deliver_all` stops where no event waits; `take_all` gives the results with what was kept, and gives none
-//!   only where none waits. They have no receipts: the caller's own places and what it has seen say the same. An error
-//!   is want of memory before the first of them
+//!   anything; `deliver_all` stops where no event waits; `take_all` gives the results with what was kept, and stops where
+//!   none waits, or where one waits and memory was refused to it, which it tells (`Outgoing`). They have no receipts: the
+//!   caller's own places and what it has seen say the same. An error is want of memory before the first of them
 //! - `tick`: `Ticks`: one Expire for each transfer that is due at the moment, which is `now` or later, in the
 //!   definitions' order, at consecutive places behind the journal so far, which began with all that the caller had seen,
 //!   and no other step

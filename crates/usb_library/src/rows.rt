@@ -4,7 +4,7 @@
 //! many steps it makes at most is its caller's to say: so long others wait for the lock. An error is want of memory: then
 //! nothing changed, and nothing is left of the call.
 
-ghost use Rattle.std.specs.Prelude.{◌≡◌, ◌<◌, ◌≤◌, [], false, IfOk, OnErr, Some, map, max, replicate};
+ghost use Rattle.std.specs.Prelude.{◌≡◌, ◌<◌, ◌≤◌, [], false, true, IfOk, OnErr, Some, map, max, replicate};
 ghost use Rattle.usb_model.specs.declared.step.Step.TheVariants.{Deliver, Serve, Take};
 ghost use Rattle.usb_core.specs.Public.{called_entry, does_something};
 ghost use Rattle.usb_journal.specs.Booked.{world_where};
@@ -19,7 +19,7 @@ use std::alloc::AllocError;
 use std::sync::Wait;
 use usb_core::Taken;
 use usb_device::Device;
-use usb_journal::{Naming, Recorder, Row};
+use usb_journal::{Naming, Outgoing, Recorder, Row};
 use usb_model::{DeviceNo, EpAddr};
 
 impl<L: Naming, P: Drop, D: Device, J: Recorder> Library<L, P, D, J> {
@@ -83,19 +83,21 @@ impl<L: Naming, P: Drop, D: Device, J: Recorder> Library<L, P, D, J> {
 
     /// The oldest results go out to their callbacks, at most so many, and stand in `taken`, in order, each with what was kept
     /// with its transfer (libusb 1.0, `libusb_transfer_cb_fn`): whoever takes them calls these, with no lock held, and tells
-    /// the verdict of each. Where memory is refused to one, they are those before it; an error only where that is the first.
+    /// the verdict of each. They are fewer only where no more wait, or memory is refused to one: then they are those before it. It is
+    /// an error only where that is the first.
     pub fn take_all<R: Wait>(
         &self,
         rt: &R,
         caller: &mut Caller<L>,
         most: u32,
         taken: &mut Vec<Taken<P>>,
-    ) -> Result<Row, AllocError>
+    ) -> Result<Outgoing, AllocError>
         requires empty { taken.old.items ≡ [] }
-        ensures made { IfOk result (λ row. MakesRow L.setup (replicate row.count Take) caller.old row caller.new) }
-        ensures entries { IfOk result (λ row. row_entries row caller.new ≡ map (λ t. called_entry (Some t.returned)) taken.new.items) }
-        ensures few { IfOk result (λ row. row.count ≤ most) }
-        ensures none { IfOk result (λ row. row.count ≡ 0 → 0 < most → does_something L.setup (world_where L.setup caller.new.seen) Take ≡ false) }
+        ensures made { IfOk result (λ x. MakesRow L.setup (replicate x.row.count Take) caller.old x.row caller.new) }
+        ensures entries { IfOk result (λ x. row_entries x.row caller.new ≡ map (λ t. called_entry (Some t.returned)) taken.new.items) }
+        ensures few { IfOk result (λ x. x.row.count ≤ most) }
+        ensures ends { IfOk result (λ x. x.lacked ≡ false → x.row.count < most → does_something L.setup (world_where L.setup caller.new.seen) Take ≡ false) }
+        ensures lacks { IfOk result (λ x. x.lacked ≡ true → (0 < x.row.count) × (x.row.count < most) × (does_something L.setup (world_where L.setup caller.new.seen) Take ≡ true)) }
         ensures refused { OnErr result ((caller.new ≡ misses caller.old) × (taken.new.items ≡ [])) }
     {
         let made = self
@@ -103,9 +105,9 @@ impl<L: Naming, P: Drop, D: Device, J: Recorder> Library<L, P, D, J> {
             .lock(rt)
             .book
             .take_all(most, taken, &mut caller.position);
-        let row = caller.counted(made)?;
-        self.wake_row(rt, caller, row, Work::None);
-        Ok(row)
+        let outgoing = caller.counted(made)?;
+        self.wake_row(rt, caller, outgoing.row, Work::None);
+        Ok(outgoing)
     }
 
     /// Those are woken who wait for a change. `work` names each worker that has work since the caller's steps of this row, which

@@ -10,6 +10,7 @@ use Rattle.usb_model.specs.declared.verdict.Verdict.TheVariants.{Stop}
 use Rattle.usb_model.specs.Numbers.{is_stop}
 use Rattle.usb_model.specs.Setup.{Setup}
 use Rattle.usb_core.specs.Public.{Taken, Unaccepted, called_entry, does_something}
+use Rattle.usb_journal.specs.declared.rows.Outgoing.{Outgoing}
 use Rattle.usb_journal.specs.declared.rows.Row.{Row}
 use Rattle.usb_journal.specs.Booked.{answer_entry, world_where}
 use Rattle.usb_journal.specs.Seen.{Receipted}
@@ -73,12 +74,21 @@ module _ (setup : Setup) where
   delivers_either most old new (Ok row) some m ends e = R.DeliversRow.made row (λ none. ends (omega (arith, none, some))) m
   delivers_either most old new (Err x) some m ends e = R.DeliversRow.missed e
 
+  -- where memory was refused to none behind a row, or to one behind a row of some, there are none in it only where none waits
+  none_waits : (most : ℕ) (new : Calling) (x : Outgoing) → 0 < most → (x.lacked ≡ false → x.row.count < most → does_something setup (world_where setup new.seen) Take ≡ false)
+      → (x.lacked ≡ true → (0 < x.row.count) × (x.row.count < most) × (does_something setup (world_where setup new.seen) Take ≡ true)) → x.row.count ≡ 0 → does_something setup (world_where setup new.seen) Take ≡ false
+  none_waits most new x some ends lacks none = by_lacked x.lacked refl
+    where
+      by_lacked : (lacked : Bool) → x.lacked ≡ lacked → does_something setup (world_where setup new.seen) Take ≡ false
+      by_lacked false is = ends is (omega (arith, none, some))
+      by_lacked true is = absurd (omega (arith, none, (lacks is).0))
+
   -- the oldest results go out in a row, of which at least one was wanted; or memory is refused to the first
-  pub takes_either : {E P : Type 0} (most : ℕ) (old new : Calling) (taken : List (Taken P)) (x : Result Row E) → 0 < most → IfOk x (λ row. MakesRow setup (replicate row.count Take) old row new)
-      → IfOk x (λ row. row_entries row new ≡ map (λ t. called_entry (Some t.returned)) taken) → IfOk x (λ row. row.count ≡ 0 → 0 < most → does_something setup (world_where setup new.seen) Take ≡ false)
-      → OnErr x ((new ≡ misses old) × (taken ≡ [])) → Takes setup (map (λ t. t.returned) taken) old new
-  takes_either most old new taken (Ok row) some m entries none e = R.Takes.out row (λ zero. none zero some) m (entries ∙ called_returned taken)
-  takes_either most old new taken (Err x) some m entries none e = R.Takes.missed (ap (map (λ t. t.returned)) e.1) e.0
+  pub takes_either : {E P : Type 0} (most : ℕ) (old new : Calling) (taken : List (Taken P)) (x : Result Outgoing E) → 0 < most → IfOk x (λ o. MakesRow setup (replicate o.row.count Take) old o.row new)
+      → IfOk x (λ o. row_entries o.row new ≡ map (λ t. called_entry (Some t.returned)) taken) → IfOk x (λ o. o.lacked ≡ false → o.row.count < most → does_something setup (world_where setup new.seen) Take ≡ false)
+      → IfOk x (λ o. o.lacked ≡ true → (0 < o.row.count) × (o.row.count < most) × (does_something setup (world_where setup new.seen) Take ≡ true)) → OnErr x ((new ≡ misses old) × (taken ≡ [])) → Takes setup (map (λ t. t.returned) taken) old new
+  takes_either most old new taken (Ok o) some m entries ends lacks e = R.Takes.out o.row (none_waits most new o some ends lacks) m (entries ∙ called_returned taken)
+  takes_either most old new taken (Err x) some m entries ends lacks e = R.Takes.missed (ap (map (λ t. t.returned)) e.1) e.0
 
   -- one verdict more is told
   pub tells_more : (may : Returned → Verdict → Type 0) (xs : List Returned) (x : Returned) (v : Verdict) (old mid new : Calling) → TellsAll setup may xs old mid → may x v → Tells setup x.h x.n v mid new → TellsAll setup may (xs ++ x ∷ []) old new

@@ -1,9 +1,9 @@
-use Rattle.std.proofs.Common.{◌≡◌, ◌+◌, ◌-◌, arith, subst}
-use Rattle.std.specs.Prelude.{replicate}
+use Rattle.std.proofs.Common.{◌≡◌, ◌∙◌, ◌+◌, ◌-◌, Bool, ap, ap₂, arith, refl, subst, sym}
+use Rattle.std.specs.Prelude.{◌&&◌, replicate}
 use Rattle.usb_model.specs.declared.step.Step.TheVariants.{Deliver}
 use Rattle.usb_model.specs.World.Journal.{run_from}
 use Rattle.usb_journal.specs.Booked.{world_where}
-use Rattle.usb_journal.specs.Entered.{IsQuiet}
+use Rattle.usb_journal.specs.Rows.{is_quiet}
 use Rattle.usb_journal.proofs.InRows.{makes_count, makes_more, makes_none, quiet_more, world_behind}
 use Rattle.usb_journal.proofs.rows.deliver_each.Goals as goal
 
@@ -14,7 +14,7 @@ loop-done-init g c =
       row = makes_none g.L.Naming.setup c.args.moment c.args.core.now c.args.log.now.journal c.args.position.now c.requires.seen c.requires.run;
       count = omega arith;
       room = subst (λ n. g.J.Recorder.has_room c.args.log.now.recorder n 0) all c.requires.room.1;
-      quiet = λ quiet. tt;
+      quiet = refl;
     }
 
 pub loop-done-preserved : goal.loop-done-preserved
@@ -31,5 +31,5 @@ loop-done-preserved g c =
       row = row;
       count = makes_count setup c.args.moment (n + 1) Deliver c.args.core.now c.args.log.now.journal c.args.position.now d.new.core d.new.log.journal d.new.position row;
       room = subst (λ k. g.J.Recorder.has_room d.new.log.recorder k 0) left (d.ensures.room (c.args.most - n) i.room);
-      quiet = λ quiet. let told = d.ensures.quiet quiet in quiet_more setup w n (i.quiet told.0) (subst (λ v. IsQuiet setup v) world told.1);
+      quiet = d.ensures.quiet ∙ (ap₂ (λ (a b : Bool). a && b) i.quiet (ap (is_quiet setup) world) ∙ sym (quiet_more setup w n));
     }

@@ -1,6 +1,9 @@
-use Rattle.std.proofs.Common.{◌≡◌, arith, false, refl, subst}
+use Rattle.std.proofs.Common.{◌∙◌, ap, arith, refl}
+use Rattle.std.specs.Prelude.{◌&&◌, not}
 use Rattle.usb_model.specs.declared.entry.Entry.{Entry}
-use Rattle.usb_model.specs.declared.step.Step.TheVariants.{Deliver}
+use Rattle.usb_model.specs.declared.step.Step.TheVariants.{Command, Deliver}
+use Rattle.usb_model.specs.World.{turn}
+use Rattle.usb_core.specs.Public.{does_something}
 use Rattle.usb_journal.specs.Booked.{world_where}
 use Rattle.usb_journal.specs.Rows.{is_settled}
 use Rattle.usb_journal.proofs.InRows.{makes_one}
@@ -18,8 +21,8 @@ returns-clause-row g c =
     c.deliver-entry.ensures.turned c.number-caller.ensures c.enter.ensures.receipt c.enter.ensures.journal c.enter.ensures.position c.enter.ensures.saw c.deliver-entry.ensures.carries c.requires.run
 
 pub returns-clause-quiet : goal.returns-clause-quiet
-returns-clause-quiet g c = λ is.
+returns-clause-quiet g c =
     let setup = g.L.Naming.setup in
     let made = c.deliver-entry.ensures.turned setup (world_where setup c.args.log.now.journal) c.requires.run.1 in
-    let told = c.leaves_nothing.ensures setup _ made.1 is in
-    (told.0, (subst (λ (e : Entry). is_settled e.reply ≡ false) made.0 told.1, told.2))
+    let order = does_something setup (turn setup (world_where setup c.args.log.now.journal) Deliver).world Command in
+    c.leaves_nothing.ensures setup _ made.1 ∙ ap (λ (e : Entry). c.args.quiet && (not (is_settled e.reply) && not order)) made.0

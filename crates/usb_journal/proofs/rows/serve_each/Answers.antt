@@ -1,7 +1,7 @@
-use Rattle.std.proofs.Common.{◌≡◌, ◌+◌, ◌-◌, arith, subst}
+use Rattle.std.proofs.Common.{◌≡◌, ◌+◌, ◌-◌, arith, subst, sym}
 use Rattle.usb_model.specs.declared.step.Step.TheVariants.{Serve}
 use Rattle.usb_journal.specs.Booked.{world_where}
-use Rattle.usb_journal.proofs.Bursts.{burst_goes_on, burst_halts, burst_quiet, burst_stops, none_progress, progress_goes_on}
+use Rattle.usb_journal.proofs.Bursts.{burst_ended, burst_goes_on, burst_halts, burst_stops, none_progress, progress_goes_on}
 use Rattle.usb_journal.proofs.InRows.{makes_count, makes_more, makes_none, none_ended}
 use Rattle.usb_journal.proofs.rows.serve_each.Goals as goal
 
@@ -14,7 +14,7 @@ loop-count-init g c =
       count = omega arith;
       few = omega arith;
       room = subst (λ n. g.J.Recorder.has_room c.args.log.now.recorder n 0) all c.requires.room.1;
-      quiet = λ none. none_ended setup (world_where setup c.args.log.now.journal);
+      ended = sym (none_ended setup (world_where setup c.args.log.now.journal));
       on = none_progress setup (world_where setup c.args.log.now.journal);
     }
 
@@ -32,12 +32,12 @@ returns-then-may_stop-clause-ends g c = λ fewer.
     let w = world_where setup s.new.log.journal in
     burst_stops setup c.args.moment c.args.dev c.args.ep l.count c.args.core.now c.args.log.now.journal c.args.position.now l.core l.log.journal l.position s.result l.invariant.row s.ensures.entries w (c.may_stop.ensures.stops setup w s.ensures.row.run.1 c.if-may_stop.true)
 
-pub returns-then-may_stop-clause-quiet : goal.returns-then-may_stop-clause-quiet
-returns-then-may_stop-clause-quiet g c =
+pub returns-then-may_stop-clause-ended : goal.returns-then-may_stop-clause-ended
+returns-then-may_stop-clause-ended g c =
     let l = c.loop-count in
     let s = c.serve_row-burst in
-    burst_quiet g.L.Naming.setup c.args.moment c.args.dev c.args.ep l.count c.args.core.now c.args.log.now.journal c.args.position.now l.core l.log.journal l.position s.result l.invariant.row s.ensures.entries
-    l.ended c.or_ends-ended.result c.or_ends-ended.ensures l.invariant.quiet
+    burst_ended g.L.Naming.setup c.args.moment c.args.dev c.args.ep l.count c.args.core.now c.args.log.now.journal c.args.position.now l.core l.log.journal l.position s.result l.invariant.row s.ensures.entries
+    l.ended c.or_ends-ended.result c.or_ends-ended.ensures l.invariant.ended
 
 pub loop-count-preserved-else-may_stop : goal.loop-count-preserved-else-may_stop
 loop-count-preserved-else-may_stop g c =
@@ -53,7 +53,7 @@ loop-count-preserved-else-may_stop g c =
       count = makes_count setup c.args.moment (l.count + more) step c.args.core.now c.args.log.now.journal c.args.position.now s.new.core s.new.log.journal s.new.position row;
       few = omega (arith, s.ensures.few, c.loop-count-test.true);
       room = subst (λ n. g.J.Recorder.has_room s.new.log.recorder n 0) left s.ensures.room;
-      quiet = burst_quiet setup c.args.moment c.args.dev c.args.ep l.count c.args.core.now c.args.log.now.journal c.args.position.now l.core l.log.journal l.position s.result l.invariant.row s.ensures.entries l.ended c.or_ends-ended.result c.or_ends-ended.ensures l.invariant.quiet;
+      ended = burst_ended setup c.args.moment c.args.dev c.args.ep l.count c.args.core.now c.args.log.now.journal c.args.position.now l.core l.log.journal l.position s.result l.invariant.row s.ensures.entries l.ended c.or_ends-ended.result c.or_ends-ended.ensures l.invariant.ended;
       on = burst_goes_on setup c.args.moment c.args.dev c.args.ep l.count c.args.core.now c.args.log.now.journal c.args.position.now l.core l.log.journal l.position s.result l.invariant.row s.ensures.entries l.invariant.on (c.may_stop.ensures.on c.if-may_stop.false);
     }
 
@@ -71,7 +71,7 @@ loop-count-preserved g c =
       count = makes_count setup c.args.moment (l.count + more) step c.args.core.now c.args.log.now.journal c.args.position.now s.new.core s.new.log.journal s.new.position row;
       few = omega (arith, s.ensures.few, c.loop-count-test.true);
       room = subst (λ n. g.J.Recorder.has_room s.new.log.recorder n 0) left s.ensures.room;
-      quiet = burst_quiet setup c.args.moment c.args.dev c.args.ep l.count c.args.core.now c.args.log.now.journal c.args.position.now l.core l.log.journal l.position s.result l.invariant.row s.ensures.entries l.ended c.or_ends-ended.result c.or_ends-ended.ensures l.invariant.quiet;
+      ended = burst_ended setup c.args.moment c.args.dev c.args.ep l.count c.args.core.now c.args.log.now.journal c.args.position.now l.core l.log.journal l.position s.result l.invariant.row s.ensures.entries l.ended c.or_ends-ended.result c.or_ends-ended.ensures l.invariant.ended;
       on = burst_goes_on setup c.args.moment c.args.dev c.args.ep l.count c.args.core.now c.args.log.now.journal c.args.position.now l.core l.log.journal l.position s.result l.invariant.row s.ensures.entries l.invariant.on (c.may_stop.ensures.on c.if-may_stop.false);
     }
 

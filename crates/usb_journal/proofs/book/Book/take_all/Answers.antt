@@ -24,7 +24,7 @@ returns-clause-made g c =
     let old : Booked g.row.P.Denot = c.args.self.now in
     let new : Booked g.row.P.Denot = c.take_more-more.new.self in
     let all = takes_on (one.0 ∷ []) rest.0 old c.take_next.new.self new c.args.position.now c.take_next.new.position c.take_more-more.new.position one.2 rest.3 in
-    let count : length (one.0 ∷ rest.0) ≡ c.from.result + 1 = omega (arith, rest.2, c.from.ensures) in
+    let count : length (one.0 ∷ rest.0) ≡ c.from-count.result + 1 = omega (arith, rest.2, c.from-count.ensures) in
     let first : c.len-first.result ≡ length old.journal = c.len-first.ensures ∙ ap (λ (b : Booked g.row.P.Denot). length b.journal) c.self.view_is in
     let end : c.look-2.new.position ≡ positioned c.take_more-more.new.position.number new.journal = c.look-2.ensures.position ∙ ap (λ (b : Booked g.row.P.Denot). positioned c.take_more-more.new.position.number b.journal) c.self-2.view_is in
     let row = row_looked c.args.position.now.number old.moment (replicate (length (one.0 ∷ rest.0)) Take) _ old.journal c.args.position.now new.journal c.take_more-more.new.position c.look-2.new.position all.row end c.look-2.ensures.own in
@@ -33,7 +33,7 @@ returns-clause-made g c =
     (ap (λ (p : Positioned). p.position) end) all.setup all.moment in
     let looked : record { setup = g.L.Naming.setup; journal = c.look-2.new.self.journal; moment = c.self-2.inside.moment; core = c.self-2.inside.core } ≡ new =
     ap (λ (l : Logged g.row.J.Denot). record { setup = g.L.Naming.setup; journal = l.journal; moment = c.self-2.inside.moment; core = c.self-2.inside.core }) c.look-2.ensures.same ∙ c.self-2.view_is in
-    subst (λ (b : Booked g.row.P.Denot). EntersRow (replicate (c.from.result + 1) Take) old c.args.position.now (record { first = c.len-first.result; count = c.from.result + 1 }) b c.look-2.new.position) (sym looked)
+    subst (λ (b : Booked g.row.P.Denot). EntersRow (replicate (c.from-count.result + 1) Take) old c.args.position.now (record { first = c.len-first.result; count = c.from-count.result + 1 }) b c.look-2.new.position) (sym looked)
     (subst (λ (n : ℕ). EntersRow (replicate n Take) old c.args.position.now (record { first = c.len-first.result; count = n }) new c.look-2.new.position) count entered)
 
 pub returns-clause-entries : goal.returns-clause-entries
