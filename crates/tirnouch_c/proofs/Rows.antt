@@ -2,15 +2,13 @@
 use Rattle.std.proofs.Common.{◌≡◌, ℕ, zero, suc, ◌+◌, ◌<◌, ◌≤◌, Bool, true, Option, Some, None, List, [], ◌∷◌, ◌++◌, refl, sym, ap, ◌∙◌, subst, arith}
 use Rattle.std.specs.Prelude.{max, replicate}
 use Rattle.proof_core.specs.Steps.{TurnsInRow}
-use Rattle.usb_core.specs.Public.{ShowsWorld, StillCarries}
+use Rattle.usb_core.specs.Public.{Burst, ShowsWorld, StillCarries, Whole, burst_entries, whole_entries}
 use Rattle.usb_model.specs.declared.entry.Entry.{Entry}
 use Rattle.usb_model.specs.declared.step.Step.TheVariants.{Serve}
 use Rattle.usb_model.specs.Setup.{Setup}
 use Rattle.usb_model.specs.World.{World, turn, world_from}
 use Rattle.usb_model.specs.World.Journal.{journal_from, run_from}
-use Rattle.usb_steps.specs.Bursts.{burst_entries, whole_entries, whole_entry}
-use Rattle.usb_steps.specs.declared.bursts.Burst.{Burst}
-use Rattle.usb_steps.specs.declared.bursts.Whole.{Whole}
+use Rattle.usb_steps.specs.Bursts.{whole_entry}
 use Rattle.tirnouch_c.specs.declared.session.Session.{Session}
 use Rattle.tirnouch_c.specs.Calls.{SameBeside}
 use Rattle.tirnouch_c.specs.Packets.{ServesRow, ends_nothing, entry_behind, goes_on, served}

@@ -5,8 +5,7 @@ ghost use Rattle.usb_model.specs.declared.step.Step.TheVariants.{Command, Delive
 ghost use Rattle.usb_model.specs.Setup.{Setup};
 ghost use Rattle.usb_model.specs.World.{World};
 ghost use Rattle.usb_model.specs.World.Journal.{run_from};
-ghost use Rattle.usb_core.specs.Public.{Carries, Kept, ShowsWorld, StillCarries, called_entry, does_something};
-ghost use Rattle.usb_steps.specs.Bursts.{burst_entries, whole_entries};
+ghost use Rattle.usb_core.specs.Public.{Carries, Kept, ShowsWorld, StillCarries, burst_entries, called_entry, does_something, whole_entries};
 ghost use Rattle.usb_journal.specs.Booked.{IsSame, Replays, entries_of, world_where};
 ghost use Rattle.usb_journal.specs.Entered.{DoesRow, IsRow, StandsIn, TakesRow};
 ghost use Rattle.usb_journal.specs.Records.{bytes_in};

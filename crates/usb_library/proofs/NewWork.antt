@@ -43,11 +43,11 @@ use Rattle.proof_invariants.proofs.Machines.Well.{first_news, fit_at}
 use Rattle.proof_invariants.proofs.Places.Runs.{kept_at}
 use Rattle.proof_lemmas.proofs.Handles.Isolation.{effect_to, gone_stays, takes_its_news, takes_its_order, takes_its_result, turn_blocked, turn_free}
 use Rattle.proof_lemmas.proofs.Lists.Pieces.{same_name}
+use Rattle.usb_core.specs.Public.{does_something, serves as serves_at}
 use Rattle.usb_library.specs.declared.wakes.Part.{Part}
 use Rattle.usb_library.specs.declared.wakes.Part.TheVariants.{Controller, Events}
 use Rattle.usb_library.specs.declared.wakes.Work.{Work}
 use Rattle.usb_library.specs.declared.wakes.Work.TheVariants as work
-use Rattle.usb_steps.specs.Pending.{does_something, serves as serves_at}
 use Rattle.usb_library.specs.Wakes.{HasWork, NamesNewWork, Wakes, names, work_of}
 use Rattle.usb_library.proofs.Served.{PostsEnds, deliver_leaves, deliver_says, idle_again, is_served, said_of, says_ended, says_settled, serve_posts}
 use Rattle.usb_library.proofs.Works.{AllWell, commands as commands_does, delivers as delivers_does, news_waits, order_waits, result_waits, served_by, serves_is, takes as takes_does, waits}

@@ -22,8 +22,9 @@ use Rattle.usb_model.specs.World.Shared.{first_name, pieces_of}
 use Rattle.usb_model.specs.World.{World, holder, is_blocked, is_its, machine_of, turn, turn_by, turn_of, turn_of_nobody}
 use Rattle.proof_invariants.proofs.Machines.Idle.{idle_if_none}
 use Rattle.proof_lemmas.proofs.Lists.Pieces.{same_name}
+use Rattle.usb_core.specs.Public.{does_something, serves}
 use Rattle.usb_library.proofs.Served.{deliver_says, is_served, said_of}
-use Rattle.usb_steps.specs.Pending.{does_something, has_answers, serves, tells_work}
+use Rattle.usb_steps.specs.Pending.{has_answers, tells_work}
 
 -- each name's machine is well
 abbrev pub AllWell : Setup → World → Type 0

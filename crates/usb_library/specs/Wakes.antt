@@ -8,13 +8,13 @@ use Rattle.usb_model.specs.declared.verdict.Verdict.{Verdict}
 use Rattle.usb_model.specs.declared.verdict.Verdict.TheVariants.{Stop}
 use Rattle.usb_model.specs.Setup.{Setup}
 use Rattle.usb_model.specs.World.{World, new_world, turn, world_from}
+use Rattle.usb_core.specs.Public.{does_something, serves}
 use Rattle.usb_library.specs.declared.wakes.Part.{Part}
 use Rattle.usb_library.specs.declared.wakes.Part.TheVariants.{Controller, Events}
 use Rattle.usb_library.specs.declared.wakes.Work.{Work}
 use Rattle.usb_library.specs.declared.wakes.Work.TheVariants.{Any, None, Of}
 use Rattle.usb_journal.specs.declared.place.Place.{Place}
 use Rattle.usb_journal.specs.Booked.{world_where}
-use Rattle.usb_steps.specs.Pending.{does_something, serves}
 use Rattle.usb_library.specs.Calls.{changes}
 
 -- there is something to do for a worker: a packet or an order for the controller's, an event or a result for that of events

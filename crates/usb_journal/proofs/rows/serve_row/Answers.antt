@@ -1,7 +1,7 @@
 use Rattle.std.proofs.Common.{◌+◌, ◌-◌, refl, subst}
 use Rattle.std.specs.Prelude.{replicate}
 use Rattle.usb_model.specs.declared.step.Step.TheVariants.{Serve}
-use Rattle.usb_steps.specs.Bursts.{burst_entries, whole_entries}
+use Rattle.usb_core.specs.Public.{burst_entries, whole_entries}
 use Rattle.usb_journal.specs.Booked.{world_where}
 use Rattle.usb_journal.specs.Entered.{IsRow}
 use Rattle.usb_journal.proofs.Bursts.{burst_length, last_bytes}
