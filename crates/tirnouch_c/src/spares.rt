@@ -1,6 +1,6 @@
 //! Memory of bytes that were fetched, for transfers to come.
 
-ghost use Rattle.std.specs.Prelude.{◌≡◌, ◌<◌, OnSome, length};
+ghost use Rattle.std.specs.Prelude.{◌<◌, IfSome, vec_len};
 
 use std::alloc::{AllocError, Global};
 
@@ -34,7 +34,7 @@ impl Spares {
 
     /// Where what has room for just so many bytes stands, of what was kept last.
     fn find(&self, room: usize) -> Option<usize>
-        ensures { OnSome result (result.value < length self.now.rooms) }
+        ensures { IfSome result (λ at. at < vec_len self.now.rooms) }
     {
         self.rooms
             .as_slice()
