@@ -79,13 +79,14 @@ pub fn read_lined<'a>(alloc: Global, text: &'a [u8]) -> Result<Lined<'a>, TextFa
     ensures each { IfOk result (λ read. length read.lines.items ≡ length read.scenario.plan) }
 {
     let mut draft = Draft::new(alloc);
+    let mut words = Vec::new(alloc);
     let mut lines = Vec::new(alloc);
     let mut devices = Vec::new(alloc);
     let mut number: u64 = 0;
     for line in text.split(|byte| *byte == b'\n') {
         number = number.saturating_add(1);
         let (pieces, setups) = (draft.pieces(), draft.setups());
-        if let Err(fault) = draft.read(alloc, line) {
+        if let Err(fault) = draft.read(alloc, line, &mut words) {
             return Err(TextFault::at(number, fault));
         }
         let says_step = pieces < draft.pieces();
