@@ -11,6 +11,7 @@
 //! - `laws.rt`: what the definition of the command line makes of words
 //! - `read.rt`, `write.rt`, `fault.rt`: the whole input; bytes that are written whole, or as far as it goes; why a
 //!   run ends early, and its message
+//! - `entry_line.rt`: the line of an entry
 //! - `behind.rt`: an entry behind the line that it comes from
 //! - `lines.rt`, `print.rt`: lines of entries as they come, or texts of them, gathered and written many at a time
 //!   (`Lines`); a whole list of entries, and what a check found
@@ -25,6 +26,7 @@
 #![tactic(auto)]
 
 mod behind;
+mod entry_line;
 mod fault;
 mod help;
 pub mod laws;

@@ -5,6 +5,7 @@ ghost use Rattle.std.specs.Io.KnownBytes.{Appends};
 ghost use Rattle.trace_io.specs.Faults.{IsOfRun};
 ghost use Rattle.trace_io.specs.Output.{line_text, AppendsAllBut, AppendsSome};
 
+use crate::entry_line::add_line;
 use crate::fault::Fault;
 use crate::write::write_bytes;
 use std::alloc::Global;
@@ -19,6 +20,8 @@ const CHUNK: usize = 16_384;
 #[derive(Drop)]
 pub struct Lines {
     bytes: Vec<u8>,
+    // The line that is put: its memory is used again for each.
+    line: Vec<u8>,
     alloc: Global,
 }
 
@@ -37,6 +40,7 @@ impl Lines {
     {
         Lines {
             bytes: Vec::new(alloc),
+            line: Vec::new(alloc),
             alloc,
         }
     }
@@ -48,8 +52,9 @@ impl Lines {
         ensures begun { OnErr result (AppendsSome (self.old ++ line_text entry.now) (W.contents out.old) (W.contents out.new)) }
         ensures fault { IfErr result (λ fault. IsOfRun fault) }
     {
-        match format!(in self.alloc; "{entry}\n") {
-            Ok(line) => self.put_text(out, line.as_bytes()),
+        self.line.clear();
+        match add_line(self.alloc, &mut self.line, entry) {
+            Ok(()) => gather(&mut self.bytes, out, self.line.as_slice()),
             Err(_) => {
                 write_bytes(out, self.bytes.as_slice())?;
                 Err(Fault::Memory)
@@ -64,13 +69,7 @@ impl Lines {
         ensures begun { OnErr result (AppendsSome (self.old ++ text.now) (W.contents out.old) (W.contents out.new)) }
         ensures fault { IfErr result (λ fault. IsOfRun fault) }
     {
-        if self.bytes.len() < CHUNK && self.bytes.extend_from_slice(text).is_ok() {
-            return Ok(());
-        }
-        write_bytes(out, self.bytes.as_slice())?;
-        self.bytes.clear();
-        self.bytes.extend_from_slice(text)?;
-        Ok(())
+        gather(&mut self.bytes, out, text)
     }
 
     /// Writes those that aren't written yet. Where that fails, a beginning of them is written.
@@ -83,4 +82,20 @@ impl Lines {
         out.flush()?;
         Ok(())
     }
+}
+
+/// Puts a text behind those that were gathered. Where they are many, or no memory is had for the text, they are written
+/// first. Behind an error a beginning of them and of the text is written.
+fn gather<W: Write>(bytes: &mut Vec<u8>, out: &mut W, text: &[u8]) -> Result<(), Fault>
+    ensures line { OnOk result (AppendsAllBut (bytes.old.items ++ text.now) bytes.new.items (W.contents out.old) (W.contents out.new)) }
+    ensures begun { OnErr result (AppendsSome (bytes.old.items ++ text.now) (W.contents out.old) (W.contents out.new)) }
+    ensures fault { IfErr result (λ fault. IsOfRun fault) }
+{
+    if bytes.len() < CHUNK && bytes.extend_from_slice(text).is_ok() {
+        return Ok(());
+    }
+    write_bytes(out, bytes.as_slice())?;
+    bytes.clear();
+    bytes.extend_from_slice(text)?;
+    Ok(())
 }

@@ -7,6 +7,12 @@ use Rattle.trace_scenario.specs.declared.verb.Verb.TheVariants.{Device, Script, 
 -- the verb of a word
 unfoldable pub verb_of : List ℕ → Option Verb
 verb_of word =
+    if bytes_eq word (codes "submit") then Some Submit else
+    if bytes_eq word (codes "serve") then Some Serve else
+    if bytes_eq word (codes "deliver") then Some Deliver else
+    if bytes_eq word (codes "take") then Some Take else
+    if bytes_eq word (codes "return") then Some Return else
+    if bytes_eq word (codes "command") then Some Command else
     if bytes_eq word (codes "device") then Some Device else
     if bytes_eq word (codes "script") then Some Script else
     if bytes_eq word (codes "open") then Some Open else
@@ -15,13 +21,7 @@ verb_of word =
     if bytes_eq word (codes "release") then Some Release else
     if bytes_eq word (codes "reset") then Some Reset else
     if bytes_eq word (codes "clear") then Some Clear else
-    if bytes_eq word (codes "submit") then Some Submit else
     if bytes_eq word (codes "cancel") then Some Cancel else
     if bytes_eq word (codes "expire") then Some Expire else
-    if bytes_eq word (codes "serve") then Some Serve else
-    if bytes_eq word (codes "command") then Some Command else
-    if bytes_eq word (codes "deliver") then Some Deliver else
-    if bytes_eq word (codes "take") then Some Take else
-    if bytes_eq word (codes "return") then Some Return else
     if bytes_eq word (codes "unplug") then Some Unplug else
     None

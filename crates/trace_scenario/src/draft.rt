@@ -65,25 +65,31 @@ impl Draft {
         }
     }
 
-    /// Reads a line. An empty one and a comment say nothing.
-    pub(crate) fn read(&mut self, alloc: Global, text: &[u8]) -> Result<(), LineFault>
+    /// Reads a line, and keeps its words in the place of those of the line before. An empty one and a comment say nothing.
+    pub(crate) fn read<'a>(
+        &mut self,
+        alloc: Global,
+        text: &'a [u8],
+        words: &mut Vec<&'a str>,
+    ) -> Result<(), LineFault>
         ensures { Becomes result (with_text self.old text.now) self.old self.new }
     {
         if says_nothing(text) {
             return Ok(());
         }
-        self.take(alloc, Line::from_text(alloc, text)?)
+        self.take(alloc, Line::by_words(alloc, text, words)?)
     }
 
     /// Reads a line, and tells what is wrong with it where it is bad, and then takes nothing of it.
-    pub(crate) fn judge(
+    pub(crate) fn judge<'a>(
         &mut self,
         alloc: Global,
-        text: &[u8],
+        text: &'a [u8],
+        words: &mut Vec<&'a str>,
     ) -> Result<Option<Problem>, AllocError>
         ensures { IfOk result (λ problem. IsJudged problem (with_text self.old text.now) self.old self.new) }
     {
-        match self.read(alloc, text) {
+        match self.read(alloc, text, words) {
             Ok(()) => Ok(None),
             Err(LineFault::Bad(problem)) => Ok(Some(problem)),
             Err(LineFault::Memory) => Err(AllocError),

@@ -133,10 +133,11 @@ pub fn check<'a>(alloc: Global, text: &'a [u8]) -> Result<Findings<'a>, AllocErr
 {
     let mut draft = Draft::new(alloc);
     let mut bad = Vec::new(alloc);
+    let mut shared = Vec::new(alloc);
     let mut line: u64 = 0;
     for words in text.split(|byte| *byte == b'\n') {
         line = line.saturating_add(1);
-        if let Some(problem) = draft.judge(alloc, words)? {
+        if let Some(problem) = draft.judge(alloc, words, &mut shared)? {
             note(&mut bad, line, words, problem)?;
         }
     }

@@ -54,8 +54,21 @@ impl Line {
     pub fn from_text(alloc: Global, text: &[u8]) -> Result<Line, LineFault>
         ensures { ReadsAs result (line_of_text text.now) }
     {
+        let mut words = Vec::new(alloc);
+        Line::by_words(alloc, text, &mut words)
+    }
+
+    /// The same. The words are kept where those of the line before stood, so that many lines share that memory.
+    pub(crate) fn by_words<'a>(
+        alloc: Global,
+        text: &'a [u8],
+        words: &mut Vec<&'a str>,
+    ) -> Result<Line, LineFault>
+        ensures { ReadsAs result (line_of_text text.now) }
+    {
         let text = ascii(text).ok_or(Problem::Ascii)?;
-        let words: Vec<&str> = text.split(' ').collect(alloc)?;
+        words.clear();
+        words.extend(text.split(' '))?;
         Line::read(alloc, words.as_slice())
     }
 

@@ -1,6 +1,6 @@
 //! A scenario, with the lines that its steps stand in.
 
-ghost use Rattle.std.specs.Prelude.{◌≡◌, ◌++◌, ◌∷◌, [], IfErr, IfOk, Ok, length, map, if◌then◌else◌};
+ghost use Rattle.std.specs.Prelude.{◌≡◌, ◌++◌, ◌∷◌, [], IfErr, IfOk, Ok, length, map, true, if◌then◌else◌};
 ghost use Rattle.std.specs.Option.{option_to_list};
 ghost use Rattle.trace_scenario.specs.DeviceLines.{described, device_lines};
 ghost use Rattle.trace_scenario.specs.TextResults.{IsFaultOf};
@@ -34,16 +34,17 @@ pub struct Lined<'a> {
     pub devices: Vec<DescribedDevice>,
 }
 
-/// Keeps a line, if it says a step.
+/// Keeps a line, if it says a step and lines are kept.
 fn keep<'a>(
     lines: &mut Vec<NumberedLine<'a>>,
     number: u64,
     text: &'a [u8],
     says_step: bool,
+    keeps: bool,
 ) -> Result<(), AllocError>
-    ensures { IfOk result (λ _. map numbered lines.new.items ≡ map numbered lines.old.items ++ (if says_step then (number, text.now) ∷ [] else [])) }
+    ensures { IfOk result (λ _. keeps ≡ true → map numbered lines.new.items ≡ map numbered lines.old.items ++ (if says_step then (number, text.now) ∷ [] else [])) }
 {
-    if says_step {
+    if keeps && says_step {
         lines.push(NumberedLine { number, text })?;
     }
     Ok(())
@@ -78,18 +79,35 @@ pub fn read_lined<'a>(alloc: Global, text: &'a [u8]) -> Result<Lined<'a>, TextFa
     ensures devices { IfOk result (λ read. read.devices.items ≡ device_lines text.now) }
     ensures each { IfOk result (λ read. length read.lines.items ≡ length read.scenario.plan) }
 {
+    read_text(alloc, text, true)
+}
+
+/// The same; the lines of steps are there only where they are asked for, since they take 24 bytes for each step.
+pub(crate) fn read_text<'a>(
+    alloc: Global,
+    text: &'a [u8],
+    keeps: bool,
+) -> Result<Lined<'a>, TextFault>
+    ensures scenario { IfOk result (λ read. scenario_of text.now ≡ Ok read.scenario) }
+    ensures fault { IfErr result (λ fault. IsFaultOf fault (scenario_of text.now)) }
+    ensures runnable { IfOk result (λ read. IsRunnable read.scenario) }
+    ensures lines { IfOk result (λ read. keeps ≡ true → map numbered read.lines.items ≡ step_lines text.now) }
+    ensures devices { IfOk result (λ read. read.devices.items ≡ device_lines text.now) }
+    ensures each { IfOk result (λ read. keeps ≡ true → length read.lines.items ≡ length read.scenario.plan) }
+{
     let mut draft = Draft::new(alloc);
+    let mut words = Vec::new(alloc);
     let mut lines = Vec::new(alloc);
     let mut devices = Vec::new(alloc);
     let mut number: u64 = 0;
     for line in text.split(|byte| *byte == b'\n') {
         number = number.saturating_add(1);
         let (pieces, setups) = (draft.pieces(), draft.setups());
-        if let Err(fault) = draft.read(alloc, line) {
+        if let Err(fault) = draft.read(alloc, line, &mut words) {
             return Err(TextFault::at(number, fault));
         }
         let says_step = pieces < draft.pieces();
-        let Ok(()) = keep(&mut lines, number, line, says_step) else {
+        let Ok(()) = keep(&mut lines, number, line, says_step, keeps) else {
             return Err(TextFault::Memory);
         };
         let says_device = setups < draft.setups();

@@ -5,7 +5,7 @@ ghost use Rattle.trace_scenario.specs.Scenario.{scenario_of};
 ghost use Rattle.trace_scenario.specs.TextResults.{AnswersAs};
 ghost use Rattle.trace_scenario.specs.Runnable.{IsRunnable};
 
-use crate::lined::{Lined, read_lined};
+use crate::lined::{Lined, read_text};
 use crate::scripted::ScriptedDevice;
 use crate::text_fault::TextFault;
 use std::alloc::Global;
@@ -27,6 +27,6 @@ pub fn read_scenario(alloc: Global, text: &[u8]) -> Result<Scenario, TextFault>
     ensures scenario { AnswersAs result (scenario_of text.now) }
     ensures runnable { IfOk result (λ s. IsRunnable s) }
 {
-    let Lined { scenario, .. } = read_lined(alloc, text)?;
+    let Lined { scenario, .. } = read_text(alloc, text, false)?;
     Ok(scenario)
 }

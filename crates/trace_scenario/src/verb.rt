@@ -66,12 +66,18 @@ const ALL: [Verb; 17] = [
 ];
 
 impl Verb {
-    /// The verb of a word.
+    /// The verb of a word. Those of which long plans have most stand first: the words are compared in this order.
     #[tactic(auto, unfolding(crate::specs::Verb::verb_of))]
     pub(crate) fn read(word: &str) -> Option<Verb>
         ensures { result ≡ verb_of word.now }
     {
         match word {
+            "submit" => Some(Verb::Submit),
+            "serve" => Some(Verb::Serve),
+            "deliver" => Some(Verb::Deliver),
+            "take" => Some(Verb::Take),
+            "return" => Some(Verb::Return),
+            "command" => Some(Verb::Command),
             "device" => Some(Verb::Device),
             "script" => Some(Verb::Script),
             "open" => Some(Verb::Open),
@@ -80,14 +86,8 @@ impl Verb {
             "release" => Some(Verb::Release),
             "reset" => Some(Verb::Reset),
             "clear" => Some(Verb::Clear),
-            "submit" => Some(Verb::Submit),
             "cancel" => Some(Verb::Cancel),
             "expire" => Some(Verb::Expire),
-            "serve" => Some(Verb::Serve),
-            "command" => Some(Verb::Command),
-            "deliver" => Some(Verb::Deliver),
-            "take" => Some(Verb::Take),
-            "return" => Some(Verb::Return),
             "unplug" => Some(Verb::Unplug),
             _ => None,
         }

@@ -13,7 +13,7 @@ use Rattle.trace_scenario.proofs.DeviceLines.{described_all, described_more}
 use Rattle.trace_scenario.proofs.Runnables.{scenarios_runnable}
 use Rattle.trace_scenario.proofs.Scenarios.{scenario-more, scenario-end, faulty, counted}
 use Rattle.trace_scenario.proofs.StepLines.{kept_all, kept_more, line_each}
-use Rattle.trace_scenario.proofs.lined.read_lined.Goals as goal
+use Rattle.trace_scenario.proofs.lined.read_text.Goals as goal
 
 pub loop-line-init : goal.loop-line-init
 loop-line-init c =
@@ -21,7 +21,7 @@ loop-line-init c =
     record {
       counted = refl;
       rest = ap (λ s. scenario_from 1 s texts) (sym c.new-draft.ensures);
-      kept = rw (c.new-lines.ensures.items, c.new-draft.ensures) refl;
+      kept = λ keeps. rw (c.new-lines.ensures.items, c.new-draft.ensures) refl;
       described = rw (c.new-devices.ensures.items, c.new-draft.ensures) refl;
     }
 
@@ -49,10 +49,10 @@ loop-line-preserved c =
       rest =
           c.loop-line.invariant.rest ∙ more ∙ ap (taken_at (i + 1) (λ s. scenario_from (i + 1 + 1) s (drop (i + 1) texts))) c.in_default.ensures
           ∙ sym (ap (λ n. scenario_from (n + 1) c.read.new.self (drop n texts)) grows);
-      kept =
+      kept = λ keeps.
           ap (λ n. map numbered c.keep.new.lines.items ++ step_lines_from (n + 1) c.read.new.self (drop n texts)) grows
           ∙ kept_more texts i c.in-Some.line.now c.loop-line.draft c.read.new.self (map numbered c.loop-line.lines.items) (map numbered c.keep.new.lines.items) (step_lines c.args.text.now)
-          c.saturating_add-number.result c.pieces-pieces.result c.pieces.result t c.in_default.ensures place c.pieces-pieces.ensures c.pieces.ensures c.in-Ok.ensures c.loop-line.invariant.kept;
+          c.saturating_add-number.result c.pieces-pieces.result c.pieces.result t c.in_default.ensures place c.pieces-pieces.ensures c.pieces.ensures (c.in-Ok.ensures keeps) (c.loop-line.invariant.kept keeps);
       described =
           ap (λ n. c.keep_device.new.devices.items ++ device_lines_from (n + 1) c.read.new.self (drop n texts)) grows
           ∙ described_more texts i c.in-Some.line.now c.loop-line.draft c.read.new.self c.loop-line.devices.items c.keep_device.new.devices.items (device_lines c.args.text.now)
@@ -70,10 +70,10 @@ pub returns-clause-runnable : goal.returns-clause-runnable
 returns-clause-runnable c = scenarios_runnable c.args.text.now c.into_scenario.result (returns-clause-scenario c)
 
 pub returns-clause-lines : goal.returns-clause-lines
-returns-clause-lines c =
+returns-clause-lines c = λ keeps.
     let texts = slice_split (λ b. b == 10) c.args.text.now in
     let t = YieldsList-end (YieldsList-from_slice_split {s = c.into_iter-line-iterator.result} _ (λ b. b == 10) c.args.text.now (cc) (cc) (cc) (λ x b q k. search (rules, tests))) c.loop-line.yielded _ c.loop-line.yielded_by _ _ c.in-None.is c.next.ensures.steps in
-    kept_all texts (length c.loop-line.yielded) c.loop-line.draft (map numbered c.loop-line.lines.items) (step_lines c.args.text.now) (omega (arith, t.1)) c.loop-line.invariant.kept
+    kept_all texts (length c.loop-line.yielded) c.loop-line.draft (map numbered c.loop-line.lines.items) (step_lines c.args.text.now) (omega (arith, t.1)) (c.loop-line.invariant.kept keeps)
 
 pub returns-clause-devices : goal.returns-clause-devices
 returns-clause-devices c =
@@ -82,5 +82,5 @@ returns-clause-devices c =
     described_all texts (length c.loop-line.yielded) c.loop-line.draft c.loop-line.devices.items (device_lines c.args.text.now) (omega (arith, t.1)) c.loop-line.invariant.described
 
 pub returns-clause-each : goal.returns-clause-each
-returns-clause-each c =
-    sym (length-map c.loop-line.lines.items numbered) ∙ (ap length (returns-clause-lines c) ∙ line_each c.args.text.now c.into_scenario.result (returns-clause-scenario c))
+returns-clause-each c = λ keeps.
+    sym (length-map c.loop-line.lines.items numbered) ∙ (ap length (returns-clause-lines c keeps) ∙ line_each c.args.text.now c.into_scenario.result (returns-clause-scenario c))
