@@ -67,7 +67,9 @@ pub use usb_callback::{Callback, Once, Repeat, StoredCallback};
 pub use usb_core::{Core, Pending, Setup, Taken, Unaccepted, Unadded};
 pub use usb_descriptors::{Config, read_config};
 pub use usb_device::{BoxedDevice, Device, TableDevice};
-pub use usb_journal::{Journal, Naming, NotRecorded, Outgoing, Place, Receipt, Recorder, Row, Unrecorded};
+pub use usb_journal::{
+    Journal, Naming, NotRecorded, Outgoing, Place, Receipt, Recorder, Row, Unrecorded,
+};
 pub use usb_library::{Answered, CALLERS, Caller, Ended, Library, Missing, Opening, Submitted};
 pub use usb_live::{Driver, Gates, Lived, live, live_gated};
 pub use usb_model::{

@@ -74,7 +74,7 @@ module _ (setup : Setup) where
   delivers_either most old new (Ok row) some m ends e = R.DeliversRow.made row (λ none. ends (omega (arith, none, some))) m
   delivers_either most old new (Err x) some m ends e = R.DeliversRow.missed e
 
-  -- where memory was refused to none behind a row, or to one behind a row of some, there are none in it only where none waits
+  -- where no result is in a row none waits: that memory was refused behind it is only told of a row of some
   none_waits : (most : ℕ) (new : Calling) (x : Outgoing) → 0 < most → (x.lacked ≡ false → x.row.count < most → does_something setup (world_where setup new.seen) Take ≡ false)
       → (x.lacked ≡ true → (0 < x.row.count) × (x.row.count < most) × (does_something setup (world_where setup new.seen) Take ≡ true)) → x.row.count ≡ 0 → does_something setup (world_where setup new.seen) Take ≡ false
   none_waits most new x some ends lacks none = by_lacked x.lacked refl
