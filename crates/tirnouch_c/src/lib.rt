@@ -9,6 +9,7 @@
 //! - `session.rt`: a core with the devices of a text; `held.rt`, `loose.rt`: the slot that C holds, a pointer whose type it
 //!   doesn't see (five functions are proved by hand)
 //! - `turn.rt`: a packet, what it brings about, and a result, in one call; `told.rt`: replies in numbers
+//! - `spares.rt`: memory of bytes that were fetched, for transfers to come
 //! - `calls.rt`, `submission.rt`, `packets.rt`, `settling.rt`, `results.rt`, `reads.rt`: steps that carry nothing; submissions;
 //!   packets; what is to be done until nothing is; results and their bytes; what can be asked without a step
 //! - `requests.rt`, `descriptions.rt`: requests on the default control endpoint; what the text says of a device
@@ -34,7 +35,8 @@
 //! - `tirnouch_taken`: a packet that a device took
 //! - `tirnouch_request`: what `usb_desk` says that the device answers; `tirnouch_needs`: what a host has to hold for that; `tirnouch_describe`, `tirnouch_tell`: what it has of the text
 //!
-//! It doesn't say: what C does with a slot between two calls, nor that two calls don't overlap.
+//! It doesn't say: what C does with a slot between two calls, nor that two calls don't overlap; nor that a read of as many bytes
+//! as one before takes no memory, which a test counts.
 #![tactic(auto)]
 
 mod calls;

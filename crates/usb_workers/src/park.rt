@@ -8,9 +8,9 @@ use usb_device::Device;
 use usb_journal::{Naming, Recorder};
 use usb_library::{Library, Part};
 
-/// How often a worker looks whether it was woken before it sleeps, with pauses that double up to 64, and then yields: some
-/// microseconds, about what it takes to sleep and be woken.
-const LOOKS: u32 = 11;
+/// How often a worker looks whether it was woken before it sleeps: some fifty microseconds, by pauses that double up to 64, and
+/// then by yields. What comes at all mostly comes within ten, and to be woken from sleep takes some more.
+const LOOKS: u32 = 128;
 
 /// What a worker waits on while there is nothing to do. Where memory was refused for a parker it doesn't wait, and looks
 /// again and again.
