@@ -8,29 +8,31 @@ use usb_core::{Core, Setup};
 use usb_device::TableDevice;
 use usb_model::{Reply, Step};
 
+/// The bytes of the first packet.
+const FIRST: &[u8] = &[1, 2, 3, 4, 5, 6, 7, 8];
+
+/// The bytes of the second packet.
+const SECOND: &[u8] = &[9, 10, 11, 12, 13, 14, 15, 16];
+
+/// The bytes of the two packets behind these.
+const THIRD: &[u8] = &[
+    17, 18, 19, 20, 21, 22, 23, 24, 25, 26, 27, 28, 29, 30, 31, 32,
+];
+
 /// Plays the scene of memory that is used again. The device's packets at the endpoint have the bytes 1 to 32 in eights.
 pub fn play<P: Print>(rt: &P, alloc: Global) -> Result<()> {
     let reader = Reader::new(1, 0, 0)?;
     let mut core = opened(alloc, &reader)?;
     let mut none = Vec::new(alloc);
     let mut first = read(&mut core, &reader, 8, &mut none)?;
-    expect(
-        first.as_slice() == [1, 2, 3, 4, 5, 6, 7, 8],
-        "the first read",
-    )?;
+    expect(first.as_slice() == FIRST, "the first read")?;
     let mut second = read(&mut core, &reader, 8, &mut first)?;
-    expect(
-        second.as_slice() == [9, 10, 11, 12, 13, 14, 15, 16],
-        "the second read",
-    )?;
+    expect(second.as_slice() == SECOND, "the second read")?;
     expect(first.capacity() == 0, "memory that fits is used")?;
     let third = read(&mut core, &reader, 16, &mut second)?;
+    expect(third.as_slice() == THIRD, "the third read")?;
     expect(
-        third.len() == 16 && third.as_slice()[0] == 17,
-        "the third read",
-    )?;
-    expect(
-        second.as_slice() == [9, 10, 11, 12, 13, 14, 15, 16],
+        second.as_slice() == SECOND,
         "memory that doesn't fit stays as it is",
     )?;
     refused(&mut core, &reader, &mut second)?;
@@ -79,7 +81,7 @@ fn refused(core: &mut Core<(), TableDevice>, reader: &Reader, spare: &mut Vec<u8
     let refused = core.submit_reusing(h, reader.read(8, 0), (), spare);
     expect(refused.is_err(), "a read at a device that is gone")?;
     expect(
-        spare.as_slice() == [9, 10, 11, 12, 13, 14, 15, 16],
+        spare.as_slice() == SECOND,
         "memory of a read that is refused stays as it is",
     )
 }
