@@ -42,6 +42,20 @@ struct Pair {
     wanted: Sequence<Entry>,
 }
 
+/// What goes out to a callback that ends at once, or that nothing does.
+fn called(done: Option<Taken<()>>) -> Entry {
+    match done {
+        Some(Taken { returned, .. }) => Entry {
+            owner: Some(returned.h),
+            reply: Reply::Called(returned),
+        },
+        None => Entry {
+            owner: None,
+            reply: Reply::Idle,
+        },
+    }
+}
+
 /// Any step by a core.
 fn step(core: &mut Core<(), TableDevice>, step: &Step) -> Result<Entry> {
     match core.step(step.clone()?, Some(())) {
@@ -111,24 +125,14 @@ impl Pair {
     /// A result whose callback ends at once, or none.
     fn take(&mut self, met: &mut Met) -> Result<()> {
         let done = self.rows.take_done();
+        met.results |= done.is_some();
+        self.told.push(called(done))?;
         let wanted = step(&mut self.singles, &Step::Take)?;
-        match (done, &wanted.reply) {
-            (Some(Taken { returned, .. }), Reply::Called(called)) => {
-                met.results = true;
-                let _ = self.singles.stop(called.h, called.n);
-                self.told.push(Entry {
-                    owner: Some(returned.h),
-                    reply: Reply::Called(returned),
-                })?;
-                self.wanted.push(wanted)?;
-                Ok(())
-            }
-            (None, Reply::Idle) => Ok(()),
-            (done, reply) => {
-                let done = done.map(|taken| taken.returned);
-                Err(anyhow!("{done:?} where its callback ends at once, {reply} alone"))
-            }
+        if let Reply::Called(returned) = &wanted.reply {
+            let _ = self.singles.stop(returned.h, returned.n);
         }
+        self.wanted.push(wanted)?;
+        Ok(())
     }
 
     /// A step, or a row that begins with it.
