@@ -3,7 +3,7 @@
 //!
 //! # Files
 //!
-//! - `plans.rt`, `packets.rt`, `alike.rt`, `boxes.rt`, `rows.rt`, `spares.rt`, `booked.rt`, `unplugged.rt`: the scenes
+//! - `plans.rt`, `packets.rt`, `alike.rt`, `boxes.rt`, `booked.rt`, `unplugged.rt`: the scenes
 //! - `kinds.rt`: a device that counts its answers; one of either kind
 //! - `stand.rt`: a setup of both, which answer alike
 //! - `bench.rt`, `told.rt`: the core, step by step, and the steps of a read; entries in lines
@@ -16,8 +16,6 @@ mod boxes;
 mod kinds;
 mod packets;
 mod plans;
-mod rows;
-mod spares;
 mod stand;
 mod told;
 mod unplugged;
@@ -30,8 +28,6 @@ fn main(rt: HostRuntime) -> Result<()> {
     packets::play(&rt, alloc)?;
     alike::play(&rt, alloc)?;
     boxes::play(&rt, alloc)?;
-    rows::play(&rt, alloc)?;
-    spares::play(&rt, alloc)?;
     booked::play(&rt, alloc)?;
     unplugged::play(&rt, alloc)
 }
