@@ -19,6 +19,9 @@ static const char device[] = "device 0 0902190001010080320904000001ff00000007058
 static struct tirnouch_slot slot;
 static struct tirnouch_told told;
 
+/* Memory of no bytes, which has an address too. */
+static uint8_t nowhere[1];
+
 static double now(void)
 {
     struct timespec at;
@@ -53,24 +56,26 @@ static void begin(const char *text)
     must(tirnouch_call(&slot, TIRNOUCH_CLAIM, 1, 0, 0, &told), "claim");
 }
 
-/* One read; what came out. */
+/* One read, whose bytes are fetched; what came out. */
 static uint64_t read_8(uint64_t payload)
 {
     uint8_t data[8];
+    struct tirnouch_memory back = { .at = nowhere };
     must(tirnouch_submit(&slot, 1, 0x81, 2, 0, 0, 8, (const uint8_t *)"", 0, payload, &told), "submit");
     must(tirnouch_serve(&slot, 0, 0x81, 4, &told), "serve");
     must(tirnouch_settle(&slot, 0, 16, &told), "settle");
-    must(tirnouch_take(&slot, &told), "take");
+    must(tirnouch_take(&slot, &back, &told), "take");
     must(tirnouch_fetch(&slot, data, sizeof data), "fetch");
     return told.payload + told.amount + data[7];
 }
 
-/* The same in two calls. */
+/* The same in two calls, straight into memory that is lent. */
 static uint64_t read_8_in_turns(uint64_t payload)
 {
     uint8_t data[8];
-    must(tirnouch_submit(&slot, 1, 0x81, 2, 0, 0, 8, (const uint8_t *)"", 0, payload, &told), "submit");
-    must(tirnouch_turn(&slot, 0, 0x81, 4, 16, payload, data, sizeof data, &told), "turn");
+    struct tirnouch_memory memory = { .at = data, .len = sizeof data }, back = { .at = nowhere };
+    must(tirnouch_submit_in(&slot, 1, 0x81, 2, 0, 0, &memory, payload, &told), "submit");
+    must(tirnouch_turn(&slot, 0, 0x81, 4, 16, &back, &told), "turn");
     return told.payload + told.amount + data[7];
 }
 
@@ -116,7 +121,7 @@ int main(int count, char **words)
         tirnouch_destroy(&slot);
     }
     printf("a read of 8 bytes by the exports: %.0f ns\n", read);
-    printf("the same with tirnouch_turn: %.0f ns\n", turns);
+    printf("the same into memory that is lent, with tirnouch_turn: %.0f ns\n", turns);
     printf("a session of one device: %.0f us, %zu bytes\n", made / 1000, memory);
     free(text);
     free(small);

@@ -13,15 +13,17 @@ import textwrap
 
 ROOT = pathlib.Path(__file__).resolve().parent.parent
 CRATE = ROOT / "crates" / "tirnouch_c" / "src"
+LENT = ROOT / "crates" / "usb_lent" / "src" / "lent.rt"
 HEADER = ROOT / "c" / "include" / "tirnouch_core.h"
 WIDTH = 112
 NUMBERS = {"u8": "uint8_t", "u32": "uint32_t", "u64": "uint64_t", "i32": "int32_t", "usize": "size_t", "bool": "bool"}
+FIELDS = {**NUMBERS, "*mut u8": "uint8_t *"}
 HEAD = """/* Tirnouch's core, as the static library tirnouch_c has it: every step is proved, and so is what each function answers
  * (crates/tirnouch_c). Made by tools/c_header.py.
  *
  * A slot begins as all zeros, and is passed by its address: one call at a time, from any thread. Buffers are as long as said,
- * and may be NULL where they are empty; they don't overlap. `told` has what a call told; where it told nothing it is as it was.
- * A slot without a session answers TIRNOUCH_NO_SESSION. */
+ * and have an address also where they are empty; they don't overlap. `told` has what a call told; where it told nothing it is as
+ * it was. A slot without a session answers TIRNOUCH_NO_SESSION. */
 #ifndef TIRNOUCH_CORE_H
 #define TIRNOUCH_CORE_H
 
@@ -54,6 +56,15 @@ struct tirnouch_slot {
     bool there;
 };
 """
+# Who owns lent memory, behind what the crate says of it: each item is a paragraph.
+OWNERS = [
+    "It is the library's as soon as `tirnouch_submit_in` answers 0 for an endpoint for IN, and `len` is 0 here then: C doesn't read, "
+    "write, free or lend it until it comes back. Else it stays C's, `len` as before.",
+    "It comes back with its transfer's result, in `back` of `tirnouch_take` or `tirnouch_turn`, however the transfer ended: all `len` "
+    "bytes are C's again, of which the first `filled` are those that were read. `tirnouch_destroy` ends what is lent, and tells nothing. "
+    "The library never frees it.",
+    "Before these two calls `back` is memory of no bytes; it stays so where nothing was lent for the result.",
+]
 TAIL = """
 #ifdef __cplusplus
 }
@@ -63,11 +74,11 @@ TAIL = """
 """
 
 
-def comment(lines, indent=""):
-    """Lines of documentation as a comment of C."""
-    text = " ".join(lines).replace("libusb 1.0, ", "libusb's ")
-    body = textwrap.wrap(text, WIDTH - len(indent) - 3)
-    out = [f"{indent}/* {body[0]}"] + [f"{indent} * {line}" for line in body[1:]]
+def comment(paragraphs, indent=""):
+    """Paragraphs, each of lines of documentation, as a comment of C."""
+    texts = [" ".join(lines).replace("libusb 1.0, ", "libusb's ").replace("is never null", "is never NULL") for lines in paragraphs]
+    body = [line for text in texts for line in ["", *textwrap.wrap(text, WIDTH - len(indent) - 3)]][1:]
+    out = [f"{indent}/* {body[0]}"] + [f"{indent} * {line}".rstrip() for line in body[1:]]
     return "\n".join(out) + " */\n"
 
 
@@ -87,13 +98,15 @@ def documented(text, pattern):
             docs = []
 
 
-def told():
-    """The struct of what is told."""
-    text = (CRATE / "told.rt").read_text()
-    body = re.search(r"pub struct Told \{\n(.*?)\n\}", text, re.S).group(1)
-    out = "\n/* What a call told, in numbers. */\nstruct tirnouch_told {\n"
-    for docs, field in documented(body, r"pub (\w+): (\w+),"):
-        out += comment(docs, "    ") + f"    {NUMBERS[field.group(2)]} {field.group(1)};\n"
+def structure(name, file, kind, more=()):
+    """A struct of a crate as C has it: its documentation, with more behind it, and its fields in their order."""
+    text = file.read_text()
+    docs = next(docs for docs, _ in documented(text, rf"pub struct {kind} \{{"))
+    body = re.search(rf"pub struct {kind} \{{\n(.*?)\n\}}", text, re.S).group(1)
+    out = "\n" + comment([docs, *([it] for it in more)]) + f"struct {name} {{\n"
+    for docs, field in documented(body, r"pub (\w+): ([^,{]+),"):
+        given = FIELDS[field.group(2)]
+        out += (comment([docs], "    ") if docs else "") + f"    {given}{'' if given.endswith('*') else ' '}{field.group(1)};\n"
     return out + "};\n"
 
 
@@ -106,6 +119,7 @@ def parameter(name, kind):
     shapes = {
         "&mut Slot": "struct tirnouch_slot *{0}",
         "&mut Told": "struct tirnouch_told *{0}",
+        "&mut LentMemory": "struct tirnouch_memory *{0}",
         "&[u8; 8]": "const uint8_t {0}[8]",
         "&[u8]": "const uint8_t *{0}, size_t {0}_length",
         "&mut [u8]": "uint8_t *{0}, size_t {0}_room",
@@ -124,12 +138,14 @@ def exports():
         passed = [parameter(*part.rstrip(",").split(": ", 1)) for part in given]
         words = [one.replace(" ", "\0") for part in passed if part for one in part.split(", ")]
         line = f"{NUMBERS[found.group(4)]}\0{found.group(2)}(" + ", ".join(words) + ");"
-        out += "\n" + comment(docs) + "\n".join(textwrap.wrap(line, WIDTH, subsequent_indent="    ")).replace("\0", " ") + "\n"
+        out += "\n" + comment([docs]) + "\n".join(textwrap.wrap(line, WIDTH, subsequent_indent="    ")).replace("\0", " ") + "\n"
     return out
 
 
 def header():
-    return HEAD + told() + exports() + TAIL
+    told = structure("tirnouch_told", CRATE / "told.rt", "Told")
+    memory = structure("tirnouch_memory", LENT, "LentMemory", OWNERS)
+    return HEAD + told + memory + exports() + TAIL
 
 
 def main():

@@ -2,8 +2,8 @@
  * (crates/tirnouch_c). Made by tools/c_header.py.
  *
  * A slot begins as all zeros, and is passed by its address: one call at a time, from any thread. Buffers are as long as said,
- * and may be NULL where they are empty; they don't overlap. `told` has what a call told; where it told nothing it is as it was.
- * A slot without a session answers TIRNOUCH_NO_SESSION. */
+ * and have an address also where they are empty; they don't overlap. `told` has what a call told; where it told nothing it is as
+ * it was. A slot without a session answers TIRNOUCH_NO_SESSION. */
 #ifndef TIRNOUCH_CORE_H
 #define TIRNOUCH_CORE_H
 
@@ -56,6 +56,23 @@ struct tirnouch_told {
     uint64_t payload;
 };
 
+/* Memory that C lends: `len` bytes at `at`, of which the first `filled` stand written. `at` is never NULL, not
+ * even where `len` is 0.
+ *
+ * It is the library's as soon as `tirnouch_submit_in` answers 0 for an endpoint for IN, and `len` is 0 here
+ * then: C doesn't read, write, free or lend it until it comes back. Else it stays C's, `len` as before.
+ *
+ * It comes back with its transfer's result, in `back` of `tirnouch_take` or `tirnouch_turn`, however the
+ * transfer ended: all `len` bytes are C's again, of which the first `filled` are those that were read.
+ * `tirnouch_destroy` ends what is lent, and tells nothing. The library never frees it.
+ *
+ * Before these two calls `back` is memory of no bytes; it stays so where nothing was lent for the result. */
+struct tirnouch_memory {
+    uint8_t *at;
+    size_t len;
+    size_t filled;
+};
+
 /* Makes a session with the devices of a text: 0. InvalidParam where a line of the text isn't taken, whose
  * number is told; NoMem where memory is refused; Busy where the slot holds a session already. Then nothing
  * changed. */
@@ -78,6 +95,13 @@ int32_t tirnouch_submit(struct tirnouch_slot *slot, uint8_t h, uint8_t ep, uint8
     uint32_t timeout, uint32_t room, const uint8_t *buffer, size_t buffer_length, uint64_t payload,
     struct tirnouch_told *told);
 
+/* Submits a transfer that reads straight into memory that C lends, all of it (libusb's
+ * `libusb_submit_transfer`). It is the library's from then on, with `len` 0 here, and goes back with the
+ * result: till then C doesn't touch it. Where the transfer is refused, C has it as before. At an endpoint for
+ * OUT nothing is lent, and a packet without bytes is sent. All else is as of `tirnouch_submit`. */
+int32_t tirnouch_submit_in(struct tirnouch_slot *slot, uint8_t h, uint8_t ep, uint8_t kind, uint8_t flags,
+    uint32_t timeout, struct tirnouch_memory *memory, uint64_t payload, struct tirnouch_told *told);
+
 /* A device answers at most so many packets at an endpoint: until one ends a transfer, or it has no answer. The
  * last one is told, and in `amount` how many they were. */
 int32_t tirnouch_serve(struct tirnouch_slot *slot, uint8_t dev, uint8_t ep, uint32_t most,
@@ -91,15 +115,15 @@ int32_t tirnouch_settle(struct tirnouch_slot *slot, uint8_t packets, uint32_t mo
  * endpoint, looked for from behind this one on; `status` has 1 for an order, 2 for an event, 4 for a result. */
 int32_t tirnouch_pending(struct tirnouch_slot *slot, uint8_t dev, uint8_t ep, struct tirnouch_told *told);
 
-/* The oldest result goes out, and its callback ends: 1, and it is told; 0 where none waits. It takes no memory. */
-int32_t tirnouch_take(struct tirnouch_slot *slot, struct tirnouch_told *told);
+/* The oldest result goes out, and its callback ends: 1, and it is told; 0 where none waits. Memory that was
+ * lent for it is C's again, and stands in `back`: its first `filled` bytes were read. Else its bytes are still
+ * to be fetched. It takes no memory. */
+int32_t tirnouch_take(struct tirnouch_slot *slot, struct tirnouch_memory *back, struct tirnouch_told *told);
 
 /* `tirnouch_serve`, `tirnouch_settle` without packets, and `tirnouch_take`, in one call: at most so many
- * packets, and so many steps. What is told is the last of them. 1 where a result went out with which `want` was
- * kept: its bytes stand in `buffer`, as `tirnouch_fetch` puts them there; 2 where another went out, whose bytes
- * are still to be fetched; 0 where none waits. */
+ * packets, and so many steps. What is told is the last of them, and the answer is that of `tirnouch_take`. */
 int32_t tirnouch_turn(struct tirnouch_slot *slot, uint8_t dev, uint8_t ep, uint32_t packets, uint32_t steps,
-    uint64_t want, uint8_t *buffer, size_t buffer_room, struct tirnouch_told *told);
+    struct tirnouch_memory *back, struct tirnouch_told *told);
 
 /* The bytes of the result that went out last, as far as there is room, just once; how many they were. */
 int32_t tirnouch_fetch(struct tirnouch_slot *slot, uint8_t *buffer, size_t buffer_room);

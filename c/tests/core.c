@@ -25,6 +25,11 @@ static const char desk[] =
     "speed 0 full\n"
     "driver 0 0\n";
 
+/* A device with a bulk endpoint for IN, 81, in packets of 8 bytes. */
+static const char meter[] =
+    "device 0 0902190001010080320904000001ff00000007058102080000\n"
+    "script 0 81 d:0102030405060708 d:1112 d:2122232425262728 d:3132333435363738 n d:41\n";
+
 static struct tirnouch_slot slot;
 static struct tirnouch_told told;
 
@@ -47,6 +52,33 @@ static void bytes(const char *call, int32_t answer, const uint8_t *data, size_t 
     printf("\n");
 }
 
+/* Memory of so many bytes to be lent, each of them ee; and memory of none, which has an address too. */
+static struct tirnouch_memory filled_with_ee(uint8_t *at, size_t len)
+{
+    memset(at, 0xee, len);
+    return (struct tirnouch_memory){ .at = at, .len = len };
+}
+
+static struct tirnouch_memory no_memory(void)
+{
+    static uint8_t nowhere[1];
+    return filled_with_ee(nowhere, 0);
+}
+
+/* What lies there, lent or not. */
+static void show_bytes(const uint8_t *at, size_t count)
+{
+    printf("its bytes:");
+    for (size_t i = 0; i < count; i++)
+        printf(" %02x", at[i]);
+    printf("\n");
+}
+
+static void show(const char *whose, const struct tirnouch_memory *memory, const uint8_t *place)
+{
+    printf("%s: len %zu filled %zu %s\n", whose, memory->len, memory->filled, memory->at == place ? "at its place" : "elsewhere");
+}
+
 static int32_t create(const char *from)
 {
     return tirnouch_create(&slot, (const uint8_t *)from, strlen(from), &told);
@@ -60,6 +92,22 @@ static int32_t call(uint8_t verb, uint8_t h, uint8_t a, uint64_t n)
 static int32_t read_at(uint8_t ep, uint32_t room, uint64_t payload)
 {
     return tirnouch_submit(&slot, 1, ep, 2, 0, 0, room, (const uint8_t *)"", 0, payload, &told);
+}
+
+/* A read straight into this memory. */
+static int32_t lend(uint8_t ep, uint8_t kind, struct tirnouch_memory *memory, uint64_t payload)
+{
+    return tirnouch_submit_in(&slot, 1, ep, kind, 0, 0, memory, payload, &told);
+}
+
+/* A result for which no memory was lent. */
+static int32_t take(void)
+{
+    struct tirnouch_memory back = no_memory();
+    int32_t answer = tirnouch_take(&slot, &back, &told);
+    if (back.len)
+        show("memory of nobody", &back, NULL);
+    return answer;
 }
 
 static void slots(void)
@@ -90,10 +138,10 @@ static void a_read(void)
     tell("serve", tirnouch_serve(&slot, 0, 0x81, 10, &told));
     tell("pending", tirnouch_pending(&slot, 255, 0, &told));
     tell("settle", tirnouch_settle(&slot, 0, 100, &told));
-    tell("take", tirnouch_take(&slot, &told));
+    tell("take", take());
     bytes("fetch", tirnouch_fetch(&slot, data, sizeof data), data, 5);
     say("fetch again", tirnouch_fetch(&slot, data, sizeof data));
-    say("take again", tirnouch_take(&slot, &told));
+    say("take again", take());
 }
 
 static void a_write(void)
@@ -102,7 +150,7 @@ static void a_write(void)
     int32_t answer = tirnouch_submit(&slot, 1, 0x02, 2, 0, 0, 0, (const uint8_t *)"abc", 3, 5, &told);
     tell("write of abc", answer);
     tell("settle with packets", tirnouch_settle(&slot, 1, 100, &told));
-    tell("take", tirnouch_take(&slot, &told));
+    tell("take", take());
     bytes("taken 0", tirnouch_taken(&slot, 0, 0x02, 0, data, sizeof data), data, 2);
     say("taken 1", tirnouch_taken(&slot, 0, 0x02, 1, data, sizeof data));
 }
@@ -113,25 +161,115 @@ static void a_cancel(void)
     tell("cancel 1 2", call(TIRNOUCH_CANCEL, 1, 0, 2));
     tell("settle one", tirnouch_settle(&slot, 0, 1, &told));
     tell("settle", tirnouch_settle(&slot, 0, 100, &told));
-    tell("take", tirnouch_take(&slot, &told));
+    tell("take", take());
 }
 
-static int32_t turn(uint8_t ep, uint64_t want, uint8_t data[4])
+static int32_t turn(uint8_t dev, uint8_t ep)
 {
-    return tirnouch_turn(&slot, 0, ep, 10, 100, want, data, 4, &told);
+    struct tirnouch_memory back = no_memory();
+    return tirnouch_turn(&slot, dev, ep, 10, 100, &back, &told);
 }
 
 static void turns(void)
 {
     uint8_t data[4] = { 0 };
     tell("read of 4", read_at(0x81, 4, 9));
-    tell("turn", turn(0x81, 9, data));
-    bytes("its buffer and fetch", tirnouch_fetch(&slot, data + 1, 3), data, 4);
+    tell("turn", turn(0, 0x81));
+    bytes("fetch", tirnouch_fetch(&slot, data, sizeof data), data, 1);
     tell("write of ab", tirnouch_submit(&slot, 1, 0x02, 2, 0, 0, 0, (const uint8_t *)"ab", 2, 6, &told));
-    tell("turn of another", turn(0x02, 9, data));
-    bytes("its buffer and fetch", tirnouch_fetch(&slot, data + 1, 3), data, 4);
-    tell("turn of nothing", turn(0x02, 9, data));
-    say("turn of device 4", tirnouch_turn(&slot, 4, 0x81, 10, 100, 9, data, 4, &told));
+    tell("turn of it", turn(0, 0x02));
+    say("fetch", tirnouch_fetch(&slot, data, sizeof data));
+    tell("turn of nothing", turn(0, 0x02));
+    say("turn of device 4", turn(4, 0x81));
+}
+
+static void lend_in_vain(void)
+{
+    uint8_t data[8];
+    struct tirnouch_memory memory = filled_with_ee(data, sizeof data);
+    say("lend for kind 9", lend(0x81, 9, &memory, 20));
+    show("its memory", &memory, data);
+    tell("lend for endpoint 82", lend(0x82, 2, &memory, 20));
+    show("its memory", &memory, data);
+}
+
+/* While it is lent it is looked at here, which a program may not do. */
+static void lend_one(void)
+{
+    uint8_t data[12];
+    struct tirnouch_memory memory = filled_with_ee(data, sizeof data), back = no_memory();
+    memory.len = 8;
+    tell("lend 8", lend(0x81, 2, &memory, 20));
+    printf("its len: %zu\n", memory.len);
+    tell("serve", tirnouch_serve(&slot, 0, 0x81, 1, &told));
+    show_bytes(data, sizeof data);
+    say("settle", tirnouch_settle(&slot, 0, 100, &told));
+    tell("take", tirnouch_take(&slot, &back, &told));
+    show("back", &back, data);
+    say("fetch", tirnouch_fetch(&slot, data, sizeof data));
+    show_bytes(data, sizeof data);
+}
+
+static void take_back(const uint8_t *place, size_t len)
+{
+    struct tirnouch_memory back = no_memory();
+    tell("take", tirnouch_take(&slot, &back, &told));
+    show("back", &back, place);
+    show_bytes(place, len);
+}
+
+/* The first packet is short, and so the second one is the other's. */
+static void lend_two(void)
+{
+    uint8_t data[8], more[8];
+    struct tirnouch_memory first = filled_with_ee(data, sizeof data), second = filled_with_ee(more, sizeof more);
+    tell("lend 8", lend(0x81, 2, &first, 21));
+    tell("lend 8 more", lend(0x81, 2, &second, 22));
+    tell("serve", tirnouch_serve(&slot, 0, 0x81, 1, &told));
+    tell("serve", tirnouch_serve(&slot, 0, 0x81, 1, &told));
+    say("settle", tirnouch_settle(&slot, 0, 100, &told));
+    take_back(data, sizeof data);
+    take_back(more, sizeof more);
+    say("take again", take());
+}
+
+static void lend_and_cancel(void)
+{
+    uint8_t data[20];
+    struct tirnouch_memory memory = filled_with_ee(data, sizeof data);
+    tell("lend 20", lend(0x81, 2, &memory, 23));
+    tell("serve", tirnouch_serve(&slot, 0, 0x81, 1, &told));
+    tell("cancel 1 3", call(TIRNOUCH_CANCEL, 1, 0, 3));
+    say("settle", tirnouch_settle(&slot, 0, 100, &told));
+    take_back(data, sizeof data);
+}
+
+static void lend_in_turn(void)
+{
+    uint8_t data[4];
+    struct tirnouch_memory memory = filled_with_ee(data, sizeof data), back = no_memory();
+    tell("lend 4", lend(0x81, 2, &memory, 24));
+    tell("turn", tirnouch_turn(&slot, 0, 0x81, 10, 100, &back, &told));
+    show("back", &back, data);
+    show_bytes(data, sizeof data);
+}
+
+/* What is lent as the session ends is C's, and isn't freed. */
+static void lending(void)
+{
+    uint8_t data[8];
+    struct tirnouch_memory memory = filled_with_ee(data, sizeof data);
+    say("create", create(meter));
+    tell("open 1 0", call(TIRNOUCH_OPEN, 1, 0, 0));
+    tell("claim 1 0", call(TIRNOUCH_CLAIM, 1, 0, 0));
+    lend_in_vain();
+    lend_one();
+    lend_two();
+    lend_and_cancel();
+    lend_in_turn();
+    tell("lend 8", lend(0x81, 2, &memory, 25));
+    say("destroy", tirnouch_destroy(&slot));
+    say("lend to an empty slot", lend(0x81, 2, &(struct tirnouch_memory){ .at = data, .len = sizeof data }, 26));
 }
 
 static void request(const char *what, const char *setup)
@@ -189,5 +327,6 @@ int main(void)
     descriptions();
     tell("unplug 0", call(TIRNOUCH_UNPLUG, 0, 0, 0));
     say("destroy", tirnouch_destroy(&slot));
+    lending();
     return 0;
 }

@@ -39,12 +39,13 @@ enum ask { ASKED_NOTHING, ASKED_TO_CANCEL, ASKED_TO_EXPIRE };
 /* A transfer as it is kept here. What the program sees of it stands behind it in memory (`seen`). */
 struct transfer {
     struct transfer *previous, *next; /* those in progress in its context, in order of submission */
-    struct transfer *behind;          /* in its endpoint's queue or line, among control transfers, or among those that ended */
+    struct transfer *behind;          /* in its endpoint's queue, among control transfers, or among those that ended */
     struct libusb_context *context;
     struct libusb_device_handle *handle;
     struct pipe *pipe;                /* its endpoint; NULL for a control transfer */
     uint64_t number;                  /* in the core: of the piece that is there */
     uint64_t deadline;                /* a moment in nanoseconds; 0 for none */
+    uint8_t *lent;                    /* the memory of that piece, where it reads (`core_submit`) */
     int moved, piece;                 /* bytes of the pieces before, and of the one in the core */
     unsigned naks;
     enum stage stage;
@@ -60,7 +61,6 @@ struct transfers {
 struct pipe {
     struct device *device;
     struct transfers queue;
-    struct transfers line;            /* those in the core, as they were submitted to it: the first one's result is expected next */
     struct transfer *cut;             /* the one that goes in pieces, while there are more than the one in the core */
     int most;                         /* bytes of a piece but the last: whole packets, so that none goes past a piece's end */
     uint32_t answers;                 /* how many it gave since it was made new, where that counts (`watched`) */
@@ -189,6 +189,7 @@ extern struct process {
     int log_level;
     libusb_log_cb log;
     unsigned traces;                  /* how many were begun */
+    uint8_t nowhere[1];               /* where memory of no bytes lies: nobody reads or writes it */
 } process;
 
 static inline void lock(void) { pthread_mutex_lock(&process.lock); }
@@ -220,8 +221,7 @@ void trace_submission(struct transfer *transfer, int length, uint8_t flags, int 
 bool core_serves(const struct pipe *pipe);
 bool core_serve(struct pipe *pipe, uint32_t most, struct tirnouch_told *told);
 bool core_settle(uint32_t most);
-bool core_take(struct tirnouch_told *told);
-void core_fetch(const struct tirnouch_told *told);
+struct transfer *core_take(struct tirnouch_told *told);
 
 /* claims.c */
 int claim(struct libusb_device_handle *handle, int interface);

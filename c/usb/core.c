@@ -101,31 +101,25 @@ bool core_settle(uint32_t most)
 
 static const char *const statuses[] = { "COMPLETED", "ERROR", "TIMED_OUT", "CANCELLED", "STALL", "NO_DEVICE", "OVERFLOW" };
 
-static void trace_result(const struct tirnouch_told *told, const uint8_t *bytes, int count)
+/* The bytes of one that was dropped aren't looked at: its buffer may be gone. */
+static void trace_result(const struct tirnouch_told *told, const struct transfer *transfer, const struct tirnouch_memory *read)
 {
     trace("take\n# called %" PRIu64 " ep %02x %s %" PRIu32 " ", told->n, told->ep, statuses[told->status], told->amount);
-    if (bytes)
-        trace_bytes(bytes, count);
-    else
+    if (transfer->is_dropped)
         trace(is_in(told->ep) ? "?" : "-");
+    else
+        trace_bytes(read->at, (int)read->filled);
     trace("\nreturn %u %" PRIu64 "\n# done\n", told->h, told->n);
 }
 
-/* The bytes of the result that went out, into its transfer's buffer. */
-void core_fetch(const struct tirnouch_told *told)
+/* The oldest result goes out. Its transfer, or NULL where there is none. */
+struct transfer *core_take(struct tirnouch_told *told)
 {
-    struct transfer *transfer = (struct transfer *)(uintptr_t)told->payload;
-    uint8_t none[1] = { 0 }, *to = place_for(transfer);
-    int count = tirnouch_fetch(&process.bus.core, to ? to : none, to ? (size_t)transfer->piece : 0);
+    struct tirnouch_memory back = no_memory();
+    if (tirnouch_take(&process.bus.core, &back, told) != 1)
+        return NULL;
+    struct transfer *transfer = transfer_of(told, &back);
     if (process.bus.trace)
-        trace_result(told, to, count);
-}
-
-/* The oldest result goes out, and its bytes into the transfer's buffer; whether there was one. */
-bool core_take(struct tirnouch_told *told)
-{
-    if (tirnouch_take(&process.bus.core, told) != 1)
-        return false;
-    core_fetch(told);
-    return true;
+        trace_result(told, transfer, &back);
+    return transfer;
 }

@@ -45,7 +45,6 @@ int submit_piece(struct transfer *transfer)
         return r;
     transfer->piece = piece;
     transfer->stage = IN_CORE;
-    join(&pipe->line, transfer);
     pipe->cut = is_last ? NULL : transfer;
     pipe->in_core++;
     process.bus.in_core++;
@@ -98,11 +97,9 @@ static void finish_piece(struct transfer *transfer, const struct tirnouch_told *
 }
 
 /* A result went out of the core. */
-static inline void finish(const struct tirnouch_told *told)
+static inline void finish(struct transfer *transfer, const struct tirnouch_told *told)
 {
-    struct transfer *transfer = (struct transfer *)(uintptr_t)told->payload;
     struct pipe *pipe = transfer->pipe;
-    leave(&pipe->line, transfer);
     pipe->in_core--;
     process.bus.in_core--;
     if (pipe->cut == transfer)
@@ -117,9 +114,10 @@ static inline void finish(const struct tirnouch_told *told)
 bool reap(void)
 {
     struct tirnouch_told told;
+    struct transfer *transfer;
     bool any = false;
-    while (process.bus.in_core && core_take(&told)) {
-        finish(&told);
+    while (process.bus.in_core && (transfer = core_take(&told))) {
+        finish(transfer, &told);
         any = true;
     }
     return any;
@@ -129,9 +127,10 @@ bool reap(void)
 static bool turn_over(struct pipe *pipe)
 {
     struct tirnouch_told told;
+    struct transfer *transfer;
     bool any = false;
-    while (pipe->in_core && core_turn(pipe, &told)) {
-        finish(&told);
+    while (pipe->in_core && (transfer = core_turn(pipe, &told))) {
+        finish(transfer, &told);
         any = true;
     }
     return any;

@@ -5,6 +5,8 @@
 
 #include "bus.h"
 
+#include <assert.h>
+
 /* The context that a call is for: NULL stands for the default one, and for another where that one wasn't begun. */
 static inline struct libusb_context *context_of(struct libusb_context *context)
 {
@@ -126,42 +128,51 @@ static inline int name_of(const struct pipe *pipe)
     return pipe->device->interfaces[pipe->interface].name;
 }
 
-/* Where the bytes of a piece go that a transfer has in the core; NULL where it reads none, or was dropped. */
-static inline uint8_t *place_for(struct transfer *transfer)
+/* Memory of no bytes, which has an address too. */
+static inline struct tirnouch_memory no_memory(void)
 {
-    if (!transfer || !is_in(transfer->pipe->ep) || transfer->is_dropped || !transfer->piece)
-        return NULL;
-    return seen(transfer)->buffer + transfer->moved;
+    return (struct tirnouch_memory){ .at = process.nowhere };
 }
 
-/* A transfer's next piece, of so many bytes. That its time is over is told by an expiry, so any timeout but 0 will do. */
+/* A transfer's next piece, of so many bytes. One that reads lends its part of the program's buffer: the packets' bytes go straight into
+ * it. That its time is over is told by an expiry, so any timeout but 0 will do. */
 static inline int core_submit(struct transfer *transfer, int length, uint8_t flags)
 {
     const struct pipe *pipe = transfer->pipe;
-    bool writes = !is_in(pipe->ep);
-    uint8_t none[1] = { 0 };
-    const uint8_t *bytes = writes && length ? seen(transfer)->buffer + transfer->moved : none;
+    struct tirnouch_slot *core = &process.bus.core;
+    uint8_t name = (uint8_t)name_of(pipe), *at = length ? seen(transfer)->buffer + transfer->moved : process.nowhere;
+    uint32_t timeout = transfer->deadline ? 1 : 0;
+    uint64_t payload = (uint64_t)(uintptr_t)transfer;
+    bool lends = length && is_in(pipe->ep);
+    struct tirnouch_memory memory = { .at = at, .len = (size_t)length };
     struct tirnouch_told told;
-    int answer = tirnouch_submit(&process.bus.core, (uint8_t)name_of(pipe), pipe->ep, pipe->kind, flags, transfer->deadline ? 1 : 0,
-                                 (uint32_t)length, bytes, writes ? (size_t)length : 0, (uint64_t)(uintptr_t)transfer, &told);
-    if (!answer)
+    int answer = lends ? tirnouch_submit_in(core, name, pipe->ep, pipe->kind, flags, timeout, &memory, payload, &told)
+                       : tirnouch_submit(core, name, pipe->ep, pipe->kind, flags, timeout, 0, at, (size_t)length, payload, &told);
+    if (!answer) {
         transfer->number = told.n;
+        transfer->lent = lends ? at : process.nowhere;
+    }
     if (process.bus.trace)
         trace_submission(transfer, length, flags, answer);
     return answer;
 }
 
-/* In one call, which no trace has: a device answers packets at an endpoint, what is to be done behind them is done, and the oldest
- * result goes out; whether there was one. The first of the endpoint's line is expected: its bytes go into its buffer at once. */
-static inline bool core_turn(const struct pipe *pipe, struct tirnouch_told *told)
+/* The transfer of a result. What it lent is the program's again. The core's contract has the bytes that stand in the memory which comes
+ * back, but not its address; so it is asked here, the one place that each result comes by. */
+static inline struct transfer *transfer_of(const struct tirnouch_told *told, const struct tirnouch_memory *back)
 {
-    struct transfer *expected = pipe->line.first;
-    uint8_t none[1] = { 0 }, *to = place_for(expected);
-    int answer = tirnouch_turn(&process.bus.core, (uint8_t)pipe->device->number, pipe->ep, ALL, ALL, (uint64_t)(uintptr_t)expected,
-                               to ? to : none, to ? (size_t)expected->piece : 0, told);
-    if (answer == 2)
-        core_fetch(told);
-    return answer > 0;
+    struct transfer *transfer = (struct transfer *)(uintptr_t)told->payload;
+    assert(back->at == transfer->lent);
+    return transfer;
+}
+
+/* In one call, which no trace has: a device answers packets at an endpoint, what is to be done behind them is done, and the oldest
+ * result goes out. Its transfer, or NULL where there is none. */
+static inline struct transfer *core_turn(const struct pipe *pipe, struct tirnouch_told *told)
+{
+    struct tirnouch_memory back = no_memory();
+    int answer = tirnouch_turn(&process.bus.core, (uint8_t)pipe->device->number, pipe->ep, ALL, ALL, &back, told);
+    return answer == 1 ? transfer_of(told, &back) : NULL;
 }
 
 #endif

@@ -101,7 +101,8 @@ static void drop_ended(struct libusb_device_handle *handle)
 }
 
 /* What a handle has in progress at an interface, or at all (-1), is cancelled and ends here: it waits for its callback, or is
- * dropped, as libusb has it where a handle is closed. */
+ * dropped, as libusb has it where a handle is closed. The program may free a dropped one's buffer, which the core has until its result
+ * is reaped below. The core writes to it only where a packet is served, and none is between the drop and that. */
 void withdraw(struct libusb_device_handle *handle, int interface, bool drops)
 {
     struct libusb_context *context = handle->context;
@@ -205,15 +206,15 @@ int libusb_cancel_transfer(struct libusb_transfer *transfer)
     return r;
 }
 
-/* One that is in progress is the program's error. It is told, cancelled and dropped; its memory goes when it ended. */
+/* One that is in progress is the program's error. It is told, cancelled and dropped; its memory goes when it ended, and so does a buffer
+ * that is to be freed. One that the program freed before isn't written to: as in `withdraw`, no packet is served until it ended. */
 void libusb_free_transfer(struct libusb_transfer *transfer)
 {
     if (!transfer)
         return;
     struct transfer *it = kept(transfer);
     lock();
-    if (transfer->flags & LIBUSB_TRANSFER_FREE_BUFFER)
-        free(transfer->buffer);
+    unsigned char *buffer = transfer->flags & LIBUSB_TRANSFER_FREE_BUFFER ? transfer->buffer : NULL;
     transfer->buffer = NULL;
     if (it->stage == AT_REST || it->stage == ENDED) {
         if (it->stage == ENDED)
@@ -227,5 +228,6 @@ void libusb_free_transfer(struct libusb_transfer *transfer)
             settle_all();
         while (reap());
     }
+    free(buffer);
     unlock();
 }

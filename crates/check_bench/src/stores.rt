@@ -2,7 +2,7 @@
 
 use bitflags::Flags as _;
 use std::alloc::{AllocError, Global};
-use usb_model::{Body, EpAddr, Flags, Kind, Name, Request};
+use usb_model::{Body, Buffer, EpAddr, Flags, Kind, Name, Request};
 use usb_transfer::{Store, Transfer};
 
 /// So many transfers are in flight.
@@ -18,7 +18,7 @@ fn transfer(alloc: Global, n: u64) -> Result<Transfer<u64>, AllocError> {
         body: Body::In(0),
     };
     let name = Name::new(1).ok_or(AllocError)?;
-    Transfer::new(alloc, name, n, request, 0, n, &mut Vec::new(alloc)).map_err(|_| AllocError)
+    Transfer::new(alloc, name, n, request, 0, n, &mut Buffer::new(alloc)).map_err(|_| AllocError)
 }
 
 /// A store, and the keys of its transfers.

@@ -6,7 +6,7 @@ use std::alloc::{AllocError, Global};
 use std::sync::Arc;
 use std::sync::atomic::{AtomicU64, Ordering};
 use usb_device::{Act, Device, TableDevice};
-use usb_model::EpAddr;
+use usb_model::{Buffer, EpAddr};
 
 /// A device that counts its answers. It appends none itself: `answer` puts each packet into zeros behind the bytes.
 #[derive(Drop)]
@@ -88,7 +88,7 @@ impl Device for EitherDevice {
         }
     }
 
-    fn answer_in(&mut self, ep: EpAddr, room: usize, bytes: &mut Vec<u8>) -> Act {
+    fn answer_in(&mut self, ep: EpAddr, room: usize, bytes: &mut Buffer) -> Act {
         match self {
             EitherDevice::Scripted(device) => device.answer_in(ep, room, bytes),
             EitherDevice::Counting(counter) => counter.answer_in(ep, room, bytes),

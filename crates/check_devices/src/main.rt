@@ -3,7 +3,7 @@
 //!
 //! # Files
 //!
-//! - `plans.rt`, `packets.rt`, `alike.rt`, `boxes.rt`, `booked.rt`, `unplugged.rt`: the scenes
+//! - `plans.rt`, `packets.rt`, `alike.rt`, `boxes.rt`, `booked.rt`, `unplugged.rt`, `memory.rt`: the scenes
 //! - `kinds.rt`: a device that counts its answers; one of either kind
 //! - `stand.rt`: a setup of both, which answer alike
 //! - `bench.rt`, `told.rt`: the core, step by step, and the steps of a read; entries in lines
@@ -14,6 +14,7 @@ mod bench;
 mod booked;
 mod boxes;
 mod kinds;
+mod memory;
 mod packets;
 mod plans;
 mod stand;
@@ -29,5 +30,6 @@ fn main(rt: HostRuntime) -> Result<()> {
     alike::play(&rt, alloc)?;
     boxes::play(&rt, alloc)?;
     booked::play(&rt, alloc)?;
-    unplugged::play(&rt, alloc)
+    unplugged::play(&rt, alloc)?;
+    memory::play(&rt, alloc)
 }

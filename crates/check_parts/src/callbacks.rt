@@ -11,7 +11,7 @@ use std::alloc::Global;
 use std::sync::Arc;
 use std::sync::atomic::{AtomicU64, Ordering};
 use usb_callback::{Callback, End, Once, Repeat, StoredCallback, Told};
-use usb_model::{Bytes, EpAddr, Name, Refused, Returned, Rule, Status, StatusSet, Verdict};
+use usb_model::{BytesRead, EpAddr, Name, Refused, Returned, Rule, Status, StatusSet, Verdict};
 
 /// Plays the scenes of callbacks.
 pub fn play<P: Print>(rt: &P, alloc: Global) -> Result<()> {
@@ -37,7 +37,7 @@ fn completed(alloc: Global, round: u64) -> Result<Returned>
         round,
         status: Status::Completed,
         actual: 0,
-        bytes: Bytes::new(alloc),
+        bytes: BytesRead::new(alloc),
     })
 }
 

@@ -10,8 +10,8 @@ use trace_recorded::{
     Endianness, EventHeader, RecordedEnd, RecordedEvent, RecordedTransfer, answers_of, event_of,
 };
 use usb_model::{
-    Body, Bytes, DeviceNo, Entry, EpAddr, Errand, Flags, Kind, Name, Reply, Request, Response,
-    Returned, Script, Status, Step,
+    Body, Bytes, BytesRead, DeviceNo, Entry, EpAddr, Errand, Flags, Kind, Name, Reply, Request,
+    Response, Returned, Script, Status, Step,
 };
 
 /// The endpoint that is read.
@@ -204,6 +204,6 @@ fn called(alloc: Global, h: Name) -> Result<Reply, AllocError> {
         round: 0,
         status: Status::Cancelled,
         actual: 8,
-        bytes: Bytes::from_vec(packet),
+        bytes: BytesRead::from_bytes(Bytes::from_vec(packet)),
     }))
 }

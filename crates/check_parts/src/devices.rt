@@ -6,7 +6,7 @@ use anyhow::{Result, anyhow};
 use std::alloc::{AllocError, Global};
 use usb_descriptors::read_config;
 use usb_device::{Act, BoxedDevice, Device, TableDevice};
-use usb_model::{Bytes, EpAddr, Response, Script, Sequence};
+use usb_model::{Buffer, Bytes, EpAddr, Memory, Response, Script, Sequence};
 
 /// Interface 0 with the bulk endpoint 81 of 8 bytes.
 const ONE_ENDPOINT: [u8; 25] = [
@@ -64,14 +64,14 @@ fn table(alloc: Global) -> Result<TableDevice> {
 }
 
 /// One byte, with room for eight more.
-fn byte_with_room(alloc: Global) -> Result<Vec<u8>, AllocError> {
+fn byte_with_room(alloc: Global) -> Result<Buffer, AllocError> {
     let mut bytes = Vec::with_capacity(alloc, 9)?;
     bytes.push(7)?;
-    Ok(bytes)
+    Ok(Buffer::from_memory(alloc, Memory::Own(bytes)))
 }
 
 /// What a device appends to a byte at 81, where there is room for eight more.
-fn append<D: Device>(alloc: Global, device: &mut D) -> Result<(Act, Vec<u8>)> {
+fn append<D: Device>(alloc: Global, device: &mut D) -> Result<(Act, Buffer)> {
     let mut bytes = byte_with_room(alloc)?;
     if bytes.capacity() < 9 || bytes.len() > 1 {
         return Err(anyhow!("there is no room"));

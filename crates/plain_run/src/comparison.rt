@@ -50,9 +50,12 @@ impl Part {
         };
         let mut left = steps;
         for entry in all.into_vec() {
-            if let Some((step, rest)) = left.split_first() {
-                part.take(h, step, entry)?;
-                left = rest;
+            match left.split_first() {
+                Some((step, rest)) => {
+                    part.take(h, step, entry)?;
+                    left = rest;
+                }
+                None => drop(entry),
             }
         }
         Ok(part)

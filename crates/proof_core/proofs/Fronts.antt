@@ -1,6 +1,6 @@
 -- The item where the controller works.
 use Rattle.std.proofs.Common.{List, ◌≡◌, ℕ, ◌+◌, ◌-◌, ◌<◌, ◌≤◌, refl, ap, sym, subst, ◌∙◌, arith, length, Option, Some, None, false}
-use Rattle.std.specs.Prelude.{slice_get, vec_capacity, vec_len, IfSome, is_some, if◌then◌else◌}
+use Rattle.std.specs.Prelude.{slice_get, IfSome, is_some, if◌then◌else◌}
 use Rattle.std.proofs.lemmas.Option.{same_Some}
 use Rattle.usb_model.specs.declared.endpoint.EndpointState.{EndpointState}
 use Rattle.usb_model.specs.declared.endpoint.EndpointState.TheVariants.{Halted, Running, Stopped}
@@ -122,7 +122,7 @@ module _ {P : Type 0} where
 
   -- what holds of a read, by how far it was read, and of a write, by its bytes, holds of an item at work
   pub by_bytes : (setup : Setup) (w : World) (s : State P) (c : Core) (h d e item : ℕ) (x : Context) (first : TrbAt) → IsAt setup s c h d e → Shows setup w c → working x ≡ Some first → (is : IsAtWork setup s c h d e item x first) (F : Body → InFlight P → Type 0)
-      → ((n : ℕ) → length_of is.y.request.body ≡ n → room_of is.y.request.body ≡ n → vec_len is.is.t.bytes ≡ length is.y.bytes → length is.y.bytes ≤ sent_before (c.endpoints d e) is.y → F (In n) is.is.t)
+      → ((n : ℕ) → length_of is.y.request.body ≡ n → room_of is.y.request.body ≡ n → length is.is.t.bytes.items ≡ length is.y.bytes → length is.y.bytes ≤ sent_before (c.endpoints d e) is.y → F (In n) is.is.t)
       → ((bytes : List ℕ) → length_of is.y.request.body ≡ length bytes → F (Out bytes) is.is.t) → IfSome (item_at s.flights d e item) (λ t. F t.request.body t)
   by_bytes setup w s c h d e item x first at shows work is F read written = subst (λ (o : Option (InFlight P)). IfSome o (λ t. F t.request.body t)) (sym is.is.found) (by_body t.request.body refl)
     where
@@ -141,7 +141,7 @@ module _ {P : Type 0} where
       by_body : (body : Body) → t.request.body ≡ body → F body t
       by_body (In n) in_ =
           let here : is.y.request.body ≡ In n = ap (λ (r : Request). r.body) (sym same) ∙ in_ in
-          read n (ap length_of here) (ap room_of here) (t.bytes.ok.0 ∙ ap length is.is.same.read) few
+          read n (ap length_of here) (ap room_of here) (ap length is.is.same.read) few
       by_body (Out bytes) out = written bytes (ap length_of (ap (λ (r : Request). r.body) (sym same) ∙ out))
 
   -- so one packet of it can be served
@@ -156,8 +156,8 @@ module _ {P : Type 0} where
       t : InFlight P
       t = is.is.t
 
-      read : (n : ℕ) → length_of is.y.request.body ≡ n → room_of is.y.request.body ≡ n → vec_len t.bytes ≡ length is.y.bytes → length is.y.bytes ≤ sent_before (c.endpoints d e) is.y → CanServe s.controller d e (In n) t
-      read n long room_is so_far few = has_here s.controller d e (λ v z f. vec_len t.bytes + packet_room z ≤ vec_capacity t.bytes) is.slot x first is.there is.context work (omega (arith, few, is.room, is.is.same.room, long, room_is, so_far))
+      read : (n : ℕ) → length_of is.y.request.body ≡ n → room_of is.y.request.body ≡ n → length t.bytes.items ≡ length is.y.bytes → length is.y.bytes ≤ sent_before (c.endpoints d e) is.y → CanServe s.controller d e (In n) t
+      read n long room_is so_far few = has_here s.controller d e (λ v z f. length t.bytes.items + packet_room z ≤ t.bytes.capacity) is.slot x first is.there is.context work (omega (arith, few, is.room, is.is.same.room, long, room_is, so_far))
 
       written : (bytes : List ℕ) → length_of is.y.request.body ≡ length bytes → CanServe s.controller d e (Out bytes) t
       written bytes long = (

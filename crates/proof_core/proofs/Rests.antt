@@ -1,6 +1,6 @@
 -- There is room for the rest of the transfer where the controller works, or its TRB's bytes are there.
 use Rattle.std.proofs.Common.{◌≡◌, ℕ, ◌+◌, ◌-◌, ◌%◌, ◌<◌, ◌≤◌, refl, ap, sym, subst, ◌∙◌, arith, List, [], ◌∷◌, length, drop, take, Option, Some, None, Bool, true, false, inl, inr, ◌⊎◌, if◌then◌else◌}
-use Rattle.std.specs.Prelude.{is_some, option_map, slice_get, vec_capacity, vec_len}
+use Rattle.std.specs.Prelude.{is_some, option_map, slice_get}
 use Rattle.std.proofs.lemmas.Bool.{cases_lt}
 use Rattle.usb_model.specs.declared.request.Body.TheVariants.{In, Out}
 use Rattle.usb_model.specs.Requests.{length_of}
@@ -110,9 +110,9 @@ module _ {P : Type 0} where
       left : HasRest x b is.y first.trb
       left = has_rest x b is.y first.trb is.ring.context (front.at_front x b is.y is.ring.context is.found is.live) is.found (first_trb x first work)
 
-      read : (n : ℕ) → length_of is.y.request.body ≡ n → room_of is.y.request.body ≡ n → vec_len t.bytes ≡ length is.y.bytes → length is.y.bytes ≤ sent_before b is.y → CanSkim s.controller d e (In n) t
+      read : (n : ℕ) → length_of is.y.request.body ≡ n → room_of is.y.request.body ≡ n → length t.bytes.items ≡ length is.y.bytes → length is.y.bytes ≤ sent_before b is.y → CanSkim s.controller d e (In n) t
       read n long room_is so_far few =
-          has_here s.controller d e (λ v z f. vec_len t.bytes + room (trbs z) z.within ≤ vec_capacity t.bytes) is.slot x first is.there is.context work (omega (arith, few, left.room, is.is.same.room, long, room_is, so_far))
+          has_here s.controller d e (λ v z f. length t.bytes.items + room (trbs z) z.within ≤ t.bytes.capacity) is.slot x first is.there is.context work (omega (arith, few, left.room, is.is.same.room, long, room_is, so_far))
 
       written : (bytes : List ℕ) → length_of is.y.request.body ≡ length bytes → CanSkim s.controller d e (Out bytes) t
       written bytes long = (

@@ -1,6 +1,6 @@
 -- Whole packets in a row of the item where the controller works, each as one packet of it.
 use Rattle.std.proofs.Common.{◌≡◌, ℕ, zero, suc, ◌+◌, ◌<◌, ◌≤◌, refl, ap, ap₂, sym, subst, ◌∙◌, arith, List, ◌∷◌, length, Option, Some, None}
-use Rattle.std.specs.Prelude.{option_map, replicate, slice_get, slice_index_or, slice_set, vec_capacity}
+use Rattle.std.specs.Prelude.{option_map, replicate, slice_get, slice_index_or, slice_set}
 use Rattle.std.specs.Option.{option_and_then}
 use Rattle.std.proofs.lemmas.Option.{same_Some}
 use Rattle.usb_model.specs.declared.entry.Entry.{Entry}
@@ -34,7 +34,7 @@ use Rattle.proof_core.specs.State.{IsFlight, IsItem, Keeps, State}
 use Rattle.proof_core.specs.Steps.{Is, core_behind, core_entries}
 use Rattle.proof_core.specs.Works.{IsAt, behind_packet, context_in, packet_of, with_kept}
 use Rattle.proof_core.proofs.Amid.{core_as}
-use Rattle.proof_core.proofs.Between.{put_read, put_twice, skimmed_more, skimmed_next, skimmed_none, with_items}
+use Rattle.proof_core.proofs.Between.{put_read, put_twice, skimmed_next, skimmed_none}
 use Rattle.proof_core.proofs.Fronts.{IsAtWork, at_work, working_runs}
 use Rattle.proof_core.proofs.Held.{is_at}
 use Rattle.proof_core.proofs.Lanes.{has_lane, line_here}
@@ -97,7 +97,7 @@ module _ {P : Type 0} (old : State P) (h d e item n size count : ℕ) (t last : 
       ∙ index_get (slice_set (line_at old.flights d e) item (Some u)) item None (Some u) (get_put (line_at old.flights d e) item (Some t) (Some u) row.there)
 
   -- one packet more
-  serves_amid : (row : IsRow) (i : ℕ) (u v : InFlight P) → IsAmid i u → IsAmid (suc i) v → vec_capacity u.bytes ≤ vec_capacity v.bytes → Serves (amid i u).flights (amid (suc i) v).flights (amid i u).controller d e item u
+  serves_amid : (row : IsRow) (i : ℕ) (u v : InFlight P) → IsAmid i u → IsAmid (suc i) v → u.bytes.capacity ≤ v.bytes.capacity → Serves (amid i u).flights (amid (suc i) v).flights (amid i u).controller d e item u
   serves_amid row i u v is next more = record {
     served = v;
     behind = record {
@@ -110,7 +110,7 @@ module _ {P : Type 0} (old : State P) (h d e item n size count : ℕ) (t last : 
   }
 
   -- it is the core's
-  step_amid : (setup : Setup) (w : World) (c : Core) (row : IsRow) (i : ℕ) (u v : InFlight P) → IsAmid i u → IsAmid (suc i) v → vec_capacity u.bytes ≤ vec_capacity v.bytes → i < count → (x : Context) (first : TrbAt) → context_in (amid i u).controller d e ≡ Some x → working x ≡ Some first
+  step_amid : (setup : Setup) (w : World) (c : Core) (row : IsRow) (i : ℕ) (u v : InFlight P) → IsAmid i u → IsAmid (suc i) v → u.bytes.capacity ≤ v.bytes.capacity → i < count → (x : Context) (first : TrbAt) → context_in (amid i u).controller d e ≡ Some x → working x ≡ Some first
       → IsAt setup (amid i u) c h d e → Shows setup w c → IsAtWork setup (amid i u) c h d e item x first
       → ((packet_of setup c d e).reply ≡ reply_of n (served.Moved size)) × Keeps setup (amid (suc i) v) (behind_packet setup c d e)
   unfolding controller_skimmed
@@ -126,7 +126,7 @@ module _ {P : Type 0} (old : State P) (h d e item n size count : ℕ) (t last : 
       by_u y found F has = subst F (same_Some u y (sym (found_amid row i u) ∙ found)) has
 
   -- the last transfer may have its bytes elsewhere
-  ends_row : (setup : Setup) (c : Core) (row : IsRow) (u : InFlight P) → IsAmid count u → vec_capacity u.bytes ≤ vec_capacity last.bytes → IsAt setup (amid count u) c h d e → Keeps setup (amid count last) c
+  ends_row : (setup : Setup) (c : Core) (row : IsRow) (u : InFlight P) → IsAmid count u → u.bytes.capacity ≤ last.bytes.capacity → IsAt setup (amid count u) c h d e → Keeps setup (amid count last) c
   ends_row setup c row u is more at = subst (λ (x : Core). Keeps setup (amid count last) x) same
       (item_changes setup (amid count u) (amid count last).flights c h d e item y y last at kept.1 (sym (put_twice old.flights d e item (Some u) (Some last) row.lanes row.lane)) flies refl refl refl refl)
     where
@@ -180,7 +180,7 @@ module _ {P : Type 0} (old : State P) (h d e item n size count : ℕ) (t last : 
           })
 
   -- the packets that are left
-  rows : (left i : ℕ) (setup : Setup) (w : World) (c : Core) (row : IsRow) (u : InFlight P) → left + i ≡ count → IsAmid i u → vec_capacity u.bytes ≤ vec_capacity last.bytes → IsAt setup (amid i u) c h d e → Shows setup w c → (InRow (c.endpoints d e).line (c.endpoints d e).end → IsNow (c.endpoints d e) item)
+  rows : (left i : ℕ) (setup : Setup) (w : World) (c : Core) (row : IsRow) (u : InFlight P) → left + i ≡ count → IsAmid i u → u.bytes.capacity ≤ last.bytes.capacity → IsAt setup (amid i u) c h d e → Shows setup w c → (InRow (c.endpoints d e).line (c.endpoints d e).end → IsNow (c.endpoints d e) item)
       → (replicate left (record { owner = Some h; reply = Moved n size }) ≡ core_entries setup c (replicate left (Serve d e))) × Keeps setup (amid count last) (core_behind setup c (replicate left (Serve d e)))
   unfolding core_entries core_behind step_core
   rows zero i setup w c row u all is more at shows now =
@@ -193,15 +193,8 @@ module _ {P : Type 0} (old : State P) (h d e item n size count : ℕ) (t last : 
       before : i < count
       before = omega (arith, all)
 
-      fits : length (bytes_at (suc i)) ≤ vec_capacity last.bytes
-      fits =
-          let few : length (bytes_at (suc i)) ≤ length (bytes_at (left + suc i)) = skimmed_more old.controller d e (suc i) left t.request.body t.bytes.items in
-          let whole : left + suc i ≡ count = omega (arith, all) in
-          let end : length (bytes_at (left + suc i)) ≡ length last.bytes.items = ap (λ (j : ℕ). length (bytes_at j)) whole ∙ sym (ap length row.behind.items) in
-          omega (arith, few, end, last.bytes.ok.0, last.bytes.ok.1)
-
       v : InFlight P
-      v = record t { bytes = with_items last.bytes (bytes_at (suc i)) fits }
+      v = record t { bytes = record { items = bytes_at (suc i); capacity = last.bytes.capacity; lent = last.bytes.lent } }
 
       next : IsAmid (suc i) v
       next = record { rest = refl; items = refl }

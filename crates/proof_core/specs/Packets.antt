@@ -1,5 +1,5 @@
 -- One packet of a transfer in flight, at the controller.
-use Rattle.std.specs.Prelude.{◌≡◌, ℕ, ◌+◌, ◌-◌, ◌≤◌, List, Option, Some, None, IfSome, length, slice_get, vec_capacity, vec_len}
+use Rattle.std.specs.Prelude.{◌≡◌, ℕ, ◌+◌, ◌-◌, ◌≤◌, List, Option, Some, None, IfSome, length, slice_get}
 use Rattle.std.specs.Option.{option_map_or}
 use Rattle.usb_model.specs.declared.request.Body.{Body}
 use Rattle.usb_model.specs.declared.request.Body.TheVariants.{In, Out}
@@ -51,14 +51,14 @@ bytes_skimmed k d e count (Out sent) bytes = bytes
 module _ {P : Type 0} where
   -- a transfer's bytes serve for the next packet: IN has room for it, OUT has it
   abbrev pub CanServe : Controller → ℕ → ℕ → Body → Transfer P → Type 0
-  CanServe k d e (In n) t = HasRoom k d e (vec_len t.bytes) (vec_capacity t.bytes)
+  CanServe k d e (In n) t = HasRoom k d e (length t.bytes.items) t.bytes.capacity
   CanServe k d e (Out bytes) t = HasSize k d e × HasBytes k d e (length bytes)
 
   -- the same transfer, but for its bytes: those read, and at least the room that there was
   pub record IsServed (k : Controller) (d e : ℕ) (t served : Transfer P) : Type 0 where
     pub rest : served ≡ record t { bytes = served.bytes }
     pub items : served.bytes.items ≡ bytes_for k d e t.request.body t.bytes.items
-    pub room : vec_capacity t.bytes ≤ vec_capacity served.bytes
+    pub room : t.bytes.capacity ≤ served.bytes.capacity
 
   -- that of this item alone is served
   pub record Serves (old new : Flights (Transfer P)) (k : Controller) (d e i : ℕ) (t : Transfer P) : Type 0 where
@@ -68,14 +68,14 @@ module _ {P : Type 0} where
 
   -- a transfer's bytes serve for whole packets in a row inside a TRB: IN has room for the rest, OUT has the TRB's
   abbrev pub CanSkim : Controller → ℕ → ℕ → Body → Transfer P → Type 0
-  CanSkim k d e (In n) t = HasWholeRoom k d e (vec_len t.bytes) (vec_capacity t.bytes)
+  CanSkim k d e (In n) t = HasWholeRoom k d e (length t.bytes.items) t.bytes.capacity
   CanSkim k d e (Out bytes) t = HasSize k d e × HasTrbBytes k d e (length bytes)
 
   -- the same transfer, but for its bytes: those read in so many whole packets, and at least the room that there was
   pub record IsSkimmed (k : Controller) (d e count : ℕ) (t skimmed : Transfer P) : Type 0 where
     pub rest : skimmed ≡ record t { bytes = skimmed.bytes }
     pub items : skimmed.bytes.items ≡ bytes_skimmed k d e count t.request.body t.bytes.items
-    pub room : vec_capacity t.bytes ≤ vec_capacity skimmed.bytes
+    pub room : t.bytes.capacity ≤ skimmed.bytes.capacity
 
   -- so many whole packets of this item alone are served
   pub record Skims (old new : Flights (Transfer P)) (k : Controller) (d e i count : ℕ) (t : Transfer P) : Type 0 where

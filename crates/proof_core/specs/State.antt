@@ -1,5 +1,5 @@
 -- The parts in which the core keeps its state, and when they keep a core that shows a world.
-use Rattle.std.specs.Prelude.{◌≡◌, ℕ, ◌%◌, ◌≤◌, true, false, List, [], ◌∷◌, length, map, count_by, slice_get, vec_capacity, Option, Some, None}
+use Rattle.std.specs.Prelude.{◌≡◌, ℕ, ◌%◌, ◌≤◌, true, false, List, [], ◌∷◌, length, map, count_by, slice_get, Option, Some, None}
 use Rattle.std.specs.Option.{option_map}
 use Rattle.std.specs.List.{AllByRecursion}
 use Rattle.usb_model.specs.declared.handle.Handle.{Handle}
@@ -44,7 +44,7 @@ module _ {P : Type 0} where
     pub asked : t.ask ≡ y.ask
     pub told : t.moved ≡ y.moved
     pub read : t.bytes.items ≡ y.bytes
-    pub room : room_of y.request.body ≤ vec_capacity t.bytes
+    pub room : room_of y.request.body ≤ t.bytes.capacity
     pub at : y.request.ep ≡ e
     pub whose : name ≡ Some t.name
 

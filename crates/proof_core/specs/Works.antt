@@ -1,5 +1,5 @@
 -- Pieces of work of which the core's steps are made, each by what it makes of every core that the parts keep.
-use Rattle.std.specs.Prelude.{◌≡◌, ℕ, suc, ◌+◌, ◌<◌, ◌≤◌, ◌==◌, true, false, [], ◌∷◌, ◌++◌, length, drop, map, slice_get, slice_set, is_none, vec_capacity, IfSome, IsSome, Option, Some, None, if◌then◌else◌}
+use Rattle.std.specs.Prelude.{◌≡◌, ℕ, suc, ◌+◌, ◌<◌, ◌≤◌, ◌==◌, true, false, [], ◌∷◌, ◌++◌, length, drop, map, slice_get, slice_set, is_none, IfSome, IsSome, Option, Some, None, if◌then◌else◌}
 use Rattle.std.specs.Option.{option_and_then}
 use Rattle.std.specs.List.{prefix_len}
 use Rattle.usb_model.specs.declared.endpoint.EndpointState.TheVariants.{Running, Halted}
@@ -65,7 +65,7 @@ pub record IsUnstarted {P : Type 0} (h : ℕ) (t : InFlight P) (n : ℕ) (reques
   pub asked : t.ask ≡ None
   pub told : t.moved ≡ 0
   pub read : t.bytes.items ≡ []
-  pub room : vec_capacity t.bytes ≡ room_of request.body
+  pub room : t.bytes.capacity ≡ room_of request.body
   pub whose : t.name ≡ h
 
 module _ {P : Type 0} (old new : State P) (h d e : ℕ) where

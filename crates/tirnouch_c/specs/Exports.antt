@@ -2,6 +2,7 @@
 use Rattle.std.specs.Prelude.{◌≡◌, ℕ, ℤ, pos, negsuc, ◌==◌, nat_lt, not, List, Option, Some, None, Err, if◌then◌else◌}
 use Rattle.std.specs.Option.{option_map}
 use Rattle.usb_desk.specs.Desk.{desk_of}
+use Rattle.usb_lent.specs.declared.lent.LentMemory.{LentMemory}
 use Rattle.tirnouch_c.specs.declared.session.Session.{Session}
 use Rattle.tirnouch_c.specs.declared.told.Told.{Told}
 use Rattle.tirnouch_c.specs.Calls.{no_session, out_of_range}
@@ -75,9 +76,9 @@ abbrev pub TakenBy : (dev ep i : ℕ) → ℤ → (old new : List ℕ) → Sessi
 TakenBy dev ep i answer old new s = TakenIf (device_by dev) ep i answer old new s
 
 -- packets, what is to be done and the oldest result, of a number that may be no device's
-abbrev pub WorksIf : Option ℕ → (ep packets steps want : ℕ) → ℤ → Told → (old new : List ℕ) → (s t : Session) → Type 0
-WorksIf None ep packets steps want answer told old new s t = (answer ≡ out_of_range) × (new ≡ old) × (t ≡ s)
-WorksIf (Some dev) ep packets steps want answer told old new s t = Works dev ep packets steps want answer told old new s t
+abbrev pub WorksIf : Option ℕ → (ep packets steps : ℕ) → ℤ → Told → (old new : LentMemory) → (s t : Session) → Type 0
+WorksIf None ep packets steps answer told old new s t = (answer ≡ out_of_range) × (new ≡ old) × (t ≡ s)
+WorksIf (Some dev) ep packets steps answer told old new s t = Works dev ep packets steps answer told old new s t
 
-abbrev pub WorksBy : (dev ep packets steps want : ℕ) → ℤ → Told → (old new : List ℕ) → (s t : Session) → Type 0
-WorksBy dev ep packets steps want answer told old new s t = WorksIf (device_by dev) ep packets steps want answer told old new s t
+abbrev pub WorksBy : (dev ep packets steps : ℕ) → ℤ → Told → (old new : LentMemory) → (s t : Session) → Type 0
+WorksBy dev ep packets steps answer told old new s t = WorksIf (device_by dev) ep packets steps answer told old new s t

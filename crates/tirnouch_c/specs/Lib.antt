@@ -6,6 +6,7 @@ pub mod Submission
 pub mod Packets
 pub mod Settling
 pub mod Buffers
+pub mod Lent
 pub mod Results
 pub mod Reads
 pub mod Requests

@@ -1,5 +1,5 @@
 -- What is said of results.
-use Rattle.std.specs.Prelude.{◌≡◌, ℕ, ℤ, pos, ◌==◌, Bool, true, false, List, [], Option, Some, None}
+use Rattle.std.specs.Prelude.{◌≡◌, ℕ, ℤ, pos, List, [], Option, Some, None}
 use Rattle.usb_core.specs.Public.{Carries, Kept, ShowsWorld, State, StillCarries, Taken, TurnsWorld, called_entry}
 use Rattle.usb_model.specs.declared.step.Step.TheVariants.{Answer, Take}
 use Rattle.usb_model.specs.declared.verdict.Verdict.TheVariants.{Stop}
@@ -8,7 +8,9 @@ use Rattle.usb_model.specs.World.{World, turn}
 use Rattle.tirnouch_c.specs.declared.session.Session.{Session}
 use Rattle.tirnouch_c.specs.declared.told.Told.{Told}
 use Rattle.tirnouch_c.specs.Buffers.{answer_of, filled, taken_count}
+use Rattle.tirnouch_c.specs.Lent.{BytesGo}
 use Rattle.tirnouch_c.specs.Told.{of_kind, told_of}
+use Rattle.usb_lent.specs.declared.lent.LentMemory.{LentMemory}
 
 -- what is answered where a result is asked for: 0 where none waits, 1 where one goes out
 abbrev pub went_number : Option (Taken ℕ) → ℤ
@@ -35,15 +37,15 @@ pub record GoesOut (x : Taken ℕ) (s t : State ℕ) : Type 0 where
   pub carries : StillCarries s t
 
 -- the same of a session, and of a result that may not be there: nothing changes then
-abbrev pub TakesAs : Option (Taken ℕ) → (s t : Session) → Type 0
-TakesAs None s t = TurnsWorld s.core Take (called_entry None) t.core × (t ≡ s)
-TakesAs (Some x) s t = GoesOut x s.core t.core × (t.out ≡ Some x) × (t.devices ≡ s.devices)
+abbrev pub TakesAs : Option (Taken ℕ) → (old new : LentMemory) → (s t : Session) → Type 0
+TakesAs None old new s t = TurnsWorld s.core Take (called_entry None) t.core × (new ≡ old) × (t ≡ s)
+TakesAs (Some x) old new s t = GoesOut x s.core t.core × BytesGo x t.out old new × (t.devices ≡ s.devices)
 
-pub record Takes (answer : ℤ) (told : Told) (s t : Session) : Type 0 where
+pub record Takes (answer : ℤ) (told : Told) (old new : LentMemory) (s t : Session) : Type 0 where
   pub went : Option (Taken ℕ)
   pub answered : answer ≡ went_number went
   pub told_is : told ≡ went_told went
-  pub made : TakesAs went s t
+  pub made : TakesAs went old new s t
 
 -- the bytes that are to be fetched
 abbrev pub bytes_out : Option (Taken ℕ) → List ℕ
@@ -57,20 +59,3 @@ pub record Fetches (answer : ℤ) (old new : List ℕ) (s t : Session) : Type 0 
   pub out : t.out ≡ None
   pub core : t.core ≡ s.core
   pub devices : t.devices ≡ s.devices
-
--- the bytes of a result that is the wanted one are fetched at once: 1; those of another are still to be fetched: 2
-abbrev pub FetchesIf : Bool → ℤ → (old new : List ℕ) → (s t : Session) → Type 0
-FetchesIf true answer old new s t = (answer ≡ pos 1) × ((count : ℤ) × Fetches count old new s t)
-FetchesIf false answer old new s t = (answer ≡ pos 2) × (new ≡ old) × (t ≡ s)
-
--- the same of a result that may not be there: 0 then
-abbrev pub FetchesWanted : ℕ → Option (Taken ℕ) → ℤ → (old new : List ℕ) → (s t : Session) → Type 0
-FetchesWanted want None answer old new s t = (answer ≡ pos 0) × (new ≡ old) × (t ≡ s)
-FetchesWanted want (Some x) answer old new s t = FetchesIf (x.payload == want) answer old new s t
-
--- the oldest result goes out, with its bytes where it is the wanted one
-pub record TakesFor (want : ℕ) (answer : ℤ) (told : Told) (old new : List ℕ) (s t : Session) : Type 0 where
-  pub went : ℤ
-  pub out : Session
-  pub takes : Takes went told s out
-  pub fetches : FetchesWanted want takes.went answer old new out t

@@ -1,5 +1,5 @@
 -- What a submission says.
-use Rattle.std.specs.Prelude.{◌≡◌, ℕ, ℤ, ◌==◌, nat_lt, List, Option, Some, None, if◌then◌else◌}
+use Rattle.std.specs.Prelude.{◌≡◌, ℕ, ℤ, ◌==◌, nat_lt, List, [], Option, Some, None, if◌then◌else◌}
 use Rattle.std.specs.Option.{option_map}
 use Rattle.usb_core.specs.Public.{CarriesMore, State, Stays, StillCarries, TurnsWorld}
 use Rattle.usb_model.specs.declared.refused.Refused.TheVariants.{NoMem}
@@ -34,6 +34,10 @@ body_by ep room bytes = if is_in ep then In room else Out bytes
 abbrev pub request_by : (ep kind flags timeout room : ℕ) → List ℕ → Option Request
 request_by ep kind flags timeout room bytes = option_map (λ k. record { ep = ep; kind = k; flags = record { 0 = flags }; timeout = timeout; body = body_by ep room bytes }) (kind_by kind)
 
+-- the request to read as many bytes as there is room for, as far as a request can say
+abbrev pub request_over : (ep kind flags timeout room : ℕ) → Option Request
+request_over ep kind flags timeout room = if nat_lt room 4294967296 then request_by ep kind flags timeout room [] else None
+
 -- what a submission makes of the core: accepted, it is the world's turn, and this is kept under its number; refused, the world's turn; without memory nothing changed
 abbrev pub SubmitsAs : ℕ → Request → ℕ → Reply → (s t : State ℕ) → Type 0
 SubmitsAs h request payload (Number n) s t = TurnsWorld s (Submit h request) (record { owner = Some h; reply = Number n }) t × CarriesMore h n payload s t
@@ -58,3 +62,8 @@ SubmitsIf h (Some request) payload answer told s t = Submits h request payload a
 abbrev pub SubmitsBy : (h ep kind flags timeout room : ℕ) → List ℕ → ℕ → ℤ → Told → (s t : Session) → Type 0
 SubmitsBy h ep kind flags timeout room bytes payload answer told s t =
     SubmitsIf h (if nat_lt h 64 then request_by ep kind flags timeout room bytes else None) payload answer told s t
+
+-- the same over memory with this room
+abbrev pub SubmitsOver : (h ep kind flags timeout room payload : ℕ) → ℤ → Told → (s t : Session) → Type 0
+SubmitsOver h ep kind flags timeout room payload answer told s t =
+    SubmitsIf h (if nat_lt h 64 then request_over ep kind flags timeout room else None) payload answer told s t

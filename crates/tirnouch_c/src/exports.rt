@@ -1,7 +1,10 @@
 //! What C calls: numbers and buffers, over a slot that holds a session.
 
-ghost use Rattle.std.specs.Prelude.{◌≡◌, IfErr, IfOk, IfSome, false, pos};
+ghost use Rattle.std.specs.Prelude.{◌≡◌, IfErr, IfOk, IfSome, false, pos, true};
+ghost use Rattle.usb_model.specs.Buffer.{no_memory};
+ghost use Rattle.usb_model.specs.Setup.{is_in};
 ghost use Rattle.usb_core.specs.Public.{takes_memory};
+ghost use Rattle.tirnouch_c.specs.Lent.{Lends};
 ghost use Rattle.usb_desk.specs.Packet.{needs_of, packet_of};
 ghost use Rattle.tirnouch_c.specs.Calls.{Calls, InSlot, ReadsSlot, step_of};
 ghost use Rattle.tirnouch_c.specs.Exports.{Creates, Destroys, PendsBy, ServesBy, SettlesBy, TakenBy, WorksBy, after, device_by};
@@ -9,17 +12,19 @@ ghost use Rattle.tirnouch_c.specs.Sessions.{IsMade, IsUnmade};
 ghost use Rattle.tirnouch_c.specs.Descriptions.{Describes, Tells};
 ghost use Rattle.tirnouch_c.specs.Results.{Fetches, Takes};
 ghost use Rattle.tirnouch_c.specs.Requests.{Asks, needs_told};
-ghost use Rattle.tirnouch_c.specs.Submission.{SubmitsBy};
+ghost use Rattle.tirnouch_c.specs.Submission.{SubmitsBy, SubmitsIf, SubmitsOver, request_over};
 
 use crate::calls::{make, step_by};
 use crate::held::Slot;
+use crate::lent::{lend, put_back};
 use crate::session::Session;
 use crate::told::Told;
 use crate::{descriptions, packets, reads, requests, results, settling, submission, turn};
 use std::alloc::Global;
 use trace_scenario::TextFault;
 use usb_desk::SetupPacket;
-use usb_model::{DeviceNo, EpAddr, Name, Step};
+use usb_lent::LentMemory;
+use usb_model::{Buffer, DeviceNo, EpAddr, Name, Step};
 
 /// The answer of a slot that holds no session (libusb 1.0, `LIBUSB_ERROR_OTHER`).
 const NO_SESSION: i32 = -99;
@@ -196,6 +201,105 @@ pub extern "C" fn tirnouch_submit(
     answer
 }
 
+/// The same over this memory, of a handle.
+fn submit_over(
+    alloc: Global,
+    session: &mut Session,
+    h: Name,
+    ep: EpAddr,
+    kind: u8,
+    flags: u8,
+    timeout: u32,
+    memory: &mut Buffer,
+    payload: u64,
+    told: &mut Told,
+) -> i32
+    ensures submitted { SubmitsIf h (request_over ep kind flags timeout memory.old.capacity) payload result told.new session.old session.new }
+    ensures accepted { result ≡ pos 0 → is_in ep ≡ true → memory.new ≡ no_memory }
+    ensures refused { (result ≡ pos 0 → ⊥) → memory.new ≡ record memory.old { items = memory.new.items } }
+{
+    match submission::request_over(alloc, ep, kind, flags, timeout, memory.capacity()) {
+        Ok(Some(request)) => submission::submit_into(session, h, request, memory, payload, told),
+        Ok(None) => INVALID,
+        Err(_) => submission::refuse(h, told),
+    }
+}
+
+/// The same over memory that C lends, of a number that may be no handle's.
+fn submit_lent(
+    alloc: Global,
+    session: &mut Session,
+    h: u8,
+    ep: u8,
+    kind: u8,
+    flags: u8,
+    timeout: u32,
+    memory: &mut LentMemory,
+    payload: u64,
+    told: &mut Told,
+) -> i32
+    ensures submitted { SubmitsOver h ep kind flags timeout memory.old.len payload result told.new session.old session.new }
+    ensures memory { Lends result (is_in ep) memory.old memory.new }
+{
+    let Some(name) = Name::new(h) else {
+        return INVALID;
+    };
+    let mut buffer = lend(alloc, memory);
+    let answer = submit_over(
+        alloc,
+        session,
+        name,
+        EpAddr::new(ep),
+        kind,
+        flags,
+        timeout,
+        &mut buffer,
+        payload,
+        told,
+    );
+    put_back(buffer, memory);
+    answer
+}
+
+/// Submits a transfer that reads straight into memory that C lends, all of it (libusb 1.0, `libusb_submit_transfer`). It is the
+/// library's from then on, with `len` 0 here, and goes back with the result: till then C doesn't touch it. Where the transfer is
+/// refused, C has it as before. At an endpoint for OUT nothing is lent, and a packet without bytes is sent. All else is as of
+/// `tirnouch_submit`.
+#[unsafe(no_mangle)]
+pub extern "C" fn tirnouch_submit_in(
+    alloc: Global,
+    slot: &mut Slot,
+    h: u8,
+    ep: u8,
+    kind: u8,
+    flags: u8,
+    timeout: u32,
+    memory: &mut LentMemory,
+    payload: u64,
+    told: &mut Told,
+) -> i32
+    ensures submitted { InSlot slot.old.held.value slot.new.held.value result (SubmitsOver h ep kind flags timeout memory.old.len payload result told.new) }
+    ensures memory { Lends result (is_in ep) memory.old memory.new }
+{
+    let Some(mut session) = slot.take(alloc) else {
+        return NO_SESSION;
+    };
+    let answer = submit_lent(
+        alloc,
+        &mut session,
+        h,
+        ep,
+        kind,
+        flags,
+        timeout,
+        memory,
+        payload,
+        told,
+    );
+    slot.put(alloc, session);
+    answer
+}
+
 /// Packets at an endpoint of a number that may be no device's.
 fn serve_in(session: &mut Session, dev: u8, ep: u8, most: u32, told: &mut Told) -> i32
     ensures { ServesBy dev ep most result told.new session.old session.new }
@@ -287,50 +391,55 @@ fn after(dev: u8, ep: u8) -> Option<(DeviceNo, EpAddr)>
     }
 }
 
-/// The oldest result goes out, and its callback ends: 1, and it is told; 0 where none waits. It takes no memory.
+/// The oldest result goes out, and its callback ends: 1, and it is told; 0 where none waits. Memory that was lent for it is C's again,
+/// and stands in `back`: its first `filled` bytes were read. Else its bytes are still to be fetched. It takes no memory.
 #[unsafe(no_mangle)]
-pub extern "C" fn tirnouch_take(alloc: Global, slot: &mut Slot, told: &mut Told) -> i32
-    ensures { InSlot slot.old.held.value slot.new.held.value result (Takes result told.new) }
+pub extern "C" fn tirnouch_take(
+    alloc: Global,
+    slot: &mut Slot,
+    back: &mut LentMemory,
+    told: &mut Told,
+) -> i32
+    ensures { InSlot slot.old.held.value slot.new.held.value result (Takes result told.new back.old back.new) }
 {
     let Some(mut session) = slot.take(alloc) else {
         return NO_SESSION;
     };
-    let answer = results::take(&mut session, told);
+    let answer = results::take(alloc, &mut session, back, told);
     slot.put(alloc, session);
     answer
 }
 
 /// Packets, what is to be done and the oldest result, of a number that may be no device's.
 fn turn_in(
+    alloc: Global,
     session: &mut Session,
     dev: u8,
     ep: u8,
     packets: u32,
     steps: u32,
-    want: u64,
-    buffer: &mut [u8],
+    back: &mut LentMemory,
     told: &mut Told,
 ) -> i32
-    ensures { WorksBy dev ep packets steps want result told.new buffer.old buffer.new session.old session.new }
+    ensures { WorksBy dev ep packets steps result told.new back.old back.new session.old session.new }
 {
     match device(dev) {
         None => INVALID,
         Some(dev) => turn::work(
+            alloc,
             session,
             dev,
             EpAddr::new(ep),
             packets,
             steps,
-            want,
-            buffer,
+            back,
             told,
         ),
     }
 }
 
 /// `tirnouch_serve`, `tirnouch_settle` without packets, and `tirnouch_take`, in one call: at most so many packets, and so many steps.
-/// What is told is the last of them. 1 where a result went out with which `want` was kept: its bytes stand in `buffer`, as
-/// `tirnouch_fetch` puts them there; 2 where another went out, whose bytes are still to be fetched; 0 where none waits.
+/// What is told is the last of them, and the answer is that of `tirnouch_take`.
 #[unsafe(no_mangle)]
 pub extern "C" fn tirnouch_turn(
     alloc: Global,
@@ -339,16 +448,15 @@ pub extern "C" fn tirnouch_turn(
     ep: u8,
     packets: u32,
     steps: u32,
-    want: u64,
-    buffer: &mut [u8],
+    back: &mut LentMemory,
     told: &mut Told,
 ) -> i32
-    ensures { InSlot slot.old.held.value slot.new.held.value result (WorksBy dev ep packets steps want result told.new buffer.old buffer.new) }
+    ensures { InSlot slot.old.held.value slot.new.held.value result (WorksBy dev ep packets steps result told.new back.old back.new) }
 {
     let Some(mut session) = slot.take(alloc) else {
         return NO_SESSION;
     };
-    let answer = turn_in(&mut session, dev, ep, packets, steps, want, buffer, told);
+    let answer = turn_in(alloc, &mut session, dev, ep, packets, steps, back, told);
     slot.put(alloc, session);
     answer
 }

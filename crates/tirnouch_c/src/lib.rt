@@ -9,7 +9,7 @@
 //! - `session.rt`: a core with the devices of a text; `held.rt`, `loose.rt`: the slot that C holds, a pointer whose type it
 //!   doesn't see (five functions are proved by hand)
 //! - `turn.rt`: a packet, what it brings about, and a result, in one call; `told.rt`: replies in numbers
-//! - `spares.rt`: memory of bytes that were fetched, for transfers to come
+//! - `lent.rt`: memory that C lends, on its way into a transfer and back
 //! - `calls.rt`, `submission.rt`, `packets.rt`, `settling.rt`, `results.rt`, `reads.rt`: steps that carry nothing; submissions;
 //!   packets; what is to be done until nothing is; results and their bytes; what can be asked without a step
 //! - `requests.rt`, `descriptions.rt`: requests on the default control endpoint; what the text says of a device
@@ -23,26 +23,27 @@
 //!   taken; `tirnouch_destroy`: the slot is empty, and its session is freed
 //! - `tirnouch_call`: the world's turn: libusb's number of its reply, its entry told, the next world shown (`Makes`)
 //! - `tirnouch_submit`: the same of a submission, whose payload is kept under its handle and number (`CarriesMore`); NoMem where
-//!   memory is refused, and nothing changed (`Stays`)
+//!   memory is refused, and nothing changed (`Stays`). `tirnouch_submit_in`: the same over memory that C lends: the library has it
+//!   from then on; where the transfer is refused, C has it as it was (`Lends`)
 //! - `tirnouch_serve`: as many packets as are told, in turn; not behind one that ended a transfer (`Serves`)
 //! - `tirnouch_settle`: as many steps as are told, each the one that was to be made; fewer than wanted only where nothing is left,
 //!   and then no transfer that was asked to end is in progress (`Settles`)
 //! - `tirnouch_pending`: what is to be done next (`IsPending`)
-//! - `tirnouch_take`: the oldest result, with what was kept under its handle and number; its callback ends (`GoesOut`).
-//!   `tirnouch_fetch`: its bytes, just once
-//! - `tirnouch_turn`: packets, what is to be done, and the oldest result, one behind the other; and its bytes, where it is the one
-//!   that is wanted (`Works`)
+//! - `tirnouch_take`: the oldest result, with what was kept under its handle and number; its callback ends (`GoesOut`). Memory that C
+//!   lent goes back, and has its bytes; else they are still to be fetched (`BytesGo`). `tirnouch_fetch`: its bytes, just once
+//! - `tirnouch_turn`: packets, what is to be done, and the oldest result, one behind the other (`Works`)
 //! - `tirnouch_taken`: a packet that a device took
 //! - `tirnouch_request`: what `usb_desk` says that the device answers; `tirnouch_needs`: what a host has to hold for that; `tirnouch_describe`, `tirnouch_tell`: what it has of the text
 //!
-//! It doesn't say: what C does with a slot between two calls, nor that two calls don't overlap; nor that a read of as many bytes
-//! as one before takes no memory, which a test counts.
+//! It doesn't say: what C does with a slot between two calls, nor that two calls don't overlap; nor at which address the memory stands
+//! that goes back, which c/usb asks at each result.
 #![tactic(auto)]
 
 mod calls;
 mod descriptions;
 mod exports;
 mod held;
+mod lent;
 mod loose;
 mod packets;
 mod reads;
@@ -50,7 +51,6 @@ mod requests;
 mod results;
 mod session;
 mod settling;
-mod spares;
 mod submission;
 mod told;
 mod turn;

@@ -2,12 +2,13 @@
 
 ghost use Rattle.std.specs.Prelude.{◌≡◌, ◌≤◌, length};
 ghost use Rattle.tirnouch_c.specs.Buffers.{answer_of, filled, taken_count};
-ghost use Rattle.tirnouch_c.specs.Results.{Fetches, Takes, TakesFor};
+ghost use Rattle.tirnouch_c.specs.Results.{Fetches, Takes};
 
+use crate::lent::give_back;
 use crate::session::Session;
-use crate::spares::Spares;
 use crate::told::Told;
-use usb_model::Bytes;
+use std::alloc::Global;
+use usb_lent::LentMemory;
 
 /// A count as an answer, as far as it fits.
 pub fn answer_of(count: usize) -> i32
@@ -30,9 +31,10 @@ pub fn fill(buffer: &mut [u8], bytes: &[u8]) -> usize
     count
 }
 
-/// The oldest result goes out, and its callback ends: 1, and what it is is told; 0 where none waits.
-pub fn take(session: &mut Session, told: &mut Told) -> i32
-    ensures { Takes result told.new session.old session.new }
+/// The oldest result goes out, and its callback ends: 1, and what it is is told; 0 where none waits. Memory that C lent for it goes
+/// back.
+pub fn take(alloc: Global, session: &mut Session, back: &mut LentMemory, told: &mut Told) -> i32
+    ensures { Takes result told.new back.old back.new session.old session.new }
 {
     match session.core.take_done() {
         None => {
@@ -41,20 +43,10 @@ pub fn take(session: &mut Session, told: &mut Told) -> i32
         }
         Some(taken) => {
             *told = Told::taken(&taken);
-            session.out = Some(taken);
+            session.out = give_back(alloc, taken, back);
             1
         }
     }
-}
-
-/// Puts bytes into a buffer, as far as there is room, and keeps their memory for transfers to come; how many they were.
-fn hand_over(spares: &mut Spares, bytes: Bytes, buffer: &mut [u8]) -> usize
-    ensures count { result ≡ taken_count bytes buffer.old }
-    ensures filled { buffer.new ≡ filled bytes buffer.old }
-{
-    let count = fill(buffer, bytes.as_slice());
-    spares.keep(bytes.into_vec());
-    count
 }
 
 /// The bytes of the result that went out last, as far as there is room, just once; how many they were.
@@ -62,26 +54,7 @@ pub fn fetch(session: &mut Session, buffer: &mut [u8]) -> i32
     ensures { Fetches result buffer.old buffer.new session.old session.new }
 {
     match session.out.take() {
-        Some(taken) => answer_of(hand_over(&mut session.spares, taken.returned.bytes, buffer)),
+        Some(taken) => answer_of(fill(buffer, taken.returned.bytes.as_slice())),
         None => 0,
     }
-}
-
-/// `take`, and `fetch` where what is kept with the result is `want`: 1; 2 where it is another, whose bytes are still to be fetched;
-/// 0 where none waits.
-pub fn take_for(session: &mut Session, want: u64, buffer: &mut [u8], told: &mut Told) -> i32
-    ensures { TakesFor want result told.new buffer.old buffer.new session.old session.new }
-{
-    let Some(taken) = session.core.take_done() else {
-        *told = Told::nothing();
-        return 0;
-    };
-    *told = Told::taken(&taken);
-    if taken.payload != want {
-        session.out = Some(taken);
-        return 2;
-    }
-    session.out = None;
-    let _ = hand_over(&mut session.spares, taken.returned.bytes, buffer);
-    1
 }

@@ -7,7 +7,6 @@ ghost use Rattle.usb_core.specs.Public.{setup_of};
 ghost use Rattle.trace_scenario.specs.Runnable.{CanBeMade};
 ghost use Rattle.tirnouch_c.specs.Sessions.{IsMade, IsUnmade};
 
-use crate::spares::Spares;
 use std::alloc::{AllocError, Global};
 use trace_scenario::{ScriptedDevice, TextFault};
 use usb_core::{Core, Setup, Taken};
@@ -24,8 +23,6 @@ pub struct Session {
     pub devices: Sequence<DeskDevice>,
     /// The result that went out last, until its bytes are fetched.
     pub out: Option<Taken<u64>>,
-    /// Memory of bytes that were fetched.
-    pub spares: Spares,
 }
 
 /// Adds a device, which answers by its scripts. An error where memory is refused.
@@ -77,14 +74,10 @@ impl Session {
         let Ok(core) = Core::new(alloc, setup) else {
             return Err(TextFault::Memory);
         };
-        let Ok(spares) = Spares::new(alloc) else {
-            return Err(TextFault::Memory);
-        };
         Ok(Session {
             core,
             devices,
             out: None,
-            spares,
         })
     }
 

@@ -1,18 +1,18 @@
 //! Submissions.
 
-ghost use Rattle.std.specs.Prelude.{◌≡◌, IfOk, OnErr, Some, is_some, true};
+ghost use Rattle.std.specs.Prelude.{◌≡◌, IfOk, OnErr, Some, is_some, pos, true};
 ghost use Rattle.usb_model.specs.declared.refused.Refused.TheVariants.{NoMem};
 ghost use Rattle.usb_model.specs.declared.reply.Reply.TheVariants.{Refused as IsRefused};
+ghost use Rattle.usb_transfer.specs.Tds.{memory_left};
 ghost use Rattle.tirnouch_c.specs.Told.{code_of, told_of};
-ghost use Rattle.tirnouch_c.specs.Submission.{Submits, body_by, kind_by, request_by};
+ghost use Rattle.tirnouch_c.specs.Submission.{Submits, body_by, kind_by, request_by, request_over};
 
 use crate::session::Session;
-use crate::spares::Spares;
 use crate::told::{Told, code_of};
 use bitflags::Flags as _;
 use std::alloc::{AllocError, Global};
 use usb_core::Unaccepted;
-use usb_model::{Body, Bytes, Entry, EpAddr, Flags, Kind, Name, Refused, Reply, Request};
+use usb_model::{Body, Buffer, Bytes, Entry, EpAddr, Flags, Kind, Name, Refused, Reply, Request};
 
 /// The kind of libusb's number (libusb 1.0, `libusb_transfer_type`).
 #[tactic(auto, unfolding(crate::specs::Submission::kind_by))]
@@ -63,6 +63,25 @@ pub fn request_by(
     }
 }
 
+/// The request to read as many bytes as there is room for; None where the kind is none, or where there is more room than a request
+/// can say. An error where memory is refused.
+pub fn request_over(
+    alloc: Global,
+    ep: EpAddr,
+    kind: u8,
+    flags: u8,
+    timeout: u32,
+    room: usize,
+) -> Result<Option<Request>, AllocError>
+    ensures request { IfOk result (λ request. request ≡ request_over ep kind flags timeout room) }
+    ensures memory { OnErr result (is_some (request_over ep kind flags timeout room) ≡ true) }
+{
+    match u32::try_from(room) {
+        Ok(room) => request_by(alloc, ep, kind, flags, timeout, room, &[]),
+        Err(_) => Ok(None),
+    }
+}
+
 /// What was answered, in numbers.
 pub fn answer(h: Name, reply: Reply, told: &mut Told) -> i32
     ensures answer { result ≡ code_of reply }
@@ -76,15 +95,28 @@ pub fn answer(h: Name, reply: Reply, told: &mut Told) -> i32
     code_of(&entry.reply)
 }
 
-/// Memory for what is to be read, of bytes that were fetched; no memory where there is none that fits.
-fn spare_for(alloc: Global, spares: &mut Spares, body: &Body) -> Vec<u8> {
-    match body {
-        Body::In(room) => spares.take(alloc, *room as usize),
-        Body::Out(_) => Vec::new(alloc),
-    }
+/// Submits a transfer, with which this is kept, that reads into this memory, where that has room for just what it reads; its answer is
+/// libusb's number of a refusal, else 0, and its number is told.
+pub fn submit_into(
+    session: &mut Session,
+    h: Name,
+    request: Request,
+    memory: &mut Buffer,
+    payload: u64,
+    told: &mut Told,
+) -> i32
+    ensures submitted { Submits h request payload result told.new session.old session.new }
+    ensures accepted { result ≡ pos 0 → memory.new ≡ memory_left request.body memory.old }
+    ensures refused { (result ≡ pos 0 → ⊥) → memory.new ≡ record memory.old { items = memory.new.items } }
+{
+    let reply = match session.core.submit_into(h, request, payload, memory) {
+        Ok(n) => Reply::Number(n),
+        Err(Unaccepted { why, .. }) => Reply::Refused(why),
+    };
+    answer(h, reply, told)
 }
 
-/// Submits a transfer, with which this is kept; its answer is libusb's number of a refusal, else 0, and its number is told.
+/// The same, with memory of the library's.
 pub fn submit(
     alloc: Global,
     session: &mut Session,
@@ -95,12 +127,7 @@ pub fn submit(
 ) -> i32
     ensures { Submits h request payload result told.new session.old session.new }
 {
-    let mut spare = spare_for(alloc, &mut session.spares, &request.body);
-    let reply = match session.core.submit_reusing(h, request, payload, &mut spare) {
-        Ok(n) => Reply::Number(n),
-        Err(Unaccepted { why, .. }) => Reply::Refused(why),
-    };
-    answer(h, reply, told)
+    submit_into(session, h, request, &mut Buffer::new(alloc), payload, told)
 }
 
 /// No memory was had for what a transfer carries.

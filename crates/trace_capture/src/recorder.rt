@@ -207,7 +207,7 @@ impl Recorder {
     {
         let mut events = Sequence::new(self.alloc);
         if let Some(x) = transfer_of(h, returned.n, self.tracked.as_slice()) {
-            events.push(x.callback(line, returned)?)?;
+            events.push(x.callback(self.alloc, line, returned)?)?;
         }
         Ok(events)
     }

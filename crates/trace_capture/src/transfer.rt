@@ -37,6 +37,13 @@ fn written(alloc: Global, body: &Body) -> Result<Bytes, AllocError>
     }
 }
 
+/// A copy of bytes that were read.
+fn copied(alloc: Global, bytes: &[u8]) -> Result<Bytes, AllocError>
+    ensures { IfOk result (λ copy. copy ≡ bytes.now) }
+{
+    Ok(Sequence::from_vec(Vec::from_slice(alloc, bytes)?))
+}
+
 /// Of a failed transfer, whether it was only read short or its transaction failed.
 fn failure(code: Option<u8>) -> Errno
     ensures { result ≡ failure code }
@@ -101,7 +108,12 @@ impl Tracked {
     }
 
     /// It is called back, from this line, with what came of it.
-    pub(crate) fn callback(&self, line: u64, returned: &Returned) -> Result<Event, AllocError>
+    pub(crate) fn callback(
+        &self,
+        alloc: Global,
+        line: u64,
+        returned: &Returned,
+    ) -> Result<Event, AllocError>
         ensures { IfOk result (λ event. event ≡ callback line self.now returned.now) }
     {
         Ok(Event {
@@ -118,7 +130,7 @@ impl Tracked {
             length: returned.actual as usize,
             setup: None,
             flags: UrbFlags::of(&self.request),
-            bytes: returned.bytes.clone()?,
+            bytes: copied(alloc, returned.bytes.as_slice())?,
         })
     }
 }

@@ -1,11 +1,12 @@
 //! The core, call by call.
 
-ghost use Rattle.std.specs.Prelude.{◌≡◌, IfErr, IfOk, OnErr, Some, false, option_map, slice_get};
+ghost use Rattle.std.specs.Prelude.{◌≡◌, IfErr, IfOk, OnErr, OnOk, Some, false, option_map, slice_get};
 ghost use Rattle.usb_model.specs.declared.refused.Refused.TheVariants.{NoMem};
 ghost use Rattle.usb_model.specs.declared.reply.Reply.TheVariants.{Number, Refused as IsRefused};
 ghost use Rattle.usb_model.specs.declared.step.Step.TheVariants.{Answer, Deliver, Expire, Serve, Submit, Take};
 ghost use Rattle.usb_model.specs.declared.verdict.Verdict.TheVariants.{Again, AgainWith, Stop};
 ghost use Rattle.usb_model.specs.World.{new_world};
+ghost use Rattle.usb_transfer.specs.Tds.{memory_left};
 ghost use Rattle.proof_core.specs.Calls.{Stays, called_entry};
 ghost use Rattle.proof_core.specs.Payloads.{Carries, CarriesMore, Kept, StillCarries};
 ghost use Rattle.proof_core.specs.Made.{setup_of};
@@ -17,7 +18,7 @@ ghost use Rattle.usb_steps.specs.Results.{CarriesOut};
 use std::alloc::{AllocError, Global};
 use std::marker::Model;
 use usb_device::Device;
-use usb_model::{Bytes, DeviceNo, Entry, EpAddr, Name, Reply, Request, Step};
+use usb_model::{Buffer, Bytes, DeviceNo, Entry, EpAddr, Name, Reply, Request, Step};
 use usb_steps::{Parts, Setup, Taken, Unaccepted};
 
 /// The library's core: every step of every name is made here, over the memory of real rings. Contracts see what it
@@ -25,9 +26,9 @@ use usb_steps::{Parts, Setup, Taken, Unaccepted};
 /// (`TurnsWorld`). What a caller keeps with a transfer, its payload, stays with it: whatever is kept under names and numbers
 /// (`Carries`) is what goes out with the transfer of that name and number.
 ///
-/// Only `new`, `submit`, `submit_reusing`, `again`, `again_with` and `take` take memory.
+/// Only `new`, `submit`, `submit_into`, `again`, `again_with` and `take` take memory.
 ///
-/// The calls on a transfer's way, `submit`, `submit_reusing`, `serve`, `deliver`, `take` and `stop`, are inlined where they are
+/// The calls on a transfer's way, `submit`, `submit_into`, `serve`, `deliver`, `take` and `stop`, are inlined where they are
 /// called, so that what they tell isn't copied once more.
 #[derive(Drop)]
 pub struct Core<P, D: Device> {
@@ -85,30 +86,32 @@ impl<P, D: Device> Core<P, D> {
         ensures carries { IfOk result (λ n. CarriesMore h n payload self.old self.new) }
         ensures still { OnErr result (StillCarries self.old self.new) }
     {
-        let mut none = self.parts.no_spare();
-        self.submit_reusing(h, request, payload, &mut none)
+        let mut none = self.parts.no_memory();
+        self.submit_into(h, request, payload, &mut none)
     }
 
-    /// Submits a transfer whose bytes that are read go into the memory of `spare`, where that has room for just these, as the
-    /// bytes of a transfer before have that was as long: then no memory is taken for them, and `spare` is left without. Else it
-    /// stays, and memory of its own is taken. All else is as of `submit`.
+    /// Submits a transfer that reads into `memory`, where that has room for just the bytes that it is to read: then no memory is taken
+    /// for them, and `memory` is left without, until they come back with the result. Else it stays, and memory of the library's is
+    /// taken. It comes back where the transfer is refused. All else is as of `submit`.
     #[inline(always)]
-    pub fn submit_reusing(
+    pub fn submit_into(
         &mut self,
         h: Name,
         request: Request,
         payload: P,
-        spare: &mut Vec<u8>,
+        memory: &mut Buffer,
     ) -> Result<u64, Unaccepted<Request, P>>
         ensures accepted { IfOk result (λ n. TurnsWorld self.old (Submit h request) (record { owner = Some h; reply = Number n }) self.new) }
         ensures given { IfErr result (λ x. x.given ≡ request) }
         ensures back { IfErr result (λ x. x.payload ≡ payload) }
         ensures refused { IfErr result (λ x. (x.why ≡ NoMem → ⊥) → TurnsWorld self.old (Submit h request) (record { owner = Some h; reply = IsRefused x.why }) self.new) }
         ensures kept { OnErr result (Stays self.old self.new) }
+        ensures memory { OnOk result (memory.new ≡ memory_left request.body memory.old) }
+        ensures room { OnErr result (memory.new ≡ record memory.old { items = memory.new.items }) }
         ensures carries { IfOk result (λ n. CarriesMore h n payload self.old self.new) }
         ensures still { OnErr result (StillCarries self.old self.new) }
     {
-        self.parts.submit(h, request, payload, spare)
+        self.parts.submit(h, request, payload, memory)
     }
 
     /// Asks a transfer to end whose time is over (libusb 1.0, `libusb_transfer`, `timeout`). NotFound as for `cancel`,

@@ -60,7 +60,7 @@
 //! - `Core::again`, `again_with`: accepted with a number, or refused, each is the turn of an Answer with Again, or
 //!   with AgainWith and the bytes; NoMem leaves each world that was shown shown; whatever is refused gives the
 //!   payload back, and `again_with` the bytes, and the callback goes on
-//! - `Core::submit`, `submit_reusing`: accepted with a number, or refused, it is a turn; NoMem leaves each world that was
+//! - `Core::submit`, `submit_into`: accepted with a number, or refused, it is a turn; NoMem leaves each world that was
 //!   shown shown; whatever is refused gives request and payload back. That memory is used again isn't in the contract: a test
 //!   counts it
 //! - `Core::take`: the oldest result goes out as Take says, with the payload of its transfer; want of memory leaves

@@ -4,6 +4,7 @@ use Rattle.std.proofs.lemmas.List.{take-append-le}
 use Rattle.std.proofs.Math.Seq.{drop-append_seam, take-append_seam, take-length, take-append-add}
 use Rattle.usb_model.specs.declared.response.Response.{Response}
 use Rattle.usb_model.specs.declared.response.Response.TheVariants as response
+use Rattle.usb_device.specs.declared.device.Act.{Act}
 use Rattle.usb_device.specs.Pipe.{act_of, buffer_after, bytes_after, count_within}
 
 -- without a packet, nothing
@@ -75,3 +76,18 @@ pub buffer-is : (before : ℕ) (bytes zeros : List ℕ) → before ≡ length by
 buffer-is before bytes zeros is =
     let all : length (bytes ++ zeros) - length bytes ≡ length zeros = omega (arith, length-append bytes zeros) in
     rw (is, drop-append_seam bytes zeros, all) (take-length zeros)
+
+-- so where the answer is put into what stands behind the bytes, in memory of which more may stand written
+pub appended-within : (answer : Response) (a : Act) (room before count len : ℕ) (bytes zeros now buf post rest : List ℕ)
+    → length zeros ≡ room → before ≡ length bytes → now ≡ bytes ++ zeros → len ≡ length now
+    → buf ≡ buffer_after answer (take (length now - before) (drop before now)) → a ≡ act_of answer → count ≡ count_within a room → count ≤ room
+    → take (before + count) (take len ((take before now ++ (buf ++ post)) ++ rest)) ≡ bytes_after answer room bytes
+appended-within answer a room before count len bytes zeros now buf post rest size is now_is len_is buf_is act_is count_is most =
+    let front : take before now ≡ bytes = rw (now_is, is) (take-append_seam bytes zeros) in
+    let behind : take (length now - before) (drop before now) ≡ zeros = rw now_is (buffer-is before bytes zeros is) in
+    let written : buf ≡ buffer_after answer zeros = buf_is ∙ ap (buffer_after answer) behind in
+    let long : length buf ≡ room = ap (λ (xs : List ℕ). length xs) written ∙ length-buffer_after answer zeros ∙ size in
+    let short : length (take before now) ≡ before = ap (λ (xs : List ℕ). length xs) front ∙ sym is in
+    let all : len ≡ before + room = len_is ∙ ap (λ (xs : List ℕ). length xs) now_is ∙ omega (arith, length-append bytes zeros, size, is) in
+    first-kept (before + count) len (take before now) buf post rest (omega (arith, short, long, most)) (omega (arith, all, most))
+    ∙ rw (front, written, is, count_is, act_is) (appended answer room bytes zeros size)

@@ -3,7 +3,7 @@
 ghost use Rattle.std.specs.Prelude.{◌≡◌};
 
 use crate::device::{Act, Device};
-use usb_model::EpAddr;
+use usb_model::{Buffer, EpAddr};
 
 /// A device of any type, in a box. It may cross threads.
 #[derive(Drop)]
@@ -27,11 +27,11 @@ impl Device for BoxedDevice {
         self.device.answer(ep, out, buf)
     }
 
-    fn answer_in(&mut self, ep: EpAddr, room: usize, bytes: &mut Vec<u8>) -> Act {
+    fn answer_in(&mut self, ep: EpAddr, room: usize, bytes: &mut Buffer) -> Act {
         self.device.answer_in(ep, room, bytes)
     }
 
-    fn skim_in(&mut self, ep: EpAddr, size: usize, most: usize, bytes: &mut Vec<u8>) -> usize {
+    fn skim_in(&mut self, ep: EpAddr, size: usize, most: usize, bytes: &mut Buffer) -> usize {
         self.device.skim_in(ep, size, most, bytes)
     }
 

@@ -1,13 +1,13 @@
 //! What a device is to the controller.
 
-ghost use Rattle.std.specs.Prelude.{◌≡◌, ◌≤◌, ◌+◌, ◌*◌, ◌++◌, ℕ, true, List, None, Some, IfSome, length, slice_get, slice_set, vec_capacity, vec_len};
+ghost use Rattle.std.specs.Prelude.{◌≡◌, ◌≤◌, ◌+◌, ◌*◌, ◌++◌, ℕ, true, List, None, Some, IfSome, length, slice_get, slice_set};
 ghost use Rattle.std.specs.Option.{option_copied};
 ghost use Rattle.usb_model.specs.Setup.{endpoint_id};
 ghost use Rattle.usb_device.specs.Skims.{are_taken, are_whole, pipe_behind, pipe_given, read_in};
 ghost use Rattle.usb_device.specs.Pipe.{Pipe, IsLawful, act_of, answer_of, buffer_after, bytes_after, cleared, is_ready, pipe_after, pipe_at, rewound};
 
-use crate::append::{append_zeros, count_within};
-use usb_model::EpAddr;
+use crate::append::count_within;
+use usb_model::{Buffer, EpAddr, Memory};
 
 /// How a device met one transaction (USB 2.0, 8.4.5).
 #[derive(Clone, Copy, PartialEq, Eq, Debug)]
@@ -42,18 +42,28 @@ pub trait Device: Drop {
     /// One transaction at an endpoint to which no packet is sent, where there is room for so many bytes behind those in
     /// `bytes`. A packet that fits joins them; a longer one is left out. A device that computes its packets needn't write
     /// this: `answer` puts them into zeros behind the bytes.
-    fn answer_in(&mut self, ep: EpAddr, room: usize, bytes: &mut Vec<u8>) -> Act
-        requires room { vec_len bytes.old + room ≤ vec_capacity bytes.old }
+    fn answer_in(&mut self, ep: EpAddr, room: usize, bytes: &mut Buffer) -> Act
+        requires room { length bytes.old.items + room ≤ bytes.old.capacity }
         ensures act { result ≡ act_of (answer_of (pipe_at (pipes self.old) ep)) }
         ensures pipes { pipes self.new ≡ slice_set (pipes self.old) (endpoint_id ep) (pipe_after None (pipe_at (pipes self.old) ep)) }
         ensures bytes { bytes.new.items ≡ bytes_after (answer_of (pipe_at (pipes self.old) ep)) room bytes.old.items }
-        ensures capacity { vec_capacity bytes.old ≤ vec_capacity bytes.new }
-        ensures more { vec_len bytes.old ≤ vec_len bytes.new }
-        ensures most { vec_len bytes.new ≤ vec_len bytes.old + room }
+        ensures capacity { bytes.old.capacity ≤ bytes.new.capacity }
+        ensures more { length bytes.old.items ≤ length bytes.new.items }
+        ensures most { length bytes.new.items ≤ length bytes.old.items + room }
     {
         let before = bytes.len();
-        append_zeros(bytes, room);
-        let act = self.answer(ep, None, &mut bytes[before..]);
+        bytes.append_zeros(room);
+        let (act, memory) = match bytes.take().into_memory() {
+            Memory::Own(mut own) => {
+                let act = self.answer(ep, None, &mut own[before..]);
+                (act, Memory::Own(own))
+            }
+            Memory::Lent(mut lent) => {
+                let act = self.answer(ep, None, &mut lent[before..]);
+                (act, Memory::Lent(lent))
+            }
+        };
+        bytes.put(memory);
         bytes.truncate(before + count_within(act, room));
         act
     }
@@ -62,14 +72,14 @@ pub trait Device: Drop {
     /// `size` bytes, which joins the others in `bytes`. How many they were. A device may stop before it has to, so none is always right:
     /// what it leaves is asked for one by one.
     #[tactic(auto, using(crate::proofs::Skims::none_whole, crate::proofs::Skims::none_behind, crate::proofs::Skims::none_read))]
-    fn skim_in(&mut self, ep: EpAddr, size: usize, most: usize, bytes: &mut Vec<u8>) -> usize
-        requires room { vec_len bytes.old + most * size ≤ vec_capacity bytes.old }
+    fn skim_in(&mut self, ep: EpAddr, size: usize, most: usize, bytes: &mut Buffer) -> usize
+        requires room { length bytes.old.items + most * size ≤ bytes.old.capacity }
         ensures most { result ≤ most }
         ensures whole { are_whole size result (pipe_at (pipes self.old) ep) ≡ true }
         ensures pipes { pipes self.new ≡ slice_set (pipes self.old) (endpoint_id ep) (pipe_behind result (pipe_at (pipes self.old) ep)) }
         ensures bytes { bytes.new.items ≡ bytes.old.items ++ read_in result (pipe_at (pipes self.old) ep) }
-        ensures capacity { vec_capacity bytes.old ≤ vec_capacity bytes.new }
-        ensures length { vec_len bytes.new ≡ vec_len bytes.old + result * size }
+        ensures capacity { bytes.old.capacity ≤ bytes.new.capacity }
+        ensures length { length bytes.new.items ≡ length bytes.old.items + result * size }
     {
         let _ = (ep, size, most, bytes.len());
         0

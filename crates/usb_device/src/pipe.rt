@@ -1,6 +1,6 @@
 //! One endpoint that answers by a script.
 
-ghost use Rattle.std.specs.Prelude.{◌≡◌, ◌≤◌, ◌+◌, ◌*◌, ◌++◌, ◌<◌, [], true, false, None, Some, IfSome, count_by, length, slice_get, vec_capacity, vec_len, nat_lt, if◌then◌else◌, drop};
+ghost use Rattle.std.specs.Prelude.{◌≡◌, ◌≤◌, ◌+◌, ◌*◌, ◌++◌, ◌<◌, [], true, false, None, Some, IfSome, count_by, length, slice_get, nat_lt, if◌then◌else◌, drop};
 ghost use Rattle.std.specs.List.{list_all};
 ghost use Rattle.std.specs.Option.{option_copied};
 ghost use Rattle.usb_device.specs.Pipe.{act_of, answer_of, buffer_after, bytes_after, cleared, is_ack, is_ready, packet_of, pipe_after, rewound};
@@ -8,9 +8,9 @@ ghost use Rattle.usb_device.specs.Scripts.{pipe_of, is_short};
 ghost use Rattle.usb_device.specs.Skims.{are_taken, are_whole, is_whole, packet_in, pipe_behind, pipe_given, read_in};
 
 use crate::device::Act;
-use crate::taken::{TakenPackets, extend_reserved};
+use crate::taken::TakenPackets;
 use std::marker::Model;
-use usb_model::Response;
+use usb_model::{Buffer, Response};
 
 /// An endpoint: its script, the place of the next answer in it, and the packets that it took.
 #[derive(Drop)]
@@ -54,15 +54,15 @@ fn put_packet(packet: &[u8], buf: &mut [u8])
 }
 
 /// Appends a packet to the bytes, if there is room for it.
-fn append_packet(packet: &[u8], room: usize, bytes: &mut Vec<u8>)
-    requires room { vec_len bytes.old + room ≤ vec_capacity bytes.old }
+fn append_packet(packet: &[u8], room: usize, bytes: &mut Buffer)
+    requires room { length bytes.old.items + room ≤ bytes.old.capacity }
     ensures bytes { bytes.new.items ≡ (if nat_lt room (length packet.now) then bytes.old.items else bytes.old.items ++ packet.now) }
-    ensures capacity { vec_capacity bytes.old ≤ vec_capacity bytes.new }
-    ensures more { vec_len bytes.old ≤ vec_len bytes.new }
-    ensures most { vec_len bytes.new ≤ vec_len bytes.old + room }
+    ensures capacity { bytes.old.capacity ≤ bytes.new.capacity }
+    ensures more { length bytes.old.items ≤ length bytes.new.items }
+    ensures most { length bytes.new.items ≤ length bytes.old.items + room }
 {
     if packet.len() <= room {
-        extend_reserved(bytes, packet);
+        bytes.append(packet);
     }
 }
 
@@ -129,14 +129,14 @@ impl TablePipe {
     }
 
     /// `Device::answer_in` at this endpoint.
-    pub(crate) fn answer_in(&mut self, room: usize, bytes: &mut Vec<u8>) -> Act
-        requires room { vec_len bytes.old + room ≤ vec_capacity bytes.old }
+    pub(crate) fn answer_in(&mut self, room: usize, bytes: &mut Buffer) -> Act
+        requires room { length bytes.old.items + room ≤ bytes.old.capacity }
         ensures act { result ≡ act_of (answer_of self.old) }
         ensures pipe { self.new ≡ pipe_after None self.old }
         ensures bytes { bytes.new.items ≡ bytes_after (answer_of self.old) room bytes.old.items }
-        ensures capacity { vec_capacity bytes.old ≤ vec_capacity bytes.new }
-        ensures more { vec_len bytes.old ≤ vec_len bytes.new }
-        ensures most { vec_len bytes.new ≤ vec_len bytes.old + room }
+        ensures capacity { bytes.old.capacity ≤ bytes.new.capacity }
+        ensures more { length bytes.old.items ≤ length bytes.new.items }
+        ensures most { length bytes.new.items ≤ length bytes.old.items + room }
     {
         if self.halted {
             return Act::Stall;
@@ -163,12 +163,12 @@ impl TablePipe {
     }
 
     /// One transaction to which no packet is sent, if it is met by a packet of just so many bytes, which joins the others; whether it is.
-    fn skim_one_in(&mut self, size: usize, bytes: &mut Vec<u8>) -> bool
-        requires room { vec_len bytes.old + size ≤ vec_capacity bytes.old }
+    fn skim_one_in(&mut self, size: usize, bytes: &mut Buffer) -> bool
+        requires room { length bytes.old.items + size ≤ bytes.old.capacity }
         ensures met { result ≡ true → (is_whole size (answer_of self.old) ≡ true) × (self.new ≡ pipe_after None self.old)
-            × (bytes.new.items ≡ bytes.old.items ++ packet_of (answer_of self.old)) × (vec_len bytes.new ≡ vec_len bytes.old + size) }
+            × (bytes.new.items ≡ bytes.old.items ++ packet_of (answer_of self.old)) × (length bytes.new.items ≡ length bytes.old.items + size) }
         ensures kept { result ≡ false → (self.new ≡ self.old) × (bytes.new ≡ bytes.old) }
-        ensures capacity { vec_capacity bytes.old ≤ vec_capacity bytes.new }
+        ensures capacity { bytes.old.capacity ≤ bytes.new.capacity }
     {
         if self.halted || self.place >= self.script.len() {
             return false;
@@ -176,7 +176,7 @@ impl TablePipe {
         let at = self.place;
         match &self.script[at] {
             Response::Data(packet) if packet.len() == size => {
-                extend_reserved(bytes, packet.as_slice());
+                bytes.append(packet.as_slice());
             }
             _ => return false,
         }
@@ -185,14 +185,14 @@ impl TablePipe {
     }
 
     /// `Device::skim_in` at this endpoint.
-    pub(crate) fn skim_in(&mut self, size: usize, most: usize, bytes: &mut Vec<u8>) -> usize
-        requires room { vec_len bytes.old + most * size ≤ vec_capacity bytes.old }
+    pub(crate) fn skim_in(&mut self, size: usize, most: usize, bytes: &mut Buffer) -> usize
+        requires room { length bytes.old.items + most * size ≤ bytes.old.capacity }
         ensures most { result ≤ most }
         ensures whole { are_whole size result self.old ≡ true }
         ensures pipe { self.new ≡ pipe_behind result self.old }
         ensures bytes { bytes.new.items ≡ bytes.old.items ++ read_in result self.old }
-        ensures capacity { vec_capacity bytes.old ≤ vec_capacity bytes.new }
-        ensures length { vec_len bytes.new ≡ vec_len bytes.old + result * size }
+        ensures capacity { bytes.old.capacity ≤ bytes.new.capacity }
+        ensures length { length bytes.new.items ≡ length bytes.old.items + result * size }
     {
         for count in 0..most {
             if !self.skim_one_in(size, bytes) {

@@ -17,7 +17,7 @@ use std::marker::Model;
 use std::vec::IntoIter;
 use thiserror::Error;
 use usb_descriptors::Config;
-use usb_model::{EpAddr, Refused, Response, Script, Sequence};
+use usb_model::{Buffer, EpAddr, Refused, Response, Script, Sequence};
 
 /// The endpoint ids of a device: 0 to 31 (xHCI 1.2, 4.5.1).
 const IDS: usize = 32;
@@ -128,13 +128,13 @@ impl Device for TableDevice {
         pipe.answer(out, buf)
     }
 
-    fn answer_in(&mut self, ep: EpAddr, room: usize, bytes: &mut Vec<u8>) -> Act {
+    fn answer_in(&mut self, ep: EpAddr, room: usize, bytes: &mut Buffer) -> Act {
         let pipe = &mut self.pipes[usize::from(ep.id())];
         pipe.answer_in(room, bytes)
     }
 
     #[tactic(auto, using(crate::proofs::Skims::script_behind))]
-    fn skim_in(&mut self, ep: EpAddr, size: usize, most: usize, bytes: &mut Vec<u8>) -> usize {
+    fn skim_in(&mut self, ep: EpAddr, size: usize, most: usize, bytes: &mut Buffer) -> usize {
         let pipe = &mut self.pipes[usize::from(ep.id())];
         pipe.skim_in(size, most, bytes)
     }

@@ -47,7 +47,7 @@ fn part(bytes: &[u8], start: usize, end: usize) -> &[u8]
 }
 
 /// Appends to a buffer that has room.
-pub(crate) fn extend_reserved(bytes: &mut Vec<u8>, packet: &[u8])
+fn extend_reserved(bytes: &mut Vec<u8>, packet: &[u8])
     requires { vec_len bytes.old + length packet.now ≤ vec_capacity bytes.old }
     ensures items { bytes.new.items ≡ bytes.old.items ++ packet.now }
     ensures len { vec_len bytes.new ≡ vec_len bytes.old + length packet.now }

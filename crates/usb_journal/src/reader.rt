@@ -6,7 +6,7 @@ ghost use Rattle.usb_journal.specs.Kept.{part, place_of, reply_of, step_of};
 use crate::kept::{Asked, Kept, Replied};
 use crate::place::Place;
 use std::alloc::{AllocError, Global};
-use usb_model::{Body, Bytes, Entry, Reply, Request, Returned, Step, Verdict};
+use usb_model::{Body, Bytes, BytesRead, Entry, Reply, Request, Returned, Step, Verdict};
 
 /// So many of the bytes, from this one on.
 fn part(bytes: &[u8], from: usize, count: usize) -> &[u8]
@@ -124,7 +124,7 @@ fn reply_of(alloc: Global, replied: Replied, bytes: &[u8]) -> Result<Reply, Allo
             round,
             status,
             actual,
-            bytes: copied(alloc, bytes)?,
+            bytes: BytesRead::from_bytes(copied(alloc, bytes)?),
         }),
     })
 }

@@ -3,6 +3,7 @@
 ghost use Rattle.std.specs.Prelude.{◌≡◌, ◌==◌, ◌&&◌, IfOk};
 ghost use Rattle.usb_model.specs.Machine.{is_result_at};
 
+use crate::bytes_read::BytesRead;
 use crate::name::{EpAddr, Name};
 use crate::reply::Returned;
 use crate::request::Request;
@@ -60,7 +61,7 @@ impl TransferResult {
             round: self.round,
             status: self.status,
             actual: self.actual,
-            bytes: self.bytes.clone()?,
+            bytes: BytesRead::from_bytes(self.bytes.clone()?),
         })
     }
 

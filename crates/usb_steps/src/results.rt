@@ -12,7 +12,7 @@ ghost use Rattle.usb_steps.specs.Results.{CarriesOut, TakesDone};
 use crate::parts::Parts;
 use std::alloc::AllocError;
 use usb_device::Device;
-use usb_model::{Bytes, EpAddr, InCallback, Name, Returned};
+use usb_model::{BytesRead, EpAddr, InCallback, Name, Returned};
 use usb_tables::Ended;
 use usb_transfer::Transfer;
 
@@ -69,7 +69,7 @@ impl<P, D: Device> Parts<P, D> {
                 round,
                 status,
                 actual: ending.actual,
-                bytes: Bytes::from_vec(bytes),
+                bytes: BytesRead::from_buffer(bytes),
             },
             payload,
         }))
@@ -122,7 +122,7 @@ fn taken_of<P>(ended: Ended<P>) -> Taken<P>
             round,
             status: ending.status,
             actual: ending.actual,
-            bytes: Bytes::from_vec(bytes),
+            bytes: BytesRead::from_buffer(bytes),
         },
         payload,
     }

@@ -1,5 +1,6 @@
 -- The transfer descriptors (TDs) that a request is sent as (xHCI 1.2, 4.9.1, 4.11.3).
-use Rattle.std.specs.Prelude.{ℕ, ◌≤◌, Bool, true, false, List}
+use Rattle.std.specs.Prelude.{ℕ, ◌≤◌, ◌==◌, Bool, true, false, List, if◌then◌else◌}
+use Rattle.usb_model.specs.Buffer.{Buffer, no_memory}
 use Rattle.usb_model.specs.declared.request.Body.{Body}
 use Rattle.usb_model.specs.declared.request.Body.TheVariants.{In, Out}
 use Rattle.usb_model.specs.declared.request.Request.{Request}
@@ -35,3 +36,7 @@ IsTds t = t.length ≤ most_bytes
 abbrev pub room_of : Body → ℕ
 room_of (In n) = n
 room_of (Out bytes) = 0
+
+-- the caller's memory behind a submission: nothing, where it has room for just what is read, since the bytes go there; else as it was
+abbrev pub memory_left : Body → Buffer → Buffer
+memory_left body memory = if memory.capacity == room_of body then no_memory else memory

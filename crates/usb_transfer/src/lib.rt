@@ -24,8 +24,8 @@
 //! - `Tds::of`: the TDs of a request of at most 262,144 bytes, by one equation
 //! - `Tds::span`: which bytes a TRB moves: how many stand before it, and its own length; no more than the transfer
 //!   has
-//! - `Transfer::new`: every field; no bytes, and room for just those of IN; it can't be refused where no room is
-//!   needed; refused, request and payload come back
+//! - `Transfer::new`: every field; no bytes, and room for just those of IN, in the caller's memory where that has just this room; it
+//!   can't be refused where no room is needed; refused, request, payload and memory come back
 //! - `Store::insert`, `remove`: the next key had nothing and has the transfer now; what stood at a key, where nothing
 //!   stands then; each other key what it had. Refused, the transfer comes back and nothing changed
 //! - `Store::get`, `get_mut`: what stands at the key; a write through `get_mut` changes that key alone

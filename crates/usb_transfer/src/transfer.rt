@@ -1,11 +1,10 @@
 //! A transfer in flight.
 
-ghost use Rattle.std.specs.Prelude.{◌≡◌, [], None, IfOk, IfErr, IsOk, vec_capacity};
-ghost use Rattle.usb_transfer.specs.Tds.{room_of};
+ghost use Rattle.std.specs.Prelude.{◌≡◌, [], None, IfOk, IfErr, IsOk, OnErr, OnOk};
+ghost use Rattle.usb_transfer.specs.Tds.{memory_left, room_of};
 
 use std::alloc::{AllocError, Global};
-use std::mem;
-use usb_model::{Ask, Body, Name, Request};
+use usb_model::{Ask, Body, Buffer, Name, Request};
 
 /// A transfer in flight, with its caller's payload.
 #[derive(Drop)]
@@ -17,7 +16,7 @@ pub struct Transfer<P> {
     /// What was asked.
     pub request: Request,
     /// The bytes read, in their order. Their room is taken when the transfer is made.
-    pub bytes: Vec<u8>,
+    pub bytes: Buffer,
     /// What the caller keeps with it.
     pub payload: P,
     /// How many bytes moved, as last told.
@@ -38,9 +37,8 @@ pub struct Unmade<P> {
 }
 
 impl<P> Transfer<P> {
-    /// A transfer as it is accepted: not asked to end, no bytes moved, with room for those that it is to read: the memory of
-    /// `spare` where that has room for just these, which then is left without. None is taken for OUT. Unmade, with what was given,
-    /// where memory is refused.
+    /// A transfer as it is accepted: not asked to end, no bytes moved, with room for those that it is to read: `memory`, where that
+    /// has room for just these, and is then left without. None is taken for OUT. Unmade, with what was given, where memory is refused.
     pub fn new(
         alloc: Global,
         name: Name,
@@ -48,15 +46,18 @@ impl<P> Transfer<P> {
         request: Request,
         round: u64,
         payload: P,
-        spare: &mut Vec<u8>,
+        memory: &mut Buffer,
     ) -> Result<Transfer<P>, Unmade<P>>
         ensures made { IfOk result (λ t. t ≡ record { n = n; round = round; request = request; bytes = t.bytes; payload = payload; moved = 0; ask = None; name = name }) }
         ensures empty { IfOk result (λ t. t.bytes.items ≡ []) }
-        ensures room { IfOk result (λ t. vec_capacity t.bytes ≡ room_of request.body) }
+        ensures room { IfOk result (λ t. t.bytes.capacity ≡ room_of request.body) }
+        ensures lent { IfOk result (λ t. memory.old.capacity ≡ room_of request.body → t.bytes.lent ≡ memory.old.lent) }
+        ensures memory { OnOk result (memory.new ≡ memory_left request.body memory.old) }
+        ensures kept { OnErr result (memory.new ≡ memory.old) }
         ensures succeeds { room_of request.body ≡ 0 → IsOk result }
         ensures back { IfErr result (λ u. u ≡ record { request = request; payload = payload }) }
     {
-        match room_for(alloc, &request.body, spare) {
+        match room_for(alloc, &request.body, memory) {
             Ok(bytes) => Ok(Transfer {
                 n,
                 round,
@@ -73,18 +74,22 @@ impl<P> Transfer<P> {
 }
 
 /// Room for the bytes that are to be read.
-fn room_for(alloc: Global, body: &Body, spare: &mut Vec<u8>) -> Result<Vec<u8>, AllocError>
+fn room_for(alloc: Global, body: &Body, memory: &mut Buffer) -> Result<Buffer, AllocError>
     ensures empty { IfOk result (λ bytes. bytes.items ≡ []) }
-    ensures room { IfOk result (λ bytes. vec_capacity bytes ≡ room_of body.now) }
+    ensures room { IfOk result (λ bytes. bytes.capacity ≡ room_of body.now) }
+    ensures lent { IfOk result (λ bytes. memory.old.capacity ≡ room_of body.now → bytes.lent ≡ memory.old.lent) }
+    ensures memory { OnOk result (memory.new ≡ memory_left body.now memory.old) }
+    ensures kept { OnErr result (memory.new ≡ memory.old) }
     ensures succeeds { room_of body.now ≡ 0 → IsOk result }
 {
     let room = match body {
         Body::In(length) => *length as usize,
         Body::Out(_) => 0,
     };
-    if spare.capacity() == room {
-        spare.clear();
-        return Ok(mem::replace(spare, Vec::new(alloc)));
+    if memory.capacity() == room {
+        let mut bytes = memory.take();
+        bytes.truncate(0);
+        return Ok(bytes);
     }
-    Vec::with_capacity(alloc, room)
+    Buffer::with_capacity(alloc, room)
 }

@@ -1,6 +1,6 @@
 //! The controller.
 
-ghost use Rattle.std.specs.Prelude.{◌≡◌, ◌+◌, ◌-◌, ◌≤◌, ◌<◌, ◌∷◌, ◌++◌, [], None, Some, length, suc, IfErr, IfOk, IfSome, OnErr, OnOk, ℕ, option_map, slice_get, vec_capacity, vec_len, true, drop, slice_set};
+ghost use Rattle.std.specs.Prelude.{◌≡◌, ◌+◌, ◌-◌, ◌≤◌, ◌<◌, ◌∷◌, ◌++◌, [], None, Some, length, suc, IfErr, IfOk, IfSome, OnErr, OnOk, ℕ, option_map, slice_get, true, drop, slice_set};
 ghost use Rattle.std.specs.Option.{option_copied, option_map_or};
 ghost use Rattle.usb_model.specs.Setup.{endpoint_id};
 ghost use Rattle.usb_segment.specs.Places.{index_of};
@@ -26,7 +26,7 @@ use std::marker::Model;
 use usb_descriptors::Config;
 use usb_device::Device;
 use usb_ering::{CommandRing, EventRing, Ring};
-use usb_model::{DeviceNo, EpAddr};
+use usb_model::{Buffer, DeviceNo, EpAddr};
 use usb_trb::{EndpointId, Normal, Slot, TrbKind};
 
 /// How many devices there are at most.
@@ -101,13 +101,13 @@ impl<D: Device> Controller<D> {
 
     /// One packet of the transfer at an endpoint's dequeue, from the device, whose bytes join these; None where there is
     /// nothing to serve: no such device or endpoint, or it isn't running, or no transfer is left.
-    pub fn serve_in(&mut self, dev: DeviceNo, ep: EpAddr, bytes: &mut Vec<u8>) -> Option<Packet>
-        requires bytes { IfSome (slice_get self.old.slots dev) (λ s. IfSome (context_of s ep) (λ c. IfSome (working c) (λ _. vec_len bytes.old + packet_room c ≤ vec_capacity bytes.old))) }
+    pub fn serve_in(&mut self, dev: DeviceNo, ep: EpAddr, bytes: &mut Buffer) -> Option<Packet>
+        requires bytes { IfSome (slice_get self.old.slots dev) (λ s. IfSome (context_of s ep) (λ c. IfSome (working c) (λ _. length bytes.old.items + packet_room c ≤ bytes.old.capacity))) }
         requires room { length self.old.events.waits < 4095 }
         ensures packet { result ≡ told_at self.old dev ep }
         ensures controller { self.new ≡ served_at self.old dev ep (λ _. None) }
         ensures bytes { bytes.new.items ≡ option_map_or (λ s. read_after s ep bytes.old.items) (slice_get self.old.slots dev) bytes.old.items }
-        ensures capacity { vec_capacity bytes.old ≤ vec_capacity bytes.new }
+        ensures capacity { bytes.old.capacity ≤ bytes.new.capacity }
     {
         match self.slots.get_mut(usize::from(dev.number())) {
             Some(slot) => slot.serve_in(ep, bytes, &mut self.events),
@@ -133,13 +133,13 @@ impl<D: Device> Controller<D> {
     /// Whole packets in a row of the transfer at an endpoint's dequeue, from the device, whose bytes join these: at most so
     /// many, and none that ends a TRB. How many they were; each is as one of `serve_in`, which tells no end.
     #[tactic(auto, unfolding(crate::specs::Skims::controller_skimmed, crate::specs::Skims::controller_read))]
-    pub fn skim_in(&mut self, dev: DeviceNo, ep: EpAddr, most: usize, bytes: &mut Vec<u8>) -> usize
-        requires bytes { IfSome (slice_get self.old.slots dev) (λ s. IfSome (context_of s ep) (λ c. IfSome (working c) (λ _. vec_len bytes.old + room (trbs c) c.within ≤ vec_capacity bytes.old))) }
+    pub fn skim_in(&mut self, dev: DeviceNo, ep: EpAddr, most: usize, bytes: &mut Buffer) -> usize
+        requires bytes { IfSome (slice_get self.old.slots dev) (λ s. IfSome (context_of s ep) (λ c. IfSome (working c) (λ _. length bytes.old.items + room (trbs c) c.within ≤ bytes.old.capacity))) }
         ensures most { result ≤ most }
         ensures whole { (i : ℕ) → i < result → told_at (controller_skimmed dev ep (λ _. None) i self.old) dev ep ≡ Some (Moved (size_at self.old dev ep)) }
         ensures controller { self.new ≡ controller_skimmed dev ep (λ _. None) result self.old }
         ensures bytes { bytes.new.items ≡ controller_read dev ep result self.old bytes.old.items }
-        ensures capacity { vec_capacity bytes.old ≤ vec_capacity bytes.new }
+        ensures capacity { bytes.old.capacity ≤ bytes.new.capacity }
     {
         let Some(slot) = self.slots.get_mut(usize::from(dev.number())) else {
             return 0;

@@ -1,6 +1,6 @@
 //! A device's slot.
 
-ghost use Rattle.std.specs.Prelude.{◌≡◌, ◌+◌, ◌-◌, ◌≤◌, ◌<◌, None, length, IfSome, option_map, slice_set, vec_capacity, vec_len, true, slice_get, IfOk, IfErr};
+ghost use Rattle.std.specs.Prelude.{◌≡◌, ◌+◌, ◌-◌, ◌≤◌, ◌<◌, None, length, IfSome, option_map, slice_set, true, slice_get, IfOk, IfErr};
 ghost use Rattle.usb_model.specs.Setup.{endpoint_id};
 ghost use Rattle.usb_device.specs.Pipe.{IsLawful, pipe_at, cleared, is_ready};
 ghost use Rattle.usb_xhc.specs.Ahead.{room};
@@ -23,7 +23,7 @@ use std::marker::Model;
 use usb_descriptors::Config;
 use usb_device::{Device, Scripted};
 use usb_ering::EventRing;
-use usb_model::EpAddr;
+use usb_model::{Buffer, EpAddr};
 use usb_trb::{EndpointId, Normal, Slot, TrbKind};
 
 /// A device, and its endpoints by their ids, 0 to 31 (Device Context; xHCI 1.2, 6.2.1); a bulk or interrupt endpoint of the
@@ -68,16 +68,16 @@ impl<D: Device> DeviceSlot<D> {
     pub fn serve_in(
         &mut self,
         ep: EpAddr,
-        bytes: &mut Vec<u8>,
+        bytes: &mut Buffer,
         events: &mut EventRing,
     ) -> Option<Packet>
-        requires bytes { IfSome (context_of self.old ep) (λ c. IfSome (working c) (λ _. vec_len bytes.old + packet_room c ≤ vec_capacity bytes.old)) }
+        requires bytes { IfSome (context_of self.old ep) (λ c. IfSome (working c) (λ _. length bytes.old.items + packet_room c ≤ bytes.old.capacity)) }
         requires room { length events.old.waits < 4095 }
         ensures packet { result ≡ option_map (λ s. s.packet) (serving self.old ep) }
         ensures slot { self.new ≡ slot_after self.old ep None }
         ensures events { events.new ≡ events_after self.old ep events.old }
         ensures bytes { bytes.new.items ≡ read_after self.old ep bytes.old.items }
-        ensures capacity { vec_capacity bytes.old ≤ vec_capacity bytes.new }
+        ensures capacity { bytes.old.capacity ≤ bytes.new.capacity }
     {
         let Some(context) = &mut self.contexts[usize::from(ep.id())] else {
             return None;
@@ -117,13 +117,13 @@ impl<D: Device> DeviceSlot<D> {
     /// Whole packets in a row of the transfer at an endpoint's dequeue, from the device, whose bytes join these: at most so
     /// many, and none that ends a TRB. How many they were.
     #[tactic(auto, unfolding(crate::specs::Skims::slot_skimmed, crate::specs::Skims::read_skimmed))]
-    pub fn skim_in(&mut self, ep: EpAddr, most: usize, bytes: &mut Vec<u8>) -> usize
-        requires bytes { IfSome (context_of self.old ep) (λ c. IfSome (working c) (λ _. vec_len bytes.old + room (trbs c) c.within ≤ vec_capacity bytes.old)) }
+    pub fn skim_in(&mut self, ep: EpAddr, most: usize, bytes: &mut Buffer) -> usize
+        requires bytes { IfSome (context_of self.old ep) (λ c. IfSome (working c) (λ _. length bytes.old.items + room (trbs c) c.within ≤ bytes.old.capacity)) }
         ensures most { result ≤ most }
         ensures whole { AreWhole (λ _. None) ep result self.old }
         ensures slot { self.new ≡ slot_skimmed (λ _. None) ep result self.old }
         ensures bytes { bytes.new.items ≡ read_skimmed ep result self.old bytes.old.items }
-        ensures capacity { vec_capacity bytes.old ≤ vec_capacity bytes.new }
+        ensures capacity { bytes.old.capacity ≤ bytes.new.capacity }
     {
         let Some(context) = &mut self.contexts[usize::from(ep.id())] else {
             return 0;

@@ -2,7 +2,9 @@
 
 use std::alloc::Global;
 use std::fmt::Display;
-use usb_model::{Entry, EpAddr, Errand, Name, Refused, Reply, Returned, Sequence, Status};
+use usb_model::{
+    BytesRead, Entry, EpAddr, Errand, Name, Refused, Reply, Returned, Sequence, Status,
+};
 
 /// Whether an entry prints this line.
 pub(crate) fn is_line_of(alloc: Global, entry: &Entry, line: &str) -> bool {
@@ -114,7 +116,7 @@ fn prints_called(alloc: Global, status: Status, actual: u32, bytes: &[u8], line:
         round: 2,
         status,
         actual,
-        bytes: Sequence::from_vec(bytes),
+        bytes: BytesRead::from_bytes(Sequence::from_vec(bytes)),
     };
     prints(alloc, 2, Reply::Called(returned), line)
 }

@@ -1,9 +1,11 @@
 -- The packet stands at the front of the zeros, and what is behind it goes.
-use Rattle.std.proofs.Common.{◌≡◌, ◌-◌, ℕ, ap, ◌∙◌, ◌+◌, ◌++◌, arith, List, length, drop, take, replicate}
+use Rattle.std.proofs.Common.{◌≡◌, ℕ, ap, sym, ◌∙◌, ◌++◌, List, length, replicate}
 use Rattle.std.proofs.lemmas.List.{length-replicate}
-use Rattle.std.proofs.Math.Seq.{take-append_seam}
-use Rattle.usb_device.specs.Pipe.{answer_of, buffer_after, pipe_at}
-use Rattle.usb_device.proofs.Appends.{appended, buffer-is, first-kept, length-buffer_after}
+use Rattle.usb_model.specs.Buffer.{Buffer, seen}
+use Rattle.usb_model.specs.declared.buffer.Memory.{Memory}
+use Rattle.usb_device.specs.Pipe.{answer_of, pipe_at}
+use Rattle.usb_device.proofs.Appends.{appended-within}
+use Rattle.usb_device.proofs.device.Device.answer_in.Goals.{in-Own, in-Lent}
 use Rattle.usb_device.proofs.device.Device.answer_in.Goals as goal
 
 pub returns-clause-bytes : goal.returns-clause-bytes
@@ -12,15 +14,19 @@ returns-clause-bytes g c =
     let bytes : List ℕ = c.args.bytes.now.items in
     let zeros : List ℕ = replicate c.args.room 0 in
     let long : length zeros ≡ c.args.room = length-replicate c.args.room 0 in
-    let lent : c.deref_mut.result.now ≡ bytes ++ zeros = c.deref_mut.ensures.value ∙ c.append_zeros.ensures.items in
-    let before : c.len-before.result ≡ length bytes = c.len-before.ensures ∙ c.args.bytes.now.ok.0 in
-    let front : take c.len-before.result c.deref_mut.result.now ≡ bytes = rw (lent, before) (take-append_seam bytes zeros) in
-    let behind : take (length c.deref_mut.result.now - c.len-before.result) (drop c.len-before.result c.deref_mut.result.now) ≡ zeros =
-    rw lent (buffer-is c.len-before.result bytes zeros before) in
-    let buf : c.answer-act.new.buf ≡ buffer_after answer zeros = c.answer-act.ensures.buffer ∙ ap (buffer_after answer) behind in
-    let size : length (buffer_after answer zeros) ≡ length zeros = length-buffer_after answer zeros in
-    c.truncate.ensures.items
-    ∙ first-kept (c.len-before.result + c.count_within.result) c.append_zeros.new.bytes.len (take c.len-before.result c.deref_mut.result.now) c.answer-act.new.buf _ _
-    (rw (front, buf, size, long, before) (omega (arith, c.count_within.ensures.most)))
-    (omega (arith, c.append_zeros.ensures.len, c.len-before.ensures, c.count_within.ensures.most))
-    ∙ rw (front, buf, before, c.count_within.ensures.count, c.answer-act.ensures.act) (appended answer c.args.room bytes zeros long)
+    let before : c.len-before.result ≡ length bytes = c.len-before.ensures.len in
+    let held : (seen c.into_memory.result).items ≡ bytes ++ zeros = ap (λ (b : Buffer). b.items) (c.into_memory.ensures ∙ c.take.ensures.taken) ∙ c.append_zeros.ensures.items in
+    elim c.match-into_memory.branch [
+      | in-Own w ↦
+          let now = w.deref_mut.ensures.value ∙ sym (ap (λ (m : Memory). (seen m).items) w.in-Own.is) ∙ held in
+          let len = w.in-Own.own.ok.0 ∙ sym (ap (λ (xs : List ℕ). length xs) w.deref_mut.ensures.value) in
+          ap (λ (b : Buffer). b.items) c.truncate.ensures
+          ∙ rw (c.put.ensures, w.act-is) (appended-within answer c.match-into_memory.act.0 c.args.room c.len-before.result c.count_within.result w.in-Own.own.len bytes zeros w.deref_mut.result.now w.answer-act.new.buf _ _
+          long before now len w.answer-act.ensures.buffer (ap (λ p. p.0) w.act-is ∙ w.answer-act.ensures.act) c.count_within.ensures.count c.count_within.ensures.most)
+      | in-Lent w ↦
+          let now = w.deref_mut-in-Lent.ensures.value ∙ sym (ap (λ (m : Memory). (seen m).items) w.in-Lent.is) ∙ held in
+          let len = w.in-Lent.lent.ok.0 ∙ sym (ap (λ (xs : List ℕ). length xs) w.deref_mut-in-Lent.ensures.value) in
+          ap (λ (b : Buffer). b.items) c.truncate.ensures
+          ∙ rw (c.put.ensures, w.act-is) (appended-within answer c.match-into_memory.act.0 c.args.room c.len-before.result c.count_within.result w.in-Lent.lent.len bytes zeros w.deref_mut-in-Lent.result.now w.answer-act-in-Lent.new.buf _ _
+          long before now len w.answer-act-in-Lent.ensures.buffer (ap (λ p. p.0) w.act-is ∙ w.answer-act-in-Lent.ensures.act) c.count_within.ensures.count c.count_within.ensures.most)
+    ]

@@ -1,4 +1,4 @@
-use Rattle.std.proofs.Common.{true, ◌≡◌, ◌≤◌, ◌+◌, ◌-◌, ◌*◌, ◌++◌, vec_capacity, vec_len}
+use Rattle.std.proofs.Common.{true, ◌≡◌, ◌≤◌, ◌+◌, ◌-◌, ◌*◌, ◌++◌, length}
 use Rattle.usb_device.specs.Skims.{are_whole, pipe_behind, read_in}
 use Rattle.usb_device.proofs.pipe.TablePipe.skim_in.Given as goal
 
@@ -7,6 +7,6 @@ invariant-loop-count l = record {
   whole : are_whole l.size l.count l.initial.self ≡ true;
   pipe : l.self ≡ pipe_behind l.count l.initial.self;
   bytes : l.bytes.items ≡ l.initial.bytes.items ++ read_in l.count l.initial.self;
-  capacity : vec_capacity l.initial.bytes ≤ vec_capacity l.bytes;
-  length : vec_len l.bytes ≡ vec_len l.initial.bytes + l.count * l.size;
+  capacity : l.initial.bytes.capacity ≤ l.bytes.capacity;
+  length : length l.bytes.items ≡ length l.initial.bytes.items + l.count * l.size;
 }

@@ -64,8 +64,8 @@ returns-clause-taken g c =
     let x : EndedOf (InFlight g.row.P.Denot) = ended_of c.in-Some-take.field-0 in
     let first : slice_get old.flights.ended 0 ≡ Some x = sym c.in-Some-take.ensures.value in
     let name : c.in-Some.first.now.name ≡ x.transfer.name = same_name _ x (c.in-Some.ensures ∙ first) in
-    subst (λ (s : State g.row.P.Denot). DoesCoreStep s Take (called_entry (Some (record (returned_of (result_of x)) { h = c.in-Some.first.now.name; bytes = c.from_vec.result }))) new) c.self.view_is
-    (takes_first old new x c.in-Some.first.now.name c.from_vec.result first name c.from_vec.ensures refl refl c.take.ensures.lines c.take.ensures.keys refl c.take.ensures.ended
+    subst (λ (s : State g.row.P.Denot). DoesCoreStep s Take (called_entry (Some (record (returned_of (result_of x)) { h = c.in-Some.first.now.name; bytes = c.from_buffer.result }))) new) c.self.view_is
+    (takes_first old new x c.in-Some.first.now.name c.from_buffer.result first name c.from_buffer.ensures refl refl c.take.ensures.lines c.take.ensures.keys refl c.take.ensures.ended
     (calls_by old.callers c.reserve_callback.new.self c.result_taken.new.self c.put_callback.new.self c.in-Some.first.now.name _
     c.reserve_callback.ensures.numbers c.reserve_callback.ensures.callbacks c.reserve_callback.ensures.results c.reserve_callback.ensures.counts
     c.result_taken.ensures.results c.result_taken.ensures.numbers c.result_taken.ensures.callbacks c.result_taken.ensures.counts

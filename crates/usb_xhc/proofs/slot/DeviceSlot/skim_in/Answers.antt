@@ -1,4 +1,4 @@
-use Rattle.std.proofs.Common.{◌≡◌, ◌≤◌, ◌+◌, ◌*◌, ◌<◌, ℕ, Some, arith, sym, ap, ◌∙◌, slice_set, true, vec_len, vec_capacity}
+use Rattle.std.proofs.Common.{◌≡◌, ◌≤◌, ◌+◌, ◌*◌, ◌<◌, ℕ, Some, arith, sym, ap, ◌∙◌, length, slice_set, true}
 use Rattle.usb_model.specs.Setup.{endpoint_id}
 use Rattle.usb_device.specs.Pipe.{pipe_at}
 use Rattle.usb_device.specs.Skims.{are_whole, pipe_behind}
@@ -22,7 +22,7 @@ skim_in-full-requires g c =
     serves-from _ s c.args.ep c.from.result c.index_mut.result.now x t c.self.view_is c.self.invariant (c.from.ensures ∙ c.id.ensures) c.index_mut.ensures.value c.in-Some.is (sym c.working.ensures ∙ c.in-Some-working.is) c.if-self.false in
     let fits = few-fit x.size x.within t.trb.length c.whole_within.result c.args.most few c.whole_within.ensures.fits c.min-few.ensures c.if-few-eq0.false in
     let most = inside-room x t (few * x.size) (first-of x t serves.first) fits in
-    let asked = asked-of (λ (y : Context) (f : TrbAt). vec_len c.args.bytes.now + room (trbs y) y.within ≤ vec_capacity c.args.bytes.now) s c.args.ep x t serves c.requires.bytes in
+    let asked = asked-of (λ (y : Context) (f : TrbAt). length c.args.bytes.now.items + room (trbs y) y.within ≤ c.args.bytes.now.capacity) s c.args.ep x t serves c.requires.bytes in
     let size = ap (λ (n : ℕ). few * n) (c.from-size.ensures ∙ c.size.ensures) in
     record { room = omega (arith, asked, most, size) }
 

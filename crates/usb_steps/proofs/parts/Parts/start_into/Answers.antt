@@ -16,7 +16,7 @@ use Rattle.proof_core.proofs.Starts.{starts}
 use Rattle.usb_steps.proofs.Views.{parts}
 use Rattle.proof_core.specs.Payloads.{CarriesMore}
 use Rattle.proof_core.proofs.Payloads.{joins_carried}
-use Rattle.usb_steps.proofs.parts.Parts.start_over.Goals as goal
+use Rattle.usb_steps.proofs.parts.Parts.start_into.Goals as goal
 
 pub returns-clause-started : goal.returns-clause-started
 returns-clause-started g c =

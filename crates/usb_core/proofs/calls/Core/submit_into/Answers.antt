@@ -6,7 +6,7 @@ use Rattle.proof_core.specs.Calls.{Stays}
 use Rattle.proof_core.specs.State.{State}
 use Rattle.proof_core.specs.Steps.{TurnsWorld}
 use Rattle.usb_core.proofs.Turns.{shown_either, turns_if, turns_unless}
-use Rattle.usb_core.proofs.calls.Core.submit_reusing.Goals as goal
+use Rattle.usb_core.proofs.calls.Core.submit_into.Goals as goal
 
 pub invariant_of-self : goal.invariant_of-self
 invariant_of-self g c = shown_either c.self.inside.parts c.submit.new.self (Submit c.args.h c.args.request) c.submit.result (λ n. record { owner = Some c.args.h; reply = Number n }) c.submit.ensures.accepted c.submit.ensures.kept c.self.invariant
