@@ -97,29 +97,30 @@ module _ {P : Type 0} (old : State P) (h d e item n size count : ℕ) (t last : 
       ∙ index_get (slice_set (line_at old.flights d e) item (Some u)) item None (Some u) (get_put (line_at old.flights d e) item (Some t) (Some u) row.there)
 
   -- one packet more
-  serves_amid : (row : IsRow) (i : ℕ) (u v : InFlight P) → IsAmid i u → IsAmid (suc i) v → u.bytes.capacity ≤ v.bytes.capacity → Serves (amid i u).flights (amid (suc i) v).flights (amid i u).controller d e item u
-  serves_amid row i u v is next more = record {
+  serves_amid : (row : IsRow) (i : ℕ) (u v : InFlight P) → IsAmid i u → IsAmid (suc i) v → u.bytes.capacity ≤ v.bytes.capacity → v.bytes.lent ≡ u.bytes.lent → Serves (amid i u).flights (amid (suc i) v).flights (amid i u).controller d e item u
+  serves_amid row i u v is next more same = record {
     served = v;
     behind = record {
       rest = next.rest ∙ sym (ap (λ (x : InFlight P). record x { bytes = v.bytes }) is.rest);
       items = next.items ∙ skimmed_next old.controller d e i t.request.body t.bytes.items
           ∙ ap₂ (λ (r : Request) (bytes : List ℕ). bytes_for (controller_skimmed d e out i old.controller) d e r.body bytes) (sym (ap (λ (x : InFlight P). x.request) is.rest)) (sym is.items);
       room = more;
+      lent = same;
     };
     put = sym (put_twice old.flights d e item (Some u) (Some v) row.lanes row.lane);
   }
 
   -- it is the core's
-  step_amid : (setup : Setup) (w : World) (c : Core) (row : IsRow) (i : ℕ) (u v : InFlight P) → IsAmid i u → IsAmid (suc i) v → u.bytes.capacity ≤ v.bytes.capacity → i < count → (x : Context) (first : TrbAt) → context_in (amid i u).controller d e ≡ Some x → working x ≡ Some first
+  step_amid : (setup : Setup) (w : World) (c : Core) (row : IsRow) (i : ℕ) (u v : InFlight P) → IsAmid i u → IsAmid (suc i) v → u.bytes.capacity ≤ v.bytes.capacity → v.bytes.lent ≡ u.bytes.lent → i < count → (x : Context) (first : TrbAt) → context_in (amid i u).controller d e ≡ Some x → working x ≡ Some first
       → IsAt setup (amid i u) c h d e → Shows setup w c → IsAtWork setup (amid i u) c h d e item x first
       → ((packet_of setup c d e).reply ≡ reply_of n (served.Moved size)) × Keeps setup (amid (suc i) v) (behind_packet setup c d e)
   unfolding controller_skimmed
-  step_amid setup w c row i u v is next more before x first there work at shows it =
+  step_amid setup w c row i u v is next more same before x first there work at shows it =
       moves_at (amid i u) (controller_skimmed d e out (suc i) old.controller) (amid (suc i) v).flights h d e item n (served.Moved size) x first there work (sym (row.whole i before))
       (λ y found. by_u y found (λ z. z.n ≡ n) (ap (λ (z : InFlight P). z.n) is.rest ∙ row.number))
       (λ y found. by_u y found (λ z. controller_skimmed d e out (suc i) old.controller ≡ served_at (controller_skimmed d e out i old.controller) d e (out_of e z.request.body))
       (ap (λ (r : Request). served_at (controller_skimmed d e out i old.controller) d e (out_of e r.body)) (sym (ap (λ (z : InFlight P). z.request) is.rest))))
-      (λ y found. by_u y found (λ z. Serves (amid i u).flights (amid (suc i) v).flights (amid i u).controller d e item z) (serves_amid row i u v is next more))
+      (λ y found. by_u y found (λ z. Serves (amid i u).flights (amid (suc i) v).flights (amid i u).controller d e item z) (serves_amid row i u v is next more same))
       refl setup w c at shows it
     where
       by_u : (y : InFlight P) → item_at (amid i u).flights d e item ≡ Some y → (F : InFlight P → Type 0) → F u → F y
@@ -180,14 +181,14 @@ module _ {P : Type 0} (old : State P) (h d e item n size count : ℕ) (t last : 
           })
 
   -- the packets that are left
-  rows : (left i : ℕ) (setup : Setup) (w : World) (c : Core) (row : IsRow) (u : InFlight P) → left + i ≡ count → IsAmid i u → u.bytes.capacity ≤ last.bytes.capacity → IsAt setup (amid i u) c h d e → Shows setup w c → (InRow (c.endpoints d e).line (c.endpoints d e).end → IsNow (c.endpoints d e) item)
+  rows : (left i : ℕ) (setup : Setup) (w : World) (c : Core) (row : IsRow) (u : InFlight P) → left + i ≡ count → IsAmid i u → u.bytes.capacity ≤ last.bytes.capacity → last.bytes.lent ≡ u.bytes.lent → IsAt setup (amid i u) c h d e → Shows setup w c → (InRow (c.endpoints d e).line (c.endpoints d e).end → IsNow (c.endpoints d e) item)
       → (replicate left (record { owner = Some h; reply = Moved n size }) ≡ core_entries setup c (replicate left (Serve d e))) × Keeps setup (amid count last) (core_behind setup c (replicate left (Serve d e)))
   unfolding core_entries core_behind step_core
-  rows zero i setup w c row u all is more at shows now =
+  rows zero i setup w c row u all is more whose at shows now =
       let same : i ≡ count = omega (arith, all) in
       (refl, ends_row setup c row u (subst (λ (j : ℕ). IsAmid j u) same is) more (subst (λ (j : ℕ). IsAt setup (amid j u) c h d e) same at))
-  rows (suc left) i setup w c row u all is more at shows now =
-      let later = rows left (suc i) setup (turn setup w (Serve d e)).world (step_core setup c (Serve d e)).core row v (omega (arith, all)) next (omega arith) at_next (whole_steps setup at.keeps.fine w c shows (Serve d e)).1 now_next in
+  rows (suc left) i setup w c row u all is more whose at shows now =
+      let later = rows left (suc i) setup (turn setup w (Serve d e)).world (step_core setup c (Serve d e)).core row v (omega (arith, all)) next (omega arith) refl at_next (whole_steps setup at.keeps.fine w c shows (Serve d e)).1 now_next in
       (ap₂ (λ (x : Entry) (xs : List Entry). x ∷ xs) done.0 later.0, later.1)
     where
       before : i < count
@@ -206,7 +207,7 @@ module _ {P : Type 0} (old : State P) (h d e item n size count : ℕ) (t last : 
       it = at_now setup w (amid i u) c h d e item works.0 works.1 at shows works.2 works.3 now
 
       moved : ((packet_of setup c d e).reply ≡ reply_of n (served.Moved size)) × Keeps setup (amid (suc i) v) (behind_packet setup c d e)
-      moved = step_amid setup w c row i u v is next more before works.0 works.1 works.2 works.3 at shows it
+      moved = step_amid setup w c row i u v is next more whose before works.0 works.1 works.2 works.3 at shows it
 
       done : Is setup (step_core setup c (Serve d e)) (record { owner = Some h; reply = Moved n size }) (amid (suc i) v)
       done = serves_moved setup (amid i u) (amid (suc i) v) c h d e n (served.Moved size) at moved
@@ -267,5 +268,5 @@ skims {P} old k f h d e item count n size held front number whole is_k is_f setu
     all = omega arith
 
     made : (replicate count (record { owner = Some h; reply = Moved n size }) ≡ core_entries setup c (replicate count (Serve d e))) × Keeps setup (amid old h d e item n size count t skim.skimmed count skim.skimmed) (core_behind setup c (replicate count (Serve d e)))
-    made = rows old h d e item n size count t skim.skimmed count 0 setup w c row t all (record { rest = refl; items = sym (skimmed_none old.controller d e t.request.body t.bytes.items) }) skim.behind.room
+    made = rows old h d e item n size count t skim.skimmed count 0 setup w c row t all (record { rest = refl; items = sym (skimmed_none old.controller d e t.request.body t.bytes.items) }) skim.behind.room skim.behind.lent
         (subst (λ (s : State P). IsAt setup s c h d e) start at) shows (λ in_row. record { y = it.y; found = it.found; in_line = it.in_line })

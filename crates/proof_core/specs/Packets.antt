@@ -54,11 +54,12 @@ module _ {P : Type 0} where
   CanServe k d e (In n) t = HasRoom k d e (length t.bytes.items) t.bytes.capacity
   CanServe k d e (Out bytes) t = HasSize k d e × HasBytes k d e (length bytes)
 
-  -- the same transfer, but for its bytes: those read, and at least the room that there was
+  -- the same transfer, but for its bytes: those read, in memory that is whose it was, with at least the room that there was
   pub record IsServed (k : Controller) (d e : ℕ) (t served : Transfer P) : Type 0 where
     pub rest : served ≡ record t { bytes = served.bytes }
     pub items : served.bytes.items ≡ bytes_for k d e t.request.body t.bytes.items
     pub room : t.bytes.capacity ≤ served.bytes.capacity
+    pub lent : served.bytes.lent ≡ t.bytes.lent
 
   -- that of this item alone is served
   pub record Serves (old new : Flights (Transfer P)) (k : Controller) (d e i : ℕ) (t : Transfer P) : Type 0 where
@@ -71,11 +72,13 @@ module _ {P : Type 0} where
   CanSkim k d e (In n) t = HasWholeRoom k d e (length t.bytes.items) t.bytes.capacity
   CanSkim k d e (Out bytes) t = HasSize k d e × HasTrbBytes k d e (length bytes)
 
-  -- the same transfer, but for its bytes: those read in so many whole packets, and at least the room that there was
+  -- the same transfer, but for its bytes: those read in so many whole packets, in memory that is whose it was, with at least the room
+  -- that there was
   pub record IsSkimmed (k : Controller) (d e count : ℕ) (t skimmed : Transfer P) : Type 0 where
     pub rest : skimmed ≡ record t { bytes = skimmed.bytes }
     pub items : skimmed.bytes.items ≡ bytes_skimmed k d e count t.request.body t.bytes.items
     pub room : t.bytes.capacity ≤ skimmed.bytes.capacity
+    pub lent : skimmed.bytes.lent ≡ t.bytes.lent
 
   -- so many whole packets of this item alone are served
   pub record Skims (old new : Flights (Transfer P)) (k : Controller) (d e i count : ℕ) (t : Transfer P) : Type 0 where

@@ -1,4 +1,4 @@
-//! Room behind bytes, for devices that compute their packets.
+//! How many bytes a transaction leaves behind the others, for devices that compute their packets.
 
 ghost use Rattle.std.specs.Prelude.{◌≡◌, ◌≤◌};
 ghost use Rattle.usb_device.specs.Pipe.{count_within};

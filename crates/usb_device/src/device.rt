@@ -48,6 +48,7 @@ pub trait Device: Drop {
         ensures pipes { pipes self.new ≡ slice_set (pipes self.old) (endpoint_id ep) (pipe_after None (pipe_at (pipes self.old) ep)) }
         ensures bytes { bytes.new.items ≡ bytes_after (answer_of (pipe_at (pipes self.old) ep)) room bytes.old.items }
         ensures capacity { bytes.old.capacity ≤ bytes.new.capacity }
+        ensures lent { bytes.new.lent ≡ bytes.old.lent }
         ensures more { length bytes.old.items ≤ length bytes.new.items }
         ensures most { length bytes.new.items ≤ length bytes.old.items + room }
     {
@@ -79,6 +80,7 @@ pub trait Device: Drop {
         ensures pipes { pipes self.new ≡ slice_set (pipes self.old) (endpoint_id ep) (pipe_behind result (pipe_at (pipes self.old) ep)) }
         ensures bytes { bytes.new.items ≡ bytes.old.items ++ read_in result (pipe_at (pipes self.old) ep) }
         ensures capacity { bytes.old.capacity ≤ bytes.new.capacity }
+        ensures lent { bytes.new.lent ≡ bytes.old.lent }
         ensures length { length bytes.new.items ≡ length bytes.old.items + result * size }
     {
         let _ = (ep, size, most, bytes.len());

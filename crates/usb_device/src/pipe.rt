@@ -58,6 +58,7 @@ fn append_packet(packet: &[u8], room: usize, bytes: &mut Buffer)
     requires room { length bytes.old.items + room ≤ bytes.old.capacity }
     ensures bytes { bytes.new.items ≡ (if nat_lt room (length packet.now) then bytes.old.items else bytes.old.items ++ packet.now) }
     ensures capacity { bytes.old.capacity ≤ bytes.new.capacity }
+    ensures lent { bytes.new.lent ≡ bytes.old.lent }
     ensures more { length bytes.old.items ≤ length bytes.new.items }
     ensures most { length bytes.new.items ≤ length bytes.old.items + room }
 {
@@ -135,6 +136,7 @@ impl TablePipe {
         ensures pipe { self.new ≡ pipe_after None self.old }
         ensures bytes { bytes.new.items ≡ bytes_after (answer_of self.old) room bytes.old.items }
         ensures capacity { bytes.old.capacity ≤ bytes.new.capacity }
+        ensures lent { bytes.new.lent ≡ bytes.old.lent }
         ensures more { length bytes.old.items ≤ length bytes.new.items }
         ensures most { length bytes.new.items ≤ length bytes.old.items + room }
     {
@@ -169,6 +171,7 @@ impl TablePipe {
             × (bytes.new.items ≡ bytes.old.items ++ packet_of (answer_of self.old)) × (length bytes.new.items ≡ length bytes.old.items + size) }
         ensures kept { result ≡ false → (self.new ≡ self.old) × (bytes.new ≡ bytes.old) }
         ensures capacity { bytes.old.capacity ≤ bytes.new.capacity }
+        ensures lent { bytes.new.lent ≡ bytes.old.lent }
     {
         if self.halted || self.place >= self.script.len() {
             return false;
@@ -192,6 +195,7 @@ impl TablePipe {
         ensures pipe { self.new ≡ pipe_behind result self.old }
         ensures bytes { bytes.new.items ≡ bytes.old.items ++ read_in result self.old }
         ensures capacity { bytes.old.capacity ≤ bytes.new.capacity }
+        ensures lent { bytes.new.lent ≡ bytes.old.lent }
         ensures length { length bytes.new.items ≡ length bytes.old.items + result * size }
     {
         for count in 0..most {

@@ -1,6 +1,6 @@
 //! Memory that a transfer reads into.
 
-ghost use Rattle.std.specs.Prelude.{◌≡◌, ◌==◌, ◌≤◌, ◌+◌, ◌++◌, [], false, IfOk, IsOk, length, take, replicate};
+ghost use Rattle.std.specs.Prelude.{◌≡◌, ◌≤◌, ◌+◌, ◌++◌, [], false, IfOk, IsOk, length, take, replicate};
 ghost use Rattle.usb_model.specs.Buffer.{no_memory, seen};
 
 use std::alloc::{AllocError, Global};
@@ -17,12 +17,22 @@ pub struct Buffer {
 }
 
 /// Whose memory it is.
-#[derive(Debug, Drop)]
+#[derive(Debug)]
 pub enum Memory {
     /// The library's.
     Own(Vec<u8>),
     /// The caller's, which is never freed.
     Lent(Vec<u8, Lodged>),
+}
+
+/// A call of its own, so that a proof doesn't go both ways wherever a value with memory in it is dropped.
+impl Drop for Memory {
+    fn drop(self) {
+        match self {
+            Memory::Own(bytes) => drop(bytes),
+            Memory::Lent(bytes) => drop(bytes),
+        }
+    }
 }
 
 impl Model for Buffer {
@@ -92,13 +102,6 @@ impl Buffer {
         }
     }
 
-    /// Whether no byte stands in it.
-    pub fn is_empty(&self) -> bool
-        ensures { result ≡ (length self.now.items == 0) }
-    {
-        self.len() == 0
-    }
-
     /// For how many bytes there is room in all.
     pub fn capacity(&self) -> usize
         ensures { result ≡ self.now.capacity }
@@ -124,6 +127,7 @@ impl Buffer {
         requires { length self.old.items + length packet.now ≤ self.old.capacity }
         ensures items { self.new.items ≡ self.old.items ++ packet.now }
         ensures capacity { self.old.capacity ≤ self.new.capacity }
+        ensures lent { self.new.lent ≡ self.old.lent }
     {
         let _ = match &mut self.memory {
             Memory::Own(bytes) => bytes.extend_from_slice(packet),
@@ -136,6 +140,7 @@ impl Buffer {
         requires { length self.old.items + count ≤ self.old.capacity }
         ensures items { self.new.items ≡ self.old.items ++ replicate count 0 }
         ensures capacity { self.old.capacity ≤ self.new.capacity }
+        ensures lent { self.new.lent ≡ self.old.lent }
     {
         let _ = match &mut self.memory {
             Memory::Own(bytes) => bytes.resize(bytes.len() + count, 0),

@@ -1,6 +1,6 @@
 //! The bytes that a transfer read.
 
-ghost use Rattle.std.specs.Prelude.{◌≡◌, ◌==◌, [], length};
+ghost use Rattle.std.specs.Prelude.{◌≡◌, [], length};
 
 use crate::buffer::{Buffer, Memory};
 use crate::sequence::Bytes;
@@ -62,13 +62,6 @@ impl BytesRead {
         ensures { result ≡ length self.now }
     {
         self.buffer.len()
-    }
-
-    /// Whether there is none.
-    pub fn is_empty(&self) -> bool
-        ensures { result ≡ (length self.now == 0) }
-    {
-        self.len() == 0
     }
 
     /// The bytes as a slice.

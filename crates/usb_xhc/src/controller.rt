@@ -108,6 +108,7 @@ impl<D: Device> Controller<D> {
         ensures controller { self.new ≡ served_at self.old dev ep (λ _. None) }
         ensures bytes { bytes.new.items ≡ option_map_or (λ s. read_after s ep bytes.old.items) (slice_get self.old.slots dev) bytes.old.items }
         ensures capacity { bytes.old.capacity ≤ bytes.new.capacity }
+        ensures lent { bytes.new.lent ≡ bytes.old.lent }
     {
         match self.slots.get_mut(usize::from(dev.number())) {
             Some(slot) => slot.serve_in(ep, bytes, &mut self.events),
@@ -140,6 +141,7 @@ impl<D: Device> Controller<D> {
         ensures controller { self.new ≡ controller_skimmed dev ep (λ _. None) result self.old }
         ensures bytes { bytes.new.items ≡ controller_read dev ep result self.old bytes.old.items }
         ensures capacity { bytes.old.capacity ≤ bytes.new.capacity }
+        ensures lent { bytes.new.lent ≡ bytes.old.lent }
     {
         let Some(slot) = self.slots.get_mut(usize::from(dev.number())) else {
             return 0;

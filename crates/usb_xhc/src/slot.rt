@@ -78,6 +78,7 @@ impl<D: Device> DeviceSlot<D> {
         ensures events { events.new ≡ events_after self.old ep events.old }
         ensures bytes { bytes.new.items ≡ read_after self.old ep bytes.old.items }
         ensures capacity { bytes.old.capacity ≤ bytes.new.capacity }
+        ensures lent { bytes.new.lent ≡ bytes.old.lent }
     {
         let Some(context) = &mut self.contexts[usize::from(ep.id())] else {
             return None;
@@ -124,6 +125,7 @@ impl<D: Device> DeviceSlot<D> {
         ensures slot { self.new ≡ slot_skimmed (λ _. None) ep result self.old }
         ensures bytes { bytes.new.items ≡ read_skimmed ep result self.old bytes.old.items }
         ensures capacity { bytes.old.capacity ≤ bytes.new.capacity }
+        ensures lent { bytes.new.lent ≡ bytes.old.lent }
     {
         let Some(context) = &mut self.contexts[usize::from(ep.id())] else {
             return 0;

@@ -8,6 +8,7 @@ loop-count-init c = record {
   pipe = none_pipe c.args.self.now;
   bytes = none_read c.args.bytes.now.items c.args.self.now;
   capacity = omega arith;
+  lent = refl;
   length = omega arith;
 }
 
@@ -23,5 +24,6 @@ loop-count-preserved c =
       pipe = behind_more k p q c.skim_one_in.new.self so_far.pipe met.1;
       bytes = read_more k p q c.args.bytes.now.items c.loop-count.bytes.items c.skim_one_in.new.bytes.items so_far.pipe so_far.bytes met.2;
       capacity = omega (arith, so_far.capacity, c.skim_one_in.ensures.capacity);
+      lent = c.skim_one_in.ensures.lent ∙ so_far.lent;
       length = omega (arith, so_far.length, met.3);
     }

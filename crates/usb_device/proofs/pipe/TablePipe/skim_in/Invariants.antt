@@ -8,5 +8,6 @@ invariant-loop-count l = record {
   pipe : l.self ≡ pipe_behind l.count l.initial.self;
   bytes : l.bytes.items ≡ l.initial.bytes.items ++ read_in l.count l.initial.self;
   capacity : l.initial.bytes.capacity ≤ l.bytes.capacity;
+  lent : l.bytes.lent ≡ l.initial.bytes.lent;
   length : length l.bytes.items ≡ length l.initial.bytes.items + l.count * l.size;
 }
