@@ -59,8 +59,8 @@ struct tirnouch_told {
 /* Memory that C lends: `len` bytes at `at`, of which the first `filled` stand written. `at` is never NULL, not
  * even where `len` is 0.
  *
- * It is the library's as soon as `tirnouch_submit_in` answers 0 for an endpoint for IN, and `len` is 0 here
- * then: C doesn't read, write, free or lend it until it comes back. Else it stays C's, `len` as before.
+ * It is the library's as soon as `tirnouch_submit_in` answers 0, and `len` is 0 here then: C doesn't read,
+ * write, free or lend it until it comes back. Else it stays C's, `len` as before.
  *
  * It comes back with its transfer's result, in `back` of `tirnouch_take` or `tirnouch_turn`, however the
  * transfer ended: all `len` bytes are C's again, of which the first `filled` are those that were read.
@@ -97,8 +97,8 @@ int32_t tirnouch_submit(struct tirnouch_slot *slot, uint8_t h, uint8_t ep, uint8
 
 /* Submits a transfer that reads straight into memory that C lends, all of it (libusb's
  * `libusb_submit_transfer`). It is the library's from then on, with `len` 0 here, and goes back with the
- * result: till then C doesn't touch it. Where the transfer is refused, C has it as before. At an endpoint for
- * OUT nothing is lent, and a packet without bytes is sent. All else is as of `tirnouch_submit`. */
+ * result: till then C doesn't touch it. Where the transfer is refused, C has it as before; so it is at an
+ * endpoint for OUT, by LIBUSB_ERROR_INVALID_PARAM. All else is as of `tirnouch_submit`. */
 int32_t tirnouch_submit_in(struct tirnouch_slot *slot, uint8_t h, uint8_t ep, uint8_t kind, uint8_t flags,
     uint32_t timeout, struct tirnouch_memory *memory, uint64_t payload, struct tirnouch_told *told);
 

@@ -191,6 +191,8 @@ static void lend_in_vain(void)
     show("its memory", &memory, data);
     tell("lend for endpoint 82", lend(0x82, 2, &memory, 20));
     show("its memory", &memory, data);
+    say("lend for OUT", lend(0x02, 2, &memory, 20));
+    show("its memory", &memory, data);
 }
 
 /* While it is lent it is looked at here, which a program may not do. */

@@ -17,6 +17,6 @@ abbrev pub BytesGo : Taken ℕ → Option (Taken ℕ) → (old new : LentMemory)
 BytesGo x None old new = new.bytes ≡ x.returned.bytes
 BytesGo x (Some y) old new = (y ≡ x) × (new ≡ old)
 
--- of memory that was lent with a submission: accepted for IN, the library has it; refused, C has as much as before
-abbrev pub Lends : ℤ → Bool → (old new : LentMemory) → Type 0
-Lends answer reads old new = (answer ≡ pos 0 → reads ≡ true → new.len ≡ 0) × ((answer ≡ pos 0 → ⊥) → new.len ≡ old.len)
+-- of memory that was lent with a submission: accepted, the library has it; refused, C has as much as before
+abbrev pub Lends : ℤ → (old new : LentMemory) → Type 0
+Lends answer old new = (answer ≡ pos 0 → new.len ≡ 0) × ((answer ≡ pos 0 → ⊥) → new.len ≡ old.len)

@@ -34,9 +34,9 @@ body_by ep room bytes = if is_in ep then In room else Out bytes
 abbrev pub request_by : (ep kind flags timeout room : ℕ) → List ℕ → Option Request
 request_by ep kind flags timeout room bytes = option_map (λ k. record { ep = ep; kind = k; flags = record { 0 = flags }; timeout = timeout; body = body_by ep room bytes }) (kind_by kind)
 
--- the request to read as many bytes as there is room for, as far as a request can say
+-- the request to read as many bytes as there is room for, as far as a request can say; none of an endpoint for OUT
 abbrev pub request_over : (ep kind flags timeout room : ℕ) → Option Request
-request_over ep kind flags timeout room = if nat_lt room 4294967296 then request_by ep kind flags timeout room [] else None
+request_over ep kind flags timeout room = if is_in ep then (if nat_lt room 4294967296 then request_by ep kind flags timeout room [] else None) else None
 
 -- what a submission makes of the core: accepted, it is the world's turn, and this is kept under its number; refused, the world's turn; without memory nothing changed
 abbrev pub SubmitsAs : ℕ → Request → ℕ → Reply → (s t : State ℕ) → Type 0

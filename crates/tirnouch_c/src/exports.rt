@@ -1,8 +1,7 @@
 //! What C calls: numbers and buffers, over a slot that holds a session.
 
-ghost use Rattle.std.specs.Prelude.{◌≡◌, IfErr, IfOk, IfSome, false, pos, true};
+ghost use Rattle.std.specs.Prelude.{◌≡◌, IfErr, IfOk, IfSome, false, pos};
 ghost use Rattle.usb_model.specs.Buffer.{no_memory};
-ghost use Rattle.usb_model.specs.Setup.{is_in};
 ghost use Rattle.usb_core.specs.Public.{takes_memory};
 ghost use Rattle.tirnouch_c.specs.Lent.{Lends};
 ghost use Rattle.usb_desk.specs.Packet.{needs_of, packet_of};
@@ -215,7 +214,7 @@ fn submit_over(
     told: &mut Told,
 ) -> i32
     ensures submitted { SubmitsIf h (request_over ep kind flags timeout memory.old.capacity) payload result told.new session.old session.new }
-    ensures accepted { result ≡ pos 0 → is_in ep ≡ true → memory.new ≡ no_memory }
+    ensures accepted { result ≡ pos 0 → memory.new ≡ no_memory }
     ensures refused { (result ≡ pos 0 → ⊥) → memory.new ≡ record memory.old { items = memory.new.items } }
 {
     match submission::request_over(alloc, ep, kind, flags, timeout, memory.capacity()) {
@@ -239,7 +238,7 @@ fn submit_lent(
     told: &mut Told,
 ) -> i32
     ensures submitted { SubmitsOver h ep kind flags timeout memory.old.len payload result told.new session.old session.new }
-    ensures memory { Lends result (is_in ep) memory.old memory.new }
+    ensures memory { Lends result memory.old memory.new }
 {
     let Some(name) = Name::new(h) else {
         return INVALID;
@@ -263,8 +262,7 @@ fn submit_lent(
 
 /// Submits a transfer that reads straight into memory that C lends, all of it (libusb 1.0, `libusb_submit_transfer`). It is the
 /// library's from then on, with `len` 0 here, and goes back with the result: till then C doesn't touch it. Where the transfer is
-/// refused, C has it as before. At an endpoint for OUT nothing is lent, and a packet without bytes is sent. All else is as of
-/// `tirnouch_submit`.
+/// refused, C has it as before; so it is at an endpoint for OUT, by LIBUSB_ERROR_INVALID_PARAM. All else is as of `tirnouch_submit`.
 #[unsafe(no_mangle)]
 pub extern "C" fn tirnouch_submit_in(
     alloc: Global,
@@ -279,7 +277,7 @@ pub extern "C" fn tirnouch_submit_in(
     told: &mut Told,
 ) -> i32
     ensures submitted { InSlot slot.old.held.value slot.new.held.value result (SubmitsOver h ep kind flags timeout memory.old.len payload result told.new) }
-    ensures memory { Lends result (is_in ep) memory.old memory.new }
+    ensures memory { Lends result memory.old memory.new }
 {
     let Some(mut session) = slot.take(alloc) else {
         return NO_SESSION;

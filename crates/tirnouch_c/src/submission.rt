@@ -1,8 +1,9 @@
 //! Submissions.
 
-ghost use Rattle.std.specs.Prelude.{◌≡◌, IfOk, OnErr, Some, is_some, pos, true};
+ghost use Rattle.std.specs.Prelude.{◌≡◌, IfOk, IfSome, OnErr, Some, is_some, pos, true};
 ghost use Rattle.usb_model.specs.declared.refused.Refused.TheVariants.{NoMem};
 ghost use Rattle.usb_model.specs.declared.reply.Reply.TheVariants.{Refused as IsRefused};
+ghost use Rattle.usb_model.specs.declared.request.Body.TheVariants.{In};
 ghost use Rattle.usb_transfer.specs.Tds.{memory_left};
 ghost use Rattle.tirnouch_c.specs.Told.{code_of, told_of};
 ghost use Rattle.tirnouch_c.specs.Submission.{Submits, body_by, kind_by, request_by, request_over};
@@ -50,6 +51,7 @@ pub fn request_by(
 ) -> Result<Option<Request>, AllocError>
     ensures request { IfOk result (λ request. request ≡ request_by ep kind flags timeout room buffer.now) }
     ensures memory { OnErr result (is_some (request_by ep kind flags timeout room buffer.now) ≡ true) }
+    ensures body { IfOk result (λ o. IfSome o (λ request. request.body ≡ body_by ep room buffer.now)) }
 {
     match kind_by(kind) {
         None => Ok(None),
@@ -63,8 +65,8 @@ pub fn request_by(
     }
 }
 
-/// The request to read as many bytes as there is room for; None where the kind is none, or where there is more room than a request
-/// can say. An error where memory is refused.
+/// The request to read as many bytes as there is room for; None where the endpoint is for OUT, where the kind is none, or where there is
+/// more room than a request can say. An error where memory is refused.
 pub fn request_over(
     alloc: Global,
     ep: EpAddr,
@@ -75,7 +77,11 @@ pub fn request_over(
 ) -> Result<Option<Request>, AllocError>
     ensures request { IfOk result (λ request. request ≡ request_over ep kind flags timeout room) }
     ensures memory { OnErr result (is_some (request_over ep kind flags timeout room) ≡ true) }
+    ensures reads { IfOk result (λ o. IfSome o (λ request. request.body ≡ In room)) }
 {
+    if !ep.is_in() {
+        return Ok(None);
+    }
     match u32::try_from(room) {
         Ok(room) => request_by(alloc, ep, kind, flags, timeout, room, &[]),
         Err(_) => Ok(None),

@@ -10,29 +10,27 @@ use std_alloc::vec::Lodged;
 
 /// Memory that a transfer reads into: the library's own, or its caller's (libusb's `buffer`), lent until the transfer is called back. It
 /// never grows. Contracts see the bytes that stand in it, for how many there is room, and whether it is the caller's.
-#[derive(Debug, Drop)]
+#[derive(Debug)]
 pub struct Buffer {
     memory: Memory,
     alloc: Global,
 }
 
+/// A call of its own, so that a proof doesn't go both ways of `Memory` wherever a value with a buffer in it is dropped.
+impl Drop for Buffer {
+    fn drop(self) {
+        let Buffer { memory, alloc: _ } = self;
+        drop(memory);
+    }
+}
+
 /// Whose memory it is.
-#[derive(Debug)]
+#[derive(Debug, Drop)]
 pub enum Memory {
     /// The library's.
     Own(Vec<u8>),
     /// The caller's, which is never freed.
     Lent(Vec<u8, Lodged>),
-}
-
-/// A call of its own, so that a proof doesn't go both ways wherever a value with memory in it is dropped.
-impl Drop for Memory {
-    fn drop(self) {
-        match self {
-            Memory::Own(bytes) => drop(bytes),
-            Memory::Lent(bytes) => drop(bytes),
-        }
-    }
 }
 
 impl Model for Buffer {
