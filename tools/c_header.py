@@ -58,7 +58,7 @@ struct tirnouch_slot {
 """
 # Who owns lent memory, behind what the crate says of it: each item is a paragraph.
 OWNERS = [
-    "It is the library's as soon as `tirnouch_submit_in` answers 0 for an endpoint for IN, and `len` is 0 here then: C doesn't read, "
+    "It is the library's as soon as `tirnouch_submit_in` answers 0, and `len` is 0 here then: C doesn't read, "
     "write, free or lend it until it comes back. Else it stays C's, `len` as before.",
     "It comes back with its transfer's result, in `back` of `tirnouch_take` or `tirnouch_turn`, however the transfer ended: all `len` "
     "bytes are C's again, of which the first `filled` are those that were read. `tirnouch_destroy` ends what is lent, and tells nothing. "

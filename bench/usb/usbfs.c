@@ -1,15 +1,19 @@
 /* A kernel faked in the process, under libusb's own library: the program's `ioctl` and `poll` stand before libc's, and answer for one
- * descriptor what Linux answers for a USB device (linux/usbdevice_fs.h). Each transfer is done as soon as it is submitted.
+ * descriptor what Linux answers for a USB device (linux/usbdevice_fs.h). Each transfer is done as soon as it is submitted. Threads may
+ * call it at once.
  *
- * The word `faked` has `poll` say at once that the device is ready, without the system; any other word leaves it to the system. */
+ * The word `faked` has `poll` say at once that the device is ready, without the system. `waits` has it wait by the system until a
+ * transfer is done. Any other word leaves it to the system, by which the device is always ready. */
 #include "device.h"
 
 #include <errno.h>
 #include <linux/usbdevice_fs.h>
 #include <poll.h>
+#include <pthread.h>
 #include <stdarg.h>
 #include <stdbool.h>
 #include <stdlib.h>
+#include <sys/eventfd.h>
 #include <sys/ioctl.h>
 #include <sys/mman.h>
 #include <sys/syscall.h>
@@ -25,8 +29,10 @@ static uint8_t descriptors[] = {
 };
 #define PACKET_SIZE 40
 
-/* Its file; the bytes that it gives, and how many it gave; the transfers that are done, in order. */
-static int file = -1;
+/* Its file, and one that can be read while a transfer is done, or -1; the bytes that it gives, and how many it gave; the transfers that
+ * are done, in order. The lock guards all that a submission or a result changes. */
+static int file = -1, bell = -1;
+static pthread_mutex_t lock = PTHREAD_MUTEX_INITIALIZER;
 static bool is_ready;
 static uint8_t *bytes;
 static size_t byte_count, given;
@@ -39,6 +45,20 @@ static int refuse(int why)
     return -1;
 }
 
+/* The bell can be read as long as the line isn't empty. */
+static void ring(void)
+{
+    if (bell >= 0)
+        eventfd_write(bell, 1);
+}
+
+static void still(void)
+{
+    eventfd_t count;
+    if (bell >= 0)
+        eventfd_read(bell, &count);
+}
+
 static int submit(struct usbdevfs_urb *urb)
 {
     size_t length = (size_t)urb->buffer_length;
@@ -48,6 +68,8 @@ static int submit(struct usbdevfs_urb *urb)
     given += length;
     urb->status = 0;
     urb->actual_length = urb->buffer_length;
+    if (first == last)
+        ring();
     line[last++ % LINE] = urb;
     return 0;
 }
@@ -57,6 +79,8 @@ static int reap(struct usbdevfs_urb **urb)
     if (first == last)
         return refuse(EAGAIN);
     *urb = line[first++ % LINE];
+    if (first == last)
+        still();
     return 0;
 }
 
@@ -95,15 +119,36 @@ int ioctl(int descriptor, unsigned long request, ...)
     va_start(rest, request);
     void *argument = va_arg(rest, void *);
     va_end(rest);
-    return descriptor == file ? answer(request, argument) : (int)syscall(SYS_ioctl, descriptor, request, argument);
+    if (descriptor != file)
+        return (int)syscall(SYS_ioctl, descriptor, request, argument);
+    pthread_mutex_lock(&lock);
+    int answered = answer(request, argument);
+    pthread_mutex_unlock(&lock);
+    return answered;
 }
 
 /* It is `poll`, under a name of its own here: libc's header says of `poll` that it reads nothing of what it is given. */
 int poll_first(struct pollfd *polled, nfds_t count, int timeout) __asm__("poll");
 
+/* The device is ready when the bell can be read. */
+static int wait_for_bell(struct pollfd *polled, nfds_t count, int timeout)
+{
+    struct pollfd asked[8];
+    if (count > sizeof asked / sizeof *asked)
+        return refuse(EINVAL);
+    for (nfds_t i = 0; i < count; i++)
+        asked[i] = polled[i].fd == file ? (struct pollfd){ .fd = bell, .events = POLLIN } : polled[i];
+    int found = (int)syscall(SYS_poll, asked, count, timeout);
+    for (nfds_t i = 0; i < count; i++)
+        polled[i].revents = asked[i].fd != bell ? asked[i].revents : asked[i].revents ? POLLOUT : 0;
+    return found;
+}
+
 int poll_first(struct pollfd *polled, nfds_t count, int timeout)
 {
     int found = 0;
+    if (bell >= 0)
+        return wait_for_bell(polled, count, timeout);
     for (nfds_t i = 0; is_ready && i < count; i++) {
         polled[i].revents = polled[i].fd == file ? polled[i].events & POLLOUT : 0;
         found += polled[i].revents != 0;
@@ -125,6 +170,8 @@ libusb_device_handle *attach(int packet, const char *word, libusb_context **cont
 {
     libusb_device_handle *handle = NULL;
     is_ready = word && !strcmp(word, "faked");
+    if (word && !strcmp(word, "waits") && bell < 0)
+        bell = eventfd(0, EFD_NONBLOCK);
     byte_count = PACKETS * (size_t)packet;
     bytes = realloc(bytes, byte_count);
     if (!bytes || !make_file(packet))
