@@ -16,7 +16,8 @@ pub(crate) fn add_line(alloc: Global, text: &mut Vec<u8>, entry: &Entry) -> Resu
 {
     add_owner(text, entry.owner)?;
     add_reply(alloc, text, &entry.reply)?;
-    text.extend_from_slice(b"\n")
+    text.push(b'\n')?;
+    Ok(())
 }
 
 /// Puts whose an entry is behind a text, and a space.
@@ -26,8 +27,10 @@ fn add_owner(text: &mut Vec<u8>, owner: Option<Name>) -> Result<(), AllocError>
     match owner {
         None => text.extend_from_slice(b"- "),
         Some(name) => {
-            add_number(text, b"h", u64::from(name.number()))?;
-            text.extend_from_slice(b" ")
+            text.push(b'h')?;
+            add_decimal(text, u64::from(name.number()))?;
+            text.push(b' ')?;
+            Ok(())
         }
     }
 }
@@ -63,8 +66,19 @@ fn add_formatted(alloc: Global, text: &mut Vec<u8>, reply: &Reply) -> Result<(),
 fn add_number(text: &mut Vec<u8>, word: &[u8], number: u64) -> Result<(), AllocError>
     ensures { IfOk result (λ _. text.new.items ≡ text.old.items ++ (word.now ++ decimal number)) }
 {
-    let mut buffer = Buffer::new();
     text.extend_from_slice(word)?;
+    add_decimal(text, number)
+}
+
+/// Puts a decimal number behind a text. Most have one digit, which is pushed as it is.
+fn add_decimal(text: &mut Vec<u8>, number: u64) -> Result<(), AllocError>
+    ensures { IfOk result (λ _. text.new.items ≡ text.old.items ++ decimal number) }
+{
+    if number < 10 {
+        text.push(b'0' + number as u8)?;
+        return Ok(());
+    }
+    let mut buffer = Buffer::new();
     text.extend_from_slice(buffer.format(number).as_bytes())
 }
 
@@ -105,9 +119,10 @@ fn add_outcome(text: &mut Vec<u8>, returned: &Returned) -> Result<(), AllocError
     ensures { IfOk result (λ _. text.new.items ≡ text.old.items ++ (codes " round " ++ (decimal returned.now.round ++ (codes " " ++ (status_text returned.now.status ++ (codes " " ++ decimal returned.now.actual)))))) }
 {
     add_number(text, b" round ", returned.round)?;
-    text.extend_from_slice(b" ")?;
+    text.push(b' ')?;
     text.extend_from_slice(status_text(returned.status))?;
-    add_number(text, b" ", u64::from(returned.actual))
+    text.push(b' ')?;
+    add_decimal(text, u64::from(returned.actual))
 }
 
 /// The bytes of a status in a line.
@@ -131,7 +146,8 @@ fn add_data(text: &mut Vec<u8>, bytes: &[u8]) -> Result<(), AllocError>
 {
     text.extend_from_slice(b" data ")?;
     if bytes.is_empty() {
-        return text.extend_from_slice(b"-");
+        text.push(b'-')?;
+        return Ok(());
     }
     add_bytes(text, bytes)
 }
@@ -150,7 +166,9 @@ fn add_bytes(text: &mut Vec<u8>, bytes: &[u8]) -> Result<(), AllocError>
 fn add_byte(text: &mut Vec<u8>, byte: u8) -> Result<(), AllocError>
     ensures { IfOk result (λ _. text.new.items ≡ text.old.items ++ hex_byte byte) }
 {
-    text.extend_from_slice(&[digit(byte / 16), digit(byte % 16)])
+    text.push(digit(byte / 16))?;
+    text.push(digit(byte % 16))?;
+    Ok(())
 }
 
 /// The hexadecimal digit of a number below 16.
