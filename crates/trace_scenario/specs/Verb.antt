@@ -1,5 +1,5 @@
 -- The first words of lines.
-use Rattle.std.specs.Prelude.{ℕ, List, codes, Option, Some, None, if◌then◌else◌}
+use Rattle.std.specs.Prelude.{ℕ, Bool, true, false, List, codes, Option, Some, None, if◌then◌else◌}
 use Rattle.std.specs.Str.{bytes_eq}
 use Rattle.trace_scenario.specs.declared.verb.Verb.{Verb}
 use Rattle.trace_scenario.specs.declared.verb.Verb.TheVariants.{Device, Script, Open, Close, Claim, Release, Reset, Clear, Submit, Cancel, Expire, Serve, Command, Deliver, Take, Return, Unplug}
@@ -25,3 +25,10 @@ verb_of word =
     if bytes_eq word (codes "expire") then Some Expire else
     if bytes_eq word (codes "unplug") then Some Unplug else
     None
+
+-- whether lines that begin so are pieces of the plan by themselves
+abbrev pub says_piece : Verb → Bool
+says_piece Device = false
+says_piece Script = false
+says_piece Submit = false
+says_piece _ = true

@@ -1,15 +1,21 @@
 //! The scenario that the lines so far say.
 
 ghost use Rattle.std.specs.Prelude.{◌≡◌, ◌==◌, IfOk, Some, length, not, slice_set, true};
+ghost use Rattle.std.specs.Option.{option_and_then};
 ghost use Rattle.trace_scenario.specs.Counts.{counts_of, scripts_of, written_scripts};
+ghost use Rattle.trace_scenario.specs.Line.{line_of};
+ghost use Rattle.trace_scenario.specs.LineResults.{submitted_line};
 ghost use Rattle.trace_scenario.specs.Scenario.{says_nothing, empty_scripts, is_free, takes_script};
 ghost use Rattle.trace_scenario.specs.TextResults.{Becomes, IsJudged};
+ghost use Rattle.trace_scenario.specs.Words.{words_of};
 
 use crate::endpoint_set::EndpointSet;
 use crate::findings::Counts;
+use crate::line::{cut, piece};
 use crate::scenario::Scenario;
 use crate::scripted::ScriptedDevice;
-use crate::{Line, LineFault, Misplaced, Problem};
+use crate::submit::{Submitted, submit};
+use crate::{Line, LineFault, Misplaced, Problem, Verb};
 use std::alloc::{AllocError, Global};
 use std::marker::Model;
 use std::mem;
@@ -77,7 +83,26 @@ impl Draft {
         if says_nothing(text) {
             return Ok(());
         }
-        self.take(alloc, Line::by_words(alloc, text, words)?)
+        if !cut(text, words)? {
+            return Err(LineFault::Bad(Problem::Ascii));
+        }
+        self.read_words(alloc, words.as_slice())
+    }
+
+    /// Adds what the words of a line say. A piece of the plan is added as it is read, without the line that it would be.
+    fn read_words(&mut self, alloc: Global, words: &[&str]) -> Result<(), LineFault>
+        ensures { Becomes result (option_and_then (with_line self.old) (line_of (words_of words.now))) self.old self.new }
+    {
+        let [first, rest @ ..] = words else {
+            return Err(LineFault::Bad(Problem::FirstWord));
+        };
+        match Verb::read(first).ok_or(Problem::FirstWord)? {
+            verb @ (Verb::Device | Verb::Script) => {
+                self.take(alloc, Line::of_verb(alloc, verb, rest)?)
+            }
+            Verb::Submit => self.add_submission(submit(alloc, rest)?),
+            verb => self.add_piece(piece(verb, rest)?),
+        }
     }
 
     /// Reads a line, and tells what is wrong with it where it is bad, and then takes nothing of it.
@@ -116,8 +141,7 @@ impl Draft {
             Line::Device { number, config } => self.add_device(alloc, number, config),
             Line::Script { dev, ep, answers } => self.add_script(alloc, dev, ep, answers),
             Line::Submit { h, request, rule } => {
-                self.rules.push(rule)?;
-                self.add_piece(Plan::Do(Step::Submit { h, request }))
+                self.add_submission(Submitted { h, request, rule })
             }
             Line::Piece(piece) => self.add_piece(piece),
         }
@@ -142,6 +166,15 @@ impl Draft {
         ensures { result ≡ not (length self.now.plan == 0) }
     {
         !self.plan.is_empty()
+    }
+
+    /// Adds a submission, and the rule of its callback.
+    fn add_submission(&mut self, submission: Submitted) -> Result<(), LineFault>
+        ensures { Becomes result (with_line self.old (submitted_line submission)) self.old self.new }
+    {
+        let Submitted { h, request, rule } = submission;
+        self.rules.push(rule)?;
+        self.add_piece(Plan::Do(Step::Submit { h, request }))
     }
 
     /// Adds a piece of the plan.

@@ -1,12 +1,13 @@
 //! One line of a scenario.
 
-ghost use Rattle.std.specs.Prelude.{◌≡◌};
-ghost use Rattle.std.specs.Option.{option_copied};
+ghost use Rattle.std.specs.Prelude.{◌≡◌, IfOk, None, Some, true, if◌then◌else◌};
+ghost use Rattle.std.specs.Option.{option_copied, option_map};
 ghost use Rattle.std.specs.Result.{result_ok};
 ghost use Rattle.usb_descriptors.specs.Grammar.{reading};
-ghost use Rattle.trace_scenario.specs.Line.{is_ascii, ascii_of, device_line_of};
-ghost use Rattle.trace_scenario.specs.LineResults.{ReadsAs};
-ghost use Rattle.trace_scenario.specs.Words.{words_of};
+ghost use Rattle.trace_scenario.specs.Line.{is_ascii, ascii_of, device_line_of, line_by};
+ghost use Rattle.trace_scenario.specs.LineResults.{ReadsAs, ReadsPiece};
+ghost use Rattle.trace_scenario.specs.Verb.{says_piece};
+ghost use Rattle.trace_scenario.specs.Words.{words_in, words_of};
 
 use crate::Expected;
 use crate::fault::LineFault;
@@ -16,9 +17,9 @@ use crate::script::script;
 use crate::step::{
     bare, callback, cancel, claim, clear, close, expire, open, release, reset, serve, unplug,
 };
-use crate::submit::submit;
+use crate::submit::{Submitted, submit};
 use crate::verb::Verb;
-use std::alloc::Global;
+use std::alloc::{AllocError, Global};
 use std::str;
 use usb_descriptors::{Config, read_config};
 use usb_model::{DeviceNo, EpAddr, Name, Plan, Request, Rule, Script, Step};
@@ -55,20 +56,9 @@ impl Line {
         ensures { ReadsAs result (line_of_text text.now) }
     {
         let mut words = Vec::new(alloc);
-        Line::by_words(alloc, text, &mut words)
-    }
-
-    /// The same. The words are kept where those of the line before stood, so that many lines share that memory.
-    pub(crate) fn by_words<'a>(
-        alloc: Global,
-        text: &'a [u8],
-        words: &mut Vec<&'a str>,
-    ) -> Result<Line, LineFault>
-        ensures { ReadsAs result (line_of_text text.now) }
-    {
-        let text = ascii(text).ok_or(Problem::Ascii)?;
-        words.clear();
-        words.extend(text.split(' '))?;
+        if !cut(text, &mut words)? {
+            return Err(LineFault::Bad(Problem::Ascii));
+        }
         Line::read(alloc, words.as_slice())
     }
 
@@ -84,36 +74,66 @@ impl Line {
     }
 
     /// What the words behind a verb say.
-    fn of_verb(alloc: Global, verb: Verb, words: &[&str]) -> Result<Line, LineFault>
+    pub(crate) fn of_verb(alloc: Global, verb: Verb, words: &[&str]) -> Result<Line, LineFault>
         ensures { ReadsAs result (line_by verb (words_of words.now)) }
     {
         match verb {
             Verb::Device => device_line(alloc, words),
             Verb::Script => script(alloc, words),
-            Verb::Submit => submit(alloc, words),
-            Verb::Open => open(words),
-            Verb::Close => close(words),
-            Verb::Claim => claim(words),
-            Verb::Release => release(words),
-            Verb::Reset => reset(words),
-            Verb::Clear => clear(words),
-            Verb::Cancel => cancel(words),
-            Verb::Expire => expire(words),
-            Verb::Serve => serve(words),
-            Verb::Command => bare(verb, words, Step::Command),
-            Verb::Deliver => bare(verb, words, Step::Deliver),
-            Verb::Take => bare(verb, words, Step::Take),
-            Verb::Return => callback(words),
-            Verb::Unplug => unplug(words),
+            Verb::Submit => {
+                let Submitted { h, request, rule } = submit(alloc, words)?;
+                Ok(Line::Submit { h, request, rule })
+            }
+            _ => Ok(Line::Piece(piece(verb, words)?)),
         }
     }
+}
+
+/// The piece of a plan that the words behind a verb say, where they say one. It isn't a `Line` yet, which has room for a
+/// whole configuration: long plans would move that with each piece.
+pub(crate) fn piece(verb: Verb, words: &[&str]) -> Result<Plan, LineFault>
+    ensures { says_piece verb ≡ true → ReadsPiece result (line_by verb (words_of words.now)) }
+{
+    match verb {
+        Verb::Open => open(words),
+        Verb::Close => close(words),
+        Verb::Claim => claim(words),
+        Verb::Release => release(words),
+        Verb::Reset => reset(words),
+        Verb::Clear => clear(words),
+        Verb::Cancel => cancel(words),
+        Verb::Expire => expire(words),
+        Verb::Serve => serve(words),
+        Verb::Command => bare(verb, words, Step::Command),
+        Verb::Deliver => bare(verb, words, Step::Deliver),
+        Verb::Take => bare(verb, words, Step::Take),
+        Verb::Return => callback(words),
+        Verb::Unplug => unplug(words),
+        Verb::Device | Verb::Script | Verb::Submit => Err(LineFault::Bad(Problem::Form(verb))),
+    }
+}
+
+/// Cuts a text into its words, where it is all ASCII: whether it is. They are kept where those of the text before stood, so
+/// that many lines share that memory.
+pub(crate) fn cut<'a>(text: &'a [u8], words: &mut Vec<&'a str>) -> Result<bool, AllocError>
+    ensures { IfOk result (λ cut. option_map words_in (ascii_of text.now) ≡ (if cut then Some (words_of words.new.items) else None)) }
+{
+    if !is_ascii(text) {
+        return Ok(false);
+    }
+    words.clear();
+    for word in text.split(|byte| *byte == b' ') {
+        // A part of what is all ASCII is a text; to ask `from_utf8` would be one more look at each byte.
+        words.push(unsafe { str::from_utf8_unchecked(word) })?;
+    }
+    Ok(true)
 }
 
 /// Whether bytes are all ASCII.
 fn is_ascii(bytes: &[u8]) -> bool
     ensures { result ≡ is_ascii bytes.now }
 {
-    bytes.iter().all(|byte| *byte < 128)
+    bytes.is_ascii()
 }
 
 /// The text of bytes that are all ASCII.

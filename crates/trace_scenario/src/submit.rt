@@ -2,22 +2,32 @@
 
 ghost use Rattle.std.specs.Prelude.{◌≡◌};
 ghost use Rattle.trace_scenario.specs.Line.{submit_of, transfer_of, submission, kind_of, body_of};
-ghost use Rattle.trace_scenario.specs.LineResults.{ReadsAs};
+ghost use Rattle.trace_scenario.specs.LineResults.{ReadsAs, ReadsSubmitted, submitted_line};
 ghost use Rattle.trace_scenario.specs.Words.{words_of};
 
 use crate::fault::LineFault;
-use crate::line::Line;
 use crate::number::{address, bytes, decimal_u32, handle};
 use crate::problem::Problem;
 use crate::verb::Verb;
 use crate::{Expected, Options, behind};
 use std::alloc::Global;
-use usb_model::{Body, EpAddr, Kind, Name, Request};
+use usb_model::{Body, EpAddr, Kind, Name, Request, Rule};
+
+/// What a line that submits a transfer says.
+#[derive(Drop)]
+pub(crate) struct Submitted {
+    /// Whose it is.
+    pub(crate) h: Name,
+    /// The transfer.
+    pub(crate) request: Request,
+    /// By which its callback answers.
+    pub(crate) rule: Rule,
+}
 
 /// A submission: a handle, an endpoint, and the transfer.
 #[tactic(auto, unfolding(crate::specs::Line::submit_of))]
-pub(crate) fn submit(alloc: Global, words: &[&str]) -> Result<Line, LineFault>
-    ensures { ReadsAs result (submit_of (words_of words.now)) }
+pub(crate) fn submit(alloc: Global, words: &[&str]) -> Result<Submitted, LineFault>
+    ensures { ReadsSubmitted result (submit_of (words_of words.now)) }
 {
     let [h, ep, words @ ..] = words else {
         return Err(LineFault::Bad(Problem::Form(Verb::Submit)));
@@ -28,8 +38,8 @@ pub(crate) fn submit(alloc: Global, words: &[&str]) -> Result<Line, LineFault>
 
 /// A transfer: its kind, its body, and the options.
 #[tactic(auto, using(crate::proofs::Shapes::transfer_short), unfolding(crate::specs::Line::transfer_of))]
-fn transfer(alloc: Global, h: Name, ep: EpAddr, words: &[&str]) -> Result<Line, LineFault>
-    ensures { ReadsAs result (transfer_of h ep (words_of words.now)) }
+fn transfer(alloc: Global, h: Name, ep: EpAddr, words: &[&str]) -> Result<Submitted, LineFault>
+    ensures { ReadsSubmitted result (transfer_of h ep (words_of words.now)) }
 {
     let [kind, body, options @ ..] = words else {
         return Err(LineFault::Bad(Problem::Form(Verb::Submit)));
@@ -41,8 +51,8 @@ fn transfer(alloc: Global, h: Name, ep: EpAddr, words: &[&str]) -> Result<Line, 
 }
 
 /// The submission of a transfer with these options.
-fn submission(h: Name, ep: EpAddr, kind: Kind, body: Body, options: Options) -> Line
-    ensures { result ≡ submission h ep kind body options }
+fn submission(h: Name, ep: EpAddr, kind: Kind, body: Body, options: Options) -> Submitted
+    ensures { submitted_line result ≡ submission h ep kind body options }
 {
     let request = Request {
         ep,
@@ -51,7 +61,7 @@ fn submission(h: Name, ep: EpAddr, kind: Kind, body: Body, options: Options) -> 
         timeout: options.timeout,
         body,
     };
-    Line::Submit {
+    Submitted {
         h,
         request,
         rule: options.rule,
