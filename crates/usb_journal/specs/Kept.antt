@@ -1,8 +1,11 @@
 -- A place as the journal keeps it, and the place that it stands for.
-use Rattle.std.specs.Prelude.{◌≤◌, ◌+◌, ℕ, List, [], ◌∷◌, drop, take}
+use Rattle.std.specs.Prelude.{◌≤◌, ◌<◌, ◌+◌, ℕ, List, [], ◌∷◌, None, Option, Some, drop, slice_get, take}
+use Rattle.usb_model.specs.declared.entry.Entry.{Entry}
 use Rattle.usb_model.specs.declared.reply.Reply.{Reply}
 use Rattle.usb_model.specs.declared.reply.Reply.TheVariants as reply
 use Rattle.usb_model.specs.declared.request.Body.TheVariants.{In, Out}
+use Rattle.usb_model.specs.declared.request.Kind.TheVariants.{Bulk, Interrupt}
+use Rattle.usb_model.specs.declared.status.Status.{Status}
 use Rattle.usb_model.specs.declared.step.Step.{Step}
 use Rattle.usb_model.specs.declared.step.Step.TheVariants as step
 use Rattle.usb_model.specs.declared.verdict.Verdict.TheVariants as verdict
@@ -12,6 +15,9 @@ use Rattle.usb_journal.specs.declared.kept.Replied.{Replied}
 use Rattle.usb_journal.specs.declared.kept.Replied.TheVariants as replied
 use Rattle.usb_journal.specs.declared.kept.Kept.{Kept}
 use Rattle.usb_journal.specs.declared.place.Place.{Place}
+use Rattle.usb_journal.specs.declared.short.Rest.{Rest}
+use Rattle.usb_journal.specs.declared.short.Short.{Short}
+use Rattle.usb_journal.specs.declared.short.Short.TheVariants as short
 
 -- the step, with these bytes
 abbrev pub step_of : Asked → List ℕ → Step
@@ -62,16 +68,69 @@ place_of bytes k = record {
   moment = k.moment;
 }
 
+-- what is read where nothing stands
+abbrev pub nothing : Place
+nothing = record { step = step.Command; caller = 0; entry = record { owner = None; reply = reply.Idle }; moment = 0 }
+
+-- the place that is found there, if there is one
+abbrev pub found : List ℕ → Option Kept → Place
+found bytes (Some k) = place_of bytes k
+found bytes None = nothing
+
+-- an entry of this name
+abbrev pub of_name : ℕ → Reply → Entry
+of_name h reply = record { owner = Some h; reply = reply }
+
+-- the place of a result with this rest and these bytes
+abbrev pub result_with : (h ep : ℕ) → Status → (caller moment n : ℕ) → Rest → List ℕ → Place
+result_with h ep status caller moment n r bytes = record { step = step.Take; caller = caller; entry = of_name h (reply.Called (record { h = h; n = n; ep = ep; round = r.round; status = status; actual = r.actual; bytes = bytes })); moment = moment }
+
+-- the place of a result whose rest is found, if there is one
+abbrev pub called : List ℕ → (h ep : ℕ) → Status → (caller moment n : ℕ) → Option Rest → Place
+called bytes h ep status caller moment n (Some r) = result_with h ep status caller moment n r (part bytes r.from r.count)
+called bytes h ep status caller moment n None = nothing
+
+-- the place that is kept so, with these rests and long ones, and its bytes among these
+abbrev pub place_in : List ℕ → List Rest → List Kept → Short → Place
+place_in bytes rests longs (short.Bulk h ep flags length timeout caller moment n) = record { step = step_of (asked.Read h ep Bulk flags length timeout) []; caller = caller; entry = of_name h (reply.Number n); moment = moment }
+place_in bytes rests longs (short.Interrupt h ep flags length timeout caller moment n) = record { step = step_of (asked.Read h ep Interrupt flags length timeout) []; caller = caller; entry = of_name h (reply.Number n); moment = moment }
+place_in bytes rests longs (short.Moved h dev ep count caller moment n) = record { step = step.Serve dev ep; caller = caller; entry = of_name h (reply.Moved n count); moment = moment }
+place_in bytes rests longs (short.Ended h dev ep code caller moment n) = record { step = step.Serve dev ep; caller = caller; entry = of_name h (reply.Ended n code); moment = moment }
+place_in bytes rests longs (short.Finished h caller moment n) = record { step = step.Deliver; caller = caller; entry = of_name h (reply.Finished n); moment = moment }
+place_in bytes rests longs (short.Stopped h caller moment n) = record { step = step.Answer h n verdict.Stop; caller = caller; entry = of_name h reply.Done; moment = moment }
+place_in bytes rests longs (short.Renewed h caller moment n number) = record { step = step.Answer h n verdict.Again; caller = caller; entry = of_name h (reply.Number number); moment = moment }
+place_in bytes rests longs (short.Called h ep status caller moment n at) = called bytes h ep status caller moment n (slice_get rests at)
+place_in bytes rests longs (short.Long at) = found bytes (slice_get longs at)
+
+-- one that stands elsewhere stands among the first so many there
+abbrev pub IsThere : (rests longs : ℕ) → Short → Type 0
+IsThere rests longs (short.Called h ep status caller moment n at) = at < rests
+IsThere rests longs (short.Long at) = at < longs
+IsThere rests longs s = Unit {0}
+
+-- and so do all
+abbrev pub AreThere : (rests longs : ℕ) → List Short → Type 0
+AreThere rests longs [] = Unit {0}
+AreThere rests longs (s ∷ ss) = IsThere rests longs s × AreThere rests longs ss
+
 -- the bytes of each stand among the first so many
+abbrev pub AreAmong : ℕ → List Rest → Type 0
+AreAmong n [] = Unit {0}
+AreAmong n (r ∷ rs) = (r.from + r.count ≤ n) × AreAmong n rs
+
+-- so do those of the long ones
 abbrev pub AreWithin : ℕ → List Kept → Type 0
 AreWithin n [] = Unit {0}
 AreWithin n (k ∷ ks) = (k.from + k.sent + k.given ≤ n) × AreWithin n ks
 
--- what contracts see of a journal: its places, the bytes of a step that is drafted, and how much room there is
+-- what contracts see of a journal: its places, the bytes of a step that is drafted, and how much room there is for places and for bytes
 pub record Journaled : Type 0 where
   pub places : List Place
   pub drafted : List ℕ
-  pub len : ℕ
-  pub capacity : ℕ
+  pub room : ℕ
   pub filled : ℕ
   pub bytes_capacity : ℕ
+
+-- whether there is room for so many more places, with so many bytes in all
+abbrev pub HasRoom : Journaled → (places bytes : ℕ) → Type 0
+HasRoom j places bytes = (places ≤ j.room) × (j.filled + bytes ≤ j.bytes_capacity)

@@ -1,4 +1,4 @@
-//! A place as the journal keeps it: small, with its bytes elsewhere.
+//! A place of any kind as the journal keeps it, with its bytes elsewhere.
 
 ghost use Rattle.std.specs.Prelude.{◌≡◌};
 ghost use Rattle.usb_model.specs.declared.step.Step.TheVariants.{Submit};

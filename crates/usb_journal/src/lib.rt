@@ -18,8 +18,8 @@
 //!   caller's position
 //! - `recorder.rt`, specs/Records: what is kept at run time: a draft of the step before it is made, and then its
 //!   entry
-//! - `journal.rt`, `kept.rt`, `reader.rt`, specs/Kept: the journal in memory; a place as it is kept; a place read
-//!   back
+//! - `journal.rt`, `short.rt`, `kept.rt`, `reader.rt`, specs/Kept: the journal in memory; a place that each transfer has,
+//!   in few bytes; any place as it is kept; a place read back
 //! - `naming.rt`, `closed.rt`: which library a value is of; a book that is closed, and what it leaves
 //! - proofs/KeptPlaces: what a kept place stands for stays, whatever bytes come behind its own
 //! - proofs/Runs, Replies, Answers: one step more of a journal; how many bytes a reply has; what a submission is
@@ -79,6 +79,7 @@ mod recorder;
 mod results;
 mod rounds;
 mod rows;
+mod short;
 mod submissions;
 mod ticks;
 mod timer;

@@ -177,7 +177,8 @@ impl<L: Naming, P, D: Device, J: Recorder> Book<L, P, D, J> {
     }
 }
 
-/// Asks for all that a submission takes of the journal, and for a place among the timers.
+/// Asks for all that a submission takes of the journal, and for a place among the timers. Inlined where the step is known.
+#[inline(always)]
 fn prepare<L: Naming, J: Recorder>(
     log: &mut Log<L, J>,
     timers: &mut Vec<Timer>,

@@ -158,7 +158,7 @@ impl<L: Naming, P: Drop, D: Device, J: Recorder> Library<L, P, D, J> {
         ensures entry { IfOk result (λ x. x.entry ≡ x.receipt.entry.entry) }
         ensures refused { OnErr result (caller.new ≡ misses caller.old) }
     {
-        let mut guarded = self.guarded.lock(rt);
+        let mut guarded = self.lock(rt);
         guarded.look.serve(dev, ep);
         let made = guarded.book.serve(dev, ep, &mut caller.position);
         drop(guarded);
@@ -193,7 +193,7 @@ impl<L: Naming, P: Drop, D: Device, J: Recorder> Library<L, P, D, J> {
         ensures entry { IfOk result (λ x. x.entry ≡ x.receipt.entry.entry) }
         ensures refused { OnErr result (caller.new ≡ misses caller.old) }
     {
-        let (answered, has_order) = delivered(&mut self.guarded.lock(rt).book, caller)?;
+        let (answered, has_order) = delivered(&mut self.lock(rt).book, caller)?;
         let changed = answered.has_changed();
         let work = of_event(&answered.entry.reply, has_order);
         self.wake_if(rt, caller, &answered.receipt, changed, work);

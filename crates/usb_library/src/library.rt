@@ -13,11 +13,16 @@ use crate::look::Look;
 use crate::met::Met;
 use crate::opening::Opening;
 use crate::wakes::{Watchers, Work};
+use crossbeam_utils::Backoff;
 use std::alloc::{AllocError, Global};
-use std::sync::{Mutex, Wait};
+use std::sync::{Mutex, MutexGuard, Wait};
 use usb_device::Device;
 use usb_journal::{Book, Naming, Receipt, Recorder};
 use usb_model::{Refused, Step};
+
+/// How often a call that found the lock taken looks whether it is free, before it sleeps: by pauses that double up to 64, for some five
+/// microseconds, and then by yields. Whoever holds it mostly lets go sooner, and to be woken from sleep takes longer.
+const LOOKS: u32 = 32;
 
 /// What the lock guards.
 #[derive(Drop)]
@@ -80,7 +85,7 @@ impl<L: Naming, P: Drop, D: Device, J: Recorder> Library<L, P, D, J> {
         ensures made { IfOk result (λ c. (c.own ≡ []) × (c.missed ≡ 0)) }
         ensures refused { IfErr result (λ why. why ≡ Busy) }
     {
-        let mut guarded = self.guarded.lock(rt);
+        let mut guarded = self.lock(rt);
         let Some(share) = guarded.callers.one_more() else {
             return Err(Refused::Busy);
         };
@@ -91,6 +96,28 @@ impl<L: Naming, P: Drop, D: Device, J: Recorder> Library<L, P, D, J> {
             position,
             missed: 0,
         })
+    }
+
+    /// Takes the lock. Inlined, so that a lock that is free is taken without a call.
+    #[inline(always)]
+    pub(crate) fn lock<R: Wait>(&self, rt: &R) -> MutexGuard<'_, Guarded<L, P, D, J>> {
+        if let Some(guard) = self.guarded.try_lock() {
+            return guard;
+        }
+        self.lock_later(rt)
+    }
+
+    /// The same where it was found taken: it is looked for a while before the thread sleeps.
+    #[inline(never)]
+    fn lock_later<R: Wait>(&self, rt: &R) -> MutexGuard<'_, Guarded<L, P, D, J>> {
+        let backoff = Backoff::new();
+        for _ in 0..LOOKS {
+            backoff.snooze();
+            if let Some(guard) = self.guarded.try_lock() {
+                return guard;
+            }
+        }
+        self.guarded.lock(rt)
     }
 
     /// Makes a step that submits nothing and takes nothing out. An error where memory is refused: then nothing changed.
@@ -105,11 +132,7 @@ impl<L: Naming, P: Drop, D: Device, J: Recorder> Library<L, P, D, J> {
         ensures entry { IfOk result (λ x. x.entry ≡ x.receipt.entry.entry) }
         ensures refused { OnErr result (caller.new ≡ misses caller.old) }
     {
-        let recorded = self
-            .guarded
-            .lock(rt)
-            .book
-            .record(step, &mut caller.position, None);
+        let recorded = self.lock(rt).book.record(step, &mut caller.position, None);
         let Ok((receipt, stepped)) = caller.counted(recorded) else {
             return Err(AllocError);
         };
@@ -124,6 +147,7 @@ impl<L: Naming, P: Drop, D: Device, J: Recorder> Library<L, P, D, J> {
 
     /// Where something changed those are woken who wait for that. `work` names each worker that has work since the caller's
     /// step at this receipt's place and had none before; where nothing changed there is none.
+    #[inline(always)]
     pub(crate) fn wake_if<R: Wait>(
         &self,
         rt: &R,

@@ -39,7 +39,7 @@ impl<L: Naming, P: Drop, D: Device, J: Recorder> Library<L, P, D, J> {
         ensures ends { IfOk result (λ row. row.count < most → MayStopBehind L.setup (world_where L.setup caller.new.seen) dev ep (row_entries row caller.new)) }
         ensures refused { OnErr result (caller.new ≡ misses caller.old) }
     {
-        let mut guarded = self.guarded.lock(rt);
+        let mut guarded = self.lock(rt);
         guarded.look.serve(dev, ep);
         let made = guarded.book.serve_all(dev, ep, most, &mut caller.position);
         drop(guarded);
@@ -66,11 +66,7 @@ impl<L: Naming, P: Drop, D: Device, J: Recorder> Library<L, P, D, J> {
         ensures ends { IfOk result (λ row. row.count < most → does_something L.setup (world_where L.setup caller.new.seen) Deliver ≡ false) }
         ensures refused { OnErr result (caller.new ≡ misses caller.old) }
     {
-        let made = self
-            .guarded
-            .lock(rt)
-            .book
-            .deliver_all(most, &mut caller.position);
+        let made = self.lock(rt).book.deliver_all(most, &mut caller.position);
         let delivered = caller.counted(made)?;
         let work = if delivered.quiet {
             Work::None
@@ -101,7 +97,6 @@ impl<L: Naming, P: Drop, D: Device, J: Recorder> Library<L, P, D, J> {
         ensures refused { OnErr result ((caller.new ≡ misses caller.old) × (taken.new.items ≡ [])) }
     {
         let made = self
-            .guarded
             .lock(rt)
             .book
             .take_all(most, taken, &mut caller.position);

@@ -37,7 +37,6 @@ impl<L: Naming, P: Drop, D: Device, J: Recorder> Library<L, P, D, J> {
         ensures refused { IfErr result (λ x. (x.given ≡ request) × (x.payload ≡ callback) × (caller.new ≡ misses caller.old)) }
     {
         let made = self
-            .guarded
             .lock(rt)
             .book
             .submit(h, request, callback, &mut caller.position);
@@ -59,7 +58,7 @@ impl<L: Naming, P: Drop, D: Device, J: Recorder> Library<L, P, D, J> {
         ensures entry { IfOk result (λ x. x.0.entry.entry ≡ called_entry (option_map (λ t. t.returned) x.1)) }
         ensures refused { OnErr result (caller.new ≡ misses caller.old) }
     {
-        let made = self.guarded.lock(rt).book.take(&mut caller.position);
+        let made = self.lock(rt).book.take(&mut caller.position);
         let (receipt, taken) = caller.counted(made)?;
         self.wake_if(rt, caller, &receipt, taken.is_some(), Work::None);
         Ok((receipt, taken))
@@ -78,7 +77,7 @@ impl<L: Naming, P: Drop, D: Device, J: Recorder> Library<L, P, D, J> {
         ensures entry { IfOk result (λ x. x.entry ≡ x.receipt.entry.entry) }
         ensures refused { OnErr result (caller.new ≡ misses caller.old) }
     {
-        let made = self.guarded.lock(rt).book.stop(h, n, &mut caller.position);
+        let made = self.lock(rt).book.stop(h, n, &mut caller.position);
         let (receipt, entry) = caller.counted(made)?;
         let answered = Answered { receipt, entry };
         let changed = answered.has_changed();
@@ -103,7 +102,6 @@ impl<L: Naming, P: Drop, D: Device, J: Recorder> Library<L, P, D, J> {
         ensures refused { IfErr result (λ x. (x.payload ≡ callback) × (caller.new ≡ misses caller.old)) }
     {
         let made = self
-            .guarded
             .lock(rt)
             .book
             .again(h, n, callback, &mut caller.position);
@@ -129,7 +127,6 @@ impl<L: Naming, P: Drop, D: Device, J: Recorder> Library<L, P, D, J> {
         ensures refused { IfErr result (λ x. (x.given ≡ bytes) × (x.payload ≡ callback) × (caller.new ≡ misses caller.old)) }
     {
         let made = self
-            .guarded
             .lock(rt)
             .book
             .again_with(h, n, bytes, callback, &mut caller.position);
@@ -151,7 +148,7 @@ impl<L: Naming, P: Drop, D: Device, J: Recorder> Library<L, P, D, J> {
         ensures ticked { IfOk result (λ given. Ticks L.setup now caller.old given.items caller.new) }
         ensures refused { OnErr result (caller.new ≡ misses caller.old) }
     {
-        let made = self.guarded.lock(rt).book.tick(&mut caller.position, now);
+        let made = self.lock(rt).book.tick(&mut caller.position, now);
         let receipts = caller.counted(made)?;
         if let Some(first) = receipts.first() {
             self.wake_if(rt, caller, first, true, Work::Any);

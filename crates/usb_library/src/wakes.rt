@@ -112,6 +112,8 @@ impl Waiting {
 /// asked to stop, each change wakes all.
 #[derive(Drop)]
 pub(crate) struct Watchers {
+    /// Whether anybody waits, for whatever it may be.
+    any: AtomicBool,
     stopping: AtomicBool,
     ending: AtomicBool,
     all: Waiting,
@@ -123,6 +125,7 @@ impl Watchers {
     /// Nobody waits, and no worker is asked to stop.
     pub(crate) fn new(alloc: Global) -> Watchers {
         Watchers {
+            any: AtomicBool::new(false),
             stopping: AtomicBool::new(false),
             ending: AtomicBool::new(false),
             all: Waiting::new(alloc),
@@ -139,9 +142,29 @@ impl Watchers {
         }
     }
 
-    /// Those are woken who wait for what a step did.
+    /// One more, of these.
+    fn add<R: Wait>(
+        &self,
+        rt: &R,
+        waiting: &Waiting,
+        unparker: Unparker,
+    ) -> Result<(), AllocError> {
+        waiting.add(rt, unparker)?;
+        self.any.store(true, Ordering::SeqCst);
+        Ok(())
+    }
+
+    /// Those are woken who wait for what a step did. Where nobody waits for anything, that is all that is asked.
     #[inline(always)]
     pub(crate) fn wake<R: Wait>(&self, rt: &R, work: Work) {
+        if self.any.load(Ordering::SeqCst) {
+            self.wake_any(rt, work);
+        }
+    }
+
+    /// The same, where somebody waits.
+    #[inline(never)]
+    fn wake_any<R: Wait>(&self, rt: &R, work: Work) {
         self.all.wake(rt);
         if self.stopping.load(Ordering::SeqCst) {
             self.wake_workers(rt);
@@ -187,7 +210,7 @@ impl<L: Naming, P: Drop, D: Device, J: Recorder> Library<L, P, D, J> {
     pub fn pending<R: Wait>(&self, rt: &R) -> Pending
         ensures { WasPending L.setup result }
     {
-        let mut guarded = self.guarded.lock(rt);
+        let mut guarded = self.lock(rt);
         let pending = guarded.book.pending(guarded.look.after());
         guarded.look.keep(&pending);
         pending
@@ -197,7 +220,7 @@ impl<L: Naming, P: Drop, D: Device, J: Recorder> Library<L, P, D, J> {
     /// thread that looks, finds nothing to do, and parks then misses no change: what comes between is a token that lets
     /// it pass. An error where memory is refused.
     pub fn watch<R: Wait>(&self, rt: &R, unparker: Unparker) -> Result<(), AllocError> {
-        self.watchers.all.add(rt, unparker)
+        self.watchers.add(rt, &self.watchers.all, unparker)
     }
 
     /// The same for a worker, who is unparked only after a call that may have made work of its part, and after each
@@ -208,7 +231,7 @@ impl<L: Naming, P: Drop, D: Device, J: Recorder> Library<L, P, D, J> {
         part: Part,
         unparker: Unparker,
     ) -> Result<(), AllocError> {
-        self.watchers.of(part).add(rt, unparker)
+        self.watchers.add(rt, self.watchers.of(part), unparker)
     }
 
     /// How often the workers of a part were woken: where it isn't what it was, they have a token. No lock is taken.
@@ -239,7 +262,7 @@ impl<L: Naming, P: Drop, D: Device, J: Recorder> Library<L, P, D, J> {
         ensures pending { ShowsPending L.setup caller.new.seen result }
         ensures looks { LooksOn caller.old caller.new }
     {
-        let mut guarded = self.guarded.lock(rt);
+        let mut guarded = self.lock(rt);
         let after = guarded.look.after();
         let pending = guarded.book.look(&mut caller.position, after);
         guarded.look.keep(&pending);
@@ -266,10 +289,7 @@ impl<L: Naming, P: Drop, D: Device, J: Recorder> Library<L, P, D, J> {
         ensures events { ShowsEvents L.setup caller.new.seen result }
         ensures looks { LooksOn caller.old caller.new }
     {
-        self.guarded
-            .lock(rt)
-            .book
-            .look_for_events(&mut caller.position)
+        self.lock(rt).book.look_for_events(&mut caller.position)
     }
 
     /// The same. None where the workers were asked to stop and there is nothing to do at all, or where one of them gave up and there is no

@@ -81,10 +81,6 @@ module _ {E : Type 0} where
   said_by [] = None
   said_by (x ∷ xs) = x.1.value
 
-  -- what the keeper is after it took what its slot says
-  abbrev pub Appended : Step (Slot E) → Me (Slot E) (Known E) → ℕ → Me (Slot E) (Known E) → Type 0
-  Appended s before found after = after ≡ (appended_if before.0 (said_by before.1), before.1)
-
   -- a token holds the one slot
   abbrev pub HasSlot : List (ℕ × Slot E) → Type 0
   HasSlot held = (x : Slot E) × (held ≡ (0, x) ∷ [])
@@ -146,3 +142,7 @@ module _ {E : Type 0} (of : E → ℕ) where
   -- a look, which leaves the positions at the end
   abbrev pub Seen : Step (Slot E) → Me (Slot E) (Known E) → ℕ → Me (Slot E) (Known E) → Type 0
   Seen s before found after = (after ≡ (settled before.0, before.1)) × Checked before.0
+
+  -- the same, and then the keeper takes what its slot says
+  abbrev pub Appended : Step (Slot E) → Me (Slot E) (Known E) → ℕ → Me (Slot E) (Known E) → Type 0
+  Appended s before found after = (after ≡ (appended_if before.0 (said_by before.1), before.1)) × Checked before.0

@@ -72,7 +72,6 @@ impl<E: Borne> Log<E> {
         let nothing = seats::cut_claims(&self.word, &mut keeper.token);
         let before = mem::replace(&mut position.token, nothing);
         seats::take_in(&self.word, &mut keeper.token, before);
-        seats::check(&self.word, &mut keeper.token);
         seats::append(&self.word, &mut keeper.token, entry);
         let token = seats::cut_claims(&self.word, &mut keeper.token);
         position.token = seats::cut_positions(&self.word, &mut keeper.token);

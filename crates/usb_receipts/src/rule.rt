@@ -43,13 +43,14 @@ impl<E> Play<Slot<E>, Known<E>> for TakesSlot {
     ghost then = { Slotted };
 }
 
-/// The entry that the slot says is put behind the list, with a claim to its place; the positions stand behind it.
+/// What is known is compared with the list; then the entry that the slot says is put behind it, with a claim to its place, and the
+/// positions stand behind that.
 pub struct Appends;
 
-impl<E> Play<Slot<E>, Known<E>> for Appends {
+impl<E: Borne> Play<Slot<E>, Known<E>> for Appends {
     ghost use Rattle.usb_receipts.specs.Rule.{Appended};
 
-    ghost then = { Appended };
+    ghost then = { Appended E.bearer };
 }
 
 /// What is known is compared with the list, and the positions stand at its end.

@@ -26,13 +26,15 @@ pub fn open<E: Borne + Drop>(alloc: Global) -> Result<(Word<E>, Token<E>), Alloc
     Ok((word, token))
 }
 
-/// The entry stands at the end, and the keeper, who has its bearer's position alone, has a claim to its place.
+/// The keeper, who has the position of the entry's bearer alone, compares what it has with the list, as by `check`, in the same step in which
+/// the entry is put behind it; then it has a claim to the entry's place.
 pub fn append<E: Borne + Drop>(word: &Word<E>, token: &mut Token<E>, entry: E)
     requires one { word.now.shared.table_id.words ≡ 1 }
     requires log { (token.old.table_id ≡ word.now.shared.table_id) × HasSlot token.old.me.1 }
     requires keeper { token.old.me.0.keeps ≡ true }
     requires position { (seen : List E) × (token.old.me.0.positions ≡ (E.bearer entry, seen) ∷ []) }
-    ensures { (token.new.table_id ≡ token.old.table_id) × (token.new.me.0 ≡ appended token.old.me.0 entry) × HasSlot token.new.me.1 }
+    ensures appended { (token.new.table_id ≡ token.old.table_id) × (token.new.me.0 ≡ appended token.old.me.0 entry) × HasSlot token.new.me.1 }
+    ensures checked { Checked E.bearer token.old.me.0 }
 {
     let entry = Some(entry);
     let _before = word.shared.exchange(token, 0, Image::of(&entry));

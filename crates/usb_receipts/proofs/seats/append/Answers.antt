@@ -1,7 +1,7 @@
 use Rattle.std.proofs.Common.{rules, ◌≡◌, ap, sym, ◌∙◌, Some, true}
 use Rattle.atomic_table.specs.Table.{keeps}
 use Rattle.usb_receipts.specs.Rule.{appended, appended_if, said_by}
-use Rattle.usb_receipts.proofs.Moves.{appends}
+use Rattle.usb_receipts.proofs.Moves.{appends, checks}
 use Rattle.usb_receipts.proofs.seats.append.Goals as goal
 
 pub load-found-requires : goal.load-found-requires
@@ -13,5 +13,5 @@ load-found-requires g c =
     let there = ap (λ m. m.0.positions) e.3 ∙ c.requires.position.1 in (
       e.0 ∙ c.requires.log.0,
       search rules,
-      λ s h n at lt. (appended M.0 c.args.entry, keeps, tt, appends _ s.homes s.views _ _ _ c.requires.position.0 whole there h at, ap (λ o. (appended_if M.0 o, M.1)) (sym said)),
+      λ s h n at lt. (appended M.0 c.args.entry, keeps, tt, appends _ s.homes s.views _ _ _ c.requires.position.0 whole there h at, (ap (λ o. (appended_if M.0 o, M.1)) (sym said), checks _ s.homes s.views _ _ whole h at)),
     )

@@ -1,10 +1,16 @@
 use Rattle.std.proofs.Common.{◌≤◌, arith, length, subst, sym}
-use Rattle.usb_journal.specs.Kept.{AreWithin}
-use Rattle.usb_journal.proofs.KeptPlaces.{within_item}
+use Rattle.usb_journal.specs.Kept.{AreAmong, AreWithin}
+use Rattle.usb_journal.proofs.KeptPlaces.{among_more, within_more}
 use Rattle.usb_journal.proofs.journal.Journal.places.Goals as goal
 
-pub place_of-requires : goal.place_of-requires
-place_of-requires c =
-    let used = c.self.inside.used in
-    let le : used ≤ length c.as_slice.result.now = omega (arith, c.self.invariant.0, c.as_slice.ensures.len) in
-    within_item used (length c.as_slice.result.now) c.deref-kept-items.result.now c.loop-kept.kept-index c.kept-item.result le (subst (AreWithin used) (sym c.deref-kept-items.ensures.value) c.self.invariant.1) c.loop-kept-test.true c.kept-item.is
+pub place_in-requires-clause-rests : goal.place_in-requires-clause-rests
+place_in-requires-clause-rests c =
+    let all = length c.as_slice-in-loop-short-2.result.now in
+    let le : c.self.inside.used ≤ all = omega (arith, c.self.invariant.0, c.as_slice-in-loop-short-2.ensures.len) in
+    subst (AreAmong all) (sym c.as_slice.ensures.value) (among_more c.self.inside.used all c.self.inside.rests.items le c.self.invariant.1)
+
+pub place_in-requires-clause-longs : goal.place_in-requires-clause-longs
+place_in-requires-clause-longs c =
+    let all = length c.as_slice-in-loop-short-2.result.now in
+    let le : c.self.inside.used ≤ all = omega (arith, c.self.invariant.0, c.as_slice-in-loop-short-2.ensures.len) in
+    subst (AreWithin all) (sym c.as_slice-in-loop-short.ensures.value) (within_more c.self.inside.used all c.self.inside.longs.items le c.self.invariant.2)

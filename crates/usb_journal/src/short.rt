@@ -1,0 +1,214 @@
+//! A place that transfers make again and again, in few bytes.
+
+ghost use Rattle.std.specs.Prelude.{◌≡◌, ℕ, List, IfSome, Some};
+ghost use Rattle.usb_journal.specs.declared.kept.Kept.{Kept};
+ghost use Rattle.usb_journal.specs.declared.short.Rest.{Rest};
+ghost use Rattle.usb_journal.specs.Kept.{IsThere, place_in, step_of};
+
+use crate::kept::Asked;
+use usb_model::{DeviceNo, Entry, EpAddr, Flags, Kind, Name, Reply, Status};
+
+/// A place in 32 bytes: whole where it is one that each transfer has and no bytes go or come, else by where it stands among the long
+/// ones. What takes one byte stands first, and what takes eight last, so that no kind is wider.
+#[derive(Clone, Copy)]
+pub(crate) enum Short {
+    /// A read from a bulk endpoint was accepted.
+    Bulk {
+        h: Name,
+        ep: EpAddr,
+        flags: Flags,
+        length: u32,
+        timeout: u32,
+        caller: u32,
+        moment: u64,
+        n: u64,
+    },
+    /// A read from an interrupt endpoint was accepted.
+    Interrupt {
+        h: Name,
+        ep: EpAddr,
+        flags: Flags,
+        length: u32,
+        timeout: u32,
+        caller: u32,
+        moment: u64,
+        n: u64,
+    },
+    /// A packet moved.
+    Moved {
+        h: Name,
+        dev: DeviceNo,
+        ep: EpAddr,
+        count: u32,
+        caller: u32,
+        moment: u64,
+        n: u64,
+    },
+    /// A packet ended its transfer.
+    Ended {
+        h: Name,
+        dev: DeviceNo,
+        ep: EpAddr,
+        code: u8,
+        caller: u32,
+        moment: u64,
+        n: u64,
+    },
+    /// The event of a transfer that ended was handled.
+    Finished {
+        h: Name,
+        caller: u32,
+        moment: u64,
+        n: u64,
+    },
+    /// A callback ended.
+    Stopped {
+        h: Name,
+        caller: u32,
+        moment: u64,
+        n: u64,
+    },
+    /// A callback ended, and its transfer was submitted once more.
+    Renewed {
+        h: Name,
+        caller: u32,
+        moment: u64,
+        n: u64,
+        number: u64,
+    },
+    /// A result went out to its callback. The rest of it stands there among the rests.
+    Called {
+        h: Name,
+        ep: EpAddr,
+        status: Status,
+        caller: u32,
+        moment: u64,
+        n: u64,
+        at: usize,
+    },
+    /// Whatever else: it stands there among the long ones.
+    Long(usize),
+}
+
+/// What a result has that its short place has no room for.
+#[derive(Clone, Copy)]
+pub(crate) struct Rest {
+    pub(crate) round: u64,
+    /// Where its bytes begin in the journal's buffer.
+    pub(crate) from: usize,
+    /// How many they are.
+    pub(crate) count: u32,
+    /// How many moved.
+    pub(crate) actual: u32,
+}
+
+impl Short {
+    /// The place of a step with this entry, if it is one that is kept whole. Inlined where the step is known, so that nothing is left of
+    /// the match.
+    #[inline(always)]
+    pub(crate) fn of(asked: &Asked, caller: u32, entry: &Entry, moment: u64) -> Option<Short>
+        ensures here { IfSome result (λ s. (rests longs : ℕ) → IsThere rests longs s) }
+        ensures place { IfSome result (λ s. (bytes sent : List ℕ) (rests : List Rest) (longs : List Kept) → place_in bytes rests longs s ≡ record { step = step_of asked.now sent; caller = caller; entry = entry.now; moment = moment }) }
+    {
+        let h = entry.owner?;
+        match asked {
+            Asked::Read { .. } => Short::read(asked, h, caller, entry, moment),
+            Asked::Serve { dev, ep } => match &entry.reply {
+                Reply::Moved { n, bytes } => Some(Short::Moved {
+                    h,
+                    dev: *dev,
+                    ep: *ep,
+                    count: *bytes,
+                    caller,
+                    moment,
+                    n: *n,
+                }),
+                Reply::Ended { n, code } => Some(Short::Ended {
+                    h,
+                    dev: *dev,
+                    ep: *ep,
+                    code: *code,
+                    caller,
+                    moment,
+                    n: *n,
+                }),
+                _ => None,
+            },
+            Asked::Deliver => match &entry.reply {
+                Reply::Finished { n } => Some(Short::Finished {
+                    h,
+                    caller,
+                    moment,
+                    n: *n,
+                }),
+                _ => None,
+            },
+            Asked::Stop { h: of, n } => match &entry.reply {
+                Reply::Done if *of == h => Some(Short::Stopped {
+                    h,
+                    caller,
+                    moment,
+                    n: *n,
+                }),
+                _ => None,
+            },
+            Asked::Again { h: of, n } => match &entry.reply {
+                Reply::Number(number) if *of == h => Some(Short::Renewed {
+                    h,
+                    caller,
+                    moment,
+                    n: *n,
+                    number: *number,
+                }),
+                _ => None,
+            },
+            _ => None,
+        }
+    }
+
+    /// The place of a read that was accepted, if its endpoint's kind is one of these.
+    #[inline(always)]
+    fn read(asked: &Asked, owner: Name, caller: u32, entry: &Entry, moment: u64) -> Option<Short>
+        requires { entry.now.owner ≡ Some owner }
+        ensures here { IfSome result (λ s. (rests longs : ℕ) → IsThere rests longs s) }
+        ensures place { IfSome result (λ s. (bytes sent : List ℕ) (rests : List Rest) (longs : List Kept) → place_in bytes rests longs s ≡ record { step = step_of asked.now sent; caller = caller; entry = entry.now; moment = moment }) }
+    {
+        let Asked::Read {
+            h,
+            ep,
+            kind,
+            flags,
+            length,
+            timeout,
+        } = *asked
+        else {
+            return None;
+        };
+        match &entry.reply {
+            Reply::Number(n) if owner == h => match kind {
+                Kind::Bulk => Some(Short::Bulk {
+                    h,
+                    ep,
+                    flags,
+                    length,
+                    timeout,
+                    caller,
+                    moment,
+                    n: *n,
+                }),
+                Kind::Interrupt => Some(Short::Interrupt {
+                    h,
+                    ep,
+                    flags,
+                    length,
+                    timeout,
+                    caller,
+                    moment,
+                    n: *n,
+                }),
+                _ => None,
+            },
+            _ => None,
+        }
+    }
+}
