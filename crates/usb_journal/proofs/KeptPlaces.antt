@@ -2,7 +2,6 @@
 use Rattle.std.proofs.Common.{◌≡◌, ◌∙◌, ◌+◌, ◌<◌, ◌≤◌, ◌++◌, ℕ, List, [], ◌∷◌, None, Some, ap, arith, drop, get_or, length, length-drop, map, option_map, refl, slice_get, subst, suc, sym, take, zero}
 use Rattle.std.proofs.lemmas.Option.{slice_get-get_or, slice_get-map, slice_get_past}
 use Rattle.std.proofs.lemmas.List.{drop-append-le, drop-take, drop_at, length-map, length-take-le, map-append, take-append-le, take-take, take_all, take_at}
-use Rattle.core.proofs.iter.runs.Lists.{nth_left, nth_seam}
 use Rattle.std.specs.Prelude.{IfSome}
 use Rattle.usb_model.specs.declared.status.Status.{Status}
 use Rattle.usb_journal.specs.declared.kept.Kept.{Kept}
@@ -63,8 +62,18 @@ places_same n xs ys rs ks (s ∷ ss) among within same =
 abbrev Begin : {A : Type 0} → (longer xs : List A) → Type 0
 Begin longer xs = (i : ℕ) → i < length xs → slice_get longer i ≡ slice_get xs i
 
+front : {A : Type 0} (xs ys : List A) (i : ℕ) → i < length xs → slice_get (xs ++ ys) i ≡ slice_get xs i
+front [] ys i lt = absurd (omega (arith, lt))
+front (x ∷ xs) ys zero lt = refl
+front (x ∷ xs) ys (suc i) lt = front xs ys i (omega (arith, lt))
+
+-- what is pushed stands behind them
+seam : {A : Type 0} (xs : List A) (x : A) → slice_get (xs ++ x ∷ []) (length xs) ≡ Some x
+seam [] x = refl
+seam (y ∷ ys) x = seam ys x
+
 begin_push : {A : Type 0} (xs : List A) (x : A) → Begin (xs ++ x ∷ []) xs
-begin_push xs x = λ i lt. nth_left xs (x ∷ []) i lt
+begin_push xs x = λ i lt. front xs (x ∷ []) i lt
 
 begin_same : {A : Type 0} (xs : List A) → Begin xs xs
 begin_same xs = λ i lt. refl
@@ -172,7 +181,7 @@ pub long_kept : (bytes given : List ℕ) (used : ℕ) (rs : List Rest) (ks : Lis
 long_kept bytes given used rs ks ss k le among within there from sent count =
     short_kept (bytes ++ given) rs (ks ++ k ∷ []) ss (short.Long (length ks)) (map (place_in bytes rs ks) ss) (whole k (drop used bytes) given)
     (before_it bytes given used rs rs (ks ++ k ∷ []) ks ss le among within there (begin_same rs) (begin_push ks k))
-    (ap (found (bytes ++ given)) (nth_seam ks k) ∙ last_place bytes given used k le from sent count)
+    (ap (found (bytes ++ given)) (seam ks k) ∙ last_place bytes given used k le from sent count)
 
 -- one result more, with its bytes
 pub result_kept : (bytes given : List ℕ) (used : ℕ) (rs : List Rest) (ks : List Kept) (ss : List Short) (h ep : ℕ) (status : Status) (caller moment m : ℕ) (r : Rest) → used ≤ length bytes → AreAmong used rs → AreWithin used ks
@@ -181,7 +190,7 @@ pub result_kept : (bytes given : List ℕ) (used : ℕ) (rs : List Rest) (ks : L
 result_kept bytes given used rs ks ss h ep status caller moment m r le among within there from count =
     short_kept (bytes ++ given) (rs ++ r ∷ []) ks ss (short.Called h ep status caller moment m (length rs)) (map (place_in bytes rs ks) ss) (result_with h ep status caller moment m r given)
     (before_it bytes given used (rs ++ r ∷ []) rs ks ks ss le among within there (begin_push rs r) (begin_same ks))
-    (ap (called (bytes ++ given) h ep status caller moment m) (nth_seam rs r) ∙ ap (result_with h ep status caller moment m r) its)
+    (ap (called (bytes ++ given) h ep status caller moment m) (seam rs r) ∙ ap (result_with h ep status caller moment m r) its)
   where
     its : part (bytes ++ given) r.from r.count ≡ given
     its = ap (take r.count) (drop_at bytes given r.from (sym from)) ∙ take_all r.count given (omega (arith, count))
