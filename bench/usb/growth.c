@@ -4,11 +4,9 @@
  *
  * Each is resubmitted in the callback; where the device gave all its packets, it begins anew, and that is measured with them. */
 #include "device.h"
+#include "measure.h"
 
 #include <malloc.h>
-#include <stdbool.h>
-#include <stdio.h>
-#include <stdlib.h>
 
 #define LENGTH 8
 #define MILLION 1000000
@@ -20,19 +18,9 @@ static struct libusb_transfer *transfer;
 static int left;
 static bool is_flying;
 
-static double now(void)
-{
-    struct timespec at;
-    clock_gettime(CLOCK_MONOTONIC, &at);
-    return (double)at.tv_sec * 1e9 + (double)at.tv_nsec;
-}
-
 static void must(bool is_so, const char *what)
 {
-    if (is_so)
-        return;
-    fprintf(stderr, "growth: %s\n", what);
-    exit(1);
+    must_of("growth", is_so, what);
 }
 
 static void submit(void)

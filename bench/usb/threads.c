@@ -5,13 +5,11 @@
  *
  * In a round the device gives all its packets. It begins anew between rounds, and that isn't measured; nor is a round before them. */
 #include "device.h"
+#include "measure.h"
 
 #include <pthread.h>
 #include <sched.h>
 #include <stdatomic.h>
-#include <stdbool.h>
-#include <stdio.h>
-#include <stdlib.h>
 
 #define IN_LINE 16
 #define LENGTH 8
@@ -25,19 +23,9 @@ static unsigned char buffers[IN_LINE][LENGTH];
 static atomic_int called_back;
 static atomic_bool is_over;
 
-static double now(void)
-{
-    struct timespec at;
-    clock_gettime(CLOCK_MONOTONIC, &at);
-    return (double)at.tv_sec * 1e9 + (double)at.tv_nsec;
-}
-
 static void must(bool is_so, const char *what)
 {
-    if (is_so)
-        return;
-    fprintf(stderr, "16 in line, two threads: %s\n", what);
-    exit(1);
+    must_of("16 in line, two threads", is_so, what);
 }
 
 /* The transfers end in the order in which they were submitted, so the count says which one this is, and what it read. */

@@ -6,10 +6,7 @@
  * In a round the device gives all its packets. It begins anew between rounds, and that isn't measured; nor is a round before them, in
  * which each byte is looked at. */
 #include "device.h"
-
-#include <stdbool.h>
-#include <stdio.h>
-#include <stdlib.h>
+#include "measure.h"
 
 #define MOST_AT_ONCE 16
 
@@ -42,19 +39,9 @@ static struct {
     bool looks;
 } state;
 
-static double now(void)
-{
-    struct timespec at;
-    clock_gettime(CLOCK_MONOTONIC, &at);
-    return (double)at.tv_sec * 1e9 + (double)at.tv_nsec;
-}
-
 static void must(bool is_so, const char *what)
 {
-    if (is_so)
-        return;
-    fprintf(stderr, "%s: %s\n", state.work->name, what);
-    exit(1);
+    must_of(state.work->name, is_so, what);
 }
 
 static void submit(struct libusb_transfer *transfer)
