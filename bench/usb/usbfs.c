@@ -1,9 +1,9 @@
 /* A kernel faked in the process, under libusb's own library: the program's `ioctl` and `poll` stand before libc's, and answer for one
- * descriptor what Linux answers for a USB device (linux/usbdevice_fs.h). Each transfer is done as soon as it is submitted. Threads may
- * call it at once.
+ * descriptor what Linux answers for a USB device (linux/usbdevice_fs.h). Each transfer is done as soon as it is submitted.
  *
- * The word `faked` has `poll` say at once that the device is ready, without the system. `waits` has it wait by the system until a
- * transfer is done. Any other word leaves it to the system, by which the device is always ready. */
+ * The word `faked` has `poll` say at once that the device is ready, without the system. By `waits` two threads may call at once, and `poll`
+ * waits by the system until a transfer is done; by `spins` two may as well, and the device is always ready by the system, as it is by
+ * any other word. */
 #include "device.h"
 
 #include <errno.h>
@@ -30,10 +30,10 @@ static uint8_t descriptors[] = {
 #define PACKET_SIZE 40
 
 /* Its file, and one that can be read while a transfer is done, or -1; the bytes that it gives, and how many it gave; the transfers that
- * are done, in order. The lock guards all that a submission or a result changes. */
+ * are done, in order. With two threads the lock guards all that a submission or a result changes. */
 static int file = -1, bell = -1;
 static pthread_mutex_t lock = PTHREAD_MUTEX_INITIALIZER;
-static bool is_ready;
+static bool is_ready, is_shared;
 static uint8_t *bytes;
 static size_t byte_count, given;
 static struct usbdevfs_urb *line[LINE];
@@ -121,6 +121,8 @@ int ioctl(int descriptor, unsigned long request, ...)
     va_end(rest);
     if (descriptor != file)
         return (int)syscall(SYS_ioctl, descriptor, request, argument);
+    if (!is_shared)
+        return answer(request, argument);
     pthread_mutex_lock(&lock);
     int answered = answer(request, argument);
     pthread_mutex_unlock(&lock);
@@ -170,7 +172,9 @@ libusb_device_handle *attach(int packet, const char *word, libusb_context **cont
 {
     libusb_device_handle *handle = NULL;
     is_ready = word && !strcmp(word, "faked");
-    if (word && !strcmp(word, "waits") && bell < 0)
+    bool waits = word && !strcmp(word, "waits");
+    is_shared = waits || (word && !strcmp(word, "spins"));
+    if (waits && bell < 0)
         bell = eventfd(0, EFD_NONBLOCK);
     byte_count = PACKETS * (size_t)packet;
     bytes = realloc(bytes, byte_count);
