@@ -538,7 +538,8 @@ pub extern "C" fn tirnouch_left(
 
 /// A device answers a request on its default control endpoint (USB 2.0, 9.3), of which these are the 8 bytes of the setup packet.
 /// What is read stands in `buffer`, as far as there is room. `kind` is 4 where the device isn't ready, else 11, with `status` and
-/// `amount` as of a transfer.
+/// `amount` as of a transfer. `n` is 1 where a line `control` of the text answered, also that it isn't ready or by a stall; 0 where its
+/// descriptors did, or nothing is said of such a request, which stalls.
 #[unsafe(no_mangle)]
 pub extern "C" fn tirnouch_request(
     alloc: Global,
@@ -571,8 +572,9 @@ pub extern "C" fn tirnouch_needs(setup: &[u8; 8], told: &mut Told) -> i32
     0
 }
 
-/// A descriptor of a device by its type (USB 2.0, 9.4): 1 its device descriptor, 2 its configuration, 3 the string of an index. How
-/// long it is, and its bytes, as far as there is room; NotFound where there is none.
+/// A descriptor of a device by its type (USB 2.0, 9.4): 1 its device descriptor, 2 its configuration, 3 the string of an index, where
+/// index 0 has the languages of the others, if there are any. How long it is, and its bytes, as far as there is room; NotFound where
+/// there is none.
 #[unsafe(no_mangle)]
 pub extern "C" fn tirnouch_describe(
     alloc: Global,

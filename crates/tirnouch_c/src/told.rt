@@ -26,7 +26,7 @@ pub struct Told {
     pub status: u8,
     /// How many bytes, packets or steps.
     pub amount: u32,
-    /// The transfer's number, or a text's line.
+    /// The transfer's number, or a text's line; of a request 1 where a line of the text answered it.
     pub n: u64,
     /// What C keeps with the transfer.
     pub payload: u64,
@@ -166,6 +166,16 @@ impl Told {
         ensures { result ≡ of_kind 255 4 }
     {
         Told::of_kind(255, 4)
+    }
+
+    /// The same of an answer, and whether a line of the text gave it.
+    pub fn by_line(self, by_line: bool) -> Told
+        ensures { result ≡ record self { n = bit by_line } }
+    {
+        Told {
+            n: u64::from(by_line),
+            ..self
+        }
     }
 
     /// What a host has to hold for a request.
