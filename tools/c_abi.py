@@ -27,8 +27,10 @@ TOKEN = re.compile(r'"[^"]*"|\w+|\.\.\.|[^\w\s]')
 # A macro that is a number, as far as its text tells.
 NUMBER = re.compile(r"(?!.*__)[-+*<>|()\s\w]+")
 VERSIONS = ("LIBUSB_API_VERSION", "LIBUSBX_API_VERSION")
-# What our header has of a later version than its own, and that version: an older header may lack these.
-LATER = {"libusb_init_context", "libusb_init_option", "LIBUSB_OPTION_LOG_CB", "LIBUSB_OPTION_MAX"}
+# What came with version 1.0.27 or 1.0.28, and the number of their API: an older header may lack these.
+LATER = re.compile(r"libusb_init_(context|option)|LIBUSB_OPTION_(LOG_CB|MAX)|libusb_get_max_alt_packet_size|LIBUSB_SPEED_SUPER_PLUS_X2"
+                   r"|libusb\w*_(interface_association|platform|ssplus|superspeedplus)_\w*"
+                   r"|LIBUSB_\w*(INTERFACE_ASSOCIATION|PLATFORM_DESCRIPTOR|SSPLUS|SUPERSPEED_PLUS)\w*")
 LATER_VERSION = 0x0100010A
 # What a linker may add to the names of a library.
 LINKERS = {"_init", "_fini", "_edata", "_end", "__bss_start"}
@@ -252,9 +254,9 @@ def compare_headers(path):
         text = program(ours, others)
         left, right = (printed(pathlib.Path(folder), text, header) for header in (ours, others))
     differences = [f"{kind} {name}: {path} doesn't have it" for kind, name in sorted(ours.names() - others.names())
-                   if not (is_older and name.split(".")[0] in LATER)]
+                   if not (is_older and LATER.fullmatch(name.split(".")[0]))]
     for what in left:
-        if left[what] != right[what] and not (is_older and what in LATER):
+        if left[what] != right[what] and not (is_older and LATER.fullmatch(what)):
             is_type = what.startswith("type ")
             differences.append(f"{what}: not there" if is_type else f"{what}: {left[what]} here, {right[what]} there")
     further = [f"{kind} {name}: c/include/libusb.h doesn't have it" for kind, name in sorted(others.names() - ours.names())]

@@ -35,6 +35,8 @@ LEFT_OUT = {
     "races": "it releases, resets and closes in flight, which libusb leaves undefined",
     "seeds": "its seeds are Tirnouch's",
 }
+# Programs that call what an older libusb lacks: they are run where it has this function.
+SINCE = {"capabilities": "libusb_get_platform_descriptor"}
 # Calls that libusb's manual forbids, so that anything may come of them.
 NOT_RUN = {"exit": {"exit_amid_events(1);", "exit_amid_events(THREADS);", "open_at_exit();"}}
 
@@ -46,6 +48,11 @@ def find_library(root):
         if file.exists() and b"tirnouch_plug" not in file.read_bytes():
             return file.resolve()
     return None
+
+
+def has_functions(library, name):
+    """Whether a program's functions are all there."""
+    return name not in SINCE or SINCE[name].encode() in library.read_bytes()
 
 
 def header_folders(root):
@@ -222,6 +229,8 @@ def main():
         print("libusb isn't there, so nothing is compared with it: --root DIR names a folder with Debian's libusb-1.0-0")
         return 1 if faults else 0
     names = words.names or sorted(it.stem for it in TESTS.glob("*.expected") if it.stem not in LEFT_OUT)
+    print("".join(f"{it}: isn't run, since this libusb lacks {SINCE[it]}\n" for it in names if not has_functions(library, it)), end="")
+    names = [it for it in names if has_functions(library, it)]
     with tempfile.TemporaryDirectory(prefix="c-compare-") as folder:
         differing = run_programs(library, words.root, names, pathlib.Path(folder))
     if words.show:

@@ -5,7 +5,8 @@ Each program of c/tests/usb that has an .expected file is built and run: by gcc 
 address, undefined and thread sanitizers. Without a seed its lines are those of the file. With TIRNOUCH_SEED, where devices and controller
 go ahead by dice, it must end well. Each run is traced, and bin/usbtrace, where it is built, makes the same steps once more: every refusal,
 number and callback is compared, bytes too (tools/replay.py). Those without a seed are made without a trace too, since packets then go a
-quicker way: the lines must be the same. Then the example of docs/C.md is run as that page says. `--quick` is gcc alone, with one seed."""
+quicker way: the lines must be the same. Then the example of docs/C.md is run as that page says, and tools/tirnouch-run is tried
+(tools/tirnouch_run_test.py). `--quick` is gcc alone, with one seed."""
 import os
 import pathlib
 import shutil
@@ -109,6 +110,12 @@ def example():
     return None
 
 
+def watched():
+    """tools/tirnouch-run on programs that hang, crash, or fail with some seeds."""
+    ran = subprocess.run([ROOT / "tools" / "tirnouch_run_test.py"], capture_output=True, text=True)
+    return f"tools/tirnouch_run_test.py: status {ran.returncode}\n{ran.stdout}{ran.stderr}" if ran.returncode else None
+
+
 def main(words):
     quick = "--quick" in words
     names = [it for it in words if it != "--quick"] or sorted(it.stem for it in TESTS.glob("*.expected"))
@@ -121,11 +128,11 @@ def main(words):
         all_runs = [it for way in ways for it in runs(way, names)]
         with ThreadPoolExecutor(os.cpu_count()) as pool:
             faults = [it for it in pool.map(lambda it: run(*it), all_runs) if it]
-    faults += [it for it in [example()] if it]
+    faults += [it for it in [example(), watched()] if it]
     print("".join(f"{it}\n" for it in faults), end="")
     if not (ROOT / "bin" / "usbtrace").is_file():
         print("no trace was made once more: there is no bin/usbtrace (make run builds one)")
-    print(f"{len(all_runs) + 1 - len(faults)} passed, {len(faults)} failed")
+    print(f"{len(all_runs) + 2 - len(faults)} passed, {len(faults)} failed")
     return 1 if faults else 0
 
 

@@ -1,4 +1,4 @@
-/* The interface of libusb 1.0 (API version 0x01000109, 1.0.26), as its documentation has it, over Tirnouch's scripted devices. Names,
+/* The interface of libusb 1.0 (API version 0x0100010A, 1.0.28), as its documentation has it, over Tirnouch's scripted devices. Names,
  * values and layouts are libusb's, so that a program that was built with its header runs unchanged; the text is our own. docs/C.md has a
  * table of what differs. */
 #ifndef LIBUSB_H
@@ -11,7 +11,7 @@
 #include <sys/types.h>
 #include <time.h>
 
-#define LIBUSB_API_VERSION 0x01000109
+#define LIBUSB_API_VERSION 0x0100010A
 #define LIBUSBX_API_VERSION LIBUSB_API_VERSION
 #define LIBUSB_CALL
 #define LIBUSB_DEPRECATED_FOR(f)
@@ -52,6 +52,7 @@ enum libusb_descriptor_type {
     LIBUSB_DT_STRING = 0x03,
     LIBUSB_DT_INTERFACE = 0x04,
     LIBUSB_DT_ENDPOINT = 0x05,
+    LIBUSB_DT_INTERFACE_ASSOCIATION = 0x0b,
     LIBUSB_DT_BOS = 0x0f,
     LIBUSB_DT_DEVICE_CAPABILITY = 0x10,
     LIBUSB_DT_HID = 0x21,
@@ -71,9 +72,12 @@ enum libusb_descriptor_type {
 #define LIBUSB_DT_SS_ENDPOINT_COMPANION_SIZE 6
 #define LIBUSB_DT_BOS_SIZE 5
 #define LIBUSB_DT_DEVICE_CAPABILITY_SIZE 3
+#define LIBUSB_DT_INTERFACE_ASSOCIATION_SIZE 8
 #define LIBUSB_BT_USB_2_0_EXTENSION_SIZE 7
 #define LIBUSB_BT_SS_USB_DEVICE_CAPABILITY_SIZE 10
+#define LIBUSB_BT_SSPLUS_USB_DEVICE_CAPABILITY_SIZE 12
 #define LIBUSB_BT_CONTAINER_ID_SIZE 20
+#define LIBUSB_BT_PLATFORM_DESCRIPTOR_MIN_SIZE 20
 #define LIBUSB_DT_BOS_MAX_SIZE \
     (LIBUSB_DT_BOS_SIZE + LIBUSB_BT_USB_2_0_EXTENSION_SIZE + LIBUSB_BT_SS_USB_DEVICE_CAPABILITY_SIZE + LIBUSB_BT_CONTAINER_ID_SIZE)
 
@@ -145,7 +149,9 @@ enum libusb_bos_type {
     LIBUSB_BT_WIRELESS_USB_DEVICE_CAPABILITY = 0x01,
     LIBUSB_BT_USB_2_0_EXTENSION = 0x02,
     LIBUSB_BT_SS_USB_DEVICE_CAPABILITY = 0x03,
-    LIBUSB_BT_CONTAINER_ID = 0x04
+    LIBUSB_BT_CONTAINER_ID = 0x04,
+    LIBUSB_BT_PLATFORM_DESCRIPTOR = 0x05,
+    LIBUSB_BT_SUPERSPEED_PLUS_CAPABILITY = 0x0A
 };
 
 struct libusb_device_descriptor {
@@ -186,6 +192,16 @@ struct libusb_config_descriptor {
     int extra_length;
 };
 
+struct libusb_interface_association_descriptor {
+    uint8_t bLength, bDescriptorType, bFirstInterface, bInterfaceCount;
+    uint8_t bFunctionClass, bFunctionSubClass, bFunctionProtocol, iFunction;
+};
+
+struct libusb_interface_association_descriptor_array {
+    const struct libusb_interface_association_descriptor *iad;
+    int length;
+};
+
 struct libusb_ss_endpoint_companion_descriptor {
     uint8_t bLength, bDescriptorType, bMaxBurst, bmAttributes;
     uint16_t wBytesPerInterval;
@@ -215,9 +231,40 @@ struct libusb_ss_usb_device_capability_descriptor {
     uint16_t bU2DevExitLat;
 };
 
+enum libusb_superspeedplus_sublink_attribute_sublink_type { LIBUSB_SSPLUS_ATTR_TYPE_SYM = 0, LIBUSB_SSPLUS_ATTR_TYPE_ASYM = 1 };
+enum libusb_superspeedplus_sublink_attribute_sublink_direction { LIBUSB_SSPLUS_ATTR_DIR_RX = 0, LIBUSB_SSPLUS_ATTR_DIR_TX = 1 };
+enum libusb_superspeedplus_sublink_attribute_link_protocol { LIBUSB_SSPLUS_ATTR_PROT_SS = 0, LIBUSB_SSPLUS_ATTR_PROT_SSPLUS = 1 };
+
+enum libusb_superspeedplus_sublink_attribute_exponent {
+    LIBUSB_SSPLUS_ATTR_EXP_BPS = 0,
+    LIBUSB_SSPLUS_ATTR_EXP_KBS = 1,
+    LIBUSB_SSPLUS_ATTR_EXP_MBS = 2,
+    LIBUSB_SSPLUS_ATTR_EXP_GBS = 3
+};
+
+struct libusb_ssplus_sublink_attribute {
+    uint8_t ssid;
+    enum libusb_superspeedplus_sublink_attribute_exponent exponent;
+    enum libusb_superspeedplus_sublink_attribute_sublink_type type;
+    enum libusb_superspeedplus_sublink_attribute_sublink_direction direction;
+    enum libusb_superspeedplus_sublink_attribute_link_protocol protocol;
+    uint16_t mantissa;
+};
+
+struct libusb_ssplus_usb_device_capability_descriptor {
+    uint8_t numSublinkSpeedAttributes, numSublinkSpeedIDs, ssid, minRxLaneCount, minTxLaneCount;
+    struct libusb_ssplus_sublink_attribute sublinkSpeedAttributes[];
+};
+
 struct libusb_container_id_descriptor {
     uint8_t bLength, bDescriptorType, bDevCapabilityType, bReserved;
     uint8_t ContainerID[16];
+};
+
+struct libusb_platform_descriptor {
+    uint8_t bLength, bDescriptorType, bDevCapabilityType, bReserved;
+    uint8_t PlatformCapabilityUUID[16];
+    uint8_t CapabilityData[];
 };
 
 struct libusb_control_setup {
@@ -248,7 +295,8 @@ enum libusb_speed {
     LIBUSB_SPEED_FULL = 2,
     LIBUSB_SPEED_HIGH = 3,
     LIBUSB_SPEED_SUPER = 4,
-    LIBUSB_SPEED_SUPER_PLUS = 5
+    LIBUSB_SPEED_SUPER_PLUS = 5,
+    LIBUSB_SPEED_SUPER_PLUS_X2 = 6
 };
 
 enum libusb_error {
@@ -381,6 +429,7 @@ uint8_t libusb_get_device_address(libusb_device *dev);
 int libusb_get_device_speed(libusb_device *dev);
 int libusb_get_max_packet_size(libusb_device *dev, unsigned char endpoint);
 int libusb_get_max_iso_packet_size(libusb_device *dev, unsigned char endpoint);
+int libusb_get_max_alt_packet_size(libusb_device *dev, int interface_number, int alternate_setting, unsigned char endpoint);
 
 int libusb_wrap_sys_device(libusb_context *ctx, intptr_t sys_dev, libusb_device_handle **dev_handle);
 int libusb_open(libusb_device *dev, libusb_device_handle **dev_handle);
@@ -408,6 +457,11 @@ int libusb_get_active_config_descriptor(libusb_device *dev, struct libusb_config
 int libusb_get_config_descriptor(libusb_device *dev, uint8_t config_index, struct libusb_config_descriptor **config);
 int libusb_get_config_descriptor_by_value(libusb_device *dev, uint8_t bConfigurationValue, struct libusb_config_descriptor **config);
 void libusb_free_config_descriptor(struct libusb_config_descriptor *config);
+int libusb_get_interface_association_descriptors(libusb_device *dev, uint8_t config_index,
+                                                 struct libusb_interface_association_descriptor_array **iad_array);
+int libusb_get_active_interface_association_descriptors(libusb_device *dev,
+                                                        struct libusb_interface_association_descriptor_array **iad_array);
+void libusb_free_interface_association_descriptors(struct libusb_interface_association_descriptor_array *iad_array);
 int libusb_get_ss_endpoint_companion_descriptor(libusb_context *ctx, const struct libusb_endpoint_descriptor *endpoint,
                                                 struct libusb_ss_endpoint_companion_descriptor **ep_comp);
 void libusb_free_ss_endpoint_companion_descriptor(struct libusb_ss_endpoint_companion_descriptor *ep_comp);
@@ -419,9 +473,16 @@ void libusb_free_usb_2_0_extension_descriptor(struct libusb_usb_2_0_extension_de
 int libusb_get_ss_usb_device_capability_descriptor(libusb_context *ctx, struct libusb_bos_dev_capability_descriptor *dev_cap,
                                                    struct libusb_ss_usb_device_capability_descriptor **ss_usb_device_cap);
 void libusb_free_ss_usb_device_capability_descriptor(struct libusb_ss_usb_device_capability_descriptor *ss_usb_device_cap);
+int libusb_get_ssplus_usb_device_capability_descriptor(libusb_context *ctx, struct libusb_bos_dev_capability_descriptor *dev_cap,
+                                                       struct libusb_ssplus_usb_device_capability_descriptor **ssplus_usb_device_cap);
+void libusb_free_ssplus_usb_device_capability_descriptor(
+    struct libusb_ssplus_usb_device_capability_descriptor *ssplus_usb_device_cap);
 int libusb_get_container_id_descriptor(libusb_context *ctx, struct libusb_bos_dev_capability_descriptor *dev_cap,
                                        struct libusb_container_id_descriptor **container_id);
 void libusb_free_container_id_descriptor(struct libusb_container_id_descriptor *container_id);
+int libusb_get_platform_descriptor(libusb_context *ctx, struct libusb_bos_dev_capability_descriptor *dev_cap,
+                                   struct libusb_platform_descriptor **platform_descriptor);
+void libusb_free_platform_descriptor(struct libusb_platform_descriptor *platform_descriptor);
 int libusb_get_string_descriptor_ascii(libusb_device_handle *dev_handle, uint8_t desc_index, unsigned char *data, int length);
 
 /* Hotplug */

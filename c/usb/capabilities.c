@@ -141,6 +141,53 @@ void libusb_free_ss_usb_device_capability_descriptor(struct libusb_ss_usb_device
     free(ss_usb_device_cap);
 }
 
+/* A sublink's speed, of four bytes. */
+static struct libusb_ssplus_sublink_attribute read_sublink(const uint8_t *at)
+{
+    uint32_t bits = four_bytes(at);
+    return (struct libusb_ssplus_sublink_attribute){
+        .ssid = (uint8_t)(bits & 15),
+        .exponent = (enum libusb_superspeedplus_sublink_attribute_exponent)(bits >> 4 & 3),
+        .type = (bits & 1u << 6) ? LIBUSB_SSPLUS_ATTR_TYPE_ASYM : LIBUSB_SSPLUS_ATTR_TYPE_SYM,
+        .direction = (bits & 1u << 7) ? LIBUSB_SSPLUS_ATTR_DIR_TX : LIBUSB_SSPLUS_ATTR_DIR_RX,
+        .protocol = (bits & 1u << 14) ? LIBUSB_SSPLUS_ATTR_PROT_SSPLUS : LIBUSB_SSPLUS_ATTR_PROT_SS,
+        .mantissa = (uint16_t)(bits >> 16),
+    };
+}
+
+/* The sublinks' speeds stand behind the fixed part; how many, less one, is in its lowest bits (USB 3.1, 9.6.2.5). */
+int libusb_get_ssplus_usb_device_capability_descriptor(libusb_context *ctx, struct libusb_bos_dev_capability_descriptor *dev_cap,
+                                                       struct libusb_ssplus_usb_device_capability_descriptor **ssplus_usb_device_cap)
+{
+    int answer = check_capability(dev_cap, LIBUSB_BT_SUPERSPEED_PLUS_CAPABILITY, LIBUSB_BT_SSPLUS_USB_DEVICE_CAPABILITY_SIZE);
+    const uint8_t *data = dev_cap->dev_capability_data;
+    (void)ctx;
+    if (answer < 0)
+        return answer;
+    uint8_t count = (uint8_t)((data[1] & 15) + 1);
+    unsigned support = two_bytes(data + 5);
+    if (dev_cap->bLength < LIBUSB_BT_SSPLUS_USB_DEVICE_CAPABILITY_SIZE + 4 * count)
+        return LIBUSB_ERROR_IO;
+    struct libusb_ssplus_usb_device_capability_descriptor *made = malloc(sizeof *made + count * sizeof *made->sublinkSpeedAttributes);
+    if (!made)
+        return LIBUSB_ERROR_NO_MEM;
+    made->numSublinkSpeedAttributes = count;
+    made->numSublinkSpeedIDs = (uint8_t)((data[1] >> 4) + 1);
+    made->ssid = (uint8_t)(support & 15);
+    made->minRxLaneCount = (uint8_t)(support >> 8 & 15);
+    made->minTxLaneCount = (uint8_t)(support >> 12);
+    for (int i = 0; i < count; i++)
+        made->sublinkSpeedAttributes[i] = read_sublink(data + 9 + 4 * i);
+    *ssplus_usb_device_cap = made;
+    return LIBUSB_SUCCESS;
+}
+
+void libusb_free_ssplus_usb_device_capability_descriptor(
+    struct libusb_ssplus_usb_device_capability_descriptor *ssplus_usb_device_cap)
+{
+    free(ssplus_usb_device_cap);
+}
+
 int libusb_get_container_id_descriptor(libusb_context *ctx, struct libusb_bos_dev_capability_descriptor *dev_cap,
                                        struct libusb_container_id_descriptor **container_id)
 {
@@ -163,6 +210,33 @@ int libusb_get_container_id_descriptor(libusb_context *ctx, struct libusb_bos_de
 void libusb_free_container_id_descriptor(struct libusb_container_id_descriptor *container_id)
 {
     free(container_id);
+}
+
+/* What the platform says of itself stands behind its UUID (USB 3.2, 9.6.2.4). */
+int libusb_get_platform_descriptor(libusb_context *ctx, struct libusb_bos_dev_capability_descriptor *dev_cap,
+                                   struct libusb_platform_descriptor **platform_descriptor)
+{
+    int answer = check_capability(dev_cap, LIBUSB_BT_PLATFORM_DESCRIPTOR, LIBUSB_BT_PLATFORM_DESCRIPTOR_MIN_SIZE);
+    const uint8_t *data = dev_cap->dev_capability_data;
+    (void)ctx;
+    if (answer < 0)
+        return answer;
+    struct libusb_platform_descriptor *made = malloc(dev_cap->bLength);
+    if (!made)
+        return LIBUSB_ERROR_NO_MEM;
+    made->bLength = dev_cap->bLength;
+    made->bDescriptorType = dev_cap->bDescriptorType;
+    made->bDevCapabilityType = dev_cap->bDevCapabilityType;
+    made->bReserved = data[0];
+    memcpy(made->PlatformCapabilityUUID, data + 1, sizeof made->PlatformCapabilityUUID);
+    memcpy(made->CapabilityData, data + 17, (size_t)dev_cap->bLength - LIBUSB_BT_PLATFORM_DESCRIPTOR_MIN_SIZE);
+    *platform_descriptor = made;
+    return LIBUSB_SUCCESS;
+}
+
+void libusb_free_platform_descriptor(struct libusb_platform_descriptor *platform_descriptor)
+{
+    free(platform_descriptor);
 }
 
 /* The companion among the descriptors behind an endpoint's: its first byte is at `found`. */

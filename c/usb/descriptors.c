@@ -4,7 +4,7 @@
  * A device has one configuration. It is read in two passes: the first counts what there is, the second fills one block of memory
  * with the structs, and with a copy of the bytes, into which each `extra` points. So memory is asked for once, and freed once.
  * Reading ends where a length breaks off, or where there is more than a device may have. */
-#include "bus.h"
+#include "descriptors.h"
 
 #include <stdlib.h>
 #include <string.h>
@@ -223,7 +223,7 @@ static struct block *new_block(const struct measure *measure, const uint8_t *byt
     return block;
 }
 
-static bool has_config(const struct device *device)
+bool has_config(const struct device *device)
 {
     return device->config_length >= LIBUSB_DT_CONFIG_SIZE && device->config[0] >= LIBUSB_DT_CONFIG_SIZE
         && device->config[0] <= device->config_length;
@@ -239,18 +239,18 @@ static int read_config(const struct device *device, struct libusb_config_descrip
     if (!block)
         return LIBUSB_ERROR_NO_MEM;
     fill_config(&filling);
-    *config = &block->config;
+    *config = (struct libusb_config_descriptor *)block;
     return LIBUSB_SUCCESS;
 }
 
 /* The calls */
 
-static bool is_configured(struct device *device)
+bool is_configured(struct device *device)
 {
     lock();
-    bool is_set = device->configuration != 0;
+    bool is_one = device->configuration != 0;
     unlock();
-    return is_set;
+    return is_one;
 }
 
 int libusb_get_config_descriptor(libusb_device *dev, uint8_t config_index, struct libusb_config_descriptor **config)
@@ -314,15 +314,47 @@ int libusb_get_max_packet_size(libusb_device *dev, unsigned char endpoint)
 }
 
 /* Bits 10..0 are the size, and bits 12..11 the further transactions of a microframe, where the type has such (USB 2.0, 9.6.6). */
+static int bytes_of_microframe(int size, uint8_t type)
+{
+    if (type != LIBUSB_TRANSFER_TYPE_ISOCHRONOUS && type != LIBUSB_TRANSFER_TYPE_INTERRUPT)
+        return size & 0x7ff;
+    return (size & 0x7ff) * (1 + (size >> 11 & 3));
+}
+
 int libusb_get_max_iso_packet_size(libusb_device *dev, unsigned char endpoint)
 {
     uint8_t type;
     int size = packet_size(dev, endpoint, &type);
-    if (size < 0)
-        return size;
-    if (type != LIBUSB_TRANSFER_TYPE_ISOCHRONOUS && type != LIBUSB_TRANSFER_TYPE_INTERRUPT)
-        return size & 0x7ff;
-    return (size & 0x7ff) * (1 + (size >> 11 & 3));
+    return size < 0 ? size : bytes_of_microframe(size, type);
+}
+
+/* The setting at these places; NULL where there is none. */
+static const struct libusb_interface_descriptor *setting_at(const struct libusb_config_descriptor *config, int interface, int setting)
+{
+    if (interface < 0 || interface >= config->bNumInterfaces)
+        return NULL;
+    const struct libusb_interface *at = &config->interface[interface];
+    return setting < 0 || setting >= at->num_altsetting ? NULL : &at->altsetting[setting];
+}
+
+/* The manual speaks of bInterfaceNumber and bAlternateSetting. libusb takes both as places in the configuration's arrays, and so do we:
+ * for most devices that is the same. */
+int libusb_get_max_alt_packet_size(libusb_device *dev, int interface_number, int alternate_setting, unsigned char endpoint)
+{
+    struct libusb_config_descriptor *config;
+    int size = LIBUSB_ERROR_NOT_FOUND;
+    if (libusb_get_active_config_descriptor(dev, &config) < 0)
+        return LIBUSB_ERROR_OTHER;
+    const struct libusb_interface_descriptor *setting = setting_at(config, interface_number, alternate_setting);
+    for (int i = 0; setting && i < setting->bNumEndpoints; i++) {
+        const struct libusb_endpoint_descriptor *it = &setting->endpoint[i];
+        if (it->bEndpointAddress == endpoint) {
+            size = bytes_of_microframe(it->wMaxPacketSize, it->bmAttributes & LIBUSB_TRANSFER_TYPE_MASK);
+            break;
+        }
+    }
+    libusb_free_config_descriptor(config);
+    return size;
 }
 
 /* Strings (USB 2.0, 9.6.7) */

@@ -163,9 +163,7 @@ static void errors(void)
 
 static void library(void)
 {
-    const struct libusb_version *version = libusb_get_version();
     begin_text("the library", STANDARD);
-    printf("  version %u.%u.%u\n", version->major, version->minor, version->micro);
     number("asks for capabilities", libusb_has_capability(LIBUSB_CAP_HAS_CAPABILITY) != 0);
     number("hotplug", libusb_has_capability(LIBUSB_CAP_HAS_HOTPLUG) != 0);
     number("detaches drivers", libusb_has_capability(LIBUSB_CAP_SUPPORTS_DETACH_KERNEL_DRIVER) != 0);

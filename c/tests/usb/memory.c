@@ -75,6 +75,9 @@ static libusb_context *context;
 static libusb_device_handle *handle;
 static libusb_device **list;
 static struct libusb_config_descriptor *config;
+static struct libusb_interface_association_descriptor_array *associations;
+static struct libusb_ssplus_usb_device_capability_descriptor *plus;
+static struct libusb_platform_descriptor *platform;
 static libusb_hotplug_callback_handle watcher;
 static const struct libusb_pollfd **descriptors;
 static struct libusb_transfer *transfers[TRANSFERS];
@@ -108,6 +111,7 @@ static int get_list(void) { return (int)libusb_get_device_list(context, &list); 
 static int get_config(void) { return libusb_get_config_descriptor(list[1], 0, &config); }
 static int get_active(void) { return libusb_get_active_config_descriptor(list[1], &config); }
 static int get_value(void) { return libusb_get_config_descriptor_by_value(list[1], 1, &config); }
+static int get_associations(void) { return libusb_get_interface_association_descriptors(list[1], 0, &associations); }
 static int open_first(void) { return libusb_open(list[1], &handle); }
 static int claim(void) { return libusb_claim_interface(handle, 0); }
 static int release(void) { return libusb_release_interface(handle, 0); }
@@ -116,6 +120,19 @@ static int show(void) { return tirnouch_show(1); }
 static int pull(void) { return tirnouch_pull(1); }
 static int submit(void) { return libusb_submit_transfer(transfers[current]); }
 static int cancel(void) { return libusb_cancel_transfer(transfers[current]); }
+
+/* Device capabilities of the fewest bytes. */
+static int get_plus(void)
+{
+    static unsigned char bytes[16] = { 16, 0x10, LIBUSB_BT_SUPERSPEED_PLUS_CAPABILITY };
+    return libusb_get_ssplus_usb_device_capability_descriptor(context, (void *)bytes, &plus);
+}
+
+static int get_platform(void)
+{
+    static unsigned char bytes[20] = { 20, 0x10, LIBUSB_BT_PLATFORM_DESCRIPTOR };
+    return libusb_get_platform_descriptor(context, (void *)bytes, &platform);
+}
 
 static int open_by_numbers(void)
 {
@@ -202,6 +219,12 @@ static void describe(void)
     make("get_config_descriptor_by_value", get_value);
     require(config->bNumInterfaces == 1 && config->interface[0].altsetting[0].bNumEndpoints == 2, "its endpoints");
     libusb_free_config_descriptor(config);
+    make("get_interface_association_descriptors", get_associations);
+    libusb_free_interface_association_descriptors(associations);
+    make("get_ssplus_usb_device_capability_descriptor", get_plus);
+    libusb_free_ssplus_usb_device_capability_descriptor(plus);
+    make("get_platform_descriptor", get_platform);
+    libusb_free_platform_descriptor(platform);
     make("open", open_first);
     libusb_free_device_list(list, 1);
     libusb_close(handle);

@@ -1,0 +1,258 @@
+#!/usr/bin/env python3
+"""Tries tools/tirnouch-run on programs that hang, crash, or fail with some seeds alone: tools/tirnouch_run_test.py.
+
+The programs are those of c/tests/run/program.c, over bin/libusb-1.0.so.0. What a run with many seeds says is compared with as many runs
+that are made one by one."""
+import hashlib
+import os
+import pathlib
+import pty
+import re
+import signal
+import subprocess
+import sys
+import tempfile
+import time
+from concurrent.futures import ThreadPoolExecutor
+from typing import Callable, Dict, List, Optional, Sequence
+
+ROOT = pathlib.Path(__file__).resolve().parent.parent
+RUN = ROOT / "tools" / "tirnouch-run"
+TESTS = ROOT / "c" / "tests" / "run"
+DEVICES = TESTS / "devices.txt"
+SECONDS = 60
+LAST_SEED = 40
+
+
+class Trial:
+    """A folder of its own, in which tirnouch-run is run; and what was wrong."""
+
+    def __init__(self, program: pathlib.Path, folder: pathlib.Path) -> None:
+        self.program, self.folder = program, folder
+        self.faults: List[str] = []
+
+    def check(self, is_so: bool, sentence: str) -> None:
+        if not is_so:
+            self.faults.append(sentence)
+
+    def run(self, words: Sequence[str], env: Optional[Dict[str, str]] = None) -> "subprocess.CompletedProcess[str]":
+        clean = {name: value for name, value in os.environ.items() if not name.startswith("TIRNOUCH_")}
+        return subprocess.run([RUN, *words], cwd=self.folder, env={**clean, **(env or {})}, capture_output=True, text=True,
+                              timeout=SECONDS, check=False)
+
+    def go(self, kind: str, *words: str) -> "subprocess.CompletedProcess[str]":
+        return self.run([str(DEVICES), *words, "--", str(self.program), kind])
+
+    def expect(self, ran: "subprocess.CompletedProcess[str]", status: int, *sentences: str) -> None:
+        """The status; and each sentence stands in what was printed."""
+        self.check(ran.returncode == status, f"status {ran.returncode}, not {status}: {ran.stdout[-400:]!r} {ran.stderr[-800:]!r}")
+        for sentence in sentences:
+            self.check(sentence in ran.stdout + ran.stderr, f"{sentence!r} isn't in {ran.stdout[-400:]!r} {ran.stderr[-800:]!r}")
+
+    def files(self) -> List[str]:
+        return sorted(it.name for it in self.folder.iterdir())
+
+
+def plain_runs_are_the_program(trial: Trial) -> None:
+    trial.expect(trial.go("ends"), 0)
+    trial.expect(trial.go("status", "--virtual"), 2)
+    trial.expect(trial.go("aborts"), -signal.SIGABRT)
+    trial.expect(trial.go("crashes", "--seed", "3"), -signal.SIGSEGV)
+
+
+def wrong_words_are_refused(trial: Trial) -> None:
+    refusals = {
+        **{f"--seeds {it}": "decimal numbers from 1 on" for it in ("0-4", "all", "1-", "1-2-3", "-3")},
+        **{f"--limit {it}": "500ms, 10s or 2m" for it in ("soon", "10", "0s", "1.5s", "ms", "-1s")},
+        "--seeds 5-1": "the first one is past the last", "--seeds": "needs a word behind it", "--limit": "needs a word behind it",
+        "--limit 99999999m": "the longest limit", "--jobs 2": "for many runs", "--keep-going": "for many runs",
+        "--seeds 1-2 --jobs 0": "from 1 to 1000", "--seeds 1-2 --jobs many": "from 1 to 1000", "--seeds 1-2 --seed 1": "say one of them",
+        "--seeds 1-2 --trace t": "a trace of its own", "--seed x": "a decimal number, from 1 on", "--quickly": "isn't known",
+    }
+    for words, sentence in refusals.items():
+        trial.expect(trial.go("ends", *words.split()), 2, sentence)
+    trial.expect(trial.run([str(DEVICES), "--limit", "1s"]), 2, "which program?")
+    trial.expect(trial.run([str(DEVICES), "--limit", "1s", "--", "./nowhere"]), 127, "there is no program ./nowhere")
+    trial.check(trial.files() == [], f"files were left: {trial.files()}")
+
+
+def help_names_every_word(trial: Trial) -> None:
+    ran = trial.run(["--help"])
+    trial.expect(ran, 0, *"--trace --seed --virtual --limit --seeds --keep-going --jobs --version".split())
+
+
+def the_version_is_told(trial: Trial) -> None:
+    ran = trial.run(["--version"])
+    trial.expect(ran, 0, str(ROOT / "bin" / "libusb-1.0.so.0"))
+    trial.check(re.match(r"tirnouch libusb 1\.0\.\d+\.\d+\n", ran.stdout) is not None, f"the version is {ran.stdout!r}")
+
+
+def a_limit_lets_a_program_end(trial: Trial) -> None:
+    trial.expect(trial.go("ends", "--limit", "20s"), 0)
+    trial.expect(trial.go("status", "--limit", "20s"), 2)
+    trial.expect(trial.go("aborts", "--limit", "1m"), -signal.SIGABRT)
+    ran = trial.go("much", "--limit", "20s")
+    trial.expect(ran, 3)
+    trial.check(ran.stdout.count("\n") == 200000, "not all of the output came")
+    told = trial.run([str(DEVICES), "--limit", "700ms", "--", "sh", "-c", "echo $TIRNOUCH_LIMIT $TIRNOUCH_DEVICES"])
+    trial.check(told.stdout == f"700 {DEVICES}\n", f"the program's environment has {told.stdout!r}")
+
+
+def over_limit(kind: str, *sentences: str) -> Callable[[Trial], None]:
+    def hangs(trial: Trial) -> None:
+        began = time.monotonic()
+        ran = trial.go(kind, "--limit", "300ms")
+        trial.expect(ran, 124, "didn't end within 300ms", *sentences)
+        trial.check(time.monotonic() - began < 20, "it took too long")
+        trial.check(trial.files() == [], f"files were left: {trial.files()}")
+    hangs.__name__ = f"{kind} is ended by a limit"
+    return hangs
+
+
+def a_limit_tells_the_last_steps(trial: Trial) -> None:
+    ran = trial.go("events", "--limit", "300ms", "--trace", "kept.txt")
+    trial.expect(ran, 124)
+    trial.check(trial.files() == ["kept.txt"], f"the files are {trial.files()}")
+    lines = (trial.folder / "kept.txt").read_text().splitlines()
+    trial.expect(ran, 124, *(lines[-10:] or ["its trace is empty"]))
+
+
+def a_limit_ends_children_too(trial: Trial) -> None:
+    ran = trial.go("forks", "--limit", "300ms")
+    trial.expect(ran, 124, "didn't end within 300ms")
+    child = int(ran.stdout)
+    state = pathlib.Path(f"/proc/{child}/stat")
+    trial.check(not state.exists() or state.read_text().split(") ")[1].startswith("Z"), "the child goes on")
+
+
+def signals_are_passed_on(trial: Trial) -> None:
+    words = [RUN, DEVICES, "--limit", "30s", "--", trial.program, "loop"]
+    with subprocess.Popen(words, cwd=trial.folder, stderr=subprocess.DEVNULL) as running:
+        time.sleep(1)
+        running.terminate()
+        status = running.wait(SECONDS)
+    trial.check(status == -signal.SIGTERM, f"SIGTERM made status {status}")
+
+
+def the_terminal_is_the_programs(trial: Trial) -> None:
+    """A program reads from the terminal, and is interrupted by its key."""
+    child, terminal = pty.fork()
+    if child == 0:
+        os.chdir(trial.folder)
+        os.execv(RUN, [str(RUN), str(DEVICES), "--limit", "20s", "--", str(trial.program), "reads"])
+    os.write(terminal, b"a line\n")
+    shown = b""
+    while b"read a line" not in shown:
+        try:
+            part = os.read(terminal, 4096)
+        except OSError:
+            break
+        shown += part
+    os.write(terminal, b"\x03")
+    status = os.waitpid(child, 0)[1]
+    os.close(terminal)
+    trial.check(b"read a line" in shown, f"the terminal shows {shown!r}")
+    trial.check(os.WIFSIGNALED(status) and os.WTERMSIG(status) == signal.SIGINT, f"the key made status {status:#x}")
+
+
+def steps_in(trace: pathlib.Path) -> str:
+    lines = [line for line in trace.read_text().splitlines() if not line.startswith(("#", "device ", "script "))]
+    return hashlib.sha256("\n".join(lines).encode()).hexdigest()
+
+
+def one_by_one(trial: Trial) -> Dict[int, "subprocess.CompletedProcess[str]"]:
+    return {seed: trial.go("race", "--seed", str(seed), "--trace", f"{seed}.txt") for seed in range(1, LAST_SEED + 1)}
+
+
+def seeds_stop_at_the_lowest(trial: Trial) -> None:
+    single = one_by_one(trial)
+    steps = {seed: steps_in(trial.folder / f"{seed}.txt") for seed in single}
+    for it in list(trial.folder.iterdir()):
+        it.unlink()
+    first = min((seed for seed, ran in single.items() if ran.returncode == 0), default=0)
+    lowest = min((seed for seed, ran in single.items() if ran.returncode and seed > first), default=0)
+    trial.check(first > 0 and lowest > 0, "the planted fault isn't one of some seeds alone")
+    ran = trial.go("race", "--seeds", f"{first}-{LAST_SEED}", "--jobs", "3")
+    trial.expect(ran, 1, f"seed {lowest} failed: status 3\nits output:\n{single[lowest].stdout}", f"./tirnouch-seed-{lowest}.trace",
+                 f"--seed {lowest} -- {trial.program} race\n")
+    trace = trial.folder / f"tirnouch-seed-{lowest}.trace"
+    trial.check(steps_in(trace) == steps[lowest], "the trace that is kept is another run's")
+    if (ROOT / "bin" / "usbtrace").is_file():
+        trial.check(trial.files() == [f"tirnouch-seed-{lowest}.html", trace.name], f"the files are {trial.files()}")
+        trial.check("<svg" in (trial.folder / f"tirnouch-seed-{lowest}.html").read_text(), "there is no picture")
+    else:
+        trial.expect(ran, 1, "no picture: there is no ")
+    failing = [seed for seed, it in single.items() if it.returncode]
+    ran = trial.go("race", "--seeds", f"1-{LAST_SEED}", "--keep-going")
+    trial.expect(ran, 1, f"seed {failing[0]} failed: status 3",
+                 f"{LAST_SEED} runs, {len(failing)} failed, {len(set(steps.values()))} told apart by their steps\n")
+    trial.check(ran.stdout.count(" failed: ") == 1, "one kind of failure is shown several times")
+    passing = f"{first}-{first}"
+    trial.expect(trial.go("race", "--seeds", passing), 0, "1 run, 0 failed, 1 told apart by their steps")
+
+
+def seeds_have_a_limit(trial: Trial) -> None:
+    ran = trial.go("hanging-race", "--seeds", f"1-{LAST_SEED}", "--limit", "300ms")
+    trial.expect(ran, 1, " failed: it didn't end within 300ms\n", "--limit 300ms -- ")
+
+
+def seeds_tell_other_failures(trial: Trial) -> None:
+    trial.expect(trial.go("aborts", "--seeds", "4-9"), 1, "seed 4 failed: signal 6 (SIGABRT)", "it printed nothing", "--seed 4 -- ")
+    ran = trial.go("much", "--seeds", "1-3")
+    trial.expect(ran, 1, "its output, the last 65536 of ", "line 199999 of much", "it left no trace")
+    trial.check(len(ran.stdout) < 70000, "the output is too long")
+
+
+def asked_to_end(trial: Trial) -> None:
+    words = [RUN, DEVICES, "--seeds", "1-9", "--jobs", "3", "--", trial.program, "deaf"]
+    with subprocess.Popen(words, cwd=trial.folder, env={**os.environ, "TMPDIR": str(trial.folder)}) as running:
+        time.sleep(1.5)
+        running.send_signal(signal.SIGINT)
+        status = running.wait(SECONDS)
+    trial.check(status == -signal.SIGINT, f"SIGINT made status {status}")
+    trial.check(trial.files() == [], f"files were left: {trial.files()}")
+    left = subprocess.run(["pgrep", "-f", f"{trial.program} deaf"], capture_output=True, text=True, check=False).stdout.split()
+    mine = [it for it in left if f"TMPDIR={trial.folder}" in pathlib.Path(f"/proc/{it}/environ").read_bytes().decode("utf-8", "replace")]
+    trial.check(not mine, f"programs go on: {mine}")
+
+
+TRIALS = [
+    plain_runs_are_the_program, wrong_words_are_refused, help_names_every_word, the_version_is_told, a_limit_lets_a_program_end,
+    over_limit("events"), over_limit("loop"), over_limit("before", "ended by SIGTERM", "there is no trace"), over_limit("deadlock"),
+    over_limit("deaf"), a_limit_tells_the_last_steps, a_limit_ends_children_too, signals_are_passed_on, the_terminal_is_the_programs,
+    seeds_stop_at_the_lowest, seeds_have_a_limit, seeds_tell_other_failures, asked_to_end,
+]
+
+
+def build(folder: pathlib.Path) -> pathlib.Path:
+    program = folder / "program"
+    words = ["-std=c11", "-O1", "-D_GNU_SOURCE", "-I", ROOT / "c" / "include", TESTS / "program.c", "-L", ROOT / "bin", "-lusb-1.0"]
+    subprocess.run([os.environ.get("CC", "cc"), *words, "-pthread", "-o", program], check=True)
+    return program
+
+
+def attempt(trial_of: Callable[[Trial], None], program: pathlib.Path) -> List[str]:
+    with tempfile.TemporaryDirectory(prefix="tirnouch-run-test-") as folder:
+        trial = Trial(program, pathlib.Path(folder))
+        try:
+            trial_of(trial)
+        except (subprocess.TimeoutExpired, OSError, ValueError) as error:
+            trial.faults.append(str(error))
+    return [f"{trial_of.__name__.replace('_', ' ')}: {it}" for it in trial.faults]
+
+
+def main() -> int:
+    with tempfile.TemporaryDirectory(prefix="tirnouch-run-test-") as folder:
+        program = build(pathlib.Path(folder))
+        # A fork of a process with threads is safest without them.
+        found = [attempt(the_terminal_is_the_programs, program)]
+        with ThreadPoolExecutor(4) as pool:
+            found += pool.map(lambda it: attempt(it, program), [it for it in TRIALS if it is not the_terminal_is_the_programs])
+    print("".join(f"{line}\n" for lines in found for line in lines), end="")
+    failed = sum(1 for lines in found if lines)
+    print(f"{len(found) - failed} passed, {failed} failed")
+    return 1 if failed else 0
+
+
+if __name__ == "__main__":
+    sys.exit(main())
