@@ -133,10 +133,11 @@ int32_t tirnouch_fetch(struct tirnouch_slot *slot, uint8_t *buffer, size_t buffe
 int32_t tirnouch_taken(struct tirnouch_slot *slot, uint8_t dev, uint8_t ep, size_t i, uint8_t *buffer,
     size_t buffer_room);
 
-/* What is left at an endpoint that a handle holds: in `n` how many answers its device still has, and in
- * `status` 1 where it is halted, which ends by tirnouch_call's clear halt (USB 2.0, 9.4.5). Of any other
- * endpoint what is told means nothing. */
-int32_t tirnouch_left(struct tirnouch_slot *slot, uint8_t dev, uint8_t ep, struct tirnouch_told *told);
+/* What is to be done at an endpoint: `kind` is 1 where a packet does something there; `status` has 1 for an
+ * order, 2 for an event, 4 for a result, wherever they are. Where a handle holds the endpoint, `n` is how many
+ * answers its device has left, and `amount` 1 where it is halted, which tirnouch_call's clear halt ends (USB
+ * 2.0, 9.4.5); else these mean nothing. */
+int32_t tirnouch_look(struct tirnouch_slot *slot, uint8_t dev, uint8_t ep, struct tirnouch_told *told);
 
 /* A device answers a request on its default control endpoint (USB 2.0, 9.3), of which these are the 8 bytes of
  * the setup packet. What is read stands in `buffer`, as far as there is room. `kind` is 4 where the device

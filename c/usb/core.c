@@ -96,21 +96,24 @@ void trace_submission(struct transfer *transfer, int length, uint8_t flags, int 
     trace_out();
 }
 
-/* Whether a packet at an endpoint does something: it is the first that does, looked for from there on. */
-bool core_serves(const struct pipe *pipe)
+static struct tirnouch_told look_at(const struct pipe *pipe)
 {
     struct tirnouch_told told = { 0 };
-    uint8_t device = (uint8_t)pipe->device->number;
-    tirnouch_pending(&process.bus.core, device, (uint8_t)(pipe->ep - 1), &told);
-    return told.kind == 1 && told.h == device && told.ep == pipe->ep;
+    tirnouch_look(&process.bus.core, (uint8_t)pipe->device->number, pipe->ep, &told);
+    return told;
+}
+
+/* Whether a packet at an endpoint does something. */
+bool core_serves(const struct pipe *pipe)
+{
+    return look_at(pipe).kind;
 }
 
 /* At an endpoint whose interface was claimed: how many answers its device has left, and whether it is halted. */
 struct rest core_rest(const struct pipe *pipe)
 {
-    struct tirnouch_told told = { 0 };
-    tirnouch_left(&process.bus.core, (uint8_t)pipe->device->number, pipe->ep, &told);
-    return (struct rest){ .answers = (uint32_t)told.n, .is_halted = told.status };
+    struct tirnouch_told told = look_at(pipe);
+    return (struct rest){ .answers = (uint32_t)told.n, .is_halted = told.amount };
 }
 
 /* A device answers packets at an endpoint; whether something came of it. A device that has no answer left isn't ready. */
@@ -137,7 +140,7 @@ bool core_settle(uint32_t most)
         return told.amount;
     }
     for (uint32_t done = 0; done < most; done++) {
-        tirnouch_pending(&process.bus.core, 255, 0, &told);
+        tirnouch_look(&process.bus.core, 0, 0, &told);
         if (!(told.status & 3))
             return done;
         trace_text(told.status & 2 ? "deliver\n" : "command\n");

@@ -186,27 +186,33 @@ static void await_handler(struct libusb_context *context, uint64_t end, int *com
     context->waiting--;
 }
 
-static int handle_or_wait(struct libusb_context *context, uint64_t end, int *completed)
+/* As the one who handles events, who is held by the event lock already or only for this call. */
+static int handle_as_handler(struct libusb_context *context, uint64_t end)
 {
-    if (!context->is_open)
-        return LIBUSB_ERROR_OTHER;
-    if (context->is_handled) {
-        if (context->is_calling && is_handler(context))
-            return LIBUSB_ERROR_BUSY;
-        if (end)
-            await_handler(context, end, completed);
-        return 0;
-    }
-    if (is_set(completed))
-        return 0;
+    bool is_locked = context->is_handled;
     context->holds++;
     context->is_handled = true;
     context->handler = pthread_self();
     int r = handle_events(context, end);
-    step_down(context);
+    if (!is_locked)
+        step_down(context);
     context->holds--;
     release_context(context);
     return r;
+}
+
+static int handle_or_wait(struct libusb_context *context, uint64_t end, int *completed)
+{
+    if (!context->is_open)
+        return LIBUSB_ERROR_OTHER;
+    if (context->is_calling && is_handler(context))
+        return LIBUSB_ERROR_BUSY;
+    if (context->is_handled && !is_handler(context)) {
+        if (end)
+            await_handler(context, end, completed);
+        return 0;
+    }
+    return is_set(completed) ? 0 : handle_as_handler(context, end);
 }
 
 static bool is_wait(const struct timeval *wait)
@@ -254,14 +260,9 @@ int libusb_handle_events_locked(libusb_context *context, struct timeval *wait)
         return LIBUSB_ERROR_INVALID_PARAM;
     lock();
     struct libusb_context *x = context_of(context);
-    int r = LIBUSB_ERROR_BUSY;
-    x->holds++;
-    if (!x->is_open)
-        r = LIBUSB_ERROR_OTHER;
-    else if (!x->is_calling || !is_handler(x))
-        r = handle_events(x, end_or_now(wait));
-    x->holds--;
-    release_context(x);
+    int r = !x->is_open ? LIBUSB_ERROR_OTHER : LIBUSB_ERROR_BUSY;
+    if (x->is_open && !(x->is_calling && is_handler(x)))
+        r = handle_as_handler(x, end_or_now(wait));
     unlock();
     return r;
 }

@@ -113,7 +113,8 @@ void withdraw(struct libusb_device_handle *handle, int interface, bool drops)
         if (it->handle != handle || (interface >= 0 && (!it->pipe || it->pipe->interface != interface)))
             continue;
         if (drops) {
-            tell_why(it, "is in flight as its handle is closed", true);
+            if (context->is_open)
+                tell_why(it, "is in flight as its handle is closed", true);
             note(context, LIBUSB_LOG_LEVEL_ERROR, "a handle is closed with a transfer in flight at %02x: it is dropped",
                  seen(it)->endpoint);
             it->is_dropped = true;

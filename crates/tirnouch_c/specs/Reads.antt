@@ -1,7 +1,8 @@
 -- What can be asked without a step.
 use Rattle.std.specs.Prelude.{◌≡◌, ℕ, ℤ, negsuc, ◌+◌, ◌*◌, Bool, List, length, slice_get, Option, Some, None}
 use Rattle.usb_core.specs.Inventory.{halted}
-use Rattle.usb_core.specs.Public.{IsPending, Pending, ShowsWorld}
+use Rattle.usb_core.specs.Public.{IsPending, Pending, ShowsWorld, does_something, serves}
+use Rattle.usb_model.specs.declared.step.Step.TheVariants.{Command, Deliver, Take}
 use Rattle.usb_model.specs.Setup.{Setup, interface_of}
 use Rattle.usb_model.specs.World.{World, holder}
 use Rattle.tirnouch_c.specs.declared.session.Session.{Session}
@@ -32,11 +33,16 @@ abbrev pub TellsTaken : (dev ep i : ℕ) → ℤ → (old new : List ℕ) → Se
 TellsTaken dev ep i answer old new s = (setup : Setup) (w : World) (k : ℕ) → ShowsWorld setup s.core w → interface_of setup dev ep ≡ Some k
     → TellsPacket (slice_get (w.endpoints dev ep).packets_received i) answer old new
 
--- how many answers are left, and 1 where the endpoint is halted
-abbrev pub left_told : ℕ → Bool → Told
-left_told left is_halted = record (of_kind 255 0) { status = bit is_halted; n = left }
+-- what is to be done at an endpoint, in numbers: a packet; 1, 2 and 4 for an order, an event and a result; a halt; how many answers are left
+abbrev pub look_told : (packet order event result is_halted : Bool) → ℕ → Told
+look_told packet order event result is_halted left =
+    record (of_kind 255 (bit packet)) { status = bit order + 2 * bit event + 4 * bit result; amount = bit is_halted; n = left }
 
--- what a held endpoint has left of its script, and whether it is halted
-abbrev pub TellsLeft : (dev ep : ℕ) → Session → Told → Type 0
-TellsLeft dev ep s told = (setup : Setup) (w : World) (h : ℕ) → ShowsWorld setup s.core w → holder setup w.claims dev ep ≡ Some h
-    → told ≡ left_told (length (w.endpoints dev ep).script_left) (halted (w.endpoints dev ep))
+-- what is to be done at an endpoint; of its halt and of what is left of its script it is sure where a handle holds it
+pub record TellsLook (dev ep : ℕ) (s : Session) (told : Told) : Type 0 where
+  pub is_halted : Bool
+  pub left : ℕ
+  pub told_is : (setup : Setup) (w : World) → ShowsWorld setup s.core w
+      → told ≡ look_told (serves setup w dev ep) (does_something setup w Command) (does_something setup w Deliver) (does_something setup w Take) is_halted left
+  pub held : (setup : Setup) (w : World) (h : ℕ) → ShowsWorld setup s.core w → holder setup w.claims dev ep ≡ Some h
+      → (left ≡ length (w.endpoints dev ep).script_left) × (is_halted ≡ halted (w.endpoints dev ep))

@@ -6,7 +6,7 @@ ghost use Rattle.usb_core.specs.Public.{takes_memory};
 ghost use Rattle.tirnouch_c.specs.Lent.{Lends};
 ghost use Rattle.usb_desk.specs.Packet.{needs_of, packet_of};
 ghost use Rattle.tirnouch_c.specs.Calls.{Calls, InSlot, ReadsSlot, step_of};
-ghost use Rattle.tirnouch_c.specs.Exports.{Creates, Destroys, LeftBy, PendsBy, ServesBy, SettlesBy, TakenBy, WorksBy, after, device_by};
+ghost use Rattle.tirnouch_c.specs.Exports.{Creates, Destroys, LooksBy, PendsBy, ServesBy, SettlesBy, TakenBy, WorksBy, after, device_by};
 ghost use Rattle.tirnouch_c.specs.Sessions.{IsMade, IsUnmade};
 ghost use Rattle.tirnouch_c.specs.Descriptions.{Describes, Tells};
 ghost use Rattle.tirnouch_c.specs.Results.{Fetches, Takes};
@@ -503,35 +503,36 @@ pub extern "C" fn tirnouch_taken(
     answer
 }
 
-/// What is left at an endpoint of a number that may be no device's.
-fn left_in(session: &Session, dev: u8, ep: u8, told: &mut Told) -> i32
-    ensures { LeftBy dev ep result told.old told.new session.now }
+/// What is to be done at an endpoint of a number that may be no device's.
+fn look_in(session: &Session, dev: u8, ep: u8, told: &mut Told) -> i32
+    ensures { LooksBy dev ep result told.old told.new session.now }
 {
     match device(dev) {
         None => INVALID,
         Some(dev) => {
-            reads::left(session, dev, EpAddr::new(ep), told);
+            reads::look(session, dev, EpAddr::new(ep), told);
             0
         }
     }
 }
 
-/// What is left at an endpoint that a handle holds: in `n` how many answers its device still has, and in `status` 1 where it is
-/// halted, which ends by tirnouch_call's clear halt (USB 2.0, 9.4.5). Of any other endpoint what is told means nothing.
+/// What is to be done at an endpoint: `kind` is 1 where a packet does something there; `status` has 1 for an order, 2 for an event, 4
+/// for a result, wherever they are. Where a handle holds the endpoint, `n` is how many answers its device has left, and `amount` 1
+/// where it is halted, which tirnouch_call's clear halt ends (USB 2.0, 9.4.5); else these mean nothing.
 #[unsafe(no_mangle)]
-pub extern "C" fn tirnouch_left(
+pub extern "C" fn tirnouch_look(
     alloc: Global,
     slot: &mut Slot,
     dev: u8,
     ep: u8,
     told: &mut Told,
 ) -> i32
-    ensures { ReadsSlot slot.old.held.value slot.new.held.value result (LeftBy dev ep result told.old told.new) }
+    ensures { ReadsSlot slot.old.held.value slot.new.held.value result (LooksBy dev ep result told.old told.new) }
 {
     let Some(session) = slot.take(alloc) else {
         return NO_SESSION;
     };
-    let answer = left_in(&session, dev, ep, told);
+    let answer = look_in(&session, dev, ep, told);
     slot.put(alloc, session);
     answer
 }

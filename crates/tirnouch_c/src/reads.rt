@@ -1,7 +1,7 @@
 //! What can be asked without a step.
 
 ghost use Rattle.std.specs.Prelude.{◌≡◌};
-ghost use Rattle.tirnouch_c.specs.Reads.{TellsLeft, TellsPending, TellsTaken};
+ghost use Rattle.tirnouch_c.specs.Reads.{TellsLook, TellsPending, TellsTaken};
 
 use crate::results::{answer_of, fill};
 use crate::session::Session;
@@ -28,10 +28,21 @@ pub fn taken(session: &Session, dev: DeviceNo, ep: EpAddr, i: usize, buffer: &mu
     }
 }
 
-/// How many answers a device has left at an endpoint that a handle holds, and whether the endpoint is halted.
-pub fn left(session: &Session, dev: DeviceNo, ep: EpAddr, told: &mut Told)
-    ensures { TellsLeft dev ep session.now told.new }
+/// What is to be done at an endpoint, without a look at others.
+pub fn look(session: &Session, dev: DeviceNo, ep: EpAddr, told: &mut Told)
+    ensures { TellsLook dev ep session.now told.new }
 {
-    let left = session.core.answers_left(dev, ep);
-    *told = Told::left(left as u64, session.core.is_halted(dev, ep));
+    let core = &session.core;
+    let todo = u8::from(core.has_order())
+        + 2 * u8::from(core.has_event())
+        + 4 * u8::from(core.has_result());
+    *told = Told {
+        h: 255,
+        kind: u8::from(core.has_packet(dev, ep)),
+        ep: 0,
+        status: todo,
+        amount: u32::from(core.is_halted(dev, ep)),
+        n: core.answers_left(dev, ep) as u64,
+        payload: 0,
+    };
 }

@@ -3,7 +3,7 @@
 ghost use Rattle.std.specs.Prelude.{◌≡◌};
 ghost use Rattle.tirnouch_c.specs.Descriptions.{departure_told, device_told, driver_told, gate_told};
 ghost use Rattle.tirnouch_c.specs.Requests.{ended_told, needs_told};
-ghost use Rattle.tirnouch_c.specs.Reads.{left_told, pending_told};
+ghost use Rattle.tirnouch_c.specs.Reads.{pending_told};
 ghost use Rattle.tirnouch_c.specs.Results.{told_taken};
 ghost use Rattle.tirnouch_c.specs.Told.{bit, code_of, line_told, of_kind, reply_told, status_number, told_of};
 
@@ -99,17 +99,6 @@ impl Told {
         Told {
             n,
             ..Told::of_kind(255, 2)
-        }
-    }
-
-    /// How many answers are left, and whether the endpoint is halted.
-    pub fn left(left: u64, is_halted: bool) -> Told
-        ensures { result ≡ left_told left is_halted }
-    {
-        Told {
-            status: u8::from(is_halted),
-            n: left,
-            ..Told::of_kind(255, 0)
         }
     }
 
