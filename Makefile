@@ -87,7 +87,7 @@ bin/libusb-1.0.a: $(USB_OBJECTS) bin/libtirnouch_core.a
 
 bin/libusb-1.0.so.0: bin/libusb-1.0.a c/usb.map
 	@$(CC) -shared -Wl,-soname,libusb-1.0.so.0 -Wl,--version-script=c/usb.map -Wl,--whole-archive $< -Wl,--no-whole-archive -pthread -o $@
-	@ln -sf libusb-1.0.so.0 bin/libusb-1.0.so
+	@rm -f bin/libusb-1.0.so && cp $@ bin/libusb-1.0.so
 
 c-usb: bin/libusb-1.0.a bin/libusb-1.0.so.0
 

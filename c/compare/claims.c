@@ -114,6 +114,14 @@ int claim_from_driver(struct file *file, const struct usbdevfs_disconnect_claim 
     return claim_interface(file, asked->interface);
 }
 
+/* A setting begins with no endpoint halted (USB 2.0, 9.1.1.5). */
+static void end_halts(struct device *device, unsigned interface)
+{
+    for (int i = 0; i < device->endpoint_count; i++)
+        if (device->endpoints[i].interface == interface)
+            device->pipes[place_of(device->endpoints[i].address)].is_halted = false;
+}
+
 /* proc_setintf */
 int set_setting(struct file *file, const struct usbdevfs_setinterface *asked)
 {
@@ -125,6 +133,7 @@ int set_setting(struct file *file, const struct usbdevfs_setinterface *asked)
         return -EINVAL;
     end_requests(file->device, file, (int)asked->interface, -ESHUTDOWN);
     it->setting = (uint8_t)asked->altsetting;
+    end_halts(file->device, asked->interface);
     return 0;
 }
 
@@ -160,5 +169,6 @@ int reset_device(struct file *file)
         if (file->device->interfaces[i].holder)
             unbind(file->device, i);
     begin_scripts(file->device, -1);
+    file->device->is_waking = false;
     return 0;
 }

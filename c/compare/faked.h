@@ -87,7 +87,7 @@ struct request {
 
 struct device {
     int number;
-    bool is_there, is_hidden, is_gone, is_leaving, begins_anew;
+    bool is_there, is_hidden, is_gone, is_leaving, begins_anew, is_waking; /* is_waking: it may wake its host now */
     uint8_t descriptor[18], *config, *strings[256];
     int config_length, configuration, value; /* the value that is set, 0 for none, and the one there is */
     const char *speed;
@@ -117,6 +117,10 @@ struct file {
 
 extern pthread_mutex_t faked_lock;
 extern struct device faked_devices[DEVICES];
+
+/* The root hub, by its number: it has address 1, and device D has address D + FIRST_ADDRESS. */
+#define HUB (-1)
+#define FIRST_ADDRESS 2
 
 static inline unsigned two_bytes(const uint8_t *at) { return (unsigned)at[0] | (unsigned)at[1] << 8; }
 static inline unsigned place_of(unsigned ep) { return (ep & 15u) * 2 + (ep >> 7 & 1u); }

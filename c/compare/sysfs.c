@@ -1,4 +1,4 @@
-/* The attributes in /sys/bus/usb/devices that libusb reads. Device D is 1-P, with P one more than D, and has address P on bus 1. */
+/* The attributes in /sys/bus/usb/devices that libusb reads. Device D is 1-P, with P one more than D; its root hub is usb1. */
 #include "faked.h"
 
 #include <errno.h>
@@ -28,7 +28,7 @@ static int attribute_of(const struct device *device, const char *name)
     if (!strcmp(name, "busnum"))
         return number_file(1);
     if (!strcmp(name, "devnum"))
-        return number_file(device->number + 1);
+        return number_file(device->number + FIRST_ADDRESS);
     if (!strcmp(name, "speed"))
         return file_of(device->speed, strlen(device->speed), NULL, 0);
     if (!strcmp(name, "bConfigurationValue"))
@@ -39,10 +39,27 @@ static int attribute_of(const struct device *device, const char *name)
     return -1;
 }
 
+/* A root hub of Linux, of USB 2.0 (usb2_rh_dev_descriptor, hs_rh_config_descriptor). */
+static int attribute_of_hub(const char *name)
+{
+    static const uint8_t descriptor[18] = { 18, 1, 0x00, 0x02, 9, 0, 1, 64, 0x6b, 0x1d, 0x02, 0x00, 0x10, 0x01, 0, 0, 0, 1 };
+    static const uint8_t config[25] = { 9, 2, 25, 0, 1, 1, 0, 0xe0, 0, 9, 4, 0, 0, 1, 9, 0, 0, 0, 7, 5, 0x81, 3, 4, 0, 12 };
+    if (!strcmp(name, "busnum") || !strcmp(name, "devnum") || !strcmp(name, "bConfigurationValue"))
+        return number_file(1);
+    if (!strcmp(name, "speed"))
+        return number_file(480);
+    if (!strcmp(name, "descriptors"))
+        return file_of(descriptor, sizeof descriptor, config, sizeof config);
+    errno = ENOENT;
+    return -1;
+}
+
 int open_attribute(const char *path)
 {
     unsigned port;
     char name[64];
+    if (sscanf(path, "/sys/bus/usb/devices/usb1/%63s", name) == 1)
+        return attribute_of_hub(name);
     if (sscanf(path, "/sys/bus/usb/devices/1-%u/%63s", &port, name) == 2 && port >= 1 && port <= DEVICES) {
         const struct device *device = &faked_devices[port - 1];
         if (device->is_there && !device->is_hidden && !device->is_gone)

@@ -64,10 +64,13 @@ int pull_device(struct device *device)
     return 0;
 }
 
+/* The root hub is root's alone. */
 static int open_device(const char *path)
 {
-    unsigned number = (unsigned)atoi(path + strlen("/dev/bus/usb/001/"));
-    struct device *device = number >= 1 && number <= DEVICES ? &faked_devices[number - 1] : NULL;
+    unsigned address = (unsigned)atoi(path + strlen("/dev/bus/usb/001/")), number = address - FIRST_ADDRESS;
+    struct device *device = number < DEVICES ? &faked_devices[number] : NULL;
+    if (address == HUB + FIRST_ADDRESS)
+        return errno = EACCES, -1;
     if (strncmp(path, "/dev/bus/usb/001/", 17) || !device || !device->is_there || device->is_hidden || device->is_gone)
         return errno = ENOENT, -1;
     struct file *file = calloc(1, sizeof *file);

@@ -21,7 +21,7 @@ struct udev_list_entry {
     char path[40];
     struct udev_list_entry *next;
 };
-struct udev_enumerate { struct udev_list_entry entries[DEVICES]; };
+struct udev_enumerate { struct udev_list_entry entries[1 + DEVICES]; };
 
 static struct udev_device *events[MOST_EVENTS];
 static int event_count, watched = -1, is_watching;
@@ -54,8 +54,11 @@ static struct udev_device *make_device(int number, const char *action)
     if (!made)
         abort();
     made->action = action;
-    snprintf(made->name, sizeof made->name, "1-%u", ((unsigned)number + 1) & 7u);
-    snprintf(made->node, sizeof made->node, "/dev/bus/usb/001/%03u", ((unsigned)number + 1) & 7u);
+    if (number == HUB)
+        strcpy(made->name, "usb1");
+    else
+        snprintf(made->name, sizeof made->name, "1-%u", ((unsigned)number + 1) & 7u);
+    snprintf(made->node, sizeof made->node, "/dev/bus/usb/001/%03u", (unsigned)(number + FIRST_ADDRESS) & 7u);
     return made;
 }
 
@@ -140,11 +143,13 @@ int udev_monitor_get_fd(struct udev_monitor *monitor)
     return monitor->descriptor;
 }
 
-/* The earliest news, or NULL where there is none. */
+/* The earliest news, or NULL where there is none, and for no monitor: libusb asks for news when it watches no more. */
 struct udev_device *udev_monitor_receive_device(struct udev_monitor *monitor)
 {
     struct udev_device *first = NULL;
     uint64_t some;
+    if (!monitor)
+        return NULL;
     pthread_mutex_lock(&faked_lock);
     if (event_count) {
         first = events[0];
@@ -180,7 +185,8 @@ struct udev_device *udev_device_unref(struct udev_device *device)
 struct udev_device *udev_device_new_from_syspath(struct udev *udev, const char *path)
 {
     (void)udev;
-    return make_device(atoi(strrchr(path, '-') + 1) - 1, NULL);
+    const char *port = strrchr(path, '-');
+    return make_device(port ? atoi(port + 1) - 1 : HUB, NULL);
 }
 
 struct udev_enumerate *udev_enumerate_new(struct udev *udev)
@@ -212,15 +218,15 @@ int udev_enumerate_add_match_property(struct udev_enumerate *enumerate, const ch
 
 int udev_enumerate_scan_devices(struct udev_enumerate *enumerate)
 {
-    struct udev_list_entry *last = NULL;
+    struct udev_list_entry *last = &enumerate->entries[0];
     pthread_mutex_lock(&faked_lock);
+    strcpy(last->path, "/sys/bus/usb/devices/usb1");
     for (int i = 0; i < DEVICES; i++) {
-        struct udev_list_entry *it = &enumerate->entries[i];
+        struct udev_list_entry *it = &enumerate->entries[1 + i];
         if (!faked_devices[i].is_there || faked_devices[i].is_hidden || faked_devices[i].is_gone)
             continue;
         snprintf(it->path, sizeof it->path, "/sys/bus/usb/devices/1-%d", i + 1);
-        if (last)
-            last->next = it;
+        last->next = it;
         last = it;
     }
     pthread_mutex_unlock(&faked_lock);
@@ -229,10 +235,7 @@ int udev_enumerate_scan_devices(struct udev_enumerate *enumerate)
 
 struct udev_list_entry *udev_enumerate_get_list_entry(struct udev_enumerate *enumerate)
 {
-    for (int i = 0; i < DEVICES; i++)
-        if (enumerate->entries[i].path[0])
-            return &enumerate->entries[i];
-    return NULL;
+    return enumerate->entries;
 }
 
 const char *udev_list_entry_get_name(struct udev_list_entry *entry)

@@ -50,7 +50,7 @@ struct tirnouch_told {
     uint8_t status;
     /* How many bytes, packets or steps. */
     uint32_t amount;
-    /* The transfer's number, or a text's line. */
+    /* The transfer's number, or a text's line; of a request 1 where a line of the text answered it. */
     uint64_t n;
     /* What C keeps with the transfer. */
     uint64_t payload;
@@ -133,9 +133,16 @@ int32_t tirnouch_fetch(struct tirnouch_slot *slot, uint8_t *buffer, size_t buffe
 int32_t tirnouch_taken(struct tirnouch_slot *slot, uint8_t dev, uint8_t ep, size_t i, uint8_t *buffer,
     size_t buffer_room);
 
+/* What is left at an endpoint that a handle holds: in `n` how many answers its device still has, and in
+ * `status` 1 where it is halted, which ends by tirnouch_call's clear halt (USB 2.0, 9.4.5). Of any other
+ * endpoint what is told means nothing. */
+int32_t tirnouch_left(struct tirnouch_slot *slot, uint8_t dev, uint8_t ep, struct tirnouch_told *told);
+
 /* A device answers a request on its default control endpoint (USB 2.0, 9.3), of which these are the 8 bytes of
  * the setup packet. What is read stands in `buffer`, as far as there is room. `kind` is 4 where the device
- * isn't ready, else 11, with `status` and `amount` as of a transfer. */
+ * isn't ready, else 11, with `status` and `amount` as of a transfer. `n` is 1 where a line `control` of the
+ * text answered, also that it isn't ready or by a stall; 0 where its descriptors did, or nothing is said of
+ * such a request, which stalls. */
 int32_t tirnouch_request(struct tirnouch_slot *slot, uint8_t dev, const uint8_t setup[8], uint8_t *buffer,
     size_t buffer_room, struct tirnouch_told *told);
 
@@ -145,7 +152,8 @@ int32_t tirnouch_request(struct tirnouch_slot *slot, uint8_t dev, const uint8_t 
 int32_t tirnouch_needs(const uint8_t setup[8], struct tirnouch_told *told);
 
 /* A descriptor of a device by its type (USB 2.0, 9.4): 1 its device descriptor, 2 its configuration, 3 the
- * string of an index. How long it is, and its bytes, as far as there is room; NotFound where there is none. */
+ * string of an index, where index 0 has the languages of the others, if there are any. How long it is, and its
+ * bytes, as far as there is room; NotFound where there is none. */
 int32_t tirnouch_describe(struct tirnouch_slot *slot, uint8_t dev, uint8_t kind, uint8_t index, uint8_t *buffer,
     size_t buffer_room);
 

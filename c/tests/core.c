@@ -30,6 +30,11 @@ static const char meter[] =
     "device 0 0902190001010080320904000001ff00000007058102080000\n"
     "script 0 81 d:0102030405060708 d:1112 d:2122232425262728 d:3132333435363738 n d:41\n";
 
+/* A device without strings, whose class requests aren't ready. */
+static const char plain[] =
+    "device 0 0902190001010080320904000001ff00000007058102080000\n"
+    "control 0 a1 01 * 0000 n\n";
+
 static struct tirnouch_slot slot;
 static struct tirnouch_told told;
 
@@ -306,6 +311,19 @@ static void requests(void)
     request("set configuration 2", "\x00\x09\x02\x00\x00\x00\x00\x00");
 }
 
+/* Of a device without strings; and which requests a line of the text answered, told in n. */
+static void plain_requests(void)
+{
+    uint8_t data[4];
+    say("create a plain device", create(plain));
+    request("string 0", "\x80\x06\x00\x03\x00\x00\xff\x00");
+    say("describe string 0", tirnouch_describe(&slot, 0, 3, 0, data, sizeof data));
+    request("class read", "\xa1\x01\x00\x01\x00\x00\x04\x00");
+    request("status of endpoint 81", "\x82\x00\x00\x00\x81\x00\x02\x00");
+    request("status of the device", "\x80\x00\x00\x00\x00\x00\x02\x00");
+    say("destroy", tirnouch_destroy(&slot));
+}
+
 static void descriptions(void)
 {
     uint8_t data[4];
@@ -329,6 +347,7 @@ int main(void)
     descriptions();
     tell("unplug 0", call(TIRNOUCH_UNPLUG, 0, 0, 0));
     say("destroy", tirnouch_destroy(&slot));
+    plain_requests();
     lending();
     return 0;
 }

@@ -1,117 +1,35 @@
-/* The bus: its devices by a text, and what the environment says. */
+/* The bus: it begins with the first context, with the devices of a text and by what the environment says, and ends with the last. */
 #include "bus.h"
 
+#include <stdio.h>
 #include <stdlib.h>
 #include <string.h>
 
-struct process process = { .lock = PTHREAD_MUTEX_INITIALIZER, .log_level = LIBUSB_LOG_LEVEL_NONE };
+struct process process = { .lock = PTHREAD_MUTEX_INITIALIZER };
 
 /* Virtual time begins here, since 0 is no moment. */
 #define BEGINNING 1000000000u
 
-static void forget(struct device *device)
+/* The line of this number, from 1 on, without what ends it. */
+static const char *line_of(const char *text, size_t length, uint64_t number, int *line_length)
 {
-    free(device->config);
-    free(device->gates);
-    free(device->requests);
-    memset(device, 0, sizeof *device);
-}
-
-bool is_present(const struct device *device)
-{
-    return device->is_there && !device->is_hidden && !device->is_gone;
-}
-
-/* Interfaces and endpoints of the configuration's first settings, as the core has them (USB 2.0, 9.6.5, 9.6.6). */
-static void learn_endpoints(struct device *device)
-{
-    struct interface *interface = NULL;
-    const uint8_t *config = device->config;
-    for (unsigned i = 0; i < ENDPOINTS; i++)
-        device->pipes[i] = (struct pipe){ .device = device, .ep = (uint8_t)(i / 2 + i % 2 * 128) };
-    for (int at = config[0]; at + 1 < device->config_length && config[at] >= 2; at += config[at]) {
-        const uint8_t *it = config + at;
-        if (it[1] == LIBUSB_DT_INTERFACE) {
-            interface = it[2] < INTERFACES && !it[3] ? &device->interfaces[it[2]] : NULL;
-            if (interface)
-                interface->is_there = true;
-        } else if (it[1] == LIBUSB_DT_ENDPOINT && interface && it[2] & 15) {
-            struct pipe *pipe = &device->pipes[place_of(it[2])];
-            pipe->kind = it[3] & 3;
-            pipe->interface = (uint8_t)(interface - device->interfaces);
-            pipe->packet = (uint16_t)(two_bytes(it + 4) & 0x7ff);
-            pipe->most = pipe->packet ? MOST_BYTES - MOST_BYTES % pipe->packet : MOST_BYTES;
-        }
+    const char *end = text + length, *line = text;
+    for (; number > 1 && line < end; number--) {
+        const char *next = memchr(line, '\n', (size_t)(end - line));
+        line = next ? next + 1 : end;
     }
+    const char *next = memchr(line, '\n', (size_t)(end - line));
+    *line_length = (int)((next ? next : end) - line);
+    return line;
 }
 
-/* Room for one more item behind so many; NULL where memory is refused. */
-static void *one_more(void *items, size_t count, size_t size)
+/* Says which line isn't taken, and why. */
+static void complain(const char *text, size_t length, const char *name, uint64_t number)
 {
-    return realloc(items, (count + 1) * size);
-}
-
-static int learn_gates(struct device *device)
-{
-    struct tirnouch_told told = { 0 };
-    while (!tirnouch_tell(&process.bus.core, (uint8_t)device->number, 2, device->gate_count, &told)) {
-        struct gate *gates = one_more(device->gates, device->gate_count, sizeof *gates);
-        if (!gates)
-            return LIBUSB_ERROR_NO_MEM;
-        device->gates = gates;
-        gates[device->gate_count++] = (struct gate){ .ep = told.ep, .other = told.status, .place = told.amount, .count = told.n };
-    }
-    return 0;
-}
-
-static void learn_drivers(struct device *device)
-{
-    struct tirnouch_told told = { 0 };
-    for (size_t i = 0; !tirnouch_tell(&process.bus.core, (uint8_t)device->number, 1, i, &told); i++)
-        if (told.n < INTERFACES)
-            device->interfaces[told.n].has_driver = true;
-}
-
-static int learn_config(struct device *device)
-{
-    uint8_t none[1] = { 0 };
-    uint8_t number = (uint8_t)device->number;
-    int length = tirnouch_describe(&process.bus.core, number, LIBUSB_DT_CONFIG, 0, none, 0);
-    if (length < LIBUSB_DT_CONFIG_SIZE)
-        return LIBUSB_ERROR_OTHER;
-    device->config = malloc((size_t)length);
-    if (!device->config)
-        return LIBUSB_ERROR_NO_MEM;
-    device->config_length = tirnouch_describe(&process.bus.core, number, LIBUSB_DT_CONFIG, 0, device->config, (size_t)length);
-    device->configuration = device->config[5];
-    return 0;
-}
-
-static int learn(struct device *device)
-{
-    struct tirnouch_told told = { 0 };
-    int number = device->number;
-    if (tirnouch_describe(&process.bus.core, (uint8_t)number, LIBUSB_DT_DEVICE, 0, device->descriptor, 18) != 18)
-        return 0;
-    device->is_there = true;
-    if (!tirnouch_tell(&process.bus.core, (uint8_t)number, 0, 0, &told)) {
-        device->speed = told.kind;
-        device->is_hidden = told.status;
-        device->begins_anew = told.amount;
-    }
-    if (!tirnouch_tell(&process.bus.core, (uint8_t)number, 3, 0, &told)) {
-        device->leaves = true;
-        device->leaves_ep = told.ep;
-        device->leaves_behind = told.amount;
-    }
-    int r = learn_config(device);
-    if (r)
-        return r;
-    for (int i = 0; i < INTERFACES; i++)
-        device->interfaces[i].name = -1;
-    learn_endpoints(device);
-    learn_drivers(device);
-    return learn_gates(device);
+    int line_length;
+    const char *line = line_of(text, length, number, &line_length);
+    fprintf(stderr, "libusb: error %s, line %lu: not a line of devices (docs/C.md has their form): %.*s%s\n", name, (unsigned long)number,
+            line_length < 80 ? line_length : 80, line, line_length < 80 ? "" : "..");
 }
 
 static int make_core(const char *text, size_t length, const char *name)
@@ -119,13 +37,16 @@ static int make_core(const char *text, size_t length, const char *name)
     struct tirnouch_told told = { 0 };
     int r = tirnouch_create(&process.bus.core, (const uint8_t *)text, length, &told);
     if (r == LIBUSB_ERROR_INVALID_PARAM) {
-        fprintf(stderr, "libusb: error %s, line %lu: not a line of devices (docs/C.md has their form)\n", name, (unsigned long)told.n);
+        complain(text, length, name, told.n);
         return LIBUSB_ERROR_OTHER;
     }
     for (int i = 0; !r && i < DEVICES; i++) {
         process.bus.devices[i] = (struct device){ .number = i };
         r = learn(&process.bus.devices[i]);
     }
+    process.bus.devices[HUB] = (struct device){ .number = HUB };
+    if (!r)
+        r = learn_hub(&process.bus.devices[HUB]);
     if (!r)
         trace_devices(text, length);
     return r;
@@ -147,7 +68,7 @@ static char *read_file(const char *name, size_t *length)
         fclose(file);
     if (!text)
         fprintf(stderr, "libusb: error TIRNOUCH_DEVICES: %s can't be read\n", name);
-    *length = (size_t)size;
+    *length = text ? (size_t)size : 0;
     return text;
 }
 
@@ -175,9 +96,8 @@ static int begin_trace(const char *name)
         return 0;
     snprintf(numbered, sizeof numbered, process.traces ? "%s.%u" : "%s", name, process.traces + 1);
     process.traces++;
-    process.bus.trace = fopen(numbered, "w");
-    trace("# What the core did. \"usbtrace run\" does it once more.\n");
-    if (process.bus.trace)
+    process.bus.is_watched = true;
+    if (trace_begin(numbered))
         return 0;
     fprintf(stderr, "libusb: error TIRNOUCH_TRACE: %s can't be written\n", name);
     return LIBUSB_ERROR_OTHER;
@@ -186,19 +106,21 @@ static int begin_trace(const char *name)
 static void clear_bus(void)
 {
     tirnouch_destroy(&process.bus.core);
-    for (int i = 0; i < DEVICES; i++)
+    for (int i = 0; i <= HUB; i++)
         forget(&process.bus.devices[i]);
-    if (process.bus.trace)
-        fclose(process.bus.trace);
+    if (process.bus.is_traced)
+        trace_end();
     process.bus = (struct bus){ 0 };
 }
 
 int bus_begin(void)
 {
     const char *seed = getenv("TIRNOUCH_SEED"), *time = getenv("TIRNOUCH_TIME");
+    begin_limit();
     if (process.bus.users++)
         return 0;
     process.bus.seed = seed ? strtoull(seed, NULL, 10) : 0;
+    process.bus.is_watched = process.bus.seed;
     process.bus.is_virtual = time && !strcmp(time, "virtual");
     process.bus.moment = BEGINNING;
     int r = begin_trace(getenv("TIRNOUCH_TRACE"));
@@ -209,8 +131,12 @@ int bus_begin(void)
     return r;
 }
 
+/* The core's handles are closed in the trace too, so that it blames nobody who tidied up. */
 void bus_end(void)
 {
-    if (!--process.bus.users)
-        clear_bus();
+    if (--process.bus.users)
+        return;
+    for (int i = 0; process.bus.is_traced && i < DEVICES; i++)
+        give_back(&process.bus.devices[i]);
+    clear_bus();
 }

@@ -2,7 +2,16 @@
  *
  * There is one lock, `process.lock`. Everything here is read and written under it, but what a comment excepts. The program's callbacks
  * run without it. A context's `waiters` is a second one, for those who wait by libusb_wait_for_event: it is taken first, and never
- * while `process.lock` is held. */
+ * while `process.lock` is held.
+ *
+ * What outlives a call has an owner and a count:
+ *
+ *   context     `holds`: one while it is open, one for each thread that handles its events or is in a hotplug callback of it; and it
+ *               stays while one of its devices is referenced (release_context)
+ *   device      `references`: one of its context while that is open, one for each handle, and those of the program
+ *   handle      the program's, from libusb_open to libusb_close, which waits for a callback of its that runs elsewhere
+ *   transfer    the program's; in flight, the library's too: freed in flight, it goes when it has ended
+ *   hotplug     `holds`: one while it is registered, one for each call of it that runs */
 #ifndef BUS_H
 #define BUS_H
 
@@ -14,9 +23,10 @@
 #include <stdbool.h>
 #include <stddef.h>
 #include <stdint.h>
-#include <stdio.h>
 
+/* The devices of a text, by their numbers. Behind them stands the root hub, which isn't in the core. */
 #define DEVICES 4
+#define HUB DEVICES
 #define INTERFACES 32
 #define ENDPOINTS 32
 /* The core's handles: each interface that was ever claimed has one of its own. */
@@ -27,6 +37,8 @@
 /* How many control requests of a device are kept, and how often one is asked again that isn't ready. */
 #define MOST_REQUESTS 4096
 #define MOST_NAKS 4096
+/* How soon, in nanoseconds, a request is asked again for which a program's function wasn't ready. */
+#define ASK_AGAIN 1000000u
 /* More than a device can answer, and the core can have to do, at once. */
 #define ALL (1u << 20)
 
@@ -47,10 +59,11 @@ struct transfer {
     uint64_t deadline;                /* a moment in nanoseconds; 0 for none */
     uint8_t *lent;                    /* the memory of that piece, where it reads (`core_submit`) */
     int moved, piece;                 /* bytes of the pieces before, and of the one in the core */
-    unsigned naks;
+    unsigned naks;                    /* of a control transfer: how often it was asked, and its device wasn't ready */
     enum stage stage;
     enum ask ask;
     bool is_dropped, is_freed;        /* no callback: its handle was closed; and nobody has it any more */
+    bool is_stalled;                  /* its endpoint was halted by a request: the cancel that ends it is told as a stall */
 };
 
 struct transfers {
@@ -63,38 +76,44 @@ struct pipe {
     struct transfers queue;
     struct transfer *cut;             /* the one that goes in pieces, while there are more than the one in the core */
     int most;                         /* bytes of a piece but the last: whole packets, so that none goes past a piece's end */
-    uint32_t answers;                 /* how many it gave since it was made new, where that counts (`watched`) */
-    uint16_t packet;
+    struct gate *gates;               /* its answers that wait, by place; */
+    size_t gate_count, gates_passed;  /* and how many of them it is past */
+    uint32_t answers, naks;           /* how many it gave since it was made new, and of these not ready, where that counts (`is_watched`) */
+    uint32_t script;                  /* how many its device has for it, where its interface was claimed once */
+    uint16_t packet, lag;             /* lag: with a seed, for how many looks it is passed over */
     uint8_t ep, kind, interface;      /* kind: libusb_transfer_type; 0 where the device has no such endpoint */
     uint8_t in_core;                  /* at most PLACES */
     bool is_halted, is_active;
+    bool is_stopped;                  /* halted by a request of the program's: it stalls until the halt is cleared */
 };
 
 struct interface {
     bool is_there, has_driver, is_detached;
+    bool is_left;                     /* a handle that held it was open at libusb_exit */
     int name;                         /* the core's handle that claimed it; -1 for none so far */
     struct libusb_device_handle *holder;
     uint8_t setting;
 };
 
-/* The answers of `ep` from this place on wait until `count` packets were taken at `other`, or control requests where that is 0. */
+/* The answers of an endpoint from this place on wait until `count` packets were taken at `other`, or control requests where that is 0. */
 struct gate {
-    uint8_t ep, other;
     uint32_t place;
+    uint8_t other;
     uint64_t count;
 };
 
 struct device {
     int number;
     bool is_there, is_hidden, is_gone, begins_anew;
+    bool is_awaking;                  /* remote wakeup is enabled (USB 2.0, 9.4.5) */
+    uint8_t configurations;           /* how many its descriptor says, of which one is there */
     uint8_t descriptor[18];
     uint8_t *config;
     int config_length, speed;
     uint8_t configuration;            /* the value of the one that is set; 0 for none */
     struct interface interfaces[INTERFACES];
     struct pipe pipes[ENDPOINTS];
-    struct gate *gates;
-    size_t gate_count;
+    bool has_gates;
     bool leaves;                      /* pulled out behind so many answers of an endpoint */
     uint8_t leaves_ep;
     uint32_t leaves_behind;
@@ -113,6 +132,7 @@ struct libusb_device_handle {
     struct libusb_context *context;
     struct libusb_device *of;
     struct device *device;
+    unsigned number;                  /* counted by the bus from 1 on; for logs */
     uint32_t claimed;                 /* a bit an interface that it holds */
     uint32_t asked;                   /* of these, those that the program claimed itself */
     bool is_closing, detaches;
@@ -120,8 +140,10 @@ struct libusb_device_handle {
 
 struct hotplug {
     struct hotplug *next;
+    struct libusb_context *context;   /* in whose list it stands; NULL where that context ended */
+    int holds;
     int id, events, vendor, product, class;
-    bool is_over;
+    bool is_over;                     /* not registered any more */
     libusb_hotplug_callback_fn call;
     void *user;
 };
@@ -137,26 +159,37 @@ struct libusb_context {
     struct libusb_context *next;
     struct transfers flying, ended;   /* in progress; to be called back */
     uint64_t earliest;                /* no deadline is before this moment; 0 for none */
-    pthread_t handler;
-    struct libusb_device_handle *calling; /* whose callback runs; */
+    pthread_t handler;                /* who handles events, where `is_handled` */
+    struct libusb_device_handle *calling; /* whose callback runs there; */
     bool is_calling;                      /* or one of hotplug */
-    bool is_open, is_handled;         /* is_handled: somebody handles events */
-    bool is_interrupted, is_asleep, is_polled;
+    bool is_open, is_handled;
+    bool is_interrupted, is_asleep;
+    bool is_working;                  /* the handler isn't back yet: it sees by itself what is to be done */
+    bool is_polled, is_rung;          /* is_polled: the program polls by itself; is_rung: `event` can be read */
+    bool is_blind;                    /* it has no devices (LIBUSB_OPTION_NO_DEVICE_DISCOVERY) */
+    int holds;
     int users;                        /* of the default context: how often it was begun */
     int lockers;                      /* atomic: who holds `waiters`, or is about to; it grows under `process.lock` alone */
     int waiting;                      /* for `moved` */
     int event;                        /* an eventfd: it ends the handler's sleep, and tells those who poll by themselves */
+    int timer, poller;                /* a timerfd and the epoll over both, for those; -1 where nobody polls */
     struct notice *notices;           /* not told yet, of `all_notices` */
     struct hotplug *hotplugs;
     pthread_cond_t moved;             /* with process.lock: a callback returned, or nobody handles events any more */
     pthread_mutex_t waiters;
     pthread_cond_t happened;          /* with `waiters`: a callback returned, or nobody handles events any more */
     struct notice all_notices[DEVICES][2];
-    struct libusb_device devices[DEVICES];
+    struct libusb_device devices[DEVICES + 1];
     int hotplug_ids;
     int log_level;
     bool log_is_fixed;                /* by LIBUSB_DEBUG */
     libusb_log_cb log;
+};
+
+/* What an endpoint has left of its script, and whether it is halted. */
+struct rest {
+    uint32_t answers;
+    bool is_halted;
 };
 
 /* What all contexts share, as programs on one machine share its bus. */
@@ -165,30 +198,42 @@ struct bus {
     int in_core;                      /* transfers, or pieces of them */
     struct tirnouch_slot core;
     uint64_t seed;                    /* 0 for none */
-    FILE *trace;
+    bool is_traced, is_watched;       /* is_watched: answers are counted one by one, for the trace or the log */
     struct transfers controls;
-    uint64_t moment, rounds;
+    uint64_t again;                   /* when a request is to be asked again; 0 for none */
+    uint64_t stirs, settled;          /* how often there was something to be done; and how often when all was done */
+    uint64_t moment;                  /* of virtual time */
     bool is_virtual;                  /* time passes only where nothing else is to be done */
     size_t active_count;
     struct pipe *active[DEVICES * ENDPOINTS]; /* where something waits or is in the core */
     struct libusb_device_handle *handles;
+    unsigned handle_count;
     bool named[NAMES];
-    struct device devices[DEVICES];
+    struct device devices[DEVICES + 1];
+};
+
+/* What a context that is begun later has (`libusb_set_option` without a context). */
+struct defaults {
+    int log_level;
+    libusb_log_cb log;
+    bool is_blind;
 };
 
 extern struct process {
     pthread_mutex_t lock;
     struct bus bus;
-    struct libusb_context usual, *fallback, *contexts;
+    struct libusb_context *usual, *fallback, *contexts;
+    struct libusb_context nobody;     /* the default context where none is open */
+    struct defaults defaults;
     char *text;                       /* of tirnouch_plug */
     size_t text_length;
     struct {
         tirnouch_control answer;
         void *user;
     } controls[DEVICES];
-    int log_level;
     libusb_log_cb log;
     unsigned traces;                  /* how many were begun */
+    bool was_misused;                 /* it was told that the default context isn't the program's */
     uint8_t nowhere[1];               /* where memory of no bytes lies: nobody reads or writes it */
 } process;
 
@@ -206,18 +251,38 @@ static inline unsigned place_of(uint8_t ep) { return (ep & 15u) * 2 + (ep >> 7);
 /* bus.c: the bus begins with the first context and ends with the last. */
 int bus_begin(void);
 void bus_end(void);
+
+/* learn.c: what a device's lines and descriptors say */
+int learn(struct device *device);
+void forget(struct device *device);
 bool is_present(const struct device *device);
+
+/* hub.c */
+int learn_hub(struct device *device);
 
 /* log.c */
 void note(struct libusb_context *context, enum libusb_log_level level, const char *format, ...) __attribute__((format(printf, 3, 4)));
+void note_call(struct libusb_context *context, int answer, const char *function, const char *format, ...)
+    __attribute__((format(printf, 4, 5)));
+void watch_for(int level);
+
+/* why.c: why a transfer doesn't end */
+void tell_why(struct transfer *transfer, const char *what, bool always);
+void tell_all_why(struct libusb_context *context, const char *what);
+void write_all_why(int file);
+
+/* limit.c: TIRNOUCH_LIMIT */
+void begin_limit(void);
 
 /* context.c */
 struct libusb_context *usual_context(void);
 void release_context(struct libusb_context *context);
 
 /* core.c: the core's calls, each of which the trace has. A negative answer is libusb's. */
+_Noreturn void end_for_memory(void);
 int core_call(enum tirnouch_verb verb, int name, uint8_t a, uint64_t n);
 void trace_submission(struct transfer *transfer, int length, uint8_t flags, int answer);
+struct rest core_rest(const struct pipe *pipe);
 bool core_serves(const struct pipe *pipe);
 bool core_serve(struct pipe *pipe, uint32_t most, struct tirnouch_told *told);
 bool core_settle(uint32_t most);
@@ -228,20 +293,32 @@ int claim(struct libusb_device_handle *handle, int interface);
 int claim_unasked(struct libusb_device_handle *handle, int interface);
 void unclaim(struct libusb_device_handle *handle, int interface);
 int make_new(struct device *device, int interface);
+void give_back(struct device *device);
+
+/* gates.c: answers that wait for what is to happen elsewhere */
+int learn_gates(struct device *device);
+const struct gate *gate_before(struct pipe *pipe);
+uint64_t came_at(const struct device *device, uint8_t ep);
 
 /* lines.c: from the endpoints' queues into the core, and out of it */
 int submit_piece(struct transfer *transfer);
 void queue_up(struct transfer *transfer);
 bool feed(struct pipe *pipe);
+bool reap_one(void);
 bool reap(void);
 bool turn_only_one(void);
 void leave_amid(struct transfers *queue, struct transfer *transfer);
 
 /* work.c: devices, controller and events */
-void work_on(void);
+bool work_on(bool waits);
+bool serve(struct pipe *pipe, uint32_t most);
+bool feed_all(void);
 void settle_all(void);
-void shake_by_dice(void);
 int pull_out(struct device *device);
+
+/* dice.c: the same by single steps, where a seed is given */
+bool work_by_dice(bool waits);
+void shake_by_dice(void);
 
 /* transfers.c */
 void end_transfer(struct transfer *transfer, enum libusb_transfer_status status, int moved);
@@ -252,28 +329,47 @@ void withdraw(struct libusb_device_handle *handle, int interface, bool drops);
 int submit_control(struct transfer *transfer);
 bool answer_controls(void);
 
+/* standard.c: standard requests that tell and change what is kept here */
+bool is_standard(struct device *device, const uint8_t *setup);
+int answer_standard(struct device *device, const uint8_t *setup, uint8_t *data);
+void carry_out_request(struct device *device, const uint8_t *setup);
+
 /* timeouts.c */
 uint64_t now(void);
 uint64_t end_of(const struct timeval *wait);
+uint64_t nanoseconds_of(const struct timeval *wait);
 struct timespec moment_of(uint64_t nanoseconds);
 struct timespec moment_in(uint64_t nanoseconds);
 void expire(struct libusb_context *context);
 
 /* events.c */
 void ring(struct libusb_context *context);
+void drain(struct libusb_context *context);
+void wake_others(const struct libusb_context *context);
 void disturb(struct libusb_context *context);
 void tell_lockers(struct libusb_context *context);
 void wait_for_move(struct libusb_context *context);
 
+/* pollfds.c */
+void show_readiness(struct libusb_context *context);
+int poll_in_child(struct libusb_context *context);
+void end_polling(struct libusb_context *context);
+
 /* hotplug.c */
 void tell_all(struct device *device, libusb_hotplug_event event);
 bool call_hotplugs(struct libusb_context *context);
+void end_hotplugs(struct libusb_context *context);
 
-/* trace.c */
+/* trace.c: words are put behind each other, and written out when a step is whole */
+bool trace_begin(const char *name);
+void trace_end(void);
+void trace_forget(void);
 void trace_devices(const char *text, size_t length);
-void trace(const char *format, ...) __attribute__((format(printf, 1, 2)));
-void trace_bytes(const uint8_t *bytes, int count);
-void trace_answer(int answer);
+void trace_text(const char *text);
+void trace_number(uint64_t number);
+void trace_hex(const uint8_t *bytes, int count);
+void trace_comment(const char *format, ...) __attribute__((format(printf, 1, 2)));
+void trace_out(void);
 
 #include "quick.h"
 

@@ -4,6 +4,16 @@
  * where the device stands, unless its text says `anew`. What the program's handles hold is kept here. */
 #include "bus.h"
 
+/* How many answers there are at its endpoints, which stand at the beginning. */
+static void learn_scripts(struct device *device, int interface)
+{
+    for (int i = 0; i < ENDPOINTS; i++) {
+        struct pipe *pipe = &device->pipes[i];
+        if (pipe->kind && pipe->interface == interface)
+            pipe->script = core_rest(pipe).answers;
+    }
+}
+
 static int name_interface(struct device *device, int interface)
 {
     for (int name = 0; name < NAMES; name++) {
@@ -19,6 +29,7 @@ static int name_interface(struct device *device, int interface)
         }
         process.bus.named[name] = true;
         device->interfaces[interface].name = name;
+        learn_scripts(device, interface);
         return 0;
     }
     return LIBUSB_ERROR_NO_MEM;
@@ -36,11 +47,24 @@ int make_new(struct device *device, int interface)
     for (int i = 0; !r && i < ENDPOINTS; i++) {
         struct pipe *pipe = &device->pipes[i];
         if (pipe->kind && pipe->interface == interface) {
-            pipe->answers = 0;
-            pipe->is_halted = false;
+            pipe->answers = pipe->naks = 0;
+            pipe->gates_passed = 0;
+            pipe->is_halted = pipe->is_stopped = false;
         }
     }
     return r;
+}
+
+/* The bus ends: what nobody left open is released and closed in the core too. */
+void give_back(struct device *device)
+{
+    for (int i = 0; i < INTERFACES; i++) {
+        const struct interface *it = &device->interfaces[i];
+        if (!it->is_there || it->name < 0 || it->is_left)
+            continue;
+        core_call(TIRNOUCH_RELEASE, it->name, (uint8_t)i, 0);
+        core_call(TIRNOUCH_CLOSE, it->name, 0, 0);
+    }
 }
 
 int claim(struct libusb_device_handle *handle, int interface)
@@ -69,19 +93,22 @@ int claim_unasked(struct libusb_device_handle *handle, int interface)
 {
     int r = claim(handle, interface);
     if (!r)
-        note(handle->context, LIBUSB_LOG_LEVEL_WARNING, "interface %d is used before it is claimed: it is claimed", interface);
+        note(handle->context, LIBUSB_LOG_LEVEL_INFO, "interface %d is used before it is claimed: it is claimed", interface);
     return r;
 }
 
-/* Nothing of it is in progress. */
+/* Nothing of it is in progress. A driver of the system that was detached stays so: only a release by hand binds it again. */
 void unclaim(struct libusb_device_handle *handle, int interface)
 {
-    struct interface *it = &handle->device->interfaces[interface];
-    it->holder = NULL;
+    handle->device->interfaces[interface].holder = NULL;
     handle->claimed &= ~(1u << interface);
     handle->asked &= ~(1u << interface);
-    if (handle->detaches)
-        it->is_detached = false;
+}
+
+static void note_interface(struct libusb_device_handle *handle, int interface, int answer, const char *function)
+{
+    if (is_told(handle->context, answer))
+        note_call(handle->context, answer, function, "handle %u, interface %d", handle->number, interface);
 }
 
 int libusb_claim_interface(libusb_device_handle *handle, int interface)
@@ -93,6 +120,7 @@ int libusb_claim_interface(libusb_device_handle *handle, int interface)
     int r = claim(handle, interface);
     if (!r)
         handle->asked |= 1u << interface;
+    note_interface(handle, interface, r, __func__);
     unlock();
     return r;
 }
@@ -107,9 +135,12 @@ int libusb_release_interface(libusb_device_handle *handle, int interface)
     if (handle->asked >> interface & 1) {
         withdraw(handle, interface, false);
         unclaim(handle, interface);
-        wake(handle->context);
+        if (handle->detaches)
+            handle->device->interfaces[interface].is_detached = false;
+        stir(handle->context);
         r = handle->device->is_gone ? LIBUSB_ERROR_NO_DEVICE : 0;
     }
+    note_interface(handle, interface, r, __func__);
     unlock();
     return r;
 }
@@ -141,6 +172,8 @@ int libusb_set_interface_alt_setting(libusb_device_handle *handle, int interface
         return LIBUSB_ERROR_INVALID_PARAM;
     lock();
     int r = set_setting(handle, interface, setting);
+    if (is_told(handle->context, r))
+        note_call(handle->context, r, __func__, "handle %u, interface %d, setting %d", handle->number, interface, setting);
     unlock();
     return r;
 }
@@ -152,6 +185,7 @@ int libusb_kernel_driver_active(libusb_device_handle *handle, int interface)
     lock();
     const struct interface *it = &handle->device->interfaces[interface];
     int r = handle->device->is_gone ? LIBUSB_ERROR_NO_DEVICE : it->has_driver && !it->is_detached;
+    note_interface(handle, interface, r, __func__);
     unlock();
     return r;
 }

@@ -1,32 +1,23 @@
-/* Contexts: they begin and end, and what is set of them (libusb 1.0, "Library initialization/deinitialization"). */
+/* Contexts: they begin and end (libusb 1.0, "Library initialization/deinitialization"). */
 #include "bus.h"
 
-#include <stdarg.h>
+#include <fcntl.h>
 #include <stdlib.h>
 #include <sys/eventfd.h>
 #include <unistd.h>
 
+/* The default context; and where the program has none, the first other one that is open, which is its mistake. */
 struct libusb_context *usual_context(void)
 {
-    return !process.usual.is_open && process.fallback ? process.fallback : &process.usual;
+    if (process.usual)
+        return process.usual;
+    if (!process.fallback)
+        return &process.nobody;
+    if (!process.was_misused)
+        note(process.fallback, LIBUSB_LOG_LEVEL_ERROR, "a call is for the default context, which wasn't begun: another one is taken");
+    process.was_misused = true;
+    return process.fallback;
 }
-
-/* A child of fork has a lock that nobody holds. The trace is the parent's. */
-static void hold_for_fork(void)
-{
-    lock();
-    if (process.bus.trace)
-        fflush(process.bus.trace);
-}
-
-static void go_on_in_child(void)
-{
-    process.bus.trace = NULL;
-    unlock();
-}
-
-static void go_on_behind_fork(void) { unlock(); }
-static void watch_forks(void) { pthread_atfork(hold_for_fork, go_on_behind_fork, go_on_in_child); }
 
 static void begin_conditions(struct libusb_context *context)
 {
@@ -39,82 +30,93 @@ static void begin_conditions(struct libusb_context *context)
     pthread_mutex_init(&context->waiters, NULL);
 }
 
+/* Of the parent's threads a child has the one that forked. So nobody else handles events there, waits or holds a lock. */
+static void begin_in_child(struct libusb_context *context)
+{
+    bool is_mine = context->is_handled && pthread_equal(context->handler, pthread_self());
+    int event = eventfd(0, EFD_NONBLOCK | EFD_CLOEXEC);
+    if (event >= 0 && event != context->event) {
+        dup3(event, context->event, O_CLOEXEC);
+        close(event);
+    }
+    context->holds -= context->is_working && !is_mine;
+    if (!is_mine) {
+        context->is_handled = context->is_working = context->is_calling = false;
+        context->calling = NULL;
+    }
+    context->is_asleep = context->is_interrupted = context->is_rung = false;
+    context->waiting = context->lockers = 0;
+    begin_conditions(context);
+    if (context->is_polled)
+        poll_in_child(context);
+}
+
+/* The trace is the parent's. */
+static void go_on_in_child(void)
+{
+    trace_forget();
+    for (struct libusb_context *context = process.contexts; context; context = context->next)
+        begin_in_child(context);
+    unlock();
+}
+
+static void hold_for_fork(void) { lock(); }
+static void go_on_behind_fork(void) { unlock(); }
+static void watch_forks(void) { pthread_atfork(hold_for_fork, go_on_behind_fork, go_on_in_child); }
+
 static void begin_log(struct libusb_context *context)
 {
     const char *level = getenv("LIBUSB_DEBUG");
-    context->log_level = level ? atoi(level) : process.log_level;
+    context->log_level = level ? atoi(level) : process.defaults.log_level;
     context->log_is_fixed = level;
+    context->log = process.defaults.log;
+    watch_for(context->log_level);
+}
+
+/* What a program of several configurations may ask for in vain. */
+static void tell_configurations(struct libusb_context *context)
+{
+    for (int i = 0; i < DEVICES; i++) {
+        const struct device *device = &process.bus.devices[i];
+        if (device->is_there && device->configurations != 1)
+            note(context, LIBUSB_LOG_LEVEL_INFO, "device %d says %u configurations: the one of its text is there", i,
+                 device->configurations);
+    }
 }
 
 static int begin(struct libusb_context *context)
 {
-    *context = (struct libusb_context){ .is_open = true, .users = 1 };
+    *context = (struct libusb_context){ .is_open = true, .users = 1, .holds = 1, .timer = -1, .poller = -1 };
     context->event = eventfd(0, EFD_NONBLOCK | EFD_CLOEXEC);
     if (context->event < 0)
         return LIBUSB_ERROR_OTHER;
     begin_conditions(context);
     begin_log(context);
-    for (int i = 0; i < DEVICES; i++)
+    context->is_blind = process.defaults.is_blind;
+    for (int i = 0; i <= HUB; i++)
         context->devices[i] = (struct libusb_device){ .context = context, .device = &process.bus.devices[i], .references = 1 };
     context->next = process.contexts;
     process.contexts = context;
     return 0;
 }
 
-/* With the lock. */
-static int init(libusb_context **out)
+/* An option of one that begins. */
+static int set_up(struct libusb_context *context, const struct libusb_init_option *option)
 {
-    static pthread_once_t watched = PTHREAD_ONCE_INIT;
-    if (!out && process.usual.is_open) {
-        process.usual.users++;
+    int level = option->value.ival;
+    switch (option->option) {
+    case LIBUSB_OPTION_LOG_LEVEL:
+        if (level < LIBUSB_LOG_LEVEL_NONE || level > LIBUSB_LOG_LEVEL_DEBUG)
+            return LIBUSB_ERROR_INVALID_PARAM;
+        if (!context->log_is_fixed)
+            context->log_level = level;
+        watch_for(context->log_level);
         return 0;
+    case LIBUSB_OPTION_LOG_CB: context->log = option->value.log_cbval; return 0;
+    case LIBUSB_OPTION_NO_DEVICE_DISCOVERY: context->is_blind = true; return 0;
+    case LIBUSB_OPTION_USE_USBDK: return LIBUSB_ERROR_NOT_SUPPORTED;
+    default: return LIBUSB_ERROR_INVALID_PARAM;
     }
-    pthread_once(&watched, watch_forks);
-    struct libusb_context *context = out ? calloc(1, sizeof *context) : &process.usual;
-    if (!context)
-        return LIBUSB_ERROR_NO_MEM;
-    int r = bus_begin();
-    if (!r && (r = begin(context)))
-        bus_end();
-    if (r) {
-        if (out)
-            free(context);
-        else
-            process.usual = (struct libusb_context){ 0 };
-        return r;
-    }
-    if (out) {
-        *out = context;
-        if (!process.fallback)
-            process.fallback = context;
-    }
-    return 0;
-}
-
-int libusb_init(libusb_context **context)
-{
-    lock();
-    int r = init(context);
-    unlock();
-    return r;
-}
-
-/* libusb 1.0.27's, with the options that have a meaning here. */
-int libusb_init_context(libusb_context **context, const struct libusb_init_option options[], int count)
-{
-    int r = libusb_init(context);
-    for (int i = 0; !r && i < count; i++) {
-        libusb_context *it = context ? *context : NULL;
-        if (options[i].option == LIBUSB_OPTION_LOG_LEVEL)
-            r = libusb_set_option(it, LIBUSB_OPTION_LOG_LEVEL, options[i].value.ival);
-        else if (options[i].option == LIBUSB_OPTION_LOG_CB)
-            libusb_set_log_cb(it, options[i].value.log_cbval, LIBUSB_LOG_CB_CONTEXT);
-        else if (options[i].option != LIBUSB_OPTION_NO_DEVICE_DISCOVERY)
-            r = LIBUSB_ERROR_NOT_SUPPORTED;
-        if (r)
-            libusb_exit(it);
-    }
-    return r;
 }
 
 static void leave_list(struct libusb_context *context)
@@ -126,6 +128,8 @@ static void leave_list(struct libusb_context *context)
         *at = context->next;
     if (process.fallback == context)
         process.fallback = NULL;
+    if (process.usual == context)
+        process.usual = NULL;
 }
 
 /* Those who handle events leave first; a program's own thread is told to go. */
@@ -146,94 +150,120 @@ static void close_handles(struct libusb_context *context)
 {
     struct libusb_device_handle *handle = process.bus.handles;
     while (handle) {
-        if (handle->context == context) {
-            note(context, LIBUSB_LOG_LEVEL_WARNING, "a device is open at libusb_exit: it is closed");
-            unlock();
-            libusb_close(handle);
-            lock();
-            handle = process.bus.handles;
-        } else {
+        if (handle->context != context) {
             handle = handle->next;
+            continue;
         }
+        note(context, LIBUSB_LOG_LEVEL_WARNING, "the application left some devices open: handle %u is closed", handle->number);
+        for (int i = 0; i < INTERFACES; i++)
+            handle->device->interfaces[i].is_left |= handle->claimed >> i & 1;
+        unlock();
+        libusb_close(handle);
+        lock();
+        handle = process.bus.handles;
     }
 }
 
-static void free_hotplugs(struct libusb_context *context)
-{
-    while (context->hotplugs) {
-        struct hotplug *it = context->hotplugs;
-        context->hotplugs = it->next;
-        free(it);
-    }
-}
-
-/* A context's memory goes with the last reference to one of its devices. */
+/* Its memory goes with its last hold, and the last reference to one of its devices. */
 void release_context(struct libusb_context *context)
 {
-    if (context->is_open || context == &process.usual)
+    if (context->holds || context == &process.nobody)
         return;
-    for (int i = 0; i < DEVICES; i++)
+    for (int i = 0; i <= HUB; i++)
         if (__atomic_load_n(&context->devices[i].references, __ATOMIC_ACQUIRE))
             return;
+    end_polling(context);
+    close(context->event);
+    pthread_cond_destroy(&context->moved);
+    pthread_cond_destroy(&context->happened);
+    pthread_mutex_destroy(&context->waiters);
     free(context);
 }
 
 static void end(struct libusb_context *context)
 {
     context->is_open = false;
+    tell_all_why(context, "is in flight at libusb_exit");
     close_handles(context);
     send_away(context);
     leave_list(context);
-    free_hotplugs(context);
-    close(context->event);
-    pthread_cond_destroy(&context->moved);
-    pthread_cond_destroy(&context->happened);
-    pthread_mutex_destroy(&context->waiters);
-    bool referenced = false;
-    for (int i = 0; i < DEVICES; i++)
-        referenced |= __atomic_sub_fetch(&context->devices[i].references, 1, __ATOMIC_ACQ_REL) != 0;
-    if (referenced)
-        note(context, LIBUSB_LOG_LEVEL_WARNING, "a device is still referenced at libusb_exit");
-    else
-        release_context(context);
+    end_hotplugs(context);
+    for (int i = 0; i <= HUB; i++)
+        if (__atomic_sub_fetch(&context->devices[i].references, 1, __ATOMIC_ACQ_REL))
+            note(context, LIBUSB_LOG_LEVEL_WARNING, "device 1.%d is still referenced at libusb_exit", i == HUB ? 1 : i + 2);
+    context->holds--;
+    release_context(context);
     bus_end();
 }
 
+/* Where that fails its memory is gone. */
+static int begin_new(struct libusb_context *context, const struct libusb_init_option options[], int count)
+{
+    int r = bus_begin();
+    if (!r && (r = begin(context)))
+        bus_end();
+    if (r)
+        free(context);
+    for (int i = 0; !r && i < count; i++) {
+        r = set_up(context, &options[i]);
+        if (r)
+            end(context);
+    }
+    return r;
+}
+
+/* With the lock. */
+static int init(libusb_context **out, const struct libusb_init_option options[], int count)
+{
+    static pthread_once_t watched = PTHREAD_ONCE_INIT;
+    if (out)
+        *out = NULL;
+    if (!out && process.usual) {
+        process.usual->users++;
+        return 0;
+    }
+    pthread_once(&watched, watch_forks);
+    struct libusb_context *context = calloc(1, sizeof *context);
+    if (!context)
+        return LIBUSB_ERROR_NO_MEM;
+    int r = begin_new(context, options, count);
+    if (r)
+        return r;
+    if (!out) {
+        process.usual = context;
+    } else {
+        *out = context;
+        if (!process.fallback)
+            process.fallback = context;
+    }
+    tell_configurations(context);
+    if (is_told(context, 0))
+        note_call(context, 0, "libusb_init", "Tirnouch, as libusb 1.0");
+    return 0;
+}
+
+/* libusb 1.0.27's. Where an option is refused there is no context. */
+int libusb_init_context(libusb_context **context, const struct libusb_init_option options[], int count)
+{
+    lock();
+    int r = init(context, options, count);
+    unlock();
+    return r;
+}
+
+int libusb_init(libusb_context **context)
+{
+    return libusb_init_context(context, NULL, 0);
+}
+
+/* Without a context: the default one, where it was begun. */
 void libusb_exit(libusb_context *context)
 {
     lock();
-    struct libusb_context *x = context_of(context);
-    if (x->is_open && !--x->users)
+    struct libusb_context *x = context ? context : process.usual;
+    if (x && is_told(x, 0))
+        note_call(x, 0, __func__, "%s", x->users > 1 ? "used by others still" : "the last use");
+    if (x && x->is_open && !--x->users)
         end(x);
     unlock();
-}
-
-int libusb_set_option(libusb_context *context, enum libusb_option option, ...)
-{
-    va_list rest;
-    int r = 0, level;
-    va_start(rest, option);
-    switch (option) {
-    case LIBUSB_OPTION_LOG_LEVEL:
-        level = va_arg(rest, int);
-        if (level < LIBUSB_LOG_LEVEL_NONE || level > LIBUSB_LOG_LEVEL_DEBUG) {
-            r = LIBUSB_ERROR_INVALID_PARAM;
-            break;
-        }
-        if (!context) {
-            lock();
-            process.log_level = level;
-            unlock();
-        }
-        libusb_set_debug(context, level);
-        break;
-    case LIBUSB_OPTION_LOG_CB:
-        libusb_set_log_cb(context, va_arg(rest, libusb_log_cb), LIBUSB_LOG_CB_CONTEXT);
-        break;
-    case LIBUSB_OPTION_NO_DEVICE_DISCOVERY: break;
-    case LIBUSB_OPTION_USE_USBDK: r = LIBUSB_ERROR_NOT_SUPPORTED; break;
-    default: r = LIBUSB_ERROR_INVALID_PARAM;
-    }
-    va_end(rest);
-    return r;
 }

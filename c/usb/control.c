@@ -2,12 +2,16 @@
  * in no ring of the core. */
 #include "bus.h"
 
+#include <stdio.h>
 #include <stdlib.h>
 #include <string.h>
 
 #define SETUP 8
-/* The most bytes of a request behind its setup packet, as Linux has it. */
+/* The most bytes of a request behind its setup packet, as Linux has it; and how many of them the trace shows. */
 #define MOST_DATA 4096
+#define MOST_SHOWN 64
+/* Beside tirnouch.h's answers: a broken transaction, or want of memory. */
+#define FAILED (-4)
 
 /* The interface or the endpoint that a request is to must be held. */
 static int hold(struct libusb_device_handle *handle, const uint8_t *setup)
@@ -50,23 +54,44 @@ static void keep_request(struct device *device, const uint8_t *setup, int length
     memcpy(device->requests[i], setup, (size_t)(SETUP + written));
 }
 
-/* How many bytes moved, or one of tirnouch.h's answers. */
-static int answer_by_text(const struct device *device, const uint8_t *setup, uint8_t *data, int length, unsigned *naks)
+/* GET_DESCRIPTOR of the device: of several configurations one is there. */
+static bool is_of_device_descriptor(const uint8_t *setup)
 {
+    return setup[0] == LIBUSB_ENDPOINT_IN && setup[1] == LIBUSB_REQUEST_GET_DESCRIPTOR && two_bytes(setup + 2) == LIBUSB_DT_DEVICE << 8;
+}
+
+/* An answer of the core's in tirnouch.h's numbers. */
+static int answer_by_told(struct device *device, const uint8_t *setup, uint8_t *data, const struct tirnouch_told *told)
+{
+    if (told->status == LIBUSB_TRANSFER_COMPLETED && is_of_device_descriptor(setup) && !told->n && told->amount > 17)
+        data[17] = device->descriptor[17];
+    if (told->status == LIBUSB_TRANSFER_COMPLETED)
+        return (int)told->amount;
+    return told->status == LIBUSB_TRANSFER_STALL ? TIRNOUCH_STALL : FAILED;
+}
+
+/* How many bytes moved, or one of tirnouch.h's answers. Where no line of the text fits a request, `told.n` is 0. */
+static int answer_by_text(struct transfer *transfer, const uint8_t *setup, uint8_t *data, int length)
+{
+    struct device *device = transfer->handle->device;
     struct tirnouch_told told = { 0 };
-    while (*naks < MOST_NAKS) {
+    while (transfer->naks < MOST_NAKS) {
         int r = tirnouch_request(&process.bus.core, (uint8_t)device->number, setup, data, (size_t)length, &told);
         if (r < 0)
-            return r == LIBUSB_ERROR_NO_MEM ? LIBUSB_ERROR_NO_MEM : TIRNOUCH_STALL;
+            return r == LIBUSB_ERROR_NO_MEM ? FAILED : TIRNOUCH_STALL;
         if (told.kind == TIRNOUCH_CALLED)
             break;
-        ++*naks;
+        transfer->naks++;
     }
     if (told.kind != TIRNOUCH_CALLED)
         return TIRNOUCH_NOT_READY;
-    if (told.status == LIBUSB_TRANSFER_COMPLETED)
-        return (int)told.amount;
-    return told.status == LIBUSB_TRANSFER_STALL ? TIRNOUCH_STALL : LIBUSB_ERROR_NO_MEM;
+    if (!told.n && is_standard(device, setup))
+        return answer_standard(device, setup, data);
+    if (!told.n && told.status == LIBUSB_TRANSFER_STALL)
+        note(transfer->context, LIBUSB_LOG_LEVEL_INFO,
+             "device %d stalls request %02x %02x %04x %04x of %d bytes: no line of its text fits it", device->number, setup[0], setup[1],
+             two_bytes(setup + 2), two_bytes(setup + 4), length);
+    return answer_by_told(device, setup, data, &told);
 }
 
 static int answer_of(struct transfer *transfer)
@@ -79,55 +104,69 @@ static int answer_of(struct transfer *transfer)
     if (process.controls[device->number].answer)
         answer = process.controls[device->number].answer(process.controls[device->number].user, setup, data, length);
     if (answer == TIRNOUCH_AS_TEXT)
-        return answer_by_text(device, setup, data, length, &transfer->naks);
-    if (answer == TIRNOUCH_NOT_READY)
-        transfer->naks = 1;
+        return answer_by_text(transfer, setup, data, length);
+    if (answer == TIRNOUCH_NOT_READY) {
+        transfer->naks++;
+        process.bus.again = now() + ASK_AGAIN;
+    }
     return answer < length ? answer : length;
 }
 
-/* A request by hand that ends an endpoint's halt does so. */
-static void end_halt(struct device *device, const uint8_t *setup)
+/* Control requests are in no ring, so the trace has them as comments: of which device, the setup packet, and what came of it. */
+static void trace_request(const struct device *device, const uint8_t *setup, int answer)
 {
-    struct tirnouch_told told = { 0 };
-    tirnouch_needs(setup, &told);
-    if (told.kind != 2 || setup[0] != LIBUSB_RECIPIENT_ENDPOINT || setup[1] != LIBUSB_REQUEST_CLEAR_FEATURE || two_bytes(setup + 2))
-        return;
-    struct pipe *pipe = &device->pipes[place_of(told.ep)];
-    if (!pipe->in_core && !core_call(TIRNOUCH_CLEAR_HALT, device->interfaces[pipe->interface].name, pipe->ep, 0))
-        pipe->is_halted = false;
+    char bytes[2 * MOST_SHOWN + 1] = "";
+    for (int i = 0; i < answer && i < MOST_SHOWN; i++)
+        snprintf(bytes + 2 * i, 3, "%02x", setup[SETUP + i]);
+    if (answer < 0)
+        trace_comment("request %d %02x %02x %04x %04x %u %s", device->number, setup[0], setup[1], two_bytes(setup + 2),
+                      two_bytes(setup + 4), two_bytes(setup + 6), answer == TIRNOUCH_STALL ? "STALL" : "ERROR");
+    else
+        trace_comment("request %d %02x %02x %04x %04x %u COMPLETED %d %s%s", device->number, setup[0], setup[1], two_bytes(setup + 2),
+                      two_bytes(setup + 4), two_bytes(setup + 6), answer, bytes, answer > MOST_SHOWN ? ".." : "");
 }
 
 static void end_request(struct transfer *transfer, int answer)
 {
+    struct device *device = transfer->handle->device;
     const uint8_t *setup = seen(transfer)->buffer;
     bool is_short = answer < (int)two_bytes(setup + 6) && seen(transfer)->flags & LIBUSB_TRANSFER_SHORT_NOT_OK;
     leave(&process.bus.controls, transfer);
+    if (process.bus.is_traced)
+        trace_request(device, setup, answer);
     if (answer >= 0)
-        end_halt(transfer->handle->device, setup);
+        carry_out_request(device, setup);
     if (answer >= 0)
         end_transfer(transfer, is_short ? LIBUSB_TRANSFER_ERROR : LIBUSB_TRANSFER_COMPLETED, answer);
     else
         end_transfer(transfer, answer == TIRNOUCH_STALL ? LIBUSB_TRANSFER_STALL : LIBUSB_TRANSFER_ERROR, 0);
 }
 
+/* One of them, whose device isn't waited for: whether it ended. */
+static bool answer_control(struct transfer *transfer, bool *waits)
+{
+    if (transfer->handle->device->is_gone) {
+        leave(&process.bus.controls, transfer);
+        end_transfer(transfer, LIBUSB_TRANSFER_NO_DEVICE, 0);
+        return true;
+    }
+    int answer = answer_of(transfer);
+    *waits = answer == TIRNOUCH_NOT_READY;
+    if (!*waits)
+        end_request(transfer, answer);
+    return !*waits;
+}
+
 /* Requests of each device in order, behind one for which it isn't ready none; whether one ended. */
 bool answer_controls(void)
 {
     bool any = false, waits[DEVICES] = { false };
+    process.bus.again = 0;
     for (struct transfer *it = process.bus.controls.first, *behind; it; it = behind) {
-        struct device *device = it->handle->device;
+        const struct device *device = it->handle->device;
         behind = it->behind;
-        if (device->is_gone) {
-            leave(&process.bus.controls, it);
-            end_transfer(it, LIBUSB_TRANSFER_NO_DEVICE, 0);
-            any = true;
-        } else if (!waits[device->number]) {
-            int answer = answer_of(it);
-            waits[device->number] = answer == TIRNOUCH_NOT_READY;
-            any |= answer != TIRNOUCH_NOT_READY;
-            if (answer != TIRNOUCH_NOT_READY)
-                end_request(it, answer);
-        }
+        if (device->is_gone || !waits[device->number])
+            any |= answer_control(it, &waits[device->number]);
     }
     return any;
 }

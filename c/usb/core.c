@@ -1,30 +1,58 @@
 /* The core's calls, each of which the trace has, and what of them is kept here. */
 #include "bus.h"
 
-#include <inttypes.h>
+#include <stdio.h>
+#include <stdlib.h>
+
+/* The core gave back memory that isn't the transfer's: nothing is sure any more. */
+void end_for_memory(void)
+{
+    fputs("libusb: error: a result came back with memory of another transfer: this is a fault of Tirnouch's\n", stderr);
+    abort();
+}
+
+static const char *const verbs[] = {
+    [TIRNOUCH_OPEN] = "open ", [TIRNOUCH_CLOSE] = "close ", [TIRNOUCH_CLAIM] = "claim ", [TIRNOUCH_RELEASE] = "release ",
+    [TIRNOUCH_RESET] = "reset ", [TIRNOUCH_CLEAR_HALT] = "clear ", [TIRNOUCH_CANCEL] = "cancel ", [TIRNOUCH_EXPIRE] = "expire ",
+    [TIRNOUCH_UNPLUG] = "unplug ",
+};
+
+static void trace_answer(int answer)
+{
+    if (answer >= 0) {
+        trace_text("# done\n");
+        return;
+    }
+    trace_text("# answer -");
+    trace_number((uint64_t)-(int64_t)answer);
+    trace_text("\n");
+}
 
 static void trace_call(enum tirnouch_verb verb, int name, uint8_t a, uint64_t n)
 {
-    switch (verb) {
-    case TIRNOUCH_OPEN: trace("open %d %u\n", name, a); break;
-    case TIRNOUCH_CLOSE: trace("close %d\n", name); break;
-    case TIRNOUCH_CLAIM: trace("claim %d %u\n", name, a); break;
-    case TIRNOUCH_RELEASE: trace("release %d %u\n", name, a); break;
-    case TIRNOUCH_RESET: trace("reset %d\n", name); break;
-    case TIRNOUCH_CLEAR_HALT: trace("clear %d %02x\n", name, a); break;
-    case TIRNOUCH_CANCEL: trace("cancel %d %" PRIu64 "\n", name, n); break;
-    case TIRNOUCH_EXPIRE: trace("expire %d %" PRIu64 "\n", name, n); break;
-    case TIRNOUCH_UNPLUG: trace("unplug %u\n", a); break;
+    trace_text(verbs[verb]);
+    trace_number(verb == TIRNOUCH_UNPLUG ? a : (uint64_t)name);
+    if (verb == TIRNOUCH_OPEN || verb == TIRNOUCH_CLAIM || verb == TIRNOUCH_RELEASE) {
+        trace_text(" ");
+        trace_number(a);
+    } else if (verb == TIRNOUCH_CLEAR_HALT) {
+        trace_text(" ");
+        trace_hex(&a, 1);
+    } else if (verb == TIRNOUCH_CANCEL || verb == TIRNOUCH_EXPIRE) {
+        trace_text(" ");
+        trace_number(n);
     }
+    trace_text("\n");
 }
 
 int core_call(enum tirnouch_verb verb, int name, uint8_t a, uint64_t n)
 {
     struct tirnouch_told told = { 0 };
     int answer = tirnouch_call(&process.bus.core, (uint8_t)verb, (uint8_t)name, a, n, &told);
-    if (process.bus.trace) {
+    if (process.bus.is_traced) {
         trace_call(verb, name, a, n);
         trace_answer(answer);
+        trace_out();
     }
     return answer;
 }
@@ -32,35 +60,40 @@ int core_call(enum tirnouch_verb verb, int name, uint8_t a, uint64_t n)
 static void trace_request(struct transfer *transfer, int length, uint8_t flags)
 {
     const struct pipe *pipe = transfer->pipe;
-    const uint8_t *bytes = seen(transfer)->buffer;
-    trace("submit %d %02x %s ", name_of(pipe), pipe->ep, pipe->kind == LIBUSB_TRANSFER_TYPE_INTERRUPT ? "int" : "bulk");
+    trace_text("submit ");
+    trace_number((uint64_t)name_of(pipe));
+    trace_text(" ");
+    trace_hex(&pipe->ep, 1);
+    trace_text(pipe->kind == LIBUSB_TRANSFER_TYPE_INTERRUPT ? " int " : " bulk ");
     if (is_in(pipe->ep)) {
-        trace("%d", length);
+        trace_number((uint64_t)length);
     } else {
-        trace("x:");
-        for (int i = 0; i < length; i++)
-            trace("%02x", bytes[transfer->moved + i]);
+        trace_text("x:");
+        if (length)
+            trace_hex(seen(transfer)->buffer + transfer->moved, length);
     }
     if (flags & LIBUSB_TRANSFER_SHORT_NOT_OK)
-        trace(" flags=SHORT_NOT_OK%s", flags & LIBUSB_TRANSFER_ADD_ZERO_PACKET ? "+ADD_ZERO_PACKET" : "");
+        trace_text(flags & LIBUSB_TRANSFER_ADD_ZERO_PACKET ? " flags=SHORT_NOT_OK+ADD_ZERO_PACKET" : " flags=SHORT_NOT_OK");
     else if (flags & LIBUSB_TRANSFER_ADD_ZERO_PACKET)
-        trace(" flags=ADD_ZERO_PACKET");
-    if (transfer->deadline)
-        trace(" timeout=1");
-    trace("\n");
+        trace_text(" flags=ADD_ZERO_PACKET");
+    trace_text(transfer->deadline ? " timeout=1\n" : "\n");
 }
 
 void trace_submission(struct transfer *transfer, int length, uint8_t flags, int answer)
 {
     if (answer == LIBUSB_ERROR_NO_MEM) {
-        trace("# no memory, and no step\n");
+        trace_comment("no memory, and no step");
         return;
     }
     trace_request(transfer, length, flags);
-    if (answer < 0)
+    if (answer < 0) {
         trace_answer(answer);
-    else
-        trace("# number %" PRIu64 "\n", transfer->number);
+    } else {
+        trace_text("# number ");
+        trace_number(transfer->number);
+        trace_text("\n");
+    }
+    trace_out();
 }
 
 /* Whether a packet at an endpoint does something: it is the first that does, looked for from there on. */
@@ -72,12 +105,26 @@ bool core_serves(const struct pipe *pipe)
     return told.kind == 1 && told.h == device && told.ep == pipe->ep;
 }
 
+/* At an endpoint whose interface was claimed: how many answers its device has left, and whether it is halted. */
+struct rest core_rest(const struct pipe *pipe)
+{
+    struct tirnouch_told told = { 0 };
+    tirnouch_left(&process.bus.core, (uint8_t)pipe->device->number, pipe->ep, &told);
+    return (struct rest){ .answers = (uint32_t)told.n, .is_halted = told.status };
+}
+
 /* A device answers packets at an endpoint; whether something came of it. A device that has no answer left isn't ready. */
 bool core_serve(struct pipe *pipe, uint32_t most, struct tirnouch_told *told)
 {
     tirnouch_serve(&process.bus.core, (uint8_t)pipe->device->number, pipe->ep, most, told);
-    if (process.bus.trace)
-        trace("serve %d %02x\n", pipe->device->number, pipe->ep);
+    if (process.bus.is_traced) {
+        trace_text("serve ");
+        trace_number((uint64_t)pipe->device->number);
+        trace_text(" ");
+        trace_hex(&pipe->ep, 1);
+        trace_text("\n");
+        trace_out();
+    }
     return told->amount > 1 || (told->kind != TIRNOUCH_IDLE && told->kind != TIRNOUCH_NAK);
 }
 
@@ -85,7 +132,7 @@ bool core_serve(struct pipe *pipe, uint32_t most, struct tirnouch_told *told)
 bool core_settle(uint32_t most)
 {
     struct tirnouch_told told = { 0 };
-    if (!process.bus.trace) {
+    if (!process.bus.is_traced) {
         tirnouch_settle(&process.bus.core, 0, most, &told);
         return told.amount;
     }
@@ -93,7 +140,8 @@ bool core_settle(uint32_t most)
         tirnouch_pending(&process.bus.core, 255, 0, &told);
         if (!(told.status & 3))
             return done;
-        trace(told.status & 2 ? "deliver\n" : "command\n");
+        trace_text(told.status & 2 ? "deliver\n" : "command\n");
+        trace_out();
         tirnouch_settle(&process.bus.core, 0, 1, &told);
     }
     return true;
@@ -104,12 +152,25 @@ static const char *const statuses[] = { "COMPLETED", "ERROR", "TIMED_OUT", "CANC
 /* The bytes of one that was dropped aren't looked at: its buffer may be gone. */
 static void trace_result(const struct tirnouch_told *told, const struct transfer *transfer, const struct tirnouch_memory *read)
 {
-    trace("take\n# called %" PRIu64 " ep %02x %s %" PRIu32 " ", told->n, told->ep, statuses[told->status], told->amount);
+    trace_text("take\n# called ");
+    trace_number(told->n);
+    trace_text(" ep ");
+    trace_hex(&told->ep, 1);
+    trace_text(" ");
+    trace_text(statuses[told->status]);
+    trace_text(" ");
+    trace_number(told->amount);
+    trace_text(" ");
     if (transfer->is_dropped)
-        trace(is_in(told->ep) ? "?" : "-");
+        trace_text(is_in(told->ep) ? "?" : "-");
     else
-        trace_bytes(read->at, (int)read->filled);
-    trace("\nreturn %u %" PRIu64 "\n# done\n", told->h, told->n);
+        trace_hex(read->at, (int)read->filled);
+    trace_text("\nreturn ");
+    trace_number(told->h);
+    trace_text(" ");
+    trace_number(told->n);
+    trace_text("\n# done\n");
+    trace_out();
 }
 
 /* The oldest result goes out. Its transfer, or NULL where there is none. */
@@ -119,7 +180,7 @@ struct transfer *core_take(struct tirnouch_told *told)
     if (tirnouch_take(&process.bus.core, &back, told) != 1)
         return NULL;
     struct transfer *transfer = transfer_of(told, &back);
-    if (process.bus.trace)
+    if (process.bus.is_traced)
         trace_result(told, transfer, &back);
     return transfer;
 }

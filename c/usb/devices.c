@@ -3,22 +3,40 @@
 
 #include <stdlib.h>
 
-/* Each device stands at a port of its own of one bus, whose root hub has address 1. */
+/* Each device stands at a port of its own of one bus. Its root hub, which has address 1, stands at no port. */
 #define BUS_NUMBER 1
+#define HUB_ADDRESS 1
 #define FIRST_ADDRESS 2
 #define FIRST_PORT 1
 
-ssize_t libusb_get_device_list(libusb_context *context, libusb_device ***list)
+static bool is_hub(const struct libusb_device *device)
+{
+    return device->device->number == HUB;
+}
+
+/* The hub first, and then as the text has them. */
+static ssize_t list_devices(struct libusb_context *context, libusb_device **all)
 {
     ssize_t count = 0;
-    libusb_device **all = calloc(DEVICES + 1, sizeof *all);
+    if (!context->is_open || context->is_blind)
+        return 0;
+    all[count++] = libusb_ref_device(&context->devices[HUB]);
+    for (int i = 0; i < DEVICES; i++)
+        if (is_present(&process.bus.devices[i]))
+            all[count++] = libusb_ref_device(&context->devices[i]);
+    return count;
+}
+
+ssize_t libusb_get_device_list(libusb_context *context, libusb_device ***list)
+{
+    libusb_device **all = calloc(DEVICES + 2, sizeof *all);
     if (!all)
         return LIBUSB_ERROR_NO_MEM;
     lock();
     struct libusb_context *x = context_of(context);
-    for (int i = 0; x->is_open && i < DEVICES; i++)
-        if (is_present(&process.bus.devices[i]))
-            all[count++] = libusb_ref_device(&x->devices[i]);
+    ssize_t count = list_devices(x, all);
+    if (is_told(x, 0))
+        note_call(x, (int)count, __func__, "devices");
     unlock();
     *list = all;
     return count;
@@ -37,13 +55,16 @@ libusb_device *libusb_ref_device(libusb_device *device)
     return device;
 }
 
+/* With the lock, since a context that has ended goes with the last of all references to its devices: of two threads that drop one each,
+ * only the second may free it. */
 void libusb_unref_device(libusb_device *device)
 {
-    if (device && !__atomic_sub_fetch(&device->references, 1, __ATOMIC_ACQ_REL)) {
-        lock();
+    if (!device)
+        return;
+    lock();
+    if (!__atomic_sub_fetch(&device->references, 1, __ATOMIC_ACQ_REL))
         release_context(device->context);
-        unlock();
-    }
+    unlock();
 }
 
 uint8_t libusb_get_bus_number(libusb_device *device)
@@ -54,13 +75,15 @@ uint8_t libusb_get_bus_number(libusb_device *device)
 
 uint8_t libusb_get_port_number(libusb_device *device)
 {
-    return (uint8_t)(device->device->number + FIRST_PORT);
+    return is_hub(device) ? 0 : (uint8_t)(device->device->number + FIRST_PORT);
 }
 
 int libusb_get_port_numbers(libusb_device *device, uint8_t *numbers, int room)
 {
     if (room <= 0)
         return LIBUSB_ERROR_INVALID_PARAM;
+    if (is_hub(device))
+        return 0;
     numbers[0] = libusb_get_port_number(device);
     return 1;
 }
@@ -71,16 +94,14 @@ int libusb_get_port_path(libusb_context *context, libusb_device *device, uint8_t
     return libusb_get_port_numbers(device, path, room);
 }
 
-/* The root hub isn't among the devices. */
 libusb_device *libusb_get_parent(libusb_device *device)
 {
-    (void)device;
-    return NULL;
+    return is_hub(device) ? NULL : &device->context->devices[HUB];
 }
 
 uint8_t libusb_get_device_address(libusb_device *device)
 {
-    return (uint8_t)(device->device->number + FIRST_ADDRESS);
+    return is_hub(device) ? HUB_ADDRESS : (uint8_t)(device->device->number + FIRST_ADDRESS);
 }
 
 int libusb_get_device_speed(libusb_device *device)

@@ -9,18 +9,27 @@
 
 #define MINUTE 60
 
+/* An eventfd's number grows to 1, and whoever polls it is woken. */
 void ring(struct libusb_context *context)
 {
     uint64_t one = 1;
-    if (write(context->event, &one, sizeof one) < 0)
-        note(context, LIBUSB_LOG_LEVEL_DEBUG, "it was told already");
+    if (!context->is_rung)
+        context->is_rung = write(context->event, &one, sizeof one) == sizeof one;
 }
 
-static void drain(struct libusb_context *context)
+void drain(struct libusb_context *context)
 {
     uint64_t count;
-    if (context->is_polled && read(context->event, &count, sizeof count) < 0)
-        return;
+    if (context->is_rung && read(context->event, &count, sizeof count) == sizeof count)
+        context->is_rung = false;
+}
+
+/* Those with a transfer in flight, which may come to an end by what was done elsewhere. */
+void wake_others(const struct libusb_context *context)
+{
+    for (struct libusb_context *it = process.contexts; it; it = it->next)
+        if (it != context && it->flying.first)
+            wake(it);
 }
 
 void wait_for_move(struct libusb_context *context)
@@ -58,6 +67,8 @@ static void call_back(struct libusb_context *context, struct transfer *transfer)
     uint8_t flags = it->flags;
     context->calling = transfer->handle;
     context->is_calling = true;
+    if (is_told(context, 0))
+        note_call(context, it->actual_length, "callback", "endpoint %02x, status %d, bytes", it->endpoint, (int)it->status);
     unlock();
     if (it->callback)
         it->callback(it);
@@ -84,18 +95,27 @@ static bool call_ended(struct libusb_context *context)
     return any;
 }
 
-/* Until then, or until it is woken. In virtual time that is now. Whether a signal ended it. */
+/* In virtual time nothing is waited for: time passes, as far as to the first deadline of all contexts. Not where something was to be done
+ * since `stirs` was looked at: by whoever submits meanwhile, its device is asked first. */
+static void pass_time(struct libusb_context *context, uint64_t end, uint64_t stirs)
+{
+    struct bus *bus = &process.bus;
+    unlock();
+    sched_yield();
+    lock();
+    if (context->ended.first || context->notices || bus->stirs != stirs)
+        return;
+    for (struct libusb_context *it = process.contexts; it; it = it->next)
+        if (it->earliest > bus->moment && it->earliest < end)
+            end = it->earliest;
+    if (bus->moment < end)
+        bus->moment = end;
+}
+
+/* Until then, or until it is woken. Whether a signal ended it. */
 static bool sleep_until(struct libusb_context *context, uint64_t end)
 {
-    if (process.bus.is_virtual) {
-        unlock();
-        sched_yield();
-        lock();
-        if (!context->ended.first && !context->notices && process.bus.moment < end)
-            process.bus.moment = end;
-        return false;
-    }
-    uint64_t moment = now(), count;
+    uint64_t moment = now();
     struct timespec left = moment_of(end > moment ? end - moment : 0);
     struct pollfd it = { .fd = context->event, .events = POLLIN };
     context->is_asleep = true;
@@ -103,33 +123,52 @@ static bool sleep_until(struct libusb_context *context, uint64_t end)
     int r = ppoll(&it, 1, &left, NULL), why = errno;
     lock();
     context->is_asleep = false;
-    if (r > 0 && read(context->event, &count, sizeof count) < 0)
-        return false;
     return r < 0 && why == EINTR;
+}
+
+/* When whoever handles events looks again: at the end of its wait, at a deadline, or where a request is asked again. */
+static uint64_t next_look(const struct libusb_context *context, uint64_t end)
+{
+    uint64_t until = context->earliest && context->earliest < end ? context->earliest : end;
+    return process.bus.again && process.bus.again < until ? process.bus.again : until;
+}
+
+/* Something is done, or a time passes; whether a signal ended the wait. */
+static bool wait_on(struct libusb_context *context, uint64_t end, uint64_t stirs)
+{
+    uint64_t until = next_look(context, end);
+    if (!is_settled())
+        return false;
+    if (!process.bus.is_virtual)
+        return sleep_until(context, until);
+    pass_time(context, until, stirs);
+    return false;
 }
 
 /* Until something was called back, that moment, or an interruption. With the lock, as the one who handles events. A moment of 0 is now. */
 static int handle_events(struct libusb_context *context, uint64_t end)
 {
     int r = 0;
-    for (;;) {
+    context->is_working = true;
+    for (bool any = false; !any && !r;) {
+        uint64_t stirs = process.bus.stirs;
         drain(context);
-        if (context->earliest)
-            expire(context);
-        work_off();
-        bool any = context->notices && call_hotplugs(context);
+        expire(context);
+        work_off(end != 0);
+        if (context->notices)
+            any = call_hotplugs(context);
         any |= call_ended(context);
         if (any || context->is_interrupted || !end || now() >= end)
             break;
-        uint64_t until = context->earliest && context->earliest < end ? context->earliest : end;
-        if (sleep_until(context, until)) {
+        if (wait_on(context, end, stirs))
             r = LIBUSB_ERROR_INTERRUPTED;
-            break;
-        }
         if (context->is_interrupted)
             break;
     }
     context->is_interrupted = false;
+    context->is_working = false;
+    if (context->is_polled)
+        show_readiness(context);
     return r;
 }
 
@@ -160,10 +199,13 @@ static int handle_or_wait(struct libusb_context *context, uint64_t end, int *com
     }
     if (is_set(completed))
         return 0;
+    context->holds++;
     context->is_handled = true;
     context->handler = pthread_self();
     int r = handle_events(context, end);
     step_down(context);
+    context->holds--;
+    release_context(context);
     return r;
 }
 
@@ -182,7 +224,10 @@ int libusb_handle_events_timeout_completed(libusb_context *context, struct timev
     if (!is_wait(wait))
         return LIBUSB_ERROR_INVALID_PARAM;
     lock();
-    int r = handle_or_wait(context_of(context), end_or_now(wait), completed);
+    struct libusb_context *x = context_of(context);
+    if (is_told(x, 0))
+        note_call(x, 0, "libusb_handle_events", "at most %ld s %ld us", (long)wait->tv_sec, (long)wait->tv_usec);
+    int r = handle_or_wait(x, end_or_now(wait), completed);
     unlock();
     return r;
 }
@@ -209,7 +254,14 @@ int libusb_handle_events_locked(libusb_context *context, struct timeval *wait)
         return LIBUSB_ERROR_INVALID_PARAM;
     lock();
     struct libusb_context *x = context_of(context);
-    int r = x->is_calling ? LIBUSB_ERROR_BUSY : handle_events(x, end_or_now(wait));
+    int r = LIBUSB_ERROR_BUSY;
+    x->holds++;
+    if (!x->is_open)
+        r = LIBUSB_ERROR_OTHER;
+    else if (!x->is_calling || !is_handler(x))
+        r = handle_events(x, end_or_now(wait));
+    x->holds--;
+    release_context(x);
     unlock();
     return r;
 }

@@ -3,6 +3,22 @@
 
 #include <stdlib.h>
 
+/* With the lock. */
+static int open_device(struct libusb_device *device, struct libusb_device_handle *handle)
+{
+    if (!is_present(device->device))
+        return LIBUSB_ERROR_NO_DEVICE;
+    if (device->device->number == HUB)
+        return LIBUSB_ERROR_ACCESS;
+    handle->context = device->context;
+    handle->number = ++process.bus.handle_count;
+    handle->of = libusb_ref_device(device);
+    handle->device = device->device;
+    handle->next = process.bus.handles;
+    process.bus.handles = handle;
+    return 0;
+}
+
 int libusb_open(libusb_device *device, libusb_device_handle **out)
 {
     struct libusb_device_handle *handle = calloc(1, sizeof *handle);
@@ -10,19 +26,21 @@ int libusb_open(libusb_device *device, libusb_device_handle **out)
         return LIBUSB_ERROR_NO_MEM;
     lock();
     shake();
-    if (!is_present(device->device)) {
-        unlock();
-        free(handle);
-        return LIBUSB_ERROR_NO_DEVICE;
-    }
-    handle->context = device->context;
-    handle->of = libusb_ref_device(device);
-    handle->device = device->device;
-    handle->next = process.bus.handles;
-    process.bus.handles = handle;
+    int r = open_device(device, handle);
+    if (is_told(device->context, r))
+        note_call(device->context, r, __func__, "device %d, handle %u", device->device->number, handle->number);
     unlock();
-    *out = handle;
-    return 0;
+    if (r)
+        free(handle);
+    else
+        *out = handle;
+    return r;
+}
+
+static void note_handle(struct libusb_device_handle *handle, int answer, const char *function)
+{
+    if (is_told(handle->context, answer))
+        note_call(handle->context, answer, function, "handle %u", handle->number);
 }
 
 static bool has_numbers(const struct libusb_device *device, unsigned vendor, unsigned product)
@@ -70,6 +88,7 @@ void libusb_close(libusb_device_handle *handle)
     lock();
     struct libusb_context *context = handle->context;
     shake();
+    note_handle(handle, 0, __func__);
     handle->is_closing = true;
     while (context->calling == handle && !is_handler(context))
         wait_for_move(context);
@@ -78,6 +97,7 @@ void libusb_close(libusb_device_handle *handle)
         if (handle->claimed >> i & 1)
             unclaim(handle, i);
     leave_handles(handle);
+    process.bus.stirs++;
     disturb(context);
     unlock();
     libusb_unref_device(handle->of);
@@ -113,6 +133,8 @@ int libusb_set_configuration(libusb_device_handle *handle, int value)
         return LIBUSB_ERROR_INVALID_PARAM;
     lock();
     int r = set_configuration(handle->device, value);
+    if (is_told(handle->context, r))
+        note_call(handle->context, r, __func__, "handle %u, value %d", handle->number, value);
     unlock();
     return r;
 }
@@ -133,7 +155,7 @@ static int clear_halt(struct libusb_device_handle *handle, uint8_t ep)
         return LIBUSB_ERROR_BUSY;
     r = core_call(TIRNOUCH_CLEAR_HALT, handle->device->interfaces[pipe->interface].name, ep, 0);
     if (!r)
-        pipe->is_halted = false;
+        pipe->is_halted = pipe->is_stopped = false;
     return r;
 }
 
@@ -142,6 +164,8 @@ int libusb_clear_halt(libusb_device_handle *handle, unsigned char ep)
     lock();
     shake();
     int r = clear_halt(handle, ep);
+    if (is_told(handle->context, r))
+        note_call(handle->context, r, __func__, "handle %u, endpoint %02x", handle->number, ep);
     unlock();
     return r;
 }
@@ -161,7 +185,7 @@ static int reset(struct libusb_device_handle *handle)
             return r;
         device->interfaces[i].setting = 0;
     }
-    wake(handle->context);
+    stir(handle->context);
     return 0;
 }
 
@@ -170,6 +194,7 @@ int libusb_reset_device(libusb_device_handle *handle)
     lock();
     shake();
     int r = reset(handle);
+    note_handle(handle, r, __func__);
     unlock();
     return r;
 }

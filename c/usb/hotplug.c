@@ -14,16 +14,37 @@ static bool is_asked_for(const struct hotplug *it, const struct device *device, 
            (it->class == LIBUSB_HOTPLUG_MATCH_ANY || it->class == bytes[4]);
 }
 
-/* Without the lock while it runs; one that answers 1 isn't called any more. */
+/* Once less: with the last hold it leaves its list, and goes. Until then it stands in it, so that whoever is in the list goes on from it. */
+static void let_go(struct hotplug *it)
+{
+    if (--it->holds)
+        return;
+    if (it->context) {
+        struct hotplug **at = &it->context->hotplugs;
+        while (*at != it)
+            at = &(*at)->next;
+        *at = it->next;
+    }
+    free(it);
+}
+
+/* It isn't called any more. */
+static void finish(struct hotplug *it)
+{
+    if (it->is_over)
+        return;
+    it->is_over = true;
+    let_go(it);
+}
+
+/* Without the lock while it runs; one that answers 1 isn't called any more. The caller holds it. */
 static void call(struct libusb_context *context, struct hotplug *it, struct libusb_device *device, libusb_hotplug_event event)
 {
-    bool is_nested = context->is_calling;
-    context->is_calling = true;
     unlock();
     int is_over = it->call(context, device, event, it->user);
     lock();
-    context->is_calling = is_nested;
-    it->is_over |= is_over != 0;
+    if (is_over)
+        finish(it);
 }
 
 /* Every context is told when it handles events next. */
@@ -31,6 +52,8 @@ void tell_all(struct device *device, libusb_hotplug_event event)
 {
     for (struct libusb_context *context = process.contexts; context; context = context->next) {
         struct notice **at = &context->notices;
+        if (context->is_blind)
+            continue;
         struct notice *it = &context->all_notices[device->number][event == LIBUSB_HOTPLUG_EVENT_DEVICE_LEFT];
         wake(context);
         *it = (struct notice){ .device = &context->devices[device->number], .event = event };
@@ -40,18 +63,19 @@ void tell_all(struct device *device, libusb_hotplug_event event)
     }
 }
 
-/* Those that are over go where no callback of theirs can run. */
-static void sweep(struct libusb_context *context)
+static bool call_for(struct libusb_context *context, const struct notice *notice)
 {
-    for (struct hotplug **at = &context->hotplugs; *at;) {
-        struct hotplug *it = *at;
-        if (it->is_over) {
-            *at = it->next;
-            free(it);
-        } else {
-            at = &it->next;
+    bool any = false;
+    for (struct hotplug *it = context->hotplugs, *next; it; it = next) {
+        it->holds++;
+        if (is_asked_for(it, notice->device->device, notice->event)) {
+            call(context, it, notice->device, notice->event);
+            any = true;
         }
+        next = it->next;
+        let_go(it);
     }
+    return any;
 }
 
 /* As the one who handles events; whether one was called. */
@@ -59,25 +83,40 @@ bool call_hotplugs(struct libusb_context *context)
 {
     bool any = false;
     struct notice *notice;
+    context->is_calling = true;
     while ((notice = context->notices)) {
         context->notices = notice->next;
-        for (struct hotplug *it = context->hotplugs; it; it = it->next) {
-            if (!is_asked_for(it, notice->device->device, notice->event))
-                continue;
-            call(context, it, notice->device, notice->event);
-            any = true;
-        }
-        sweep(context);
+        any |= call_for(context, notice);
     }
+    context->is_calling = false;
     return any;
 }
 
+/* By whoever registers it: beside this other threads handle events, and the context stays. */
 static void enumerate(struct libusb_context *context, struct hotplug *it)
 {
-    for (int i = 0; i < DEVICES; i++) {
-        struct libusb_device *device = &context->devices[i];
-        if (is_present(device->device) && is_asked_for(it, device->device, LIBUSB_HOTPLUG_EVENT_DEVICE_ARRIVED))
+    context->holds++;
+    it->holds++;
+    for (int i = 0; i <= DEVICES; i++) {
+        struct libusb_device *device = &context->devices[i < 1 ? HUB : i - 1];
+        if (is_present(device->device) && !context->is_blind && is_asked_for(it, device->device, LIBUSB_HOTPLUG_EVENT_DEVICE_ARRIVED))
             call(context, it, device, LIBUSB_HOTPLUG_EVENT_DEVICE_ARRIVED);
+    }
+    let_go(it);
+    context->holds--;
+    release_context(context);
+}
+
+/* The context ends. An entry whose callback runs still goes when that is back. */
+void end_hotplugs(struct libusb_context *context)
+{
+    struct hotplug *it = context->hotplugs;
+    context->hotplugs = NULL;
+    while (it) {
+        struct hotplug *next = it->next;
+        it->context = NULL;
+        finish(it);
+        it = next;
     }
 }
 
@@ -99,11 +138,18 @@ int libusb_hotplug_register_callback(libusb_context *context, int events, int fl
         return LIBUSB_ERROR_NO_MEM;
     lock();
     struct libusb_context *x = context_of(context);
-    *it = (struct hotplug){ .next = x->hotplugs, .id = ++x->hotplug_ids, .events = events, .vendor = vendor, .product = product,
-                            .class = class, .call = call, .user = user };
+    if (!x->is_open) {
+        unlock();
+        free(it);
+        return LIBUSB_ERROR_OTHER;
+    }
+    *it = (struct hotplug){ .next = x->hotplugs, .context = x, .holds = 1, .id = ++x->hotplug_ids, .events = events, .vendor = vendor,
+                            .product = product, .class = class, .call = call, .user = user };
     x->hotplugs = it;
     if (out)
         *out = it->id;
+    if (is_told(x, 0))
+        note_call(x, it->id, __func__, "events %d, flags %d, vendor %d, product %d, class %d", events, flags, vendor, product, class);
     if (flags & LIBUSB_HOTPLUG_ENUMERATE)
         enumerate(x, it);
     unlock();
@@ -123,7 +169,7 @@ void libusb_hotplug_deregister_callback(libusb_context *context, libusb_hotplug_
     lock();
     struct hotplug *it = find(context_of(context), id);
     if (it)
-        it->is_over = true;
+        finish(it);
     unlock();
 }
 

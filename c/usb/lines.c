@@ -60,11 +60,25 @@ void queue_up(struct transfer *transfer)
     activate(transfer->pipe);
 }
 
+/* Behind a halt by the program's own request; whether one ended. */
+static bool stall_all(struct pipe *pipe)
+{
+    bool any = pipe->queue.first;
+    while (pipe->queue.first) {
+        struct transfer *transfer = pipe->queue.first;
+        leave(&pipe->queue, transfer);
+        end_transfer(transfer, LIBUSB_TRANSFER_STALL, transfer->moved);
+    }
+    return any;
+}
+
 /* Those that wait go on into the core, as far as there is room; whether one did. */
 bool feed(struct pipe *pipe)
 {
     bool any = false;
     struct transfer *transfer;
+    if (pipe->is_stopped)
+        return stall_all(pipe);
     while ((transfer = pipe->queue.first) && may_go(pipe, transfer)) {
         leave(&pipe->queue, transfer);
         int r = submit_piece(transfer);
@@ -79,11 +93,18 @@ bool feed(struct pipe *pipe)
     return any;
 }
 
+/* What a result tells the program: one that was withdrawn for its endpoint's halt has stalled. */
+static inline enum libusb_transfer_status status_of(const struct transfer *transfer, const struct tirnouch_told *told)
+{
+    bool is_halt = transfer->is_stalled && told->status == LIBUSB_TRANSFER_CANCELLED;
+    return is_halt ? LIBUSB_TRANSFER_STALL : told->status;
+}
+
 /* Of a transfer that goes in pieces: the next one waits for its place, before all others. */
 static void finish_piece(struct transfer *transfer, const struct tirnouch_told *told)
 {
     if (told->status != LIBUSB_TRANSFER_COMPLETED || (int)told->amount != transfer->piece || transfer->is_dropped) {
-        end_transfer(transfer, told->status, transfer->moved + (int)told->amount);
+        end_transfer(transfer, status_of(transfer, told), transfer->moved + (int)told->amount);
         return;
     }
     transfer->moved += transfer->piece;
@@ -105,21 +126,26 @@ static inline void finish(struct transfer *transfer, const struct tirnouch_told 
     if (pipe->cut == transfer)
         finish_piece(transfer, told);
     else
-        end_transfer(transfer, told->status, transfer->moved + (int)told->amount);
+        end_transfer(transfer, status_of(transfer, told), transfer->moved + (int)told->amount);
     if (pipe->queue.first)
         feed(pipe);
 }
 
-/* Results go out of the core; whether there was one. */
-bool reap(void)
+/* A result goes out of the core; whether there was one. */
+bool reap_one(void)
 {
     struct tirnouch_told told;
-    struct transfer *transfer;
-    bool any = false;
-    while (process.bus.in_core && (transfer = core_take(&told))) {
+    struct transfer *transfer = process.bus.in_core ? core_take(&told) : NULL;
+    if (transfer)
         finish(transfer, &told);
+    return transfer;
+}
+
+bool reap(void)
+{
+    bool any = false;
+    while (reap_one())
         any = true;
-    }
     return any;
 }
 

@@ -5,8 +5,6 @@
 
 #include "bus.h"
 
-#include <assert.h>
-
 /* The context that a call is for: NULL stands for the default one, and for another where that one wasn't begun. */
 static inline struct libusb_context *context_of(struct libusb_context *context)
 {
@@ -26,8 +24,23 @@ static inline bool is_set(int *completed)
 /* Who sleeps over the context's events, or polls by itself, is told that there is something to do. */
 static inline void wake(struct libusb_context *context)
 {
-    if (context->is_asleep || context->is_polled)
+    if (context->is_asleep || (context->is_polled && !context->is_working))
         ring(context);
+}
+
+/* Devices and controller have something to do. Who handles events is told, those of other contexts too: what one program does may be what
+ * another's device waits for. */
+static inline void stir(struct libusb_context *context)
+{
+    process.bus.stirs++;
+    wake(context);
+    if (process.contexts->next)
+        wake_others(context);
+}
+
+static inline bool is_settled(void)
+{
+    return process.bus.settled == process.bus.stirs;
 }
 
 /* Those who wait by libusb_wait_for_event. The lock is let go meanwhile, and the context stays. */
@@ -37,12 +50,14 @@ static inline void tell_waiters(struct libusb_context *context)
         tell_lockers(context);
 }
 
-/* What devices, controller and events have to do, until nothing is left. */
-static inline void work_off(void)
+/* What devices, controller and events have to do, until nothing is left; with a seed until it is enough by dice. `waits`: whoever calls
+ * goes on until something is called back. */
+static inline void work_off(bool waits)
 {
-    process.bus.rounds++;
-    if (turn_only_one())
-        work_on();
+    if (!turn_only_one() || work_on(waits))
+        process.bus.settled = process.bus.stirs;
+    else
+        process.bus.stirs++;
 }
 
 /* Nobody handles events any more. */
@@ -120,7 +135,13 @@ static inline int submit_at_endpoint(struct transfer *transfer)
 /* Whether a device's answers are looked at one by one. */
 static inline bool is_watched(const struct device *device)
 {
-    return device->gate_count || device->leaves || process.bus.trace;
+    return device->has_gates || device->leaves || process.bus.is_watched;
+}
+
+/* Whether a call of this answer is told: a refusal at level 3, any other at level 4. */
+static inline bool is_told(const struct libusb_context *context, int answer)
+{
+    return context->log_level >= (answer < 0 ? LIBUSB_LOG_LEVEL_INFO : LIBUSB_LOG_LEVEL_DEBUG);
 }
 
 static inline int name_of(const struct pipe *pipe)
@@ -152,7 +173,7 @@ static inline int core_submit(struct transfer *transfer, int length, uint8_t fla
         transfer->number = told.n;
         transfer->lent = lends ? at : process.nowhere;
     }
-    if (process.bus.trace)
+    if (process.bus.is_traced)
         trace_submission(transfer, length, flags, answer);
     return answer;
 }
@@ -162,7 +183,8 @@ static inline int core_submit(struct transfer *transfer, int length, uint8_t fla
 static inline struct transfer *transfer_of(const struct tirnouch_told *told, const struct tirnouch_memory *back)
 {
     struct transfer *transfer = (struct transfer *)(uintptr_t)told->payload;
-    assert(back->at == transfer->lent);
+    if (back->at != transfer->lent)
+        end_for_memory();
     return transfer;
 }
 

@@ -15,9 +15,17 @@ uint64_t now(void)
     return (uint64_t)it.tv_sec * SECOND + (uint64_t)it.tv_nsec;
 }
 
+/* A wait of more than some hundred years is one of so many: all sums stay within 64 bits. */
+uint64_t nanoseconds_of(const struct timeval *wait)
+{
+    const uint64_t most = 10000000000u;
+    uint64_t seconds = (uint64_t)wait->tv_sec < most ? (uint64_t)wait->tv_sec : most;
+    return seconds * SECOND + (uint64_t)wait->tv_usec * 1000u;
+}
+
 uint64_t end_of(const struct timeval *wait)
 {
-    return now() + (uint64_t)wait->tv_sec * SECOND + (uint64_t)wait->tv_usec * 1000u;
+    return now() + nanoseconds_of(wait);
 }
 
 struct timespec moment_of(uint64_t nanoseconds)
@@ -46,24 +54,18 @@ void expire(struct libusb_context *context)
         next = it->next;
         if (!it->deadline || it->ask)
             continue;
-        if (it->deadline <= moment)
+        if (it->deadline <= moment) {
+            tell_why(it, "is at the end of its time", true);
             cancel(it, ASKED_TO_EXPIRE);
-        else if (!context->earliest || it->deadline < context->earliest)
+        } else if (!context->earliest || it->deadline < context->earliest) {
             context->earliest = it->deadline;
+        }
     }
 }
 
+/* Never one: the descriptor of libusb_get_pollfds tells of timeouts too, as on Linux. */
 int libusb_get_next_timeout(libusb_context *context, struct timeval *wait)
 {
-    uint64_t earliest = 0;
-    lock();
-    for (struct transfer *it = context_of(context)->flying.first; it; it = it->next)
-        if (it->deadline && !it->ask && (!earliest || it->deadline < earliest))
-            earliest = it->deadline;
-    uint64_t moment = now(), left = earliest > moment ? earliest - moment : 0;
-    unlock();
-    if (!earliest)
-        return 0;
-    *wait = (struct timeval){ .tv_sec = (time_t)(left / SECOND), .tv_usec = (suseconds_t)(left % SECOND / 1000) };
-    return 1;
+    (void)context, (void)wait;
+    return 0;
 }

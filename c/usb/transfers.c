@@ -73,8 +73,10 @@ int cancel(struct transfer *transfer, enum ask ask)
         r = core_call(expires ? TIRNOUCH_EXPIRE : TIRNOUCH_CANCEL, name, 0, transfer->number);
         if (r == LIBUSB_ERROR_NOT_FOUND && pipe->cut == transfer)
             r = 0;
-        if (!r)
+        if (!r) {
             transfer->ask = ask;
+            stir(transfer->context);
+        }
         return r;
     }
     if (transfer->stage == QUEUED)
@@ -111,7 +113,9 @@ void withdraw(struct libusb_device_handle *handle, int interface, bool drops)
         if (it->handle != handle || (interface >= 0 && (!it->pipe || it->pipe->interface != interface)))
             continue;
         if (drops) {
-            note(context, LIBUSB_LOG_LEVEL_ERROR, "a handle is closed with a transfer in progress: it is dropped");
+            tell_why(it, "is in flight as its handle is closed", true);
+            note(context, LIBUSB_LOG_LEVEL_ERROR, "a handle is closed with a transfer in flight at %02x: it is dropped",
+                 seen(it)->endpoint);
             it->is_dropped = true;
             __atomic_store_n(&seen(it)->dev_handle, NULL, __ATOMIC_RELEASE);
         }
@@ -130,6 +134,14 @@ static bool fits(const struct pipe *pipe, const struct libusb_transfer *it)
     return it->type == pipe->kind || (it->type == LIBUSB_TRANSFER_TYPE_BULK && pipe->kind == LIBUSB_TRANSFER_TYPE_INTERRUPT);
 }
 
+/* At an endpoint that a request of the program's halted: it stalls, without an answer of the device's script (USB 2.0, 9.4.9). */
+static int submit_to_stopped(struct transfer *transfer)
+{
+    transfer->is_stalled = true;
+    queue_up(transfer);
+    return 0;
+}
+
 static int submit_to_pipe(struct transfer *transfer)
 {
     const struct libusb_transfer *it = seen(transfer);
@@ -142,7 +154,7 @@ static int submit_to_pipe(struct transfer *transfer)
     if (r)
         return r;
     transfer->pipe = pipe;
-    return submit_at_endpoint(transfer);
+    return pipe->is_stopped ? submit_to_stopped(transfer) : submit_at_endpoint(transfer);
 }
 
 /* As a new one. Its places in lists are set where it joins them. */
@@ -156,7 +168,7 @@ static void begin_anew(struct transfer *transfer, struct libusb_device_handle *h
     transfer->moved = transfer->piece = 0;
     transfer->naks = 0;
     transfer->ask = ASKED_NOTHING;
-    transfer->is_dropped = transfer->is_freed = false;
+    transfer->is_dropped = transfer->is_freed = transfer->is_stalled = false;
 }
 
 static int submit(struct transfer *transfer)
@@ -180,8 +192,14 @@ static int submit(struct transfer *transfer)
     uint64_t *earliest = &handle->context->earliest;
     if (transfer->deadline && (!*earliest || transfer->deadline < *earliest))
         *earliest = transfer->deadline;
-    wake(handle->context);
+    stir(handle->context);
     return 0;
+}
+
+static void note_submission(const struct libusb_transfer *it, int answer)
+{
+    note_call(it->dev_handle->context, answer, "libusb_submit_transfer", "handle %u, endpoint %02x, type %u, %d bytes, timeout %u",
+              it->dev_handle->number, it->endpoint, it->type, it->length, it->timeout);
 }
 
 int libusb_submit_transfer(struct libusb_transfer *transfer)
@@ -191,17 +209,28 @@ int libusb_submit_transfer(struct libusb_transfer *transfer)
     lock();
     shake();
     int r = submit(kept(transfer));
+    if (is_told(transfer->dev_handle->context, r))
+        note_submission(transfer, r);
     unlock();
     return r;
 }
 
+/* One that was never submitted has no context yet. */
+static void note_cancel(struct transfer *it, int answer)
+{
+    if (it->context && is_told(it->context, answer))
+        note_call(it->context, answer, "libusb_cancel_transfer", "endpoint %02x, %d bytes", seen(it)->endpoint, seen(it)->length);
+}
+
 int libusb_cancel_transfer(struct libusb_transfer *transfer)
 {
+    struct transfer *it = kept(transfer);
     lock();
     shake();
-    int r = cancel(kept(transfer), ASKED_TO_CANCEL);
-    if (!r)
-        wake(kept(transfer)->context);
+    if (it->stage != AT_REST && it->stage != ENDED && !it->ask)
+        tell_why(it, "is cancelled", false);
+    int r = cancel(it, ASKED_TO_CANCEL);
+    note_cancel(it, r);
     unlock();
     return r;
 }
@@ -221,7 +250,8 @@ void libusb_free_transfer(struct libusb_transfer *transfer)
             leave(&it->context->ended, it);
         free(it);
     } else {
-        note(it->context, LIBUSB_LOG_LEVEL_ERROR, "a transfer is freed in progress: it is cancelled and dropped");
+        note(it->context, LIBUSB_LOG_LEVEL_ERROR, "a transfer is freed in flight at %02x: it is cancelled and dropped",
+             transfer->endpoint);
         it->is_dropped = it->is_freed = true;
         cancel(it, ASKED_TO_CANCEL);
         do

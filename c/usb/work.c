@@ -1,34 +1,6 @@
 /* What devices, controller and events have to do, until nothing is left. It is done where the program handles events. */
 #include "bus.h"
 
-static unsigned dice(unsigned sides)
-{
-    process.bus.seed = process.bus.seed * 6364136223846793005u + 1442695040888963407u;
-    return (unsigned)(process.bus.seed >> 33) % sides;
-}
-
-static bool is_reached(const struct device *device, const struct gate *gate)
-{
-    uint8_t none[1];
-    if (!gate->count)
-        return true;
-    if (!gate->other)
-        return device->request_count >= gate->count;
-    return tirnouch_taken(&process.bus.core, (uint8_t)device->number, gate->other, (size_t)(gate->count - 1), none, 0) >= 0;
-}
-
-/* Whether an endpoint's next answer waits for what is to happen elsewhere. */
-static bool is_held_back(const struct pipe *pipe)
-{
-    const struct device *device = pipe->device;
-    for (size_t i = 0; i < device->gate_count && !device->is_gone; i++) {
-        const struct gate *gate = &device->gates[i];
-        if (gate->ep == pipe->ep && pipe->answers >= gate->place && !is_reached(device, gate))
-            return true;
-    }
-    return false;
-}
-
 static bool is_leaving(const struct pipe *pipe)
 {
     const struct device *device = pipe->device;
@@ -40,6 +12,7 @@ int pull_out(struct device *device)
     int r = core_call(TIRNOUCH_UNPLUG, 0, (uint8_t)device->number, 0);
     if (!r) {
         device->is_gone = true;
+        process.bus.stirs++;
         tell_all(device, LIBUSB_HOTPLUG_EVENT_DEVICE_LEFT);
     }
     return r;
@@ -51,6 +24,7 @@ static void count_answer(struct pipe *pipe, const struct tirnouch_told *told)
     bool stalled = told->kind == TIRNOUCH_ENDED && told->status == 6;
     if (!stalled || !pipe->is_halted)
         pipe->answers++;
+    pipe->naks += told->kind == TIRNOUCH_NAK;
     pipe->is_halted = stalled;
 }
 
@@ -67,7 +41,7 @@ static bool serve_one(struct pipe *pipe)
 }
 
 /* A device answers at an endpoint, at most so many packets; whether something came of it. */
-static bool serve(struct pipe *pipe, uint32_t most)
+bool serve(struct pipe *pipe, uint32_t most)
 {
     struct tirnouch_told told = { 0 };
     bool any = false, goes_on = true;
@@ -75,7 +49,7 @@ static bool serve(struct pipe *pipe, uint32_t most)
         return core_serve(pipe, most, &told);
     if (is_leaving(pipe))
         any = !pull_out(pipe->device);
-    for (uint32_t i = 0; goes_on && i < most && !is_held_back(pipe) && core_serves(pipe); i++) {
+    for (uint32_t i = 0; goes_on && i < most && !gate_before(pipe) && core_serves(pipe); i++) {
         goes_on = serve_one(pipe);
         any = true;
     }
@@ -86,15 +60,13 @@ static bool serve_all(void)
 {
     struct bus *bus = &process.bus;
     bool any = false;
-    for (size_t i = 0; i < bus->active_count; i++) {
-        struct pipe *pipe = bus->active[bus->seed ? (bus->rounds * 7919u + i) % bus->active_count : i];
-        if (pipe->in_core)
-            any |= serve(pipe, bus->seed ? 1 + dice(3) : ALL);
-    }
+    for (size_t i = 0; i < bus->active_count; i++)
+        if (bus->active[i]->in_core)
+            any |= serve(bus->active[i], ALL);
     return any;
 }
 
-static bool feed_all(void)
+bool feed_all(void)
 {
     struct bus *bus = &process.bus;
     bool any = false;
@@ -130,22 +102,12 @@ static bool work_once(void)
     return any;
 }
 
-void work_on(void)
+/* Whether all is done; false where dice end it before. */
+bool work_on(bool waits)
 {
+    if (process.bus.seed)
+        return work_by_dice(waits);
     while (work_once() && turn_only_one()) {
     }
-}
-
-void shake_by_dice(void)
-{
-    struct bus *bus = &process.bus;
-    for (unsigned left = dice(4); left; left--) {
-        unsigned step = dice(3);
-        if (step == 0 && bus->active_count)
-            serve(bus->active[dice((unsigned)bus->active_count)], 1);
-        else if (step == 1)
-            core_settle(1);
-        else if (step == 2)
-            reap();
-    }
+    return true;
 }

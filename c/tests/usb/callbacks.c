@@ -210,7 +210,7 @@ static void *make_calls(void *user)
     libusb_device **list;
     struct libusb_transfer *transfer = user;
     libusb_device_handle *another = open_standard(context);
-    number("devices", libusb_get_device_list(context, &list));
+    number("devices", list_devices(context, &list));
     libusb_free_device_list(list, 1);
     answer("claim", libusb_claim_interface(another, 1));
     transfer->dev_handle = another;

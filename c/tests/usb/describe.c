@@ -19,7 +19,7 @@ static libusb_device **list;
 static void begin_list(const char *name)
 {
     begin_text(name, rich);
-    number("devices", libusb_get_device_list(context, &list));
+    number("devices", list_devices(context, &list));
 }
 
 static void end_list(void)
@@ -103,7 +103,7 @@ static void numbers(void)
     answer("path", libusb_get_port_numbers(list[1], ports, 7));
     say(ports[0] == libusb_get_port_number(list[1]) ? "its port" : "another port");
     answer("path without room", libusb_get_port_numbers(list[1], ports, 0));
-    say(libusb_get_parent(list[0]) ? "a parent" : "no parent");
+    say(libusb_get_parent(list[0]) && is_hub(libusb_get_parent(list[0])) ? "at the root hub" : "at another");
     end_list();
 }
 
@@ -127,7 +127,7 @@ static void references(void)
     end();
 
     begin_text("no device at all", "");
-    number("devices", libusb_get_device_list(context, &list));
+    number("devices", list_devices(context, &list));
     say(list[0] ? "one" : "none");
     libusb_free_device_list(list, 1);
     end();
@@ -140,10 +140,10 @@ static void default_context(void)
     answer("plug", tirnouch_plug(STANDARD, sizeof STANDARD - 1));
     answer("init", libusb_init(NULL));
     answer("init again", libusb_init(NULL));
-    number("devices", libusb_get_device_list(NULL, &list));
+    number("devices", list_devices(NULL, &list));
     libusb_free_device_list(list, 1);
     libusb_exit(NULL);
-    number("devices", libusb_get_device_list(NULL, &list));
+    number("devices", list_devices(NULL, &list));
     libusb_free_device_list(list, 1);
     libusb_exit(NULL);
 }

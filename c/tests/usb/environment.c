@@ -22,7 +22,7 @@ static void show_devices(const char *scene)
     libusb_context *own = NULL;
     puts(scene);
     answer("init", libusb_init(&own));
-    number("devices", libusb_get_device_list(own, &list));
+    number("devices", list_devices(own, &list));
     for (int i = 0; list[i]; i++) {
         libusb_get_device_descriptor(list[i], &descriptor);
         printf("  %04x:%04x\n", descriptor.idVendor, descriptor.idProduct);

@@ -385,35 +385,20 @@ static void polled(void)
     end();
 }
 
+/* The next timeout is nobody's to mind: where descriptors tell of timeouts, libusb_get_next_timeout answers 0 always. */
 static void next_timeout(void)
 {
-    struct libusb_transfer *transfers[3];
+    struct libusb_transfer *transfer;
     struct timeval next = { 7, 7 };
-    long long left;
     begin("the next timeout", "");
     answer("timeouts by themselves", libusb_pollfds_handle_timeouts(context));
     answer("of nothing", libusb_get_next_timeout(context, &next));
-    transfers[0] = submit_with(0, 0x81, 8, 0, 0);
-    answer("of one without", libusb_get_next_timeout(context, &next));
-    transfers[1] = submit_with(1, 0x81, 8, 0, 60000);
-    transfers[2] = submit_with(2, 0x83, 8, 0, 30000);
-    answer("of two", libusb_get_next_timeout(context, &next));
-    left = next.tv_sec * 1000LL + next.tv_usec / 1000;
-    say(left > 20000 && left <= 30000 ? "the earlier" : "another");
-    libusb_cancel_transfer(transfers[2]);
+    transfer = submit_with(0, 0x81, 8, 0, 60000);
+    answer("of one with a timeout", libusb_get_next_timeout(context, &next));
+    say(next.tv_sec == 7 && next.tv_usec == 7 ? "untouched" : "told");
+    libusb_cancel_transfer(transfer);
     work();
-    transfers[2]->timeout = 10;
-    send_off(transfers[2]);
-    usleep(30000);
-    answer("of one that is over", libusb_get_next_timeout(context, &next));
-    number("seconds", next.tv_sec);
-    number("microseconds", next.tv_usec);
-    work();
-    libusb_cancel_transfer(transfers[0]);
-    libusb_cancel_transfer(transfers[1]);
-    work();
-    for (int i = 0; i < 3; i++)
-        discard(transfers[i]);
+    discard(transfer);
     end();
 }
 

@@ -20,6 +20,8 @@ static libusb_device_handle *opened;
 static int on_event(libusb_context *of, libusb_device *device, libusb_hotplug_event event, void *user)
 {
     struct libusb_device_descriptor descriptor;
+    if (is_hub(device))
+        return 0;
     calls++;
     printf("  %s: ", (const char *)user);
     if (of != context)
@@ -64,7 +66,7 @@ static libusb_hotplug_callback_handle watch(const char *name, int events, int fl
 static void count_devices(void)
 {
     libusb_device **list;
-    number("devices", libusb_get_device_list(context, &list));
+    number("devices", list_devices(context, &list));
     libusb_free_device_list(list, 1);
 }
 

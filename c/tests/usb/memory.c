@@ -108,11 +108,11 @@ static int on_arrival(libusb_context *of, libusb_device *device, libusb_hotplug_
 static int plug(void) { return tirnouch_plug(text, text_length); }
 static int init(void) { return libusb_init(&context); }
 static int get_list(void) { return (int)libusb_get_device_list(context, &list); }
-static int get_config(void) { return libusb_get_config_descriptor(list[0], 0, &config); }
-static int get_active(void) { return libusb_get_active_config_descriptor(list[0], &config); }
-static int get_value(void) { return libusb_get_config_descriptor_by_value(list[0], 1, &config); }
-static int get_associations(void) { return libusb_get_interface_association_descriptors(list[0], 0, &associations); }
-static int open_first(void) { return libusb_open(list[0], &handle); }
+static int get_config(void) { return libusb_get_config_descriptor(list[1], 0, &config); }
+static int get_active(void) { return libusb_get_active_config_descriptor(list[1], &config); }
+static int get_value(void) { return libusb_get_config_descriptor_by_value(list[1], 1, &config); }
+static int get_associations(void) { return libusb_get_interface_association_descriptors(list[1], 0, &associations); }
+static int open_first(void) { return libusb_open(list[1], &handle); }
 static int claim(void) { return libusb_claim_interface(handle, 0); }
 static int release(void) { return libusb_release_interface(handle, 0); }
 static int reset(void) { return libusb_reset_device(handle); }
@@ -211,7 +211,7 @@ static void wait_for(const char *name, int count)
 
 static void describe(void)
 {
-    require(make("get_device_list", get_list) == 1, "one device");
+    require(make("get_device_list", get_list) == 2, "the hub and one device");
     make("get_config_descriptor", get_config);
     libusb_free_config_descriptor(config);
     make("get_active_config_descriptor", get_active);

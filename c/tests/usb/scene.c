@@ -68,10 +68,31 @@ void end(void)
     context = NULL;
 }
 
+int is_hub(libusb_device *device)
+{
+    struct libusb_device_descriptor it;
+    return libusb_get_device_descriptor(device, &it) == 0 && it.bDeviceClass == LIBUSB_CLASS_HUB && it.idVendor == 0x1d6b;
+}
+
+ssize_t list_devices(libusb_context *of, libusb_device ***list)
+{
+    ssize_t count = libusb_get_device_list(of, list), kept = 0;
+    for (ssize_t i = 0; i < count; i++) {
+        if (is_hub((*list)[i]))
+            libusb_unref_device((*list)[i]);
+        else
+            (*list)[kept++] = (*list)[i];
+    }
+    if (count < 0)
+        return count;
+    (*list)[kept] = NULL;
+    return kept;
+}
+
 libusb_device *first_device(void)
 {
     libusb_device **list, *device;
-    require(libusb_get_device_list(context, &list) > 0, "device list");
+    require(list_devices(context, &list) > 0, "device list");
     device = libusb_ref_device(list[0]);
     libusb_free_device_list(list, 1);
     return device;

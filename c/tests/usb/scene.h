@@ -26,7 +26,11 @@ void begin(const char *name, const char *more);
 void end(void);
 /* One more handle on the standard device. */
 libusb_device_handle *open_standard(libusb_context *of);
-/* The first device of the list, with a reference of its own. */
+/* Whether it is the root hub, which is no device of the text. */
+int is_hub(libusb_device *device);
+/* The list of devices without the hub, and how many they are. */
+ssize_t list_devices(libusb_context *of, libusb_device ***list);
+/* The first of them, with a reference of its own. */
 libusb_device *first_device(void);
 
 /* Prints what a call answered: a name where it is an error, else the number. */

@@ -7,7 +7,7 @@ use Rattle.tirnouch_c.specs.declared.session.Session.{Session}
 use Rattle.tirnouch_c.specs.declared.told.Told.{Told}
 use Rattle.tirnouch_c.specs.Calls.{no_session, out_of_range}
 use Rattle.tirnouch_c.specs.Packets.{Serves}
-use Rattle.tirnouch_c.specs.Reads.{TellsPending, TellsTaken}
+use Rattle.tirnouch_c.specs.Reads.{TellsLeft, TellsPending, TellsTaken}
 use Rattle.tirnouch_c.specs.Sessions.{IsMade}
 use Rattle.tirnouch_c.specs.Settling.{Settles}
 use Rattle.tirnouch_c.specs.Told.{line_told}
@@ -66,6 +66,14 @@ after dev ep = option_map (λ d. (d, ep)) (device_by dev)
 
 abbrev pub PendsBy : (dev ep : ℕ) → ℤ → Told → Session → Type 0
 PendsBy dev ep answer told s = (answer ≡ pos 0) × TellsPending (after dev ep) s told
+
+-- what is left at an endpoint, of a number that may be no device's
+abbrev pub LeftIf : Option ℕ → (ep : ℕ) → ℤ → (old new : Told) → Session → Type 0
+LeftIf None ep answer old new s = (answer ≡ out_of_range) × (new ≡ old)
+LeftIf (Some dev) ep answer old new s = (answer ≡ pos 0) × TellsLeft dev ep s new
+
+abbrev pub LeftBy : (dev ep : ℕ) → ℤ → (old new : Told) → Session → Type 0
+LeftBy dev ep answer old new s = LeftIf (device_by dev) ep answer old new s
 
 -- a packet that was taken, of a number that may be no device's
 abbrev pub TakenIf : Option ℕ → (ep i : ℕ) → ℤ → (old new : List ℕ) → Session → Type 0

@@ -1,8 +1,9 @@
 -- What can be asked without a step.
-use Rattle.std.specs.Prelude.{◌≡◌, ℕ, ℤ, negsuc, ◌+◌, ◌*◌, List, length, slice_get, Option, Some, None}
+use Rattle.std.specs.Prelude.{◌≡◌, ℕ, ℤ, negsuc, ◌+◌, ◌*◌, Bool, List, length, slice_get, Option, Some, None}
+use Rattle.usb_core.specs.Inventory.{halted}
 use Rattle.usb_core.specs.Public.{IsPending, Pending, ShowsWorld}
 use Rattle.usb_model.specs.Setup.{Setup, interface_of}
-use Rattle.usb_model.specs.World.{World}
+use Rattle.usb_model.specs.World.{World, holder}
 use Rattle.tirnouch_c.specs.declared.session.Session.{Session}
 use Rattle.tirnouch_c.specs.declared.told.Told.{Told}
 use Rattle.tirnouch_c.specs.Buffers.{answer_of, filled}
@@ -30,3 +31,12 @@ TellsPacket (Some packet) answer old new = (answer ≡ answer_of (length packet)
 abbrev pub TellsTaken : (dev ep i : ℕ) → ℤ → (old new : List ℕ) → Session → Type 0
 TellsTaken dev ep i answer old new s = (setup : Setup) (w : World) (k : ℕ) → ShowsWorld setup s.core w → interface_of setup dev ep ≡ Some k
     → TellsPacket (slice_get (w.endpoints dev ep).packets_received i) answer old new
+
+-- how many answers are left, and 1 where the endpoint is halted
+abbrev pub left_told : ℕ → Bool → Told
+left_told left is_halted = record (of_kind 255 0) { status = bit is_halted; n = left }
+
+-- what a held endpoint has left of its script, and whether it is halted
+abbrev pub TellsLeft : (dev ep : ℕ) → Session → Told → Type 0
+TellsLeft dev ep s told = (setup : Setup) (w : World) (h : ℕ) → ShowsWorld setup s.core w → holder setup w.claims dev ep ≡ Some h
+    → told ≡ left_told (length (w.endpoints dev ep).script_left) (halted (w.endpoints dev ep))

@@ -6,7 +6,7 @@ ghost use Rattle.usb_core.specs.Public.{takes_memory};
 ghost use Rattle.tirnouch_c.specs.Lent.{Lends};
 ghost use Rattle.usb_desk.specs.Packet.{needs_of, packet_of};
 ghost use Rattle.tirnouch_c.specs.Calls.{Calls, InSlot, ReadsSlot, step_of};
-ghost use Rattle.tirnouch_c.specs.Exports.{Creates, Destroys, PendsBy, ServesBy, SettlesBy, TakenBy, WorksBy, after, device_by};
+ghost use Rattle.tirnouch_c.specs.Exports.{Creates, Destroys, LeftBy, PendsBy, ServesBy, SettlesBy, TakenBy, WorksBy, after, device_by};
 ghost use Rattle.tirnouch_c.specs.Sessions.{IsMade, IsUnmade};
 ghost use Rattle.tirnouch_c.specs.Descriptions.{Describes, Tells};
 ghost use Rattle.tirnouch_c.specs.Results.{Fetches, Takes};
@@ -503,9 +503,43 @@ pub extern "C" fn tirnouch_taken(
     answer
 }
 
+/// What is left at an endpoint of a number that may be no device's.
+fn left_in(session: &Session, dev: u8, ep: u8, told: &mut Told) -> i32
+    ensures { LeftBy dev ep result told.old told.new session.now }
+{
+    match device(dev) {
+        None => INVALID,
+        Some(dev) => {
+            reads::left(session, dev, EpAddr::new(ep), told);
+            0
+        }
+    }
+}
+
+/// What is left at an endpoint that a handle holds: in `n` how many answers its device still has, and in `status` 1 where it is
+/// halted, which ends by tirnouch_call's clear halt (USB 2.0, 9.4.5). Of any other endpoint what is told means nothing.
+#[unsafe(no_mangle)]
+pub extern "C" fn tirnouch_left(
+    alloc: Global,
+    slot: &mut Slot,
+    dev: u8,
+    ep: u8,
+    told: &mut Told,
+) -> i32
+    ensures { ReadsSlot slot.old.held.value slot.new.held.value result (LeftBy dev ep result told.old told.new) }
+{
+    let Some(session) = slot.take(alloc) else {
+        return NO_SESSION;
+    };
+    let answer = left_in(&session, dev, ep, told);
+    slot.put(alloc, session);
+    answer
+}
+
 /// A device answers a request on its default control endpoint (USB 2.0, 9.3), of which these are the 8 bytes of the setup packet.
 /// What is read stands in `buffer`, as far as there is room. `kind` is 4 where the device isn't ready, else 11, with `status` and
-/// `amount` as of a transfer.
+/// `amount` as of a transfer. `n` is 1 where a line `control` of the text answered, also that it isn't ready or by a stall; 0 where its
+/// descriptors did, or nothing is said of such a request, which stalls.
 #[unsafe(no_mangle)]
 pub extern "C" fn tirnouch_request(
     alloc: Global,
@@ -538,8 +572,9 @@ pub extern "C" fn tirnouch_needs(setup: &[u8; 8], told: &mut Told) -> i32
     0
 }
 
-/// A descriptor of a device by its type (USB 2.0, 9.4): 1 its device descriptor, 2 its configuration, 3 the string of an index. How
-/// long it is, and its bytes, as far as there is room; NotFound where there is none.
+/// A descriptor of a device by its type (USB 2.0, 9.4): 1 its device descriptor, 2 its configuration, 3 the string of an index, where
+/// index 0 has the languages of the others, if there are any. How long it is, and its bytes, as far as there is room; NotFound where
+/// there is none.
 #[unsafe(no_mangle)]
 pub extern "C" fn tirnouch_describe(
     alloc: Global,

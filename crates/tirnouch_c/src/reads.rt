@@ -1,7 +1,7 @@
 //! What can be asked without a step.
 
 ghost use Rattle.std.specs.Prelude.{◌≡◌};
-ghost use Rattle.tirnouch_c.specs.Reads.{TellsPending, TellsTaken};
+ghost use Rattle.tirnouch_c.specs.Reads.{TellsLeft, TellsPending, TellsTaken};
 
 use crate::results::{answer_of, fill};
 use crate::session::Session;
@@ -26,4 +26,12 @@ pub fn taken(session: &Session, dev: DeviceNo, ep: EpAddr, i: usize, buffer: &mu
             answer_of(packet.len())
         }
     }
+}
+
+/// How many answers a device has left at an endpoint that a handle holds, and whether the endpoint is halted.
+pub fn left(session: &Session, dev: DeviceNo, ep: EpAddr, told: &mut Told)
+    ensures { TellsLeft dev ep session.now told.new }
+{
+    let left = session.core.answers_left(dev, ep);
+    *told = Told::left(left as u64, session.core.is_halted(dev, ep));
 }

@@ -2,7 +2,7 @@
 
 ghost use Rattle.std.specs.Prelude.{◌≡◌, ◌<◌, ◌^◌, length};
 ghost use Rattle.usb_desk.specs.Control.{shown_answer};
-ghost use Rattle.tirnouch_c.specs.Requests.{Asks, with_asked, control_bytes, control_told};
+ghost use Rattle.tirnouch_c.specs.Requests.{Asks, answer_told, with_asked, control_bytes};
 
 use crate::results::fill;
 use crate::session::Session;
@@ -31,7 +31,7 @@ fn bytes_of<'a>(packet: &SetupPacket, reply: ControlReply<'a>) -> &'a [u8]
 
 /// What an answer is, in numbers; `moved`: how many bytes were read.
 fn told_of(packet: &SetupPacket, reply: ControlReply<'_>, moved: u32) -> Told
-    ensures { result ≡ control_told packet.now (shown_answer reply.entry) moved }
+    ensures { result ≡ answer_told packet.now (shown_answer reply.entry) moved }
 {
     match reply {
         ControlReply::Data(_) => Told::ended(0, moved),
@@ -73,8 +73,9 @@ pub fn ask(
         return INVALID;
     };
     let reply = device.reply(packet);
+    let by_line = device.has_answer(packet);
     let moved = fill(buffer, bytes_of(packet, reply));
-    *told = told_of(packet, reply, moved as u32);
+    *told = told_of(packet, reply, moved as u32).by_line(by_line);
     let devices = mem::replace(&mut session.devices, Sequence::new(alloc));
     session.devices = count(alloc, devices, usize::from(dev), packet);
     0

@@ -3,7 +3,7 @@
 ghost use Rattle.std.specs.Prelude.{◌≡◌};
 ghost use Rattle.tirnouch_c.specs.Descriptions.{departure_told, device_told, driver_told, gate_told};
 ghost use Rattle.tirnouch_c.specs.Requests.{ended_told, needs_told};
-ghost use Rattle.tirnouch_c.specs.Reads.{pending_told};
+ghost use Rattle.tirnouch_c.specs.Reads.{left_told, pending_told};
 ghost use Rattle.tirnouch_c.specs.Results.{told_taken};
 ghost use Rattle.tirnouch_c.specs.Told.{bit, code_of, line_told, of_kind, reply_told, status_number, told_of};
 
@@ -26,7 +26,7 @@ pub struct Told {
     pub status: u8,
     /// How many bytes, packets or steps.
     pub amount: u32,
-    /// The transfer's number, or a text's line.
+    /// The transfer's number, or a text's line; of a request 1 where a line of the text answered it.
     pub n: u64,
     /// What C keeps with the transfer.
     pub payload: u64,
@@ -102,6 +102,17 @@ impl Told {
         }
     }
 
+    /// How many answers are left, and whether the endpoint is halted.
+    pub fn left(left: u64, is_halted: bool) -> Told
+        ensures { result ≡ left_told left is_halted }
+    {
+        Told {
+            status: u8::from(is_halted),
+            n: left,
+            ..Told::of_kind(255, 0)
+        }
+    }
+
     /// A result that went out.
     #[tactic(auto, unfolding(crate::specs::Told::reply_told))]
     pub fn taken(taken: &Taken<u64>) -> Told
@@ -155,6 +166,16 @@ impl Told {
         ensures { result ≡ of_kind 255 4 }
     {
         Told::of_kind(255, 4)
+    }
+
+    /// The same of an answer, and whether a line of the text gave it.
+    pub fn by_line(self, by_line: bool) -> Told
+        ensures { result ≡ record self { n = bit by_line } }
+    {
+        Told {
+            n: u64::from(by_line),
+            ..self
+        }
     }
 
     /// What a host has to hold for a request.

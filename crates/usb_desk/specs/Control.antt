@@ -40,6 +40,10 @@ answer_at answers i = unwrap_or (slice_get answers i) (last_answer answers)
 abbrev pub control_for : SetupPacket → List Control → Option Control
 control_for p controls = find (λ c. fits c.pattern p) controls
 
+-- whether a request fits any of the answers that the text has for it
+abbrev pub has_answer : DeskDevice → SetupPacket → Bool
+has_answer d p = list_any (λ c. fits c.pattern p) d.controls
+
 -- these, where those at this place were asked once more, as far as 32 bits go
 abbrev pub asked_at : List Control → Option ℕ → List Control
 asked_at controls None = controls
@@ -49,9 +53,13 @@ asked_at controls (Some i) = option_map_or (λ c. slice_set controls i (record c
 abbrev pub asked_once_more : SetupPacket → List Control → List Control
 asked_once_more p controls = asked_at controls (position (λ c. fits c.pattern p) controls)
 
--- a string by its index; index 0 says that all are in US English
+-- the string descriptor of index 0: all strings are in US English; a device without strings has no languages, and it stalls (USB 2.0, 9.6.7)
+abbrev pub languages_of : DeskDevice → ControlAnswer
+languages_of d = if length d.strings == 0 then answer.Stall else answer.Data (4 ∷ 3 ∷ 9 ∷ 4 ∷ [])
+
+-- a string by its index; that of index 0 says the languages of the others
 abbrev pub string_at : DeskDevice → ℕ → ControlAnswer
-string_at d i = if i == 0 then answer.Data (4 ∷ 3 ∷ 9 ∷ 4 ∷ []) else option_map_or (λ t. answer.Data t.descriptor) (find (λ t. t.index == i) d.strings) answer.Stall
+string_at d i = if i == 0 then languages_of d else option_map_or (λ t. answer.Data t.descriptor) (find (λ t. t.index == i) d.strings) answer.Stall
 
 -- GET_DESCRIPTOR of the device, of its configuration, and of a string (USB 2.0, 9.4.3)
 abbrev pub descriptor_read : DeskDevice → SetupPacket → ControlAnswer

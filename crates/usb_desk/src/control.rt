@@ -3,7 +3,7 @@
 ghost use Rattle.std.specs.Prelude.{◌≡◌, ◌==◌, ◌<◌, IfSome, length};
 ghost use Rattle.std.specs.List.{find, position};
 ghost use Rattle.std.specs.Option.{option_copied};
-ghost use Rattle.usb_desk.specs.Control.{answer_at, asked_once_more, control_for, descriptor_read, device_read, device_write, fits, has_interface, interface_read, interface_write, is_met, reply_of, shown_answer, standard_of, status_of, string_at, value_of_configuration};
+ghost use Rattle.usb_desk.specs.Control.{answer_at, asked_once_more, control_for, descriptor_read, device_read, device_write, fits, has_answer, has_interface, interface_read, interface_write, is_met, languages_of, reply_of, shown_answer, standard_of, status_of, string_at, value_of_configuration};
 
 use crate::answer::ControlAnswer;
 use crate::device::DeskDevice;
@@ -121,6 +121,16 @@ impl DeskDevice {
         }
     }
 
+    /// Whether answers of the text's own answer a request, of whatever kind they are, and not its descriptors.
+    pub fn has_answer(&self, packet: &SetupPacket) -> bool
+        ensures { result ≡ has_answer self.now packet.now }
+    {
+        self.controls
+            .as_slice()
+            .iter()
+            .any(|control| control.pattern.fits(packet))
+    }
+
     /// A request was answered: the next that the same answers fit gets the one behind.
     pub fn count(&mut self, alloc: Global, packet: &SetupPacket)
         ensures { self.new ≡ record self.old { controls = asked_once_more packet.now self.old.controls } }
@@ -191,16 +201,27 @@ impl DeskDevice {
         }
     }
 
-    /// A string descriptor.
+    /// A string descriptor; that of index 0 says the languages of the others.
     pub fn string(&self, index: u8) -> ControlReply<'_>
         ensures { shown_answer result ≡ string_at self.now index }
     {
         if index == 0 {
-            return ControlReply::Data(LANGUAGES);
+            return self.languages();
         }
         match self.text(index) {
             Some(text) => ControlReply::Data(text.descriptor.as_slice()),
             None => ControlReply::Stall,
+        }
+    }
+
+    /// The string descriptor of index 0; a device without strings has no languages (USB 2.0, 9.6.7).
+    fn languages(&self) -> ControlReply<'_>
+        ensures { shown_answer result ≡ languages_of self.now }
+    {
+        if self.strings.is_empty() {
+            ControlReply::Stall
+        } else {
+            ControlReply::Data(LANGUAGES)
         }
     }
 

@@ -1,0 +1,89 @@
+/* Answers that wait (`after` in a device's text): an endpoint's, from some place on, until so many packets were taken at another, or so
+ * many control requests came. An endpoint's stand in order of place, and what was reached stays reached: so it looks at each once. */
+#include "bus.h"
+
+#include <stdlib.h>
+
+#define FIRST 8
+
+static int by_place(const void *one, const void *other)
+{
+    const struct gate *a = one, *b = other;
+    return (a->place > b->place) - (a->place < b->place);
+}
+
+/* Room doubles where it is used up. */
+static int add_gate(struct pipe *pipe, struct gate gate)
+{
+    size_t count = pipe->gate_count;
+    bool is_full = count == 0 || (count >= FIRST && !(count & (count - 1)));
+    if (is_full) {
+        struct gate *gates = realloc(pipe->gates, (count ? 2 * count : FIRST) * sizeof *gates);
+        if (!gates)
+            return LIBUSB_ERROR_NO_MEM;
+        pipe->gates = gates;
+    }
+    pipe->gates[pipe->gate_count++] = gate;
+    return 0;
+}
+
+int learn_gates(struct device *device)
+{
+    struct tirnouch_told told = { 0 };
+    for (size_t i = 0; !tirnouch_tell(&process.bus.core, (uint8_t)device->number, 2, i, &told); i++) {
+        struct gate gate = { .place = told.amount, .other = told.status, .count = told.n };
+        int r = add_gate(&device->pipes[place_of(told.ep)], gate);
+        if (r)
+            return r;
+        device->has_gates = true;
+    }
+    for (unsigned i = 0; i < ENDPOINTS; i++)
+        if (device->pipes[i].gate_count)
+            qsort(device->pipes[i].gates, device->pipes[i].gate_count, sizeof(struct gate), by_place);
+    return 0;
+}
+
+static bool is_reached(const struct device *device, const struct gate *gate)
+{
+    uint8_t none[1];
+    if (!gate->count)
+        return true;
+    if (!gate->other)
+        return device->request_count >= gate->count;
+    return tirnouch_taken(&process.bus.core, (uint8_t)device->number, gate->other, (size_t)(gate->count - 1), none, 0) >= 0;
+}
+
+/* What an endpoint's next answer waits for; NULL where it waits for nothing. A device that is pulled out waits for nothing. */
+const struct gate *gate_before(struct pipe *pipe)
+{
+    for (; pipe->gates_passed < pipe->gate_count && !pipe->device->is_gone; pipe->gates_passed++) {
+        const struct gate *gate = &pipe->gates[pipe->gates_passed];
+        if (gate->place > pipe->answers)
+            return NULL;
+        if (!is_reached(pipe->device, gate))
+            return gate;
+    }
+    return NULL;
+}
+
+/* How many packets were taken at an endpoint so far, or control requests came where that is 0: by doubling and halving, since the core
+ * tells of one at a time. */
+uint64_t came_at(const struct device *device, uint8_t ep)
+{
+    struct gate gate = { .other = ep, .count = 1 };
+    uint64_t least = 0;
+    if (!ep)
+        return device->request_count;
+    while (is_reached(device, &gate)) {
+        least = gate.count;
+        gate.count *= 2;
+    }
+    for (uint64_t most = gate.count; most - least > 1;) {
+        gate.count = least + (most - least) / 2;
+        if (is_reached(device, &gate))
+            least = gate.count;
+        else
+            most = gate.count;
+    }
+    return least;
+}

@@ -1,0 +1,156 @@
+/* Why a transfer doesn't end: one sentence for its program's author, as a warning and as a comment of the trace, where its time is over, where
+ * it is cancelled while it waits, and where it is in flight at an end. */
+#include "bus.h"
+
+#include <inttypes.h>
+#include <stdarg.h>
+#include <stdio.h>
+#include <unistd.h>
+
+/* Of how many in flight this is told at once. */
+#define MOST_TOLD 16
+
+struct sentence {
+    size_t length;
+    char text[400];
+};
+
+__attribute__((format(printf, 2, 3))) static void say(struct sentence *it, const char *format, ...)
+{
+    va_list rest;
+    size_t room = sizeof it->text - it->length;
+    va_start(rest, format);
+    int count = vsnprintf(it->text + it->length, room, format, rest);
+    va_end(rest);
+    it->length += count < 0 ? 0 : (size_t)count < room ? (size_t)count : room - 1;
+}
+
+static const char *plural(uint64_t count)
+{
+    return count == 1 ? "" : "s";
+}
+
+static void say_which(struct sentence *it, struct transfer *transfer)
+{
+    const struct libusb_transfer *shown = seen(transfer);
+    const uint8_t *setup = shown->buffer;
+    if (transfer->pipe)
+        say(it, "the transfer of %d byte%s at %02x", shown->length, plural((uint64_t)shown->length), transfer->pipe->ep);
+    else if (setup)
+        say(it, "the request %02x %02x %04x %04x of %u bytes", setup[0], setup[1], two_bytes(setup + 2), two_bytes(setup + 4),
+            two_bytes(setup + 6));
+    else
+        say(it, "a request");
+}
+
+static void say_gate(struct sentence *it, const struct pipe *pipe, const struct gate *gate)
+{
+    uint64_t came = came_at(pipe->device, gate->other);
+    if (gate->other)
+        say(it, "%02x waits for packet %" PRIu64 " at %02x, %" PRIu64 " came", pipe->ep, gate->count, gate->other, came);
+    else
+        say(it, "%02x waits for control request %" PRIu64 ", %" PRIu64 " came", pipe->ep, gate->count, came);
+}
+
+/* What an endpoint waits for; false where something is to be done there. */
+static bool say_why_at(struct sentence *it, struct pipe *pipe)
+{
+    const struct gate *gate = gate_before(pipe);
+    struct rest rest = core_rest(pipe);
+    if (pipe->device->is_gone)
+        return false;
+    if (gate)
+        say_gate(it, pipe, gate);
+    else if (core_serves(pipe) || pipe->is_stopped || rest.answers)
+        return false;
+    else if (pipe->script)
+        say(it, "the script of %02x is at its end behind %" PRIu32 " answer%s", pipe->ep, pipe->script, plural(pipe->script));
+    else
+        say(it, "%02x has no script, and never answers", pipe->ep);
+    if (pipe->naks)
+        say(it, "; the device answered not ready %" PRIu32 " time%s", pipe->naks, plural(pipe->naks));
+    return true;
+}
+
+static bool say_why_at_control(struct sentence *it, const struct transfer *transfer)
+{
+    const struct transfer *first = process.bus.controls.first;
+    while (first && first->handle->device != transfer->handle->device)
+        first = first->behind;
+    if (!transfer->naks && (!first || first == transfer || !first->naks))
+        return false;
+    if (transfer->naks)
+        say(it, "the device answered not ready %u time%s", transfer->naks, plural(transfer->naks));
+    else
+        say(it, "the device answered a request before it not ready %u time%s", first->naks, plural(first->naks));
+    return true;
+}
+
+/* Whether it waits for something; else it would go on where events are handled. */
+static bool say_why(struct sentence *it, struct transfer *transfer)
+{
+    return transfer->pipe ? say_why_at(it, transfer->pipe) : say_why_at_control(it, transfer);
+}
+
+static void tell_one(struct transfer *transfer, const char *what, bool always)
+{
+    struct sentence which = { 0 }, why = { 0 };
+    bool waits = say_why(&why, transfer);
+    if (!waits && !always)
+        return;
+    say_which(&which, transfer);
+    if (!waits)
+        say(&why, "events weren't handled since it could go on");
+    note(transfer->context, LIBUSB_LOG_LEVEL_WARNING, "%s %s: %s", which.text, what, why.text);
+    trace_comment("why: %s %s: %s", which.text, what, why.text);
+}
+
+static bool is_wanted(const struct libusb_context *context)
+{
+    return process.bus.is_traced || context->log_level >= LIBUSB_LOG_LEVEL_WARNING;
+}
+
+/* `what` happens to it. One that is cancelled amid its work waits for nothing, which needs no word: only where it is wanted `always`. */
+void tell_why(struct transfer *transfer, const char *what, bool always)
+{
+    if (is_wanted(transfer->context))
+        tell_one(transfer, what, always);
+}
+
+void tell_all_why(struct libusb_context *context, const char *what)
+{
+    int told = 0;
+    if (!is_wanted(context))
+        return;
+    for (struct transfer *it = context->flying.first; it && told < MOST_TOLD; it = it->next, told++)
+        tell_one(it, what, true);
+}
+
+static void write_context(int file, struct libusb_context *context)
+{
+    int told = 0;
+    if (context->is_calling)
+        dprintf(file, "libusb:   a callback runs\n");
+    if (context->ended.first)
+        dprintf(file, "libusb:   ended, and not called back yet: libusb_handle_events isn't called\n");
+    for (struct transfer *it = context->flying.first; it && told < MOST_TOLD; it = it->next, told++) {
+        struct sentence which = { 0 }, why = { 0 };
+        say_which(&which, it);
+        if (!say_why(&why, it))
+            say(&why, "events aren't handled, where it could go on");
+        dprintf(file, "libusb:   %s is in flight: %s\n", which.text, why.text);
+        trace_comment("why: %s is in flight: %s", which.text, why.text);
+    }
+}
+
+/* All contexts' transfers, at a limit. */
+void write_all_why(int file)
+{
+    bool any = false;
+    for (struct libusb_context *it = process.contexts; it; it = it->next) {
+        any |= it->flying.first || it->ended.first || it->is_calling;
+        write_context(file, it);
+    }
+    if (!any)
+        dprintf(file, "libusb:   no transfer is in flight\n");
+}
