@@ -1,0 +1,97 @@
+/* What the files of this folder share: a round of random calls of libusb, all of which its manual allows.
+ *
+ * Locks are only tried, never waited for: where one is taken, the call is left out. So the program can't hang by itself, and what a
+ * callback calls is never waited for by the thread that it stopped. */
+#ifndef FUZZ_H
+#define FUZZ_H
+
+#include "libusb.h"
+#include "tirnouch.h"
+
+#include <pthread.h>
+#include <stdatomic.h>
+#include <stdbool.h>
+#include <stdint.h>
+
+#define THREADS 8
+#define CONTEXTS 2
+#define DEVICES 4
+#define PACKET 8
+#define MOST_BYTES 96
+/* The device whose scripts may begin anew, since it is reset and configured: which of its bytes come is less known. */
+#define RENEWED 2
+#define HIDDEN 3
+#define ALSO_HIDDEN 1
+
+struct slot;
+
+/* A thread, or the program itself. */
+struct caller {
+    pthread_t id;
+    int number;
+    uint64_t dice;
+    const char *_Atomic doing;
+    const struct slot *called; /* whose callback it runs */
+};
+
+extern _Thread_local struct caller *me;
+extern libusb_context *contexts[CONTEXTS];
+extern atomic_bool is_pulled[DEVICES];
+
+unsigned roll(unsigned below);
+void dawdle(void);
+_Noreturn void fail(const char *format, ...) __attribute__((format(printf, 1, 2)));
+
+/* devices.c: the text, what a device's bytes should be, and what it took */
+char *device_text(void);
+int number_of(libusb_device *device);
+void check_read(int device, uint8_t ep, const unsigned char *data, int length);
+uint32_t fill_write(int device, unsigned char *data, int length);
+void wrote(uint32_t serial, int length);
+void check_taken(void);
+
+/* handles.c: the handles; each belongs to a context, by its place */
+void begin_handles(void);
+int hold_handle(void);
+bool hold_this(int place);
+void let_go(int place);
+libusb_device_handle *handle_at(int place);
+int device_at(int place);
+void sent_by(int place, int more);
+void open_one(void);
+void close_one(void);
+void close_of_context(int context);
+void close_all(void);
+void call_handle(void);
+
+/* transfers.c */
+void begin_transfers(void);
+void submit_one(void);
+void cancel_one(void);
+void free_one(void);
+void send_one(void);
+void drop_those_of(int place);
+void drain_transfers(void);
+void free_all(void);
+void count_transfers(void);
+void tell_transfers(void);
+
+/* waits.c: transfers that are waited for, and contexts that are one thread's own */
+void read_and_wait(void);
+void write_and_wait(void);
+void ask_device(void);
+void visit(void);
+void visit_usual(void);
+void let_one_go(void);
+void let_all_go(void);
+
+/* events.c: events in all their forms, lists, and hotplug */
+void handle_some(void);
+void handle_locked(void);
+void wait_for_event(void);
+void look_at_events(void);
+void look_at_devices(void);
+void watch(void);
+void watch_no_more(void);
+
+#endif
