@@ -181,7 +181,7 @@ struct libusb_context {
     struct notice all_notices[DEVICES][2];
     struct libusb_device devices[DEVICES + 1];
     int hotplug_ids;
-    int log_level;
+    int log_level;                    /* atomic: it is written under `process.lock` */
     bool log_is_fixed;                /* by LIBUSB_DEBUG */
     libusb_log_cb log;
 };

@@ -152,8 +152,10 @@ static int handle_events(struct libusb_context *context, uint64_t end)
     context->is_working = true;
     for (bool any = false; !any && !r;) {
         uint64_t stirs = process.bus.stirs;
-        drain(context);
-        expire(context);
+        if (context->is_rung)
+            drain(context);
+        if (context->earliest)
+            expire(context);
         work_off(end != 0);
         if (context->notices)
             any = call_hotplugs(context);

@@ -6,7 +6,7 @@
 static void set_level(struct libusb_context *context, int level)
 {
     if (!context->log_is_fixed)
-        context->log_level = level;
+        __atomic_store_n(&context->log_level, level, __ATOMIC_RELAXED);
     watch_for(context->log_level);
 }
 

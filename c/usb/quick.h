@@ -138,10 +138,11 @@ static inline bool is_watched(const struct device *device)
     return device->has_gates || device->leaves || process.bus.is_watched;
 }
 
-/* Whether a call of this answer is told: a refusal at level 3, any other at level 4. */
+/* Whether a call of this answer is told: a refusal at level 3, any other at level 4. With or without the lock. */
 static inline bool is_told(const struct libusb_context *context, int answer)
 {
-    return context->log_level >= (answer < 0 ? LIBUSB_LOG_LEVEL_INFO : LIBUSB_LOG_LEVEL_DEBUG);
+    int level = __atomic_load_n(&context->log_level, __ATOMIC_RELAXED);
+    return level >= LIBUSB_LOG_LEVEL_INFO && (answer < 0 || level >= LIBUSB_LOG_LEVEL_DEBUG);
 }
 
 static inline int name_of(const struct pipe *pipe)

@@ -52,10 +52,10 @@ static void note_end(struct libusb_context *context, const struct libusb_transfe
 {
     const unsigned char *setup = transfer->buffer;
     lock();
-    if (is_told(context, answer) && transfer->type != LIBUSB_TRANSFER_TYPE_CONTROL)
+    if (transfer->type != LIBUSB_TRANSFER_TYPE_CONTROL)
         note_call(context, answer, function, "endpoint %02x, %d bytes, timeout %u, moved %d", transfer->endpoint, transfer->length,
                   transfer->timeout, transfer->actual_length);
-    else if (is_told(context, answer))
+    else
         note_call(context, answer, function, "%02x %02x %04x %04x, %u bytes, timeout %u, moved %d", setup[0], setup[1], two_bytes(setup + 2),
                   two_bytes(setup + 4), two_bytes(setup + 6), transfer->timeout, transfer->actual_length);
     unlock();
@@ -88,7 +88,8 @@ int libusb_control_transfer(libusb_device_handle *handle, uint8_t type, uint8_t 
             memcpy(buffer + LIBUSB_CONTROL_SETUP_SIZE, data, length);
         libusb_fill_control_transfer(transfer, handle, buffer, complete, &completed, timeout);
         r = carry_out(transfer, context, &completed);
-        note_end(context, transfer, r, __func__);
+        if (is_told(context, r))
+            note_end(context, transfer, r, __func__);
     }
     if (!r) {
         r = transfer->actual_length;
@@ -112,7 +113,8 @@ static int move(libusb_device_handle *handle, uint8_t ep, uint8_t type, unsigned
     libusb_fill_bulk_transfer(transfer, handle, ep, data, length, complete, &completed, timeout);
     transfer->type = type;
     int r = carry_out(transfer, context, &completed);
-    note_end(context, transfer, r, type == LIBUSB_TRANSFER_TYPE_BULK ? "libusb_bulk_transfer" : "libusb_interrupt_transfer");
+    if (is_told(context, r))
+        note_end(context, transfer, r, type == LIBUSB_TRANSFER_TYPE_BULK ? "libusb_bulk_transfer" : "libusb_interrupt_transfer");
     if (moved)
         *moved = transfer->actual_length;
     libusb_free_transfer(transfer);

@@ -41,11 +41,9 @@ struct timespec moment_in(uint64_t nanoseconds)
     return moment_of((uint64_t)it.tv_sec * SECOND + (uint64_t)it.tv_nsec + nanoseconds);
 }
 
-/* Asks those to end whose time is over, and learns when the next one's is. */
+/* Asks those to end whose time is over, and learns when the next one's is. There is a deadline. */
 void expire(struct libusb_context *context)
 {
-    if (!context->earliest)
-        return;
     uint64_t moment = now();
     if (moment < context->earliest)
         return;
