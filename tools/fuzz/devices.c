@@ -92,11 +92,16 @@ char *device_text(void)
     return text;
 }
 
+/* The hub has a number too, behind those of the devices. */
 int number_of(libusb_device *device)
 {
     struct libusb_device_descriptor descriptor;
-    if (libusb_get_device_descriptor(device, &descriptor) || descriptor.idProduct >= DEVICES)
+    if (libusb_get_device_descriptor(device, &descriptor))
         fail("no descriptor of a device");
+    if (descriptor.bDeviceClass == LIBUSB_CLASS_HUB)
+        return DEVICES;
+    if (descriptor.idVendor != 0x1209 || descriptor.idProduct >= DEVICES)
+        fail("a device %04x:%04x", descriptor.idVendor, descriptor.idProduct);
     return descriptor.idProduct;
 }
 

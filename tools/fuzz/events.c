@@ -87,14 +87,17 @@ void look_at_devices(void)
         libusb_free_device_list(list, 1);
         return;
     }
-    libusb_device *device = libusb_ref_device(list[roll((unsigned)count)]);
+    libusb_device *device = libusb_ref_device(list[roll((unsigned)count)]), *parent = libusb_get_parent(device);
+    if (parent)
+        libusb_ref_device(parent);
     libusb_free_device_list(list, 1);
-    number_of(device);
+    libusb_unref_device(parent);
+    bool is_hub = number_of(device) == DEVICES;
     if (libusb_get_config_descriptor(device, 0, &config))
         fail("no configuration");
     libusb_free_config_descriptor(config);
-    if (libusb_get_max_packet_size(device, 0x81) == 0)
-        fail("no packet size");
+    if (libusb_get_max_packet_size(device, 0x81) != PACKET && !is_hub)
+        fail("another packet size");
     libusb_unref_device(device);
 }
 

@@ -55,7 +55,7 @@ static void open_at(struct handle *handle, libusb_context *context)
             handle->it = NULL;
         else
             handle->device = number_of(libusb_get_device(handle->it));
-        if (r && r != LIBUSB_ERROR_NO_DEVICE)
+        if (r && r != (number_of(device) == DEVICES ? LIBUSB_ERROR_ACCESS : LIBUSB_ERROR_NO_DEVICE))
             fail("open: %s", libusb_error_name(r));
     }
     libusb_free_device_list(list, 1);
