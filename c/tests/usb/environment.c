@@ -2,6 +2,7 @@
 #include "scene.h"
 
 #include <pthread.h>
+#include <stdatomic.h>
 #include <stdio.h>
 #include <stdlib.h>
 #include <unistd.h>
@@ -95,7 +96,7 @@ static void times(void)
     say(clock_now() - from < 5000 ? "at once" : "late");
 }
 
-static volatile int is_over;
+static atomic_int is_over;
 
 static void *handle_for_ever(void *unused)
 {

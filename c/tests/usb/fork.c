@@ -3,6 +3,7 @@
 #include "scene.h"
 
 #include <pthread.h>
+#include <stdatomic.h>
 #include <stdio.h>
 #include <stdlib.h>
 #include <string.h>
@@ -81,7 +82,7 @@ static void both(void)
 
 static void *handle_until_interrupted(void *is_over)
 {
-    while (!*(volatile int *)is_over)
+    while (!*(atomic_int *)is_over)
         libusb_handle_events(context);
     return NULL;
 }
@@ -89,10 +90,10 @@ static void *handle_until_interrupted(void *is_over)
 /* The parent's thread isn't the child's: there nobody handles events, and the child does it itself. */
 static void beside_a_thread(void)
 {
-    static volatile int is_over;
+    static atomic_int is_over;
     pthread_t thread;
     begin("a child of a process with a thread that handles events", "script 0 81 d:05\n");
-    pthread_create(&thread, NULL, handle_until_interrupted, (void *)&is_over);
+    pthread_create(&thread, NULL, handle_until_interrupted, &is_over);
     usleep(30000);
     fflush(stdout);
     pid_t child = fork();
