@@ -5,8 +5,7 @@ Each program of c/tests/usb that has an .expected file is built and run: by gcc 
 address, undefined and thread sanitizers. Without a seed its lines are those of the file. With TIRNOUCH_SEED, where devices and controller
 go ahead by dice, it must end well. Each run is traced, and bin/usbtrace, where it is built, makes the same steps once more: every refusal,
 number and callback is compared, bytes too (tools/replay.py). Those without a seed are made without a trace too, since packets then go a
-quicker way: the lines must be the same. Then the example of docs/C.md is run as that page says, and tools/tirnouch-run is tried
-(tools/tirnouch_run_test.py). `--quick` is gcc alone, with one seed."""
+quicker way: the lines must be the same. Then the example of docs/C.md is run as that page says, and the tools of TOOLS. `--quick` is gcc alone, with one seed."""
 import os
 import pathlib
 import shutil
@@ -22,6 +21,8 @@ MORE = {"memory": ["-Wl,--wrap=malloc,--wrap=calloc,--wrap=realloc"]}
 # A process that forks isn't looked at by the thread sanitizer; nor are allocations that are refused its own.
 LEFT_OUT = {"thread": {"fork", "memory"}}
 SECONDS = 120
+# What is tried besides: runs that hang, crash or fail with some seeds; what a trace has where a run ends; and some rounds of random calls.
+TOOLS = [["tirnouch_run_test.py"], ["traces_test.py"], ["fuzz_calls", "--rounds", "4"]]
 # How many seeds each program is tried with, and how many dice the program that has its own.
 SEEDS, DICE = {"plain": 6, "sanitized": 2}, {"plain": 12, "sanitized": 3}
 
@@ -110,10 +111,15 @@ def example():
     return None
 
 
-def watched():
-    """tools/tirnouch-run on programs that hang, crash, or fail with some seeds."""
-    ran = subprocess.run([ROOT / "tools" / "tirnouch_run_test.py"], capture_output=True, text=True)
-    return f"tools/tirnouch_run_test.py: status {ran.returncode}\n{ran.stdout}{ran.stderr}" if ran.returncode else None
+def tool(*words):
+    """What is wrong with a tool's run, if something is."""
+    ran = subprocess.run([ROOT / "tools" / words[0], *words[1:]], capture_output=True, text=True)
+    return f"tools/{' '.join(words)}: status {ran.returncode}\n{ran.stdout}{ran.stderr}" if ran.returncode else None
+
+
+def shared_library():
+    """bin/libusb-1.0.so is a file of its own: the gate refuses links."""
+    return "bin/libusb-1.0.so is a link" if (ROOT / "bin" / "libusb-1.0.so").is_symlink() else None
 
 
 def main(words):
@@ -128,11 +134,12 @@ def main(words):
         all_runs = [it for way in ways for it in runs(way, names)]
         with ThreadPoolExecutor(os.cpu_count()) as pool:
             faults = [it for it in pool.map(lambda it: run(*it), all_runs) if it]
-    faults += [it for it in [example(), watched()] if it]
+    others = [example(), shared_library(), *(tool(*words) for words in TOOLS)]
+    faults += [it for it in others if it]
     print("".join(f"{it}\n" for it in faults), end="")
     if not (ROOT / "bin" / "usbtrace").is_file():
         print("no trace was made once more: there is no bin/usbtrace (make run builds one)")
-    print(f"{len(all_runs) + 2 - len(faults)} passed, {len(faults)} failed")
+    print(f"{len(all_runs) + len(others) - len(faults)} passed, {len(faults)} failed")
     return 1 if faults else 0
 
 
