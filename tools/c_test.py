@@ -5,8 +5,8 @@ Each program of c/tests/usb that has an .expected file is built and run: by gcc 
 address, undefined and thread sanitizers. Without a seed its lines are those of the file. With TIRNOUCH_SEED, where devices and controller
 go ahead by dice, it must end well. Each run is traced, and bin/usbtrace, where it is built, makes the same steps once more: every refusal,
 number and callback is compared, bytes too (tools/replay.py). Those without a seed are made without a trace too, since packets then go a
-quicker way: the lines must be the same. Then the example of docs/C.md is run as that page says, and tools/tirnouch-run is tried
-(tools/tirnouch_run_test.py). `--quick` is gcc alone, with one seed."""
+quicker way: the lines must be the same. Then the example of docs/C.md is run as that page says; and where no NAME is given,
+tools/tirnouch-run is tried (tools/tirnouch_run_test.py), and random calls are made (tools/fuzz_calls). `--quick` is gcc alone, with one seed."""
 import os
 import pathlib
 import shutil
@@ -116,9 +116,17 @@ def watched():
     return f"tools/tirnouch_run_test.py: status {ran.returncode}\n{ran.stdout}{ran.stderr}" if ran.returncode else None
 
 
+def fuzzed(is_quick):
+    """Some rounds of random calls; tools/fuzz_calls makes more of them."""
+    ran = subprocess.run([ROOT / "tools" / "fuzz_calls", "--rounds", "8", "--count", "300", *(["--ways", "plain"] if is_quick else [])],
+                         capture_output=True, text=True)
+    return f"tools/fuzz_calls: status {ran.returncode}\n{ran.stdout}{ran.stderr[-2000:]}" if ran.returncode else None
+
+
 def main(words):
     quick = "--quick" in words
-    names = [it for it in words if it != "--quick"] or sorted(it.stem for it in TESTS.glob("*.expected"))
+    chosen = [it for it in words if it != "--quick"]
+    names = chosen or sorted(it.stem for it in TESTS.glob("*.expected"))
     with tempfile.TemporaryDirectory(prefix="c-test-") as folder:
         folder = pathlib.Path(folder)
         ways = [Way(folder, "gcc")]
@@ -128,11 +136,12 @@ def main(words):
         all_runs = [it for way in ways for it in runs(way, names)]
         with ThreadPoolExecutor(os.cpu_count()) as pool:
             faults = [it for it in pool.map(lambda it: run(*it), all_runs) if it]
-    faults += [it for it in [example(), watched()] if it]
+    others = [example()] if chosen else [example(), watched(), fuzzed(quick)]
+    faults += [it for it in others if it]
     print("".join(f"{it}\n" for it in faults), end="")
     if not (ROOT / "bin" / "usbtrace").is_file():
         print("no trace was made once more: there is no bin/usbtrace (make run builds one)")
-    print(f"{len(all_runs) + 2 - len(faults)} passed, {len(faults)} failed")
+    print(f"{len(all_runs) + len(others) - len(faults)} passed, {len(faults)} failed")
     return 1 if faults else 0
 
 
