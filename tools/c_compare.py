@@ -34,9 +34,10 @@ LEFT_OUT = {
     "memory": "it refuses Tirnouch's own allocations",
     "races": "it releases, resets and closes in flight, which libusb leaves undefined",
     "seeds": "its seeds are Tirnouch's",
+    "speaks": "its messages are Tirnouch's",
 }
 # Programs that call what an older libusb lacks: they are run where it has this function.
-SINCE = {"capabilities": "libusb_get_platform_descriptor"}
+SINCE = {"capabilities": "libusb_get_platform_descriptor", "discovery": "libusb_init_context", "lifetimes": "libusb_init_context"}
 # Calls that libusb's manual forbids, so that anything may come of them.
 NOT_RUN = {"exit": {"exit_amid_events(1);", "exit_amid_events(THREADS);", "open_at_exit();"}}
 

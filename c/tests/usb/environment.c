@@ -1,9 +1,14 @@
 /* What the environment says: the file of devices, which a plugged text goes before, and time that passes at once. */
 #include "scene.h"
 
+#include <poll.h>
+#include <pthread.h>
+#include <stdatomic.h>
 #include <stdio.h>
 #include <stdlib.h>
 #include <unistd.h>
+
+#define ROUNDS 500
 
 static const char plugged[] = "device 0 " STANDARD_CONFIG "\nids 0 1209 0007\n";
 static char name[] = "/tmp/tirnouch_devices_XXXXXX";
@@ -92,10 +97,66 @@ static void times(void)
     say(clock_now() - from < 5000 ? "at once" : "late");
 }
 
+/* Who polls finds the next deadline over as soon as nothing else is to be done. */
+static void polled(void)
+{
+    const struct libusb_pollfd **list;
+    struct timeval none = { 0, 0 };
+    virtual_time(1);
+    begin("an hour at once, by polling", "");
+    list = libusb_get_pollfds(context);
+    struct pollfd it = { .fd = list && list[0] ? list[0]->fd : -1, .events = POLLIN };
+    libusb_free_pollfds(list);
+    struct libusb_transfer *transfer = submit_with(0, 0x81, 8, 0, 3600 * 1000);
+    while (!calls && poll(&it, 1, 2000) > 0)
+        libusb_handle_events_timeout(context, &none);
+    discard(transfer);
+    end();
+    virtual_time(0);
+}
+
+static atomic_int is_over;
+
+static void *handle_for_ever(void *unused)
+{
+    struct timeval minute = { 60, 0 };
+    (void)unused;
+    while (!is_over)
+        libusb_handle_events_timeout(context, &minute);
+    return NULL;
+}
+
+/* What is answered at once is answered, however fast the time of another thread passes. */
+static void two_threads(void)
+{
+    static char script[3 * ROUNDS + 64];
+    size_t length = (size_t)sprintf(script, "control 0 c0 01 0000 0000 d:01\nscript 0 02");
+    unsigned char data[1] = { 0 };
+    int failed = 0, moved;
+    pthread_t thread;
+    for (int i = 0; i < ROUNDS; i++)
+        length += (size_t)sprintf(script + length, " a");
+    virtual_time(1);
+    begin("two threads at once", script);
+    pthread_create(&thread, NULL, handle_for_ever, NULL);
+    for (int i = 0; i < ROUNDS; i++) {
+        failed += libusb_control_transfer(handle, 0xc0, 1, 0, 0, data, 1, 1000) != 1;
+        failed += libusb_bulk_transfer(handle, 0x02, data, 1, &moved, 1000) != 0;
+    }
+    is_over = 1;
+    libusb_interrupt_event_handler(context);
+    pthread_join(thread, NULL);
+    end();
+    virtual_time(0);
+    number("failed", failed);
+}
+
 int main(void)
 {
     files();
     bad_texts();
     times();
+    polled();
+    two_threads();
     return 0;
 }

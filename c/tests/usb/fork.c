@@ -2,6 +2,8 @@
  * as if there were no child. */
 #include "scene.h"
 
+#include <pthread.h>
+#include <stdatomic.h>
 #include <stdio.h>
 #include <stdlib.h>
 #include <string.h>
@@ -78,6 +80,37 @@ static void both(void)
     end();
 }
 
+static void *handle_until_interrupted(void *is_over)
+{
+    while (!*(atomic_int *)is_over)
+        libusb_handle_events(context);
+    return NULL;
+}
+
+/* The parent's thread isn't the child's: there nobody handles events, and the child does it itself. */
+static void beside_a_thread(void)
+{
+    static atomic_int is_over;
+    pthread_t thread;
+    begin("a child of a process with a thread that handles events", "script 0 81 d:05\n");
+    pthread_create(&thread, NULL, handle_until_interrupted, &is_over);
+    usleep(30000);
+    fflush(stdout);
+    pid_t child = fork();
+    if (child == 0) {
+        read_one("the child's read");
+        libusb_close(handle);
+        libusb_exit(context);
+        fflush(stdout);
+        _exit(0);
+    }
+    wait_for_child(child);
+    is_over = 1;
+    libusb_interrupt_event_handler(context);
+    pthread_join(thread, NULL);
+    end();
+}
+
 static void before_the_library(void)
 {
     pid_t child;
@@ -101,5 +134,6 @@ int main(void)
 {
     both();
     before_the_library();
+    beside_a_thread();
     return 0;
 }

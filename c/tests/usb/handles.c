@@ -261,6 +261,14 @@ static void driver(void)
     answer("not by itself", libusb_set_auto_detach_kernel_driver(handle, 0));
     answer("claim", libusb_claim_interface(handle, 0));
     end();
+
+    begin_unclaimed("a kernel driver behind a close without a release", "driver 0 0\n");
+    answer("detach by itself", libusb_set_auto_detach_kernel_driver(handle, 1));
+    answer("claim", libusb_claim_interface(handle, 0));
+    libusb_close(handle);
+    handle = open_standard(context);
+    answer("active", libusb_kernel_driver_active(handle, 0));
+    end();
 }
 
 static void get(void)

@@ -5,6 +5,7 @@
 #include "libusb.h"
 #include "tirnouch.h"
 
+#include <malloc.h>
 #include <stdio.h>
 #include <stdlib.h>
 #include <string.h>
@@ -17,6 +18,7 @@
 #define MOST_RUNS 20000
 #define AT_ONCE 16
 #define ROUNDS_OVER 8
+#define REGISTERED 10000
 
 void *__real_malloc(size_t size);
 void *__real_calloc(size_t count, size_t size);
@@ -357,6 +359,31 @@ static void refuse_each(const char *how)
     printf("%s: %s\n", how, is_over ? "whole" : "too many allocations");
 }
 
+static int LIBUSB_CALL on_nothing(libusb_context *of, libusb_device *device, libusb_hotplug_event event, void *user)
+{
+    (void)of, (void)device, (void)event, (void)user;
+    return 0;
+}
+
+/* Entries that are deregistered go at once: the allocator has as much in use behind many as behind few. */
+static void register_over_and_over(void)
+{
+    size_t used = 0;
+    is_dry = 1;
+    if (tirnouch_plug(text, text_length) || libusb_init(&context))
+        exit(1);
+    for (int i = 0; i < REGISTERED; i++) {
+        libusb_hotplug_callback_handle id;
+        libusb_hotplug_register_callback(context, LIBUSB_HOTPLUG_EVENT_DEVICE_LEFT, 0, -1, -1, -1, on_nothing, NULL, &id);
+        libusb_hotplug_deregister_callback(context, id);
+        if (i == REGISTERED / 10)
+            used = mallinfo2().uordblks;
+    }
+    require(mallinfo2().uordblks <= used, "memory stays with entries that are deregistered");
+    libusb_exit(context);
+    is_dry = 0;
+}
+
 int main(void)
 {
     alarm(110);
@@ -366,6 +393,8 @@ int main(void)
     puts("with ample memory: whole");
     read_over_and_over();
     puts("reads over and over: no memory is taken behind the first");
+    register_over_and_over();
+    puts("registered and deregistered over and over: no memory is kept");
     refuse_each("with each allocation refused in turn");
     refuses_more = 1;
     refuse_each("with all behind it to the end of the call");

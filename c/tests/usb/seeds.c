@@ -3,6 +3,7 @@
  * device's, and the same seed makes the same run. */
 #include "scene.h"
 
+#include <poll.h>
 #include <stdio.h>
 #include <stdlib.h>
 #include <string.h>
@@ -11,6 +12,7 @@
 #define READS 24
 #define LENGTH 24
 #define PACKETS 80
+#define WAITED 200
 
 struct end {
     int status, length, order, is_asked;
@@ -43,17 +45,9 @@ static void on_call(struct libusb_transfer *transfer)
     end->order = end->order ? -1 : ++ended;
 }
 
-static void begin_seed(unsigned seed)
+static void begin_with(unsigned seed, const char *text)
 {
-    static char text[sizeof STANDARD + 64 + PACKETS * 24];
     char number_of_seed[16];
-    size_t length = (size_t)sprintf(text, "%sscript 0 81", STANDARD);
-    for (unsigned i = 0; i < PACKETS; i++) {
-        length += (size_t)sprintf(text + length, i % 5 == 2 ? " n d:" : " d:");
-        for (unsigned j = 0; j < 8; j++)
-            length += (size_t)sprintf(text + length, "%02x", (8 * i + j) % 251);
-    }
-    strcpy(text + length, "\n");
     sprintf(number_of_seed, "%u", seed);
     setenv("TIRNOUCH_SEED", number_of_seed, 1);
     if (tirnouch_plug(text, strlen(text)) || libusb_init(&context))
@@ -61,6 +55,37 @@ static void begin_seed(unsigned seed)
     handle = open_standard(context);
     if (libusb_claim_interface(handle, 0))
         exit(1);
+}
+
+/* By a loop of its own: what it polls is readable as long as something is to be done. */
+static void poll_for_one(unsigned seed)
+{
+    const struct libusb_pollfd **list = libusb_get_pollfds(context);
+    struct pollfd it = { .fd = list && list[0] ? list[0]->fd : -1, .events = POLLIN };
+    struct timeval none = { 0, 0 };
+    struct libusb_transfer *transfer = make(0, 0x81, 8);
+    libusb_free_pollfds(list);
+    memset(ends, 0, sizeof ends);
+    ended = 0;
+    transfer->callback = on_call;
+    send_off(transfer);
+    while (!ended && poll(&it, 1, 5000) > 0)
+        libusb_handle_events_timeout(context, &none);
+    require(ended && ends[0].length == 2, seed, "a read that is polled for");
+    discard(transfer);
+}
+
+static void begin_seed(unsigned seed)
+{
+    static char text[sizeof STANDARD + 64 + PACKETS * 24];
+    size_t length = (size_t)sprintf(text, "%sscript 0 81", STANDARD);
+    for (unsigned i = 0; i < PACKETS; i++) {
+        length += (size_t)sprintf(text + length, i % 5 == 2 ? " n d:" : " d:");
+        for (unsigned j = 0; j < 8; j++)
+            length += (size_t)sprintf(text + length, "%02x", (8 * i + j) % 251);
+    }
+    strcpy(text + length, "\n");
+    begin_with(seed, text);
 }
 
 static void cancel(int i)
@@ -118,6 +143,21 @@ static void finish(void)
         discard(transfers[i]);
 }
 
+/* Devices that aren't ready at first, by seeds: a read that is waited for ends, and so does one that is polled for. */
+static void wait_by_seeds(void)
+{
+    unsigned char data[8];
+    for (unsigned seed = 1; seed <= WAITED; seed++) {
+        int moved = 0, result;
+        begin_with(seed, STANDARD "script 0 81 n d:0001 n n d:0002\n");
+        result = libusb_bulk_transfer(handle, 0x81, data, sizeof data, &moved, 5000);
+        require(result == 0 && moved == 2, seed, "a read that is waited for");
+        poll_for_one(seed);
+        libusb_close(handle);
+        libusb_exit(context);
+    }
+}
+
 int main(void)
 {
     puts("reads that are cancelled, by seeds");
@@ -130,6 +170,7 @@ int main(void)
         finish();
         require(!memcmp(before, ends, sizeof ends), seed, "another run of the same seed");
     }
+    wait_by_seeds();
     number("failures", failures);
     say(late_cancels ? "a cancel came too late, and its transfer was completed" : "no cancel came too late");
     say(partial_cancels ? "one that was cancelled had some bytes" : "none that was cancelled had bytes");
