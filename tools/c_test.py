@@ -17,6 +17,7 @@ from concurrent.futures import ThreadPoolExecutor
 
 ROOT = pathlib.Path(__file__).resolve().parent.parent
 TESTS = ROOT / "c" / "tests" / "usb"
+FUZZER = ROOT / "tools" / "fuzz"
 FLAGS = "-std=c11 -g -Wall -Wextra -pedantic -D_GNU_SOURCE".split() + ["-I", str(ROOT / "c" / "include")]
 MORE = {"memory": ["-Wl,--wrap=malloc,--wrap=calloc,--wrap=realloc"]}
 # A process that forks isn't looked at by the thread sanitizer; nor are allocations that are refused its own.
@@ -49,6 +50,11 @@ class Way:
         sources = [TESTS / f"{name}.c", TESTS / "scene.c"]
         subprocess.run([*self.words, *MORE.get(name, []), *sources, *self.library, "-pthread", "-o", built], check=True)
         return built
+
+    def build_fuzzer(self):
+        built = self.folder / "calls"
+        subprocess.run([*self.words, *sorted(FUZZER.glob("*.c")), *self.library, "-pthread", "-o", built], check=True)
+        return f"{self.sanitizers or self.words[0]}={built}"
 
     def kind(self):
         return "sanitized" if self.sanitizers else "plain"
@@ -116,10 +122,10 @@ def watched():
     return f"tools/tirnouch_run_test.py: status {ran.returncode}\n{ran.stdout}{ran.stderr}" if ran.returncode else None
 
 
-def fuzzed(is_quick):
+def fuzzed(programs):
     """Some rounds of random calls; tools/fuzz_calls makes more of them."""
-    ran = subprocess.run([ROOT / "tools" / "fuzz_calls", "--rounds", "8", "--count", "300", *(["--ways", "plain"] if is_quick else [])],
-                         capture_output=True, text=True)
+    words = [ROOT / "tools" / "fuzz_calls", "--rounds", "6", "--count", "300", "--built", *programs]
+    ran = subprocess.run(words, capture_output=True, text=True)
     return f"tools/fuzz_calls: status {ran.returncode}\n{ran.stdout}{ran.stderr[-2000:]}" if ran.returncode else None
 
 
@@ -136,7 +142,7 @@ def main(words):
         all_runs = [it for way in ways for it in runs(way, names)]
         with ThreadPoolExecutor(os.cpu_count()) as pool:
             faults = [it for it in pool.map(lambda it: run(*it), all_runs) if it]
-    others = [example()] if chosen else [example(), watched(), fuzzed(quick)]
+        others = [example()] if chosen else [example(), watched(), fuzzed([way.build_fuzzer() for way in ways])]
     faults += [it for it in others if it]
     print("".join(f"{it}\n" for it in faults), end="")
     if not (ROOT / "bin" / "usbtrace").is_file():
