@@ -31,18 +31,15 @@ SECONDS = 40
 LEFT_OUT = {
     "environment": "its variables are Tirnouch's",
     "fork": "libusb says nothing of a child of fork",
-    "gates": "it measures how quickly Tirnouch answers",
     "memory": "it refuses Tirnouch's own allocations",
     "races": "it releases, resets and closes in flight, which libusb leaves undefined",
     "seeds": "its seeds are Tirnouch's",
-    "speaks": "its texts are Tirnouch's",
+    "speaks": "its messages are Tirnouch's",
 }
 # Programs that call what an older libusb lacks: they are run where it has this function.
 SINCE = {"capabilities": "libusb_get_platform_descriptor", "discovery": "libusb_init_context", "lifetimes": "libusb_init_context"}
-# Calls that libusb's manual forbids, so that anything may come of them; and one that waits for an hour.
-NOT_RUN = {"exit": {"exit_amid_events(1);", "exit_amid_events(THREADS);", "open_at_exit();"}, "polling": {"all_at_once();"}}
-# Scenes that aren't compared, since they try what is Tirnouch's alone.
-OWN = {"polling": {"an hour at once"}}
+# Calls that libusb's manual forbids, so that anything may come of them.
+NOT_RUN = {"exit": {"exit_amid_events(1);", "exit_amid_events(THREADS);", "open_at_exit();"}}
 
 
 def find_library(root):
@@ -142,8 +139,6 @@ def compare(name, told):
     titles = difflib.SequenceMatcher(None, [it[0] for it in here], [it[0] for it in there], autojunk=False)
     partner = {block.a + i: block.b + i for block in titles.get_matching_blocks() for i in range(block.size)}
     for i, (title, lines) in enumerate(here):
-        if title in OWN.get(name, ()):
-            continue
         differing = ["+ (isn't run)"]
         if i in partner:
             differing = [f"{it[0]} {it[2:]}" for it in difflib.ndiff(lines, there[partner[i]][1]) if it[0] in "-+"]

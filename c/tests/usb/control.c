@@ -147,7 +147,7 @@ static void lengths(void)
     end();
 }
 
-static int answered, is_ready;
+static int answered, is_ready, asked_in_vain;
 
 static int by_function(void *user, const uint8_t setup[8], uint8_t *out, int length)
 {
@@ -165,6 +165,10 @@ static int by_function(void *user, const uint8_t setup[8], uint8_t *out, int len
         break;
     case 4:
         return out[0] == 0x55 && length == 2 ? length : TIRNOUCH_STALL;
+    case 5:
+        if (++asked_in_vain < 4)
+            return TIRNOUCH_NOT_READY;
+        break;
     default:
         break;
     }
@@ -183,6 +187,9 @@ static void functions(void)
     show("refused", ask(0xc0, 1, 0, 0, 8, 100));
     show("as the text", ask(0xc0, 2, 0, 0, 8, 100));
     show("ready the second time", ask(0xc0, 3, 0x44, 0, 8, 1000));
+    long long from = clock_now();
+    show("ready the fourth time", ask(0xc0, 5, 0x45, 0, 8, 5000));
+    say(clock_now() - from < 2000 ? "soon" : "late");
     data[0] = 0x55;
     answer("written", ask(0x40, 4, 0, 0, 2, 100));
     data[0] = 0x56;

@@ -1,6 +1,7 @@
 /* What the environment says: the file of devices, which a plugged text goes before, and time that passes at once. */
 #include "scene.h"
 
+#include <poll.h>
 #include <pthread.h>
 #include <stdatomic.h>
 #include <stdio.h>
@@ -96,6 +97,24 @@ static void times(void)
     say(clock_now() - from < 5000 ? "at once" : "late");
 }
 
+/* Who polls finds the next deadline over as soon as nothing else is to be done. */
+static void polled(void)
+{
+    const struct libusb_pollfd **list;
+    struct timeval none = { 0, 0 };
+    virtual_time(1);
+    begin("an hour at once, by polling", "");
+    list = libusb_get_pollfds(context);
+    struct pollfd it = { .fd = list && list[0] ? list[0]->fd : -1, .events = POLLIN };
+    libusb_free_pollfds(list);
+    struct libusb_transfer *transfer = submit_with(0, 0x81, 8, 0, 3600 * 1000);
+    while (!calls && poll(&it, 1, 2000) > 0)
+        libusb_handle_events_timeout(context, &none);
+    discard(transfer);
+    end();
+    virtual_time(0);
+}
+
 static atomic_int is_over;
 
 static void *handle_for_ever(void *unused)
@@ -137,6 +156,7 @@ int main(void)
     files();
     bad_texts();
     times();
+    polled();
     two_threads();
     return 0;
 }

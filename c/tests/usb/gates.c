@@ -70,10 +70,15 @@ static void too_early(void)
     end();
 }
 
+static void many_and_few(void)
+{
+    long long few = exchange(FEW), many = exchange(MANY);
+    say(many < 3 * few + 10000 ? "as quick with many as with few" : "slower with many");
+}
+
 int main(void)
 {
     too_early();
-    long long few = exchange(FEW), many = exchange(MANY);
-    say(many < 3 * few + 10000 ? "as quick with many as with few" : "slower with many");
+    many_and_few();
     return 0;
 }

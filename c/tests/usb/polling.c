@@ -111,25 +111,11 @@ static void two_contexts(void)
     end();
 }
 
-static void all_at_once(void)
-{
-    struct libusb_transfer *transfer;
-    virtual_time(1);
-    begin("an hour at once", "");
-    transfer = submit_with(0, 0x81, 8, 0, 3600 * 1000);
-    while (!calls && is_ready(2000))
-        loop();
-    discard(transfer);
-    end();
-    virtual_time(0);
-}
-
 int main(void)
 {
     at_rest();
     times();
     answers();
     two_contexts();
-    all_at_once();
     return 0;
 }

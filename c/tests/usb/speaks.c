@@ -107,6 +107,27 @@ static void each_call(void)
     end();
 }
 
+/* Of two configurations that a device descriptor says one is there, as its text has it: programs see 1. */
+static void configurations(void)
+{
+    struct libusb_device_descriptor it;
+    struct libusb_config_descriptor *config;
+    unsigned char data[18] = { 0 };
+    most_shown = LIBUSB_LOG_LEVEL_INFO;
+    libusb_set_option(NULL, LIBUSB_OPTION_LOG_LEVEL, LIBUSB_LOG_LEVEL_INFO);
+    libusb_set_option(NULL, LIBUSB_OPTION_LOG_CB, show);
+    begin_text("a device descriptor of two configurations", STANDARD "descriptor 0 1201000200000040a904c03100010000" "0002\n");
+    handle = open_standard(context);
+    answer("descriptor", libusb_get_device_descriptor(libusb_get_device(handle), &it));
+    number("configurations", it.bNumConfigurations);
+    answer("the second", libusb_get_config_descriptor(libusb_get_device(handle), 1, &config));
+    answer("by request", libusb_get_descriptor(handle, LIBUSB_DT_DEVICE, 0, data, sizeof data));
+    number("configurations", data[17]);
+    end();
+    libusb_set_option(NULL, LIBUSB_OPTION_LOG_CB, NULL);
+    libusb_set_option(NULL, LIBUSB_OPTION_LOG_LEVEL, LIBUSB_LOG_LEVEL_NONE);
+}
+
 static void misuses(void)
 {
     libusb_device **list;
@@ -129,6 +150,7 @@ int main(void)
     left();
     requests();
     each_call();
+    configurations();
     misuses();
     return 0;
 }

@@ -121,19 +121,6 @@ static void as_the_text_says(void)
     end();
 }
 
-static void configurations(void)
-{
-    struct libusb_device_descriptor it;
-    struct libusb_config_descriptor *config;
-    begin_text("a device descriptor of two configurations", STANDARD "descriptor 0 1201000200000040a904c03100010000" "0002\n");
-    handle = open_standard(context);
-    answer("descriptor", libusb_get_device_descriptor(libusb_get_device(handle), &it));
-    number("configurations", it.bNumConfigurations);
-    answer("the second", libusb_get_config_descriptor(libusb_get_device(handle), 1, &config));
-    ask("by request", 0x80, 6, 0x0100, 0, 18);
-    end();
-}
-
 int main(void)
 {
     by_the_device();
@@ -143,6 +130,5 @@ int main(void)
     waking();
     strings();
     as_the_text_says();
-    configurations();
     return 0;
 }
