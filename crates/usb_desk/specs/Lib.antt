@@ -10,4 +10,9 @@ pub mod Packet
 pub mod Control
 pub mod Lines
 pub mod Sense
+pub mod Wanted
+pub mod Form
+pub mod FormFault
 pub mod Desk
+pub mod PlaceFault
+pub mod Reason
