@@ -140,8 +140,12 @@ static void a_read(void)
 {
     uint8_t data[8];
     tell("read of 8", read_at(0x81, 8, 4711));
+    tell("look at 81", tirnouch_look(&slot, 0, 0x81, &told));
+    tell("look at 02", tirnouch_look(&slot, 0, 0x02, &told));
     tell("serve", tirnouch_serve(&slot, 0, 0x81, 10, &told));
     tell("pending", tirnouch_pending(&slot, 255, 0, &told));
+    tell("look at 81", tirnouch_look(&slot, 0, 0x81, &told));
+    tell("look at device 4", tirnouch_look(&slot, 4, 0x81, &told));
     tell("settle", tirnouch_settle(&slot, 0, 100, &told));
     tell("take", take());
     bytes("fetch", tirnouch_fetch(&slot, data, sizeof data), data, 5);

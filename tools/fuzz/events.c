@@ -46,6 +46,16 @@ void handle_locked(void)
     libusb_unlock_events(context);
 }
 
+/* Whoever has the lock holds it for a few milliseconds at most. */
+void lock_and_handle(void)
+{
+    libusb_context *context = some_context();
+    libusb_lock_events(context);
+    if (libusb_event_handling_ok(context))
+        expect(libusb_handle_events_locked(context, &(struct timeval){ 0, 0 }), "handle_events_locked");
+    libusb_unlock_events(context);
+}
+
 void wait_for_event(void)
 {
     libusb_context *context = some_context();

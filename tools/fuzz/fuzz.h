@@ -18,6 +18,8 @@
 #define DEVICES 4
 #define PACKET 8
 #define MOST_BYTES 96
+/* More than the library gives to its core in one piece. */
+#define LONG_BYTES 262400
 /* The device whose scripts may begin anew, since it is reset and configured: which of its bytes come is less known. */
 #define RENEWED 2
 #define HIDDEN 3
@@ -57,6 +59,7 @@ bool hold_this(int place);
 void let_go(int place);
 libusb_device_handle *handle_at(int place);
 int device_at(int place);
+libusb_context *context_at(int place);
 void sent_by(int place, int more);
 void open_one(void);
 void close_one(void);
@@ -80,6 +83,7 @@ void tell_transfers(void);
 void read_and_wait(void);
 void write_and_wait(void);
 void ask_device(void);
+void wait_by_hand(void);
 void visit(void);
 void visit_usual(void);
 void let_one_go(void);
@@ -88,6 +92,7 @@ void let_all_go(void);
 /* events.c: events in all their forms, lists, and hotplug */
 void handle_some(void);
 void handle_locked(void);
+void lock_and_handle(void);
 void wait_for_event(void);
 void look_at_events(void);
 void look_at_devices(void);

@@ -12,6 +12,7 @@ static struct handle {
 
 libusb_device_handle *handle_at(int place) { return handles[place].it; }
 int device_at(int place) { return handles[place].device; }
+libusb_context *context_at(int place) { return contexts[place % CONTEXTS]; }
 void let_go(int place) { pthread_rwlock_unlock(&handles[place].lock); }
 void sent_by(int place, int more) { atomic_fetch_add(&handles[place].sent, more); }
 
@@ -67,7 +68,7 @@ void open_one(void)
     if (pthread_rwlock_trywrlock(&handles[place].lock))
         return;
     if (!handles[place].it)
-        open_at(&handles[place], contexts[place % CONTEXTS]);
+        open_at(&handles[place], context_at((int)place));
     let_go((int)place);
 }
 

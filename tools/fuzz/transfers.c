@@ -18,7 +18,7 @@
 struct slot {
     pthread_mutex_t own;
     struct libusb_transfer *it;
-    unsigned char buffer[LIBUSB_CONTROL_SETUP_SIZE + MOST_BYTES];
+    unsigned char buffer[LONG_BYTES];
     atomic_int word;
     int device;
     uint32_t serial;
@@ -74,7 +74,8 @@ static void fill(struct slot *slot, int place)
         slot->it->flags = roll(4) ? 0 : LIBUSB_TRANSFER_ADD_ZERO_PACKET;
         break;
     case 2:
-        libusb_fill_bulk_transfer(slot->it, handle, 0x81, slot->buffer, packets * PACKET + tail, on_call, slot, timeout);
+        libusb_fill_bulk_transfer(slot->it, handle, 0x81, slot->buffer, roll(16) ? packets * PACKET + tail : LONG_BYTES, on_call, slot,
+                                  timeout);
         slot->it->flags = roll(4) ? 0 : LIBUSB_TRANSFER_SHORT_NOT_OK;
         break;
     default:

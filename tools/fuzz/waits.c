@@ -79,6 +79,34 @@ void ask_device(void)
     let_go(place);
 }
 
+static void on_done(struct libusb_transfer *transfer)
+{
+    __atomic_store_n((int *)transfer->user_data, 1, __ATOMIC_RELEASE);
+}
+
+/* As the manual has a wait for a transfer, while others handle events too. */
+void wait_by_hand(void)
+{
+    unsigned char data[2 * PACKET];
+    int place = hold_handle(), done = 0;
+    if (place < 0)
+        return;
+    struct libusb_transfer *transfer = libusb_alloc_transfer(0);
+    if (!transfer)
+        fail("no memory");
+    libusb_fill_bulk_transfer(transfer, handle_at(place), 0x81, data, sizeof data, on_done, &done, some_time());
+    if (!libusb_submit_transfer(transfer)) {
+        while (!__atomic_load_n(&done, __ATOMIC_ACQUIRE)) {
+            int r = libusb_handle_events_completed(context_at(place), &done);
+            if (r && r != LIBUSB_ERROR_INTERRUPTED)
+                fail("handle_events_completed: %s", libusb_error_name(r));
+        }
+        check_read(device_at(place), 0x81, data, transfer->actual_length);
+    }
+    libusb_free_transfer(transfer);
+    let_go(place);
+}
+
 /* A transfer of a context of one's own; it counts how often it is called back. */
 static void on_own(struct libusb_transfer *transfer)
 {

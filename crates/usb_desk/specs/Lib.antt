@@ -8,4 +8,6 @@ pub mod Line
 pub mod Device
 pub mod Packet
 pub mod Control
+pub mod Lines
+pub mod Sense
 pub mod Desk

@@ -10,6 +10,7 @@
 //! - `answer.rt`, `text.rt`, `statement.rt`: answers to requests; string descriptors; what a line says of a device, by each first
 //!   word
 //! - `line.rt`, `draft.rt`, `desk.rt`: one line; the devices that the lines so far describe; a text, whole
+//! - `sense.rt`: whether what a line says applies to its device, and is said once
 //! - `device.rt`: a device behind one more line
 //! - `packet.rt`, `control.rt`: setup packets, and what a host has to hold for one; what a device answers to it
 //! - specs/ by the same names; Desk has the whole text
@@ -18,7 +19,8 @@
 //!
 //! - `read_desk`: the devices of the text, or the number of the first line that isn't taken. A line that a scenario has too,
 //!   `device` and `script`, is read as a scenario's (`scenario_of` of the text whose other lines are empty); each device can be
-//!   made (`CanBeMade`). Want of memory leaves it open
+//!   made (`CanBeMade`). A text of good lines is then asked for the first that can't mean anything (`applies`, `is_said`). Want of
+//!   memory leaves it open
 //! - `DeskDevice::reply`: of the first answers that a request fits the one of its turn, the last for ever; else what the
 //!   descriptors say of a standard request; any other stalls
 //! - `DeskDevice::count`: the answers that a request fits were asked once more, and nothing else changed
@@ -35,6 +37,7 @@ mod device;
 mod draft;
 mod line;
 mod packet;
+mod sense;
 mod statement;
 mod text;
 mod topic;
@@ -46,6 +49,7 @@ pub use desk::{Desk, read_desk};
 pub use device::DeskDevice;
 pub use line::DeskLine;
 pub use packet::{Needs, SetupPacket};
+pub use sense::{Saying, Subject};
 pub use statement::{Class, Control, Departure, Gate, Ids, Pattern, Statement, Text};
 pub use topic::Topic;
 pub use word::Speed;

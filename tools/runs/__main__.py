@@ -1,0 +1,99 @@
+"""The part of tools/tirnouch-run that watches programs: a limit, many seeds, the library's version.
+
+    python3 tools/runs version LIBRARY
+    python3 tools/runs limit TIME MILLISECONDS -- PROGRAM ..
+    python3 tools/runs seeds FIRST LAST [--jobs N] [--keep-going] [--limit TIME MILLISECONDS] [--virtual] --again RUN DEVICES -- PROGRAM ..
+
+tools/tirnouch-run has checked the words, and has set the environment of the program.
+
+The modules, from below: program (a process group, and its end); traces (the files of a run's steps); limit (a run that is ended when
+its time is over); seeds (many runs); shown (what is told of them)."""
+import argparse
+import ctypes
+import pathlib
+import signal
+import sys
+import tempfile
+from typing import List, NoReturn, Sequence
+
+from limit import run_with_limit
+from program import end_by, tell
+from seeds import Seeds
+from shown import report
+
+
+class Ended(Exception):
+    """This process was asked to end."""
+
+
+def run_seeds(words: argparse.Namespace, program: Sequence[str]) -> int:
+    def end(number: int, _frame: object) -> NoReturn:
+        raise Ended(number)
+
+    for number in (signal.SIGINT, signal.SIGTERM, signal.SIGHUP):
+        if signal.getsignal(number) != signal.SIG_IGN:
+            signal.signal(number, end)
+    try:
+        with tempfile.TemporaryDirectory(prefix="tirnouch-run-") as folder:
+            runs = Seeds(words, program, pathlib.Path(folder))
+            runs.run()
+            return report(runs)
+    except Ended as ended:
+        end_by(ended.args[0])
+    except OSError as error:
+        tell(f"the runs can't be made: {error}")
+        return 126
+
+
+def print_version(library: str) -> int:
+    """What the library says of itself; ctypes loads it into this process, which does nothing else."""
+
+    class Version(ctypes.Structure):
+        """struct libusb_version"""
+
+        _fields_ = [(name, ctypes.c_uint16) for name in ("major", "minor", "micro", "nano")] + [
+            ("rc", ctypes.c_char_p), ("describe", ctypes.c_char_p)]
+
+    try:
+        ask = ctypes.CDLL(library).libusb_get_version
+    except (OSError, AttributeError) as error:
+        tell(f"{library} can't be loaded: {error}")
+        return 127
+    ask.restype = ctypes.POINTER(Version)
+    it = ask().contents
+    rc, name = (it.rc or b"").decode(), (it.describe or b"").decode()
+    print(f"{name} libusb {it.major}.{it.minor}.{it.micro}.{it.nano}{rc}\n{library}")
+    return 0
+
+
+def arguments(words: Sequence[str]) -> argparse.Namespace:
+    parser = argparse.ArgumentParser(description="the part of tools/tirnouch-run that watches programs")
+    kinds = parser.add_subparsers(dest="kind", required=True)
+    version = kinds.add_parser("version")
+    version.add_argument("library")
+    limit = kinds.add_parser("limit")
+    limit.add_argument("said")
+    limit.add_argument("milliseconds", type=int)
+    seeds = kinds.add_parser("seeds")
+    seeds.add_argument("first", type=int)
+    seeds.add_argument("last", type=int)
+    seeds.add_argument("--jobs", type=int)
+    seeds.add_argument("--keep-going", action="store_true")
+    seeds.add_argument("--limit", nargs=2)
+    seeds.add_argument("--virtual", action="store_true")
+    seeds.add_argument("--again", nargs=2, required=True)
+    return parser.parse_args(words)
+
+
+def main(words: List[str]) -> int:
+    at = words.index("--") if "--" in words else len(words)
+    asked, program = arguments(words[:at]), words[at + 1:]
+    if asked.kind == "version":
+        return print_version(asked.library)
+    if asked.kind == "limit":
+        run_with_limit(asked.said, asked.milliseconds, program)
+    return run_seeds(asked, program)
+
+
+if __name__ == "__main__":
+    sys.exit(main(sys.argv[1:]))

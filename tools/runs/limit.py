@@ -1,0 +1,142 @@
+"""A run with a limit. The program has the terminal, and a process group of its own, so that its children end with it.
+
+The library itself ends the run when the time is over, since it knows what is in flight; a program that doesn't get so far, or hangs
+elsewhere, is ended from here somewhat later."""
+import os
+import signal
+import sys
+import tempfile
+import time
+from typing import Dict, NoReturn, Optional, Sequence
+
+from program import GRACE, OVER, SLACK, become, end_by, program_environment, signal_group, tell
+from traces import last_lines, traces_of
+
+LAST_LINES = 10
+# What is passed on to the program: whatever asks this process to end, or tells it something.
+PASSED_ON = (signal.SIGINT, signal.SIGTERM, signal.SIGHUP, signal.SIGQUIT, signal.SIGUSR1, signal.SIGUSR2, signal.SIGTSTP)
+
+
+def move_terminal(source: int, target: int) -> bool:
+    """Gives the terminal of standard input from one process group to another, so that this one can read and be interrupted there.
+    Whether it was the first one's."""
+    before = signal.signal(signal.SIGTTOU, signal.SIG_IGN)
+    try:
+        was_its = os.isatty(0) and os.tcgetpgrp(0) == source
+        if was_its:
+            os.tcsetpgrp(0, target)
+        return was_its
+    except OSError:
+        return False
+    finally:
+        signal.signal(signal.SIGTTOU, before)
+
+
+class Watched:
+    """A program in the foreground, in a process group of its own."""
+
+    def __init__(self, words: Sequence[str], environment: Dict[bytes, bytes]) -> None:
+        self.ours = os.getpgrp()
+        self.status: Optional[int] = None
+        self.had_terminal = False
+        heard = {it for it in PASSED_ON if signal.getsignal(it) != signal.SIG_IGN} | {signal.SIGCHLD}
+        signal.signal(signal.SIGCHLD, signal.SIG_DFL)
+        before = signal.pthread_sigmask(signal.SIG_BLOCK, heard)
+        self.heard = heard
+        self.group = os.fork()
+        if self.group == 0:
+            os.setpgid(0, 0)
+            move_terminal(self.ours, os.getpid())
+            signal.pthread_sigmask(signal.SIG_SETMASK, before)
+            become(words, environment)
+        try:
+            os.setpgid(self.group, self.group)
+        except OSError:
+            pass  # it is the program already
+        move_terminal(self.ours, self.group)
+
+    def wait(self, until: float) -> bool:
+        """Whether it ended before that moment. What was asked of this process meanwhile, is asked of the program."""
+        while self.status is None:
+            left = until - time.monotonic()
+            if left <= 0:
+                return False
+            heard = signal.sigtimedwait(self.heard, left)
+            if heard is None:
+                continue
+            if heard.si_signo == signal.SIGCHLD:
+                until += self.look()
+            else:
+                signal_group(self.group, heard.si_signo)
+        return True
+
+    def look(self) -> float:
+        """What became of the program; where it was stopped, this process stops too. For how long, is the answer."""
+        number, status = os.waitpid(self.group, os.WNOHANG | os.WUNTRACED)
+        if number and os.WIFSTOPPED(status):
+            began = time.monotonic()
+            move_terminal(self.group, self.ours)
+            os.kill(os.getpid(), signal.SIGSTOP)
+            move_terminal(self.ours, self.group)
+            signal_group(self.group, signal.SIGCONT)
+            return time.monotonic() - began
+        if number:
+            self.status = status
+            self.had_terminal = move_terminal(self.group, self.ours)
+        return 0
+
+    def end(self) -> str:
+        """Ends the whole group, and says by which signal."""
+        signal_group(self.group, signal.SIGTERM)
+        signal_group(self.group, signal.SIGCONT)
+        until = time.monotonic() + GRACE
+        self.wait(until)
+        while self.status is not None and time.monotonic() < until:
+            if not signal_group(self.group, 0):
+                return "SIGTERM"
+            time.sleep(0.01)
+        signal_group(self.group, signal.SIGKILL)
+        self.wait(time.monotonic() + 10)
+        return "SIGKILL"
+
+
+def tell_last_steps(name: str, since: float) -> None:
+    traces = traces_of(name, since)
+    if not traces:
+        tell("there is no trace: no context was begun")
+        return
+    with traces[-1].open("rb") as file:
+        lines = last_lines(file, LAST_LINES)
+    tell("the last lines of its trace:" if lines else "its trace is empty")
+    for line in lines:
+        print(f"    {line}", file=sys.stderr, flush=True)
+
+
+def run_with_limit(said: str, milliseconds: int, words: Sequence[str]) -> NoReturn:
+    """Runs the program, and ends as it does, or with status 124 where the limit is over."""
+    environment = program_environment()
+    # A file's moment may be a little earlier than the clock.
+    began, since = time.monotonic(), time.time() - 1
+    with tempfile.TemporaryDirectory(prefix="tirnouch-run-") as folder:
+        name = environment.setdefault(b"TIRNOUCH_TRACE", os.fsencode(folder) + b"/trace")
+        program = Watched(words, environment)
+        is_in_time = program.wait(began + milliseconds / 1000 + SLACK)
+        status = program.status
+        if not is_in_time:
+            tell(f"{words[0]} didn't end within {said}: it was ended by {program.end()}")
+            tell_last_steps(os.fsdecode(name), since)
+            status = None
+        elif os.WIFEXITED(status) and os.WEXITSTATUS(status) == OVER and time.monotonic() - began >= milliseconds / 1000:
+            program.end()
+            tell(f"{words[0]} didn't end within {said}: the library ended it")
+            tell_last_steps(os.fsdecode(name), since)
+    sys.stdout.flush()
+    if status is None:
+        os._exit(OVER)
+    if os.WIFSIGNALED(status):
+        if program.had_terminal and os.WTERMSIG(status) == signal.SIGINT:
+            # The keyboard interrupted the program's group alone: whoever waits in ours is to know of it.
+            signal.signal(signal.SIGINT, signal.SIG_IGN)
+            os.killpg(program.ours, signal.SIGINT)
+        end_by(os.WTERMSIG(status))
+    os._exit(os.WEXITSTATUS(status))

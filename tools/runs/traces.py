@@ -1,0 +1,46 @@
+"""The traces that a run leaves: the files, and their steps."""
+import collections
+import hashlib
+import pathlib
+import re
+from typing import BinaryIO, Deque, Iterator, List
+
+# The part of a step's line that is a time.
+TIMING = re.compile(rb" timeout=\d+")
+
+
+def traces_of(name: str, since: float) -> List[pathlib.Path]:
+    """The files of a run's trace in order: a second bus of a process is traced in one whose name ends in .2, and so on."""
+    out = []
+    for number in range(1, 1_000_000):
+        path = pathlib.Path(name if number == 1 else f"{name}.{number}")
+        try:
+            if path.stat().st_mtime < since:
+                break
+        except OSError:
+            break
+        out.append(path)
+    return out
+
+
+def last_lines(file: BinaryIO, count: int) -> List[str]:
+    lines: Deque[bytes] = collections.deque(file, count)
+    return [line.decode("utf-8", "replace").rstrip("\n") for line in lines]
+
+
+def step_lines(trace: pathlib.Path) -> Iterator[bytes]:
+    """The lines of a trace that are steps, without what a run's times make of them."""
+    with trace.open("rb") as file:
+        for line in file:
+            if not line.startswith((b"#", b"device ", b"script ")):
+                yield TIMING.sub(b"", line)
+
+
+def steps_of(folder: pathlib.Path) -> bytes:
+    """A number that two runs share, if they made the same steps."""
+    digest = hashlib.sha256()
+    for trace in traces_of(str(folder / "trace"), 0):
+        digest.update(b"\0")
+        for line in step_lines(trace):
+            digest.update(line)
+    return digest.digest()
