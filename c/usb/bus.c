@@ -9,6 +9,8 @@ struct process process = { .lock = PTHREAD_MUTEX_INITIALIZER };
 
 /* Virtual time begins here, since 0 is no moment. */
 #define BEGINNING 1000000000u
+/* How much of a word or a line is shown. */
+#define MOST_SHOWN 60
 
 /* The line of this number, from 1 on, without what ends it. */
 static const char *line_of(const char *text, size_t length, uint64_t number, int *line_length)
@@ -23,13 +25,39 @@ static const char *line_of(const char *text, size_t length, uint64_t number, int
     return line;
 }
 
-/* Says which line isn't taken, and why. */
-static void complain(const char *text, size_t length, const char *name, uint64_t number)
+/* The word of this index of a line, from 0 on; words stand between single spaces. */
+static const char *word_of(const char *line, int length, uint32_t index, int *word_length)
 {
-    int line_length;
-    const char *line = line_of(text, length, number, &line_length);
-    fprintf(stderr, "libusb: error %s, line %lu: not a line of devices (docs/C.md has their form): %.*s%s\n", name, (unsigned long)number,
-            line_length < 80 ? line_length : 80, line, line_length < 80 ? "" : "..");
+    const char *end = line + length, *word = line;
+    for (; index && word < end; index--) {
+        const char *next = memchr(word, ' ', (size_t)(end - word));
+        word = next ? next + 1 : end;
+    }
+    const char *next = memchr(word, ' ', (size_t)(end - word));
+    *word_length = (int)((next ? next : end) - word);
+    return word;
+}
+
+static int shown(int length)
+{
+    return length < MOST_SHOWN ? length : MOST_SHOWN;
+}
+
+/* Says which line isn't taken, which word of it, and why. */
+static void complain(const char *text, size_t length, const char *name)
+{
+    char why[256] = "";
+    struct tirnouch_told told = { 0 };
+    int count = tirnouch_complain((const uint8_t *)text, length, (uint8_t *)why, sizeof why - 1, &told), line_length, word_length;
+    const char *line = line_of(text, length, told.n, &line_length);
+    const char *word = word_of(line, line_length, told.amount, &word_length);
+    if (count < 0)
+        fprintf(stderr, "libusb: error %s: a line isn't one of devices (docs/C.md), and there is no memory to say which\n", name);
+    else if (told.status)
+        fprintf(stderr, "libusb: error %s, line %lu, word %lu, \"%.*s\": %s\n", name, (unsigned long)told.n, (unsigned long)told.amount + 1,
+                shown(word_length), word, why);
+    else
+        fprintf(stderr, "libusb: error %s, line %lu, \"%.*s\": %s\n", name, (unsigned long)told.n, shown(line_length), line, why);
 }
 
 static int make_core(const char *text, size_t length, const char *name)
@@ -37,7 +65,7 @@ static int make_core(const char *text, size_t length, const char *name)
     struct tirnouch_told told = { 0 };
     int r = tirnouch_create(&process.bus.core, (const uint8_t *)text, length, &told);
     if (r == LIBUSB_ERROR_INVALID_PARAM) {
-        complain(text, length, name, told.n);
+        complain(text, length, name);
         return LIBUSB_ERROR_OTHER;
     }
     for (int i = 0; !r && i < DEVICES; i++) {
