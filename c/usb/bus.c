@@ -38,9 +38,13 @@ static const char *word_of(const char *line, int length, uint32_t index, int *wo
     return word;
 }
 
-static int shown(int length)
+/* In quotes, as far as it is shown; what isn't a character of ASCII by its number. */
+static void quote(const char *text, int length)
 {
-    return length < MOST_SHOWN ? length : MOST_SHOWN;
+    fputc('"', stderr);
+    for (int i = 0; i < length && i < MOST_SHOWN; i++)
+        fprintf(stderr, text[i] >= ' ' && text[i] <= '~' ? "%c" : "\\x%02x", (unsigned char)text[i]);
+    fputs(length > MOST_SHOWN ? "..\"" : "\"", stderr);
 }
 
 /* Says which line isn't taken, which word of it, and why. */
@@ -51,13 +55,15 @@ static void complain(const char *text, size_t length, const char *name)
     int count = tirnouch_complain((const uint8_t *)text, length, (uint8_t *)why, sizeof why - 1, &told), line_length, word_length;
     const char *line = line_of(text, length, told.n, &line_length);
     const char *word = word_of(line, line_length, told.amount, &word_length);
-    if (count < 0)
+    if (count <= 0) {
         fprintf(stderr, "libusb: error %s: a line isn't one of devices (docs/C.md), and there is no memory to say which\n", name);
-    else if (told.status)
-        fprintf(stderr, "libusb: error %s, line %lu, word %lu, \"%.*s\": %s\n", name, (unsigned long)told.n, (unsigned long)told.amount + 1,
-                shown(word_length), word, why);
-    else
-        fprintf(stderr, "libusb: error %s, line %lu, \"%.*s\": %s\n", name, (unsigned long)told.n, shown(line_length), line, why);
+        return;
+    }
+    fprintf(stderr, "libusb: error %s, line %lu, ", name, (unsigned long)told.n);
+    if (told.status)
+        fprintf(stderr, "word %lu, ", (unsigned long)told.amount + 1);
+    quote(told.status ? word : line, told.status ? word_length : line_length);
+    fprintf(stderr, ": %s\n", why);
 }
 
 static int make_core(const char *text, size_t length, const char *name)
