@@ -337,7 +337,7 @@ void carry_out_request(struct device *device, const uint8_t *setup);
 /* timeouts.c */
 uint64_t now(void);
 uint64_t end_of(const struct timeval *wait);
-uint64_t nanoseconds_of(const struct timeval *wait);
+struct timespec moment_behind(const struct timeval *wait);
 struct timespec moment_of(uint64_t nanoseconds);
 struct timespec moment_in(uint64_t nanoseconds);
 void expire(struct libusb_context *context);

@@ -191,8 +191,7 @@ static void end(struct libusb_context *context)
     for (int i = 0; i <= HUB; i++)
         if (__atomic_sub_fetch(&context->devices[i].references, 1, __ATOMIC_ACQ_REL))
             note(context, LIBUSB_LOG_LEVEL_WARNING, "device 1.%d is still referenced at libusb_exit", i == HUB ? 1 : i + 2);
-    context->holds--;
-    release_context(context);
+    let_go_of(context);
     bus_end();
 }
 

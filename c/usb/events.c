@@ -198,8 +198,7 @@ static int handle_as_handler(struct libusb_context *context, uint64_t end)
     int r = handle_events(context, end);
     if (!is_locked)
         step_down(context);
-    context->holds--;
-    release_context(context);
+    let_go_of(context);
     return r;
 }
 

@@ -105,8 +105,7 @@ static void enumerate(struct libusb_context *context, struct hotplug *it)
             call(context, it, device, LIBUSB_HOTPLUG_EVENT_DEVICE_ARRIVED);
     }
     let_go(it);
-    context->holds--;
-    release_context(context);
+    let_go_of(context);
 }
 
 /* The context ends. An entry whose callback runs still goes when that is back. */

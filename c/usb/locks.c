@@ -83,6 +83,6 @@ int libusb_wait_for_event(libusb_context *context, struct timeval *wait)
     }
     if (wait->tv_sec < 0 || wait->tv_usec < 0 || wait->tv_usec >= 1000000)
         return LIBUSB_ERROR_INVALID_PARAM;
-    struct timespec until = moment_in(nanoseconds_of(wait));
+    struct timespec until = moment_behind(wait);
     return pthread_cond_timedwait(&x->happened, &x->waiters, &until) == ETIMEDOUT;
 }

@@ -11,6 +11,13 @@ static inline struct libusb_context *context_of(struct libusb_context *context)
     return context ? context : usual_context();
 }
 
+/* A hold of a context is given back: the last one ends its memory. */
+static inline void let_go_of(struct libusb_context *context)
+{
+    if (!--context->holds)
+        release_context(context);
+}
+
 static inline bool is_handler(const struct libusb_context *context)
 {
     return context->is_handled && pthread_equal(context->handler, pthread_self());

@@ -16,7 +16,7 @@ uint64_t now(void)
 }
 
 /* A wait of more than some hundred years is one of so many: all sums stay within 64 bits. */
-uint64_t nanoseconds_of(const struct timeval *wait)
+static inline uint64_t nanoseconds_of(const struct timeval *wait)
 {
     const uint64_t most = 10000000000u;
     uint64_t seconds = (uint64_t)wait->tv_sec < most ? (uint64_t)wait->tv_sec : most;
@@ -39,6 +39,11 @@ struct timespec moment_in(uint64_t nanoseconds)
     struct timespec it;
     clock_gettime(CLOCK_MONOTONIC, &it);
     return moment_of((uint64_t)it.tv_sec * SECOND + (uint64_t)it.tv_nsec + nanoseconds);
+}
+
+struct timespec moment_behind(const struct timeval *wait)
+{
+    return moment_in(nanoseconds_of(wait));
 }
 
 /* Asks those to end whose time is over, and learns when the next one's is. There is a deadline. */
