@@ -94,6 +94,11 @@ c-usb: bin/libusb-1.0.a bin/libusb-1.0.so.0
 c-test: c c-usb
 	@tools/c_test.py
 
+# gcc's analyzer and cppcheck over the C code; what they find is explained in c/findings.txt.
+.PHONY: c-lint
+c-lint:
+	@tools/c_lint.py
+
 c-abi: c-usb
 	@tools/c_abi.py --symbols bin/libusb-1.0.so.0
 	@tools/c_abi.py

@@ -35,6 +35,7 @@ LEFT_OUT = {
     "races": "it releases, resets and closes in flight, which libusb leaves undefined",
     "seeds": "its seeds are Tirnouch's",
     "speaks": "its messages are Tirnouch's",
+    "texts": "its refusals are Tirnouch's",
 }
 # Programs that call what an older libusb lacks: they are run where it has this function.
 SINCE = {"capabilities": "libusb_get_platform_descriptor", "discovery": "libusb_init_context", "lifetimes": "libusb_init_context"}

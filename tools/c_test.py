@@ -5,8 +5,8 @@ Each program of c/tests/usb that has an .expected file is built and run: by gcc 
 address, undefined and thread sanitizers. Without a seed its lines are those of the file. With TIRNOUCH_SEED, where devices and controller
 go ahead by dice, it must end well. Each run is traced, and bin/usbtrace, where it is built, makes the same steps once more: every refusal,
 number and callback is compared, bytes too (tools/replay.py). Those without a seed are made without a trace too, since packets then go a
-quicker way: the lines must be the same. Then the example of docs/C.md is run as that page says; and where no NAME is given,
-tools/tirnouch-run is tried (tools/tirnouch_run_test.py), and random calls are made (tools/fuzz_calls). `--quick` is gcc alone, with one seed."""
+quicker way: the lines must be the same. Then the example of docs/C.md is run as that page says; and where no NAME is given, the tools of
+TOOLS are run, and random calls are made (tools/fuzz_calls). `--quick` is gcc alone, with one seed."""
 import os
 import pathlib
 import shutil
@@ -23,6 +23,8 @@ MORE = {"memory": ["-Wl,--wrap=malloc,--wrap=calloc,--wrap=realloc"]}
 # A process that forks isn't looked at by the thread sanitizer; nor are allocations that are refused its own.
 LEFT_OUT = {"thread": {"fork", "memory"}}
 SECONDS = 120
+# What is tried besides: runs that hang, crash or fail with some seeds; and what a trace has where a run ends.
+TOOLS = ["tirnouch_run_test.py", "traces_test.py"]
 # How many seeds each program is tried with, and how many dice the program that has its own.
 SEEDS, DICE = {"plain": 6, "sanitized": 2}, {"plain": 12, "sanitized": 3}
 
@@ -116,10 +118,15 @@ def example():
     return None
 
 
-def watched():
-    """tools/tirnouch-run on programs that hang, crash, or fail with some seeds."""
-    ran = subprocess.run([ROOT / "tools" / "tirnouch_run_test.py"], capture_output=True, text=True)
-    return f"tools/tirnouch_run_test.py: status {ran.returncode}\n{ran.stdout}{ran.stderr}" if ran.returncode else None
+def tool(name):
+    """What is wrong with a tool's run, if something is."""
+    ran = subprocess.run([ROOT / "tools" / name], capture_output=True, text=True)
+    return f"tools/{name}: status {ran.returncode}\n{ran.stdout}{ran.stderr}" if ran.returncode else None
+
+
+def shared_library():
+    """bin/libusb-1.0.so is a file of its own: the gate refuses links."""
+    return "bin/libusb-1.0.so is a link" if (ROOT / "bin" / "libusb-1.0.so").is_symlink() else None
 
 
 def fuzzed(programs):
@@ -142,7 +149,9 @@ def main(words):
         all_runs = [it for way in ways for it in runs(way, names)]
         with ThreadPoolExecutor(os.cpu_count()) as pool:
             faults = [it for it in pool.map(lambda it: run(*it), all_runs) if it]
-        others = [example()] if chosen else [example(), watched(), fuzzed([way.build_fuzzer() for way in ways])]
+        others = [example(), shared_library()]
+        if not chosen:
+            others += [*map(tool, TOOLS), fuzzed([way.build_fuzzer() for way in ways])]
     faults += [it for it in others if it]
     print("".join(f"{it}\n" for it in faults), end="")
     if not (ROOT / "bin" / "usbtrace").is_file():

@@ -3,6 +3,7 @@
 
 #include "libusb.h"
 
+#include <stdio.h>
 #include <stdlib.h>
 #include <string.h>
 
@@ -26,12 +27,31 @@ int tirnouch_plug(const char *given, size_t length)
     return is_open ? LIBUSB_ERROR_BUSY : 0;
 }
 
-/* With libusb's first context. */
+/* What the file of TIRNOUCH_DEVICES has, in memory that is kept; NULL without one. */
+static char *text_of_file(void)
+{
+    const char *name = getenv("TIRNOUCH_DEVICES");
+    FILE *file = name ? fopen(name, "r") : NULL;
+    char *read = NULL;
+    size_t room = 0;
+    if (!file)
+        return NULL;
+    if (getdelim(&read, &room, 0, file) < 0) {
+        free(read);
+        read = NULL;
+    }
+    fclose(file);
+    return read;
+}
+
+/* With libusb's first context: of the text that was plugged, or of the file. */
 void begin_devices(void)
 {
+    char *given = text ? NULL : text_of_file();
     pthread_mutex_lock(&faked_lock);
-    read_devices(text ? text : "");
+    read_devices(text ? text : given ? given : "");
     pthread_mutex_unlock(&faked_lock);
+    free(given);
 }
 
 static struct device *find(int number)

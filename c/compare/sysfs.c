@@ -23,6 +23,15 @@ static int number_file(int number)
     return file_of(text, (size_t)length, NULL, 0);
 }
 
+/* Of a device that has more configurations than it tells, those are left out that it doesn't (usb_get_configuration). */
+static int descriptors_of(const struct device *device)
+{
+    uint8_t descriptor[18];
+    memcpy(descriptor, device->descriptor, sizeof descriptor);
+    descriptor[17] = descriptor[17] > 1 ? 1 : descriptor[17];
+    return file_of(descriptor, sizeof descriptor, device->config, (size_t)device->config_length);
+}
+
 static int attribute_of(const struct device *device, const char *name)
 {
     if (!strcmp(name, "busnum"))
@@ -34,7 +43,7 @@ static int attribute_of(const struct device *device, const char *name)
     if (!strcmp(name, "bConfigurationValue"))
         return device->configuration ? number_file(device->configuration) : file_of("", 0, NULL, 0);
     if (!strcmp(name, "descriptors"))
-        return file_of(device->descriptor, 18, device->config, (size_t)device->config_length);
+        return descriptors_of(device);
     errno = ENOENT;
     return -1;
 }

@@ -1,6 +1,6 @@
 /* What Tirnouch has beside libusb's own functions: devices are plugged in and pulled out, and a test sees what they took.
  *
- * The environment steers a run too: TIRNOUCH_DEVICES, TIRNOUCH_TRACE, TIRNOUCH_SEED and TIRNOUCH_TIME (docs/C.md). */
+ * The environment steers a run too: TIRNOUCH_DEVICES, TIRNOUCH_TRACE, TIRNOUCH_SEED, TIRNOUCH_TIME and TIRNOUCH_LIMIT (docs/C.md). */
 #ifndef TIRNOUCH_H
 #define TIRNOUCH_H
 
@@ -21,7 +21,7 @@ int tirnouch_plug(const char *text, size_t length);
  * called with the library's lock held, and may call nothing of libusb or Tirnouch. */
 #define TIRNOUCH_STALL (-1)     /* the request is refused */
 #define TIRNOUCH_AS_TEXT (-2)   /* as the device's text has it */
-#define TIRNOUCH_NOT_READY (-3) /* it is asked again when events are handled next */
+#define TIRNOUCH_NOT_READY (-3) /* it is asked again while events are handled, within a millisecond */
 typedef int (*tirnouch_control)(void *user, const uint8_t setup[8], uint8_t *data, int length);
 
 /* Sets it, for the device of this number, 0 to 3; NULL for the text alone. LIBUSB_ERROR_NOT_FOUND for another number. */

@@ -79,6 +79,13 @@ struct tirnouch_memory {
 int32_t tirnouch_create(struct tirnouch_slot *slot, const uint8_t *text, size_t text_length,
     struct tirnouch_told *told);
 
+/* What is wrong with a text of devices: 0 where nothing is. Else how long the sentence is that says it to a
+ * person, in ASCII, and its bytes, as far as there is room. The number of the first line that isn't taken is
+ * told in `n`; in `amount` the word of it that is meant, from 0 on, with `status` 1; 255 where the whole line
+ * is, with `status` 0. NoMem where memory is refused. */
+int32_t tirnouch_complain(const uint8_t *text, size_t text_length, uint8_t *buffer, size_t buffer_room,
+    struct tirnouch_told *told);
+
 /* Frees the session of a slot. */
 int32_t tirnouch_destroy(struct tirnouch_slot *slot);
 

@@ -35,6 +35,9 @@ static const char plain[] =
     "device 0 0902190001010080320904000001ff00000007058102080000\n"
     "control 0 a1 01 * 0000 n\n";
 
+/* Two endpoints, 81 for IN and 02 for OUT, of interface 0. */
+#define DEVICE "device 0 0902200001010080320904000002ff0000000705810240000007050202400000\n"
+
 static struct tirnouch_slot slot;
 static struct tirnouch_told told;
 
@@ -140,8 +143,12 @@ static void a_read(void)
 {
     uint8_t data[8];
     tell("read of 8", read_at(0x81, 8, 4711));
+    tell("look at 81", tirnouch_look(&slot, 0, 0x81, &told));
+    tell("look at 02", tirnouch_look(&slot, 0, 0x02, &told));
     tell("serve", tirnouch_serve(&slot, 0, 0x81, 10, &told));
     tell("pending", tirnouch_pending(&slot, 255, 0, &told));
+    tell("look at 81", tirnouch_look(&slot, 0, 0x81, &told));
+    tell("look at device 4", tirnouch_look(&slot, 4, 0x81, &told));
     tell("settle", tirnouch_settle(&slot, 0, 100, &told));
     tell("take", take());
     bytes("fetch", tirnouch_fetch(&slot, data, sizeof data), data, 5);
@@ -311,6 +318,40 @@ static void requests(void)
     request("set configuration 2", "\x00\x09\x02\x00\x00\x00\x00\x00");
 }
 
+/* What is said of the first bad line of a text. */
+static void complain(const char *text)
+{
+    uint8_t sentence[200];
+    int32_t length = tirnouch_complain((const uint8_t *)text, strlen(text), sentence, sizeof sentence, &told);
+    if (length > 0)
+        printf("line %" PRIu64 ", %s %" PRIu32 ": %.*s\n", told.n, told.status ? "word" : "whole", told.amount, (int)length, sentence);
+    else
+        say("complain", length);
+}
+
+static void complaints(void)
+{
+    uint8_t sentence[] = "........";
+    complain(DEVICE);
+    complain(DEVICE "ids 0 1209\n");
+    complain(DEVICE "ids 0 1209 0x0002\n");
+    complain(DEVICE "# ids\nids 0 1209  0002\n");
+    complain("device 0 0902\r\n");
+    complain("device 0 0902\n");
+    complain("device 1 0902200001010080320904000002ff0000000705810240000007050202400000\n");
+    complain("ids 0 1209 0002\n");
+    complain(DEVICE "script 0 83 n\n");
+    complain(DEVICE "script 0 02 d:00\n");
+    complain(DEVICE "control 0 40 01 * 0000\n");
+    complain(DEVICE "after 0 81 1 02 1\nscript 0 81 n\n");
+    complain(DEVICE "speed 0 full\nspeed 0 full\n");
+    complain(DEVICE "driver 0 1\n");
+    say("complain with little room", tirnouch_complain((const uint8_t *)"open 1 0\n", 9, sentence, 6, &told));
+    printf("its sentence: %s\n", (const char *)sentence);
+    say("create of a line that means nothing", create(DEVICE "driver 0 1\n"));
+    printf("its line: %" PRIu64 "\n", told.n);
+}
+
 /* Of a device without strings; and which requests a line of the text answered, told in n. */
 static void plain_requests(void)
 {
@@ -348,6 +389,7 @@ int main(void)
     tell("unplug 0", call(TIRNOUCH_UNPLUG, 0, 0, 0));
     say("destroy", tirnouch_destroy(&slot));
     plain_requests();
+    complaints();
     lending();
     return 0;
 }

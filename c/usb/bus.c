@@ -9,6 +9,8 @@ struct process process = { .lock = PTHREAD_MUTEX_INITIALIZER };
 
 /* Virtual time begins here, since 0 is no moment. */
 #define BEGINNING 1000000000u
+/* How much of a word or a line is shown. */
+#define MOST_SHOWN 60
 
 /* The line of this number, from 1 on, without what ends it. */
 static const char *line_of(const char *text, size_t length, uint64_t number, int *line_length)
@@ -23,13 +25,45 @@ static const char *line_of(const char *text, size_t length, uint64_t number, int
     return line;
 }
 
-/* Says which line isn't taken, and why. */
-static void complain(const char *text, size_t length, const char *name, uint64_t number)
+/* The word of this index of a line, from 0 on; words stand between single spaces. */
+static const char *word_of(const char *line, int length, uint32_t index, int *word_length)
 {
-    int line_length;
-    const char *line = line_of(text, length, number, &line_length);
-    fprintf(stderr, "libusb: error %s, line %lu: not a line of devices (docs/C.md has their form): %.*s%s\n", name, (unsigned long)number,
-            line_length < 80 ? line_length : 80, line, line_length < 80 ? "" : "..");
+    const char *end = line + length, *word = line;
+    for (; index && word < end; index--) {
+        const char *next = memchr(word, ' ', (size_t)(end - word));
+        word = next ? next + 1 : end;
+    }
+    const char *next = memchr(word, ' ', (size_t)(end - word));
+    *word_length = (int)((next ? next : end) - word);
+    return word;
+}
+
+/* In quotes, as far as it is shown; what isn't a character of ASCII by its number. */
+static void quote(const char *text, int length)
+{
+    fputc('"', stderr);
+    for (int i = 0; i < length && i < MOST_SHOWN; i++)
+        fprintf(stderr, text[i] >= ' ' && text[i] <= '~' ? "%c" : "\\x%02x", (unsigned char)text[i]);
+    fputs(length > MOST_SHOWN ? "..\"" : "\"", stderr);
+}
+
+/* Says which line isn't taken, which word of it, and why. */
+static void complain(const char *text, size_t length, const char *name)
+{
+    char why[256] = "";
+    struct tirnouch_told told = { 0 };
+    int count = tirnouch_complain((const uint8_t *)text, length, (uint8_t *)why, sizeof why - 1, &told), line_length, word_length;
+    const char *line = line_of(text, length, told.n, &line_length);
+    const char *word = word_of(line, line_length, told.amount, &word_length);
+    if (count <= 0) {
+        fprintf(stderr, "libusb: error %s: a line isn't one of devices (docs/C.md), and there is no memory to say which\n", name);
+        return;
+    }
+    fprintf(stderr, "libusb: error %s, line %lu, ", name, (unsigned long)told.n);
+    if (told.status)
+        fprintf(stderr, "word %lu, ", (unsigned long)told.amount + 1);
+    quote(told.status ? word : line, told.status ? word_length : line_length);
+    fprintf(stderr, ": %s\n", why);
 }
 
 static int make_core(const char *text, size_t length, const char *name)
@@ -37,7 +71,7 @@ static int make_core(const char *text, size_t length, const char *name)
     struct tirnouch_told told = { 0 };
     int r = tirnouch_create(&process.bus.core, (const uint8_t *)text, length, &told);
     if (r == LIBUSB_ERROR_INVALID_PARAM) {
-        complain(text, length, name, told.n);
+        complain(text, length, name);
         return LIBUSB_ERROR_OTHER;
     }
     for (int i = 0; !r && i < DEVICES; i++) {

@@ -89,6 +89,8 @@ bool call_hotplugs(struct libusb_context *context)
         any |= call_for(context, notice);
     }
     context->is_calling = false;
+    if (context->waiting)
+        pthread_cond_broadcast(&context->moved);
     return any;
 }
 

@@ -203,35 +203,31 @@ static void note_submission(const struct libusb_transfer *it, int answer)
               it->dev_handle->number, it->endpoint, it->type, it->length, it->timeout);
 }
 
+/* One whose handle was closed has none any more. */
 int libusb_submit_transfer(struct libusb_transfer *transfer)
 {
-    if (!transfer->dev_handle)
-        return LIBUSB_ERROR_NO_DEVICE;
     lock();
     shake();
-    int r = submit(kept(transfer));
-    if (is_told(transfer->dev_handle->context, r))
+    const struct libusb_device_handle *handle = transfer->dev_handle;
+    int r = handle ? submit(kept(transfer)) : LIBUSB_ERROR_NO_DEVICE;
+    if (handle && is_told(handle->context, r))
         note_submission(transfer, r);
     unlock();
     return r;
 }
 
-/* One that was never submitted has no context yet. */
-static void note_cancel(struct transfer *it, int answer)
-{
-    if (it->context && is_told(it->context, answer))
-        note_call(it->context, answer, "libusb_cancel_transfer", "endpoint %02x, %d bytes", seen(it)->endpoint, seen(it)->length);
-}
-
+/* One at rest may have outlived its context. */
 int libusb_cancel_transfer(struct libusb_transfer *transfer)
 {
     struct transfer *it = kept(transfer);
     lock();
     shake();
-    if (it->stage != AT_REST && it->stage != ENDED && !it->ask)
+    struct libusb_context *context = it->stage == AT_REST ? NULL : it->context;
+    if (context && it->stage != ENDED && !it->ask)
         tell_why(it, "is cancelled", false);
     int r = cancel(it, ASKED_TO_CANCEL);
-    note_cancel(it, r);
+    if (context && is_told(context, r))
+        note_call(context, r, __func__, "endpoint %02x, %d bytes", transfer->endpoint, transfer->length);
     unlock();
     return r;
 }

@@ -25,7 +25,7 @@ for interface in device.get_active_configuration():
     print("interface", interface.bInterfaceNumber, interface.bAlternateSetting, f"class {interface.bInterfaceClass:02x}")
     for ep in interface:
         print(f"  endpoint {ep.bEndpointAddress:02x} attributes {ep.bmAttributes} size {ep.wMaxPacketSize} interval {ep.bInterval}")
-device.set_configuration()
+tried("configuration", device.set_configuration)
 tried("request", lambda: bytes(device.ctrl_transfer(0xC0, 1, 2, 3, 100)).hex())
 tried("request", lambda: bytes(device.ctrl_transfer(0xC0, 1, 2, 3, 100)).hex())
 tried("request", lambda: device.ctrl_transfer(0x40, 2, 0, 0, b"abc"))

@@ -29,8 +29,9 @@ def wait(*transfers):
 
 context = usb1.USBContext()
 context.open()
-for device in context.getDeviceIterator():
-    print(f"{device.getVendorID():04x}:{device.getProductID():04x}", device.getNumConfigurations(), device.getMaxPacketSize(0x81))
+for line in sorted(f"{device.getVendorID():04x}:{device.getProductID():04x} {device.getNumConfigurations()} {device.getMaxPacketSize(0x81)}"
+                   for device in context.getDeviceIterator()):
+    print(line)
 handle = context.openByVendorIDAndProductID(0x1209, 3)
 print(handle.getManufacturer(), handle.getProduct(), handle.getConfiguration())
 print("nobody has it", context.openByVendorIDAndProductID(0x1209, 9))

@@ -11,8 +11,9 @@
 static const char rich[] =
     "device 0 09024100020104c032" "080b000202000000" "090400000103010205" "092111010001224000" "070581030800" "0a" "0525010203"
     "090400010003000000" "0904010000ff000000\nids 0 04a9 31c0 0215\nclass 0 ef 02 01\nstring 0 2 Thing\nspeed 0 full\n"
-    "device 1 " STANDARD_CONFIG "\nids 1 1209 0002\nspeed 1 low\n"
-    "device 2 " STANDARD_CONFIG "\ndescriptor 2 1201100100000008cdab341256040000" "0001\n";
+    "device 1 " STANDARD_CONFIG "\nids 1 1209 0002\n"
+    "device 2 090219000101008032" "0904000001ff000000" "0705830308000a\nspeed 2 low\n"
+    "descriptor 2 1201100100000008cdab341256040000" "0001\n";
 
 static libusb_device **list;
 

@@ -1,5 +1,6 @@
 pub mod Slots
 pub mod Told
+pub mod Complaints
 pub mod Sessions
 pub mod Calls
 pub mod Submission

@@ -5,6 +5,7 @@ ghost use Rattle.usb_model.specs.Buffer.{no_memory};
 ghost use Rattle.usb_core.specs.Public.{takes_memory};
 ghost use Rattle.tirnouch_c.specs.Lent.{Lends};
 ghost use Rattle.usb_desk.specs.Packet.{needs_of, packet_of};
+ghost use Rattle.tirnouch_c.specs.Complaints.{TellsWrong};
 ghost use Rattle.tirnouch_c.specs.Calls.{Calls, InSlot, ReadsSlot, step_of};
 ghost use Rattle.tirnouch_c.specs.Exports.{Creates, Destroys, LooksBy, PendsBy, ServesBy, SettlesBy, TakenBy, WorksBy, after, device_by};
 ghost use Rattle.tirnouch_c.specs.Sessions.{IsMade, IsUnmade};
@@ -18,7 +19,9 @@ use crate::held::Slot;
 use crate::lent::{lend, put_back};
 use crate::session::Session;
 use crate::told::Told;
-use crate::{descriptions, packets, reads, requests, results, settling, submission, turn};
+use crate::{
+    complaints, descriptions, packets, reads, requests, results, settling, submission, turn,
+};
 use std::alloc::Global;
 use trace_scenario::TextFault;
 use usb_desk::SetupPacket;
@@ -74,6 +77,21 @@ pub extern "C" fn tirnouch_create(
         }
         Err(TextFault::Memory) => NO_MEM,
     }
+}
+
+/// What is wrong with a text of devices: 0 where nothing is. Else how long the sentence is that says it to a person, in ASCII, and its
+/// bytes, as far as there is room. The number of the first line that isn't taken is told in `n`; in `amount` the word of it that is
+/// meant, from 0 on, with `status` 1; 255 where the whole line is, with `status` 0. NoMem where memory is refused.
+#[unsafe(no_mangle)]
+pub extern "C" fn tirnouch_complain(
+    alloc: Global,
+    text: &[u8],
+    buffer: &mut [u8],
+    told: &mut Told,
+) -> i32
+    ensures { TellsWrong text.now result told.old told.new buffer.old buffer.new }
+{
+    complaints::complain(alloc, text, buffer, told)
 }
 
 /// Frees the session of a slot.

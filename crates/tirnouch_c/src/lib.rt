@@ -13,6 +13,7 @@
 //! - `calls.rt`, `submission.rt`, `packets.rt`, `settling.rt`, `results.rt`, `reads.rt`: steps that carry nothing; submissions;
 //!   packets; what is to be done until nothing is; results and their bytes; what can be asked without a step
 //! - `requests.rt`, `descriptions.rt`: requests on the default control endpoint; what the text says of a device
+//! - `complaints.rt`: what is wrong with a text that isn't taken
 //! - specs/ by the same names: what each call says of a session before and behind. proofs/ Rows, Progress, Quiet: packets in a
 //!   row, and row after row; that where nothing is to be done each transfer that was asked to end has ended
 //!
@@ -34,12 +35,14 @@
 //! - `tirnouch_turn`: packets, what is to be done, and the oldest result, one behind the other (`Works`)
 //! - `tirnouch_taken`: a packet that a device took
 //! - `tirnouch_request`: what `usb_desk` says that the device answers; `tirnouch_needs`: what a host has to hold for that; `tirnouch_describe`, `tirnouch_tell`: what it has of the text
+//! - `tirnouch_complain`: of a text that isn't taken the number of the line, and a sentence whose reason fits that (`TellsWrong`)
 //!
 //! It doesn't say: what C does with a slot between two calls, nor that two calls don't overlap; nor at which address the memory stands
 //! that goes back, which c/usb asks at each result.
 #![tactic(auto)]
 
 mod calls;
+mod complaints;
 mod descriptions;
 mod exports;
 mod held;

@@ -1,6 +1,7 @@
 //! What a call told, in numbers.
 
 ghost use Rattle.std.specs.Prelude.{◌≡◌};
+ghost use Rattle.tirnouch_c.specs.Complaints.{complaint_told, place_number};
 ghost use Rattle.tirnouch_c.specs.Descriptions.{departure_told, device_told, driver_told, gate_told};
 ghost use Rattle.tirnouch_c.specs.Requests.{ended_told, needs_told};
 ghost use Rattle.tirnouch_c.specs.Reads.{pending_told};
@@ -8,7 +9,7 @@ ghost use Rattle.tirnouch_c.specs.Results.{told_taken};
 ghost use Rattle.tirnouch_c.specs.Told.{bit, code_of, line_told, of_kind, reply_told, status_number, told_of};
 
 use usb_core::{Pending, Taken};
-use usb_desk::{Departure, Gate, Needs};
+use usb_desk::{Complaint, Departure, Gate, Needs};
 use usb_model::{Entry, Reply, Status};
 
 /// What a call told, in numbers.
@@ -58,6 +59,16 @@ pub fn code_of(reply: &Reply) -> i32
     }
 }
 
+/// The word that a reason is about, from 0 on; 255 for the whole line.
+fn place_number(place: Option<usize>) -> u32
+    ensures { result ≡ place_number place }
+{
+    match place {
+        None => 255,
+        Some(at) => u32::try_from(at).unwrap_or(u32::MAX),
+    }
+}
+
 impl Told {
     /// Nothing but a kind.
     fn of_kind(h: u8, kind: u8) -> Told
@@ -99,6 +110,18 @@ impl Told {
         Told {
             n,
             ..Told::of_kind(255, 2)
+        }
+    }
+
+    /// What is wrong with a text: the line, and the word in it.
+    pub fn complaint(complaint: &Complaint) -> Told
+        ensures { result ≡ complaint_told complaint.now }
+    {
+        let place = complaint.reason.place();
+        Told {
+            status: u8::from(place.is_some()),
+            amount: place_number(place),
+            ..Told::line(complaint.line)
         }
     }
 

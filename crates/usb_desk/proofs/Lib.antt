@@ -1,3 +1,3 @@
 pub mod Texts
 pub mod Lists
-pub mod Devices
+pub mod Lines

@@ -1,6 +1,6 @@
 -- A text of devices: what its lines say together.
 use Rattle.std.specs.Prelude.{ℕ, ◌+◌, ◌==◌, nat_eq, Bool, ◌||◌, List, [], ◌∷◌, ◌++◌, codes, length, min, slice_get, slice_set, Option, Some, None, Result, Ok, Err, if◌then◌else◌}
-use Rattle.std.specs.List.{flat_map, slice_split, starts_with}
+use Rattle.std.specs.List.{flat_map, starts_with}
 use Rattle.std.specs.Option.{option_and_then, option_map}
 use Rattle.usb_model.specs.declared.setup.DeviceSetup.{DeviceSetup}
 use Rattle.trace_scenario.specs.Scenario.{says_nothing, scenario_of}
@@ -12,8 +12,11 @@ use Rattle.usb_desk.specs.declared.device.DeskDevice.{DeskDevice}
 use Rattle.usb_desk.specs.declared.line.DeskLine.{DeskLine}
 use Rattle.usb_desk.specs.declared.line.DeskLine.TheVariants as line
 use Rattle.usb_desk.specs.declared.statement.Statement.{Statement}
+use Rattle.usb_desk.specs.declared.sense.Saying.{Saying}
 use Rattle.usb_desk.specs.Device.{new_device, said}
 use Rattle.usb_desk.specs.Line.{line_of_text}
+use Rattle.usb_desk.specs.Lines.{from_lines, lines_in}
+use Rattle.usb_desk.specs.Sense.{sayings_of}
 
 -- the devices, where one of those that stand before is as a line says
 abbrev pub with_statement : List DeskDevice → ℕ → Statement → Option (List DeskDevice)
@@ -29,19 +32,9 @@ with_line ds (line.Says d what) = with_statement ds d what
 abbrev pub with_text : List DeskDevice → List ℕ → Option (List DeskDevice)
 with_text ds text = if says_nothing text then Some ds else option_and_then (with_line ds) (line_of_text text)
 
--- what follows a line that is taken; the number of one that isn't
-abbrev pub taken_at : ℕ → (List DeskDevice → Result (List DeskDevice) ℕ) → Option (List DeskDevice) → Result (List DeskDevice) ℕ
-taken_at at further None = Err at
-taken_at at further (Some ds) = further ds
-
--- the devices of some lines behind others, of which the first has this number; or the number of the first that isn't taken
-unfoldable pub devices_from : ℕ → List DeskDevice → List (List ℕ) → Result (List DeskDevice) ℕ
-devices_from at ds [] = Ok ds
-devices_from at ds (text ∷ texts) = taken_at at (λ t. devices_from (at + 1) t texts) (with_text ds text)
-
 -- the devices of a text, whose lines are counted from 1
 abbrev pub devices_of : List ℕ → Result (List DeskDevice) ℕ
-devices_of text = devices_from 1 [] (slice_split (λ b. b == 10) text)
+devices_of text = from_lines with_text 1 [] (lines_in text)
 
 -- whether a line is one that a scenario has too
 abbrev pub is_scenarios : List ℕ → Bool
@@ -53,7 +46,7 @@ kept_line line = (if is_scenarios line then line else []) ++ 10 ∷ []
 
 -- a text as that of a scenario, with lines of the same numbers
 abbrev pub as_scenario : List ℕ → List ℕ
-as_scenario text = flat_map kept_line (slice_split (λ b. b == 10) text)
+as_scenario text = flat_map kept_line (lines_in text)
 
 -- what each device answers to transfers
 abbrev pub setup_in : {E : Type 0} → Result Scenario E → Result (List DeviceSetup) E
@@ -75,6 +68,19 @@ both (Ok scripted) (Err at) = Err at
 both (Err at) (Ok devices) = Err at
 both (Err one) (Err other) = Err (min one other)
 
--- the devices of a text
+-- the devices of a text each of whose lines is taken behind those before it
+abbrev pub spelled_of : List ℕ → Result Desk ℕ
+spelled_of text = both (scripts_of text) (devices_of text)
+
+-- these, where each line can mean something of them; or the first that can't
+abbrev pub sensible : Desk → Result (List Saying) ℕ → Result Desk ℕ
+sensible desk (Ok sayings) = Ok desk
+sensible desk (Err at) = Err at
+
+abbrev pub judged : List ℕ → Result Desk ℕ → Result Desk ℕ
+judged text (Ok desk) = sensible desk (sayings_of desk.scripted text)
+judged text (Err at) = Err at
+
+-- the devices of a text, or the number of a line: the first that isn't taken, and else the first that can't mean anything
 abbrev pub desk_of : List ℕ → Result Desk ℕ
-desk_of text = both (scripts_of text) (devices_of text)
+desk_of text = judged text (spelled_of text)

@@ -8,4 +8,11 @@ pub mod Line
 pub mod Device
 pub mod Packet
 pub mod Control
+pub mod Lines
+pub mod Sense
+pub mod Wanted
+pub mod Form
+pub mod FormFault
 pub mod Desk
+pub mod PlaceFault
+pub mod Reason

@@ -24,6 +24,11 @@ device_of_words (number ∷ descriptor ∷ []) =
     option_and_then (λ d. option_and_then (λ bytes. option_map (λ is. line.Device d bytes is) (interfaces_of bytes)) (bytes_of descriptor)) (device_of number)
 device_of_words _ = None
 
+-- a script, whose words are read with the scenario
+unfoldable pub script_of_words : List (List ℕ) → Option DeskLine
+script_of_words [] = None
+script_of_words _ = Some line.Script
+
 -- what a line says of a device, by its first word and the words behind the device
 abbrev pub statement_by : Topic → List (List ℕ) → Option Statement
 statement_by Device words = None
@@ -44,10 +49,10 @@ unfoldable pub said_by : Topic → List (List ℕ) → Option DeskLine
 said_by topic (dev ∷ words) = option_and_then (λ d. option_map (line.Says d) (statement_by topic words)) (device_of dev)
 said_by topic [] = None
 
--- the line of a first word and the words behind it; a script is read with the scenario
+-- the line of a first word and the words behind it
 abbrev pub line_by : Topic → List (List ℕ) → Option DeskLine
 line_by Device words = device_of_words words
-line_by Script words = Some line.Script
+line_by Script words = script_of_words words
 line_by topic words = said_by topic words
 
 -- the line of some words

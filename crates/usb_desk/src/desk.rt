@@ -1,14 +1,16 @@
 //! A text of devices, whole.
 
-ghost use Rattle.std.specs.Prelude.{◌≡◌, ◌≤◌, ◌++◌, [], IfOk, length, if◌then◌else◌};
+ghost use Rattle.std.specs.Prelude.{◌≡◌, ◌≤◌, ◌++◌, [], IfOk, Ok, length, if◌then◌else◌};
 ghost use Rattle.std.specs.List.{AllByRecursion};
 ghost use Rattle.trace_scenario.specs.Runnable.{CanBeMade};
 ghost use Rattle.trace_scenario.specs.Scenario.{scenario_of};
 ghost use Rattle.trace_scenario.specs.TextResults.{AnswersAs, fault_at};
-ghost use Rattle.usb_desk.specs.Desk.{as_scenario, desk_of, devices_of, first_of, is_scenarios, kept_line, scripts_of};
+ghost use Rattle.usb_desk.specs.Desk.{as_scenario, desk_of, devices_of, first_of, is_scenarios, judged, kept_line, scripts_of, spelled_of};
+ghost use Rattle.usb_desk.specs.Sense.{sayings_of};
 
 use crate::device::DeskDevice;
 use crate::draft::Draft;
+use crate::sense::Sayings;
 use std::alloc::{AllocError, Global};
 use trace_scenario::{LineFault, ScriptedDevice, TextFault, read_scenario};
 use usb_model::Sequence;
@@ -37,7 +39,7 @@ fn scenarios(line: &[u8]) -> &[u8]
 }
 
 /// Puts a line of a scenario, or an empty one, behind others.
-fn push_line(bytes: &mut Vec<u8>, line: &[u8]) -> Result<(), AllocError>
+pub(crate) fn push_line(bytes: &mut Vec<u8>, line: &[u8]) -> Result<(), AllocError>
     ensures { IfOk result (λ _. bytes.new.items ≡ bytes.old.items ++ kept_line line.now) }
 {
     bytes.extend_from_slice(scenarios(line))?;
@@ -109,9 +111,10 @@ fn first_of(one: TextFault, other: TextFault) -> TextFault
     }
 }
 
-/// The devices of a text, or the fault in it: its first line that isn't taken, or want of memory. Each can be made.
-pub fn read_desk(alloc: Global, text: &[u8]) -> Result<Desk, TextFault>
-    ensures desk { AnswersAs result (desk_of text.now) }
+/// The devices of a text, or the fault in it: its first line that isn't taken behind those before it, or want of memory. Each can be
+/// made.
+pub(crate) fn read_spelled(alloc: Global, text: &[u8]) -> Result<Desk, TextFault>
+    ensures desk { AnswersAs result (spelled_of text.now) }
     ensures few { IfOk result (λ desk. length desk.scripted ≤ 4) }
     ensures each { IfOk result (λ desk. AllByRecursion CanBeMade desk.scripted) }
 {
@@ -121,4 +124,45 @@ pub fn read_desk(alloc: Global, text: &[u8]) -> Result<Desk, TextFault>
         (Err(fault), Ok(_)) => Err(fault),
         (Err(one), Err(other)) => Err(first_of(one, other)),
     }
+}
+
+/// What the lines of a text say once of its devices, or the fault in it: the first line that can't mean anything, or want of memory.
+fn read_sayings(
+    alloc: Global,
+    devices: &[ScriptedDevice],
+    text: &[u8],
+) -> Result<Sayings, TextFault>
+    ensures { AnswersAs result (sayings_of devices.now text.now) }
+{
+    let mut sayings = Sayings::new(alloc);
+    let mut place: u64 = 0;
+    for line in text.split(|byte| *byte == b'\n') {
+        place = place.saturating_add(1);
+        if let Err(fault) = sayings.read(alloc, devices, line) {
+            return Err(fault_at(place, fault));
+        }
+    }
+    Ok(sayings)
+}
+
+/// The devices of a text, where each of its lines can mean something of them.
+fn judge(alloc: Global, text: &[u8], desk: Desk) -> Result<Desk, TextFault>
+    ensures judged { AnswersAs result (judged text.now (Ok desk)) }
+    ensures same { IfOk result (λ same. same ≡ desk) }
+{
+    match read_sayings(alloc, desk.scripted.as_slice(), text) {
+        Ok(_) => Ok(desk),
+        Err(fault) => Err(fault),
+    }
+}
+
+/// The devices of a text, or the fault in it: its first line that isn't taken, else the first that can't mean anything, or want of
+/// memory. Each can be made.
+pub fn read_desk(alloc: Global, text: &[u8]) -> Result<Desk, TextFault>
+    ensures desk { AnswersAs result (desk_of text.now) }
+    ensures few { IfOk result (λ desk. length desk.scripted ≤ 4) }
+    ensures each { IfOk result (λ desk. AllByRecursion CanBeMade desk.scripted) }
+{
+    let desk = read_spelled(alloc, text)?;
+    judge(alloc, text, desk)
 }

@@ -105,7 +105,7 @@ impl Draft {
 }
 
 /// Whether a line is empty or a comment.
-fn says_nothing(text: &[u8]) -> bool
+pub(crate) fn says_nothing(text: &[u8]) -> bool
     ensures { result ≡ says_nothing text.now }
 {
     matches!(text, [] | [b'#', ..])

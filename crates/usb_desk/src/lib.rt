@@ -10,7 +10,11 @@
 //! - `answer.rt`, `text.rt`, `statement.rt`: answers to requests; string descriptors; what a line says of a device, by each first
 //!   word
 //! - `line.rt`, `draft.rt`, `desk.rt`: one line; the devices that the lines so far describe; a text, whole
+//! - `sense.rt`: whether what a line says applies to its device, and is said once
 //! - `device.rt`: a device behind one more line
+//! - `wanted.rt`, `form.rt`: what a word has to be; the words of a line by its first one
+//! - `form_fault.rt`, `place_fault.rt`, `reason.rt`, `complaint.rt`: what is wrong with the words of a line by themselves, and beside
+//!   the devices; why a line isn't taken, in a sentence; which line that is
 //! - `packet.rt`, `control.rt`: setup packets, and what a host has to hold for one; what a device answers to it
 //! - specs/ by the same names; Desk has the whole text
 //!
@@ -18,7 +22,10 @@
 //!
 //! - `read_desk`: the devices of the text, or the number of the first line that isn't taken. A line that a scenario has too,
 //!   `device` and `script`, is read as a scenario's (`scenario_of` of the text whose other lines are empty); each device can be
-//!   made (`CanBeMade`). Want of memory leaves it open
+//!   made (`CanBeMade`). A text of good lines is then asked for the first that can't mean anything (`applies`, `is_said`). Want of
+//!   memory leaves it open
+//! - `complain`: of a text that isn't taken the number of that line, and a reason that fits it (`Fits`): not that it is the only one,
+//!   nor that it is more than "the line can't stand here"
 //! - `DeskDevice::reply`: of the first answers that a request fits the one of its turn, the last for ever; else what the
 //!   descriptors say of a standard request; any other stalls
 //! - `DeskDevice::count`: the answers that a request fits were asked once more, and nothing else changed
@@ -29,23 +36,36 @@
 #![tactic(auto)]
 
 mod answer;
+mod complaint;
 mod control;
 mod desk;
 mod device;
 mod draft;
+mod form;
+mod form_fault;
 mod line;
 mod packet;
+mod place_fault;
+mod reason;
+mod sense;
 mod statement;
 mod text;
 mod topic;
+mod wanted;
 mod word;
 
 pub use answer::{ControlAnswer, MOST_DATA};
+pub use complaint::{Complaint, complain};
 pub use control::ControlReply;
 pub use desk::{Desk, read_desk};
 pub use device::DeskDevice;
+pub use form_fault::FormFault;
 pub use line::DeskLine;
 pub use packet::{Needs, SetupPacket};
+pub use place_fault::PlaceFault;
+pub use reason::Reason;
+pub use sense::{Saying, Subject};
 pub use statement::{Class, Control, Departure, Gate, Ids, Pattern, Statement, Text};
 pub use topic::Topic;
+pub use wanted::Wanted;
 pub use word::Speed;

@@ -7,7 +7,7 @@ ghost use Rattle.usb_descriptors.specs.Grammar.{reading};
 ghost use Rattle.trace_scenario.specs.Line.{is_ascii, ascii_of};
 ghost use Rattle.trace_scenario.specs.LineResults.{ReadsAs};
 ghost use Rattle.trace_scenario.specs.Words.{words_of};
-ghost use Rattle.usb_desk.specs.Line.{device_of_words, interfaces_of, line_by, line_of, line_of_text, said_by, statement_by};
+ghost use Rattle.usb_desk.specs.Line.{device_of_words, interfaces_of, line_by, line_of, line_of_text, said_by, script_of_words, statement_by};
 
 use crate::statement::{
     Statement, anew_line, class_line, control_line, descriptor_line, driver_line, gate_line,
@@ -66,7 +66,7 @@ impl DeskLine {
     {
         match topic {
             Topic::Device => device_line(alloc, words),
-            Topic::Script => Ok(DeskLine::Script),
+            Topic::Script => script_line(words),
             _ => said(alloc, topic, words),
         }
     }
@@ -80,7 +80,7 @@ fn is_ascii(bytes: &[u8]) -> bool
 }
 
 /// The text of bytes that are all ASCII.
-fn ascii(bytes: &[u8]) -> Option<&str>
+pub(crate) fn ascii(bytes: &[u8]) -> Option<&str>
     ensures { option_copied result ≡ ascii_of bytes.now }
 {
     if is_ascii(bytes) {
@@ -115,6 +115,17 @@ fn device_line(alloc: Global, words: &[&str]) -> Result<DeskLine, LineFault>
         descriptor,
         interfaces,
     })
+}
+
+/// A script, whose words are read with the scenario.
+#[tactic(auto, unfolding(crate::specs::Line::script_of_words))]
+fn script_line(words: &[&str]) -> Result<DeskLine, LineFault>
+    ensures { ReadsAs result (script_of_words (words_of words.now)) }
+{
+    match words {
+        [] => Err(LineFault::Bad(Problem::FirstWord)),
+        _ => Ok(DeskLine::Script),
+    }
 }
 
 /// What a line of this first word says of the device that it names.

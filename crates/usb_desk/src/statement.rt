@@ -162,7 +162,7 @@ pub(crate) fn class_line(words: &[&str]) -> Result<Statement, LineFault>
 
 /// The 18 bytes of a device descriptor; None where the word is none of these.
 #[tactic(auto, unfolding(crate::specs::Statement::whole_of))]
-fn whole(digits: &str) -> Option<[u8; 18]>
+pub(crate) fn whole(digits: &str) -> Option<[u8; 18]>
     ensures { result ≡ whole_of digits.now }
 {
     let mut bytes = [0u8; 18];

@@ -1,11 +1,11 @@
 -- What is left says the rest of the devices.
-use Rattle.std.proofs.Common.{◌≡◌, ◌+◌, ◌==◌, length, drop}
-use Rattle.std.specs.List.{slice_split}
-use Rattle.usb_desk.specs.Desk.{devices_from, devices_of}
+use Rattle.std.proofs.Common.{◌≡◌, ◌+◌, length, drop}
+use Rattle.usb_desk.specs.Desk.{devices_of, with_text}
+use Rattle.usb_desk.specs.Lines.{from_lines, lines_in}
 use Rattle.usb_desk.proofs.desk.read_devices.Given as goal
 
 abbrev pub invariant-loop-line : goal.invariant-loop-line
 invariant-loop-line l = record {
   counted : l.number ≡ length l.yielded;
-  rest : devices_of l.text ≡ devices_from (length l.yielded + 1) l.draft (drop (length l.yielded) (slice_split (λ b. b == 10) l.text));
+  rest : devices_of l.text ≡ from_lines with_text (length l.yielded + 1) l.draft (drop (length l.yielded) (lines_in l.text));
 }

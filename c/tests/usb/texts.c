@@ -1,0 +1,86 @@
+/* Texts of devices that aren't taken: libusb_init says on standard error which line, which word of it, and what is wanted there. The expected
+ * sentences are those of docs/C.md's form of each line. */
+#include "scene.h"
+
+#include <stdio.h>
+#include <stdlib.h>
+#include <string.h>
+#include <unistd.h>
+
+/* Bulk IN 81 and bulk OUT 02 of 64 bytes. */
+#define DEVICE "device 0 0902200001010080320904000002ff0000000705810240000007050202400000\n"
+
+static void show_errors(FILE *errors)
+{
+    char line[400];
+    rewind(errors);
+    while (fgets(line, sizeof line, errors))
+        printf("  %s", line);
+}
+
+/* Standard error goes to a file meanwhile. */
+static void refuse(const char *what, const char *text)
+{
+    libusb_context *own = NULL;
+    int before = dup(STDERR_FILENO);
+    FILE *errors = tmpfile();
+    if (before < 0 || !errors || tirnouch_plug(text, strlen(text)))
+        exit(1);
+    fflush(stderr);
+    dup2(fileno(errors), STDERR_FILENO);
+    int result = libusb_init(&own);
+    fflush(stderr);
+    dup2(before, STDERR_FILENO);
+    close(before);
+    puts(what);
+    show_errors(errors);
+    answer("init", result);
+    fclose(errors);
+    if (!result)
+        libusb_exit(own);
+}
+
+static void words(void)
+{
+    refuse("digits with 0x", DEVICE "ids 0 1209 0x0002\n");
+    refuse("two digits where there are four", DEVICE "ids 0 1209 02\n");
+    refuse("odd digits", DEVICE "script 0 81 d:010\n");
+    refuse("taken at an IN endpoint", DEVICE "script 0 81 d:01 a\n");
+    refuse("a speed that isn't", DEVICE "speed 0 super\n");
+    refuse("too few words", DEVICE "leaves 0 81\n");
+    refuse("a line of a scenario", DEVICE "open 1 0\n");
+}
+
+static void spaces(void)
+{
+    refuse("two spaces", DEVICE "ids 0 1209  0002\n");
+    refuse("a tab", DEVICE "ids 0 1209\t0002\n");
+    refuse("lines of another system", DEVICE "ids 0 1209 0002\r\n");
+}
+
+static void places(void)
+{
+    refuse("a device that isn't there", DEVICE "ids 1 1209 0002\n");
+    refuse("an endpoint that isn't there", DEVICE "script 0 83 n\n");
+    refuse("a second script", DEVICE "script 0 81 n\nscript 0 81 n\n");
+    refuse("answers behind a script's end", DEVICE "script 0 81 n\nafter 0 81 1 02 1\n");
+    refuse("a departure behind a script's end", DEVICE "script 0 81 n\nleaves 0 81 2\n");
+    refuse("a driver of no interface", DEVICE "driver 0 1\n");
+    refuse("said twice", DEVICE "ids 0 1209 0002\n# again\nids 0 1209 0003\n");
+    refuse("packets too long for a speed", "device 0 0902200001010080320904000002ff0000000705810200020007050202000200\nspeed 0 full\n");
+}
+
+static void taken(void)
+{
+    refuse("a packet over the endpoint's size, which is babble", DEVICE "speed 0 full\nscript 0 81 d:" "00112233445566778899aabbccddeeff"
+           "00112233445566778899aabbccddeeff00112233445566778899aabbccddeeff00112233445566778899aabbccddeeff00\n");
+}
+
+int main(void)
+{
+    words();
+    spaces();
+    places();
+    taken();
+    return 0;
+}
