@@ -17,6 +17,7 @@
 _Thread_local struct caller *me;
 libusb_context *contexts[CONTEXTS];
 atomic_bool is_pulled[DEVICES];
+bool has_long;
 
 static struct caller callers[THREADS + 1];
 static uint64_t seed;
@@ -161,6 +162,7 @@ int main(int words, char **word)
     }
     seed = strtoull(word[1], NULL, 10);
     count = words > 2 ? atoi(word[2]) : COUNT;
+    has_long = !getenv("TIRNOUCH_TRACE");
     begin_caller(THREADS);
     signal(SIGALRM, on_alarm);
     alarm(SECONDS);

@@ -8,9 +8,11 @@
 
 #define CONFIG "0902300002010080320904000002ff00000007058102080000070502020800000904010001ff0000000705830308000a"
 #define ANSWERS 3000
+/* The device that takes long writes has these for them, and no gates. */
+#define LONG_ANSWERS 60000
 #define GATE 20
 #define SERIALS (1u << 18)
-#define TEXT_BYTES (DEVICES * (2 * ANSWERS * 19 + ANSWERS * 2 + ANSWERS / GATE * 64 + 1024))
+#define TEXT_BYTES (DEVICES * (2 * ANSWERS * 19 + ANSWERS * 2 + ANSWERS / GATE * 64 + 1024) + LONG_ANSWERS * 2)
 
 /* Which packets of an endpoint came: 81 and 83. */
 static atomic_uint seen[DEVICES][2][ANSWERS / 32 + 1];
@@ -57,8 +59,9 @@ static size_t add_reads(char *out, int device, int ep)
 static size_t add_writes(char *out, int device)
 {
     size_t at = (size_t)sprintf(out, "script %d 02", device);
-    for (int i = 0; i < ANSWERS; i++)
-        at += (size_t)sprintf(out + at, " %c", roll(80) ? 'a' : "nns"[roll(3)]);
+    bool is_long = has_long && device == LONG;
+    for (int i = 0; i < (is_long ? LONG_ANSWERS : ANSWERS); i++)
+        at += (size_t)sprintf(out + at, " %c", roll(is_long ? 5000 : 80) ? 'a' : "nns"[roll(3)]);
     return at + (size_t)sprintf(out + at, "\n");
 }
 
@@ -69,7 +72,8 @@ static size_t add_gates(char *out, int device)
     for (int place = GATE; place < ANSWERS; place += GATE) {
         at += (size_t)sprintf(out + at, "after %d 81 %d 02 %d\n", device, place, place / 2);
         at += (size_t)sprintf(out + at, "after %d 83 %d 00 %d\n", device, place, place / 4);
-        at += (size_t)sprintf(out + at, "after %d 02 %d 00 %d\n", device, place, place / 4);
+        if (device != LONG || !has_long)
+            at += (size_t)sprintf(out + at, "after %d 02 %d 00 %d\n", device, place, place / 4);
     }
     return at;
 }
@@ -140,7 +144,7 @@ uint32_t fill_write(int device, unsigned char *data, int length)
         fail("more writes than are counted");
     device_of[serial] = (unsigned char)device;
     for (int at = 0; at < length; at += PACKET) {
-        unsigned char packet[PACKET] = { 0, 0, 0, 0, (unsigned char)(at / PACKET), (unsigned char)device, 0xa5, 0 };
+        unsigned char packet[PACKET] = { 0, 0, 0, 0, (unsigned char)(at / PACKET), (unsigned char)(at / PACKET >> 8), 0xa5, 0 };
         put_four(packet, serial);
         memcpy(data + at, packet, (size_t)(length - at < PACKET ? length - at : PACKET));
     }
@@ -168,8 +172,9 @@ static void count_taken(int device, int *taken)
             fail("device %d took a packet of nobody's", device);
         if (serial != last && taken[serial])
             fail("device %d: packets of write %u and of %u are mixed", device, serial, last);
-        if (length > 4 && packet[4] * PACKET != taken[serial])
-            fail("device %d: packet %d of write %u came where %d bytes were taken", device, packet[4], serial, taken[serial]);
+        int place = packet[4] | packet[5] << 8;
+        if (length > 4 && place * PACKET != taken[serial])
+            fail("device %d: packet %d of write %u came where %d bytes were taken", device, place, serial, taken[serial]);
         taken[serial] += length;
         last = serial;
     }

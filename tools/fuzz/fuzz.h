@@ -21,6 +21,7 @@
 /* More than the library gives to its core in one piece. */
 #define LONG_BYTES 262400
 /* The device whose scripts may begin anew, since it is reset and configured: which of its bytes come is less known. */
+#define LONG 0
 #define RENEWED 2
 #define HIDDEN 3
 #define ALSO_HIDDEN 1
@@ -39,6 +40,8 @@ struct caller {
 extern _Thread_local struct caller *me;
 extern libusb_context *contexts[CONTEXTS];
 extern atomic_bool is_pulled[DEVICES];
+/* Whether there are transfers of more than one piece: not in a trace, where each packet is a line. */
+extern bool has_long;
 
 unsigned roll(unsigned below);
 void dawdle(void);

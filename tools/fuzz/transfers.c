@@ -61,7 +61,7 @@ static void fill(struct slot *slot, int place)
 {
     libusb_device_handle *handle = handle_at(place);
     unsigned timeout = roll(3) ? 0 : 1 + roll(20);
-    int packets = (int)roll(MOST_BYTES / PACKET), tail = roll(6) ? 0 : PACKET / 2;
+    int packets = (int)roll(MOST_BYTES / PACKET), tail = roll(6) ? 0 : PACKET / 2, length;
     slot->device = device_at(place);
     slot->it->flags = 0;
     switch (roll(4)) {
@@ -69,13 +69,14 @@ static void fill(struct slot *slot, int place)
         fill_control(slot, handle, timeout);
         break;
     case 1:
-        libusb_fill_bulk_transfer(slot->it, handle, 0x02, slot->buffer, packets * PACKET + tail, on_call, slot, timeout);
-        slot->serial = fill_write(slot->device, slot->buffer, slot->it->length);
+        length = has_long && slot->device == LONG && !roll(24) ? LONG_BYTES : packets * PACKET + tail;
+        libusb_fill_bulk_transfer(slot->it, handle, 0x02, slot->buffer, length, on_call, slot, timeout);
+        slot->serial = fill_write(slot->device, slot->buffer, length);
         slot->it->flags = roll(4) ? 0 : LIBUSB_TRANSFER_ADD_ZERO_PACKET;
         break;
     case 2:
-        libusb_fill_bulk_transfer(slot->it, handle, 0x81, slot->buffer, roll(16) ? packets * PACKET + tail : LONG_BYTES, on_call, slot,
-                                  timeout);
+        length = has_long && !roll(16) ? LONG_BYTES : packets * PACKET + tail;
+        libusb_fill_bulk_transfer(slot->it, handle, 0x81, slot->buffer, length, on_call, slot, timeout);
         slot->it->flags = roll(4) ? 0 : LIBUSB_TRANSFER_SHORT_NOT_OK;
         break;
     default:
