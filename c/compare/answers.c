@@ -98,7 +98,7 @@ static int standard(const struct device *device, const uint8_t *setup, uint8_t *
     }
 }
 
-/* What a request changes that the device took, whoever answered it. There are no data toggles on this bus, so that CLEAR_FEATURE has none to
+/* What a request changes that the device took, whoever answered it. This bus has no data toggles, so that CLEAR_FEATURE has none to
  * begin anew. */
 static void carry_out(struct device *device, const uint8_t *setup)
 {
