@@ -121,7 +121,7 @@ static int set_configuration(struct device *device, int value)
     if (value > 0 && value != device->config[5])
         return LIBUSB_ERROR_NOT_FOUND;
     for (int i = 0; i < INTERFACES; i++)
-        if (device->interfaces[i].holder)
+        if (device->interfaces[i].holder || (device->interfaces[i].has_driver && !device->interfaces[i].is_detached))
             return LIBUSB_ERROR_BUSY;
     device->configuration = (uint8_t)(value > 0 ? value : 0);
     return 0;

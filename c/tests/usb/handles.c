@@ -236,6 +236,7 @@ static void driver(void)
 {
     begin_unclaimed("a kernel driver", "driver 0 0\n");
     answer("active at 0", libusb_kernel_driver_active(handle, 0));
+    answer("set_configuration beside it", libusb_set_configuration(handle, 1));
     answer("active at 1", libusb_kernel_driver_active(handle, 1));
     answer("active at 32", libusb_kernel_driver_active(handle, 32));
     answer("claim", libusb_claim_interface(handle, 0));
