@@ -197,6 +197,7 @@ int libusb_detach_kernel_driver(libusb_device_handle *handle, int interface)
         return r ? r : LIBUSB_ERROR_NOT_FOUND;
     lock();
     handle->device->interfaces[interface].is_detached = true;
+    note_interface(handle, interface, 0, __func__);
     unlock();
     return 0;
 }
@@ -214,6 +215,7 @@ int libusb_attach_kernel_driver(libusb_device_handle *handle, int interface)
         r = LIBUSB_ERROR_BUSY;
     else
         r = it->is_detached = false;
+    note_interface(handle, interface, r, __func__);
     unlock();
     return r;
 }
@@ -222,6 +224,8 @@ int libusb_set_auto_detach_kernel_driver(libusb_device_handle *handle, int enabl
 {
     lock();
     handle->detaches = enable;
+    if (is_told(handle->context, 0))
+        note_call(handle->context, 0, __func__, "handle %u, %d", handle->number, enable);
     unlock();
     return 0;
 }

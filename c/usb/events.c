@@ -273,6 +273,8 @@ void libusb_interrupt_event_handler(libusb_context *context)
     lock();
     struct libusb_context *x = context_of(context);
     x->is_interrupted = true;
+    if (is_told(x, 0))
+        note_call(x, 0, __func__, "whoever handles events returns");
     wake(x);
     unlock();
 }

@@ -110,6 +110,7 @@ int libusb_get_configuration(libusb_device_handle *handle, int *value)
     int r = handle->device->is_gone ? LIBUSB_ERROR_NO_DEVICE : 0;
     if (!r)
         *value = handle->device->configuration;
+    note_handle(handle, r, __func__);
     unlock();
     return r;
 }

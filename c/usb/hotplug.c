@@ -168,7 +168,10 @@ static struct hotplug *find(struct libusb_context *context, int id)
 void libusb_hotplug_deregister_callback(libusb_context *context, libusb_hotplug_callback_handle id)
 {
     lock();
-    struct hotplug *it = find(context_of(context), id);
+    struct libusb_context *x = context_of(context);
+    struct hotplug *it = find(x, id);
+    if (is_told(x, 0))
+        note_call(x, 0, __func__, "callback %d%s", id, it ? "" : ", which isn't registered");
     if (it)
         finish(it);
     unlock();

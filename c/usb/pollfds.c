@@ -122,6 +122,8 @@ const struct libusb_pollfd **libusb_get_pollfds(libusb_context *context)
     lock();
     struct libusb_context *x = context_of(context);
     int r = begin_polling(x);
+    if (is_told(x, r))
+        note_call(x, r, __func__, "descriptor %d", x->poller);
     all->it = (struct libusb_pollfd){ .fd = x->poller, .events = POLLIN };
     all->list[0] = &all->it;
     unlock();
