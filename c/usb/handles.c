@@ -119,11 +119,11 @@ static int set_configuration(struct device *device, int value)
 {
     if (device->is_gone)
         return LIBUSB_ERROR_NO_DEVICE;
-    if (value > 0 && value != device->config[5])
-        return LIBUSB_ERROR_NOT_FOUND;
     for (int i = 0; i < INTERFACES; i++)
         if (device->interfaces[i].holder || (device->interfaces[i].has_driver && !device->interfaces[i].is_detached))
             return LIBUSB_ERROR_BUSY;
+    if (value > 0 && value != device->config[5])
+        return LIBUSB_ERROR_NOT_FOUND;
     device->configuration = (uint8_t)(value > 0 ? value : 0);
     return 0;
 }

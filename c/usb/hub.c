@@ -7,7 +7,7 @@
 
 /* Vendor and product of the Linux Foundation's USB 2.0 root hub; a hub with one transaction translator. */
 static const uint8_t descriptor[18] = {
-    18, LIBUSB_DT_DEVICE, 0x00, 0x02, LIBUSB_CLASS_HUB, 0, 1, 64, 0x6b, 0x1d, 0x02, 0x00, 0x00, 0x01, 0, 0, 0, 1,
+    18, LIBUSB_DT_DEVICE, 0x00, 0x02, LIBUSB_CLASS_HUB, 0, 1, 64, 0x6b, 0x1d, 0x02, 0x00, 0x10, 0x01, 0, 0, 0, 1,
 };
 
 /* One interface, with the interrupt endpoint that tells which ports changed. */
