@@ -117,12 +117,21 @@ def a_limit_tells_the_last_steps(trial: Trial) -> None:
     trial.expect(ran, 124, *(lines[-10:] or ["its trace is empty"]))
 
 
+def is_running(number: int) -> bool:
+    try:
+        return not pathlib.Path(f"/proc/{number}/stat").read_text().split(") ")[1].startswith("Z")
+    except OSError:
+        return False
+
+
 def a_limit_ends_children_too(trial: Trial) -> None:
     ran = trial.go("forks", "--limit", "300ms")
     trial.expect(ran, 124, "didn't end within 300ms")
     child = int(ran.stdout)
-    state = pathlib.Path(f"/proc/{child}/stat")
-    trial.check(not state.exists() or state.read_text().split(") ")[1].startswith("Z"), "the child goes on")
+    until = time.monotonic() + SECONDS
+    while is_running(child) and time.monotonic() < until:
+        time.sleep(0.1)  # a busy machine takes its time to end what was killed
+    trial.check(not is_running(child), "the child goes on")
 
 
 def signals_are_passed_on(trial: Trial) -> None:
