@@ -128,6 +128,16 @@ static void configurations(void)
     libusb_set_option(NULL, LIBUSB_OPTION_LOG_LEVEL, LIBUSB_LOG_LEVEL_NONE);
 }
 
+static void languages(void)
+{
+    static const char *const locales[] = { "nl", "fr", "ru", "de", "hu", "en" };
+    puts("errors in other languages");
+    for (size_t i = 0; i < sizeof locales / sizeof locales[0]; i++) {
+        libusb_setlocale(locales[i]);
+        printf("  %s: %s; %s\n", locales[i], libusb_strerror(LIBUSB_ERROR_BUSY), libusb_strerror(LIBUSB_ERROR_TIMEOUT));
+    }
+}
+
 static void misuses(void)
 {
     libusb_device **list;
@@ -152,5 +162,6 @@ int main(void)
     each_call();
     configurations();
     misuses();
+    languages();
     return 0;
 }
