@@ -7,4 +7,5 @@ pub mod Rows
 pub mod Steps
 pub mod Requested
 pub mod Outs
+pub mod Looks
 pub mod Submitting

@@ -33,16 +33,11 @@ pub fn look(session: &Session, dev: DeviceNo, ep: EpAddr, told: &mut Told)
     ensures { TellsLook dev ep session.now told.new }
 {
     let core = &session.core;
-    let todo = u8::from(core.has_order())
-        + 2 * u8::from(core.has_event())
-        + 4 * u8::from(core.has_result());
-    *told = Told {
-        h: 255,
-        kind: u8::from(core.has_packet(dev, ep)),
-        ep: 0,
-        status: todo,
-        amount: u32::from(core.is_halted(dev, ep)),
-        n: core.answers_left(dev, ep) as u64,
-        payload: 0,
-    };
+    let packet = core.has_packet(dev, ep);
+    let order = core.has_order();
+    let event = core.has_event();
+    let outcome = core.has_result();
+    let is_halted = core.is_halted(dev, ep);
+    let left = core.answers_left(dev, ep);
+    *told = Told::look(packet, order, event, outcome, is_halted, left as u64);
 }

@@ -4,7 +4,7 @@ ghost use Rattle.std.specs.Prelude.{◌≡◌};
 ghost use Rattle.tirnouch_c.specs.Complaints.{complaint_told, place_number};
 ghost use Rattle.tirnouch_c.specs.Descriptions.{departure_told, device_told, driver_told, gate_told};
 ghost use Rattle.tirnouch_c.specs.Requests.{ended_told, needs_told};
-ghost use Rattle.tirnouch_c.specs.Reads.{pending_told};
+ghost use Rattle.tirnouch_c.specs.Reads.{look_told, pending_told};
 ghost use Rattle.tirnouch_c.specs.Results.{told_taken};
 ghost use Rattle.tirnouch_c.specs.Told.{bit, code_of, line_told, of_kind, reply_told, status_number, told_of};
 
@@ -159,6 +159,29 @@ impl Told {
         Told {
             status: command + 2 * deliver + 4 * take,
             ..serve
+        }
+    }
+
+    /// What is to be done at an endpoint: a packet there; an order, an event and a result; whether it is halted, and how many answers
+    /// are left.
+    pub fn look(
+        packet: bool,
+        order: bool,
+        event: bool,
+        outcome: bool,
+        is_halted: bool,
+        left: u64,
+    ) -> Told
+        ensures { result ≡ look_told packet order event outcome is_halted left }
+    {
+        let command = u8::from(order);
+        let deliver = u8::from(event);
+        let take = u8::from(outcome);
+        Told {
+            status: command + 2 * deliver + 4 * take,
+            amount: u32::from(is_halted),
+            n: left,
+            ..Told::of_kind(255, u8::from(packet))
         }
     }
 
