@@ -174,11 +174,11 @@ impl Told {
     ) -> Told
         ensures { result ≡ look_told packet order event outcome is_halted left }
     {
-        let command = u8::from(order);
-        let deliver = u8::from(event);
-        let take = u8::from(outcome);
+        let orders = u8::from(order);
+        let events = u8::from(event);
+        let outcomes = u8::from(outcome);
         Told {
-            status: command + 2 * deliver + 4 * take,
+            status: orders + 2 * events + 4 * outcomes,
             amount: u32::from(is_halted),
             n: left,
             ..Told::of_kind(255, u8::from(packet))
