@@ -386,7 +386,7 @@ static void register_over_and_over(void)
 
 int main(void)
 {
-    alarm(110);
+    alarm(220);
     setvbuf(stdout, NULL, _IONBF, 0);
     write_text();
     run();
