@@ -212,17 +212,31 @@ def seeds_tell_other_failures(trial: Trial) -> None:
     trial.check(len(ran.stdout) < 70000, "the output is too long")
 
 
+def environment_of(process: str) -> str:
+    """The environment of a process; nothing where it has ended."""
+    try:
+        return pathlib.Path(f"/proc/{process}/environ").read_bytes().decode("utf-8", "replace")
+    except OSError:
+        return ""
+
+
+def running_in(trial: Trial) -> List[str]:
+    """The trial's own programs, of those that run."""
+    found = subprocess.run(["pgrep", "-f", f"^{trial.program} deaf"], capture_output=True, text=True, check=False).stdout.split()
+    return [it for it in found if f"TMPDIR={trial.folder}" in environment_of(it)]
+
+
 def asked_to_end(trial: Trial) -> None:
     words = [RUN, DEVICES, "--seeds", "1-9", "--jobs", "3", "--", trial.program, "deaf"]
     with subprocess.Popen(words, cwd=trial.folder, env={**os.environ, "TMPDIR": str(trial.folder)}) as running:
-        time.sleep(1.5)
+        until = time.monotonic() + SECONDS / 2
+        while not running_in(trial) and time.monotonic() < until:
+            time.sleep(0.1)
         running.send_signal(signal.SIGINT)
         status = running.wait(SECONDS)
     trial.check(status == -signal.SIGINT, f"SIGINT made status {status}")
     trial.check(trial.files() == [], f"files were left: {trial.files()}")
-    left = subprocess.run(["pgrep", "-f", f"{trial.program} deaf"], capture_output=True, text=True, check=False).stdout.split()
-    mine = [it for it in left if f"TMPDIR={trial.folder}" in pathlib.Path(f"/proc/{it}/environ").read_bytes().decode("utf-8", "replace")]
-    trial.check(not mine, f"programs go on: {mine}")
+    trial.check(not running_in(trial), f"programs go on: {running_in(trial)}")
 
 
 TRIALS = [
