@@ -3,7 +3,7 @@
 # threads; `make wrong_bodies` tries those that the gate leaves out; `make plant` makes definitions wrong, and says what
 # refuses that. `make doc` writes doc/index.html, the public items of all crates with their contracts. `make c` builds the core
 # for C, proved, and tries it: bin/libtirnouch_core.a and .so, with c/include/tirnouch_core.h; `make bench_c` measures it. `make c-usb`
-# builds libusb's own interface over it, bin/libusb-1.0.so.0 and .a; `make c-test` tries it, and `make c-abi` compares the header with libusb's.
+# builds libusb's own interface over it, bin/libusb-1.0.so.0 and .a; `make c-try` the same unproved, in two minutes; `make c-test` tries it, and `make c-abi` compares the header with libusb's.
 # `make hostile` tries the programs in hostile ways, some minutes; HOSTILE has options of tools/hostile, or parts.
 # `make captures` tries captures on tshark and on libusb over umockdev, some minutes; CAPTURES has options of tools/captures, or parts.
 
@@ -55,14 +55,19 @@ bin/bench: always
 
 C_FLAGS = -std=c11 -O2 -Wall -Wextra -pedantic -fPIC -Ic/include
 
-# One object, of which only the header's names are to be seen.
+# One object, of which only the header's names are to be seen. CORE says which core stands in it: `build` the proved one, `try` one
+# that isn't proved, where no proved one is there. What only that needs is an archive, of which a proved one takes nothing.
+CORE = build
 bin/libtirnouch_core.a: always
-	@tools/program.py build tirnouch_c
+	@tools/program.py $(CORE) tirnouch_c
 	@$(CC) $(C_FLAGS) -c c/heap.c -o bin/heap.o
-	@$(LD) -r --whole-archive bin/libtirnouch_c.a --no-whole-archive bin/heap.o -o bin/core.o
+	@$(CC) $(C_FLAGS) -DCORE_BUILD="\"$$(tools/program.py state tirnouch_c)\"" -c c/description.c -o bin/description.o
+	@$(CC) $(C_FLAGS) -c c/unproved.c -o bin/unproved.o
+	@rm -f bin/unproved.a && $(AR) rcs bin/unproved.a bin/unproved.o
+	@$(LD) -r --whole-archive bin/libtirnouch_c.a --no-whole-archive bin/heap.o bin/description.o bin/unproved.a -o bin/core.o
 	@objcopy --wildcard --keep-global-symbol='tirnouch_*' bin/core.o
 	@rm -f $@ && $(AR) rcs $@ bin/core.o
-	@rm -f bin/heap.o bin/core.o
+	@rm -f bin/heap.o bin/description.o bin/unproved.o bin/unproved.a bin/core.o
 
 bin/libtirnouch_core.so: bin/libtirnouch_core.a
 	@$(CC) -shared -Wl,--version-script=c/core.map -Wl,--whole-archive $< -Wl,--no-whole-archive -o $@
@@ -90,6 +95,13 @@ bin/libusb-1.0.so.0: bin/libusb-1.0.a c/usb.map
 	@rm -f bin/libusb-1.0.so && cp $@ bin/libusb-1.0.so
 
 c-usb: bin/libusb-1.0.a bin/libusb-1.0.so.0
+
+# The same libraries over an unproved core. TRUST=1 leaves out its checks.
+.PHONY: c-try
+c-try:
+	@tools/progress.py say c-try
+	@$(MAKE) --no-print-directory CORE=try bin/libusb-1.0.a bin/libusb-1.0.so.0
+	@tools/progress.py done c-try
 
 c-test: c c-usb
 	@tools/c_test.py

@@ -66,6 +66,10 @@ OWNERS = [
     "Before these two calls `back` is memory of no bytes; it stays so where nothing was lent for the result.",
 ]
 TAIL = """
+/* What the library is and how its core was built: "tirnouch, proved core", "tirnouch, unproved core", or "tirnouch, trusted core" of
+ * an unproved one without checks. */
+extern const char tirnouch_description[];
+
 #ifdef __cplusplus
 }
 #endif

@@ -1,13 +1,15 @@
 #!/usr/bin/env python3
 """Crates that people use, built into bin/: the program usbtrace as bin/usbtrace, so that each scenario takes milliseconds.
 
-    tools/program.py try [NAME ..]    builds usbtrace unproved, or other programs, where their files changed: a minute or two each
+    tools/program.py try [NAME ..]    builds usbtrace unproved, or other programs, or tirnouch_c, where their files changed: a minute or two each
     tools/program.py build            builds it proved, as the gate does, crate beside crate: what isn't kept on this machine is proved
     tools/program.py build NAME ..    the same of other crates: a program as bin/NAME, a static library as bin/libNAME.a
     tools/program.py keep             takes what the gate has just proved and built: usbtrace, check_calls and check_random
     tools/program.py state            says which usbtrace stands there, on standard error
+    tools/program.py state NAME       how another crate was built that stands there, in a word: proved, unproved, trusted, or none
 
-An unproved build has the same code with checks: it stops at an index out of bounds or an overflow."""
+An unproved build has the same code with checks: it stops at an index out of bounds or an overflow. TRUST=1 takes them out of
+an unproved tirnouch_c, which is `trusted` then: the compiler takes for granted that none can fail."""
 import hashlib
 import os
 import pathlib
@@ -16,8 +18,8 @@ import shutil
 import subprocess
 import sys
 import tempfile
-import threading
-import time
+
+import unproved
 
 ROOT = pathlib.Path(__file__).resolve().parent.parent
 BIN = ROOT / "bin"
@@ -28,8 +30,6 @@ KEPT = ("usbtrace", "check_calls", "check_random")
 KIT = pathlib.Path(shutil.which("rt") or "rt").resolve().parent.parent
 # Words with which a run of a program is short, by which it is built unproved; of others, without words.
 SHORT = {"usbtrace": ("run",), "check_random": ("refusals", "1")}
-# How often, in seconds, the folder of an unproved build is looked at for the program: it is gone when the build ends.
-LOOK = 0.002
 
 
 def uses():
@@ -96,49 +96,45 @@ def keep(name, file, how, made_of):
     noted.write_text(f"{how} {made_of}\n")
 
 
-class Watch(threading.Thread):
-    """Gives the program that a build makes below a folder a second name, before the build removes it."""
-
-    def __init__(self, folder):
-        super().__init__(daemon=True)
-        self.folder, self.found, self.is_over = pathlib.Path(folder), None, False
-
-    def run(self):
-        while not self.is_over and self.found is None:
-            for at, _, names in os.walk(self.folder):
-                if "program" in names and self.take(pathlib.Path(at) / "program"):
-                    return
-            time.sleep(LOOK)
-
-    def take(self, path):
-        to = self.folder / "kept"
-        try:
-            os.link(path, to)
-        except OSError:
-            return False
-        self.found = to
-        return True
-
-
 def build_unproved(name):
-    """An unproved program, where another isn't there already."""
-    if state(name):
+    """An unproved program, or tirnouch_c, where another isn't there already."""
+    static = is_static(name, uses())
+    how = "trusted" if static and os.environ.get("TRUST") else "unproved"
+    if state(name) in ("proved", how):
         return 0
     made_of = sum_of_files(name)
     with tempfile.TemporaryDirectory(prefix=f"{name}-") as folder:
-        watch = Watch(folder)
-        watch.start()
-        words = ["rt", "try", "--steps", "1", "--", *SHORT.get(name, ())]
-        env = {**os.environ, "TMPDIR": folder}
-        ran = subprocess.run(words, cwd=CRATES / name, env=env, stdin=subprocess.DEVNULL, capture_output=True, text=True)
-        watch.is_over = True
-        watch.join()
-        if ran.returncode or watch.found is None:
-            sys.stderr.write(ran.stdout + ran.stderr)
-            print(f"{name} isn't built: see above", file=sys.stderr)
+        folder = pathlib.Path(folder)
+        try:
+            built = unproved_library(name, folder, how) if static else unproved_program(name, folder)
+        except unproved.NotBuilt as why:
+            print(f"{name} isn't built: {why}", file=sys.stderr)
             return 1
-        keep(name, watch.found, "unproved", made_of)
+        keep(name, built, how, made_of)
     return 0
+
+
+def unproved_program(name, folder):
+    """The program that `rt try` makes and runs."""
+    watch = unproved.Watch(folder, "program")
+    watch.start()
+    words = ["rt", "try", "--steps", "1", "--", *SHORT.get(name, ())]
+    env = {**os.environ, "TMPDIR": str(folder)}
+    ran = subprocess.run(words, cwd=CRATES / name, env=env, stdin=subprocess.DEVNULL, capture_output=True, text=True)
+    watch.end()
+    if ran.returncode or not watch.found:
+        sys.stderr.write(ran.stdout + ran.stderr)
+        raise unproved.NotBuilt("rt try made no program: see above")
+    return watch.found[0][1]
+
+
+def unproved_library(name, folder, how):
+    """The static library, from a copy of its crates."""
+    if name != "tirnouch_c":
+        raise unproved.NotBuilt("of the static libraries only tirnouch_c is built unproved")
+    repository = folder / "repository"
+    copy_below(name, repository, set())
+    return unproved.build(repository / "crates" / name, folder, KIT, how == "trusted")
 
 
 def copy_below(name, folder, leaves_out):
@@ -222,13 +218,16 @@ def main(words):
         return each(take_from_gate, KEPT)
     if words == ["state"]:
         return tell()
-    if word not in ("try", "build"):
+    if word not in ("try", "build", "state"):
         print(__doc__)
         return 2
     strange = [it for it in names if it not in uses()]
     if strange:
         print(f"crates.txt has no {strange[0]}", file=sys.stderr)
         return 2
+    if word == "state":
+        print("\n".join(state(it) or "none" for it in names))
+        return 0
     return each(build_unproved if word == "try" else build, names or ["usbtrace"])
 
 

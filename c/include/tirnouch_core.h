@@ -173,6 +173,10 @@ int32_t tirnouch_describe(struct tirnouch_slot *slot, uint8_t dev, uint8_t kind,
 int32_t tirnouch_tell(struct tirnouch_slot *slot, uint8_t dev, uint8_t what, size_t i,
     struct tirnouch_told *told);
 
+/* What the library is and how its core was built: "tirnouch, proved core", "tirnouch, unproved core", or "tirnouch, trusted core" of
+ * an unproved one without checks. */
+extern const char tirnouch_description[];
+
 #ifdef __cplusplus
 }
 #endif

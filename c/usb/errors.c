@@ -44,7 +44,7 @@ const char *libusb_error_name(int error_code)
 
 const struct libusb_version *libusb_get_version(void)
 {
-    static const struct libusb_version version = { 1, 0, 28, 11946, "", "tirnouch" };
+    static const struct libusb_version version = { 1, 0, 28, 11946, "", tirnouch_description };
     return &version;
 }
 

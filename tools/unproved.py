@@ -1,0 +1,192 @@
+"""The core for C without a proof: a static library of the exports of tirnouch_c in a minute or so, built from nothing.
+
+`rt try` compiles programs alone, so a program is written that calls each export. The LLVM module that `rt try` makes of it is
+taken before it goes away; the exports get C's names there, and clang compiles it once more, as a library.
+
+The build has checks that the proved one has no need of: alignment, overflow, casts, values that can't be. Where one fails,
+the program ends and says so (c/unproved.c). With `trust` they are taken out, as they are in the proved build, and the compiler
+takes for granted that none can fail."""
+import os
+import pathlib
+import re
+import signal
+import subprocess
+import sys
+import threading
+import time
+
+TARGET = "--target=x86_64-unknown-linux-gnu"
+# How often, in seconds, the folder of a build is looked at: what is made there goes away with the build.
+LOOK = 0.002
+# The module of the program has some megabytes; another that `rt try` makes has some hundred bytes.
+LEAST = 1 << 20
+# A value of each type of parameter that an export has; a number is 0.
+GIVEN = {
+    "Global": "alloc",
+    "&mut Slot": "&mut slot",
+    "&mut Told": "&mut told",
+    "&mut LentMemory": "&mut lent",
+    "&[u8; 8]": "&setup",
+    "&[u8]": "&setup",
+    "&mut [u8]": "&mut data",
+    "bool": "false",
+}
+# The functions that a program needs and that no other module of the crate sees.
+SEEN = ("fn empty() -> Slot", "fn into_box(self, alloc: Global) -> Option<Box<Session>>")
+MAIN = """//! A program that calls each export of `tirnouch_c`, so that they are compiled. Made by tools/unproved.py.
+
+#![tactic(auto)]
+
+{modules}
+use crate::held::Slot;
+use crate::told::Told;
+use std::io;
+use std::ptr::null_mut;
+use usb_lent::LentMemory;
+
+fn main(rt: HostRuntime) -> io::Result<()> {{
+    let alloc = rt.alloc();
+    let mut slot = Slot::empty();
+    let mut told = Told::nothing();
+    let mut data = [0u8; 8];
+    let setup = [0u8; 8];
+    let mut lent = LentMemory {{ at: null_mut(), len: 0, filled: 0 }};
+{calls}    let _ = slot.into_box(alloc);
+    let LentMemory {{ at: _, len: _, filled: _ }} = lent;
+    Ok(())
+}}
+"""
+
+
+class NotBuilt(Exception):
+    """Why there is no library, for a person."""
+
+
+class Watch(threading.Thread):
+    """Gives each file of some name that a build makes below a folder a second name there, before the build removes it: `found` has
+    the two paths of each."""
+
+    def __init__(self, folder, name):
+        super().__init__(daemon=True)
+        self.folder, self.name, self.found, self.is_over = pathlib.Path(folder), name, [], threading.Event()
+        self._seen = set()
+
+    def run(self):
+        while not self.is_over.wait(LOOK):
+            for at, _, names in os.walk(self.folder):
+                if self.name in names and at not in self._seen:
+                    self._take(pathlib.Path(at) / self.name)
+
+    def _take(self, path):
+        to = self.folder / f"kept-{len(self.found)}"
+        try:
+            os.link(path, to)
+        except OSError:
+            return
+        self._seen.add(str(path.parent))
+        self.found.append((path, to))
+
+    def end(self):
+        self.is_over.set()
+        self.join()
+
+
+def exports(text):
+    """The exports of exports.rt: the name of each, and the types of its parameters."""
+    for found in re.finditer(r'#\[unsafe\(no_mangle\)\]\npub extern "C" fn (\w+)\(([^)]*)\)', text):
+        parts = [part.strip().rstrip(",") for part in re.split(r",\s*(?![^\[]*\])", found[2])]
+        yield found[1], [part.split(": ", 1)[1] for part in parts if part]
+
+
+def make_program(crate):
+    """Makes the library of a copy of the crate a program."""
+    source = crate / "src"
+    modules = re.findall(r"^mod (\w+);", (source / "lib.rt").read_text(), re.M)
+    calls = "".join(
+        f"    let _ = exports::{name}({', '.join(GIVEN.get(kind, '0') for kind in kinds)});\n"
+        for name, kinds in exports((source / "exports.rt").read_text())
+    )
+    (source / "lib.rt").unlink()
+    (source / "main.rt").write_text(MAIN.format(modules="".join(f"mod {it};\n" for it in modules), calls=calls))
+    held = (source / "held.rt").read_text()
+    for it in SEEN:
+        held = held.replace(f"    {it}", f"    pub {it}")
+    (source / "held.rt").write_text(held)
+    lines = crate.parent.parent / "crates.txt"
+    text = re.sub(r"^tirnouch_c staticlib:(.*)$", lambda found: "tirnouch_c:" + found[1].replace(" core ", " "), lines.read_text(), flags=re.M)
+    lines.write_text(text)
+
+
+def whole_module(watch):
+    """The program's module, once clang has begun to compile it, and so it is whole."""
+    for path, kept in watch.found:
+        if kept.stat().st_size >= LEAST and any(path.parent.glob("module-*.o.tmp")):
+            return kept
+    return None
+
+
+def module_of(crate, folder):
+    """The LLVM module of a program, by `rt try`. What that would make of it is not waited for."""
+    work, log = folder / "work", folder / "log"
+    work.mkdir()
+    watch = Watch(work, "module.bc")
+    watch.start()
+    with log.open("wb") as out:
+        build = subprocess.Popen(["rt", "try", "--steps", "1"], cwd=crate, env={**os.environ, "TMPDIR": str(work)},
+                                 stdin=subprocess.DEVNULL, stdout=out, stderr=subprocess.STDOUT, start_new_session=True)
+        try:
+            while (module := whole_module(watch)) is None and build.poll() is None:
+                time.sleep(LOOK)
+        finally:
+            watch.end()
+            end_group(build)
+    if module is None:
+        sys.stderr.write(log.read_text(errors="replace"))
+        raise NotBuilt("rt try made no module of tirnouch_c: see above")
+    return module
+
+
+def end_group(process):
+    """Ends a process and those that it began."""
+    try:
+        os.killpg(process.pid, signal.SIGTERM)
+    except ProcessLookupError:
+        pass
+    process.wait()
+
+
+def as_library(text, trust):
+    """The text of a module with the exports under C's names, and the program's own `main` hidden, for the linker to drop."""
+    for name in set(re.findall(r'@"tirnouch_c::exports::(tirnouch_\w+)"', text)):
+        text = text.replace(f'@"tirnouch_c::exports::{name}"', f"@{name}")
+    text = re.sub(r"^define internal ([^\n]*@tirnouch_\w+\()", r"define \1", text, flags=re.M)
+    text = re.sub(r"^define ([^\n]*@main\()", r"define internal \1", text, flags=re.M)
+    text = text.replace(" sanitize_address", "").replace(' "frame-pointer"="all"', "").replace("= { }", "= { nounwind }")
+    if trust:
+        return text.replace("  call void @llvm.trap()\n", "")
+    return tell_checks(text)
+
+
+def tell_checks(text):
+    """A check that fails calls `rattle_check_failed` with its name. What traps elsewhere calls the check Unreachable behind that."""
+    start = text.index('define internal void @"rattle-llvm-checks::')
+    names = re.findall(r'^define internal void @"rattle-llvm-checks::(\w+)"', text[start:], re.M)
+    body, checks = text[:start].replace("  call void @llvm.trap()\n", ""), text[start:]
+    for name in names:
+        checks = checks.replace("  call void @llvm.trap()\n", f'  call void @rattle_check_failed(ptr @"checks.{name}")\n', 1)
+    told = "".join(f'@"checks.{name}" = private constant [{len(name) + 1} x i8] c"{name}\\00"\n' for name in names)
+    return body + told + "declare void @rattle_check_failed(ptr) cold noreturn nounwind\n\n" + checks
+
+
+def build(crate, folder, kit, trust):
+    """The static library of a copy of tirnouch_c, made below a folder: its path. The copy is changed."""
+    clang, text, made = kit / "toolchain" / "bin" / "clang", folder / "module.ll", folder / "module.o"
+    make_program(crate)
+    module = module_of(crate, folder)
+    subprocess.run([clang, TARGET, "-S", "-emit-llvm", "-x", "ir", module, "-o", text, "-O0", "-Xclang", "-disable-llvm-passes"], check=True)
+    text.write_text(as_library(text.read_text(), trust))
+    words = [clang, TARGET, "-march=x86-64", "-O3", "-fPIC", "-ffunction-sections", "-fdata-sections", "-c", "-x", "ir", text, "-o", made]
+    subprocess.run(words, check=True)
+    library = folder / "libtirnouch_c.a"
+    subprocess.run([kit / "toolchain" / "bin" / "llvm-ar", "rcs", library, made], check=True)
+    return library
