@@ -89,7 +89,7 @@ class Teller(threading.Thread):
     def tell(self) -> None:
         line = self.proofs.line(self.name)
         if self.shows:
-            line = "\r\x1b[K" + line[: max(20, os.get_terminal_size(sys.stderr.fileno()).columns - 1)]
+            line = "\r\x1b[K" + line[: (os.get_terminal_size(sys.stderr.fileno()).columns or 80) - 1]
         print(line, end="" if self.shows else "\n", file=sys.stderr, flush=True)
 
     def clear(self) -> None:
