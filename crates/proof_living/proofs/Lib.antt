@@ -1,0 +1,10 @@
+mod Serves
+mod Ends
+mod Effects
+mod Worlds
+mod Runs
+mod Feeding
+mod Wanting
+mod FedCore
+mod Fed
+mod NoWants
