@@ -4,6 +4,7 @@ use Rattle.std.specs.Prelude.{if◌then◌else◌}
 use Rattle.std.specs.Option.{unwrap_or}
 use Rattle.usb_model.specs.declared.step.Step.{Step}
 use Rattle.usb_model.specs.declared.item.Item.{Item}
+use Rattle.usb_model.specs.declared.response.Response.{Response}
 use Rattle.usb_model.specs.declared.endpoint.Endpoint.{Endpoint}
 use Rattle.usb_model.specs.declared.outcome.Outcome.{Outcome}
 use Rattle.usb_model.specs.Setup.{Setup, packet_size_of}
@@ -13,7 +14,7 @@ use Rattle.usb_model.specs.World.{World, Claims, new_world, holder, is_its, mach
 use Rattle.proof_lemmas.proofs.Lists.Pieces.{same_name}
 use Rattle.usb_design.specs.Kept.{KeptEndpoint}
 use Rattle.proof_design.specs.Lively.{IsFine, IsLively}
-use Rattle.proof_design.specs.ShownEndpoint.{ShowsEnd}
+use Rattle.proof_design.specs.ShownEndpoint.{ShowsDevice, ShowsEnd}
 use Rattle.proof_design.specs.Shows.{Core, Shows, At, AllHeld, errands, events, tellings, at}
 use Rattle.proof_design.proofs.Lives.{sound_at}
 use Rattle.proof_design.proofs.Tells.{first_open}
@@ -62,8 +63,16 @@ shows_fed setup longer more w c g fine s = record {
   few = s.few;
   near = λ h d e own. s.near h d e (sym (holder_same setup longer more w.claims d e g) ∙ own);
   endpoints = λ h d e own. end_of h d e (sym (holder_same setup longer more w.claims d e g) ∙ own);
+  devices = λ d e. device_of (more d e) (w.endpoints d e) (c.endpoints d e) (s.devices d e);
 }
   where
+    device_of : (rest : List Response) (e : Endpoint) (b : KeptEndpoint) → ShowsDevice e b → ShowsDevice (with_more rest e) (kept_with rest b)
+    device_of rest e b q = record {
+      script_left = ap (λ l. l ++ rest) q.script_left;
+      device_halted = q.device_halted;
+      packets_received = q.packets_received;
+    }
+
     end_of : (h d e : ℕ) → holder setup w.claims d e ≡ Some h
         → ShowsEnd (packet_size_of longer d e) (with_more (more d e) (w.endpoints d e)) (errands (at d e s.orders)) (events (at d e s.news)) (kept_with (more d e) (c.endpoints d e)) (at d e s.orders) (tellings (at d e s.news))
     end_of h d e own =
