@@ -2,3 +2,4 @@ pub mod Pipe
 pub mod Skims
 pub mod Taken
 pub mod Scripts
+pub mod Feeds

@@ -24,7 +24,7 @@ pub enum Act {
     Broken,
 }
 
-/// A device. Its law: each endpoint has a script of answers, which is settled when the device is made, and answers by
+/// A device. Its law: each endpoint has a script of answers, which is settled when the device is made or fed (`Feed`), and answers by
 /// the next of them; a Stall halts it, and it then stalls until it is cleared or rewound. A call changes the endpoint that it
 /// names and no other, and takes no memory. An IN endpoint has no Ack in its script, an OUT endpoint no Data.
 pub trait Device: Drop {

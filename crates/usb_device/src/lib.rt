@@ -7,13 +7,14 @@
 //! - `device.rt`: `Device`, the trait, and `Act`. `answer`: one transaction, whose packet for the host is put into a
 //!   buffer; `answer_in` appends it, by `answer` where a device doesn't say how; `ready`, `taken`, `rewind`,
 //!   `clear_halt`
-//! - `scripted.rt`: `Scripted`: a device that tells how far it is in its scripts
+//! - `scripted.rt`: `Scripted`: a device that tells how far it is in its scripts; `feed.rt`: `Feed`: a device whose scripts go on
+//!   while it runs
 //! - `table.rt`, `pipe.rt`: `TableDevice`: a place in each script, so that nothing is copied
 //! - `taken.rt`, `scripts.rt`: packets that were taken, in one buffer an endpoint; scripts that a configuration may
 //!   have
 //! - `boxed.rt`: `BoxedDevice`: a device of any type, in a box that may cross threads
-//! - specs/ Pipe, Scripts, Taken: one endpoint as its device keeps it; scripts beside a configuration; packets in one
-//!   buffer
+//! - specs/ Pipe, Scripts, Feeds, Taken: one endpoint as its device keeps it; scripts beside a configuration, and as they go on;
+//!   packets in one buffer
 //!
 //! # Contracts
 //!
@@ -26,18 +27,21 @@
 //!   has 32 endpoints, and no answer of the wrong direction (clause `lawful`)
 //! - `Scripted::answers_left`, `is_halted`: of a device that tells it: how many answers an endpoint's script has left,
 //!   and whether it is halted; `TableDevice` does
+//! - `Feed::feed`: the endpoint, as if its script had ended with this answer from the beginning; InvalidParam just where the endpoint
+//!   can't have it, or its script is full; else NoMem; refused, nothing changed. `TableDevice` does
 //! - `TableDevice::new`: the endpoints of the configuration with the scripts, at their beginning; InvalidParam just
 //!   where a script isn't fit, else NoMem; refused, the scripts come back as they were
 //! - `TableDevice::packet_size`, `BoxedDevice::new`: the most bytes of a packet that an endpoint takes; a box answers
 //!   as the device in it
 //!
 //! It doesn't say: which transfer a transaction is of, when one is tried again, how long anything takes. A device's
-//! answers are settled when it is made.
+//! answers are settled when it is made, or fed.
 #![tactic(auto)]
 
 mod append;
 mod boxed;
 mod device;
+mod feed;
 mod pipe;
 mod scripted;
 mod scripts;
@@ -46,6 +50,7 @@ mod taken;
 
 pub use boxed::BoxedDevice;
 pub use device::{Act, Device};
+pub use feed::Feed;
 pub use scripted::Scripted;
 pub use scripts::info_by;
 pub use table::{TableDevice, Unmade};

@@ -1,14 +1,18 @@
 //! One endpoint that answers by a script.
 
-ghost use Rattle.std.specs.Prelude.{◌≡◌, ◌≤◌, ◌+◌, ◌*◌, ◌++◌, ◌<◌, [], true, false, None, Some, IfSome, count_by, length, slice_get, nat_lt, if◌then◌else◌, drop};
+ghost use Rattle.std.specs.Prelude.{◌≡◌, ◌≤◌, ◌+◌, ◌*◌, ◌++◌, ◌<◌, [], true, false, None, Some, IfSome, OnErr, OnOk, count_by, length, slice_get, nat_lt, if◌then◌else◌, drop};
 ghost use Rattle.std.specs.List.{list_all};
 ghost use Rattle.std.specs.Option.{option_copied};
+ghost use Rattle.usb_model.specs.Limits.{longest_script};
+ghost use Rattle.usb_device.specs.Feeds.{pipe_fed};
 ghost use Rattle.usb_device.specs.Pipe.{act_of, answer_of, buffer_after, bytes_after, cleared, is_ack, is_ready, packet_of, pipe_after, rewound};
 ghost use Rattle.usb_device.specs.Scripts.{pipe_of, is_short};
 ghost use Rattle.usb_device.specs.Skims.{are_taken, are_whole, is_whole, packet_in, pipe_behind, pipe_given, read_in};
 
 use crate::device::Act;
+use crate::scripts::acks;
 use crate::taken::TakenPackets;
+use std::alloc::AllocError;
 use std::marker::Model;
 use usb_model::{Buffer, Response};
 
@@ -17,6 +21,8 @@ use usb_model::{Buffer, Response};
 pub(crate) struct TablePipe {
     script: Vec<Response>,
     place: usize,
+    /// How many answers of the script take a packet.
+    acks: usize,
     halted: bool,
     taken: TakenPackets,
 }
@@ -39,7 +45,8 @@ impl Model for TablePipe {
 
     ghost invariant = { λ p. (p.place ≤ vec_len p.script)
         × (list_all is_short p.script.items ≡ true)
-        × (count_by is_ack p.script.items ≤ p.taken.places)
+        × (p.acks ≡ count_by is_ack p.script.items)
+        × (p.acks ≤ p.taken.places)
         × (length p.taken.packets + count_by is_ack (drop p.place p.script.items) ≤ count_by is_ack p.script.items) };
 }
 
@@ -85,9 +92,11 @@ impl TablePipe {
         requires fresh { taken.packets ≡ [] }
         ensures { result ≡ pipe_of taken.size script.items }
     {
+        let acks = acks(script.as_slice());
         TablePipe {
             script,
             place: 0,
+            acks,
             halted: false,
             taken,
         }
@@ -238,6 +247,29 @@ impl TablePipe {
             }
         }
         most
+    }
+
+    /// One more answer behind the script. An error where memory is refused: the endpoint stays as it was.
+    pub(crate) fn feed(&mut self, answer: Response) -> Result<(), AllocError>
+        requires short { is_short answer ≡ true }
+        requires room { length self.old.script < longest_script }
+        ensures fed { OnOk result (self.new ≡ pipe_fed answer self.old) }
+        ensures stays { OnErr result (self.new ≡ self.old) }
+    {
+        if !matches!(&answer, Response::Ack) {
+            return self.script.push(answer);
+        }
+        self.taken.grow(self.acks + 1)?;
+        self.script.push(answer)?;
+        self.acks += 1;
+        Ok(())
+    }
+
+    /// How many answers the script has.
+    pub(crate) fn script_len(&self) -> usize
+        ensures { result ≡ length self.now.script }
+    {
+        self.script.len()
     }
 
     /// The most bytes of a packet that it takes.

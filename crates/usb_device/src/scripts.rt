@@ -52,7 +52,7 @@ pub(crate) fn acks(script: &[Response]) -> usize
 }
 
 /// Whether an endpoint of this direction may give this answer, and its packet isn't too long.
-fn is_answer(inward: bool, answer: &Response) -> bool
+pub(crate) fn is_answer(inward: bool, answer: &Response) -> bool
     ensures { result ≡ is_answer inward answer.now }
 {
     match answer {

@@ -4,19 +4,22 @@ ghost use Rattle.std.specs.Prelude.{◌≡◌, ◌≤◌, true, IfErr, IfOk, OnO
 ghost use Rattle.std.specs.List.{range_with_len};
 ghost use Rattle.std.specs.Vec.Iter.{into_iter_items};
 ghost use Rattle.usb_model.specs.declared.refused.Refused.TheVariants.{InvalidParam, NoMem};
+ghost use Rattle.usb_device.specs.Feeds.{may_be_fed};
 ghost use Rattle.usb_device.specs.Pipe.{pipe_at};
 ghost use Rattle.usb_device.specs.Scripts.{Takes, are_scripts, pipes_of, rooms_of, script_by};
 
 use crate::device::{Act, Device};
+use crate::feed::Feed;
 use crate::pipe::TablePipe;
 use crate::scripted::Scripted;
-use crate::scripts::{acks, are_scripts, script_by, size_by};
+use crate::scripts::{acks, are_scripts, is_answer, script_by, size_by};
 use crate::taken::TakenPackets;
 use std::alloc::{AllocError, Global};
 use std::marker::Model;
 use std::vec::IntoIter;
 use thiserror::Error;
 use usb_descriptors::Config;
+use usb_model::limits::LONGEST_SCRIPT;
 use usb_model::{Buffer, EpAddr, Refused, Response, Script, Sequence};
 
 /// The endpoint ids of a device: 0 to 31 (xHCI 1.2, 4.5.1).
@@ -81,7 +84,7 @@ impl TableDevice {
     /// A device of this configuration that answers by these scripts, at the endpoint ids of their places (`EpAddr::id`); past the
     /// last, scripts are empty. InvalidParam where a script has an answer and no endpoint has its id, or an answer of the wrong
     /// direction (an Ack for IN, Data for OUT), a packet longer than `LARGEST_PACKET`, or more than `LONGEST_SCRIPT` answers;
-    /// else NoMem where memory is refused. No later call takes memory.
+    /// else NoMem where memory is refused. No later call takes memory but `Feed::feed`.
     pub fn new(
         alloc: Global,
         config: &Config,
@@ -171,5 +174,25 @@ impl Scripted for TableDevice {
 
     fn is_halted(&self, ep: EpAddr) -> bool {
         self.pipes[usize::from(ep.id())].is_halted()
+    }
+}
+
+/// Whether an endpoint of this address may have one more answer.
+fn may_be_fed(ep: EpAddr, answer: &Response, pipe: &TablePipe) -> bool
+    ensures { result ≡ may_be_fed ep answer.now pipe.now }
+{
+    pipe.size() > 0 && is_answer(ep.is_in(), answer) && pipe.script_len() < LONGEST_SCRIPT
+}
+
+impl Feed for TableDevice {
+    fn feed(&mut self, ep: EpAddr, answer: Response) -> Result<(), Refused> {
+        let pipe = &mut self.pipes[usize::from(ep.id())];
+        if !may_be_fed(ep, &answer, pipe) {
+            return Err(Refused::InvalidParam);
+        }
+        match pipe.feed(answer) {
+            Ok(()) => Ok(()),
+            Err(_) => Err(Refused::NoMem),
+        }
     }
 }

@@ -1,6 +1,6 @@
 //! The packets that an endpoint took.
 
-ghost use Rattle.std.specs.Prelude.{◌≡◌, ◌<◌, ◌≤◌, [], ◌∷◌, ◌++◌, ◌+◌, IfOk, length, slice_get, vec_capacity, vec_len};
+ghost use Rattle.std.specs.Prelude.{◌≡◌, ◌<◌, ◌≤◌, [], ◌∷◌, ◌++◌, ◌+◌, IfOk, OnOk, length, slice_get, vec_capacity, vec_len};
 ghost use Rattle.std.specs.List.{slice_range};
 ghost use Rattle.std.specs.Option.{option_copied};
 ghost use Rattle.usb_model.specs.Limits.{longest_script};
@@ -8,25 +8,28 @@ ghost use Rattle.usb_device.specs.Taken.{Taken, start_of};
 
 use std::alloc::{AllocError, Global};
 use std::marker::Model;
+use usb_model::limits::LONGEST_SCRIPT;
 
-/// Packets one behind another in one buffer, with room for `places` packets of `size` bytes, which is taken when it is made.
+/// Packets one behind another in one buffer, with room for `places` packets of `size` bytes.
 #[derive(Drop)]
 pub(crate) struct TakenPackets {
     bytes: Vec<u8>,
     /// Where each packet ends in `bytes`.
     ends: Vec<usize>,
+    /// For how many packets there is room in both.
+    places: usize,
     size: u16,
 }
 
 impl Model for TakenPackets {
-    ghost use Rattle.std.specs.Prelude.{vec_capacity};
+    ghost use Rattle.std.specs.Prelude.{◌≤◌, vec_capacity};
     ghost use Rattle.usb_device.specs.Taken.{Taken, IsTaken, cut_at};
 
     ghost Value = { Taken };
 
-    ghost view = { λ t. record { packets = cut_at 0 t.ends.items t.bytes.items; places = vec_capacity t.ends; size = t.size } };
+    ghost view = { λ t. record { packets = cut_at 0 t.ends.items t.bytes.items; places = t.places; size = t.size } };
 
-    ghost invariant = { λ t. IsTaken t.bytes.items t.ends.items t.size (vec_capacity t.bytes) (vec_capacity t.ends) };
+    ghost invariant = { λ t. IsTaken t.bytes.items t.ends.items t.size (vec_capacity t.bytes) t.places × (t.places ≤ vec_capacity t.ends) };
 }
 
 /// Where the packet of this index begins.
@@ -56,6 +59,16 @@ fn extend_reserved(bytes: &mut Vec<u8>, packet: &[u8])
     let _ = bytes.extend_from_slice(packet);
 }
 
+/// Room for so many items in all. An error where memory is refused.
+fn reserve_to<T>(items: &mut Vec<T>, most: usize) -> Result<(), AllocError>
+    ensures items { items.new.items ≡ items.old.items }
+    ensures len { vec_len items.new ≡ vec_len items.old }
+    ensures room { OnOk result (most ≤ vec_capacity items.new) }
+    ensures stays { vec_capacity items.old ≤ vec_capacity items.new }
+{
+    items.reserve(most.saturating_sub(items.len()))
+}
+
 impl TakenPackets {
     /// No packets, with room for so many packets of so many bytes.
     pub(crate) fn new(alloc: Global, places: usize, size: u16) -> Result<TakenPackets, AllocError>
@@ -65,6 +78,7 @@ impl TakenPackets {
         Ok(TakenPackets {
             bytes: Vec::with_capacity(alloc, places * usize::from(size))?,
             ends: Vec::with_capacity(alloc, places)?,
+            places,
             size,
         })
     }
@@ -77,6 +91,24 @@ impl TakenPackets {
     {
         extend_reserved(&mut self.bytes, packet);
         self.ends.push_reserved(self.bytes.len());
+    }
+
+    /// Room for so many packets at least, and then for twice as many as before. An error where memory is refused: the room stays.
+    pub(crate) fn grow(&mut self, places: usize) -> Result<(), AllocError>
+        requires { places ≤ longest_script }
+        ensures packets { self.new.packets ≡ self.old.packets }
+        ensures size { self.new.size ≡ self.old.size }
+        ensures room { OnOk result (places ≤ self.new.places) }
+        ensures stays { self.old.places ≤ self.new.places }
+    {
+        if places <= self.places {
+            return Ok(());
+        }
+        let most = places.max(self.places.saturating_mul(2).min(LONGEST_SCRIPT));
+        reserve_to(&mut self.bytes, most * usize::from(self.size))?;
+        reserve_to(&mut self.ends, most)?;
+        self.places = most;
+        Ok(())
     }
 
     /// The packet of this index; None past the last.

@@ -16,14 +16,14 @@ pub part-requires-clause-start : goal.part-requires-clause-start
 part-requires-clause-start c =
     let i = c.self.inside in
     let few : c.args.i < length i.ends.items = omega (arith, i.ends.ok.0, c.len.ensures, c.if-i-len.false) in
-    let at = Ascends-at 0 i.ends.items (length i.bytes.items) c.args.i c.self.invariant.ascends few in
+    let at = Ascends-at 0 i.ends.items (length i.bytes.items) c.args.i c.self.invariant.0.ascends few in
     rw (c.start_of.ensures, c.deref-2.ensures.value, c.index.ensures ∙ get_or-within i.ends.items c.args.i c.index.result.now few) at.0
 
 pub part-requires-clause-end : goal.part-requires-clause-end
 part-requires-clause-end c =
     let i = c.self.inside in
     let few : c.args.i < length i.ends.items = omega (arith, i.ends.ok.0, c.len.ensures, c.if-i-len.false) in
-    let at = Ascends-at 0 i.ends.items (length i.bytes.items) c.args.i c.self.invariant.ascends few in
+    let at = Ascends-at 0 i.ends.items (length i.bytes.items) c.args.i c.self.invariant.0.ascends few in
     rw (c.deref.ensures.value, c.index.ensures ∙ get_or-within i.ends.items c.args.i c.index.result.now few) at.1
 
 pub returns : goal.returns
