@@ -82,7 +82,7 @@ unfolding are_scripts_from
 scripts-end config scripts id le = rw (drop_all id scripts le) refl
 
 -- two addresses of one id are of one direction
-same-direction : (a b : ℕ) → endpoint_id a ≡ endpoint_id b → is_in a ≡ is_in b
+pub same-direction : (a b : ℕ) → endpoint_id a ≡ endpoint_id b → is_in a ≡ is_in b
 same-direction a b e = by_tests (is_in a) (is_in b) refl refl where
   by_tests : (p q : Bool) → is_in a ≡ p → is_in b ≡ q → is_in a ≡ is_in b
   by_tests true true p q = p ∙ sym q
@@ -111,7 +111,7 @@ directed config script ep (Some x) is h =
     ap (λ (inward : Bool). list_all (is_of_direction inward) script) (sym (same-direction x.address ep id))
     ∙ all-weaker (is_answer (is_in x.address)) (is_of_direction (is_in x.address)) (λ a both. (and_parts (is_of_direction (is_in x.address) a) (is_short a) both).0) script (answers x script h)
 
-endpoint_id-few : (ep : ℕ) → endpoint_id ep < 32
+pub endpoint_id-few : (ep : ℕ) → endpoint_id ep < 32
 endpoint_id-few ep = grind arith
 
 -- the endpoint of an address is made of its id

@@ -257,7 +257,8 @@ impl TablePipe {
         ensures stays { OnErr result (self.new ≡ self.old) }
     {
         if !matches!(&answer, Response::Ack) {
-            return self.script.push(answer);
+            self.script.push(answer)?;
+            return Ok(());
         }
         self.taken.grow(self.acks + 1)?;
         self.script.push(answer)?;

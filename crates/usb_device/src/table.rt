@@ -1,10 +1,10 @@
 //! A device that answers by a table of scripts.
 
-ghost use Rattle.std.specs.Prelude.{◌≡◌, ◌≤◌, true, IfErr, IfOk, OnOk, drop, length, map, if◌then◌else◌};
+ghost use Rattle.std.specs.Prelude.{◌≡◌, ◌≤◌, true, IfErr, IfOk, OnErr, OnOk, drop, length, map, if◌then◌else◌};
 ghost use Rattle.std.specs.List.{range_with_len};
 ghost use Rattle.std.specs.Vec.Iter.{into_iter_items};
 ghost use Rattle.usb_model.specs.declared.refused.Refused.TheVariants.{InvalidParam, NoMem};
-ghost use Rattle.usb_device.specs.Feeds.{may_be_fed};
+ghost use Rattle.usb_device.specs.Feeds.{may_be_fed, pipe_fed};
 ghost use Rattle.usb_device.specs.Pipe.{pipe_at};
 ghost use Rattle.usb_device.specs.Scripts.{Takes, are_scripts, pipes_of, rooms_of, script_by};
 
@@ -184,15 +184,24 @@ fn may_be_fed(ep: EpAddr, answer: &Response, pipe: &TablePipe) -> bool
     pipe.size() > 0 && is_answer(ep.is_in(), answer) && pipe.script_len() < LONGEST_SCRIPT
 }
 
+/// One more answer at the endpoint of this address.
+fn feed_at(ep: EpAddr, answer: Response, pipe: &mut TablePipe) -> Result<(), Refused>
+    ensures fed { OnOk result (pipe.new ≡ pipe_fed answer pipe.old) }
+    ensures may { OnOk result (may_be_fed ep answer pipe.old ≡ true) }
+    ensures stays { OnErr result (pipe.new ≡ pipe.old) }
+    ensures why { IfErr result (λ why. why ≡ (if may_be_fed ep answer pipe.old then NoMem else InvalidParam)) }
+{
+    if !may_be_fed(ep, &answer, pipe) {
+        return Err(Refused::InvalidParam);
+    }
+    match pipe.feed(answer) {
+        Ok(()) => Ok(()),
+        Err(_) => Err(Refused::NoMem),
+    }
+}
+
 impl Feed for TableDevice {
     fn feed(&mut self, ep: EpAddr, answer: Response) -> Result<(), Refused> {
-        let pipe = &mut self.pipes[usize::from(ep.id())];
-        if !may_be_fed(ep, &answer, pipe) {
-            return Err(Refused::InvalidParam);
-        }
-        match pipe.feed(answer) {
-            Ok(()) => Ok(()),
-            Err(_) => Err(Refused::NoMem),
-        }
+        feed_at(ep, answer, &mut self.pipes[usize::from(ep.id())])
     }
 }

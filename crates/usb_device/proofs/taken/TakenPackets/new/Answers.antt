@@ -4,4 +4,4 @@ use Rattle.usb_device.proofs.taken.TakenPackets.new.Goals as goal
 
 pub returns : goal.returns
 unfolding cut_at
-returns c = rw (c.in_ok-with_capacity.ensures.items, c.in_ok-with_capacity-2.ensures.items, c.in_ok-with_capacity-2.ensures.exact) refl
+returns c = rw (c.in_ok-with_capacity.ensures.items, c.in_ok-with_capacity-2.ensures.items) refl

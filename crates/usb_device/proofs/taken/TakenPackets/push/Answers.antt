@@ -32,5 +32,5 @@ invariant_of-self c =
 pub returns : goal.returns
 returns c =
     let i = c.self.inside in
-    rw (c.push_reserved.ensures.items, c.push_reserved.ensures.capacity, c.len.ensures, c.extend_reserved.ensures.len, c.extend_reserved.ensures.items, i.bytes.ok.0, cut_at-more 0 i.ends.items i.bytes.items c.args.packet.now c.self.invariant.0.ascends)
+    rw (c.push_reserved.ensures.items, c.len.ensures, c.extend_reserved.ensures.len, c.extend_reserved.ensures.items, i.bytes.ok.0, cut_at-more 0 i.ends.items i.bytes.items c.args.packet.now c.self.invariant.0.ascends)
     (ap (λ (t : Taken). record t { packets = t.packets ++ c.args.packet.now ∷ [] }) c.self.view_is)
