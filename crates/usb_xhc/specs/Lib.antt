@@ -9,3 +9,4 @@ pub mod Slots
 pub mod Made
 pub mod Controller
 pub mod Skims
+pub mod Feeds

@@ -1,12 +1,14 @@
 //! The controller.
 
-ghost use Rattle.std.specs.Prelude.{◌≡◌, ◌+◌, ◌-◌, ◌≤◌, ◌<◌, ◌∷◌, ◌++◌, [], None, Some, length, suc, IfErr, IfOk, IfSome, OnErr, OnOk, ℕ, option_map, slice_get, true, drop, slice_set};
+ghost use Rattle.std.specs.Prelude.{◌≡◌, ◌+◌, ◌-◌, ◌≤◌, ◌<◌, ◌∷◌, ◌++◌, [], None, Some, length, suc, IfErr, IfOk, IfSome, OnErr, OnOk, ℕ, option_map, slice_get, true, drop, slice_set, if◌then◌else◌};
 ghost use Rattle.std.specs.Option.{option_copied, option_map_or};
 ghost use Rattle.usb_model.specs.Setup.{endpoint_id};
 ghost use Rattle.usb_segment.specs.Places.{index_of};
 ghost use Rattle.usb_ering.specs.Ring.{empty};
 ghost use Rattle.usb_tring.specs.Line.{capacity, normals, used};
+ghost use Rattle.usb_model.specs.declared.refused.Refused.TheVariants.{InvalidParam, NoMem};
 ghost use Rattle.usb_device.specs.Pipe.{cleared, pipe_at};
+ghost use Rattle.usb_xhc.specs.Feeds.{controller_fed, device_may_be_fed};
 ghost use Rattle.usb_xhc.specs.Host.{rung, with_ring, with_pushed, with_blank, without_first};
 ghost use Rattle.usb_xhc.specs.Made.{slot_for};
 ghost use Rattle.usb_xhc.specs.Posts.{posted_one};
@@ -24,9 +26,9 @@ use crate::{ENDPOINT_NOT_ENABLED_ERROR, Packet, TRB_ERROR, post};
 use std::alloc::{AllocError, Global};
 use std::marker::Model;
 use usb_descriptors::Config;
-use usb_device::Device;
+use usb_device::{Device, Feed};
 use usb_ering::{CommandRing, EventRing, Ring};
-use usb_model::{Buffer, DeviceNo, EpAddr};
+use usb_model::{Buffer, DeviceNo, EpAddr, Refused, Response};
 use usb_trb::{EndpointId, Normal, Slot, TrbKind};
 
 /// How many devices there are at most.
@@ -330,6 +332,21 @@ impl<D: Device> Controller<D> {
         ensures { result.now ≡ self.now.events }
     {
         &self.events
+    }
+}
+
+impl<D: Feed> Controller<D> {
+    /// One more answer behind the script of a device's endpoint (`Feed::feed`). InvalidParam where there is no such device, too.
+    pub fn feed(&mut self, dev: DeviceNo, ep: EpAddr, answer: Response) -> Result<(), Refused>
+        ensures fed { OnOk result (self.new ≡ controller_fed dev ep answer self.old) }
+        ensures may { OnOk result (device_may_be_fed dev ep answer self.old ≡ true) }
+        ensures stays { OnErr result (self.new ≡ self.old) }
+        ensures why { IfErr result (λ why. why ≡ (if device_may_be_fed dev ep answer self.old then NoMem else InvalidParam)) }
+    {
+        match self.slots.get_mut(usize::from(dev.number())) {
+            Some(slot) => slot.feed(ep, answer),
+            None => Err(Refused::InvalidParam),
+        }
     }
 }
 

@@ -1,8 +1,11 @@
 //! A device's slot.
 
-ghost use Rattle.std.specs.Prelude.{◌≡◌, ◌+◌, ◌-◌, ◌≤◌, ◌<◌, None, length, IfSome, option_map, slice_set, true, slice_get, IfOk, IfErr};
+ghost use Rattle.std.specs.Prelude.{◌≡◌, ◌+◌, ◌-◌, ◌≤◌, ◌<◌, None, length, IfSome, option_map, slice_set, true, slice_get, IfOk, IfErr, OnErr, OnOk, if◌then◌else◌};
 ghost use Rattle.usb_model.specs.Setup.{endpoint_id};
+ghost use Rattle.usb_model.specs.declared.refused.Refused.TheVariants.{InvalidParam, NoMem};
+ghost use Rattle.usb_device.specs.Feeds.{may_be_fed};
 ghost use Rattle.usb_device.specs.Pipe.{IsLawful, pipe_at, cleared, is_ready};
+ghost use Rattle.usb_xhc.specs.Feeds.{slot_fed};
 ghost use Rattle.usb_xhc.specs.Ahead.{room};
 ghost use Rattle.usb_xhc.specs.Context.{trbs};
 ghost use Rattle.usb_xhc.specs.Skims.{AreWhole, read_skimmed, slot_skimmed};
@@ -21,9 +24,9 @@ use crate::{ENDPOINT_NOT_ENABLED_ERROR, EndpointContext, Packet};
 use std::alloc::Global;
 use std::marker::Model;
 use usb_descriptors::Config;
-use usb_device::{Device, Scripted};
+use usb_device::{Device, Feed, Scripted};
 use usb_ering::EventRing;
-use usb_model::{Buffer, EpAddr};
+use usb_model::{Buffer, EpAddr, Refused, Response};
 use usb_trb::{EndpointId, Normal, Slot, TrbKind};
 
 /// A device, and its endpoints by their ids, 0 to 31 (Device Context; xHCI 1.2, 6.2.1); a bulk or interrupt endpoint of the
@@ -309,5 +312,17 @@ impl<D: Scripted> DeviceSlot<D> {
         ensures { result ≡ (pipe_at self.now.pipes ep).halted }
     {
         self.device.is_halted(ep)
+    }
+}
+
+impl<D: Feed> DeviceSlot<D> {
+    /// One more answer behind the script of an endpoint (`Feed::feed`).
+    pub fn feed(&mut self, ep: EpAddr, answer: Response) -> Result<(), Refused>
+        ensures fed { OnOk result (self.new ≡ slot_fed ep answer self.old) }
+        ensures may { OnOk result (may_be_fed ep answer (pipe_at self.old.pipes ep) ≡ true) }
+        ensures stays { OnErr result (self.new ≡ self.old) }
+        ensures why { IfErr result (λ why. why ≡ (if may_be_fed ep answer (pipe_at self.old.pipes ep) then NoMem else InvalidParam)) }
+    {
+        self.device.feed(ep, answer)
     }
 }
