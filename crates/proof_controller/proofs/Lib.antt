@@ -26,3 +26,4 @@ pub mod Unplugs
 pub mod Found
 pub mod Fine
 pub mod Made
+pub mod Feeds

@@ -5,3 +5,4 @@ pub mod EndpointLaws
 pub mod Holds
 pub mod Made
 pub mod Laws
+pub mod Feeds

@@ -1,5 +1,6 @@
 //! What is proved of the definitions in specs/. Each is the contract of a function with an empty body.
 
+ghost use Rattle.proof_controller.specs.Feeds.{FeedsCore};
 ghost use Rattle.proof_controller.specs.Laws.{AddsSlot, HostsAll, IsFineRead, IsOfHeld, IsLawfulByScripts, MakesCore, PostsCore, RunsCore, ServesCore, TakesCore, UnplugsCore};
 
 /// The slot of a device as it is added is one of its configuration.
@@ -55,4 +56,9 @@ pub fn hosts()
 /// A device that is gone is gone for both.
 pub fn unplugs()
     ensures { UnplugsCore }
+{}
+
+/// A controller that is fed holds the core where more is left.
+pub fn feeds()
+    ensures { FeedsCore }
 {}

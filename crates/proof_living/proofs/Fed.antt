@@ -17,7 +17,7 @@ none_got true = refl
 none_got false = refl
 
 -- what stands at an index after the change
-got : {A : Type 0} (f : A → A) (i j : ℕ) (xs : List A) → slice_get (changed_at f i xs) j ≡ (if i == j then option_map f (slice_get xs j) else slice_get xs j)
+pub got : {A : Type 0} (f : A → A) (i j : ℕ) (xs : List A) → slice_get (changed_at f i xs) j ≡ (if i == j then option_map f (slice_get xs j) else slice_get xs j)
 got f i j [] = none_got (i == j)
 got f zero zero (x ∷ xs) = refl
 got f zero (suc j) (x ∷ xs) = rw (eqb-zero-suc j) refl

@@ -1,10 +1,10 @@
-mod Serves
-mod Ends
-mod Effects
-mod Worlds
-mod Runs
-mod Feeding
-mod Wanting
-mod FedCore
-mod Fed
-mod NoWants
+pub mod Serves
+pub mod Ends
+pub mod Effects
+pub mod Worlds
+pub mod Runs
+pub mod Feeding
+pub mod Wanting
+pub mod FedCore
+pub mod Fed
+pub mod NoWants

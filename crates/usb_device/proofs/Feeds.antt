@@ -16,7 +16,7 @@ use Rattle.usb_device.specs.Scripts.{is_answer, is_short}
 use Rattle.usb_device.proofs.Fits.{endpoint_id-few, same-direction}
 
 -- what may be fed is of the endpoint's direction
-fits : (ep : ℕ) (answer : Response) (p : Pipe) → may_be_fed ep answer p ≡ true → is_of_direction (is_in ep) answer ≡ true
+pub fits : (ep : ℕ) (answer : Response) (p : Pipe) → may_be_fed ep answer p ≡ true → is_of_direction (is_in ep) answer ≡ true
 fits ep answer p may =
     let rest = (and_parts (nat_lt 0 p.size) (is_answer (is_in ep) answer && nat_lt (length p.script) longest_script) may).1 in
     let is = (and_parts (is_answer (is_in ep) answer) (nat_lt (length p.script) longest_script) rest).0 in
@@ -30,11 +30,11 @@ fits_all ep answer p may all =
     ∙ and_from (list_all (is_of_direction (is_in ep)) p.script) (is_of_direction (is_in ep) answer && true) all (and_from (is_of_direction (is_in ep) answer) true (fits ep answer p may) refl)
 
 -- the endpoint of an address behind a change at an id
-at_set : (pipes : List Pipe) (id e : ℕ) (p : Pipe) → endpoint_id e ≡ id → id < length pipes → pipe_at (slice_set pipes id p) e ≡ p
+pub at_set : (pipes : List Pipe) (id e : ℕ) (p : Pipe) → endpoint_id e ≡ id → id < length pipes → pipe_at (slice_set pipes id p) e ≡ p
 at_set pipes id e p is few =
     unwrap_or-slice_get (slice_set pipes id p) (endpoint_id e) no_pipe ∙ get_or-set_at pipes id (endpoint_id e) p no_pipe is few
 
-at_other : (pipes : List Pipe) (id e : ℕ) (p : Pipe) → (endpoint_id e ≡ id → ⊥) → pipe_at (slice_set pipes id p) e ≡ pipe_at pipes e
+pub at_other : (pipes : List Pipe) (id e : ℕ) (p : Pipe) → (endpoint_id e ≡ id → ⊥) → pipe_at (slice_set pipes id p) e ≡ pipe_at pipes e
 at_other pipes id e p other =
     unwrap_or-slice_get (slice_set pipes id p) (endpoint_id e) no_pipe ∙ get_or-set_other pipes id (endpoint_id e) p no_pipe other ∙ sym (unwrap_or-slice_get pipes (endpoint_id e) no_pipe)
 
