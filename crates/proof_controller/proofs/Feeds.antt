@@ -89,7 +89,7 @@ scripts_fed a i [] = refl
 scripts_fed a zero (p ∷ ps) = refl
 scripts_fed a (suc i) (p ∷ ps) = ap (λ xs. p.script ∷ xs) (scripts_fed a i ps)
 
-length_changed : {A : Type 0} (f : A → A) (i : ℕ) (xs : List A) → length (changed_at f i xs) ≡ length xs
+pub length_changed : {A : Type 0} (f : A → A) (i : ℕ) (xs : List A) → length (changed_at f i xs) ≡ length xs
 length_changed f i [] = refl
 length_changed f zero (x ∷ xs) = refl
 length_changed f (suc i) (x ∷ xs) = ap suc (length_changed f i xs)

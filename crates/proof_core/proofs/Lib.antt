@@ -63,3 +63,4 @@ pub mod Payloads
 pub mod FirstEvents
 pub mod Inventory
 pub mod HeldEnds
+pub mod Feeds

@@ -10,3 +10,4 @@ pub mod Handles
 pub mod Calls
 pub mod Submissions
 pub mod Renewals
+pub mod Feeds

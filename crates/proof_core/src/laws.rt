@@ -1,5 +1,6 @@
 //! What is proved of the definitions in specs/. Each is the contract of a function with an empty body.
 
+ghost use Rattle.proof_core.specs.Feeds.{FeedsFeedable, FeedsOnlyFeedable, FeedsWorlds};
 ghost use Rattle.proof_core.specs.Laws.{AsksTransfers, FinishesTransfers, JoinsSteps, LeavesBlanks, MovesPackets, OrdersErrands, PausesTransfers, ResumesEndpoints, RunsWorlds, ServesSafely, SkimsPackets, SkimsSafely, StartsTransfers, TurnsWorlds, WithdrawsTransfers};
 
 /// An errand that is ordered is ordered in the core.
@@ -75,4 +76,19 @@ pub fn can_skim<P>()
 /// Steps that are the core's are the world's, one behind another, and leave parts that show a world.
 pub fn runs<P>()
     ensures { RunsWorlds P }
+{}
+
+/// Parts that are fed show the world where more is left.
+pub fn feeds<P>()
+    ensures { FeedsWorlds P }
+{}
+
+/// An endpoint where transfers can go may have each answer of its direction that isn't too long, until its script is full.
+pub fn feeds_feedable<P>()
+    ensures { FeedsFeedable P }
+{}
+
+/// No endpoint may have another one.
+pub fn feeds_only_feedable<P>()
+    ensures { FeedsOnlyFeedable P }
 {}
