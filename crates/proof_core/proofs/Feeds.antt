@@ -154,13 +154,16 @@ script_none setup d ep none = ap (λ (o : Option DeviceSetup). unwrap_or (option
 pub only_feedable : {P : Type 0} → FeedsOnlyFeedable P
 only_feedable s setup w dev ep a shows may = record { answer = parts.0; room = by_device (slice_get setup dev) refl }
   where
+    there : (v : DeviceSlot) × (slice_get s.controller.slots dev ≡ Some v) × (may_be_fed ep a (pipe_at v.pipes ep) ≡ true)
     there = may_there s.controller dev ep a may
 
     p : Pipe
     p = pipe_at there.0.pipes ep
 
+    rest : (is_answer (is_in ep) a && nat_lt (length p.script) longest_script) ≡ true
     rest = (and_parts (nat_lt 0 p.size) (is_answer (is_in ep) a && nat_lt (length p.script) longest_script) there.2).1
 
+    parts : (is_answer (is_in ep) a ≡ true) × (nat_lt (length p.script) longest_script ≡ true)
     parts = and_parts (is_answer (is_in ep) a) (nat_lt (length p.script) longest_script) rest
 
     few : length p.script < longest_script
@@ -179,6 +182,7 @@ feedable s setup w dev ep i a shows at supported is =
     c : Core
     c = shows.0
 
+    there : (v : DeviceSlot) × (slice_get s.controller.slots dev ≡ Some v)
     there = slot_there setup s.controller c.gone c.endpoints c.orders c.events c.posted dev ep i shows.1.held at
 
     old : DeviceSlot
