@@ -9,3 +9,4 @@ mod Unsized
 mod Rises
 pub mod CallsBack
 mod PlainSteps
+pub mod FedCores

@@ -103,6 +103,7 @@
 
 mod bursts;
 mod calls;
+mod feeds;
 mod inventory;
 pub mod laws;
 mod reads;

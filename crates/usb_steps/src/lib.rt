@@ -84,6 +84,7 @@ mod drain;
 mod ends;
 mod errands;
 mod events;
+mod feeds;
 mod halts;
 mod handles;
 mod inventory;
