@@ -4,11 +4,11 @@
     tools/replay.py USBTRACE TRACE..
     tirnouch-replay TRACE..
 
-The second form is that of an installation, where usbtrace stands beside it. A TRACE is the file that TIRNOUCH_TRACE or
-`tirnouch-run --trace` names: a scenario (FORMATS.md of the documentation), in which a comment behind a step's line has what the core
-said of it in the program's run. USBTRACE is the program, bin/usbtrace. Compared are refusals, numbers of transfers, and callbacks
-with their bytes. A trace that agrees has one line; of one that differs the differences are told, at most 5 of each kind, with the
-number of the step's line, and the status is 1.
+A TRACE is the file that TIRNOUCH_TRACE or `tirnouch-run --trace` names: a scenario (FORMATS.md of the documentation), in which a
+comment behind a step's line has what the core said of it in the program's run. USBTRACE is the program, bin/usbtrace; installed as
+tirnouch-replay, this takes the one that stands beside it. Compared are refusals, numbers of transfers, and callbacks with their
+bytes. A trace that agrees has one line; of one that differs the differences are told, at most 5 of each kind, with the number of the
+step's line, and the status is 1.
 
     # answer CODE                        the step was refused, and this is libusb's number of it
     # done                               it was done

@@ -1,6 +1,5 @@
 """What stands in bin/, and what is known of it: its version and date, its sources, the kit, and how each binary was built."""
 import datetime
-import functools
 import os
 import pathlib
 import platform
@@ -15,6 +14,7 @@ BIN = ROOT / "bin"
 # What a library over the core says of it (c/description.c).
 CORE = re.compile(rb"tirnouch, (\w+) core\0")
 UNITS = re.compile(r"version = \{ (\d+), (\d+), (\d+),")
+OLD = "built of other sources than these"
 HEADING = re.compile(r"^## (\d{4})-(\d\d)-(\d\d), (.+)$", re.M)
 
 
@@ -111,57 +111,53 @@ def kit() -> str:
 
 
 class Build:
-    """The binaries of a folder."""
+    """The binaries of a folder, and how each was built: `labels` has that in words, by name."""
 
     def __init__(self, folder: pathlib.Path = BIN) -> None:
         self.folder = folder
         missing = [it for it in BINARIES if not (folder / it.name).is_file()]
         if missing:
-            raise Fault(*(f"there is no {folder / it.name}: build it by {it.targets}" for it in missing), "nothing was installed")
+            raise Fault(*(f"there is no {folder / it.name}: build it by {it.targets}" for it in missing))
+        states = {it: self.state(it) for it in sorted({it.crate for it in BINARIES})}
+        self.labels = {it.name: self.label(it, states[it.crate]) for it in BINARIES}
 
     def data(self, binary: Binary) -> bytes:
         return (self.folder / binary.name).read_bytes()
 
-    @functools.lru_cache(maxsize=None)
     def state(self, crate: str) -> str:
         """How the crate's build in bin/ was made, if it is that of today's sources: a word of tools/program.py."""
         if self.folder != BIN:
             return "none"
         return answer_of(sys.executable, str(ROOT / "tools" / "program.py"), "state", crate) or "none"
 
-    @functools.lru_cache(maxsize=None)
-    def label(self, binary: Binary) -> str:
-        """How a binary was built, in words. That a library has another core than the crate's build, or is older than a source of it,
-        is told."""
-        state = self.state(binary.crate)
+    def label(self, binary: Binary, state: str) -> str:
+        """A library says by itself which core it has; that it isn't that of the sources is told too."""
         if binary.crate == "usbtrace":
-            return "built of other sources than these" if state == "none" else state
+            return OLD if state == "none" else state
         found = CORE.search(self.data(binary))
-        word = f"{found.group(1).decode() if found else 'unknown'} core"
-        return word if word == f"{state} core" and not self.is_old(binary) else f"{word}, built of other sources than these"
-
-    def is_old(self, binary: Binary) -> bool:
-        """Whether a source in C is newer."""
-        built = (self.folder / binary.name).stat().st_mtime
-        used = [*(ROOT / "c").glob("*.c"), *(ROOT / "c" / "include").glob("*.h")]
-        used += (ROOT / "c" / "usb").iterdir() if binary.name.startswith("libusb") else []
-        return any(it.stat().st_mtime > built for it in used)
+        core = f"{found.group(1).decode()} core" if found else "a core that isn't known"
+        return core if core == f"{state} core" else f"{core}, {OLD}"
 
     def warn_of_old(self) -> None:
+        """Says which binaries aren't of today's crates, and whether a source in C is newer than the library."""
         for it in BINARIES:
-            if "other sources" in self.label(it):
-                warn(f"bin/{it.name} was built of other sources than these; {it.targets}")
+            if OLD in self.labels[it.name]:
+                warn(f"bin/{it.name} was {OLD}: build it anew by {it.targets}")
+        used = [*(ROOT / "c").glob("*.c"), *(ROOT / "c" / "include").glob("*.h"), *(ROOT / "c" / "usb").iterdir()]
+        newest = max(used, key=lambda it: it.stat().st_mtime)
+        if newest.stat().st_mtime > (self.folder / BINARIES[0].name).stat().st_mtime:
+            warn(f"bin/{BINARIES[0].name} is older than {newest.relative_to(ROOT)}: if that changed, build it anew by {LIBRARY}")
 
     def text(self) -> str:
         """The text of the file BUILD."""
         width = max(len(it.place) for it in BINARIES) + 2
-        lines = [f"{it.place:<{width}}{self.label(it)}" for it in BINARIES]
+        lines = "\n".join(f"{it.place:<{width}}{self.labels[it.name]}" for it in BINARIES)
         return f"""Tirnouch {version()} for {machine()}
 
 sources: {sources()}
 kit: {kit()}
 
-{chr(10).join(lines)}
+{lines}
 
 A `proved` binary was built once the prover had accepted the proof of each function of its crate (tirnouch_c, usbtrace) and of the
 crates below it. An `unproved` one is built of the same code without a look at the proofs; it has checks instead, and ends where one

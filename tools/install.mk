@@ -1,0 +1,20 @@
+# `make install` puts the library and its programs below PREFIX, `make uninstall` removes them; DESTDIR is put before PREFIX. They take what
+# stands in bin/, and say what builds what is missing. `make dist` makes the archive, `make deb` the package for Debian, both in dist/.
+# `make install-test` tries all of that. docs/INSTALL.md says what goes where.
+PREFIX = /usr/local
+DESTDIR =
+
+.PHONY: install uninstall dist deb install-test
+install uninstall: export TO_PREFIX = $(PREFIX)
+install uninstall: export TO_DESTDIR = $(DESTDIR)
+install uninstall:
+	@python3 tools/install $@ --prefix "$$TO_PREFIX" --destdir "$$TO_DESTDIR"
+
+dist:
+	@python3 tools/install archive
+
+deb:
+	@python3 tools/install package
+
+install-test:
+	@tools/install_test.py
