@@ -46,11 +46,7 @@ License: Expat
 License: Expat
 {text}
 """
-OVERRIDES = """# Only --seeds, --limit, --version and tirnouch-replay need Python: it is recommended, and tirnouch-run says so where it is missing.
-tirnouch: python3-script-but-no-python3-dep *
-# There is no such bug: the package is made by the project itself, and isn't in Debian.
-tirnouch: initial-upload-closes-no-bugs *
-# The page says how the installed library is used.
+OVERRIDES = """# The page says how the installed library is used.
 tirnouch: package-contains-upstream-installation-documentation *
 # The .pc files name no system folder: all paths in them are relative to their own.
 tirnouch: pkg-config-unavailable-for-cross-compilation *
@@ -167,7 +163,7 @@ def package(tree: Tree, build: Build, out: pathlib.Path) -> pathlib.Path:
         set_times(folder)
         made = pathlib.Path(name) / f"{NAME}_{version()}_{architecture}.deb"
         env = {**os.environ, "SOURCE_DATE_EPOCH": str(moment())}
-        ran = subprocess.run(["dpkg-deb", "--build", "--root-owner-group", folder, made], env=env, capture_output=True, text=True,
+        ran = subprocess.run(["dpkg-deb", "--build", "--root-owner-group", "-Zgzip", folder, made], env=env, capture_output=True, text=True,
                              check=False)
         if ran.returncode:
             raise Fault(f"dpkg-deb refused the package: {ran.stderr.strip()}")

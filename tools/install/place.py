@@ -34,7 +34,7 @@ def read_list(root: pathlib.Path) -> Installed:
     found = Installed(set(), set())
     try:
         lines = (root / LIST).read_text().splitlines()
-    except FileNotFoundError:
+    except (FileNotFoundError, NotADirectoryError):
         return found
     for line in lines:
         kind, _, name = line.partition(" ")
