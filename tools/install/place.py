@@ -89,7 +89,8 @@ def install(tree: Tree, root: pathlib.Path) -> Installed:
     before = read_list(root)
     foreign = [name for name in tree if name not in before.files and os.path.lexists(root / name)]
     if foreign:
-        raise Fault(*(f"{root / name} is there, and no `make install` put it there: move it away" for name in foreign))
+        more = f", and so are {len(foreign) - 1} more" if foreign[1:] else ""
+        raise Fault(f"{root / foreign[0]} is there{more}, and no `make install` put it there: choose another PREFIX, or move it away")
     after = Installed({*tree, LIST}, before.folders | missing_folders(root, {*tree, LIST}))
     whole = {**tree, LIST: File(list_text(after))}
     made: List[pathlib.Path] = []
