@@ -1,5 +1,5 @@
 #!/usr/bin/env python3
-"""Tries make install, uninstall, dist and deb: tools/install_test.py.
+"""Tries make install, uninstall, dist and deb: tools/install_test.py [NAME ..], where a NAME is that of a trial below.
 
 It installs what stands in bin/ into folders of its own, and uses it there without the repository: programs are built by pkg-config, CMake
 and meson with an environment that is cleared, and run by the installed tirnouch-run, plainly, statically, from an archive, from a
@@ -22,9 +22,10 @@ EXPECTED = (EXAMPLE / "expected").read_text()
 VERSION = (ROOT / "VERSION").read_text().strip()
 SECONDS = 300
 Word = Union[str, pathlib.Path]
-Ran = "subprocess.CompletedProcess[str]"
+Ran = subprocess.CompletedProcess[str]
 # What docs/INSTALL.md promises, below the prefix.
-PROMISED = """bin/tirnouch-run bin/tirnouch-replay bin/usbtrace lib/tirnouch/libusb-1.0.so.0 lib/tirnouch/libusb-1.0.so lib/tirnouch/libusb-1.0.a
+PROMISED = """bin/tirnouch-run bin/tirnouch-replay bin/usbtrace
+    lib/tirnouch/libusb-1.0.so.0 lib/tirnouch/libusb-1.0.so lib/tirnouch/libusb-1.0.a
     lib/tirnouch/libtirnouch_core.a lib/pkgconfig/tirnouch-libusb.pc lib/pkgconfig/tirnouch-core.pc include/tirnouch/libusb-1.0/libusb.h
     include/tirnouch/tirnouch/tirnouch.h include/tirnouch/tirnouch/tirnouch_core.h share/man/man1/usbtrace.1
     share/man/man1/tirnouch-run.1 share/man/man1/tirnouch-replay.1 share/bash-completion/completions/usbtrace
@@ -100,8 +101,8 @@ class Trial:
                           PKG_CONFIG_PATH=str(prefix / "lib" / "pkgconfig"))
         self.expect(asked, 0)
         copied = pathlib.Path(shutil.copy(source, self.folder / f"{program}.c"))
-        words = asked.stdout.replace("\\ ", "\0").split()
-        self.expect(self.here("cc", "-Wall", "-Werror", copied, *(it.replace("\0", " ") for it in words), "-pthread", *more, "-o", program), 0)
+        words = [it.replace("\0", " ") for it in asked.stdout.replace("\\ ", "\0").split()]
+        self.expect(self.here("cc", "-Wall", "-Werror", copied, *words, "-pthread", *more, "-o", program), 0)
         return self.folder / program
 
     def drive(self, prefix: pathlib.Path, driver: pathlib.Path) -> None:
@@ -266,7 +267,8 @@ def pages_fit(trial: Trial) -> None:
             trial.check("://" in target or (folder / target).exists(), f"{page.name} has a link to {target}")
         for line in text.splitlines():
             is_shown = line.startswith("    ") and not re.match(r"\s+(\$ )?make ", line)
-            trial.check(not (is_shown and re.search(r"\b(tools/tirnouch-run|tools/replay.py|bin/usbtrace)\b", line)), f"{page.name}: {line}")
+            found = re.search(r"\b(tools/tirnouch-run|tools/replay.py|bin/usbtrace)\b", line)
+            trial.check(not (is_shown and found), f"{page.name} has the repository's names: {line}")
 
 
 def man_pages_are_in_order(trial: Trial) -> None:
@@ -343,7 +345,7 @@ def archives_are_whole(trial: Trial) -> None:
         trial.check(len({(it.uid, it.gid, it.mtime) for it in tar}) == 1, "owners and times differ")
         tar.extractall(at)
     root = at / made[0].name.removesuffix(".tar.gz")
-    summed = dict(reversed(line.split("  ")) for line in (root / "SHA256SUMS").read_text().splitlines())
+    summed = {line[66:]: line[:64] for line in (root / "SHA256SUMS").read_text().splitlines()}
     true = {it: hashlib.sha256((root / it).read_bytes()).hexdigest() for it in files_of(root) if not (root / it).is_symlink()}
     true.pop("SHA256SUMS")
     trial.check(summed == true, "the sums aren't true")
@@ -371,8 +373,9 @@ def packages_are_in_order(trial: Trial) -> None:
     # Those of libusb-1.0-0 and libusb-1.0-0-dev
     theirs = [it for it in names if re.search(r"linux-gnu/|usr/include/libusb|usr/lib/libusb|doc/libusb|pkgconfig/libusb", it)]
     trial.check(not theirs, f"it has files of libusb's packages: {theirs}")
-    trial.check({"./usr/share/doc/tirnouch/copyright", "./usr/share/doc/tirnouch/changelog.gz", "./usr/share/man/man1/usbtrace.1.gz"} <= set(names),
-                "it lacks what Debian's policy asks for (12.1, 12.5, 12.7)")
+    # Debian's policy, 12.1, 12.5 and 12.7
+    asked = {f"./usr/share/{it}" for it in ("man/man1/usbtrace.1.gz", "doc/tirnouch/copyright", "doc/tirnouch/changelog.gz")}
+    trial.check(asked <= set(names), f"it lacks {asked - set(names)}")
     trial.expect(trial.here("dpkg-deb", "--extract", made, "unpacked"), 0)
     trial.drive(trial.folder / "unpacked" / "usr", trial.build(EXAMPLE / "driver.c", "driver", prefix=trial.folder / "unpacked" / "usr"))
     if trial.has("lintian"):
@@ -400,13 +403,14 @@ def it_runs_alone(trial: Trial) -> None:
         put_program(root, name)
     shutil.copy(trial.build(EXAMPLE / "driver.c", "driver", prefix=trial.prefix), root)
     shutil.copy(EXAMPLE / "devices.txt", root)
-    inside = ["unshare", "-r", shutil.which("chroot") or "/usr/sbin/chroot", root]
+    inside: List[Word] = ["unshare", "-r", shutil.which("chroot") or "/usr/sbin/chroot", root]
     run = "/usr/local/bin/tirnouch-run"
     ran = trial.here(*inside, run, "/devices.txt", "--", "/driver")
     trial.check(ran.stdout == EXPECTED, f"tirnouch-run: {ran.stdout!r} {ran.stderr!r}")
     ran = trial.here(*inside, "/driver", TIRNOUCH_DEVICES="/devices.txt", LD_LIBRARY_PATH="/usr/local/lib/tirnouch")
     trial.check(ran.stdout == EXPECTED, f"plainly: {ran.stdout!r} {ran.stderr!r}")
-    trial.expect(trial.here(*inside, run, "/devices.txt", "--seeds", "1-2", "--", "/driver"), 127, "there is no python3, which --seeds needs")
+    ran = trial.here(*inside, run, "/devices.txt", "--seeds", "1-2", "--", "/driver")
+    trial.expect(ran, 127, "there is no python3, which --seeds needs")
     trial.expect(trial.here(*inside, run, "--help"), 0, "/usr/local/share/doc/tirnouch/C.md")
 
 
@@ -437,10 +441,15 @@ def attempt(trial_of: Callable[[Trial], None], shared: pathlib.Path) -> Dict[str
         except (subprocess.TimeoutExpired, OSError, ValueError, LookupError) as error:
             trial.faults.append(f"{type(error).__name__}: {error}")
     name = trial_of.__name__.replace("_", " ")
-    return {"faults": [f"{name}: {it}" for it in trial.faults], "skipped": [f"{name}: skipped: {it}" for it in dict.fromkeys(trial.skipped)]}
+    skipped = [f"{name}: skipped: {it}" for it in dict.fromkeys(trial.skipped)]
+    return {"faults": [f"{name}: {it}" for it in trial.faults], "skipped": skipped}
 
 
-def main() -> int:
+def main(names: Sequence[str]) -> int:
+    strange = set(names) - {it.__name__ for it in TRIALS}
+    if strange:
+        print(f"there is no trial {strange.pop()}; there are {', '.join(it.__name__ for it in TRIALS)}", file=sys.stderr)
+        return 2
     with tempfile.TemporaryDirectory(prefix="tirnouch-install-test-") as folder:
         shared = pathlib.Path(folder).resolve()
         made = subprocess.run([sys.executable, ROOT / "tools" / "install", "install", "--prefix", shared / "prefix"], capture_output=True,
@@ -449,7 +458,7 @@ def main() -> int:
             print(made.stderr, end="")
             return 1
         with ThreadPoolExecutor(4) as pool:
-            found = list(pool.map(lambda it: attempt(it, shared), [it for it in TRIALS if not sys.argv[1:] or it.__name__ in sys.argv[1:]]))
+            found = list(pool.map(lambda it: attempt(it, shared), [it for it in TRIALS if not names or it.__name__ in names]))
         found.append(attempt(uninstalled_all_is_gone, shared))
     for it in found:
         print("".join(f"{line}\n" for line in [*it["faults"], *it["skipped"]]), end="")
@@ -459,4 +468,4 @@ def main() -> int:
 
 
 if __name__ == "__main__":
-    sys.exit(main())
+    sys.exit(main(sys.argv[1:]))

@@ -41,9 +41,8 @@ def entries(tree: Tree) -> Iterator[tarfile.TarInfo]:
 
 def archive(tree: Tree) -> bytes:
     """The archive's bytes."""
-    whole, packed = with_sums(tree), io.BytesIO()
-    with gzip.GzipFile(filename="", mode="wb", compresslevel=6, fileobj=packed, mtime=moment()) as out:
-        with tarfile.open(fileobj=out, mode="w", format=tarfile.USTAR_FORMAT) as tar:
-            for it in entries(whole):
-                tar.addfile(it, io.BytesIO(whole[it.name[len(name_of()) + 1:]].data) if it.isreg() else None)
-    return packed.getvalue()
+    whole, unpacked = with_sums(tree), io.BytesIO()
+    with tarfile.open(fileobj=unpacked, mode="w", format=tarfile.USTAR_FORMAT) as tar:
+        for it in entries(whole):
+            tar.addfile(it, io.BytesIO(whole[it.name[len(name_of()) + 1:]].data) if it.isreg() else None)
+    return gzip.compress(unpacked.getvalue(), 6, mtime=moment())

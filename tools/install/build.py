@@ -100,7 +100,7 @@ def sources() -> str:
     """The commit, and whether files that are kept in git differ from it."""
     commit = answer_of("git", "rev-parse", "HEAD")
     if commit is None:
-        return "not a clone of the repository"
+        return "not known: git tells no commit here"
     return f"commit {commit}{', and changes' if answer_of('git', 'diff', '--quiet', 'HEAD') is None else ''}"
 
 
@@ -128,7 +128,7 @@ class Build:
         """How the crate's build in bin/ was made, if it is that of today's sources: a word of tools/program.py."""
         if self.folder != BIN:
             return "none"
-        return answer_of(sys.executable, str(ROOT / "tools" / "program.py"), "state", crate) or "none"
+        return answer_of(sys.executable, "-B", str(ROOT / "tools" / "program.py"), "state", crate) or "none"
 
     def label(self, binary: Binary, state: str) -> str:
         """A library says by itself which core it has; that it isn't that of the sources is told too."""
@@ -155,7 +155,7 @@ class Build:
         return f"""Tirnouch {version()} for {machine()}
 
 sources: {sources()}
-kit: {kit()}
+kit, where this was made: {kit()}
 
 {lines}
 

@@ -14,7 +14,8 @@ FILES = {
 # What the rows of a help are, where they aren't options.
 ROWS = {"tirnouch-replay": "COMMENTS OF A TRACE"}
 EXAMPLES = {
-    "tirnouch-run": ["tirnouch-run devices.txt --trace run.txt -- ./driver", "tirnouch-run devices.txt --seeds 1-200 --limit 10s -- ./test"],
+    "tirnouch-run": ["tirnouch-run devices.txt --trace run.txt -- ./driver",
+                     "tirnouch-run devices.txt --seeds 1-200 --limit 10s -- ./test"],
     "tirnouch-replay": ["tirnouch-replay run.txt"],
     "usbtrace": ["usbtrace run --steps run.txt", "usbtrace draw --html run.txt > run.html"],
 }

@@ -41,16 +41,26 @@ def link_as_installed(found: "re.Match[str]") -> str:
     return f"{text} (in the repository)"
 
 
+def renamed(line: str) -> str:
+    """A line in an installation's names; of one that is shown in two columns the second stays where it is. What calls make is the
+    repository's, and stays."""
+    if re.match(r"\s*(\$ )?make ", line):
+        return line
+    columns = re.fullmatch(r"(    \S.*?)(\s{2,})(\S.*)", line)
+    if columns:
+        first, gap, second = columns.groups()
+        return f"{renamed(first):<{len(first + gap) - 2}}  {renamed(second)}"
+    for old, new in NAMES.items():
+        line = line.replace(old, new)
+    return line
+
+
 def as_installed(name: str, text: str) -> str:
-    """A page in an installation's words. Lines that call make are the repository's, and stay."""
-    lines = text.split("\n")
+    """A page in an installation's words."""
     if name != "INSTALL.md":
-        for at, line in enumerate(lines):
-            if not re.match(r"\s*(\$ )?make ", line):
-                for old, new in NAMES.items():
-                    lines[at] = lines[at].replace(old, new)
-        lines.insert(1, NOTE.rstrip("\n"))
-    return LINK.sub(link_as_installed, "\n".join(lines))
+        head, *lines = text.split("\n")
+        text = "\n".join([head, NOTE.rstrip("\n"), *map(renamed, lines)])
+    return LINK.sub(link_as_installed, text)
 
 
 def pages() -> Dict[str, bytes]:

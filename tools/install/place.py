@@ -69,7 +69,8 @@ def make_folders(path: pathlib.Path) -> List[pathlib.Path]:
     """Makes a folder and those above it: the ones that weren't there."""
     made = [it for it in (path, *path.parents) if not it.exists()]
     for it in reversed(made):
-        it.mkdir(mode=0o755)
+        it.mkdir()
+        it.chmod(0o755)
     return made
 
 
