@@ -55,7 +55,11 @@ OFFERED = {
     "tirnouch-run devices.txt --trace oth": ["other.txt"],
     "tirnouch-run devices.txt -- ./dri": ["./driver"],
     "tirnouch-run devices.txt -- ./driver oth": ["other.txt"],
+    "tirnouch-run devices.txt -- dirna": ["dirname"],
+    "tirnouch-run devices.txt -- usbtrace dr": ["draw"],
 }
+# With it bash completes the words of the program behind --; without it files alone.
+BASH_COMPLETION = pathlib.Path("/usr/share/bash-completion/bash_completion")
 
 
 class Trial:
@@ -174,6 +178,10 @@ def what_is_wrong_is_said(trial: Trial) -> None:
     trial.expect(trial.install(*at), 1, "bin/usbtrace is there, and no `make install` put it there", "nothing was installed")
     trial.check(files_of(prefix) == ["bin/usbtrace"], f"files were written: {files_of(prefix)}")
     (prefix / "bin" / "usbtrace").unlink()
+    if os.geteuid():
+        (prefix / "bin").chmod(0o555)
+        trial.expect(trial.install(*at), 1, f"{prefix}/bin", "can't be written: Permission denied", "nothing was installed")
+        (prefix / "bin").chmod(0o755)
     # The installation fails at its last folder: what it wrote before is gone.
     (prefix / "share").write_text("")
     trial.expect(trial.install(*at), 1, "can't be written", "nothing was installed")
@@ -287,18 +295,22 @@ def man_pages_are_in_order(trial: Trial) -> None:
 
 
 def offered_by_bash(trial: Trial, words: str) -> List[str]:
+    if words.endswith("-- usbtrace dr") and not BASH_COMPLETION.exists():
+        trial.skipped.append("there is no bash-completion")
+        return OFFERED[words]
     name = words.split()[0]
-    file = trial.prefix / "share" / "bash-completion" / "completions" / name
-    text = f"""source '{file}'; COMP_WORDS=({words}); COMP_CWORD=$((${{#COMP_WORDS[@]}} - 1))
+    folder = trial.prefix / "share" / "bash-completion" / "completions"
+    first = f"source {BASH_COMPLETION}" if BASH_COMPLETION.exists() else ":"
+    text = f"""{first}; source '{folder}/usbtrace'; source '{folder}/tirnouch-run'; COMP_LINE='{words}'; COMP_POINT={len(words)}; COMP_WORDS=({words}); COMP_CWORD=$((${{#COMP_WORDS[@]}} - 1))
         "$(complete -p {name} | sed 's/.*-F \\([^ ]*\\).*/\\1/')"; printf '%s\\n' "${{COMPREPLY[@]}}" """
-    ran = trial.here("bash", "--norc", "-uc", text)
+    ran = trial.here("bash", "--norc", "-c", text)
     trial.check(ran.returncode == 0 and not ran.stderr, f"bash, {words}: {ran.stderr}")
     return ran.stdout.split("\n")
 
 
 def offered_by_fish(trial: Trial, words: str) -> List[str]:
-    file = trial.prefix / "share" / "fish" / "vendor_completions.d" / f"{words.split()[0]}.fish"
-    ran = trial.here("fish", "--no-config", "-c", f"source '{file}'; complete -C '{words}'")
+    folder = trial.prefix / "share" / "fish" / "vendor_completions.d"
+    ran = trial.here("fish", "--no-config", "-c", f"source '{folder}/usbtrace.fish'; source '{folder}/tirnouch-run.fish'; complete -C '{words}'")
     trial.check(ran.returncode == 0 and not ran.stderr, f"fish, {words}: {ran.stderr}")
     return [line.split("\t")[0] for line in ran.stdout.split("\n")]
 

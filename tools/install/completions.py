@@ -76,19 +76,17 @@ BASH_TRACE = """_usbtrace()
 }
 complete -F _usbtrace usbtrace
 """
-ZSH_RUN = """local context state state_descr line
-typeset -A opt_args
-_arguments -S \\
-@options@
-    '1:file of devices:_files' \\
-    '2:program:{ _command_names -e || _files }' \\
-    '*:: :->program' && return
-if [[ $state == program ]]; then
-    # The words of the program alone, without the file of devices in front of them
-    shift words
-    (( CURRENT-- ))
+ZSH_RUN = """local at=${words[(i)--]}
+if (( at < CURRENT )); then
+    # The words of the program alone
+    words=("${(@)words[at + 1,-1]}")
+    (( CURRENT -= at ))
     _normal
+    return
 fi
+_arguments \\
+@options@
+    '1:file of devices:_files'
 """
 ZSH_TRACE = """local context state state_descr line
 typeset -A opt_args
