@@ -301,7 +301,8 @@ def offered_by_bash(trial: Trial, words: str) -> List[str]:
     name = words.split()[0]
     folder = trial.prefix / "share" / "bash-completion" / "completions"
     first = f"source {BASH_COMPLETION}" if BASH_COMPLETION.exists() else ":"
-    text = f"""{first}; source '{folder}/usbtrace'; source '{folder}/tirnouch-run'; COMP_LINE='{words}'; COMP_POINT={len(words)}; COMP_WORDS=({words}); COMP_CWORD=$((${{#COMP_WORDS[@]}} - 1))
+    # compopt is for a shell that is at it.
+    text = f"""{first}; compopt() {{ :; }}; source '{folder}/usbtrace'; source '{folder}/tirnouch-run'; COMP_LINE='{words}'; COMP_POINT={len(words)}; COMP_WORDS=({words}); COMP_CWORD=$((${{#COMP_WORDS[@]}} - 1))
         "$(complete -p {name} | sed 's/.*-F \\([^ ]*\\).*/\\1/')"; printf '%s\\n' "${{COMPREPLY[@]}}" """
     ran = trial.here("bash", "--norc", "-c", text)
     trial.check(ran.returncode == 0 and not ran.stderr, f"bash, {words}: {ran.stderr}")

@@ -44,7 +44,7 @@ def put(build: Build, words: argparse.Namespace) -> None:
     print(f"installed {len(done.files)} files below {root}")
     for it in BINARIES:
         print(f"    {it.place}: {build.labels[it.name]}")
-    print(f"{root}/share/doc/tirnouch/INSTALL.md says how they are used; `make uninstall` removes them")
+    print(f"{root}/share/doc/tirnouch/INSTALL.md says how they are used; `make uninstall` with the same PREFIX and DESTDIR removes them")
 
 
 def make(build: Build, words: argparse.Namespace) -> None:

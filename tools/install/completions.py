@@ -24,7 +24,7 @@ BASH_RUN = """_tirnouch_run()
     done
     case ${COMP_WORDS[COMP_CWORD-1]} in
     @filed@) ;;
-    @valued@) return ;;
+    @others@) return ;;
     *)
         if [[ $word == -* || $has_devices ]]; then
             mapfile -t COMPREPLY < <(compgen -W '@options@ --' -- "$word")
@@ -147,7 +147,9 @@ def filed(rows: List[Row]) -> List[str]:
 
 def bash_run(help_of: Help) -> str:
     rows = help_of.options()
-    return filled(BASH_RUN, valued=" | ".join(valued(rows)), filed=" | ".join(filed(rows)), options=" ".join(options_of(rows)))
+    others = [it for it in valued(rows) if it not in filed(rows)]
+    return filled(BASH_RUN, valued=" | ".join(valued(rows)), filed=" | ".join(filed(rows)), others=" | ".join(others),
+                  options=" ".join(options_of(rows)))
 
 
 def bash_trace(help_of: Help) -> str:
