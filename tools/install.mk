@@ -1,8 +1,8 @@
 # `make install` puts the library and its programs below PREFIX, `make uninstall` removes them; DESTDIR is put before PREFIX. They take what
 # stands in bin/, and say what builds what is missing. `make dist` makes the archive, `make deb` the package for Debian, both in OUT.
 # `make install-test` tries all of that. docs/INSTALL.md says what goes where.
-PREFIX = /usr/local
-DESTDIR =
+PREFIX ?= /usr/local
+DESTDIR ?=
 OUT = dist
 
 .PHONY: install uninstall dist deb install-test

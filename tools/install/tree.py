@@ -24,7 +24,6 @@ Libs.private: -pthread
 CORE = """Cflags: -I${includedir} -I${includedir}/tirnouch
 Libs: -L${libdir} -ltirnouch_core
 """
-HEADERS = {"libusb.h": "libusb-1.0/libusb.h", "tirnouch.h": "tirnouch/tirnouch.h", "tirnouch_core.h": "tirnouch/tirnouch_core.h"}
 SCRIPTS = {"tirnouch-run": "tirnouch-run", "replay.py": "tirnouch-replay"}
 
 
@@ -46,7 +45,9 @@ def binaries(build: Build) -> Tree:
 
 
 def headers() -> Tree:
-    return {f"include/tirnouch/{it}": File((ROOT / "c" / "include" / name).read_bytes()) for name, it in HEADERS.items()}
+    """libusb.h where libusb has it, and ours beside."""
+    found = {("libusb-1.0/" if it.name == "libusb.h" else "tirnouch/") + it.name: it for it in (ROOT / "c" / "include").glob("*.h")}
+    return {f"include/tirnouch/{name}": File(path.read_bytes()) for name, path in found.items()}
 
 
 def pkgconfig() -> Tree:
