@@ -1,0 +1,65 @@
+"""Scripted devices for pyusb, usb1 and hid in tests by pytest: copy this file beside your tests.
+
+TIRNOUCH_LIBRARY names the library; without it bin/libusb-1.0.so.0 of this repository is taken."""
+import ctypes
+import os
+import pathlib
+import sys
+from typing import Iterator
+
+import pytest
+
+BUILT = pathlib.Path(__file__).resolve().parents[3] / "bin" / "libusb-1.0.so.0"
+LIBRARY = pathlib.Path(os.environ.get("TIRNOUCH_LIBRARY", BUILT))
+if not LIBRARY.is_file():
+    raise pytest.UsageError(f"there is no {LIBRARY}: build it by `make c-try`, or name one by TIRNOUCH_LIBRARY")
+# Loaded before usb, usb1 or hid is imported: whoever asks for libusb-1.0.so.0 behind this gets this one.
+TIRNOUCH = ctypes.CDLL(str(LIBRARY))
+MOST_TAKEN = 1024
+
+
+class Bus:
+    """The devices of one test."""
+
+    def __init__(self, folder: pathlib.Path, monkeypatch: pytest.MonkeyPatch) -> None:
+        self.folder, self.monkeypatch = folder, monkeypatch
+        self.plug("")
+
+    def plug(self, text: str, seed: int = 0, virtual: bool = False) -> None:
+        """The devices of this text, from the next context on. `seed` makes single steps by dice; 0 is none. With `virtual` a timeout
+        passes at once where nothing else is to be done."""
+        close_contexts()
+        devices = self.folder / "devices.txt"
+        devices.write_text(text)
+        settings = {"DEVICES": str(devices), "TRACE": str(self.folder / "trace"), "SEED": str(seed), "TIME": "virtual" if virtual else ""}
+        for name, value in settings.items():
+            self.monkeypatch.setenv(f"TIRNOUCH_{name}", value)
+        self.monkeypatch.setenv("LIBUSB_DEBUG", "2")
+
+    def took(self, endpoint: int, index: int = 0, device: int = 0) -> bytes:
+        """The packet of this index, from 0 on, that a device took at an endpoint. IndexError past the last."""
+        room = ctypes.create_string_buffer(MOST_TAKEN)
+        length = TIRNOUCH.tirnouch_took(device, endpoint, ctypes.c_size_t(index), room, ctypes.c_size_t(MOST_TAKEN))
+        if length < 0:
+            raise IndexError(f"device {device} took no packet {index} at {endpoint:02x}")
+        return room.raw[:length]
+
+
+def close_contexts() -> None:
+    """Closes those that pyusb and hidapi keep for the whole process: a text is read by the first context only. Those of usb1 are the
+    test's own."""
+    backend = sys.modules.get("usb.backend.libusb1")
+    if backend and backend._lib_object:
+        backend._lib_object.finalize()
+        backend._lib_object = None
+    if "hid" in sys.modules:
+        ctypes.CDLL("libhidapi-libusb.so.0").hid_exit()
+
+
+@pytest.fixture
+def bus(tmp_path: pathlib.Path, monkeypatch: pytest.MonkeyPatch) -> Iterator[Bus]:
+    """A bus without devices, until `plug`. Its steps are traced: pytest prints the file's name where the test fails."""
+    yield Bus(tmp_path, monkeypatch)
+    close_contexts()
+    for trace in tmp_path.glob("trace*"):
+        print(f"trace: {trace}")
