@@ -44,7 +44,8 @@ def run(words: Sequence[object], folder: pathlib.Path) -> "subprocess.CompletedP
     """Runs a command in a folder, without what steers the library from outside."""
     environment = {key: value for key, value in os.environ.items() if not key.startswith(STEERING)}
     environment["PYTHONDONTWRITEBYTECODE"] = "1"
-    return subprocess.run([str(word) for word in words], cwd=folder, env=environment, capture_output=True, text=True, timeout=SECONDS, check=False)
+    done = [str(word) for word in words]
+    return subprocess.run(done, cwd=folder, env=environment, capture_output=True, text=True, timeout=SECONDS, check=False)
 
 
 def pytest(python: str) -> list[str]:
