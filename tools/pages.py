@@ -3,7 +3,8 @@
 
 README.md has at most 70 lines. Its first commands are `make run` and `make test`; its scenario is a file of scenarios/, which the gate
 tests; its devices, test in Python and output are those of c/example, which c_test runs; its lines of Rattle stand in crates/example_first.
-docs/SCENARIOS.md has in front of each picture the worked row of that picture, with what it prints. docs/README.md lists each page of docs/.
+docs/SCENARIOS.md has in front of each picture the worked row of that picture, with what it prints. docs/DEVICES.md has the devices of
+c/example. docs/README.md lists each page of docs/.
 docs/FROM_LIBUSB.md has a row for each function of c/include/libusb.h. Each link leads to a file and a heading; each page, call and file of
 code that is named is there."""
 import pathlib
@@ -93,6 +94,14 @@ def scenario_faults() -> Iterator[str]:
             yield f"docs/SCENARIOS.md doesn't have rows/{row}.in with what it prints"
 
 
+def device_faults() -> Iterator[str]:
+    """Devices of c/example/devices that docs/DEVICES.md has otherwise, or not at all."""
+    found = blocks((DOCS / "DEVICES.md").read_text())
+    for path in [EXAMPLE / "devices.txt", *sorted((EXAMPLE / "devices").glob("*.txt"))]:
+        if not has_lines(found, path.read_text().splitlines()):
+            yield f"docs/DEVICES.md doesn't have the lines of {path.relative_to(ROOT)}"
+
+
 def list_faults() -> Iterator[str]:
     """Pages that docs/README.md doesn't list."""
     listed = (DOCS / "README.md").read_text()
@@ -152,7 +161,7 @@ def main(words: Sequence[str]) -> int:
     if list(words) != ["check"]:
         print(__doc__)
         return 2
-    faults = [*readme_faults(), *scenario_faults(), *list_faults(), *function_faults(), *link_faults(), *name_faults()]
+    faults = [*readme_faults(), *scenario_faults(), *device_faults(), *list_faults(), *function_faults(), *link_faults(), *name_faults()]
     for fault in faults:
         print(fault)
     if not faults:

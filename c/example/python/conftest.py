@@ -2,6 +2,7 @@
 
 TIRNOUCH_LIBRARY names the library; without it bin/libusb-1.0.so.0 of this repository is taken."""
 import ctypes
+import gc
 import os
 import pathlib
 import sys
@@ -9,6 +10,7 @@ from typing import Iterator
 
 import pytest
 
+EXAMPLES = pathlib.Path(__file__).resolve().parents[1] / "devices"
 BUILT = pathlib.Path(__file__).resolve().parents[3] / "bin" / "libusb-1.0.so.0"
 LIBRARY = pathlib.Path(os.environ.get("TIRNOUCH_LIBRARY", BUILT))
 if not LIBRARY.is_file():
@@ -36,6 +38,10 @@ class Bus:
             self.monkeypatch.setenv(f"TIRNOUCH_{name}", value)
         self.monkeypatch.setenv("LIBUSB_DEBUG", "2")
 
+    def plug_example(self, name: str) -> None:
+        """The devices of a file of c/example/devices."""
+        self.plug((EXAMPLES / name).read_text())
+
     def took(self, endpoint: int, index: int = 0, device: int = 0) -> bytes:
         """The packet of this index, from 0 on, that a device took at an endpoint. IndexError past the last."""
         room = ctypes.create_string_buffer(MOST_TAKEN)
@@ -45,9 +51,18 @@ class Bus:
         return room.raw[:length]
 
 
+def dispose_devices() -> None:
+    """Closes pyusb's devices: those of a test that failed live on in its traceback, and may not be closed behind their context."""
+    core = sys.modules.get("usb.core")
+    for it in gc.get_objects() if core else []:
+        if type(it) is core.Device:
+            core.util.dispose_resources(it)
+
+
 def close_contexts() -> None:
-    """Closes those that pyusb and hidapi keep for the whole process: a text is read by the first context only. Those of usb1 are the
-    test's own."""
+    """Closes the contexts that pyusb and hidapi keep for the whole process: only the first context that is open reads a text. Those of
+    usb1 are the test's own."""
+    dispose_devices()
     backend = sys.modules.get("usb.backend.libusb1")
     if backend and backend._lib_object:
         backend._lib_object.finalize()
