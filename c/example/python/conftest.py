@@ -3,6 +3,8 @@
 TIRNOUCH_LIBRARY names the library; without it bin/libusb-1.0.so.0 of this repository is taken."""
 import ctypes
 import gc
+import importlib
+import importlib.util
 import os
 import pathlib
 import sys
@@ -10,13 +12,16 @@ from typing import Iterator
 
 import pytest
 
-EXAMPLES = pathlib.Path(__file__).resolve().parents[1] / "devices"
-BUILT = pathlib.Path(__file__).resolve().parents[3] / "bin" / "libusb-1.0.so.0"
-LIBRARY = pathlib.Path(os.environ.get("TIRNOUCH_LIBRARY", BUILT))
+HERE = pathlib.Path(__file__).resolve().parent
+EXAMPLES = HERE.parent / "devices"
+LIBRARY = pathlib.Path(os.environ.get("TIRNOUCH_LIBRARY") or HERE / "../../../bin/libusb-1.0.so.0").resolve()
 if not LIBRARY.is_file():
     raise pytest.UsageError(f"there is no {LIBRARY}: build it by `make c-try`, or name one by TIRNOUCH_LIBRARY")
-# Loaded before usb, usb1 or hid is imported: whoever asks for libusb-1.0.so.0 behind this gets this one.
+# Loaded before usb, usb1 or hid is imported: whoever asks for libusb-1.0.so.0 behind this gets this one. usb1 asks for libusb-1.0.so first,
+# which development packages install, so it is told.
 TIRNOUCH = ctypes.CDLL(str(LIBRARY))
+if importlib.util.find_spec("usb1"):
+    importlib.import_module("usb1").loadLibrary(TIRNOUCH)
 MOST_TAKEN = 1024
 
 

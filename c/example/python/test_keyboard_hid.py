@@ -1,5 +1,5 @@
-"""Reports of c/example/devices/keyboard.txt by hid (cython-hidapi). What each call returns is by hidapi's manual, hidapi.h; a report has the
-modifiers, a zero, and the keys that are down, 4 for "a" (HID 1.11, B.1; HID Usage Tables, 10)."""
+"""Reports of c/example/devices/keyboard.txt by hid (cython-hidapi). What each call returns is by hidapi's manual, hidapi.h; a report has
+the modifiers, a zero, and the keys that are down, 4 for "a" (HID 1.11, B.1; HID Usage Tables, 10)."""
 import pytest
 
 hid = pytest.importorskip("hid")
