@@ -14,7 +14,7 @@ KIT = $(shell dirname $$(dirname $$(readlink -f $$(command -v rt))))
 .PHONY: run build test fmt doc bench bench_threads c c-usb c-test c-abi bench-usb bench_c captures wrong_bodies plant always
 
 run:
-	@tools/program.py try
+	@tools/progress.py timed run -- tools/program.py try
 	@tools/program.py state
 	@bin/usbtrace run < $(SCENARIO)
 
@@ -27,7 +27,8 @@ test:
 	tools/layers.py check
 	tools/pages.py check
 	tools/c_header.py check
-	RT_JOBS=$$(nproc) rt ci
+	tools/times.py check
+	@RT_JOBS=$$(nproc) tools/progress.py proofs test -- rt ci
 	@tools/program.py keep
 	@tools/pictures.py check
 	@tools/scenarios.py check
@@ -99,12 +100,10 @@ c-usb: bin/libusb-1.0.a bin/libusb-1.0.so.0
 # The same libraries over an unproved core. TRUST=1 leaves out its checks.
 .PHONY: c-try
 c-try:
-	@tools/progress.py say c-try
-	@$(MAKE) --no-print-directory CORE=try bin/libusb-1.0.a bin/libusb-1.0.so.0
-	@tools/progress.py done c-try
+	@tools/progress.py timed c-try -- $(MAKE) --no-print-directory CORE=try bin/libusb-1.0.a bin/libusb-1.0.so.0
 
 c-test: c c-usb
-	@tools/c_test.py
+	@tools/progress.py timed c-test -- tools/c_test.py
 
 # gcc's analyzer and cppcheck over the C code; what they find is explained in c/findings.txt.
 .PHONY: c-lint

@@ -19,6 +19,8 @@ import subprocess
 import sys
 import tempfile
 
+import crate_graph
+import progress
 import unproved
 
 ROOT = pathlib.Path(__file__).resolve().parent.parent
@@ -32,32 +34,11 @@ KIT = pathlib.Path(shutil.which("rt") or "rt").resolve().parent.parent
 SHORT = {"usbtrace": ("run",), "check_random": ("refusals", "1")}
 
 
-def uses():
-    """The crates of the repository by name, each with its line of crates.txt and the names that it uses."""
-    found = {}
-    for line in (ROOT / "crates.txt").read_text().splitlines():
-        name, colon, used = line.partition(":")
-        if colon and not line.startswith("#"):
-            found[name.split()[0]] = (line, used.split())
-    return found
-
-
-def below(name, known):
-    """The names of a crate and of those of the repository that it stands on."""
-    found, left = set(), [name]
-    while left:
-        it = left.pop()
-        if it in known and it not in found:
-            found.add(it)
-            left += known[it][1]
-    return found
-
-
 def sum_of_files(name):
     """A sum of all that a crate is made of."""
-    known, made = uses(), hashlib.sha256()
-    for it in sorted(below(name, known)):
-        made.update(known[it][0].encode())
+    known, made = crate_graph.lines(), hashlib.sha256()
+    for it in sorted(crate_graph.below(name)):
+        made.update(known[it].encode())
         for part in ("src", "specs", "proofs"):
             for path in sorted((CRATES / it / part).rglob("*")):
                 if path.is_file():
@@ -65,14 +46,9 @@ def sum_of_files(name):
     return made.hexdigest()
 
 
-def is_static(name, known):
-    """Whether a crate is a static library."""
-    return "staticlib" in known[name][0].partition(":")[0].split()
-
-
 def place(name):
     """Where a crate's build goes, and where it is noted how it was built: a word, and the sum of its files."""
-    built = BIN / (f"lib{name}.a" if is_static(name, uses()) else name)
+    built = BIN / (f"lib{name}.a" if crate_graph.is_static(name) else name)
     return built, BIN / f"{built.name}.state"
 
 
@@ -98,7 +74,7 @@ def keep(name, file, how, made_of):
 
 def build_unproved(name):
     """An unproved program, or tirnouch_c, where another isn't there already."""
-    static = is_static(name, uses())
+    static = crate_graph.is_static(name)
     how = "trusted" if static and os.environ.get("TRUST") else "unproved"
     if state(name) in ("proved", how):
         return 0
@@ -139,46 +115,46 @@ def unproved_library(name, folder, how):
 
 def copy_below(name, folder, leaves_out):
     """Copies a crate and those that it stands on, without wrong bodies and tests, into a repository of their own."""
-    known = uses()
-    names = below(name, known) - leaves_out
+    names = [it for it in crate_graph.below(name) if it not in leaves_out]
     for it in names:
         leave = shutil.ignore_patterns("out", "must-fail", *(["tests", "tests.rt"] if it == "usbtrace" else []))
         shutil.copytree(CRATES / it, folder / "crates" / it, ignore=leave)
         main = folder / "crates" / it / "src" / "main.rt"
         if main.is_file():
             main.write_text(re.sub(r"#\[cfg\(test\)\]\nmod tests;\n\n?", "", main.read_text()))
-    (folder / "crates.txt").write_text("".join(line + "\n" for it, (line, _) in known.items() if it in names))
+    (folder / "crates.txt").write_text("".join(line + "\n" for it, line in crate_graph.lines().items() if it in names))
     shutil.copyfile(ROOT / "HANDLES", folder / "HANDLES")
     (folder / ".git").mkdir()
 
 
 def prove_static(name, folder):
     """Proves and builds a static library over the libraries that were built below a folder: 0, or the prover's status."""
-    known = uses()
-    used, all_below = known[name][1], below(name, known) - {name}
+    known, used = crate_graph.lines(), crate_graph.named(name)
+    all_below = [it for it in crate_graph.below(name) if it != name]
     library = lambda it: folder / "crates" / it / "out" / "rlib" / f"{it}.rlib"
     words = [KIT / "bin" / "rattle", "build", "--crate-name", name, "--crate-type", "staticlib", "src/lib.rt"]
     for it in ["std", *(it for it in used if it not in known)]:
         words += ["--extern", f"{it}={KIT}/rlibs/{it}.rlib"]
     for it in used:
         words += ["--extern", f"{it}={library(it)}"] * (it in known)
-    for it in [KIT / "rlibs", *(library(it).parent for it in sorted(all_below))]:
+    for it in [KIT / "rlibs", *(library(it).parent for it in all_below)]:
         words += ["-L", f"dependency={it}"]
     words += ["--antt-project", KIT / "rattle" / "logic" / "antt-project.json", "--logic-built", KIT / "logic_built"]
     words += ["--links", f"{name}=", "--jobs", "1", "--toolchain", KIT / "toolchain", "-o", folder / f"lib{name}.a"]
-    return subprocess.run(words, cwd=CRATES / name, stdout=sys.stderr).returncode
+    return progress.prove(name, [name], words, sys.stderr, cwd=CRATES / name, quiet=True)
 
 
 def build(name):
     """A proved crate, where it isn't there already."""
     if state(name) == "proved":
         return 0
-    made_of, static = sum_of_files(name), is_static(name, uses())
+    made_of, static = sum_of_files(name), crate_graph.is_static(name)
     with tempfile.TemporaryDirectory(prefix=f"{name}-") as folder:
         folder = pathlib.Path(folder)
         copy_below(name, folder, {name} if static else set())
         env = {**os.environ, "RT_JOBS": str(os.cpu_count())}
-        status = subprocess.run(["rt", "ci"], cwd=folder, env=env, stdout=sys.stderr).returncode
+        names = [it for it in crate_graph.below(name) if it != name or not static]
+        status = progress.prove(name, names, ["rt", "ci"], sys.stderr, cwd=folder, quiet=True, environment=env)
         if static:
             status = status or prove_static(name, folder)
         if status:
@@ -221,7 +197,7 @@ def main(words):
     if word not in ("try", "build", "state"):
         print(__doc__)
         return 2
-    strange = [it for it in names if it not in uses()]
+    strange = [it for it in names if it not in crate_graph.lines()]
     if strange:
         print(f"crates.txt has no {strange[0]}", file=sys.stderr)
         return 2

@@ -1,12 +1,12 @@
 -- Why a run of the program ends early, and its message.
-use Rattle.std.specs.Prelude.{◌++◌, ◌<◌, ℕ, List, Option, ⊤, IfSome, codes, length}
+use Rattle.std.specs.Prelude.{◌++◌, ◌<◌, ℕ, Bool, List, Option, ⊤, IfSome, [], codes, false, if◌then◌else◌, length, true}
 use Rattle.std.specs.Fmt.{decimal}
 use Rattle.std.specs.declared.io.ErrorKind.{ErrorKind}
-use Rattle.std.specs.declared.io.ErrorKind.TheVariants.{OutOfMemory}
+use Rattle.std.specs.declared.io.ErrorKind.TheVariants.{BrokenPipe, OutOfMemory}
 use Rattle.trace_scenario.specs.declared.text_fault.TextFault.{TextFault}
 use Rattle.trace_scenario.specs.declared.text_fault.TextFault.TheVariants as text
 use Rattle.trace_io.specs.declared.fault.Fault.{Fault}
-use Rattle.trace_io.specs.declared.fault.Fault.TheVariants.{Line, Memory, InputOutput, TooLong, Rounds, Wide, Capture, Descriptor}
+use Rattle.trace_io.specs.declared.fault.Fault.TheVariants.{Line, Memory, InputOutput, Closed, TooLong, Rounds, Wide, Capture, Descriptor}
 use Rattle.trace_recorded.specs.declared.capture_fault.CaptureFault.{CaptureFault}
 use Rattle.trace_recorded.specs.declared.capture_fault.CaptureFault.TheVariants as capture
 use Rattle.trace_recorded.specs.Faults.{capture_fault_text}
@@ -33,6 +33,7 @@ fault_of_descriptor fault = Descriptor fault
 -- the fault of a stream that fails with an error of this kind
 abbrev pub fault_of_kind : ErrorKind → Fault
 fault_of_kind OutOfMemory = Memory
+fault_of_kind BrokenPipe = Closed
 fault_of_kind _ = InputOutput
 
 -- a fault in words
@@ -40,21 +41,32 @@ abbrev pub fault_text : Fault → List ℕ
 fault_text (Line line) = codes "line " ++ decimal line ++ codes " refused"
 fault_text Memory = codes "out of memory"
 fault_text InputOutput = codes "input or output failed"
+fault_text Closed = codes "nobody reads the output any more"
 fault_text TooLong = codes "the input is longer than 67108864 bytes\nusbtrace: input or output failed"
 fault_text (Rounds rounds) = codes "more than " ++ decimal rounds ++ codes " callbacks are called: --rounds sets how many may be"
 fault_text (Wide steps) = decimal steps ++ codes " steps are too many for a picture, which has 2000: choose some by --from and --to"
 fault_text (Capture fault) = codes "the capture is refused: " ++ capture_fault_text fault
 fault_text (Descriptor fault) = descriptor_fault_text fault
 
--- the message of a fault on standard error
+-- whether nobody reads the output any more
+abbrev pub is_closed : Fault → Bool
+is_closed Closed = true
+is_closed fault = false
+
+-- a fault as a sentence of the program
+abbrev pub sentence_of : Fault → List ℕ
+sentence_of fault = codes "usbtrace: " ++ fault_text fault ++ codes "\n"
+
+-- the message of a fault on standard error: none where nobody reads the output any more
 abbrev pub message_of : Fault → List ℕ
-message_of fault = codes "usbtrace: " ++ fault_text fault ++ codes "\n"
+message_of fault = if is_closed fault then [] else sentence_of fault
 
 -- a fault of memory or of a stream, and not of a line, of the whole input, of the callbacks, of a picture, of a capture or of a descriptor
 abbrev pub IsOfRun : Fault → Type 0
 IsOfRun (Line line) = ⊥
 IsOfRun Memory = ⊤
 IsOfRun InputOutput = ⊤
+IsOfRun Closed = ⊤
 IsOfRun TooLong = ⊥
 IsOfRun (Rounds rounds) = ⊥
 IsOfRun (Wide steps) = ⊥

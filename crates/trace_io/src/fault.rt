@@ -3,7 +3,7 @@
 ghost use Rattle.std.specs.Prelude.{◌≡◌, OnOk, Some};
 ghost use Rattle.std.specs.Io.KnownBytes.{Appends};
 ghost use Rattle.std.specs.IoError.{error_kind};
-ghost use Rattle.trace_io.specs.Faults.{fault_of_capture, fault_of_descriptor, fault_of_kind, fault_of_text, fault_text, message_of};
+ghost use Rattle.trace_io.specs.Faults.{fault_of_capture, fault_of_descriptor, fault_of_kind, fault_of_text, fault_text, is_closed, message_of, sentence_of};
 ghost use Rattle.trace_io.specs.Output.{AppendsSome};
 ghost use Rattle.trace_io.specs.declared.fault.Fault.TheVariants as Fault;
 
@@ -29,6 +29,8 @@ pub enum Fault {
     Memory,
     /// The input can't be read, or the output not written.
     InputOutput,
+    /// Nobody reads the output any more, as behind `| head -1`. He has what he wanted, so nothing is told.
+    Closed,
     /// The input has more bytes than one may have; it counts as one that can't be read.
     TooLong,
     /// More callbacks than so many were called.
@@ -50,6 +52,7 @@ impl fmt::Display for Fault {
             Fault::Line(line) => write!(f, "line {line} refused"),
             Fault::Memory => f.write_str("out of memory"),
             Fault::InputOutput => f.write_str("input or output failed"),
+            Fault::Closed => f.write_str("nobody reads the output any more"),
             Fault::TooLong => f.write_str(
                 "the input is longer than 67108864 bytes\nusbtrace: input or output failed",
             ),
@@ -68,11 +71,29 @@ impl fmt::Display for Fault {
 }
 
 impl Fault {
-    /// Says what ended the run, on standard error. Where writing fails, a beginning of the message is written. No
-    /// memory is taken.
+    /// Whether it is that nobody reads the output any more.
+    fn is_closed(&self) -> bool
+        ensures { result ≡ is_closed self.now }
+    {
+        matches!(self, Fault::Closed)
+    }
+
+    /// Says what ended the run, on standard error; nothing, where nobody reads the output any more. Where writing fails, a beginning of
+    /// the message is written. No memory is taken.
     pub fn tell<E: io::Write>(self, err: &mut E) -> Result<(), Fault>
         ensures whole { OnOk result (Appends (E.contents err.old) (E.contents err.new) (message_of self)) }
         ensures begun { AppendsSome (message_of self) (E.contents err.old) (E.contents err.new) }
+    {
+        if self.is_closed() {
+            return Ok(());
+        }
+        self.tell_sentence(err)
+    }
+
+    /// Says it in words, whatever it is. Where writing fails, a beginning is written.
+    fn tell_sentence<E: io::Write>(&self, err: &mut E) -> Result<(), Fault>
+        ensures whole { OnOk result (Appends (E.contents err.old) (E.contents err.new) (sentence_of self.now)) }
+        ensures begun { AppendsSome (sentence_of self.now) (E.contents err.old) (E.contents err.new) }
     {
         let mut message: ArrayString<ROOM> = ArrayString::new();
         match write!(message, "usbtrace: {self}\n") {
@@ -129,6 +150,7 @@ impl From<io::Error> for Fault {
     fn from(error: io::Error) -> Fault {
         match error.kind() {
             io::ErrorKind::OutOfMemory => Fault::Memory,
+            io::ErrorKind::BrokenPipe => Fault::Closed,
             _ => Fault::InputOutput,
         }
     }

@@ -1,9 +1,22 @@
 //! What help says behind the words: the input's form, an example and the statuses.
 
+/// A text of help: its input; an example of a word that names a file; and what stands behind that.
+macro_rules! help_over_file {
+    ($($input:literal),+; $example:literal; $($behind:literal),+) => {
+        concat!(
+            $($input,)+
+            "\n\nA word with a dot or a slash in it names a file, which is read in the place of standard input: usbtrace ",
+            $example,
+            "\n\n",
+            $($behind),+
+        )
+    };
+}
+
 /// The text of help with an example's words, and when the status is 0 and when 1.
 macro_rules! help_text {
     ($words:literal, $good:literal, $failed:literal) => {
-        concat!(
+        help_over_file!(
             "Input: a scenario, a line for each device, script and step. Words stand between single spaces.\n",
             "  device D HEX               the next device, 0 to 3, with this configuration descriptor\n",
             "  script D EP A A ..         what a bulk or interrupt endpoint answers: d:HEX, a, n, s or b\n",
@@ -13,7 +26,8 @@ macro_rules! help_text {
             "  serve D EP                 the controller serves an endpoint; so command, deliver, take, return, unplug\n",
             "  # ..                       a comment\n\n",
             "Refused: 1 InvalidParam, 2 NoDevice, 3 NotFound, 4 Busy, 5 HeldElsewhere, 6 NoMem, 7 NotSupported; `usbtrace explain` says why\n",
-            "Code: 1 Success, 3 Babble, 4 Transaction Error, 6 Stall, 13 Short Packet\n\n",
+            "Code: 1 Success, 3 Babble, 4 Transaction Error, 6 Stall, 13 Short Packet";
+            "run scenario.txt";
             "Example:\n",
             "  printf 'open 1 0\\ntake\\n' | usbtrace ",
             $words,
@@ -83,9 +97,10 @@ pub(crate) const CAPTURE: &str = help_text!(
 );
 
 /// The help of `devices`, which reads no scenario.
-pub(crate) const DEVICES: &str = concat!(
+pub(crate) const DEVICES: &str = help_over_file!(
     "Input: a capture of Linux's usbmon, as tcpdump or Wireshark write it: a pcap or pcapng file of link type 220 or 189.\n",
-    "What is printed is the beginning of a scenario: a line for each device, and one for what each endpoint answered.\n\n",
+    "What is printed is the beginning of a scenario: a line for each device, and one for what each endpoint answered.";
+    "devices recorded.pcap";
     "Example:\n",
     "  usbtrace devices < recorded.pcap > scenario.txt\n\n",
     "Status: 0 where a device was found, 1 where none was, the input is no such capture, memory is wanting or a stream fails, ",
@@ -100,29 +115,34 @@ pub(crate) const EXPLAIN: &str = help_text!(
 );
 
 /// The help of `test`.
-pub(crate) const TEST: &str = concat!(
+pub(crate) const TEST: &str = help_over_file!(
     "Input: a scenario, and among its lines:\n",
     "  expect TEXT                the step above prints this; so more than one, in order, and `expect NOTHING`\n",
     "  expect left TEXT           at the run's end this is left, as `usbtrace left` prints it; `expect left NOTHING`\n",
     "  settle                     command, deliver and take, until nothing is to be done\n",
-    "  serve 0 81 *3              this step three times; so any other line\n\n",
+    "  serve 0 81 *3              this step three times; so any other line\n",
+    "  macro NAME                 begins a macro, whose body are the lines up to `end`; in it $1 to $9 are the words of a call\n",
+    "  NAME WORD ..               a call: the body of the macro above of this name, with these words";
+    "test first.txt second.txt";
     "Example:\n",
     "  printf 'open 1 0\\nexpect h1 refused 3\\n' | usbtrace test\n\n",
     "Status: 0 where all is as expected, 1 where a line differs or is bad, memory is wanting or a stream fails, 2 for bad words"
 );
 
 /// The help of `device`, which reads no scenario.
-pub(crate) const DEVICE: &str = concat!(
+pub(crate) const DEVICE: &str = help_over_file!(
     "Input: a device's descriptors, as Linux has them in /sys/bus/usb/devices/1-1/descriptors: in bytes, or as hexadecimal text.\n",
-    "What is printed is the beginning of a scenario: comments that name its interfaces and endpoints, and the device's line.\n\n",
+    "What is printed is the beginning of a scenario: comments that name its interfaces and endpoints, and the device's line.";
+    "device ./descriptors";
     "Example:\n",
     "  usbtrace device < /sys/bus/usb/devices/1-1/descriptors > scenario.txt\n\n",
     "Status: 0 where the line is printed, 1 where the input is no such file, memory is wanting or a stream fails, 2 for bad words"
 );
 
 /// The help of `describe`, which reads no scenario.
-pub(crate) const DESCRIBE: &str = concat!(
-    "Input: a device's descriptors, as Linux has them in /sys/bus/usb/devices/1-1/descriptors: in bytes, or as hexadecimal text.\n\n",
+pub(crate) const DESCRIBE: &str = help_over_file!(
+    "Input: a device's descriptors, as Linux has them in /sys/bus/usb/devices/1-1/descriptors: in bytes, or as hexadecimal text.";
+    "describe ./descriptors";
     "Example:\n",
     "  usbtrace describe < /sys/bus/usb/devices/1-1/descriptors\n\n",
     "Status: 0 where the table is printed, 1 where the input is no such file, memory is wanting or a stream fails, 2 for bad words"

@@ -170,7 +170,7 @@ fn program<'a>(alloc: Global) -> Command<'a>
     ensures { app_of result ≡ program_alone }
 {
     Command::new(alloc, "usbtrace")
-        .about("Runs a scenario of USB transfers, read from standard input")
+        .about("Runs a scenario of USB transfers, read from standard input or a file")
         .after_help(help::PROGRAM)
         .disable_help_subcommand(true)
         .subcommand_required(true)

@@ -1,7 +1,7 @@
 -- What came of a test, told by its own lines.
 use Rattle.std.proofs.Common.{◌≡◌, ◌∙◌, ℕ, List, Result, Ok, Err, IfOk, IfErr, ap, sym, subst, refl}
 use Rattle.trace_io.specs.declared.fault.Fault.{Fault}
-use Rattle.trace_io.specs.declared.fault.Fault.TheVariants.{Line, Memory, InputOutput, TooLong, Rounds, Wide, Capture, Descriptor}
+use Rattle.trace_io.specs.declared.fault.Fault.TheVariants.{Line, Memory, InputOutput, Closed, TooLong, Rounds, Wide, Capture, Descriptor}
 use Rattle.trace_test.specs.Expanded.{Expansion}
 use Rattle.trace_test.specs.Macros.{unrolled}
 use Rattle.trace_test.specs.Tests.{IsOfPlainTest, IsOfTest, IsOutcome, IsPlainOutcome, by_origin, fault_by_origin}
@@ -20,6 +20,7 @@ fault_told text bytes u plain fault is at of told =
     by_fault (Line line) h = (line, h, refl)
     by_fault Memory h = h
     by_fault InputOutput h = h
+    by_fault Closed h = h
     by_fault TooLong h = h
     by_fault (Rounds n) h = h
     by_fault (Wide n) h = h

@@ -19,7 +19,7 @@ use Rattle.trace_io.specs.Faults.{fault_of_capture, fault_of_descriptor, message
 use Rattle.trace_io.specs.Input.{longest_input}
 use Rattle.trace_io.specs.declared.fault.Fault.{Fault}
 use Rattle.trace_io.specs.declared.fault.Fault.TheVariants as why
-use Rattle.trace_io.specs.declared.fault.Fault.TheVariants.{Line, Memory, InputOutput, TooLong, Rounds, Wide}
+use Rattle.trace_io.specs.declared.fault.Fault.TheVariants.{Line, Memory, InputOutput, Closed, TooLong, Rounds, Wide}
 use Rattle.trace_descriptor.specs.declared.fault.DescriptorFault.{DescriptorFault}
 use Rattle.trace_descriptor.specs.declared.fault.DescriptorFault.TheVariants as descriptor
 use Rattle.trace_descriptor.specs.Faults.{IsDescriptorFault}
@@ -95,6 +95,7 @@ lived text rounds s notes old new (Ok Differs) read short lines good fault silen
 lived text rounds s notes old new (Err (Line line)) read short lines good fault silent = absurd fault
 lived text rounds s notes old new (Err Memory) read short lines good fault silent = tt
 lived text rounds s notes old new (Err InputOutput) read short lines good fault silent = tt
+lived text rounds s notes old new (Err Closed) read short lines good fault silent = tt
 lived text rounds s notes old new (Err TooLong) read short lines good fault silent = absurd fault
 lived text rounds s notes old new (Err (Rounds told)) read short lines good fault silent = (
   ap (λ (n : ℕ). Live n) (sym fault.0),
@@ -115,6 +116,7 @@ captured text s old new (Ok Differs) read short file good fault = cc
 captured text s old new (Err (Line line)) read short file good fault = absurd fault
 captured text s old new (Err Memory) read short file good fault = tt
 captured text s old new (Err InputOutput) read short file good fault = tt
+captured text s old new (Err Closed) read short file good fault = tt
 captured text s old new (Err TooLong) read short file good fault = absurd fault
 captured text s old new (Err (Rounds rounds)) read short file good fault = absurd fault
 captured text s old new (Err (Wide steps)) read short file good fault = absurd fault
@@ -274,6 +276,7 @@ pub test_fails : (text : List ℕ) (fault : Fault) (old new : Option (List ℕ))
 test_fails text (Line line) old new is kept = (is, kept)
 test_fails text Memory old new is kept = tt
 test_fails text InputOutput old new is kept = tt
+test_fails text Closed old new is kept = tt
 test_fails text TooLong old new is kept = absurd is
 test_fails text (Rounds rounds) old new is kept = absurd is
 test_fails text (Wide steps) old new is kept = absurd is
@@ -310,6 +313,7 @@ told_of words input t notes (Err (Line line)) status old new err_old err_new ask
     inr (inr (inr (Line line, notes, (t, asks, line_of input t line notes old new ends), bare, told)))
 told_of words input t notes (Err Memory) status old new err_old err_new asks ends bare same quiet none no_device no_difference told one = inr (inr (inr (Memory, notes, tt, bare, told)))
 told_of words input t notes (Err InputOutput) status old new err_old err_new asks ends bare same quiet none no_device no_difference told one = inr (inr (inr (InputOutput, notes, tt, bare, told)))
+told_of words input t notes (Err Closed) status old new err_old err_new asks ends bare same quiet none no_device no_difference told one = inr (inr (inr (Closed, notes, tt, bare, told)))
 told_of words input t notes (Err TooLong) status old new err_old err_new asks ends bare same quiet none no_device no_difference told one =
     inr (inr (inr (TooLong, notes, (t, asks, length_of input t notes old new ends), bare, told)))
 told_of words input t notes (Err (Rounds rounds)) status old new err_old err_new asks ends bare same quiet none no_device no_difference told one =
@@ -326,6 +330,7 @@ pub told_words : (words : List Text) (input : Option (List ℕ)) (fault : Fault)
 told_words words input (Line line) old new err_old err_new run told = absurd run
 told_words words input Memory old new err_old err_new run told = inr (inr (inr (Memory, [], tt, refl, told_front (message_of Memory) [] err_old err_new told)))
 told_words words input InputOutput old new err_old err_new run told = inr (inr (inr (InputOutput, [], tt, refl, told_front (message_of InputOutput) [] err_old err_new told)))
+told_words words input Closed old new err_old err_new run told = inr (inr (inr (Closed, [], tt, refl, told_front (message_of Closed) [] err_old err_new told)))
 told_words words input TooLong old new err_old err_new run told = absurd run
 told_words words input (Rounds rounds) old new err_old err_new run told = absurd run
 told_words words input (Wide steps) old new err_old err_new run told = absurd run

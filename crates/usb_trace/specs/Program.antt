@@ -2,7 +2,7 @@
 use Rattle.std.specs.Prelude.{◌≡◌, ◌≢◌, ◌≤◌, ◌<◌, ◌⊎◌, ◌++◌, ℕ, Bool, true, false, length, ⊤, IfSome, List, [], Option, Result, Ok, Err}
 use Rattle.std.specs.Io.KnownBytes.{Appends, Keeps}
 use Rattle.trace_io.specs.declared.fault.Fault.{Fault}
-use Rattle.trace_io.specs.declared.fault.Fault.TheVariants.{Line, Memory, InputOutput, TooLong, Rounds, Wide, Capture, Descriptor}
+use Rattle.trace_io.specs.declared.fault.Fault.TheVariants.{Line, Memory, InputOutput, Closed, TooLong, Rounds, Wide, Capture, Descriptor}
 use Rattle.trace_run.specs.declared.tasks.Ending.{Ending}
 use Rattle.trace_run.specs.declared.tasks.Ending.TheVariants.{Good, BadLines, NoDevices, Differs}
 use Rattle.trace_run.specs.Tasks.{AppendsAny, alone_text, capture_bytes, left_lines, run_text, steps_text}
@@ -164,6 +164,7 @@ Performs t text notes old new (Ok Differs) = (t ≡ task.Test) × FindsDifferenc
 Performs t text notes old new (Err (Line line)) = IsBadLine t text line × Keeps old new
 Performs t text notes old new (Err Memory) = ⊤
 Performs t text notes old new (Err InputOutput) = ⊤
+Performs t text notes old new (Err Closed) = ⊤
 Performs t text notes old new (Err TooLong) = (longest_input < length text) × Keeps old new
 Performs t text notes old new (Err (Rounds rounds)) = (t ≡ task.Live rounds) × Keeps old new × EndsLate text rounds notes
 Performs t text notes old new (Err (Wide steps)) = (most_drawn < steps) × Keeps old new × Draws t
@@ -232,6 +233,7 @@ abbrev pub MayEnd : List Text → Option (List ℕ) → (notes : List ℕ) → F
 MayEnd words input notes (Line line) = (t : Task) × AskFor words t × IfSome input (λ text. IsBadLine t text line)
 MayEnd words input notes Memory = ⊤
 MayEnd words input notes InputOutput = ⊤
+MayEnd words input notes Closed = ⊤
 MayEnd words input notes TooLong = (t : Task) × AskFor words t × IfSome input (λ text. longest_input < length text)
 MayEnd words input notes (Rounds rounds) = (t : Task) × AskFor words t × IfSome input (λ text. (t ≡ task.Live rounds) × EndsLate text rounds notes)
 MayEnd words input notes (Wide steps) = (t : Task) × AskFor words t × IfSome input (λ text. (most_drawn < steps) × Draws t)

@@ -3,10 +3,11 @@
 use crate::files::test_files;
 use std::alloc::Global;
 use std::fs;
-use std::io::{Read, Write};
+use std::io::{ErrorKind, Read, Write};
 use std::rt::Files;
 use std::sync::Wait;
 use std::thread::Threads;
+use trace_io::read_words;
 use usb_trace::trace;
 
 /// The status of a run that ended early.
@@ -18,17 +19,21 @@ const BAD_WORDS: u8 = 2;
 /// What `--version` prints.
 const VERSION: &[u8] = b"usbtrace 0.1.0\n";
 
-/// Runs the program on its words and a file.
-fn run_file<T: Threads + Wait + Sync + Files, W: Write, E: Write>(
+/// Runs the program on its words and a file. Where the words ask for no task it isn't opened, and no other input is read.
+fn run_file<T: Threads + Wait + Sync + Files, R: Read, W: Write, E: Write>(
     rt: &T,
     alloc: Global,
     words: &[&str],
     file: &str,
+    input: &mut R,
     out: &mut W,
     err: &mut E,
 ) -> u8 {
+    if read_words(alloc, words).is_err() {
+        return trace(rt, alloc, words, input, out, err);
+    }
     match fs::open(rt, file) {
-        Ok(mut input) => trace(rt, alloc, words, &mut input, out, err),
+        Ok(mut text) => trace(rt, alloc, words, &mut text, out, err),
         Err(_) => {
             let _ = write!(err, "usbtrace: {file} can't be read\n");
             FAILED
@@ -47,8 +52,11 @@ fn run_tests<T: Files, W: Write, E: Write>(
     match test_files(rt, alloc, files, out) {
         Ok(true) => 0,
         Ok(false) => FAILED,
-        Err(_) => {
-            let _ = err.write_all(b"usbtrace: input or output failed\n");
+        Err(error) => {
+            // Nobody reads the output any more: he has what he wanted.
+            if error.kind() != ErrorKind::BrokenPipe {
+                let _ = err.write_all(b"usbtrace: input or output failed\n");
+            }
             FAILED
         }
     }
@@ -71,7 +79,7 @@ pub fn perform<T: Threads + Wait + Sync + Files, R: Read, W: Write, E: Write>(
         },
         (_, []) => trace(rt, alloc, words, input, out, err),
         ([_, "test"], _) => run_tests(rt, alloc, files, out, err),
-        (_, [file]) => run_file(rt, alloc, words, file, out, err),
+        (_, [file]) => run_file(rt, alloc, words, file, input, out, err),
         _ => {
             let _ = err.write_all(b"usbtrace: only `test` takes more than one file\n");
             BAD_WORDS

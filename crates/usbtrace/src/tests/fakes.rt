@@ -1,8 +1,10 @@
 //! Readers and writers over memory that may fail, and runs over them.
 
+use crate::program::perform;
 use std::alloc::Global;
 use std::io;
 use std::io::{ErrorKind, Read, Write};
+use std::rt::Files;
 use std::sync::Wait;
 use std::thread::Threads;
 use usb_trace::trace;
@@ -223,6 +225,24 @@ pub(crate) fn run<X: Threads + Wait + Sync>(
         Output::new(alloc, usize::MAX, ErrorKind::BrokenPipe),
         Output::new(alloc, usize::MAX, ErrorKind::BrokenPipe),
     )
+}
+
+/// Runs the program on words and files, over an input that can't be read.
+pub(crate) fn run_files<X: Threads + Wait + Sync + Files>(
+    rt: &X,
+    alloc: Global,
+    words: &[&str],
+    files: &[&str],
+) -> Outcome {
+    let mut input = Input::failing(b"", 1, ErrorKind::ConnectionReset);
+    let mut out = Output::new(alloc, usize::MAX, ErrorKind::BrokenPipe);
+    let mut err = Output::new(alloc, usize::MAX, ErrorKind::BrokenPipe);
+    let status = perform(rt, alloc, words, files, &mut input, &mut out, &mut err);
+    Outcome {
+        status,
+        out: out.taken,
+        err: err.taken,
+    }
 }
 
 /// Runs the program over these streams.

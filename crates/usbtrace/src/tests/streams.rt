@@ -104,15 +104,17 @@ fn a_read_that_fails_hides_a_bad_line(rt: HostRuntime) {
     assert!(rt; tells_of_a_read(&rt, alloc, CHECK, b"no line\n", error, FAILED));
 }
 
-/// The first beginning of its lines behind which a write that fails isn't told on these words.
+/// The first beginning of its lines behind which a write that fails so isn't told so on these words.
 fn first_to_differ<X: Threads + Wait + Sync>(
     rt: &X,
     alloc: Global,
     words: &[&str],
+    error: ErrorKind,
+    said: &str,
 ) -> Option<usize> {
     for room in 0..LINES.len() {
         let front = LINES.get(..room).unwrap_or("");
-        if !tells_of_a_write(rt, alloc, words, TEXT, ErrorKind::BrokenPipe, front, FAILED) {
+        if !tells_of_a_write(rt, alloc, words, TEXT, error, front, said) {
             return Some(room);
         }
     }
@@ -121,12 +123,23 @@ fn first_to_differ<X: Threads + Wait + Sync>(
 
 #[test]
 fn a_write_that_fails_in_midstream_ends_the_run(rt: HostRuntime) {
-    let (alloc, error) = (rt.alloc(), ErrorKind::BrokenPipe);
-    let first = first_to_differ(&rt, alloc, WORDS).or(first_to_differ(&rt, alloc, ALONE));
-    assert_eq!(rt; first, None);
+    let (alloc, error) = (rt.alloc(), ErrorKind::StorageFull);
+    let first = first_to_differ(&rt, alloc, WORDS, error, FAILED);
+    assert_eq!(rt;
+        first.or(first_to_differ(&rt, alloc, ALONE, error, FAILED)),
+        None
+    );
     assert!(rt; tells_of_a_write(&rt, alloc, CHECK, b"take 1\n", error, "line 1:", FAILED));
     assert!(rt; tells_of_a_write(&rt, alloc, CHECK, b"take\n", error, "0 devic", FAILED));
     assert!(rt; tells_of_a_write(&rt, alloc, HELP, TEXT, error, "", FAILED));
+}
+
+#[test]
+fn a_reader_of_the_output_that_goes_away_is_told_nothing(rt: HostRuntime) {
+    let (alloc, error) = (rt.alloc(), ErrorKind::BrokenPipe);
+    assert_eq!(rt; first_to_differ(&rt, alloc, WORDS, error, ""), None);
+    assert!(rt; tells_of_a_write(&rt, alloc, CHECK, b"take\n", error, "0 devic", ""));
+    assert!(rt; tells_of_a_write(&rt, alloc, HELP, TEXT, error, "", ""));
 }
 
 #[test]
@@ -159,10 +172,21 @@ fn what_is_printed_is_flushed(rt: HostRuntime) {
 
 #[test]
 fn a_flush_that_fails_is_a_fault(rt: HostRuntime) {
-    let error = Some(ErrorKind::BrokenPipe);
+    let error = Some(ErrorKind::StorageFull);
     assert!(rt; flushes(&rt, rt.alloc(), WORDS, 1, "", FAILED, error));
     assert!(rt; flushes(&rt, rt.alloc(), ALONE, 1, "", FAILED, error));
     assert!(rt; flushes(&rt, rt.alloc(), HELP, 1, "", FAILED, error));
+    assert!(rt;
+        flushes(
+            &rt,
+            rt.alloc(),
+            WORDS,
+            1,
+            "",
+            "",
+            Some(ErrorKind::BrokenPipe)
+        )
+    );
 }
 
 /// Whether these words answer this status, where standard error fails.

@@ -1,6 +1,6 @@
 //! The words that the program takes. Of bad ones it is said, in clap's own words, what is wrong with them.
 
-use super::fakes::{Input, run};
+use super::fakes::{Input, run, run_files};
 use std::alloc::{AllocError, Global};
 use std::io::ErrorKind;
 use std::sync::Wait;
@@ -186,4 +186,22 @@ fn the_help_of_each_subcommand_has_its_example(rt: HostRuntime) {
         )
     );
     assert!(rt; shows(&rt, rt.alloc(), &["usbtrace", "--help"], &run));
+}
+
+#[test]
+fn help_says_that_files_are_read_and_what_a_macro_is(rt: HostRuntime) {
+    let files = [": usbtrace run scenario.txt\n"];
+    assert!(rt; shows(&rt, rt.alloc(), &["usbtrace", "--help"], &files));
+    let macros = ["\n  macro NAME ", ": usbtrace test first.txt second.txt\n"];
+    assert!(rt; shows(&rt, rt.alloc(), &["usbtrace", "test", "--help"], &macros));
+}
+
+#[test]
+fn words_are_judged_before_a_file_is_opened(rt: HostRuntime) {
+    let walk =
+        "error: unrecognized subcommand 'walk'\n\nUsage: usbtrace <COMMAND>\n\nFor more information, try '--help'.\n";
+    let (none, alloc) = (["there/is/none"], rt.alloc());
+    assert!(rt; run_files(&rt, alloc, &["usbtrace", "walk"], &none).only_says(2, walk));
+    let unread = "usbtrace: there/is/none can't be read\n";
+    assert!(rt; run_files(&rt, alloc, &["usbtrace", "run"], &none).only_says(1, unread));
 }
