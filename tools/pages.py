@@ -4,7 +4,7 @@
 README.md has at most 70 lines. Its first commands are `make run` and `make test`; its scenario is a file of scenarios/, which the gate
 tests; its devices, test in Python and output are those of c/example, which c_test runs; its lines of Rattle stand in crates/example_first.
 docs/SCENARIOS.md has in front of each picture the worked row of that picture, with what it prints. docs/DEVICES.md has the devices of
-c/example. docs/README.md lists each page of docs/.
+c/example, docs/PYTHON.md its tests, docs/RATTLE.md the code of crates/example_first. docs/README.md lists each page of docs/.
 docs/FROM_LIBUSB.md has a row for each function of c/include/libusb.h. Each link leads to a file and a heading; each page, call and file of
 code that is named is there."""
 import pathlib
@@ -102,6 +102,19 @@ def device_faults() -> Iterator[str]:
             yield f"docs/DEVICES.md doesn't have the lines of {path.relative_to(ROOT)}"
 
 
+def example_faults() -> Iterator[str]:
+    """Tests in docs/PYTHON.md and code in docs/RATTLE.md that aren't those of the examples."""
+    tests = [[line for line in it.read_text().splitlines() if line] for it in EXAMPLE.rglob("test_*.py")]
+    for block in blocks((DOCS / "PYTHON.md").read_text()):
+        lines = [line for line in block if line]
+        if any(it.startswith("def test_") for it in lines) and not has_lines(tests, lines):
+            yield f"docs/PYTHON.md has a test that isn't one of c/example: {lines[0]}"
+    sources = [it.read_text() for it in DRIVER.parent.glob("*.rt")]
+    for block in blocks((DOCS / "RATTLE.md").read_text()):
+        if any(it.endswith(";") for it in block) and not any(stand_in_order(block, it) for it in sources):
+            yield f"docs/RATTLE.md has code that isn't that of crates/example_first: {block[0]}"
+
+
 def list_faults() -> Iterator[str]:
     """Pages that docs/README.md doesn't list."""
     listed = (DOCS / "README.md").read_text()
@@ -161,7 +174,8 @@ def main(words: Sequence[str]) -> int:
     if list(words) != ["check"]:
         print(__doc__)
         return 2
-    faults = [*readme_faults(), *scenario_faults(), *device_faults(), *list_faults(), *function_faults(), *link_faults(), *name_faults()]
+    faults = [*readme_faults(), *scenario_faults(), *device_faults(), *example_faults(), *list_faults(), *function_faults()]
+    faults += [*link_faults(), *name_faults()]
     for fault in faults:
         print(fault)
     if not faults:
