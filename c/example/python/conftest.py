@@ -2,6 +2,7 @@
 
 TIRNOUCH_LIBRARY names the library; without it bin/libusb-1.0.so.0 of this repository is taken."""
 import ctypes
+import ctypes.util
 import gc
 import importlib
 import importlib.util
@@ -72,8 +73,9 @@ def close_contexts() -> None:
     if backend and backend._lib_object:
         backend._lib_object.finalize()
         backend._lib_object = None
-    if "hid" in sys.modules:
-        ctypes.CDLL("libhidapi-libusb.so.0").hid_exit()
+    hidapi = ctypes.util.find_library("hidapi-libusb") if "hid" in sys.modules else None
+    if hidapi:
+        ctypes.CDLL(hidapi).hid_exit()
 
 
 @pytest.fixture
