@@ -70,7 +70,8 @@ def scripts() -> Tree:
 
 def examples() -> Tree:
     """The driver of C.md with its devices, and scenarios with what is expected of them."""
-    found = {f"driver/{it.name}": it for it in (ROOT / "c" / "example").iterdir()}
+    top = ROOT / "c" / "example"
+    found = {f"driver/{it.relative_to(top)}": it for it in top.rglob("*") if it.is_file() and "__pycache__" not in it.parts}
     found.update({f"scenarios/{it.name}": it for it in (ROOT / "scenarios").iterdir()})
     return {f"share/doc/tirnouch/examples/{name}": File(path.read_bytes()) for name, path in sorted(found.items())}
 
