@@ -58,7 +58,8 @@ class Proofs:
 
     def beginning(self) -> str:
         """What is to be done, where nothing is kept."""
-        return f"proves {counted(len(self.names), 'crate')}: some {whole_minutes(self.minutes_left())}, or less where an earlier run on this machine did"
+        crates, left = counted(len(self.names), "crate"), whole_minutes(self.minutes_left())
+        return f"proves {crates}: some {left}, or less where an earlier run on this machine did"
 
     def minutes_left(self) -> float:
         """By the clock: as fast as the work went until now; and no sooner than the dearest chain of crates allows."""
@@ -77,7 +78,8 @@ class Proofs:
         shown = ", ".join(now[:3]) + (f" and {len(now) - 3} more" if len(now) > 3 else "") or "other work"
         left = self.minutes_left()
         goes_on = f"some {whole_minutes(left)} to go" if len(self.done) < len(self.names) else "nearly done"
-        return f"{name}: {len(self.done)} of {counted(len(self.names), 'crate')}; now {shown}; {counted(round(gone), 'minute')} gone, {goes_on}"
+        crates = f"{len(self.done)} of {counted(len(self.names), 'crate')}"
+        return f"{name}: {crates}; now {shown}; {counted(round(gone), 'minute')} gone, {goes_on}"
 
 
 class Teller(threading.Thread):
