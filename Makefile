@@ -145,6 +145,8 @@ captures:
 	@tools/program.py try
 	@python3 tools/captures $(CAPTURES)
 
+include tools/install.mk
+
 wrong_bodies:
 	tools/wrong_bodies.py try
 

@@ -23,9 +23,9 @@ MORE = {"memory": ["-Wl,--wrap=malloc,--wrap=calloc,--wrap=realloc"]}
 # A process that forks isn't looked at by the thread sanitizer; nor are allocations that are refused its own.
 LEFT_OUT = {"thread": {"fork", "memory"}}
 SECONDS = 240
-# What is tried besides: runs that hang, crash or fail with some seeds; and what a trace has where a run ends; what long
-# work says.
-TOOLS = ["tirnouch_run_test.py", "traces_test.py", "progress_test.py"]
+# What is tried besides: runs that hang, crash or fail with some seeds; what a trace has where a run ends; what long work says; and the
+# examples in Python.
+TOOLS = ["tirnouch_run_test.py", "traces_test.py", "progress_test.py", "python_test.py"]
 # How many seeds each program is tried with, and how many dice the program that has its own.
 SEEDS, DICE = {"plain": 6, "sanitized": 2}, {"plain": 12, "sanitized": 3}
 
@@ -120,8 +120,9 @@ def example():
 
 
 def tool(name):
-    """What is wrong with a tool's run, if something is."""
+    """What is wrong with a tool's run, if something is. What it skips is printed."""
     ran = subprocess.run([ROOT / "tools" / name], capture_output=True, text=True)
+    print("".join(f"{it}\n" for it in ran.stdout.splitlines() if it.startswith("skipped: ")), end="")
     return f"tools/{name}: status {ran.returncode}\n{ran.stdout}{ran.stderr}" if ran.returncode else None
 
 

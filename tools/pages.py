@@ -1,24 +1,30 @@
 #!/usr/bin/env python3
 """Whether the pages fit what they speak of: tools/pages.py check; the gate asks it, and it takes no time.
 
-README.md has at most 70 lines; its scenario is that of a worked row, with what it prints; its driver stands in a crate that is
-proved. docs/SCENARIOS.md has in front of each picture the worked row of that picture, with what it prints. docs/LAYERS.md has a page for each crate and for no other. Each page that is named is there."""
+README.md has at most 70 lines. Its first commands are `make run` and `make test`; its scenario is a file of scenarios/, which the gate
+tests; its devices, test in Python and output are those of c/example, which c_test runs; its lines of Rattle stand in crates/example_first.
+docs/SCENARIOS.md has in front of each picture the worked row of that picture, with what it prints. docs/DEVICES.md has the devices of
+c/example, docs/PYTHON.md its tests, docs/RATTLE.md the code of crates/example_first. docs/README.md lists each page of docs/.
+docs/FROM_LIBUSB.md has a row for each function of c/include/libusb.h. Each link leads to a file and a heading; each page, call and file of
+code that is named is there."""
 import pathlib
 import re
 import sys
+from typing import Iterator, Sequence
 
 ROOT = pathlib.Path(__file__).resolve().parent.parent
-ROW = "cancel_amid_transfer"
+DOCS = ROOT / "docs"
+EXAMPLE = ROOT / "c" / "example"
 DRIVER = ROOT / "crates" / "example_first" / "src" / "meter.rt"
-PAGES = [ROOT / "README.md", *sorted((ROOT / "docs").glob("*.md")), ROOT / "rows" / "README.md"]
+HEADER = ROOT / "c" / "include" / "libusb.h"
+PAGES = [ROOT / "README.md", ROOT / "SECURITY.md", *sorted(DOCS.glob("*.md")), ROOT / "rows" / "README.md"]
 MOST_LINES = 70
-# Where the printed half of README's scenario begins.
-COLUMN = 42
 
 
-def blocks(text):
+def blocks(text: str) -> list[list[str]]:
     """The indented blocks of a page, each as its lines without the indent."""
-    found, block = [], []
+    found: list[list[str]] = []
+    block: list[str] = []
     for line in [*text.splitlines(), "end"]:
         if line.startswith("    ") or (block and not line):
             block.append(line[4:])
@@ -28,47 +34,126 @@ def blocks(text):
     return found
 
 
-def beside(row, width=None):
+def beside(row: str) -> list[str]:
     """The lines of a worked row, each step with what it prints beside it, in a column as wide as the longest step needs."""
     scenario = (ROOT / "rows" / f"{row}.in").read_text().splitlines()
     printed = (ROOT / "rows" / f"{row}.out").read_text().splitlines()
     setup = [it for it in scenario if it.split()[0] in ("device", "script")]
     steps = [it for it in scenario if it not in setup]
-    width = width or max(map(len, steps)) + 3
+    width = max(map(len, steps)) + 3
     return setup + [f"{step:<{width}}{told}" for step, told in zip(steps, printed, strict=True)]
 
 
-def readme_faults():
+def lines_without(text: str, beginning: str) -> list[str]:
+    """The lines of a text that aren't empty and don't begin so."""
+    return [it for it in text.splitlines() if it and not it.startswith(beginning)]
+
+
+def stand_in_order(lines: Sequence[str], text: str) -> bool:
+    """Whether each of these lines stands in a text, behind the one before, but for blanks in front."""
+    rest = iter(it.strip() for it in text.splitlines())
+    return all(any(line.strip() == it for it in rest) for line in lines)
+
+
+def has_lines(found: Sequence[list[str]], lines: list[str]) -> bool:
+    """Whether a block has these lines, one behind the other."""
+    return any(block[at : at + len(lines)] == lines for block in found for at in range(len(block)))
+
+
+def readme_faults() -> Iterator[str]:
     """What of README.md isn't as it says."""
     text = (ROOT / "README.md").read_text()
+    found = [[line for line in block if line] for block in blocks(text)]
+    scenarios = [lines_without(it.read_text(), "#") for it in (ROOT / "scenarios").glob("*.txt")]
+    test = (EXAMPLE / "test_meter.py").read_text().partition('"""\n')[2]
+    expected = (EXAMPLE / "expected").read_text().splitlines()
     if len(text.splitlines()) > MOST_LINES:
         yield f"README.md has more than {MOST_LINES} lines"
-    if beside(ROW, COLUMN - 4) not in blocks(text):
-        yield f"README.md doesn't have rows/{ROW}.in with what it prints"
-    driver = DRIVER.read_text()
-    if not any("\n".join(it) in driver for it in blocks(text) if it[0].startswith("impl ")):
-        yield f"README.md's driver isn't that of {DRIVER.relative_to(ROOT)}"
+    if not found or [line.split("#")[0].split() for line in found[0][:2]] != [["make", "run"], ["make", "test"]]:
+        yield "README.md doesn't begin with `make run` and `make test`"
+    if not any(has_lines(found, it) for it in scenarios):
+        yield "README.md has no scenario that is a file of scenarios/"
+    if not has_lines(found, lines_without((EXAMPLE / "devices.txt").read_text(), "#")):
+        yield "README.md doesn't have the devices of c/example/devices.txt"
+    if not has_lines(found, [it for it in test.splitlines() if it]):
+        yield "README.md doesn't have the test of c/example/test_meter.py"
+    if not has_lines(found, expected):
+        yield "README.md doesn't print what c/example/expected has"
+    rattle = [block for block in found if block[0].startswith("library.")]
+    if not rattle or not stand_in_order(rattle[0], DRIVER.read_text()):
+        yield f"README.md's lines of Rattle aren't those of {DRIVER.relative_to(ROOT)}"
 
 
-def scenario_faults():
+def scenario_faults() -> Iterator[str]:
     """What of docs/SCENARIOS.md isn't that of its rows."""
-    text = (ROOT / "docs" / "SCENARIOS.md").read_text()
+    text = (DOCS / "SCENARIOS.md").read_text()
     for row in re.findall(r"\(pictures/(\w+)\.svg\)", text):
-        if not (ROOT / "docs" / "pictures" / f"{row}.svg").exists():
+        if not (DOCS / "pictures" / f"{row}.svg").exists():
             yield f"docs/SCENARIOS.md shows a picture of {row}, which isn't there"
         if beside(row) not in blocks(text):
             yield f"docs/SCENARIOS.md doesn't have rows/{row}.in with what it prints"
 
 
-def link_faults():
-    """Pages, tools and folders that a page names and that aren't there."""
+def device_faults() -> Iterator[str]:
+    """Devices of c/example/devices that docs/DEVICES.md has otherwise, or not at all."""
+    found = blocks((DOCS / "DEVICES.md").read_text())
+    for path in [EXAMPLE / "devices.txt", *sorted((EXAMPLE / "devices").glob("*.txt"))]:
+        if not has_lines(found, path.read_text().splitlines()):
+            yield f"docs/DEVICES.md doesn't have the lines of {path.relative_to(ROOT)}"
+
+
+def example_faults() -> Iterator[str]:
+    """Tests in docs/PYTHON.md and code in docs/RATTLE.md that aren't those of the examples."""
+    tests = [[line for line in it.read_text().splitlines() if line] for it in EXAMPLE.rglob("test_*.py")]
+    for block in blocks((DOCS / "PYTHON.md").read_text()):
+        lines = [line for line in block if line]
+        if any(it.startswith("def test_") for it in lines) and not has_lines(tests, lines):
+            yield f"docs/PYTHON.md has a test that isn't one of c/example: {lines[0]}"
+    sources = [it.read_text() for it in DRIVER.parent.glob("*.rt")]
+    for block in blocks((DOCS / "RATTLE.md").read_text()):
+        if any(it.endswith(";") for it in block) and not any(stand_in_order(block, it) for it in sources):
+            yield f"docs/RATTLE.md has code that isn't that of crates/example_first: {block[0]}"
+
+
+def list_faults() -> Iterator[str]:
+    """Pages that docs/README.md doesn't list."""
+    listed = (DOCS / "README.md").read_text()
+    for page in sorted(it.name for it in DOCS.glob("*.md")):
+        if page != "README.md" and f"({page})" not in listed:
+            yield f"docs/README.md doesn't list {page}"
+
+
+def function_faults() -> Iterator[str]:
+    """Functions of libusb that docs/FROM_LIBUSB.md has in no row."""
+    rows = "\n".join(it for it in (DOCS / "FROM_LIBUSB.md").read_text().splitlines() if it.startswith("|"))
+    for name in sorted(set(re.findall(r"\b(libusb_\w+)\(", HEADER.read_text()))):
+        if f"`{name}`" not in rows:
+            yield f"docs/FROM_LIBUSB.md has no row of {name}"
+
+
+def headings(page: pathlib.Path) -> set[str]:
+    """The anchors of a page: its headings in small letters, without signs, and with - for blanks."""
+    found = re.findall(r"^#+ (.*)$", page.read_text(), re.MULTILINE)
+    return {re.sub(r"[^\w\- ]", "", it.lower()).replace(" ", "-") for it in found}
+
+
+def link_faults() -> Iterator[str]:
+    """Links that lead to no file or no heading; and pages, tools and folders that a page names and that aren't there."""
     for page in PAGES:
-        for name in sorted(set(re.findall(r"\b(?:bench|c|docs|tools|rows|crates)/[\w./-]*\w", page.read_text()))):
-            if "NAME" not in name and "CRATE" not in name and not (ROOT / name).exists():
-                yield f"{page.relative_to(ROOT)} names {name}, which isn't there"
+        text, name = page.read_text(), page.relative_to(ROOT)
+        for target in sorted(set(re.findall(r"\]\((?!https?:)([^)\s]+)\)", text))):
+            path, _, anchor = target.partition("#")
+            aim = (page.parent / path).resolve() if path else page
+            if not aim.exists():
+                yield f"{name} has a link to {target}, which isn't there"
+            elif anchor and (aim.suffix != ".md" or anchor not in headings(aim)):
+                yield f"{name} has a link to {target}, and there is no such heading"
+        for it in sorted(set(re.findall(r"(?<!\()\b(?:bench|c|docs|tools|rows|crates|scenarios)/[\w./-]*\w", text))):
+            if "NAME" not in it and "CRATE" not in it and not (ROOT / it).exists():
+                yield f"{name} names {it}, which isn't there"
 
 
-def name_faults():
+def name_faults() -> Iterator[str]:
     """Calls, as `Core::take`, and files of code that a page names and that aren't there."""
     sources = list((ROOT / "crates").rglob("*.rt"))
     names = {it.stem for it in sources} | {it.name for it in (ROOT / "crates").iterdir()}
@@ -84,11 +169,13 @@ def name_faults():
             yield f"{page.relative_to(ROOT)} names {name}, which isn't there"
 
 
-def main(words):
-    if words != ["check"]:
+def main(words: Sequence[str]) -> int:
+    """The status."""
+    if list(words) != ["check"]:
         print(__doc__)
         return 2
-    faults = [*readme_faults(), *scenario_faults(), *link_faults(), *name_faults()]
+    faults = [*readme_faults(), *scenario_faults(), *device_faults(), *example_faults(), *list_faults(), *function_faults()]
+    faults += [*link_faults(), *name_faults()]
     for fault in faults:
         print(fault)
     if not faults:

@@ -33,6 +33,14 @@ LOGGED, SHOWN = 60.0, 1.0
 SHORT = 15.0
 
 
+def counted(number: int, what: str) -> str:
+    return f"{number} {what}{'' if number == 1 else 's'}"
+
+
+def whole_minutes(minutes: float) -> str:
+    return counted(max(1, round(minutes)), "minute")
+
+
 class Proofs:
     """Which crates a run has to prove, which are done, and what is left to do, by what they cost before."""
 
@@ -50,8 +58,8 @@ class Proofs:
 
     def beginning(self) -> str:
         """What is to be done, where nothing is kept."""
-        minutes = self.minutes_left()
-        return f"proves {len(self.names)} crates: some {max(1, round(minutes))} minutes, or less where earlier runs on this machine proved some"
+        crates, left = counted(len(self.names), "crate"), whole_minutes(self.minutes_left())
+        return f"proves {crates}: some {left}, or less where an earlier run on this machine did"
 
     def minutes_left(self) -> float:
         """By the clock: as fast as the work went until now; and no sooner than the dearest chain of crates allows."""
@@ -69,8 +77,9 @@ class Proofs:
         now = sorted(self.meter.now)
         shown = ", ".join(now[:3]) + (f" and {len(now) - 3} more" if len(now) > 3 else "") or "other work"
         left = self.minutes_left()
-        goes_on = f"some {max(1, round(left))} to go" if len(self.done) < len(self.names) else "nearly done"
-        return f"{name}: {len(self.done)} of {len(self.names)} crates; now {shown}; {gone:.0f} minutes gone, {goes_on}"
+        goes_on = f"some {whole_minutes(left)} to go" if len(self.done) < len(self.names) else "nearly done"
+        crates = f"{len(self.done)} of {counted(len(self.names), 'crate')}"
+        return f"{name}: {crates}; now {shown}; {counted(round(gone), 'minute')} gone, {goes_on}"
 
 
 class Teller(threading.Thread):

@@ -46,9 +46,13 @@ class Proofs(unittest.TestCase):
         self.assertIn("make it: 1 of 3 crates; now other work; 0 minutes gone, some ", told)
         self.assertIn("make it: 2 of 3 crates; ", told)
 
+    def test_one_is_counted_as_one(self) -> None:
+        _, _, told = self.prove("true", names=["usb_trb"])
+        self.assertIn("proves 1 crate: some ", told)
+
     def test_the_first_line_says_what_is_to_be_done(self) -> None:
         _, _, told = self.prove("true")
-        self.assertRegex(told, r"\Amake it: proves 3 crates: some \d+ minutes")
+        self.assertRegex(told, r"\Amake it: proves 3 crates: some \d+ minutes?, or less")
 
     def test_what_went_well_is_left_out_where_only_faults_are_wanted(self) -> None:
         script = "echo 'fn usb_trb::read: proved'; echo 'rt: usb_trb proved'; echo 'src/lib.rt:3:1: error: no'"

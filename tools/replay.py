@@ -2,11 +2,13 @@
 """Runs the steps that a C program's run made by usbtrace, and compares what each of them came to.
 
     tools/replay.py USBTRACE TRACE..
+    tirnouch-replay TRACE..
 
-A TRACE is the file that TIRNOUCH_TRACE names: a scenario (docs/FORMATS.md), in which a comment behind a step's line has what the
-core said of it in the program's run. USBTRACE is the program, bin/usbtrace. Compared are refusals, numbers of transfers, and
-callbacks with their bytes. A trace that agrees has one line; of one that differs the differences are told, at most 5 of each kind,
-with the number of the step's line, and the status is 1.
+A TRACE is the file that TIRNOUCH_TRACE or `tirnouch-run --trace` names: a scenario (FORMATS.md of the documentation), in which a
+comment behind a step's line has what the core said of it in the program's run. USBTRACE is the program, bin/usbtrace; installed as
+tirnouch-replay, this takes the one that stands beside it. Compared are refusals, numbers of transfers, and callbacks with their
+bytes. A trace that agrees has one line; of one that differs the differences are told, at most 5 of each kind, with the number of the
+step's line, and the status is 1.
 
     # answer CODE                        the step was refused, and this is libusb's number of it
     # done                               it was done
@@ -44,6 +46,8 @@ KINDS = {
     "called": "another callback",
 }
 MOST = 5
+# usbtrace, where both are installed; the repository has none there.
+BESIDE = pathlib.Path(__file__).resolve().with_name("usbtrace")
 # How much of a line is shown.
 WIDTH = 100
 
@@ -52,7 +56,7 @@ Step = collections.namedtuple("Step", "line text said")
 
 def stop(message):
     """What can't be compared."""
-    sys.exit(f"tools/replay.py: {message}")
+    sys.exit(f"{pathlib.Path(sys.argv[0]).name}: {message}")
 
 
 def comment_of(line, name, number):
@@ -171,10 +175,16 @@ def replay(program, trace):
 
 
 def main():
-    if len(sys.argv) < 3 or sys.argv[1].startswith("-"):
+    words = sys.argv[1:]
+    if words and words[0] in ("--help", "-h"):
+        print(__doc__)
+        sys.exit(0)
+    if BESIDE.is_file():
+        words = [str(BESIDE), *words]
+    if len(words) < 2 or any(it.startswith("-") for it in words):
         sys.exit(__doc__)
-    program = sys.argv[1] if "/" in sys.argv[1] else f"./{sys.argv[1]}"
-    agree = [replay(program, trace) for trace in sys.argv[2:]]
+    program = words[0] if "/" in words[0] else f"./{words[0]}"
+    agree = [replay(program, trace) for trace in words[1:]]
     sys.exit(0 if all(agree) else 1)
 
 

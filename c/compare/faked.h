@@ -1,5 +1,5 @@
 /* What the files of this folder share: a USB bus that is faked in the process, under libusb's own binary. The scenes of c/tests/usb run
- * over it unchanged, with the devices' text that Tirnouch reads (docs/C.md).
+ * over it unchanged, with the devices' text that Tirnouch reads (docs/DEVICES.md).
  *
  * The program's `open`, `close`, `ioctl`, `poll` and `mmap` stand before libc's (system.c), and its functions of libudev before libudev's
  * (udev.c). What an ioctl answers is what drivers/usb/core of Linux 6.1 does for a device at an xHCI controller; where a comment

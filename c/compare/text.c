@@ -1,4 +1,4 @@
-/* Reads the devices' text (docs/C.md, "The devices"). It is taken to be right: what is wrong with one is tried with Tirnouch. */
+/* Reads the devices' text (docs/DEVICES.md). It is taken to be right: what is wrong with one is tried with Tirnouch. */
 #include "faked.h"
 
 #include <stdlib.h>

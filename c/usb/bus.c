@@ -56,7 +56,7 @@ static void complain(const char *text, size_t length, const char *name)
     const char *line = line_of(text, length, told.n, &line_length);
     const char *word = word_of(line, line_length, told.amount, &word_length);
     if (count <= 0) {
-        fprintf(stderr, "libusb: error %s: a line isn't one of devices (docs/C.md), and there is no memory to say which\n", name);
+        fprintf(stderr, "libusb: error %s: a line isn't one of devices (docs/DEVICES.md), and there is no memory to say which\n", name);
         return;
     }
     fprintf(stderr, "libusb: error %s, line %lu, ", name, (unsigned long)told.n);

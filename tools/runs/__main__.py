@@ -1,10 +1,12 @@
 """The part of tools/tirnouch-run that watches programs: a limit, many seeds, the library's version.
 
-    python3 tools/runs version LIBRARY
+    python3 tools/runs version LIBRARY FILE
     python3 tools/runs limit TIME MILLISECONDS -- PROGRAM ..
-    python3 tools/runs seeds FIRST LAST [--jobs N] [--keep-going] [--limit TIME MILLISECONDS] [--virtual] --again RUN DEVICES -- PROGRAM ..
+    python3 tools/runs seeds FIRST LAST [--jobs N] [--keep-going] [--limit TIME MILLISECONDS] [--virtual] \
+        --picture USBTRACE REMEDY --again RUN DEVICES -- PROGRAM ..
 
-tools/tirnouch-run has checked the words, and has set the environment of the program.
+tools/tirnouch-run has checked the words, and has set the environment of the program. It knows where the parts stand, in the repository
+and where they are installed: the library, the FILE with the version, and usbtrace, with the REMEDY where that is missing.
 
 The modules, from below: program (a process group, and its end); traces (the files of a run's steps); limit (a run that is ended when
 its time is over); seeds (many runs); shown (what is told of them)."""
@@ -45,8 +47,8 @@ def run_seeds(words: argparse.Namespace, program: Sequence[str]) -> int:
         return 126
 
 
-def print_version(library: str) -> int:
-    """What the library says of itself; ctypes loads it into this process, which does nothing else."""
+def print_version(library: str, version_file: pathlib.Path) -> int:
+    """What the library says of itself, and the version; ctypes loads the library into this process, which does nothing else."""
 
     class Version(ctypes.Structure):
         """struct libusb_version"""
@@ -59,10 +61,14 @@ def print_version(library: str) -> int:
     except (OSError, AttributeError) as error:
         tell(f"{library} can't be loaded: {error}")
         return 127
+    try:
+        version = version_file.read_text().strip()
+    except OSError as error:
+        version = f"isn't known: {error}"
     ask.restype = ctypes.POINTER(Version)
     it = ask().contents
     rc, name = (it.rc or b"").decode(), (it.describe or b"").decode()
-    print(f"{name} libusb {it.major}.{it.minor}.{it.micro}.{it.nano}{rc}\n{library}")
+    print(f"{name} libusb {it.major}.{it.minor}.{it.micro}.{it.nano}{rc}\n{library}\nversion {version}")
     return 0
 
 
@@ -71,6 +77,7 @@ def arguments(words: Sequence[str]) -> argparse.Namespace:
     kinds = parser.add_subparsers(dest="kind", required=True)
     version = kinds.add_parser("version")
     version.add_argument("library")
+    version.add_argument("file", type=pathlib.Path)
     limit = kinds.add_parser("limit")
     limit.add_argument("said")
     limit.add_argument("milliseconds", type=int)
@@ -81,6 +88,7 @@ def arguments(words: Sequence[str]) -> argparse.Namespace:
     seeds.add_argument("--keep-going", action="store_true")
     seeds.add_argument("--limit", nargs=2)
     seeds.add_argument("--virtual", action="store_true")
+    seeds.add_argument("--picture", nargs=2, required=True)
     seeds.add_argument("--again", nargs=2, required=True)
     return parser.parse_args(words)
 
@@ -89,7 +97,7 @@ def main(words: List[str]) -> int:
     at = words.index("--") if "--" in words else len(words)
     asked, program = arguments(words[:at]), words[at + 1:]
     if asked.kind == "version":
-        return print_version(asked.library)
+        return print_version(asked.library, asked.file)
     if asked.kind == "limit":
         run_with_limit(asked.said, asked.milliseconds, program)
     return run_seeds(asked, program)

@@ -10,7 +10,6 @@ from typing import Dict, List, Sequence
 from seeds import Seeds
 from traces import traces_of
 
-ROOT = pathlib.Path(__file__).resolve().parent.parent.parent
 # Of an output so many bytes are shown, the last ones, and of a trace so many lines are drawn.
 MOST_OUTPUT, MOST_DRAWN = 65536, 2000
 
@@ -28,11 +27,10 @@ def show_output(path: pathlib.Path) -> None:
     sys.stdout.buffer.flush()
 
 
-def draw(trace: pathlib.Path, page: pathlib.Path) -> str:
+def draw(trace: pathlib.Path, page: pathlib.Path, usbtrace: str, remedy: str) -> str:
     """Draws the picture of a trace's whole lines: a sentence of what became of it."""
-    usbtrace = ROOT / "bin" / "usbtrace"
-    if not usbtrace.is_file():
-        return f"no picture: there is no {usbtrace}; build it by: make -C {ROOT} run"
+    if not pathlib.Path(usbtrace).is_file():
+        return f"no picture: there is no {usbtrace}; {remedy}"
     text = trace.read_bytes()
     text = text[:text.rfind(b"\n") + 1]
     first = max(1, text.count(b"\n") - MOST_DRAWN + 1)
@@ -49,7 +47,7 @@ def draw(trace: pathlib.Path, page: pathlib.Path) -> str:
     return f"its picture{part}: ./{page}"
 
 
-def keep(folder: pathlib.Path, seed: int) -> None:
+def keep(folder: pathlib.Path, seed: int, usbtrace: str, remedy: str) -> None:
     """Keeps what a failing run left, in this folder, and says so."""
     traces = traces_of(str(folder / "trace"), 0)
     if not traces:
@@ -59,7 +57,7 @@ def keep(folder: pathlib.Path, seed: int) -> None:
     try:
         shutil.copyfile(traces[-1], kept)
         print(f"its trace{f', that of the last of {len(traces)} buses' if len(traces) > 1 else ''}: ./{kept}")
-        print(draw(kept, kept.with_suffix(".html")))
+        print(draw(kept, kept.with_suffix(".html"), usbtrace, remedy))
     except OSError as error:
         print(f"its trace can't be kept: {error}")
 
@@ -80,7 +78,7 @@ def report(runs: Seeds) -> int:
     for failure, seeds in kinds.items() if runs.words.keep_going else list(kinds.items())[:1]:
         print(f"seed {seeds[0]} failed: {failure}")
         show_output(runs.at(seeds[0]) / "output")
-        keep(runs.at(seeds[0]), seeds[0])
+        keep(runs.at(seeds[0]), seeds[0], *runs.words.picture)
         print(f"run it again: {command_again(runs.words, runs.program, seeds[0])}")
         if len(seeds) > 1:
             print(f"so did {', '.join(str(it) for it in seeds[1:])}")

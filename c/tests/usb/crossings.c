@@ -328,7 +328,7 @@ static void beside_another(void)
     end();
 }
 
-/* Who claims an interface goes on where the device stands (docs/C.md, `anew`): its halt is there still. */
+/* Who claims an interface goes on where the device stands (docs/DEVICES.md, `anew`): its halt is there still. */
 static void hands(void)
 {
     libusb_device_handle *other;

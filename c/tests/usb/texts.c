@@ -1,5 +1,5 @@
 /* Texts of devices that aren't taken: libusb_init says on standard error which line, which word of it, and what is wanted there. The expected
- * sentences are those of docs/C.md's form of each line. */
+ * sentences are those of docs/DEVICES.md's form of each line. */
 #include "scene.h"
 
 #include <stdio.h>

@@ -72,8 +72,8 @@ impl fmt::Display for Fault {
 
 impl Fault {
     /// Whether it is that nobody reads the output any more.
-    fn is_closed(self) -> bool
-        ensures { result ≡ is_closed self }
+    fn is_closed(&self) -> bool
+        ensures { result ≡ is_closed self.now }
     {
         matches!(self, Fault::Closed)
     }
@@ -91,9 +91,9 @@ impl Fault {
     }
 
     /// Says it in words, whatever it is. Where writing fails, a beginning is written.
-    fn tell_sentence<E: io::Write>(self, err: &mut E) -> Result<(), Fault>
-        ensures whole { OnOk result (Appends (E.contents err.old) (E.contents err.new) (sentence_of self)) }
-        ensures begun { AppendsSome (sentence_of self) (E.contents err.old) (E.contents err.new) }
+    fn tell_sentence<E: io::Write>(&self, err: &mut E) -> Result<(), Fault>
+        ensures whole { OnOk result (Appends (E.contents err.old) (E.contents err.new) (sentence_of self.now)) }
+        ensures begun { AppendsSome (sentence_of self.now) (E.contents err.old) (E.contents err.new) }
     {
         let mut message: ArrayString<ROOM> = ArrayString::new();
         match write!(message, "usbtrace: {self}\n") {
