@@ -8,7 +8,7 @@ use std::alloc::{AllocError, Global};
 use usb_core::Setup;
 use usb_descriptors::{Config, read_config};
 use usb_device::TableDevice;
-use usb_model::{Bytes, Configuration, DeviceSetup, EpAddr, Response, Script, Sequence};
+use usb_model::{Bytes, Configuration, DeviceNo, DeviceSetup, EpAddr, Response, Script, Sequence};
 
 /// The endpoints that transfers can go to, and one that no device has.
 pub const ENDPOINTS: [u8; 5] = [0x81, 0x02, 0x83, 0x04, 0x85];
@@ -125,6 +125,67 @@ pub fn real(alloc: Global, seed: u64, answers: u8) -> Result<Setup<TableDevice>>
         }
     }
     Ok(setup)
+}
+
+/// Answers of a device's endpoint that it doesn't know at the beginning, the last one first.
+#[derive(Drop)]
+pub struct Late {
+    /// The device.
+    pub dev: DeviceNo,
+    /// The endpoint.
+    pub ep: EpAddr,
+    /// The answers.
+    pub answers: Vec<Response>,
+}
+
+/// The first answers of a script, so many, and the others, the last one first.
+fn parted(alloc: Global, script: Script, known: usize) -> Result<(Script, Vec<Response>)> {
+    let (mut script, mut late) = (script.into_vec(), Vec::new(alloc));
+    for _ in known..script.len() {
+        if let Some(answer) = script.pop() {
+            late.push(answer)?;
+        }
+    }
+    Ok((Sequence::from_vec(script), late))
+}
+
+/// A device of these scripts that knows so many answers of each; the others are put behind those of the devices before it.
+fn forgetful(
+    alloc: Global,
+    dev: DeviceNo,
+    config: &Config,
+    scripts: Sequence<Script>,
+    known: usize,
+    late: &mut Vec<Late>,
+) -> Result<TableDevice> {
+    let mut first = Sequence::new(alloc);
+    for (id, script) in scripts.into_vec().into_iter().enumerate() {
+        let (script, answers) = parted(alloc, script, known)?;
+        let ep = EpAddr::new((id / 2 + 128 * (id % 2)) as u8);
+        first.push(script)?;
+        late.push(Late { dev, ep, answers })?;
+    }
+    TableDevice::new(alloc, config, first).map_err(|_| anyhow!("no device"))
+}
+
+/// The devices of `real`, which know so many answers of each script at first; and the others.
+pub fn told_late(
+    alloc: Global,
+    seed: u64,
+    known: usize,
+) -> Result<(Setup<TableDevice>, Vec<Late>)> {
+    let (mut dice, mut late) = (Dice::new(seed), Vec::new(alloc));
+    let mut setup = Setup::new(alloc)?;
+    for number in 0..DEVICES {
+        let config = config()?;
+        let scripts = scripts(alloc, &mut dice, &config, ANSWERS)?;
+        let dev = DeviceNo::new(number).ok_or_else(|| anyhow!("no device"))?;
+        let device = forgetful(alloc, dev, &config, scripts, known, &mut late)?;
+        if setup.add(alloc, config, device).is_err() {
+            return Err(anyhow!("the device isn't added"));
+        }
+    }
+    Ok((setup, late))
 }
 
 /// One device, whose endpoint 81 answers with packets of one byte: 10, 11 and 12.
