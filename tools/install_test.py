@@ -263,7 +263,7 @@ def it_is_found_by_any_name(trial: Trial) -> None:
     (moved / "lib" / "tirnouch" / "libusb-1.0.so.0").unlink()
     told = trial.here("tirnouch-run", "--help", PATH=path)
     told.stderr += trial.here("tirnouch-run", EXAMPLE / "devices.txt", "--", driver, PATH=path).stderr
-    trial.expect(told, 0, f"{moved}/share/doc/tirnouch/C.md", "install Tirnouch again")
+    trial.expect(told, 0, f"{moved}/share/doc/tirnouch/DEVICES.md", "install Tirnouch again")
     trial.check("make " not in told.stdout + told.stderr and "tools/" not in told.stdout + told.stderr, "it speaks of the repository")
 
 
@@ -424,7 +424,7 @@ def it_runs_alone(trial: Trial) -> None:
     trial.check(ran.stdout == EXPECTED, f"plainly: {ran.stdout!r} {ran.stderr!r}")
     ran = trial.here(*inside, run, "/devices.txt", "--seeds", "1-2", "--", "/driver")
     trial.expect(ran, 127, "there is no python3, which --seeds needs")
-    trial.expect(trial.here(*inside, run, "--help"), 0, "/usr/local/share/doc/tirnouch/C.md")
+    trial.expect(trial.here(*inside, run, "--help"), 0, "/usr/local/share/doc/tirnouch/DEVICES.md")
 
 
 def versions_agree(trial: Trial) -> None:

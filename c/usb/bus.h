@@ -171,11 +171,13 @@ struct libusb_context {
     int users;                        /* of the default context: how often it was begun */
     int lockers;                      /* atomic: who holds `waiters`, or is about to; it grows under `process.lock` alone */
     int waiting;                      /* for `moved` */
+    int closers;                      /* of them those that wait in libusb_close for the handler's callbacks */
     int event;                        /* an eventfd: it ends the handler's sleep, and tells those who poll by themselves */
     int timer, poller;                /* a timerfd and the epoll over both, for those; -1 where nobody polls */
     struct notice *notices;           /* not told yet, of `all_notices` */
     struct hotplug *hotplugs;
-    pthread_cond_t moved;             /* with process.lock: a callback returned, or nobody handles events any more */
+    pthread_cond_t moved;             /* with process.lock: a callback returned, or nobody handles events any more; with closers:
+                                       * a callback begins, or the handler is back */
     pthread_mutex_t waiters;
     pthread_cond_t happened;          /* with `waiters`: a callback returned, or nobody handles events any more */
     struct notice all_notices[DEVICES][2];
@@ -314,6 +316,7 @@ bool work_on(bool waits);
 bool serve(struct pipe *pipe, uint32_t most);
 bool feed_all(void);
 void settle_all(void);
+void reap_all(void);
 int pull_out(struct device *device);
 
 /* dice.c: the same by single steps, where a seed is given */
@@ -323,6 +326,7 @@ void shake_by_dice(void);
 /* transfers.c */
 void end_transfer(struct transfer *transfer, enum libusb_transfer_status status, int moved);
 int cancel(struct transfer *transfer, enum ask ask);
+bool has_ended(const struct libusb_device_handle *handle);
 void withdraw(struct libusb_device_handle *handle, int interface, bool drops);
 
 /* control.c */

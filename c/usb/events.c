@@ -67,6 +67,8 @@ static void call_back(struct libusb_context *context, struct transfer *transfer)
     uint8_t flags = it->flags;
     context->calling = transfer->handle;
     context->is_calling = true;
+    if (context->closers)
+        pthread_cond_broadcast(&context->moved);
     if (is_told(context, 0))
         note_call(context, it->actual_length, "callback", "endpoint %02x, status %d, bytes", it->endpoint, (int)it->status);
     unlock();
@@ -169,6 +171,8 @@ static int handle_events(struct libusb_context *context, uint64_t end)
     }
     context->is_interrupted = false;
     context->is_working = false;
+    if (context->closers)
+        pthread_cond_broadcast(&context->moved);
     if (context->is_polled)
         show_readiness(context);
     return r;

@@ -80,7 +80,23 @@ static void leave_handles(struct libusb_device_handle *handle)
         *at = handle->next;
 }
 
-/* New transfers are refused first; a callback of the handle that runs is waited for; then what is in progress is dropped. */
+/* A callback of the handle that runs is waited for. And a thread that is handling events calls back first what has ended or was cancelled,
+ * as with libusb, whose close takes the event lock. It isn't waited for while it runs another callback, which may wait for this close. With
+ * the lock. */
+static void await_callbacks(struct libusb_device_handle *handle)
+{
+    struct libusb_context *context = handle->context;
+    if (is_handler(context))
+        return;
+    if (context->is_working)
+        reap_all();
+    context->closers++;
+    while (context->calling == handle || (context->is_working && !context->is_calling && has_ended(handle)))
+        wait_for_move(context);
+    context->closers--;
+}
+
+/* New transfers are refused first; then what is in progress is dropped. */
 void libusb_close(libusb_device_handle *handle)
 {
     if (!handle)
@@ -90,8 +106,7 @@ void libusb_close(libusb_device_handle *handle)
     shake();
     note_handle(handle, 0, __func__);
     handle->is_closing = true;
-    while (context->calling == handle && !is_handler(context))
-        wait_for_move(context);
+    await_callbacks(handle);
     withdraw(handle, -1, true);
     for (int i = 0; i < INTERFACES; i++)
         if (handle->claimed >> i & 1)

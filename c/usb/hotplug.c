@@ -84,6 +84,8 @@ bool call_hotplugs(struct libusb_context *context)
     bool any = false;
     struct notice *notice;
     context->is_calling = true;
+    if (context->closers)
+        pthread_cond_broadcast(&context->moved);
     while ((notice = context->notices)) {
         context->notices = notice->next;
         any |= call_for(context, notice);

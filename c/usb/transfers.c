@@ -89,6 +89,15 @@ int cancel(struct transfer *transfer, enum ask ask)
     return 0;
 }
 
+/* Whether a transfer of the handle waits for its callback. */
+bool has_ended(const struct libusb_device_handle *handle)
+{
+    const struct transfer *it = handle->context->ended.first;
+    while (it && it->handle != handle)
+        it = it->behind;
+    return it;
+}
+
 static void drop_ended(struct libusb_device_handle *handle)
 {
     struct transfers *ended = &handle->context->ended;
@@ -122,9 +131,7 @@ void withdraw(struct libusb_device_handle *handle, int interface, bool drops)
         }
         cancel(it, ASKED_TO_CANCEL);
     }
-    do
-        settle_all();
-    while (reap());
+    reap_all();
     if (drops)
         drop_ended(handle);
 }
@@ -251,9 +258,7 @@ void libusb_free_transfer(struct libusb_transfer *transfer)
              transfer->endpoint);
         it->is_dropped = it->is_freed = true;
         cancel(it, ASKED_TO_CANCEL);
-        do
-            settle_all();
-        while (reap());
+        reap_all();
     }
     free(buffer);
     unlock();

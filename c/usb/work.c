@@ -88,6 +88,14 @@ void settle_all(void)
     }
 }
 
+/* What the controller has done has ended transfers, as far as it has. */
+void reap_all(void)
+{
+    do
+        settle_all();
+    while (reap());
+}
+
 /* All there is to do in one go; whether some was done. */
 static bool work_once(void)
 {

@@ -18,6 +18,8 @@ REDIRECTED = (
     ("<&-", "reads", "closed input"), (">&-", "writes", "closed output"), ("2>&-", "errors", "closed standard error"),
     ("</", "reads", "a folder as input"), (">/dev/full", "writes", "full output"), ("2>/dev/full", "errors", "full standard error"),
 )
+# Nobody reads standard output any more.
+BROKEN = "a broken pipe"
 # The input that is left out of the gate takes several reads and writes: so many steps, and so many bytes of a comment.
 MANY_STEPS, MANY_BYTES = 1_800, 40_000
 
@@ -48,16 +50,17 @@ def failings(made, most):
         yield Failing(kind, 1, FOREVER, SHORT), True
 
 
-def is_told(it, whole, kind):
-    """Whether a stream's failure is told, and nothing printed but a beginning; that of standard error can't be told."""
+def is_told(it, whole, kind, is_closed):
+    """Whether a stream's failure is told, and nothing printed but a beginning; that of standard error can't be told. Where nobody reads
+    standard output any more, the status tells it alone."""
     if kind == "errors":
         return (it.status, it.out) == (whole.status, whole.out) and whole.err.startswith(it.err)
-    return (it.status, it.err) == (1, FAILED) and (whole.out.startswith(it.out) if kind == "writes" else not it.out)
+    return (it.status, it.err) == (1, b"" if is_closed else FAILED) and (whole.out.startswith(it.out) if kind == "writes" else not it.out)
 
 
-def judged(name, word, kind, is_same, it, whole):
+def judged(name, word, kind, is_same, it, whole, is_closed):
     """What a run comes to whose stream fails, or that has to come to the same as the undisturbed one."""
-    right = class_of(word, it, whole) == "unharmed" if is_same else is_told(it, whole, kind)
+    right = class_of(word, it, whole) == "unharmed" if is_same else is_told(it, whole, kind, is_closed)
     return wrong_unless(right, "unharmed" if is_same else "told", name, it)
 
 
@@ -69,9 +72,10 @@ def tried(runs, word, name, given):
     for failing, is_same in failings(whole.made, runs.most):
         how = errno.errorcode[failing.code] if failing.code else "a byte a call"
         it = runs.of(word, given, failing)
-        yield judged(f"{name}: {failing.kind} {failing.first}: {how}", word, failing.kind, is_same, it, whole)
+        yield judged(f"{name}: {failing.kind} {failing.first}: {how}", word, failing.kind, is_same, it, whole,
+                     failing.code == errno.EPIPE)
     for how, kind, it in real_streams(runs, word, given):
-        yield judged(f"{name}: {how}", word, kind, not whole.made[kind], it, whole)
+        yield judged(f"{name}: {how}", word, kind, not whole.made[kind], it, whole, how == BROKEN)
 
 
 def real_streams(runs, word, given):
@@ -83,7 +87,7 @@ def real_streams(runs, word, given):
     os.set_blocking(reading, False)
     yield "an input that doesn't wait", "reads", ended(words, runs.seconds, stdin=reading)
     os.close(reading)
-    yield "a broken pipe", "writes", ended(words, runs.seconds, input=given, stdout=writing)
+    yield BROKEN, "writes", ended(words, runs.seconds, input=given, stdout=writing)
     os.close(writing)
 
 

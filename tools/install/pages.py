@@ -5,7 +5,7 @@ from typing import Dict
 from build import ROOT, Fault
 
 DOCS = ROOT / "docs"
-PAGES = ("INSTALL.md", "C.md", "DEVICES.md", "PYTHON.md", "CORE_FOR_C.md", "CAPTURES.md", "FORMATS.md", "SCENARIOS.md", "MODEL.md",
+PAGES = ("INSTALL.md", "C.md", "DEVICES.md", "PYTHON.md", "VM.md", "CORE_FOR_C.md", "CAPTURES.md", "FORMATS.md", "SCENARIOS.md", "MODEL.md",
          "PROVED.md", "RACES.md")
 LINK = re.compile(r"\[([^]]*)\]\(([^)\s]+)\)")
 # What the repository calls something, and what an installation calls it, the longer names first.

@@ -1,9 +1,10 @@
-/* libusb_exit while another thread is inside libusb_handle_events, and while others wait for that thread; each thread returns, and the
- * library begins again behind it. */
+/* libusb_exit and libusb_close while another thread is inside libusb_handle_events, and while others wait for that thread; each thread
+ * returns, and the library begins again behind it. */
 #include "scene.h"
 
 #include <pthread.h>
 #include <stdatomic.h>
+#include <stdbool.h>
 #include <stdio.h>
 #include <stdlib.h>
 #include <unistd.h>
@@ -97,6 +98,47 @@ static void exit_as_advised(void)
     say(clock_now() - from < 20000 ? "at once" : "late");
 }
 
+static void count_cancelled(struct libusb_transfer *transfer)
+{
+    calls += transfer->status == LIBUSB_TRANSFER_CANCELLED;
+    atomic_fetch_add(&inside, 1);
+}
+
+/* The manual of libusb_cancel_transfer: the callback comes, with CANCELLED. libusb_close takes the event lock, so the thread that handles
+ * events has called it by then. */
+static void closed_behind_a_cancel(bool releases)
+{
+    pthread_t thread;
+    struct libusb_transfer *transfer;
+    int rounds = 0;
+    reset_counts();
+    begin(releases ? "closed behind a cancel and a release" : "closed behind a cancel", "script 0 81 d:01\n");
+    start(&thread, wait_until_stopped);
+    transfer = make(0, 0x81, 8);
+    transfer->callback = count_cancelled;
+    send_off(transfer);
+    while (!atomic_load(&inside))
+        usleep(1000);
+    for (; rounds < ROUNDS; rounds++) {
+        transfer->dev_handle = handle;
+        send_off(transfer);
+        usleep(10000);
+        libusb_cancel_transfer(transfer);
+        if (releases)
+            libusb_release_interface(handle, 0);
+        libusb_close(handle);
+        handle = open_standard(context);
+        libusb_claim_interface(handle, 0);
+    }
+    number("closed", rounds);
+    number("called back", calls);
+    atomic_store(&stops, 1);
+    libusb_interrupt_event_handler(context);
+    pthread_join(thread, NULL);
+    discard(transfer);
+    end();
+}
+
 static void many_times(void)
 {
     pthread_t thread;
@@ -137,6 +179,8 @@ static void open_at_exit(void)
 int main(void)
 {
     exit_as_advised();
+    closed_behind_a_cancel(false);
+    closed_behind_a_cancel(true);
     exit_amid_events(1);
     exit_amid_events(THREADS);
     many_times();
