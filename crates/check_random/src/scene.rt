@@ -158,10 +158,14 @@ fn forgetful(
     known: usize,
     late: &mut Vec<Late>,
 ) -> Result<TableDevice> {
-    let mut first = Sequence::new(alloc);
-    for (id, script) in scripts.into_vec().into_iter().enumerate() {
+    let (mut rest, mut first) = (scripts.into_vec().into_iter(), Sequence::new(alloc));
+    for id in 0..32_u8 {
+        let ep = EpAddr::new(id / 2 + 128 * (id % 2));
+        let script = match rest.next() {
+            Some(script) => script,
+            None => Sequence::new(alloc),
+        };
         let (script, answers) = parted(alloc, script, known)?;
-        let ep = EpAddr::new((id / 2 + 128 * (id % 2)) as u8);
         first.push(script)?;
         late.push(Late { dev, ep, answers })?;
     }
