@@ -14,6 +14,7 @@ import os
 import pathlib
 import platform
 import sys
+import textwrap
 from typing import Dict, List, Optional
 
 from crate_graph import below, uses as known_uses
@@ -31,6 +32,8 @@ COMMANDS = {
     "test": "is the gate: proves every crate, tries wrong bodies, tests and programs",
     "c-test": "tries the library for C: scenes, threads, sanitizers",
 }
+# For how many processors it is told how long a proof takes.
+PROCESSORS = (2, 4)
 # The crate that a command proves, with those below it; all crates where it is None.
 PROVES: Dict[str, Optional[str]] = {"c-usb": "tirnouch_c", "build": "usbtrace", "test": None}
 
@@ -114,14 +117,20 @@ def page() -> str:
         "|---|---|---|---|",
     ]
     for command, does in COMMANDS.items():
-        span = known["commands"].get(command)
-        spent = "" if command not in PROVES else str(round(sum(
-            (cost if command == "test" else proof).get(it, 0.0) for it in below(PROVES[command]))))
-        out.append(f"| `make {command}` | {clock(span) if span else 'not measured'} | {spent} | {does} |")
+        span, spent = known["commands"].get(command), ""
+        took = clock(span) if span else "not measured"
+        if command in PROVES:
+            names, costs = below(PROVES[command]), cost if command == "test" else proof
+            minutes, longest = sum(costs.get(it, 0.0) for it in names), chain(names, uses, proof)
+            took, spent = " or ".join(f"{max(minutes / it, longest):.0f} minutes of {it}" for it in PROCESSORS), f"{minutes:.0f}"
+        out.append(f"| `make {command}` | {took} | {spent} | {does} |")
+    unmeasured = [f"`{name}`" for name in uses if not table.get(name, {}).get("proof")]
     out += [
         "",
-        "A second run of each takes seconds, but for `make c-test`: what was built or proved is kept. Where other work runs on the machine, a",
-        "proof takes up to twice its processor time.",
+        "What proves crates takes at least so many minutes of two or of four processors, computed from the minutes of the crates. Where",
+        "other work runs on the machine, a proof takes up to twice its processor time. What was built or proved is kept: a second run of",
+        "`make test` takes some minutes, for its tests and programs, and the others but `make c-test` take no time.",
+        *([""] + textwrap.wrap(f"Not measured, and counted as nothing: {', '.join(unmeasured)}.", 138) if unmeasured else []),
         "",
         "## Proofs, crate by crate",
         "",
