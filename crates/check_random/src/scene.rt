@@ -149,15 +149,14 @@ fn parted(alloc: Global, script: Script, known: usize) -> Result<(Script, Vec<Re
     Ok((Sequence::from_vec(script), late))
 }
 
-/// A device of these scripts that knows so many answers of each; the others are put behind those of the devices before it.
-fn forgetful(
+/// So many answers of each of a device's scripts; the others are put behind those of the devices before it.
+fn first_answers(
     alloc: Global,
     dev: DeviceNo,
-    config: &Config,
     scripts: Sequence<Script>,
     known: usize,
     late: &mut Vec<Late>,
-) -> Result<TableDevice> {
+) -> Result<Sequence<Script>> {
     let (mut rest, mut first) = (scripts.into_vec().into_iter(), Sequence::new(alloc));
     for id in 0..32_u8 {
         let ep = EpAddr::new(id / 2 + 128 * (id % 2));
@@ -169,7 +168,7 @@ fn forgetful(
         first.push(script)?;
         late.push(Late { dev, ep, answers })?;
     }
-    TableDevice::new(alloc, config, first).map_err(|_| anyhow!("no device"))
+    Ok(first)
 }
 
 /// The devices of `real`, which know so many answers of each script at first; and the others.
@@ -184,7 +183,10 @@ pub fn told_late(
         let config = config()?;
         let scripts = scripts(alloc, &mut dice, &config, ANSWERS)?;
         let dev = DeviceNo::new(number).ok_or_else(|| anyhow!("no device"))?;
-        let device = forgetful(alloc, dev, &config, scripts, known, &mut late)?;
+        let first = first_answers(alloc, dev, scripts, known, &mut late)?;
+        let Ok(device) = TableDevice::new(alloc, &config, first) else {
+            return Err(anyhow!("no device"));
+        };
         if setup.add(alloc, config, device).is_err() {
             return Err(anyhow!("the device isn't added"));
         }
