@@ -556,15 +556,7 @@ pub extern "C" fn tirnouch_look(
 }
 
 /// An answer for a device of a number that may be none.
-fn feed_in(
-    alloc: Global,
-    session: &mut Session,
-    dev: u8,
-    ep: u8,
-    kind: u8,
-    bytes: &[u8],
-) -> i32
-{
+fn feed_in(alloc: Global, session: &mut Session, dev: u8, ep: u8, kind: u8, bytes: &[u8]) -> i32 {
     match device(dev) {
         None => INVALID,
         Some(dev) => feeds::feed(alloc, session, dev, EpAddr::new(ep), kind, bytes),
@@ -583,8 +575,7 @@ pub extern "C" fn tirnouch_feed(
     ep: u8,
     kind: u8,
     bytes: &[u8],
-) -> i32
-{
+) -> i32 {
     let Some(mut session) = slot.take(alloc) else {
         return NO_SESSION;
     };
@@ -594,8 +585,7 @@ pub extern "C" fn tirnouch_feed(
 }
 
 /// The packet that is next at an endpoint of a number that may be no device's.
-fn offer_in(session: &Session, dev: u8, ep: u8, buffer: &mut [u8], told: &mut Told) -> i32
-{
+fn offer_in(session: &Session, dev: u8, ep: u8, buffer: &mut [u8], told: &mut Told) -> i32 {
     match device(dev) {
         None => INVALID,
         Some(dev) => {
@@ -617,8 +607,7 @@ pub extern "C" fn tirnouch_offer(
     ep: u8,
     buffer: &mut [u8],
     told: &mut Told,
-) -> i32
-{
+) -> i32 {
     let Some(session) = slot.take(alloc) else {
         return NO_SESSION;
     };

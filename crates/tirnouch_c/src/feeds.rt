@@ -32,8 +32,7 @@ pub fn feed(
     ep: EpAddr,
     kind: u8,
     bytes: &[u8],
-) -> i32
-{
+) -> i32 {
     match answer_by(alloc, kind, bytes) {
         Err(_) => NO_MEM,
         Ok(None) => INVALID,
