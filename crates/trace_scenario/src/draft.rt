@@ -1,11 +1,12 @@
 //! The scenario that the lines so far say.
 
-ghost use Rattle.std.specs.Prelude.{◌≡◌, ◌==◌, IfOk, Some, length, not, slice_set, true};
+ghost use Rattle.std.specs.Prelude.{◌≡◌, ◌++◌, ◌==◌, IfOk, Some, length, not, slice_set, true};
 ghost use Rattle.std.specs.Option.{option_and_then};
 ghost use Rattle.trace_scenario.specs.Counts.{counts_of, scripts_of, written_scripts};
 ghost use Rattle.trace_scenario.specs.Line.{line_of};
 ghost use Rattle.trace_scenario.specs.LineResults.{submitted_line};
-ghost use Rattle.trace_scenario.specs.Scenario.{says_nothing, empty_scripts, is_free, takes_script};
+ghost use Rattle.trace_scenario.specs.Line.{feed_line};
+ghost use Rattle.trace_scenario.specs.Scenario.{empty_scripts, has_room, is_free, says_nothing, script_at, takes_script};
 ghost use Rattle.trace_scenario.specs.TextResults.{Becomes, IsJudged};
 ghost use Rattle.trace_scenario.specs.Words.{words_of};
 
@@ -13,6 +14,7 @@ use crate::endpoint_set::EndpointSet;
 use crate::findings::Counts;
 use crate::line::{cut, piece};
 use crate::scenario::Scenario;
+use crate::script::{EndpointAnswers, endpoint_answers};
 use crate::scripted::ScriptedDevice;
 use crate::submit::{Submitted, submit};
 use crate::{Line, LineFault, Misplaced, Problem, Verb};
@@ -20,6 +22,7 @@ use std::alloc::{AllocError, Global};
 use std::marker::Model;
 use std::mem;
 use usb_descriptors::Config;
+use usb_model::limits::LONGEST_SCRIPT;
 use usb_model::{DeviceNo, EpAddr, Kind, Plan, Rule, Script, Sequence, Step};
 
 /// How many ids the endpoints of a device have: one for each number and direction.
@@ -89,7 +92,7 @@ impl Draft {
         self.read_words(alloc, words.as_slice())
     }
 
-    /// Adds what the words of a line say. A piece of the plan is added as it is read, without the line that it would be.
+    /// Adds what the words of a line say. A piece of the plan and answers are added as they are read, without the line that they would be.
     fn read_words(&mut self, alloc: Global, words: &[&str]) -> Result<(), LineFault>
         ensures { Becomes result (option_and_then (with_line self.old) (line_of (words_of words.now))) self.old self.new }
     {
@@ -101,6 +104,7 @@ impl Draft {
                 self.take(alloc, Line::of_verb(alloc, verb, rest)?)
             }
             Verb::Submit => self.add_submission(submit(alloc, rest)?),
+            Verb::Feed => self.add_answers(alloc, endpoint_answers(alloc, Verb::Feed, rest)?),
             verb => self.add_piece(piece(verb, rest)?),
         }
     }
@@ -140,6 +144,9 @@ impl Draft {
         match line {
             Line::Device { number, config } => self.add_device(alloc, number, config),
             Line::Script { dev, ep, answers } => self.add_script(alloc, dev, ep, answers),
+            Line::Feed { dev, ep, answers } => {
+                self.add_answers(alloc, EndpointAnswers { dev, ep, answers })
+            }
             Line::Submit { h, request, rule } => {
                 self.add_submission(Submitted { h, request, rule })
             }
@@ -234,6 +241,27 @@ impl Draft {
         put_script(alloc, &mut self.devices[place], id, answers);
         Ok(())
     }
+
+    /// Adds answers behind those that an endpoint has, where the whole script stays within its limit. Steps may stand before.
+    fn add_answers(&mut self, alloc: Global, more: EndpointAnswers) -> Result<(), LineFault>
+        ensures { Becomes result (with_line self.old (feed_line more)) self.old self.new }
+    {
+        let EndpointAnswers { dev, ep, answers } = more;
+        let (place, id) = (usize::from(dev.number()), usize::from(ep.id()));
+        let device = self
+            .devices
+            .get(place)
+            .ok_or(Problem::Place(Misplaced::NoDevice))?;
+        if !takes_script(&device.config, ep) {
+            let there = EndpointSet::scripted(&device.config);
+            return Err(LineFault::Bad(Problem::Place(Misplaced::NoEndpoint(there))));
+        }
+        if !has_room(device.scripts.as_slice(), id, answers.len()) {
+            return Err(LineFault::Bad(Problem::Answers));
+        }
+        feed_script(alloc, &mut self.devices[place], id, answers)?;
+        Ok(())
+    }
 }
 
 /// How many scripts some devices have.
@@ -297,4 +325,31 @@ fn put_script(alloc: Global, device: &mut ScriptedDevice, id: usize, answers: Sc
     let mut scripts = mem::replace(&mut device.scripts, Sequence::new(alloc)).into_vec();
     scripts[id] = answers;
     device.scripts = Sequence::from_vec(scripts);
+}
+
+/// Whether so many more answers fit behind the script at an id.
+fn has_room(scripts: &[Script], id: usize, more: usize) -> bool
+    ensures { result ≡ has_room id more scripts.now }
+{
+    match scripts.get(id) {
+        Some(script) => script.len().saturating_add(more) <= LONGEST_SCRIPT,
+        None => false,
+    }
+}
+
+/// Puts answers behind those of the script at an id. An error where memory is refused.
+fn feed_script(
+    alloc: Global,
+    device: &mut ScriptedDevice,
+    id: usize,
+    answers: Script,
+) -> Result<(), AllocError>
+    requires { has_room id (length answers) device.old.scripts ≡ true }
+    ensures { IfOk result (λ _. device.new ≡ record device.old { scripts = slice_set device.old.scripts id (script_at id device.old.scripts ++ answers) }) }
+{
+    let mut scripts = mem::replace(&mut device.scripts, Sequence::new(alloc)).into_vec();
+    let script = mem::replace(&mut scripts[id], Script::new(alloc));
+    scripts[id] = script.append(answers)?;
+    device.scripts = Sequence::from_vec(scripts);
+    Ok(())
 }
