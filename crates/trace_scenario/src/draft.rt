@@ -1,6 +1,6 @@
 //! The scenario that the lines so far say.
 
-ghost use Rattle.std.specs.Prelude.{◌≡◌, ◌++◌, ◌==◌, IfOk, Some, length, not, slice_set, true};
+ghost use Rattle.std.specs.Prelude.{◌≡◌, ◌++◌, ◌==◌, [], IfOk, Some, length, not, slice_set, true};
 ghost use Rattle.std.specs.Option.{option_and_then};
 ghost use Rattle.trace_scenario.specs.Counts.{counts_of, scripts_of, written_scripts};
 ghost use Rattle.trace_scenario.specs.Line.{line_of};
@@ -337,7 +337,21 @@ fn has_room(scripts: &[Script], id: usize, more: usize) -> bool
     }
 }
 
-/// Puts answers behind those of the script at an id. An error where memory is refused.
+/// Takes the script at an id out of its place, which is free then.
+#[tactic(auto, using(crate::proofs::Places::room_place, crate::proofs::Places::room_read))]
+fn take_script(alloc: Global, device: &mut ScriptedDevice, id: usize) -> Script
+    requires { has_room id 0 device.old.scripts ≡ true }
+    ensures script { result ≡ script_at id device.old.scripts }
+    ensures others { device.new ≡ record device.old { scripts = slice_set device.old.scripts id [] } }
+{
+    let mut scripts = mem::replace(&mut device.scripts, Sequence::new(alloc)).into_vec();
+    let script = mem::replace(&mut scripts[id], Script::new(alloc));
+    device.scripts = Sequence::from_vec(scripts);
+    script
+}
+
+/// Puts answers behind those of the script at an id, where they fit. An error where memory is refused.
+#[tactic(auto, using(crate::proofs::Places::room_for_none, crate::proofs::Places::freed, crate::proofs::Places::put_back))]
 fn feed_script(
     alloc: Global,
     device: &mut ScriptedDevice,
@@ -347,9 +361,7 @@ fn feed_script(
     requires { has_room id (length answers) device.old.scripts ≡ true }
     ensures { IfOk result (λ _. device.new ≡ record device.old { scripts = slice_set device.old.scripts id (script_at id device.old.scripts ++ answers) }) }
 {
-    let mut scripts = mem::replace(&mut device.scripts, Sequence::new(alloc)).into_vec();
-    let script = mem::replace(&mut scripts[id], Script::new(alloc));
-    scripts[id] = script.append(answers)?;
-    device.scripts = Sequence::from_vec(scripts);
+    let script = take_script(alloc, device, id);
+    put_script(alloc, device, id, script.append(answers)?);
     Ok(())
 }
