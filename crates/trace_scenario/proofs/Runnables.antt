@@ -42,7 +42,7 @@ all_get F (y ∷ xs) zero all = all.0
 all_get F (y ∷ xs) (suc i) all = all_get F xs i all.1
 
 -- how many scripts there are at first
-long_empty : (n : ℕ) → length (empty_scripts n) ≡ n
+pub long_empty : (n : ℕ) → length (empty_scripts n) ≡ n
 unfolding empty_scripts
 long_empty zero = refl
 long_empty (suc n) = length-append (empty_scripts n) ([] ∷ []) ∙ omega (arith, long_empty n)
