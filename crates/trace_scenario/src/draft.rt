@@ -1,14 +1,14 @@
 //! The scenario that the lines so far say.
 
-ghost use Rattle.std.specs.Prelude.{◌≡◌, ◌++◌, ◌==◌, [], IfOk, Some, length, not, slice_set, true};
+ghost use Rattle.std.specs.Prelude.{◌≡◌, ◌++◌, ◌==◌, [], IfOk, Some, is_ok, length, not, slice_set, true};
 ghost use Rattle.std.specs.Option.{option_and_then};
 ghost use Rattle.trace_scenario.specs.Counts.{counts_of, scripts_of, written_scripts};
-ghost use Rattle.trace_scenario.specs.Line.{line_of};
+ghost use Rattle.trace_scenario.specs.Line.{feed_line, line_of};
 ghost use Rattle.trace_scenario.specs.LineResults.{submitted_line};
-ghost use Rattle.trace_scenario.specs.Line.{feed_line};
 ghost use Rattle.trace_scenario.specs.Scenario.{empty_scripts, has_room, is_free, says_nothing, script_at, takes_script};
 ghost use Rattle.trace_scenario.specs.TextResults.{Becomes, IsJudged};
 ghost use Rattle.trace_scenario.specs.Words.{words_of};
+ghost use Rattle.usb_model.specs.Setup.{endpoint_id};
 
 use crate::endpoint_set::EndpointSet;
 use crate::findings::Counts;
@@ -226,15 +226,12 @@ impl Draft {
         if self.has_steps() {
             return Err(LineFault::Bad(Problem::Place(Misplaced::Late)));
         }
-        let (place, id) = (usize::from(dev.number()), usize::from(ep.id()));
+        let (place, id) = places(dev, ep);
         let device = self
             .devices
             .get(place)
             .ok_or(Problem::Place(Misplaced::NoDevice))?;
-        if !takes_script(&device.config, ep) {
-            let there = EndpointSet::scripted(&device.config);
-            return Err(LineFault::Bad(Problem::Place(Misplaced::NoEndpoint(there))));
-        }
+        find_endpoint(&device.config, ep)?;
         if !is_free(device.scripts.as_slice(), id) {
             return Err(LineFault::Bad(Problem::Place(Misplaced::SecondScript)));
         }
@@ -247,15 +244,12 @@ impl Draft {
         ensures { Becomes result (with_line self.old (feed_line more)) self.old self.new }
     {
         let EndpointAnswers { dev, ep, answers } = more;
-        let (place, id) = (usize::from(dev.number()), usize::from(ep.id()));
+        let (place, id) = places(dev, ep);
         let device = self
             .devices
             .get(place)
             .ok_or(Problem::Place(Misplaced::NoDevice))?;
-        if !takes_script(&device.config, ep) {
-            let there = EndpointSet::scripted(&device.config);
-            return Err(LineFault::Bad(Problem::Place(Misplaced::NoEndpoint(there))));
-        }
+        find_endpoint(&device.config, ep)?;
         if !has_room(device.scripts.as_slice(), id, answers.len()) {
             return Err(LineFault::Bad(Problem::Answers));
         }
@@ -307,6 +301,25 @@ fn takes_script(config: &Config, ep: EpAddr) -> bool
 {
     config.endpoints().iter().any(|info| info.address == ep
         && matches!(info.kind, Kind::Bulk | Kind::Interrupt))
+}
+
+/// Where a device stands among the others, and an endpoint's script among those of its device.
+fn places(dev: DeviceNo, ep: EpAddr) -> (usize, usize)
+    ensures device { result.0 ≡ dev }
+    ensures script { result.1 ≡ endpoint_id ep }
+{
+    (usize::from(dev.number()), usize::from(ep.id()))
+}
+
+/// Finds that a configuration has a bulk or interrupt endpoint of this address.
+fn find_endpoint(config: &Config, ep: EpAddr) -> Result<(), Problem>
+    ensures { is_ok result ≡ takes_script config.now ep }
+{
+    if !takes_script(config, ep) {
+        let there = EndpointSet::scripted(config);
+        return Err(Problem::Place(Misplaced::NoEndpoint(there)));
+    }
+    Ok(())
 }
 
 /// Whether there is room for a script at an id: none so far.
