@@ -1,23 +1,20 @@
 -- Answers that are fed are as if they had stood in the script.
-use Rattle.std.proofs.Common.{◌≡◌, ℕ, zero, suc, ◌+◌, ◌<◌, ◌≤◌, ◌==◌, nat_le, nat_lt, Bool, true, false, ◌&&◌, List, [], ◌∷◌, ◌++◌, length, length-append, length-set, Option, Some, None, Result, refl, sym, ap, ◌∙◌, subst, arith}
+use Rattle.std.proofs.Common.{◌≡◌, ℕ, zero, suc, ◌+◌, ◌<◌, ◌≤◌, ◌==◌, nat_le, nat_lt, Bool, true, false, ◌&&◌, List, [], ◌∷◌, ◌++◌, length, length-append, length-set, Option, Some, None, refl, sym, ap, ◌∙◌, subst, arith}
 use Rattle.std.specs.Prelude.{IfSome, slice_get, slice_set, unwrap_or, if◌then◌else◌}
 use Rattle.std.specs.List.{AllByRecursion}
 use Rattle.std.specs.Option.{option_and_then, option_map}
 use Rattle.std.proofs.lemmas.Bool.{and_parts, eqb-false, eqb-true, le-leb, ltb-false, ltb-true}
-use Rattle.usb_model.specs.declared.plan.Plan.{Plan}
-use Rattle.usb_model.specs.declared.plan.Plan.TheVariants.{Do}
 use Rattle.usb_model.specs.declared.response.Response.{Response}
 use Rattle.usb_model.specs.declared.setup.Configuration.{Configuration}
 use Rattle.usb_model.specs.declared.setup.DeviceSetup.{DeviceSetup}
-use Rattle.usb_model.specs.declared.step.Step.TheVariants as step
 use Rattle.usb_model.specs.Limits.{longest_script}
-use Rattle.usb_model.specs.Setup.{endpoint_id, is_in}
+use Rattle.usb_model.specs.Setup.{endpoint_id}
 use Rattle.trace_scenario.specs.declared.line.Line.{Line}
 use Rattle.trace_scenario.specs.declared.line.Line.TheVariants as line
 use Rattle.trace_scenario.specs.declared.scenario.Scenario.{Scenario}
 use Rattle.trace_scenario.specs.Feeds.{IsFedAlone, IsFedLater, LeavesAlone, Says, has_answers_of}
 use Rattle.trace_scenario.specs.Line.{line_of_text}
-use Rattle.trace_scenario.specs.Scenario.{device_fed, device_with, empty_scripts, endpoint_ids, fits_behind, has_room, is_empty_script, is_free, new_device, nothing_said, says_nothing, scenario_from, scenario_of, script_at, taken_at, takes_script, with_device, with_line, with_piece, with_text}
+use Rattle.trace_scenario.specs.Scenario.{device_with, empty_scripts, endpoint_ids, fits_behind, has_room, is_empty_script, is_free, new_device, nothing_said, says_nothing, scenario_from, scenario_of, script_at, taken_at, takes_script, with_device, with_line, with_text}
 use Rattle.trace_scenario.proofs.Lines.{SaysFit, text_fits}
 use Rattle.trace_scenario.proofs.Runnables.{long_empty}
 
@@ -111,9 +108,10 @@ other_script test make ep e more device apart may = by_test (takes_script device
     by_test true is =
         let new : List Response = make (slice_get device.scripts (endpoint_id e)) in
         let there : slice_get (slice_set device.scripts (endpoint_id e) new) (endpoint_id ep) ≡ slice_get device.scripts (endpoint_id ep) =
-        found_elsewhere device.scripts (endpoint_id e) (endpoint_id ep) new (λ same. apart (sym same)) in
-        (rw (here, is, there) (ap (λ scripts. Some (record device { scripts = scripts })) (put_both device.scripts (endpoint_id ep) (endpoint_id e) (script_at (endpoint_id ep) device.scripts ++ more) new apart)),
-        rw there may)
+        found_elsewhere device.scripts (endpoint_id e) (endpoint_id ep) new (λ same. apart (sym same)) in (
+          rw (here, is, there) (ap (λ scripts. Some (record device { scripts = scripts })) (put_both device.scripts (endpoint_id ep) (endpoint_id e) (script_at (endpoint_id ep) device.scripts ++ more) new apart)),
+          rw there may,
+        )
 
 -- what becomes of a scenario that takes answers, and of the scenario with these answers
 abbrev GoesOn : ℕ → ℕ → List Response → Option Scenario → Option Scenario → Type 0
@@ -133,10 +131,11 @@ same_device dev ep more s t change goes = rw (t.found, put) (by_change (change t
         → GoesOn dev ep more (option_map (λ changed. record s { setup = slice_set s.setup dev changed }) o)
         (option_map (λ changed. record s { setup = slice_set (slice_set s.setup dev (fed (endpoint_id ep) more t.device)) dev changed }) with_more)
     by_change None with_more goes = rw goes refl
-    by_change (Some y) with_more goes =
-        (record { device = y; found = found_put s.setup dev t.device y t.found; may = goes.1 },
-        rw goes.0 (ap (λ setup. Some (record s { setup = setup }))
-        (put_twice s.setup dev (fed (endpoint_id ep) more t.device) (fed (endpoint_id ep) more y) ∙ sym (put_twice s.setup dev y (fed (endpoint_id ep) more y)))))
+    by_change (Some y) with_more goes = (
+      record { device = y; found = found_put s.setup dev t.device y t.found; may = goes.1 },
+      rw goes.0 (ap (λ setup. Some (record s { setup = setup }))
+          (put_twice s.setup dev (fed (endpoint_id ep) more t.device) (fed (endpoint_id ep) more y) ∙ sym (put_twice s.setup dev y (fed (endpoint_id ep) more y)))),
+    )
 
 -- a change of another device
 other_device : (dev ep d : ℕ) (more : List Response) (s : Scenario) (t : IsTaken dev ep more s) (change : DeviceSetup → Option DeviceSetup)
@@ -149,9 +148,10 @@ other_device dev ep d more s t change apart =
         → GoesOn dev ep more (option_map (λ changed. record s { setup = slice_set s.setup d changed }) o)
         (option_map (λ changed. record s { setup = slice_set (slice_set s.setup dev (fed (endpoint_id ep) more t.device)) d changed }) o)
     by_change None = refl
-    by_change (Some y) =
-        (record { device = t.device; found = found_elsewhere s.setup d dev y (λ same. apart (sym same)) ∙ t.found; may = t.may },
-        ap (λ setup. Some (record s { setup = setup })) (put_both s.setup dev d (fed (endpoint_id ep) more t.device) y apart))
+    by_change (Some y) = (
+      record { device = t.device; found = found_elsewhere s.setup d dev y (λ same. apart (sym same)) ∙ t.found; may = t.may },
+      ap (λ setup. Some (record s { setup = setup })) (put_both s.setup dev d (fed (endpoint_id ep) more t.device) y apart),
+    )
 
     by_device : (o : Option DeviceSetup)
         → GoesOn dev ep more (option_and_then (λ device. option_map (λ changed. record s { setup = slice_set s.setup d changed }) (change device)) o)
@@ -187,9 +187,10 @@ line_goes_on dev ep more s t (line.Device number config) alone =
     by_test : (b : Bool) → GoesOn dev ep more (if b then Some (record s { setup = s.setup ++ new_device config ∷ [] }) else None)
         (if b then Some (record s { setup = slice_set s.setup dev (fed (endpoint_id ep) more t.device) ++ new_device config ∷ [] }) else None)
     by_test false = refl
-    by_test true =
-        (record { device = t.device; found = found_behind s.setup (new_device config ∷ []) dev t.device t.found; may = t.may },
-        ap (λ setup. Some (record s { setup = setup })) (sym (put_behind s.setup (new_device config ∷ []) dev t.device (fed (endpoint_id ep) more t.device) t.found)))
+    by_test true = (
+      record { device = t.device; found = found_behind s.setup (new_device config ∷ []) dev t.device t.found; may = t.may },
+      ap (λ setup. Some (record s { setup = setup })) (sym (put_behind s.setup (new_device config ∷ []) dev t.device (fed (endpoint_id ep) more t.device) t.found)),
+    )
 line_goes_on dev ep more s t (line.Script d e answers) alone =
     goes_on_under dev ep more (length s.plan == 0) (with_device (device_with e answers) d s) (with_device (device_with e answers) d (fed_at dev ep more t.device s))
     (script_goes_on is_empty_script (λ script. answers) dev ep d e more s t alone)
@@ -272,9 +273,10 @@ script_then_more dev ep known later s within =
         let begun : DeviceSetup = record device { scripts = slice_set device.scripts (endpoint_id ep) known } in
         let there : slice_get (slice_set device.scripts (endpoint_id ep) known) (endpoint_id ep) ≡ Some known = room device.scripts (endpoint_id ep) f in
         let whole : slice_set (slice_set device.scripts (endpoint_id ep) known) (endpoint_id ep) (known ++ later) ≡ slice_set device.scripts (endpoint_id ep) (known ++ later) =
-        put_twice device.scripts (endpoint_id ep) known (known ++ later) in
-        (record { device = begun; found = found_put s.setup dev device begun found; may = rw (t, there, fits) refl },
-        rw (there, whole) (ap (λ setup. Some (record s { setup = setup })) (sym (put_twice s.setup dev begun (record device { scripts = slice_set device.scripts (endpoint_id ep) (known ++ later) })))))
+        put_twice device.scripts (endpoint_id ep) known (known ++ later) in (
+          record { device = begun; found = found_put s.setup dev device begun found; may = rw (t, there, fits) refl },
+          rw (there, whole) (ap (λ setup. Some (record s { setup = setup })) (sym (put_twice s.setup dev begun (record device { scripts = slice_set device.scripts (endpoint_id ep) (known ++ later) })))),
+        )
 
     by_device : (o : Option DeviceSetup) → slice_get s.setup dev ≡ o → GoesOn dev ep later
         (option_and_then (λ device. option_map (λ changed. record s { setup = slice_set s.setup dev changed }) (device_with ep known device)) o)
