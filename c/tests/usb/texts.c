@@ -49,6 +49,7 @@ static void words(void)
     refuse("a speed that isn't", DEVICE "speed 0 super\n");
     refuse("too few words", DEVICE "leaves 0 81\n");
     refuse("a line of a scenario", DEVICE "open 1 0\n");
+    refuse("answers that a scenario feeds", DEVICE "script 0 81 n\nfeed 0 81 n\n");
 }
 
 static void spaces(void)
