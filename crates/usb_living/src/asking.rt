@@ -35,6 +35,8 @@ pub fn ask<P, D: Feed, L: Living>(
             reply: Reply::Nak { n: offer.n },
         });
     };
-    core.feed(dev, ep, answer)?;
-    Ok(core.serve(dev, ep))
+    match core.feed(dev, ep, answer) {
+        Ok(()) => Ok(core.serve(dev, ep)),
+        Err(why) => Err(why),
+    }
 }
