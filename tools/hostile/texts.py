@@ -10,6 +10,8 @@ from scenarios import damaged, fed, scenario
 
 # How many texts the gate tries of each part.
 GATE_COUNT = 60
+# And of those that are fed, which each word reads twice.
+GATE_FED_COUNT = 20
 # How many callbacks are called: a rule of a row has no end.
 ROUNDS = 1_000
 LIVE = f"live --rounds {ROUNDS}"
@@ -137,6 +139,6 @@ def seeds(asked, count):
 
 
 # The part of the texts that are fed.
-FED = Part(lambda asked: seeds(asked, asked.count), lambda asked: seeds(asked, GATE_COUNT), tried_fed)
+FED = Part(lambda asked: seeds(asked, asked.count), lambda asked: seeds(asked, GATE_FED_COUNT), tried_fed)
 # How the texts of a part are made.
 TEXTS = {"random": scenario, "damaged": damaged}
