@@ -1,30 +1,23 @@
-/* A device that computes its answers goes on over claims and resets; it is plugged in again, as itself or as another device; and it never
- * comes to an end of what it can answer. The expected lines are written from tirnouch.h and docs/DEVICES.md. */
+/* A device that computes its answers goes on over claims and resets, and is plugged in again, as itself or as another device; there may be
+ * sixteen of them. The expected lines are written from tirnouch.h and docs/DEVICES.md. */
 #include "scene.h"
 
 #include <stdio.h>
-#include <stdlib.h>
 #include <string.h>
 
 #define LOADER_IDS "ids 0 1209 0040\n"
 #define CAMERA "device 1 0902190001010080320904000001ff00000007058102080000\nids 1 1209 0041\n"
 #define SIXTEEN 16
-/* More than a script of the core has room for, which is 65,536. */
-#define MANY 70000
 
-static int counter, asked, silent;
-static int one_by_one;
+static int counter, silent;
 
 /* Its packets are counted: the number stands in the first two bytes. Every 4th is a stall, where that is asked for. */
 static int count_up(void *user, uint8_t ep, uint8_t *data, int length)
 {
     int *stalls = user;
     (void)ep;
-    asked++;
     if (silent || length < 2)
         return TIRNOUCH_NOT_READY;
-    if (one_by_one && asked % 2)
-        return TIRNOUCH_LATER(1);
     if (stalls && *stalls && ++counter % 4 == 0)
         return TIRNOUCH_STALL;
     counter += !stalls || !*stalls;
@@ -55,7 +48,7 @@ static void told(void *user, enum tirnouch_event event, int of)
 
 static void listen(int *stalls)
 {
-    counter = asked = silent = one_by_one = 0;
+    counter = silent = 0;
     tirnouch_on_packet(0, 0x81, count_up, stalls);
     tirnouch_on_packet(0, 0x02, take, NULL);
     tirnouch_on_event(0, told, NULL);
@@ -150,18 +143,19 @@ static void asks_old(libusb_device_handle *old)
 static void replugs(void)
 {
     libusb_device_handle *old;
+    struct libusb_transfer *written, *ended;
     listen(NULL);
     begin_unclaimed("pulled out and plugged in again", "script 0 81 d:aaaa\n");
     watch();
     libusb_claim_interface(handle, 0);
     read_by(handle);
     read_by(handle);
-    submit(2, 0x02, 3);
+    written = submit(2, 0x02, 3);
     work();
     took(0x02);
     answer("show while it is there", tirnouch_show(0));
     silent = 1;
-    submit(1, 0x81, 8);
+    ended = submit(1, 0x81, 8);
     work();
     answer("pull", tirnouch_pull(0));
     answer("pull again", tirnouch_pull(0));
@@ -178,6 +172,8 @@ static void replugs(void)
     libusb_close(old);
     read_by(handle);
     answer("release", libusb_release_interface(handle, 0));
+    discard(written);
+    discard(ended);
     end();
     forget();
 }
@@ -211,7 +207,7 @@ static void alive_later(void)
 {
     begin("a function that is set later", "script 0 81 d:0101 d:0202 n d:0303\nafter 0 81 3 02 2\n");
     read_by(handle);
-    submit(2, 0x02, 1);
+    struct libusb_transfer *first = submit(2, 0x02, 1);
     answer("set", tirnouch_on_packet(0, 0x02, take, NULL));
     work();
     read_by(handle);
@@ -221,10 +217,12 @@ static void alive_later(void)
     answer("set", tirnouch_on_packet(0, 0x81, count_up, NULL));
     work();
     say("the second packet at 02");
-    submit(4, 0x02, 1);
+    struct libusb_transfer *second = submit(4, 0x02, 1);
     wait_for(3);
     read_by(handle);
     took(0x02);
+    discard(first);
+    discard(second);
     discard(third);
     end();
     forget();
@@ -294,81 +292,6 @@ static void comes_back(int by_itself)
     tirnouch_on_control(0, NULL, NULL);
 }
 
-static struct {
-    int reports, wrong, overtaken;
-} endless;
-
-/* Two reads are in flight at each moment. */
-static void report(struct libusb_transfer *transfer)
-{
-    const unsigned char *data = transfer->buffer;
-    int expected = ++endless.reports & 0xffff, got = data[0] | data[1] << 8;
-    endless.wrong += transfer->status != LIBUSB_TRANSFER_COMPLETED || transfer->actual_length != 2;
-    endless.overtaken += got != expected;
-    if (endless.reports < MANY)
-        libusb_submit_transfer(transfer);
-}
-
-/* Reads wait all the time, as a keyboard's do, and each second question finds nothing: so a read is in flight wherever a session ends. */
-static void without_end(void)
-{
-    struct timeval minute = { 60, 0 };
-    struct libusb_transfer *all[2], *left;
-    memset(&endless, 0, sizeof endless);
-    virtual_time(1);
-    listen(NULL);
-    one_by_one = 1;
-    begin("without end", "");
-    left = submit_with(3, 0x83, 8, 0, 0);
-    for (int i = 0; i < 2; i++) {
-        all[i] = make(i, 0x81, 8);
-        all[i]->callback = report;
-        send_off(all[i]);
-    }
-    while (endless.reports < MANY && !libusb_handle_events_timeout(context, &minute))
-        continue;
-    number("reports", endless.reports);
-    number("wrong", endless.wrong);
-    number("out of order", endless.overtaken);
-    answer("cancel", libusb_cancel_transfer(all[0]));
-    answer("cancel of one that waits since the beginning", libusb_cancel_transfer(left));
-    work();
-    discard(all[0]);
-    discard(all[1]);
-    discard(left);
-    end();
-    forget();
-    virtual_time(0);
-}
-
-/* A long read is amid its packets, and an endpoint is halted, as a session ends. */
-static void amid_a_read(void)
-{
-    enum { SIZE = 8 * 40000 };
-    int stalls = 0, moved = 0;
-    unsigned char *data = calloc(1, SIZE);
-    listen(&stalls);
-    begin("a session that ends amid a read, and one that ends at a halt", "");
-    for (int i = 0; i < 3; i++) {
-        int result = libusb_bulk_transfer(handle, 0x02, data, SIZE, &moved, 0);
-        answer("write", result);
-        number("  moved", moved);
-    }
-    number("first packet", tirnouch_took(0, 0x02, 0, NULL, 0));
-    number("last packet", tirnouch_took(0, 0x02, 119999, NULL, 0));
-    number("behind it", tirnouch_took(0, 0x02, 120000, NULL, 0));
-    stalls = 1;
-    counter = 3;
-    read_by(handle);
-    answer("write", libusb_bulk_transfer(handle, 0x02, data, SIZE, &moved, 0));
-    read_by(handle);
-    answer("clear", libusb_clear_halt(handle, 0x81));
-    read_by(handle);
-    free(data);
-    end();
-    forget();
-}
-
 static int name_itself(void *user, uint8_t ep, uint8_t *data, int length)
 {
     (void)ep;
@@ -418,8 +341,6 @@ int main(void)
     alive_later();
     comes_back(0);
     comes_back(1);
-    without_end();
-    amid_a_read();
     sixteen();
     return 0;
 }
