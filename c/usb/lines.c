@@ -117,8 +117,8 @@ static void finish_piece(struct transfer *transfer, const struct tirnouch_told *
     join_first(&transfer->pipe->queue, transfer);
 }
 
-/* A result went out of the core. */
-static inline void finish(struct transfer *transfer, const struct tirnouch_told *told)
+/* A result went out of the core, and nothing goes into it for it. */
+static inline void finish_alone(struct transfer *transfer, const struct tirnouch_told *told)
 {
     struct pipe *pipe = transfer->pipe;
     pipe->in_core--;
@@ -127,18 +127,34 @@ static inline void finish(struct transfer *transfer, const struct tirnouch_told 
         finish_piece(transfer, told);
     else
         end_transfer(transfer, status_of(transfer, told), transfer->moved + (int)told->amount);
+}
+
+static inline void finish(struct transfer *transfer, const struct tirnouch_told *told)
+{
+    struct pipe *pipe = transfer->pipe;
+    finish_alone(transfer, told);
     if (pipe->queue.first)
         feed(pipe);
 }
 
-/* A result goes out of the core; whether there was one. */
-bool reap_one(void)
+static inline bool reap_in(struct core *core)
 {
     struct tirnouch_told told;
-    struct transfer *transfer = process.bus.in_core ? core_take(&told) : NULL;
+    struct transfer *transfer = process.bus.in_core ? core_take(core, &told) : NULL;
     if (transfer)
         finish(transfer, &told);
     return transfer;
+}
+
+/* A result goes out of a core; whether there was one. */
+bool reap_one(void)
+{
+    if (reap_in(&process.bus.core))
+        return true;
+    for (struct core *core = process.bus.own; core; core = core->next)
+        if (reap_in(core))
+            return true;
+    return false;
 }
 
 bool reap(void)
@@ -162,13 +178,14 @@ static bool turn_over(struct pipe *pipe)
     return any;
 }
 
-/* The one endpoint where something is to be done, whose answers needn't be looked at one by one; NULL where there is none, or several.
+/* The one endpoint where something is to be done, whose answers needn't be looked at one by one, as they are with a seed; NULL where there is
+ * none, or several.
  * With several each has its turn before an order runs, so that their results come as their packets do. */
 static struct pipe *only_one(void)
 {
     struct bus *bus = &process.bus;
     struct pipe *pipe = bus->active_count == 1 ? bus->active[0] : NULL;
-    return pipe && !bus->seed && !bus->controls.first && !is_watched(pipe->device) ? pipe : NULL;
+    return pipe && !bus->controls.first && !pipe->is_watched ? pipe : NULL;
 }
 
 /* The quick way, where there is but one endpoint. What waited there went on with each result. Whether something is left to be done. */
@@ -181,4 +198,54 @@ bool turn_only_one(void)
         bus->active_count = 0;
     }
     return bus->active_count || bus->controls.first;
+}
+
+/* A transfer that is taken out of its core: it has moved what its piece moved. One that came to an end of its own meanwhile has ended. */
+static void finish_moving(struct transfer *transfer, const struct tirnouch_told *told)
+{
+    struct pipe *pipe = transfer->pipe;
+    if (!transfer->is_moving || told->status != LIBUSB_TRANSFER_CANCELLED) {
+        transfer->is_moving = false;
+        finish_alone(transfer, told);
+        return;
+    }
+    pipe->in_core--;
+    process.bus.in_core--;
+    transfer->moved += (int)told->amount;
+    transfer->stage = QUEUED;
+    if (pipe->cut == transfer)
+        pipe->cut = NULL;
+}
+
+static void ask_out(struct transfer *transfer)
+{
+    transfer->is_moving = true;
+    core_call(transfer->pipe->core, TIRNOUCH_CANCEL, transfer->pipe->name, 0, transfer->number);
+}
+
+/* All that a device has in its core comes out of it, and waits at its endpoints again, before what waits there, in order. What was asked to
+ * end ends. The next session of its core goes on with it, as with pieces. */
+void take_out(struct device *device)
+{
+    struct tirnouch_told told;
+    struct transfer *transfer;
+    for (struct libusb_context *context = process.contexts; context; context = context->next)
+        for (struct transfer *it = context->flying.first; it; it = it->next)
+            if (it->stage == IN_CORE && it->pipe->device == device && !it->ask)
+                ask_out(it);
+    for (bool any = true; any;) {
+        any = core_settle_in(device->core, ALL);
+        while ((transfer = core_take(device->core, &told))) {
+            finish_moving(transfer, &told);
+            any = true;
+        }
+    }
+    for (struct libusb_context *context = process.contexts; context; context = context->next) {
+        for (struct transfer *it = context->flying.last; it; it = it->previous) {
+            if (!it->is_moving)
+                continue;
+            it->is_moving = false;
+            join_first(&it->pipe->queue, it);
+        }
+    }
 }
