@@ -21,7 +21,9 @@ MOST_QUESTIONS = 10_000
 
 
 class Stalled(Exception):
-    """The endpoint stalled, or the request was refused."""
+    """The endpoint stalled, or the request was refused; `got` was read before."""
+
+    got = b""
 
 
 class Failed(Exception):
@@ -70,7 +72,11 @@ class Host:
         """A transfer from an IN endpoint: to its length, or to a short packet."""
         got = b""
         while len(got) < length:
-            answer = self.settled(f"in {endpoint:02x} {min(size, length - len(got))}")
+            try:
+                answer = self.settled(f"in {endpoint:02x} {min(size, length - len(got))}")
+            except Stalled as stalled:
+                stalled.got = got
+                raise
             if not answer.startswith("d:"):
                 raise Failed(answer)
             packet = bytes.fromhex(answer[len("d:") :])
