@@ -1,11 +1,12 @@
-"""A disk's commands (SCSI Block Commands 3, SCSI Primary Commands 4), over the blocks of a file: those that a host needs to mount a file
-system. What isn't here is refused as an invalid operation code."""
+"""A disk's commands over the blocks of a file: those that a host needs to mount a file system. Those for all devices are in clause 6 of
+SCSI Primary Commands 4 (SPC-4), those for disks in clause 5 of SCSI Block Commands 3 (SBC-3), each by its name. What isn't here is
+refused as an invalid operation code."""
 from __future__ import annotations
 
 import os
 from typing import Callable, Dict, NamedTuple, Optional
 
-# Operation codes (SPC-4, table 39; SBC-3, table 13)
+# Operation codes
 TEST_UNIT_READY, REQUEST_SENSE, INQUIRY, MODE_SENSE, START_STOP_UNIT, PREVENT_ALLOW = 0x00, 0x03, 0x12, 0x1A, 0x1B, 0x1E
 READ_CAPACITY, READ, WRITE, VERIFY, SYNCHRONIZE_CACHE = 0x25, 0x28, 0x2A, 0x2F, 0x35
 SUPPORTED_PAGES, SERIAL_PAGE = 0x00, 0x80
@@ -86,18 +87,18 @@ class Disk:
     # SPC-4
 
     def test_unit_ready(self, _command: bytes) -> Transfer:
-        """6.47"""
+        """Whether there is a medium."""
         self.need_medium()
         return Transfer()
 
     def request_sense(self, command: bytes) -> Transfer:
-        """6.39: the sense of the command before, in the fixed format (4.5.3); NO SENSE where there was nothing."""
+        """The sense of the command before, in the fixed format (4.5.3); NO SENSE where there was nothing."""
         it, self.sense = self.sense or Refused(0, 0), None
         sense = bytes((0x70, 0, it.key, 0, 0, 0, 0, 10, 0, 0, 0, 0, it.code, it.qualifier, 0, 0, 0, 0))
         return Transfer(sense[: command[4]])
 
     def inquiry(self, command: bytes) -> Transfer:
-        """6.6: a direct access block device whose medium may be removed; with EVPD its page of serial number (7.8.15)."""
+        """A direct access block device whose medium may be removed; with EVPD, pages of vital product data: the serial number."""
         length = int.from_bytes(command[3:5], "big")
         if command[1] & 1:
             pages = {SUPPORTED_PAGES: bytes((SUPPORTED_PAGES, SERIAL_PAGE)), SERIAL_PAGE: self.serial.encode("ascii")}
@@ -111,7 +112,7 @@ class Disk:
         return Transfer(data[:length])
 
     def mode_sense(self, command: bytes) -> Transfer:
-        """6.13: no block descriptors; the caching page says that a write cache is there (SBC-3, 6.5.5)."""
+        """No block descriptors, and the caching page, which says that a write cache is there (SBC-3)."""
         page = command[2] & 0x3F
         if page not in (CACHING_PAGE, ALL_PAGES):
             raise invalid_field()
@@ -120,30 +121,30 @@ class Disk:
         return Transfer((head + body)[: command[4]])
 
     def prevent_allow(self, _command: bytes) -> Transfer:
-        """SBC-3, 5.14: nobody takes this medium out by hand."""
+        """Nobody takes this medium out by hand."""
         return Transfer()
 
     # SBC-3
 
     def start_stop_unit(self, command: bytes) -> Transfer:
-        """5.26: LOEJ unloads the medium, or loads it with START."""
+        """LOEJ unloads the medium, or loads it with START."""
         if command[4] & 2:
             self.is_loaded = bool(command[4] & 1)
         return Transfer()
 
     def read_capacity(self, _command: bytes) -> Transfer:
-        """5.16: the last block, and the bytes of one."""
+        """The last block, and the bytes of one."""
         self.need_medium()
         return Transfer((self.count - 1).to_bytes(4, "big") + self.block.to_bytes(4, "big"))
 
     def read(self, command: bytes) -> Transfer:
-        """5.10"""
+        """Blocks for the host."""
         at, count = self.range(command)
         self.file.seek(at * self.block)
         return Transfer(self.file.read(count * self.block))
 
     def write(self, command: bytes) -> Transfer:
-        """5.39"""
+        """Blocks of the host's, which stand in the file when they are there."""
         at, count = self.range(command)
         if self.is_protected:
             raise write_protected()
@@ -156,14 +157,14 @@ class Disk:
         return Transfer(room=count * self.block, take=take)
 
     def verify(self, command: bytes) -> Transfer:
-        """5.30: the blocks can be read; those of the host's aren't compared."""
+        """The blocks can be read; those of the host's aren't compared."""
         if command[1] & 2:
             raise invalid_field()
         self.range(command)
         return Transfer()
 
     def synchronize_cache(self, command: bytes) -> Transfer:
-        """5.28: what was written is on the machine's own disk."""
+        """What was written is on the machine's own disk."""
         self.range(command)
         if not self.is_protected:
             os.fsync(self.file.fileno())

@@ -114,7 +114,8 @@ class Stick(Device):
             self.status(self.wanted - len(self.taken), PHASE_ERROR)
 
     def end(self, moved: int, status: int, inward: bool) -> None:
-        """The status, with what didn't move of what the host wanted. Where there is such a rest the endpoint stalls first (6.7.2, 6.7.3)."""
+        """The status, with what didn't move of what the host wanted. Where there is such a rest the endpoint stalls first (6.7.2 and
+        6.7.3)."""
         residue = self.wanted - moved
         if residue:
             self.stall(REPLIES if inward else COMMANDS)

@@ -1,5 +1,5 @@
-"""The memory stick: bulk-only transport by its standard's sections 5 and 6 (USB Mass Storage Class, Bulk-Only Transport 1.0), commands by the
-tables of SPC-4 and SBC-3."""
+"""The memory stick: bulk-only transport by sections 5 and 6 of its standard (USB Mass Storage Class, Bulk-Only Transport 1.0), commands by
+SPC-4 and SBC-3."""
 from __future__ import annotations
 
 import pathlib
@@ -60,7 +60,7 @@ class Storage(Host):
         return (*self.status(), is_stalled)
 
     def sense(self) -> Tuple[int, int, int]:
-        """The sense key, the code and its qualifier (SPC-4, table 48)."""
+        """The sense key, the code and its qualifier (SPC-4, 4.5.3)."""
         data, status, _ = self.fetch(bytes((0x03, 0, 0, 0, 18, 0)), 18)
         if (status, data[0], data[7]) != (PASSED, 0x70, 10):
             raise AssertionError(data.hex())
@@ -89,13 +89,13 @@ class Sticks(unittest.TestCase):
 
 class Commands(Sticks):
     def test_inquiry(self) -> None:
-        """SPC-4, table 142: type 0, RMB, version 4 (SPC-2), response format 2, 31 bytes behind; vendor, product and revision at 8, 16, 32."""
+        """Type 0, RMB, version 4 (SPC-2), response data format 2, 31 bytes behind; vendor, product and revision at 8, 16 and 32."""
         data, status, residue = self.host.fetch(bytes((0x12, 0, 0, 0, 36, 0)), 36)
         self.assertEqual(data, bytes.fromhex("008004021f000000") + b"WORKS   COMPUTED STICK  1.00")
         self.assertEqual((status, residue), (PASSED, 0))
 
     def test_inquiry_of_pages(self) -> None:
-        """SPC-4, 7.8.1: a page's code stands at 1, its length at 2."""
+        """A page's code stands at 1, its length at 2."""
         self.assertEqual(self.host.fetch(bytes((0x12, 1, 0, 0, 6, 0)), 6)[0], bytes.fromhex("000000020080"))
         data, _, residue = self.host.fetch(bytes((0x12, 1, 0x80, 0, 255, 0)), 255)
         self.assertEqual((data[:4], data[4:], residue), (bytes((0, 0x80, 0, 12)), b"4954524E4F55", 255 - 16))
@@ -108,7 +108,7 @@ class Commands(Sticks):
         self.assertRegex(Stick.strings[2], "^[0-9A-F]{12,}$")
 
     def test_capacity(self) -> None:
-        """SBC-3, 5.16: the last block, and the bytes of one."""
+        """The last block, and the bytes of one."""
         self.assertEqual(self.host.fetch(ten(0x25), 8), (struct.pack(">II", BLOCKS - 1, 512), PASSED, 0))
 
     def test_larger_blocks(self) -> None:
@@ -123,7 +123,7 @@ class Commands(Sticks):
         self.assertEqual(self.host.give(ten(0x35), b""), (PASSED, 0, False))
 
     def test_no_blocks_are_no_fault(self) -> None:
-        """SBC-3, 5.10: a transfer length of zero is no error."""
+        """A transfer length of zero is no error."""
         self.assertEqual(self.host.fetch(ten(0x28, 0, 0), 0), (b"", PASSED, 0))
         self.assertEqual(self.host.give(ten(0x2A, 0, 0), b""), (PASSED, 0, False))
 
@@ -136,13 +136,13 @@ class Commands(Sticks):
         self.assertEqual(self.path.read_bytes(), self.image)
 
     def test_an_unknown_command_is_refused(self) -> None:
-        """ILLEGAL REQUEST, INVALID COMMAND OPERATION CODE; asked again, there is no sense left (SPC-4, 6.39)."""
+        """ILLEGAL REQUEST, INVALID COMMAND OPERATION CODE; asked again, there is no sense left."""
         self.assertEqual(self.host.fetch(ten(0xFF), 8), (b"", FAILED, 8))
         self.assertEqual(self.host.sense(), (5, 0x20, 0))
         self.assertEqual(self.host.sense(), (0, 0, 0))
 
     def test_sense_is_kept_until_another_command(self) -> None:
-        """SPC-4, 4.5.1: INQUIRY leaves it, TEST UNIT READY doesn't."""
+        """INQUIRY leaves it, TEST UNIT READY doesn't."""
         self.host.give(ten(0xFF), b"")
         self.host.fetch(bytes((0x12, 0, 0, 0, 36, 0)), 36)
         self.assertEqual(self.host.sense(), (5, 0x20, 0))
@@ -151,7 +151,7 @@ class Commands(Sticks):
         self.assertEqual(self.host.sense(), (0, 0, 0))
 
     def test_mode_sense(self) -> None:
-        """SPC-4, table 397: length behind it, medium, WP in bit 7, no block descriptors; SBC-3, table 196: page 8, 18 bytes, WCE in bit 2."""
+        """The length behind it, the medium, WP in bit 7, no block descriptors; page 8 has 18 bytes, WCE is bit 2 of the first."""
         self.assertEqual(self.host.fetch(bytes((0x1A, 0, 0x3F, 0, 4, 0)), 4)[0], bytes.fromhex("17000000"))
         self.assertEqual(self.host.fetch(bytes((0x1A, 0, 8, 0, 24, 0)), 24)[0], bytes.fromhex("17000000081204").ljust(24, b"\0"))
         self.assertEqual(self.host.fetch(bytes((0x1A, 0, 1, 0, 4, 0)), 4)[1], FAILED)
@@ -166,7 +166,7 @@ class Commands(Sticks):
         self.assertEqual(host.give(ten(0x35), b""), (PASSED, 0, False))
 
     def test_a_medium_is_unloaded_and_loaded(self) -> None:
-        """NOT READY, MEDIUM NOT PRESENT; START STOP UNIT with LOEJ, then with LOEJ and START (SBC-3, table 88)."""
+        """NOT READY, MEDIUM NOT PRESENT; START STOP UNIT with LOEJ, then with LOEJ and START."""
         self.assertEqual(self.host.give(bytes((0x1E, 0, 0, 0, 1, 0)), b""), (PASSED, 0, False))
         self.assertEqual(self.host.give(bytes((0x1B, 0, 0, 0, 2, 0)), b""), (PASSED, 0, False))
         for command, length in ((bytes(6), 0), (ten(0x25), 8), (ten(0x28, 0, 1), 512)):
