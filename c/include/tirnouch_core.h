@@ -146,6 +146,21 @@ int32_t tirnouch_taken(struct tirnouch_slot *slot, uint8_t dev, uint8_t ep, size
  * 2.0, 9.4.5); else these mean nothing. */
 int32_t tirnouch_look(struct tirnouch_slot *slot, uint8_t dev, uint8_t ep, struct tirnouch_told *told);
 
+/* One more answer behind the script of a device's endpoint, as if it had stood there from the beginning; no
+ * step is made. `kind`: 0 a packet of these bytes, 1 taken, 2 not ready, 3 a stall, 4 a broken transaction.
+ * InvalidParam where the endpoint can't have it: there is none, it is of the other direction, its packet has
+ * more than 2,048 bytes, or the script has 65,536 answers. NoMem where memory is refused. Then nothing changed. */
+int32_t tirnouch_feed(struct tirnouch_slot *slot, uint8_t dev, uint8_t ep, uint8_t kind, const uint8_t *bytes,
+    size_t bytes_length);
+
+/* The packet that a device is to answer next at an endpoint; no step is made. `kind` is 3 where there is none:
+ * nobody holds the endpoint, it isn't running, or no transfer waits. Else it is 1 where the device is asked,
+ * since its script has no answer left, and 0 where it isn't: it has one, is halted there, or is gone. `h` and
+ * `n` are the handle and the transfer. `amount` is how many bytes the packet has where the host sends, which
+ * stand in `buffer`, as far as there is room; how many it may have where the host reads. */
+int32_t tirnouch_offer(struct tirnouch_slot *slot, uint8_t dev, uint8_t ep, uint8_t *buffer, size_t buffer_room,
+    struct tirnouch_told *told);
+
 /* A device answers a request on its default control endpoint (USB 2.0, 9.3), of which these are the 8 bytes of
  * the setup packet. What is read stands in `buffer`, as far as there is room. `kind` is 4 where the device
  * isn't ready, else 11, with `status` and `amount` as of a transfer. `n` is 1 where a line `control` of the

@@ -20,7 +20,7 @@ use crate::lent::{lend, put_back};
 use crate::session::Session;
 use crate::told::Told;
 use crate::{
-    complaints, descriptions, packets, reads, requests, results, settling, submission, turn,
+    complaints, descriptions, feeds, packets, reads, requests, results, settling, submission, turn,
 };
 use std::alloc::Global;
 use trace_scenario::TextFault;
@@ -551,6 +551,78 @@ pub extern "C" fn tirnouch_look(
         return NO_SESSION;
     };
     let answer = look_in(&session, dev, ep, told);
+    slot.put(alloc, session);
+    answer
+}
+
+/// An answer for a device of a number that may be none.
+fn feed_in(
+    alloc: Global,
+    session: &mut Session,
+    dev: u8,
+    ep: u8,
+    kind: u8,
+    bytes: &[u8],
+) -> i32
+{
+    match device(dev) {
+        None => INVALID,
+        Some(dev) => feeds::feed(alloc, session, dev, EpAddr::new(ep), kind, bytes),
+    }
+}
+
+/// One more answer behind the script of a device's endpoint, as if it had stood there from the beginning; no step is made. `kind`: 0 a
+/// packet of these bytes, 1 taken, 2 not ready, 3 a stall, 4 a broken transaction. InvalidParam where the endpoint can't have it: there
+/// is none, it is of the other direction, its packet has more than 2,048 bytes, or the script has 65,536 answers. NoMem where memory is
+/// refused. Then nothing changed.
+#[unsafe(no_mangle)]
+pub extern "C" fn tirnouch_feed(
+    alloc: Global,
+    slot: &mut Slot,
+    dev: u8,
+    ep: u8,
+    kind: u8,
+    bytes: &[u8],
+) -> i32
+{
+    let Some(mut session) = slot.take(alloc) else {
+        return NO_SESSION;
+    };
+    let answer = feed_in(alloc, &mut session, dev, ep, kind, bytes);
+    slot.put(alloc, session);
+    answer
+}
+
+/// The packet that is next at an endpoint of a number that may be no device's.
+fn offer_in(session: &Session, dev: u8, ep: u8, buffer: &mut [u8], told: &mut Told) -> i32
+{
+    match device(dev) {
+        None => INVALID,
+        Some(dev) => {
+            feeds::offer(session, dev, EpAddr::new(ep), buffer, told);
+            0
+        }
+    }
+}
+
+/// The packet that a device is to answer next at an endpoint; no step is made. `kind` is 3 where there is none: nobody holds the
+/// endpoint, it isn't running, or no transfer waits. Else it is 1 where the device is asked, since its script has no answer left, and 0
+/// where it isn't: it has one, is halted there, or is gone. `h` and `n` are the handle and the transfer. `amount` is how many bytes the
+/// packet has where the host sends, which stand in `buffer`, as far as there is room; how many it may have where the host reads.
+#[unsafe(no_mangle)]
+pub extern "C" fn tirnouch_offer(
+    alloc: Global,
+    slot: &mut Slot,
+    dev: u8,
+    ep: u8,
+    buffer: &mut [u8],
+    told: &mut Told,
+) -> i32
+{
+    let Some(session) = slot.take(alloc) else {
+        return NO_SESSION;
+    };
+    let answer = offer_in(&session, dev, ep, buffer, told);
     slot.put(alloc, session);
     answer
 }

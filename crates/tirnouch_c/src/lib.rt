@@ -45,6 +45,7 @@ mod calls;
 mod complaints;
 mod descriptions;
 mod exports;
+mod feeds;
 mod held;
 mod lent;
 mod loose;

@@ -8,9 +8,9 @@ ghost use Rattle.tirnouch_c.specs.Reads.{look_told, pending_told};
 ghost use Rattle.tirnouch_c.specs.Results.{told_taken};
 ghost use Rattle.tirnouch_c.specs.Told.{bit, code_of, line_told, of_kind, reply_told, status_number, told_of};
 
-use usb_core::{Pending, Taken};
+use usb_core::{Offer, Pending, Taken};
 use usb_desk::{Complaint, Departure, Gate, Needs};
-use usb_model::{Entry, Reply, Status};
+use usb_model::{Entry, EpAddr, Reply, Status};
 
 /// What a call told, in numbers.
 #[repr(C)]
@@ -182,6 +182,16 @@ impl Told {
             amount: u32::from(is_halted),
             n: left,
             ..Told::of_kind(255, u8::from(packet))
+        }
+    }
+
+    /// The packet that is next at an endpoint.
+    pub fn offer(ep: EpAddr, offer: &Offer<'_>) -> Told {
+        Told {
+            ep: ep.address(),
+            amount: offer.room as u32,
+            n: offer.n,
+            ..Told::of_kind(offer.owner.number(), u8::from(offer.wants))
         }
     }
 

@@ -6,8 +6,17 @@ ghost use Rattle.proof_core.specs.Feeds.{FeedsWorld, may_be_fed_at};
 ghost use Rattle.proof_core.specs.Payloads.{StillCarries};
 
 use crate::calls::Core;
-use usb_device::Feed;
+use usb_device::{Feed, Scripted};
 use usb_model::{DeviceNo, EpAddr, Refused, Response};
+use usb_steps::Offer;
+
+impl<P, D: Scripted> Core<P, D> {
+    /// The packet that a device is to answer next at an endpoint; None where nobody holds it, or there is nothing to serve. Takes
+    /// no memory.
+    pub fn offer(&self, dev: DeviceNo, ep: EpAddr) -> Option<Offer<'_>> {
+        self.parts.offer(dev, ep)
+    }
+}
 
 impl<P, D: Feed> Core<P, D> {
     /// One more answer behind the script of a device's endpoint, held or not, as if it had stood there from the beginning: whatever

@@ -114,4 +114,4 @@ pub use calls::Core;
 pub use inventory::WaitingResult;
 pub use runs::{Stopped, run};
 pub use step::{NoMemory, Stepped};
-pub use usb_steps::{Burst, Delivered, Pending, Setup, Taken, Unaccepted, Unadded, Whole};
+pub use usb_steps::{Burst, Delivered, Offer, Pending, Setup, Taken, Unaccepted, Unadded, Whole};

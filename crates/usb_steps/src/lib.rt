@@ -89,6 +89,7 @@ mod halts;
 mod handles;
 mod inventory;
 mod made;
+mod offers;
 mod orders;
 mod packets;
 mod parts;
@@ -107,6 +108,7 @@ mod verdicts;
 
 pub use bursts::{Burst, Whole};
 pub use events::Delivered;
+pub use offers::Offer;
 pub use parts::Parts;
 pub use pending::Pending;
 pub use results::Taken;

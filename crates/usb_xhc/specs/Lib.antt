@@ -10,3 +10,4 @@ pub mod Made
 pub mod Controller
 pub mod Skims
 pub mod Feeds
+pub mod Offers

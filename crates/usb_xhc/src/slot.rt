@@ -8,6 +8,7 @@ ghost use Rattle.usb_device.specs.Pipe.{IsLawful, pipe_at, cleared, is_ready};
 ghost use Rattle.usb_xhc.specs.Feeds.{slot_fed};
 ghost use Rattle.usb_xhc.specs.Ahead.{room};
 ghost use Rattle.usb_xhc.specs.Context.{trbs};
+ghost use Rattle.usb_xhc.specs.Offers.{next_packet, next_room};
 ghost use Rattle.usb_xhc.specs.Skims.{AreWhole, read_skimmed, slot_skimmed};
 ghost use Rattle.usb_xhc.specs.Transaction.{offset_by, packet_room, working};
 ghost use Rattle.usb_xhc.specs.Slots.{context_of, serving, sends, slot_after, events_after, read_after, changed, order_code, order_events, renewed, slot_renewed};
@@ -222,6 +223,26 @@ impl<D: Device> DeviceSlot<D> {
         ensures { option_copied result ≡ context_of self.now ep }
     {
         self.contexts[usize::from(ep.id())].as_ref()
+    }
+
+    /// How many bytes the packet may have that is next at an endpoint, below 65,536; None where there is nothing to serve.
+    pub fn packet_room(&self, ep: EpAddr) -> Option<usize>
+        ensures value { result ≡ next_room self.now ep }
+        ensures below { IfSome result (λ room. room < 65536) }
+    {
+        let context = self.context(ep)?;
+        let first = context.working()?;
+        Some(context.packet_room(context.reach(&first)))
+    }
+
+    /// The packet that is next at an endpoint, of these bytes of the transfer; None where there is nothing to serve.
+    pub fn next_packet<'a>(&self, ep: EpAddr, bytes: &'a [u8]) -> Option<&'a [u8]>
+        requires { IfSome (context_of self.now ep) (λ c. IfSome (working c) (λ f. offset_by f.trb c.within + packet_room c ≤ length bytes.now)) }
+        ensures { option_copied result ≡ next_packet self.now ep bytes.now }
+    {
+        let context = self.context(ep)?;
+        let first = context.working()?;
+        Some(context.packet(&first, context.reach(&first), bytes))
     }
 
     /// A transfer's TRBs are put behind all others of an endpoint's ring, as one item.
