@@ -1,6 +1,7 @@
 /* What Tirnouch has beside libusb's own functions: devices are plugged in and pulled out, and a test sees what they took.
  *
- * The environment steers a run too: TIRNOUCH_DEVICES, TIRNOUCH_TRACE, TIRNOUCH_SEED, TIRNOUCH_TIME and TIRNOUCH_LIMIT (docs/C.md). */
+ * The environment steers a run too: TIRNOUCH_DEVICES, TIRNOUCH_TRACE, TIRNOUCH_SEED, TIRNOUCH_TIME, TIRNOUCH_LIMIT,
+ * TIRNOUCH_PROGRAMS and TIRNOUCH_PATIENCE (docs/C.md). */
 #ifndef TIRNOUCH_H
 #define TIRNOUCH_H
 
@@ -16,29 +17,67 @@ extern "C" {
  * refused. Whether each line is taken is told by that `libusb_init`. */
 int tirnouch_plug(const char *text, size_t length);
 
-/* What a device answers to requests on its default control endpoint, in place of its text. `setup` is the setup packet; `data`
- * has the bytes that were written, or room for those that are read. The answer is how many bytes moved, or one of these. It is
- * called with the library's lock held, and may call nothing of libusb or Tirnouch. */
-#define TIRNOUCH_STALL (-1)     /* the request is refused */
-#define TIRNOUCH_AS_TEXT (-2)   /* as the device's text has it */
-#define TIRNOUCH_NOT_READY (-3) /* it is asked again while events are handled, within a millisecond */
-typedef int (*tirnouch_control)(void *user, const uint8_t setup[8], uint8_t *data, int length);
+/* A device's functions compute what it answers. They are called with the library's lock held, and may call nothing of libusb or
+ * Tirnouch: such a call ends the program by abort, with a sentence that says whose function it is. They are set for the device of a
+ * number, 0 to 15, at any time; NULL in place of one takes it back. Set before the `libusb_init` that begins the bus, or while the bus is
+ * there. LIBUSB_ERROR_NOT_FOUND for another number, LIBUSB_ERROR_NO_MEM where memory is refused: then nothing changed. */
 
-/* Sets it, for the device of this number, 0 to 3; NULL for the text alone. LIBUSB_ERROR_NOT_FOUND for another number. */
+/* What a function may answer in place of a number of bytes. */
+#define TIRNOUCH_STALL (-1)     /* a stall: the endpoint halts until its halt is cleared; a request is refused */
+#define TIRNOUCH_AS_TEXT (-2)   /* of requests: as the device's text has it */
+#define TIRNOUCH_NOT_READY (-3) /* a packet: it is asked again when events are handled, behind anything else that is done, or
+                                 * `tirnouch_ready`; a request: within a millisecond */
+#define TIRNOUCH_BROKEN (-4)    /* the transaction failed in all its retries: LIBUSB_TRANSFER_ERROR */
+#define TIRNOUCH_GONE (-5)      /* the device is gone: it is pulled out */
+/* Not ready for so many milliseconds, at most 1,000,000,000: it isn't asked before, unless by `tirnouch_ready`. */
+#define TIRNOUCH_LATER(milliseconds) (-1000 - (int)(milliseconds))
+
+/* What a device answers to requests on its default control endpoint, in place of its text. `setup` is the setup packet; `data`
+ * has the bytes that were written, or room for those that are read. The answer is how many bytes moved, or one of those above. */
+typedef int (*tirnouch_control)(void *user, const uint8_t setup[8], uint8_t *data, int length);
 int tirnouch_on_control(int device, tirnouch_control answer, void *user);
+
+/* What a device answers to a packet at a bulk or interrupt endpoint, where its script has no answer left: it is asked just before the
+ * packet is served, never while the endpoint is halted. OUT: `data` has the packet, of `length` bytes; an answer of 0 or more takes it.
+ * IN: `length` is how many bytes the host takes, there is room for 2,048, and the answer is how many bytes were put into `data`. Else
+ * one of those above but TIRNOUCH_AS_TEXT. A device with such a function has a session of the core of its own: more than four devices
+ * may be there, and `libusb_reset_device` and claims don't begin its scripts anew. LIBUSB_ERROR_NOT_FOUND for an endpoint that none can
+ * have, too. */
+typedef int (*tirnouch_packet)(void *user, uint8_t endpoint, uint8_t *data, int length);
+int tirnouch_on_packet(int device, uint8_t endpoint, tirnouch_packet answer, void *user);
+
+/* What happened to a device, and the number of an interface or an endpoint. */
+enum tirnouch_event {
+    TIRNOUCH_EVENT_CLAIMED = 1,  /* an interface was claimed: `number` */
+    TIRNOUCH_EVENT_RELEASED = 2, /* it was released */
+    TIRNOUCH_EVENT_RESET = 3,    /* the device was reset: its halts are cleared, what was in flight has ended */
+    TIRNOUCH_EVENT_CLEARED = 4,  /* an endpoint's halt was cleared: `number` */
+    TIRNOUCH_EVENT_PLUGGED = 5,  /* the device was plugged in, by tirnouch_show or by itself */
+    TIRNOUCH_EVENT_PULLED = 6    /* it was pulled out, or left */
+};
+typedef void (*tirnouch_listener)(void *user, enum tirnouch_event event, int number);
+int tirnouch_on_event(int device, tirnouch_listener listener, void *user);
+
+/* A device has something to answer now: its functions are asked again where they weren't ready, and whoever waits in
+ * `libusb_handle_events` is woken for it. From any thread. LIBUSB_ERROR_NOT_FOUND where there is no such device. */
+int tirnouch_ready(int device);
 
 /* A device is pulled out: its transfers end with LIBUSB_TRANSFER_NO_DEVICE, and hotplug callbacks are told when events are
  * handled. LIBUSB_ERROR_NOT_FOUND where there is no such device, or it is hidden; LIBUSB_ERROR_NO_DEVICE where it is gone already. */
 int tirnouch_pull(int device);
 
-/* A device that its text calls `hidden` is plugged in. LIBUSB_ERROR_NOT_FOUND where there is no such device, or it isn't hidden. */
+/* A device is plugged in that its text calls `hidden`, or one that computes its answers and is gone: it begins anew then, with its
+ * scripts, and handles of before are answered LIBUSB_ERROR_NO_DEVICE. Where the text says that it comes back as another device, that one
+ * stands at its port. LIBUSB_ERROR_NOT_FOUND where there is no such device, it is there, or it is scripted and gone; LIBUSB_ERROR_NO_DEVICE
+ * where it is a program that ended; LIBUSB_ERROR_NO_MEM where memory is refused. */
 int tirnouch_show(int device);
 
-/* The packet of this index, from 0 on, that a device took at an endpoint since it began: its length, and its bytes, as far as there
- * is room; -1 past the last. */
+/* The packet of this index, from 0 on, that a device took at an endpoint since it was plugged in: its length, and its bytes, as far as
+ * there is room; -1 past the last. Of a device that computes its answers the last ones are kept, at most some 32,000 answers back: -2
+ * where that packet isn't any more. */
 int tirnouch_took(int device, uint8_t endpoint, size_t index, uint8_t *data, size_t room);
 
-/* How many requests a device was sent on its default control endpoint. Of the first 4,096 that of this index, from 0 on, is put
+/* How many requests a device was sent on its default control endpoint since it was plugged in. Of the first 4,096 that of this index, from 0 on, is put
  * into `out`, where that isn't NULL: 8 bytes of setup, and at most 56 of what was written, with zeros behind them. */
 int tirnouch_requests(int device, size_t index, uint8_t out[64]);
 

@@ -9,80 +9,76 @@ struct process process = { .lock = PTHREAD_MUTEX_INITIALIZER };
 
 /* Virtual time begins here, since 0 is no moment. */
 #define BEGINNING 1000000000u
-/* How much of a word or a line is shown. */
-#define MOST_SHOWN 60
-
-/* The line of this number, from 1 on, without what ends it. */
-static const char *line_of(const char *text, size_t length, uint64_t number, int *line_length)
-{
-    const char *end = text + length, *line = text;
-    for (; number > 1 && line < end; number--) {
-        const char *next = memchr(line, '\n', (size_t)(end - line));
-        line = next ? next + 1 : end;
-    }
-    const char *next = memchr(line, '\n', (size_t)(end - line));
-    *line_length = (int)((next ? next : end) - line);
-    return line;
-}
-
-/* The word of this index of a line, from 0 on; words stand between single spaces. */
-static const char *word_of(const char *line, int length, uint32_t index, int *word_length)
-{
-    const char *end = line + length, *word = line;
-    for (; index && word < end; index--) {
-        const char *next = memchr(word, ' ', (size_t)(end - word));
-        word = next ? next + 1 : end;
-    }
-    const char *next = memchr(word, ' ', (size_t)(end - word));
-    *word_length = (int)((next ? next : end) - word);
-    return word;
-}
-
-/* In quotes, as far as it is shown; what isn't a character of ASCII by its number. */
-static void quote(const char *text, int length)
-{
-    fputc('"', stderr);
-    for (int i = 0; i < length && i < MOST_SHOWN; i++)
-        fprintf(stderr, text[i] >= ' ' && text[i] <= '~' ? "%c" : "\\x%02x", (unsigned char)text[i]);
-    fputs(length > MOST_SHOWN ? "..\"" : "\"", stderr);
-}
-
-/* Says which line isn't taken, which word of it, and why. */
-static void complain(const char *text, size_t length, const char *name)
-{
-    char why[256] = "";
-    struct tirnouch_told told = { 0 };
-    int count = tirnouch_complain((const uint8_t *)text, length, (uint8_t *)why, sizeof why - 1, &told), line_length, word_length;
-    const char *line = line_of(text, length, told.n, &line_length);
-    const char *word = word_of(line, line_length, told.amount, &word_length);
-    if (count <= 0) {
-        fprintf(stderr, "libusb: error %s: a line isn't one of devices (docs/DEVICES.md), and there is no memory to say which\n", name);
-        return;
-    }
-    fprintf(stderr, "libusb: error %s, line %lu, ", name, (unsigned long)told.n);
-    if (told.status)
-        fprintf(stderr, "word %lu, ", (unsigned long)told.amount + 1);
-    quote(told.status ? word : line, told.status ? word_length : line_length);
-    fprintf(stderr, ": %s\n", why);
-}
-
-static int make_core(const char *text, size_t length, const char *name)
+/* The core of those that are scripted, of which the trace has the devices. */
+static int make_shared(const struct desk *desk, const char *text, size_t length)
 {
     struct tirnouch_told told = { 0 };
-    int r = tirnouch_create(&process.bus.core, (const uint8_t *)text, length, &told);
+    int r = tirnouch_create(&process.bus.core.slot, (const uint8_t *)text, length, &told);
     if (r == LIBUSB_ERROR_INVALID_PARAM) {
-        complain(text, length, name);
+        complain(text, length, desk->text, desk->name, desk->name, 0);
         return LIBUSB_ERROR_OTHER;
     }
-    for (int i = 0; !r && i < DEVICES; i++) {
-        process.bus.devices[i] = (struct device){ .number = i };
-        r = learn(&process.bus.devices[i]);
+    for (int i = 0; !r && i < desk->count; i++)
+        if (desk->there[i] >= 0 && desk->there[i] != i)
+            trace_comment(&process.bus.core, "device %d is device %d here", i, desk->there[i]);
+    if (!r)
+        trace_devices(&process.bus.core, text, length);
+    return r;
+}
+
+/* The text as it is, where no device has its own core. */
+static int make_core(const struct desk *desk)
+{
+    struct growing text = { 0 };
+    if (!desk->has_own && !desk->has_returns)
+        return make_shared(desk, desk->text, desk->length);
+    write_lines(&text, desk->text, desk->length, desk->there, NULL);
+    int r = text.failed ? LIBUSB_ERROR_NO_MEM : make_shared(desk, text.at ? text.at : "", text.length);
+    free(text.at);
+    return r;
+}
+
+static int make_device(struct device *device, const struct desk *desk)
+{
+    bool is_own = device->number < desk->count && desk->is_own[device->number];
+    int r = is_own ? begin_own_core(device, desk) : 0;
+    if (!r && (is_own || desk->there[device->number] >= 0))
+        r = learn(device);
+    return r;
+}
+
+static void begin_device(int number, const struct desk *desk)
+{
+    int there = number < HUB ? desk->there[number] : 0;
+    process.bus.devices[number] = (struct device){
+        .number = number, .port = number, .core = &process.bus.core, .number_there = (uint8_t)there, .successor = -1,
+    };
+    if (number < HUB)
+        process.bus.devices[number].successor = desk->successors[number];
+}
+
+/* What comes back in another's place isn't there before. */
+static void hide_successors(void)
+{
+    for (int i = 0; i < DEVICES; i++)
+        if (process.bus.devices[i].successor >= 0)
+            process.bus.devices[process.bus.devices[i].successor].is_hidden = true;
+}
+
+static int make_devices(const char *text, size_t length, const char *name)
+{
+    struct desk desk = { .text = text, .length = length, .name = name };
+    process.bus.text = text;
+    process.bus.text_length = length;
+    int r = read_desk(&desk);
+    if (!r)
+        r = make_core(&desk);
+    for (int i = 0; !r && i <= HUB; i++) {
+        begin_device(i, &desk);
+        r = i < HUB ? make_device(&process.bus.devices[i], &desk) : learn_hub(&process.bus.devices[HUB]);
     }
-    process.bus.devices[HUB] = (struct device){ .number = HUB };
     if (!r)
-        r = learn_hub(&process.bus.devices[HUB]);
-    if (!r)
-        trace_devices(text, length);
+        hide_successors();
     return r;
 }
 
@@ -111,39 +107,30 @@ static int begin_devices(void)
     const char *name = getenv("TIRNOUCH_DEVICES");
     size_t length = 0;
     if (process.text)
-        return make_core(process.text, process.text_length, "the text of tirnouch_plug");
+        return make_devices(process.text, process.text_length, "the text of tirnouch_plug");
     if (!name || !*name)
-        return make_core("", 0, "");
-    char *text = read_file(name, &length);
-    if (!text)
-        return LIBUSB_ERROR_OTHER;
-    int r = make_core(text, length, name);
-    free(text);
-    return r;
+        return make_devices("", 0, "");
+    process.bus.file_text = read_file(name, &length);
+    return process.bus.file_text ? make_devices(process.bus.file_text, length, name) : LIBUSB_ERROR_OTHER;
 }
 
-/* The second bus of a process is traced beside the first, in a file whose name ends in .2, and so on. */
 static int begin_trace(const char *name)
 {
-    char numbered[4096];
     if (!name || !*name)
         return 0;
-    snprintf(numbered, sizeof numbered, process.traces ? "%s.%u" : "%s", name, process.traces + 1);
     process.traces++;
-    process.bus.is_watched = true;
-    if (trace_begin(numbered))
-        return 0;
-    fprintf(stderr, "libusb: error TIRNOUCH_TRACE: %s can't be written\n", name);
-    return LIBUSB_ERROR_OTHER;
+    process.bus.is_watched = process.bus.is_traced = true;
+    return trace_begin(&process.bus.core, NULL) ? 0 : LIBUSB_ERROR_OTHER;
 }
 
 static void clear_bus(void)
 {
-    tirnouch_destroy(&process.bus.core);
+    stop_programs();
     for (int i = 0; i <= HUB; i++)
         forget(&process.bus.devices[i]);
-    if (process.bus.is_traced)
-        trace_end();
+    tirnouch_destroy(&process.bus.core.slot);
+    trace_end(&process.bus.core);
+    free(process.bus.file_text);
     process.bus = (struct bus){ 0 };
 }
 
@@ -157,6 +144,7 @@ int bus_begin(void)
     process.bus.is_watched = process.bus.seed;
     process.bus.is_virtual = time && !strcmp(time, "virtual");
     process.bus.moment = BEGINNING;
+    process.bus.core.trace = -1;
     int r = begin_trace(getenv("TIRNOUCH_TRACE"));
     if (!r)
         r = begin_devices();

@@ -10,6 +10,9 @@
  *               stays while one of its devices is referenced (release_context)
  *   device      `references`: one of its context while that is open, one for each handle, and those of the program
  *   handle      the program's, from libusb_open to libusb_close, which waits for a callback of its that runs elsewhere
+ *   core        the bus's, from its first context to its last; a device's own is begun and ended with it, or made where the device is
+ *               given its first function while the bus is there. What is in flight is counted in it (`in_core`)
+ *   program     its device's, from its beginning to the bus's end, where it is waited for; in a child of fork it is nobody's
  *   transfer    the program's; in flight, the library's too: freed in flight, it goes when it has ended
  *   hotplug     `holds`: one while it is registered, one for each call of it that runs */
 #ifndef BUS_H
@@ -24,8 +27,9 @@
 #include <stddef.h>
 #include <stdint.h>
 
-/* The devices of a text, by their numbers. Behind them stands the root hub, which isn't in the core. */
-#define DEVICES 4
+/* The devices of a text, by their numbers. Behind them stands the root hub, which isn't in the core. Those that are scripted share one
+ * core, which has room for 4; one that computes its answers has its own. */
+#define DEVICES 16
 #define HUB DEVICES
 #define INTERFACES 32
 #define ENDPOINTS 32
@@ -42,8 +46,10 @@
 /* More than a device can answer, and the core can have to do, at once. */
 #define ALL (1u << 20)
 
+struct core;
 struct device;
 struct pipe;
+struct program;
 
 enum stage { AT_REST, QUEUED, IN_CORE, AT_CONTROL, ENDED };
 enum ask { ASKED_NOTHING, ASKED_TO_CANCEL, ASKED_TO_EXPIRE };
@@ -59,11 +65,13 @@ struct transfer {
     uint64_t deadline;                /* a moment in nanoseconds; 0 for none */
     uint8_t *lent;                    /* the memory of that piece, where it reads (`core_submit`) */
     int moved, piece;                 /* bytes of the pieces before, and of the one in the core */
-    unsigned naks;                    /* of a control transfer: how often it was asked, and its device wasn't ready */
+    unsigned naks;                    /* of a control transfer: how often it was asked, and its device wasn't ready; */
+    uint64_t later;                   /* and before which moment it isn't asked again, 0 for none */
     enum stage stage;
     enum ask ask;
     bool is_dropped, is_freed;        /* no callback: its handle was closed; and nobody has it any more */
     bool is_stalled;                  /* its endpoint was halted by a request: the cancel that ends it is told as a stall */
+    bool is_moving;                   /* it goes on in a new session of its device's core: the cancel that ends it there isn't told */
 };
 
 struct transfers {
@@ -73,6 +81,8 @@ struct transfers {
 /* An endpoint but 0. Where its line in the core is full, or a transfer goes in pieces, the others wait here. */
 struct pipe {
     struct device *device;
+    struct core *core;                /* its device's, and */
+    uint8_t number;                   /* the device's number there */
     struct transfers queue;
     struct transfer *cut;             /* the one that goes in pieces, while there are more than the one in the core */
     int most;                         /* bytes of a piece but the last: whole packets, so that none goes past a piece's end */
@@ -85,6 +95,10 @@ struct pipe {
     uint8_t in_core;                  /* at most PLACES */
     bool is_halted, is_active;
     bool is_stopped;                  /* halted by a request of the program's: it stalls until the halt is cleared */
+    bool is_asked;                    /* behind its script a function, or a program, is asked for its answers; */
+    uint32_t fed;                     /* so many were in this session of the core; */
+    uint64_t later;                   /* it isn't before this moment, 0 for none */
+    uint64_t took;                    /* packets that it took in sessions before */
 };
 
 struct interface {
@@ -102,9 +116,25 @@ struct gate {
     uint64_t count;
 };
 
+/* A session of the core, with its devices: what is in flight in it, and what of it is kept here. */
+struct core {
+    struct core *next;                /* of the devices' own */
+    struct tirnouch_slot slot;
+    int in_core;                      /* transfers, or pieces of them */
+    uint32_t fed;                     /* answers that were computed, since this session began */
+    unsigned sessions;                /* how many there were before */
+    int trace;                        /* the file of its steps; -1 for none */
+    bool named[NAMES];
+};
+
 struct device {
     int number;
+    int port;                         /* the number of the device in whose place it stands: its own, or that which came back as this one */
+    int successor;                    /* the device as which it comes back, where it leaves; -1 for itself */
+    struct core *core;                /* its own, or the one that is shared; and */
+    uint8_t number_there;             /* its number there */
     bool is_there, is_hidden, is_gone, begins_anew;
+    bool is_living;                   /* it computes answers, and has a core of its own */
     bool is_awaking;                  /* remote wakeup is enabled (USB 2.0, 9.4.5) */
     uint8_t configurations;           /* how many its descriptor says, of which one is there */
     uint8_t descriptor[18];
@@ -113,12 +143,16 @@ struct device {
     uint8_t configuration;            /* the value of the one that is set; 0 for none */
     struct interface interfaces[INTERFACES];
     struct pipe pipes[ENDPOINTS];
-    bool has_gates;
+    bool is_watched;                  /* its answers are looked at one by one */
     bool leaves;                      /* pulled out behind so many answers of an endpoint */
     uint8_t leaves_ep;
     uint32_t leaves_behind;
     uint8_t (*requests)[64];
     size_t request_count;
+    struct program *program;          /* what is asked in place of functions; NULL for none */
+    char *text;                       /* its lines, where it has a core of its own, */
+    size_t text_length;
+    size_t program_lines;             /* of which so many are its program's, before those of the text */
 };
 
 struct libusb_device {
@@ -135,7 +169,8 @@ struct libusb_device_handle {
     unsigned number;                  /* counted by the bus from 1 on; for logs */
     uint32_t claimed;                 /* a bit an interface that it holds */
     uint32_t asked;                   /* of these, those that the program claimed itself */
-    bool is_closing, detaches;
+    bool is_shut;                     /* it takes no transfer: it is being closed, or its device was plugged in anew since; */
+    bool is_lost, detaches;           /* is_lost: the latter. All but a close is answered NO_DEVICE */
 };
 
 struct hotplug {
@@ -148,11 +183,12 @@ struct hotplug {
     void *user;
 };
 
-/* That a device came, which each does once, or went. */
+/* That a device came, or went. */
 struct notice {
     struct notice *next;
     struct libusb_device *device;
     libusb_hotplug_event event;
+    bool is_waiting, is_further;      /* in its context's list; in memory of its own, since a device may come and go again */
 };
 
 struct libusb_context {
@@ -197,8 +233,11 @@ struct rest {
 /* What all contexts share, as programs on one machine share its bus. */
 struct bus {
     int users;
-    int in_core;                      /* transfers, or pieces of them */
-    struct tirnouch_slot core;
+    struct core core;                 /* the one that scripted devices share; */
+    struct core *own;                 /* and those that have one device each */
+    const char *text;                 /* the devices, as a person wrote them: of tirnouch_plug, or */
+    char *file_text;                  /* of the file, which is the bus's own */
+    size_t text_length;
     uint64_t seed;                    /* 0 for none */
     bool is_traced, is_watched;       /* is_watched: answers are counted one by one, for the trace or the log */
     struct transfers controls;
@@ -210,7 +249,6 @@ struct bus {
     struct pipe *active[DEVICES * ENDPOINTS]; /* where something waits or is in the core */
     struct libusb_device_handle *handles;
     unsigned handle_count;
-    bool named[NAMES];
     struct device devices[DEVICES + 1];
 };
 
@@ -233,13 +271,31 @@ extern struct process {
         tirnouch_control answer;
         void *user;
     } controls[DEVICES];
+    struct {
+        tirnouch_packet answer;
+        void *user;
+    } packets[DEVICES][ENDPOINTS];
+    struct {
+        tirnouch_listener tell;
+        void *user;
+    } listeners[DEVICES];
     libusb_log_cb log;
     unsigned traces;                  /* how many were begun */
     bool was_misused;                 /* it was told that the default context isn't the program's */
+    bool is_asking;                   /* atomic: a function of a device's is being asked */
     uint8_t nowhere[1];               /* where memory of no bytes lies: nobody reads or writes it */
 } process;
 
-static inline void lock(void) { pthread_mutex_lock(&process.lock); }
+/* A device's function that calls the library would wait for itself: it is told, and the program ends. `lock` is a macro for the name of the
+ * call. */
+void refuse_asked(const char *function);
+static inline void lock_for(const char *function)
+{
+    if (__atomic_load_n(&process.is_asking, __ATOMIC_ACQUIRE))
+        refuse_asked(function);
+    pthread_mutex_lock(&process.lock);
+}
+#define lock() lock_for(__func__)
 static inline void unlock(void) { pthread_mutex_unlock(&process.lock); }
 
 static inline struct libusb_transfer *seen(struct transfer *transfer) { return (struct libusb_transfer *)(void *)(transfer + 1); }
@@ -256,8 +312,10 @@ void bus_end(void);
 
 /* learn.c: what a device's lines and descriptors say */
 int learn(struct device *device);
+void learn_hidden(struct device *device);
 void forget(struct device *device);
 bool is_present(const struct device *device);
+bool is_lost(const struct libusb_device_handle *handle);
 
 /* hub.c */
 int learn_hub(struct device *device);
@@ -282,18 +340,21 @@ void release_context(struct libusb_context *context);
 
 /* core.c: the core's calls, each of which the trace has. A negative answer is libusb's. */
 _Noreturn void end_for_memory(void);
-int core_call(enum tirnouch_verb verb, int name, uint8_t a, uint64_t n);
+int core_call(struct core *core, enum tirnouch_verb verb, int name, uint8_t a, uint64_t n);
 void trace_submission(struct transfer *transfer, int length, uint8_t flags, int answer);
 struct rest core_rest(const struct pipe *pipe);
 bool core_serves(const struct pipe *pipe);
 bool core_serve(struct pipe *pipe, uint32_t most, struct tirnouch_told *told);
+bool core_settle_in(struct core *core, uint32_t most);
 bool core_settle(uint32_t most);
-struct transfer *core_take(struct tirnouch_told *told);
+struct transfer *core_take(struct core *core, struct tirnouch_told *told);
+void trace_feed(const struct pipe *pipe, uint8_t kind, const uint8_t *bytes, int count);
 
 /* claims.c */
 int claim(struct libusb_device_handle *handle, int interface);
 int claim_unasked(struct libusb_device_handle *handle, int interface);
 void unclaim(struct libusb_device_handle *handle, int interface);
+int name_interface(struct device *device, int interface, int name);
 int make_new(struct device *device, int interface);
 void give_back(struct device *device);
 
@@ -310,6 +371,7 @@ bool reap_one(void);
 bool reap(void);
 bool turn_only_one(void);
 void leave_amid(struct transfers *queue, struct transfer *transfer);
+void take_out(struct device *device);
 
 /* work.c: devices, controller and events */
 bool work_on(bool waits);
@@ -329,9 +391,13 @@ int cancel(struct transfer *transfer, enum ask ask);
 bool has_ended(const struct libusb_device_handle *handle);
 void withdraw(struct libusb_device_handle *handle, int interface, bool drops);
 
+/* living.c: when one of the devices that compute is to be asked again; 0 for never */
+uint64_t next_ask_of_all(void);
+
 /* control.c */
 int submit_control(struct transfer *transfer);
 bool answer_controls(void);
+void end_requests(const struct device *device);
 
 /* standard.c: standard requests that tell and change what is kept here */
 bool is_standard(struct device *device, const uint8_t *setup);
@@ -365,16 +431,18 @@ bool call_hotplugs(struct libusb_context *context);
 void end_hotplugs(struct libusb_context *context);
 
 /* trace.c: words are put behind each other, and written out when a step is whole */
-bool trace_begin(const char *name);
-void trace_end(void);
+bool trace_begin(struct core *core, const struct device *device);
+void trace_end(struct core *core);
 void trace_forget(void);
-void trace_devices(const char *text, size_t length);
+void trace_to(struct core *core);
+void trace_devices(struct core *core, const char *text, size_t length);
 void trace_text(const char *text);
 void trace_number(uint64_t number);
 void trace_hex(const uint8_t *bytes, int count);
-void trace_comment(const char *format, ...) __attribute__((format(printf, 1, 2)));
+void trace_comment(struct core *core, const char *format, ...) __attribute__((format(printf, 2, 3)));
 void trace_out(void);
 
 #include "quick.h"
+#include "living.h"
 
 #endif

@@ -14,25 +14,38 @@ static void learn_scripts(struct device *device, int interface)
     }
 }
 
-static int name_interface(struct device *device, int interface)
+/* The core's handle of this name holds the interface from now on. */
+int name_interface(struct device *device, int interface, int name)
 {
-    for (int name = 0; name < NAMES; name++) {
-        if (process.bus.named[name])
-            continue;
-        int r = core_call(TIRNOUCH_OPEN, name, (uint8_t)device->number, 0);
-        if (r)
-            return r;
-        r = core_call(TIRNOUCH_CLAIM, name, (uint8_t)interface, 0);
-        if (r) {
-            core_call(TIRNOUCH_CLOSE, name, 0, 0);
-            return r;
-        }
-        process.bus.named[name] = true;
-        device->interfaces[interface].name = name;
-        learn_scripts(device, interface);
-        return 0;
+    struct core *core = device->core;
+    int r = core_call(core, TIRNOUCH_OPEN, name, device->number_there, 0);
+    if (r)
+        return r;
+    r = core_call(core, TIRNOUCH_CLAIM, name, (uint8_t)interface, 0);
+    if (r) {
+        core_call(core, TIRNOUCH_CLOSE, name, 0, 0);
+        return r;
     }
+    core->named[name] = true;
+    device->interfaces[interface].name = name;
+    learn_scripts(device, interface);
+    return 0;
+}
+
+static int name_anew(struct device *device, int interface)
+{
+    for (int name = 0; name < NAMES; name++)
+        if (!device->core->named[name])
+            return name_interface(device, interface, name);
     return LIBUSB_ERROR_NO_MEM;
+}
+
+/* An interface is claimed: its device begins anew, where its text says so and it computes nothing. */
+static int begin_interface(struct device *device, int interface)
+{
+    if (device->interfaces[interface].name < 0)
+        return name_anew(device, interface);
+    return device->begins_anew && !device->is_living ? make_new(device, interface) : 0;
 }
 
 /* The endpoints of an interface begin anew, with their scripts. Nothing of it is in progress. */
@@ -41,9 +54,9 @@ int make_new(struct device *device, int interface)
     int name = device->interfaces[interface].name;
     if (name < 0)
         return 0;
-    int r = core_call(TIRNOUCH_RELEASE, name, (uint8_t)interface, 0);
+    int r = core_call(device->core, TIRNOUCH_RELEASE, name, (uint8_t)interface, 0);
     if (!r)
-        r = core_call(TIRNOUCH_CLAIM, name, (uint8_t)interface, 0);
+        r = core_call(device->core, TIRNOUCH_CLAIM, name, (uint8_t)interface, 0);
     for (int i = 0; !r && i < ENDPOINTS; i++) {
         struct pipe *pipe = &device->pipes[i];
         if (pipe->kind && pipe->interface == interface) {
@@ -62,8 +75,8 @@ void give_back(struct device *device)
         const struct interface *it = &device->interfaces[i];
         if (!it->is_there || it->name < 0 || it->is_left)
             continue;
-        core_call(TIRNOUCH_RELEASE, it->name, (uint8_t)i, 0);
-        core_call(TIRNOUCH_CLOSE, it->name, 0, 0);
+        core_call(device->core, TIRNOUCH_RELEASE, it->name, (uint8_t)i, 0);
+        core_call(device->core, TIRNOUCH_CLOSE, it->name, 0, 0);
     }
 }
 
@@ -71,7 +84,7 @@ int claim(struct libusb_device_handle *handle, int interface)
 {
     struct device *device = handle->device;
     struct interface *it = &device->interfaces[interface];
-    if (device->is_gone)
+    if (is_lost(handle))
         return LIBUSB_ERROR_NO_DEVICE;
     if (handle->claimed >> interface & 1)
         return 0;
@@ -80,12 +93,13 @@ int claim(struct libusb_device_handle *handle, int interface)
     bool is_driven = it->has_driver && !it->is_detached;
     if (it->holder || (is_driven && !handle->detaches))
         return LIBUSB_ERROR_BUSY;
-    int r = it->name < 0 ? name_interface(device, interface) : device->begins_anew ? make_new(device, interface) : 0;
+    int r = begin_interface(device, interface);
     if (r)
         return r;
     it->is_detached |= is_driven;
     it->holder = handle;
     handle->claimed |= 1u << interface;
+    tell_device(device, TIRNOUCH_EVENT_CLAIMED, interface);
     return 0;
 }
 
@@ -103,6 +117,7 @@ void unclaim(struct libusb_device_handle *handle, int interface)
     handle->device->interfaces[interface].holder = NULL;
     handle->claimed &= ~(1u << interface);
     handle->asked &= ~(1u << interface);
+    tell_device(handle->device, TIRNOUCH_EVENT_RELEASED, interface);
 }
 
 static void note_interface(struct libusb_device_handle *handle, int interface, int answer, const char *function)
@@ -138,7 +153,7 @@ int libusb_release_interface(libusb_device_handle *handle, int interface)
         if (handle->detaches)
             handle->device->interfaces[interface].is_detached = false;
         stir(handle->context);
-        r = handle->device->is_gone ? LIBUSB_ERROR_NO_DEVICE : 0;
+        r = is_lost(handle) ? LIBUSB_ERROR_NO_DEVICE : 0;
     }
     note_interface(handle, interface, r, __func__);
     unlock();
@@ -150,7 +165,7 @@ static int set_setting(struct libusb_device_handle *handle, int interface, int s
 {
     struct device *device = handle->device;
     const uint8_t *config = device->config;
-    if (device->is_gone)
+    if (is_lost(handle))
         return LIBUSB_ERROR_NO_DEVICE;
     if (!(handle->asked >> interface & 1))
         return LIBUSB_ERROR_NOT_FOUND;
@@ -184,7 +199,7 @@ int libusb_kernel_driver_active(libusb_device_handle *handle, int interface)
         return LIBUSB_ERROR_INVALID_PARAM;
     lock();
     const struct interface *it = &handle->device->interfaces[interface];
-    int r = handle->device->is_gone ? LIBUSB_ERROR_NO_DEVICE : it->has_driver && !it->is_detached;
+    int r = is_lost(handle) ? LIBUSB_ERROR_NO_DEVICE : it->has_driver && !it->is_detached;
     note_interface(handle, interface, r, __func__);
     unlock();
     return r;

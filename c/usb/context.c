@@ -51,10 +51,11 @@ static void begin_in_child(struct libusb_context *context)
         poll_in_child(context);
 }
 
-/* The trace is the parent's. */
+/* The trace is the parent's, and so are its programs. */
 static void go_on_in_child(void)
 {
     trace_forget();
+    leave_programs();
     for (struct libusb_context *context = process.contexts; context; context = context->next)
         begin_in_child(context);
     unlock();

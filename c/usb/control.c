@@ -10,8 +10,6 @@
 /* The most bytes of a request behind its setup packet, as Linux has it; and how many of them the trace shows. */
 #define MOST_DATA 4096
 #define MOST_SHOWN 64
-/* Beside tirnouch.h's answers: a broken transaction, or want of memory. */
-#define FAILED (-4)
 
 /* The interface or the endpoint that a request is to must be held. */
 static int hold(struct libusb_device_handle *handle, const uint8_t *setup)
@@ -67,7 +65,7 @@ static int answer_by_told(struct device *device, const uint8_t *setup, uint8_t *
         data[17] = device->descriptor[17];
     if (told->status == LIBUSB_TRANSFER_COMPLETED)
         return (int)told->amount;
-    return told->status == LIBUSB_TRANSFER_STALL ? TIRNOUCH_STALL : FAILED;
+    return told->status == LIBUSB_TRANSFER_STALL ? TIRNOUCH_STALL : TIRNOUCH_BROKEN;
 }
 
 /* How many bytes moved, or one of tirnouch.h's answers. Where no line of the text fits a request, `told.n` is 0. */
@@ -76,9 +74,9 @@ static int answer_by_text(struct transfer *transfer, const uint8_t *setup, uint8
     struct device *device = transfer->handle->device;
     struct tirnouch_told told = { 0 };
     while (transfer->naks < MOST_NAKS) {
-        int r = tirnouch_request(&process.bus.core, (uint8_t)device->number, setup, data, (size_t)length, &told);
+        int r = tirnouch_request(&device->core->slot, device->number_there, setup, data, (size_t)length, &told);
         if (r < 0)
-            return r == LIBUSB_ERROR_NO_MEM ? FAILED : TIRNOUCH_STALL;
+            return r == LIBUSB_ERROR_NO_MEM ? TIRNOUCH_BROKEN : TIRNOUCH_STALL;
         if (told.kind == TIRNOUCH_CALLED)
             break;
         transfer->naks++;
@@ -94,22 +92,39 @@ static int answer_by_text(struct transfer *transfer, const uint8_t *setup, uint8
     return answer_by_told(device, setup, data, &told);
 }
 
-static int answer_of(struct transfer *transfer)
+/* Whoever handles events looks again at this moment, or before. */
+static void look_again(uint64_t moment)
 {
-    struct device *device = transfer->handle->device;
-    uint8_t *setup = seen(transfer)->buffer, *data = setup + SETUP;
-    int length = (int)two_bytes(setup + 6), answer = TIRNOUCH_AS_TEXT;
-    if (!transfer->naks)
-        keep_request(device, setup, length);
-    if (process.controls[device->number].answer)
-        answer = process.controls[device->number].answer(process.controls[device->number].user, setup, data, length);
+    uint64_t *again = &process.bus.again;
+    if (!*again || moment < *again)
+        *again = moment;
+}
+
+/* By a function or a program, or by the device's text. */
+static int ask(struct transfer *transfer, const uint8_t *setup, uint8_t *data, int length)
+{
+    int answer = ask_for_request(transfer->handle->device, setup, data, length);
     if (answer == TIRNOUCH_AS_TEXT)
         return answer_by_text(transfer, setup, data, length);
-    if (answer == TIRNOUCH_NOT_READY) {
-        transfer->naks++;
-        process.bus.again = now() + ASK_AGAIN;
+    if (answer != TIRNOUCH_NOT_READY && answer > TIRNOUCH_LATER(0))
+        return answer < length ? answer : length;
+    transfer->naks++;
+    transfer->later = answer == TIRNOUCH_NOT_READY ? 0 : moment_later(answer);
+    look_again(transfer->later ? transfer->later : now() + ASK_AGAIN);
+    return TIRNOUCH_NOT_READY;
+}
+
+static int answer_of(struct transfer *transfer)
+{
+    uint8_t *setup = seen(transfer)->buffer;
+    int length = (int)two_bytes(setup + 6);
+    if (!transfer->naks)
+        keep_request(transfer->handle->device, setup, length);
+    if (transfer->later > now()) {
+        look_again(transfer->later);
+        return TIRNOUCH_NOT_READY;
     }
-    return answer < length ? answer : length;
+    return ask(transfer, setup, setup + SETUP, length);
 }
 
 /* Control requests are in no ring, so the trace has them as comments: of which device, the setup packet, and what came of it. */
@@ -119,10 +134,10 @@ static void trace_request(const struct device *device, const uint8_t *setup, int
     for (int i = 0; i < answer && i < MOST_SHOWN; i++)
         snprintf(bytes + 2 * i, 3, "%02x", setup[SETUP + i]);
     if (answer < 0)
-        trace_comment("request %d %02x %02x %04x %04x %u %s", device->number, setup[0], setup[1], two_bytes(setup + 2),
+        trace_comment(device->core, "request %d %02x %02x %04x %04x %u %s", device->number, setup[0], setup[1], two_bytes(setup + 2),
                       two_bytes(setup + 4), two_bytes(setup + 6), answer == TIRNOUCH_STALL ? "STALL" : "ERROR");
     else
-        trace_comment("request %d %02x %02x %04x %04x %u COMPLETED %d %s%s", device->number, setup[0], setup[1], two_bytes(setup + 2),
+        trace_comment(device->core, "request %d %02x %02x %04x %04x %u COMPLETED %d %s%s", device->number, setup[0], setup[1], two_bytes(setup + 2),
                       two_bytes(setup + 4), two_bytes(setup + 6), answer, bytes, answer > MOST_SHOWN ? ".." : "");
 }
 
@@ -142,15 +157,34 @@ static void end_request(struct transfer *transfer, int answer)
         end_transfer(transfer, answer == TIRNOUCH_STALL ? LIBUSB_TRANSFER_STALL : LIBUSB_TRANSFER_ERROR, 0);
 }
 
+static bool end_for_absence(struct transfer *transfer)
+{
+    leave(&process.bus.controls, transfer);
+    end_transfer(transfer, LIBUSB_TRANSFER_NO_DEVICE, 0);
+    return true;
+}
+
+/* Those to a device that is gone. */
+void end_requests(const struct device *device)
+{
+    for (struct transfer *it = process.bus.controls.first, *behind; it; it = behind) {
+        behind = it->behind;
+        if (it->handle->device == device)
+            end_for_absence(it);
+    }
+}
+
 /* One of them, whose device isn't waited for: whether it ended. */
 static bool answer_control(struct transfer *transfer, bool *waits)
 {
-    if (transfer->handle->device->is_gone) {
-        leave(&process.bus.controls, transfer);
-        end_transfer(transfer, LIBUSB_TRANSFER_NO_DEVICE, 0);
-        return true;
-    }
+    struct device *device = transfer->handle->device;
+    if (is_lost(transfer->handle))
+        return end_for_absence(transfer);
     int answer = answer_of(transfer);
+    if (answer == TIRNOUCH_GONE)
+        leave_by_itself(device);
+    if (is_lost(transfer->handle))
+        return end_for_absence(transfer);
     *waits = answer == TIRNOUCH_NOT_READY;
     if (!*waits)
         end_request(transfer, answer);

@@ -45,11 +45,12 @@ static void trace_call(enum tirnouch_verb verb, int name, uint8_t a, uint64_t n)
     trace_text("\n");
 }
 
-int core_call(enum tirnouch_verb verb, int name, uint8_t a, uint64_t n)
+int core_call(struct core *core, enum tirnouch_verb verb, int name, uint8_t a, uint64_t n)
 {
     struct tirnouch_told told = { 0 };
-    int answer = tirnouch_call(&process.bus.core, (uint8_t)verb, (uint8_t)name, a, n, &told);
+    int answer = tirnouch_call(&core->slot, (uint8_t)verb, (uint8_t)name, a, n, &told);
     if (process.bus.is_traced) {
+        trace_to(core);
         trace_call(verb, name, a, n);
         trace_answer(answer);
         trace_out();
@@ -81,10 +82,12 @@ static void trace_request(struct transfer *transfer, int length, uint8_t flags)
 
 void trace_submission(struct transfer *transfer, int length, uint8_t flags, int answer)
 {
+    struct core *core = transfer->pipe->core;
     if (answer == LIBUSB_ERROR_NO_MEM) {
-        trace_comment("no memory, and no step");
+        trace_comment(core, "no memory, and no step");
         return;
     }
+    trace_to(core);
     trace_request(transfer, length, flags);
     if (answer < 0) {
         trace_answer(answer);
@@ -99,7 +102,7 @@ void trace_submission(struct transfer *transfer, int length, uint8_t flags, int 
 static struct tirnouch_told look_at(const struct pipe *pipe)
 {
     struct tirnouch_told told = { 0 };
-    tirnouch_look(&process.bus.core, (uint8_t)pipe->device->number, pipe->ep, &told);
+    tirnouch_look(&pipe->core->slot, pipe->number, pipe->ep, &told);
     return told;
 }
 
@@ -119,10 +122,11 @@ struct rest core_rest(const struct pipe *pipe)
 /* A device answers packets at an endpoint; whether something came of it. A device that has no answer left isn't ready. */
 bool core_serve(struct pipe *pipe, uint32_t most, struct tirnouch_told *told)
 {
-    tirnouch_serve(&process.bus.core, (uint8_t)pipe->device->number, pipe->ep, most, told);
+    tirnouch_serve(&pipe->core->slot, pipe->number, pipe->ep, most, told);
     if (process.bus.is_traced) {
+        trace_to(pipe->core);
         trace_text("serve ");
-        trace_number((uint64_t)pipe->device->number);
+        trace_number(pipe->number);
         trace_text(" ");
         trace_hex(&pipe->ep, 1);
         trace_text("\n");
@@ -131,23 +135,51 @@ bool core_serve(struct pipe *pipe, uint32_t most, struct tirnouch_told *told)
     return told->amount > 1 || (told->kind != TIRNOUCH_IDLE && told->kind != TIRNOUCH_NAK);
 }
 
-/* Events are handled and orders run, at most so many; whether there were any. */
-bool core_settle(uint32_t most)
+/* A line of the trace: an answer of this kind of `tirnouch_feed` that was computed, which stands in the script from the beginning on. */
+void trace_feed(const struct pipe *pipe, uint8_t kind, const uint8_t *bytes, int count)
+{
+    static const char *const words[] = { "d:", "a", "n", "s", "b" };
+    if (!process.bus.is_traced)
+        return;
+    trace_to(pipe->core);
+    trace_text("feed ");
+    trace_number(pipe->number);
+    trace_text(" ");
+    trace_hex(&pipe->ep, 1);
+    trace_text(" ");
+    trace_text(words[kind]);
+    if (count)
+        trace_hex(bytes, count);
+    trace_text("\n");
+    trace_out();
+}
+
+bool core_settle_in(struct core *core, uint32_t most)
 {
     struct tirnouch_told told = { 0 };
     if (!process.bus.is_traced) {
-        tirnouch_settle(&process.bus.core, 0, most, &told);
+        tirnouch_settle(&core->slot, 0, most, &told);
         return told.amount;
     }
     for (uint32_t done = 0; done < most; done++) {
-        tirnouch_look(&process.bus.core, 0, 0, &told);
+        tirnouch_look(&core->slot, 0, 0, &told);
         if (!(told.status & 3))
             return done;
+        trace_to(core);
         trace_text(told.status & 2 ? "deliver\n" : "command\n");
         trace_out();
-        tirnouch_settle(&process.bus.core, 0, 1, &told);
+        tirnouch_settle(&core->slot, 0, 1, &told);
     }
     return true;
+}
+
+/* Events are handled and orders run, at most so many in a core; whether there were any. */
+bool core_settle(uint32_t most)
+{
+    bool any = core_settle_in(&process.bus.core, most);
+    for (struct core *core = process.bus.own; core; core = core->next)
+        any |= core_settle_in(core, most);
+    return any;
 }
 
 static const char *const statuses[] = { "COMPLETED", "ERROR", "TIMED_OUT", "CANCELLED", "STALL", "NO_DEVICE", "OVERFLOW" };
@@ -177,12 +209,14 @@ static void trace_result(const struct tirnouch_told *told, const struct transfer
 }
 
 /* The oldest result goes out. Its transfer, or NULL where there is none. */
-struct transfer *core_take(struct tirnouch_told *told)
+struct transfer *core_take(struct core *core, struct tirnouch_told *told)
 {
     struct tirnouch_memory back = no_memory();
-    if (tirnouch_take(&process.bus.core, &back, told) != 1)
+    if (tirnouch_take(&core->slot, &back, told) != 1)
         return NULL;
     struct transfer *transfer = transfer_of(told, &back);
+    if (process.bus.is_traced)
+        trace_to(core);
     if (process.bus.is_traced)
         trace_result(told, transfer, &back);
     return transfer;

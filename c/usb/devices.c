@@ -75,7 +75,7 @@ uint8_t libusb_get_bus_number(libusb_device *device)
 
 uint8_t libusb_get_port_number(libusb_device *device)
 {
-    return is_hub(device) ? 0 : (uint8_t)(device->device->number + FIRST_PORT);
+    return is_hub(device) ? 0 : (uint8_t)(device->device->port + FIRST_PORT);
 }
 
 int libusb_get_port_numbers(libusb_device *device, uint8_t *numbers, int room)

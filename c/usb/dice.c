@@ -27,27 +27,29 @@ static bool is_passed_over(struct pipe *pipe)
     return !dice(4);
 }
 
-/* A packet at one of the endpoints; whether one was served, or may be another time. */
-static bool serve_some(void)
+/* A packet at one of the endpoints; whether one was served, or may be another time. A function of the program's isn't asked, unless events
+ * are handled. */
+static bool serve_some(bool asks)
 {
     struct bus *bus = &process.bus;
     size_t count = bus->active_count, first = count ? dice((unsigned)count) : 0;
     bool any = false;
     for (size_t i = 0; i < count; i++) {
         struct pipe *pipe = bus->active[(first + i) % count];
-        if (!pipe->in_core || gate_before(pipe) || !core_serves(pipe))
+        if (!pipe->in_core || gate_before(pipe) || !(core_serves(pipe) || (asks && may_be_asked(pipe))))
             continue;
-        any = true;
-        if (!is_passed_over(pipe))
-            return serve(pipe, 1);
+        if (is_passed_over(pipe))
+            any = true;
+        else if (serve(pipe, 1))
+            return true;
     }
     return any;
 }
 
-static bool make_step(enum kind kind)
+static bool make_step(enum kind kind, bool asks)
 {
     switch (kind) {
-    case A_PACKET: return serve_some();
+    case A_PACKET: return serve_some(asks);
     case AN_ORDER: return core_settle(1);
     case A_RESULT: return reap_one() || feed_all();
     case A_REQUEST: return process.bus.controls.first && answer_controls();
@@ -61,7 +63,7 @@ static bool step_by_dice(void)
 {
     unsigned first = dice(KINDS);
     for (unsigned i = 0; i < KINDS; i++)
-        if (make_step((enum kind)((first + i) % KINDS)))
+        if (make_step((enum kind)((first + i) % KINDS), true))
             return true;
     return false;
 }
@@ -87,9 +89,10 @@ bool work_by_dice(bool waits)
     return true;
 }
 
-/* Before each call a few steps, rarely many. Requests are left to those who handle events, since a function of the program may answer. */
+/* Before each call a few steps, rarely many. Requests are left to those who handle events, since a function of the program may answer; so are
+ * packets that one is asked for. */
 void shake_by_dice(void)
 {
     for (unsigned left = dice(4) ? dice(4) : dice(LONG_SHAKE); left; left--)
-        make_step((enum kind)dice(A_REQUEST));
+        make_step((enum kind)dice(A_REQUEST), false);
 }

@@ -131,8 +131,8 @@ static bool sleep_until(struct libusb_context *context, uint64_t end)
 /* When whoever handles events looks again: at the end of its wait, at a deadline, or where a request is asked again. */
 static uint64_t next_look(const struct libusb_context *context, uint64_t end)
 {
-    uint64_t until = context->earliest && context->earliest < end ? context->earliest : end;
-    return process.bus.again && process.bus.again < until ? process.bus.again : until;
+    uint64_t until = context->earliest && context->earliest < end ? context->earliest : end, again = next_ask();
+    return again && again < until ? again : until;
 }
 
 /* Something is done, or a time passes; whether a signal ended the wait. */

@@ -30,12 +30,12 @@ static int add_gate(struct pipe *pipe, struct gate gate)
 int learn_gates(struct device *device)
 {
     struct tirnouch_told told = { 0 };
-    for (size_t i = 0; !tirnouch_tell(&process.bus.core, (uint8_t)device->number, 2, i, &told); i++) {
+    for (size_t i = 0; !tirnouch_tell(&device->core->slot, device->number_there, 2, i, &told); i++) {
         struct gate gate = { .place = told.amount, .other = told.status, .count = told.n };
         int r = add_gate(&device->pipes[place_of(told.ep)], gate);
         if (r)
             return r;
-        device->has_gates = true;
+        device->is_watched = true;
     }
     for (unsigned i = 0; i < ENDPOINTS; i++)
         if (device->pipes[i].gate_count)
@@ -46,11 +46,12 @@ int learn_gates(struct device *device)
 static bool is_reached(const struct device *device, const struct gate *gate)
 {
     uint8_t none[1];
-    if (!gate->count)
+    uint64_t before = gate->other ? device->pipes[place_of(gate->other)].took : 0;
+    if (gate->count <= before)
         return true;
     if (!gate->other)
         return device->request_count >= gate->count;
-    return tirnouch_taken(&process.bus.core, (uint8_t)device->number, gate->other, (size_t)(gate->count - 1), none, 0) >= 0;
+    return tirnouch_taken(&device->core->slot, device->number_there, gate->other, (size_t)(gate->count - before - 1), none, 0) >= 0;
 }
 
 /* What an endpoint's next answer waits for; NULL where it waits for nothing. A device that is pulled out waits for nothing. */

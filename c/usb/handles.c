@@ -105,7 +105,7 @@ void libusb_close(libusb_device_handle *handle)
     struct libusb_context *context = handle->context;
     shake();
     note_handle(handle, 0, __func__);
-    handle->is_closing = true;
+    handle->is_shut = true;
     await_callbacks(handle);
     withdraw(handle, -1, true);
     for (int i = 0; i < INTERFACES; i++)
@@ -122,7 +122,7 @@ void libusb_close(libusb_device_handle *handle)
 int libusb_get_configuration(libusb_device_handle *handle, int *value)
 {
     lock();
-    int r = handle->device->is_gone ? LIBUSB_ERROR_NO_DEVICE : 0;
+    int r = is_lost(handle) ? LIBUSB_ERROR_NO_DEVICE : 0;
     if (!r)
         *value = handle->device->configuration;
     note_handle(handle, r, __func__);
@@ -130,9 +130,10 @@ int libusb_get_configuration(libusb_device_handle *handle, int *value)
     return r;
 }
 
-static int set_configuration(struct device *device, int value)
+static int set_configuration(struct libusb_device_handle *handle, int value)
 {
-    if (device->is_gone)
+    struct device *device = handle->device;
+    if (is_lost(handle))
         return LIBUSB_ERROR_NO_DEVICE;
     for (int i = 0; i < INTERFACES; i++)
         if (device->interfaces[i].holder || (device->interfaces[i].has_driver && !device->interfaces[i].is_detached))
@@ -148,7 +149,7 @@ int libusb_set_configuration(libusb_device_handle *handle, int value)
     if (value < -1 || value > UINT8_MAX)
         return LIBUSB_ERROR_INVALID_PARAM;
     lock();
-    int r = set_configuration(handle->device, value);
+    int r = set_configuration(handle, value);
     if (is_told(handle->context, r))
         note_call(handle->context, r, __func__, "handle %u, value %d", handle->number, value);
     unlock();
@@ -159,7 +160,7 @@ int libusb_set_configuration(libusb_device_handle *handle, int value)
 static int clear_halt(struct libusb_device_handle *handle, uint8_t ep)
 {
     struct pipe *pipe = &handle->device->pipes[place_of(ep)];
-    if (handle->device->is_gone)
+    if (is_lost(handle))
         return LIBUSB_ERROR_NO_DEVICE;
     if (!pipe->kind)
         return LIBUSB_ERROR_NOT_FOUND;
@@ -169,10 +170,12 @@ static int clear_halt(struct libusb_device_handle *handle, uint8_t ep)
     settle_all();
     if (pipe->in_core || pipe->queue.first)
         return LIBUSB_ERROR_BUSY;
-    r = core_call(TIRNOUCH_CLEAR_HALT, handle->device->interfaces[pipe->interface].name, ep, 0);
-    if (!r)
-        pipe->is_halted = pipe->is_stopped = false;
-    return r;
+    r = core_call(pipe->core, TIRNOUCH_CLEAR_HALT, name_of(pipe), ep, 0);
+    if (r)
+        return r;
+    pipe->is_halted = pipe->is_stopped = false;
+    tell_device(handle->device, TIRNOUCH_EVENT_CLEARED, ep);
+    return 0;
 }
 
 int libusb_clear_halt(libusb_device_handle *handle, unsigned char ep)
@@ -186,21 +189,29 @@ int libusb_clear_halt(libusb_device_handle *handle, unsigned char ep)
     return r;
 }
 
+static int make_all_new(struct device *device)
+{
+    int r = 0;
+    for (int i = 0; i < INTERFACES && !r; i++)
+        r = make_new(device, i);
+    return r;
+}
+
 static int reset(struct libusb_device_handle *handle)
 {
     struct device *device = handle->device;
-    if (device->is_gone)
+    if (is_lost(handle))
         return LIBUSB_ERROR_NOT_FOUND;
     for (int i = 0; i < INTERFACES; i++)
         if (device->interfaces[i].holder && device->interfaces[i].holder != handle)
             return LIBUSB_ERROR_BUSY;
     withdraw(handle, -1, false);
-    for (int i = 0; i < INTERFACES; i++) {
-        int r = make_new(device, i);
-        if (r)
-            return r;
+    int r = device->is_living ? reset_living(device) : make_all_new(device);
+    if (r)
+        return r;
+    for (int i = 0; i < INTERFACES; i++)
         device->interfaces[i].setting = 0;
-    }
+    tell_device(device, TIRNOUCH_EVENT_RESET, 0);
     stir(handle->context);
     return 0;
 }

@@ -47,6 +47,18 @@ static void call(struct libusb_context *context, struct hotplug *it, struct libu
         finish(it);
 }
 
+/* A device comes once and goes once before it is told, mostly; what is further than that has memory of its own. */
+static struct notice *new_notice(struct libusb_context *context, int device, libusb_hotplug_event event)
+{
+    struct notice *it = &context->all_notices[device][event == LIBUSB_HOTPLUG_EVENT_DEVICE_LEFT];
+    bool is_further = it->is_waiting;
+    if (is_further)
+        it = malloc(sizeof *it);
+    if (it)
+        *it = (struct notice){ .device = &context->devices[device], .event = event, .is_waiting = true, .is_further = is_further };
+    return it;
+}
+
 /* Every context is told when it handles events next. */
 void tell_all(struct device *device, libusb_hotplug_event event)
 {
@@ -54,13 +66,27 @@ void tell_all(struct device *device, libusb_hotplug_event event)
         struct notice **at = &context->notices;
         if (context->is_blind)
             continue;
-        struct notice *it = &context->all_notices[device->number][event == LIBUSB_HOTPLUG_EVENT_DEVICE_LEFT];
         wake(context);
-        *it = (struct notice){ .device = &context->devices[device->number], .event = event };
+        struct notice *it = new_notice(context, device->number, event);
+        if (!it) {
+            note(context, LIBUSB_LOG_LEVEL_ERROR, "device %d came or left, and there is no memory to tell it", device->number);
+            continue;
+        }
         while (*at)
             at = &(*at)->next;
         *at = it;
     }
+}
+
+/* The first notice leaves the list. */
+static struct notice take_notice(struct libusb_context *context)
+{
+    struct notice *it = context->notices, taken = *it;
+    context->notices = it->next;
+    it->is_waiting = false;
+    if (taken.is_further)
+        free(it);
+    return taken;
 }
 
 static bool call_for(struct libusb_context *context, const struct notice *notice)
@@ -82,13 +108,12 @@ static bool call_for(struct libusb_context *context, const struct notice *notice
 bool call_hotplugs(struct libusb_context *context)
 {
     bool any = false;
-    struct notice *notice;
     context->is_calling = true;
     if (context->closers)
         pthread_cond_broadcast(&context->moved);
-    while ((notice = context->notices)) {
-        context->notices = notice->next;
-        any |= call_for(context, notice);
+    while (context->notices) {
+        struct notice notice = take_notice(context);
+        any |= call_for(context, &notice);
     }
     context->is_calling = false;
     if (context->waiting)
@@ -115,6 +140,8 @@ void end_hotplugs(struct libusb_context *context)
 {
     struct hotplug *it = context->hotplugs;
     context->hotplugs = NULL;
+    while (context->notices)
+        take_notice(context);
     while (it) {
         struct hotplug *next = it->next;
         it->context = NULL;

@@ -8,8 +8,11 @@ void forget(struct device *device)
 {
     for (unsigned i = 0; i < ENDPOINTS; i++)
         free(device->pipes[i].gates);
+    end_own_core(device);
+    free_program(device->program);
     free(device->config);
     free(device->requests);
+    free(device->text);
     memset(device, 0, sizeof *device);
 }
 
@@ -18,13 +21,20 @@ bool is_present(const struct device *device)
     return device->is_there && !device->is_hidden && !device->is_gone;
 }
 
+/* Whether a handle's device is gone, or was plugged in anew since it was opened. */
+bool is_lost(const struct libusb_device_handle *handle)
+{
+    return handle->device->is_gone || handle->is_lost;
+}
+
 /* Interfaces and endpoints of the configuration's first settings, as the core has them (USB 2.0, 9.6.5, 9.6.6). */
 static void learn_endpoints(struct device *device)
 {
     struct interface *interface = NULL;
     const uint8_t *config = device->config;
     for (unsigned i = 0; i < ENDPOINTS; i++)
-        device->pipes[i] = (struct pipe){ .device = device, .ep = (uint8_t)(i / 2 + i % 2 * 128) };
+        device->pipes[i] = (struct pipe){ .device = device, .core = device->core, .number = device->number_there,
+                                          .ep = (uint8_t)(i / 2 + i % 2 * 128) };
     for (int at = config[0]; at + 1 < device->config_length && config[at] >= 2; at += config[at]) {
         const uint8_t *it = config + at;
         if (it[1] == LIBUSB_DT_INTERFACE) {
@@ -44,7 +54,7 @@ static void learn_endpoints(struct device *device)
 static void learn_drivers(struct device *device)
 {
     struct tirnouch_told told = { 0 };
-    for (size_t i = 0; !tirnouch_tell(&process.bus.core, (uint8_t)device->number, 1, i, &told); i++)
+    for (size_t i = 0; !tirnouch_tell(&device->core->slot, device->number_there, 1, i, &told); i++)
         if (told.n < INTERFACES)
             device->interfaces[told.n].has_driver = true;
 }
@@ -52,14 +62,14 @@ static void learn_drivers(struct device *device)
 static int learn_config(struct device *device)
 {
     uint8_t none[1] = { 0 };
-    uint8_t number = (uint8_t)device->number;
-    int length = tirnouch_describe(&process.bus.core, number, LIBUSB_DT_CONFIG, 0, none, 0);
+    uint8_t number = device->number_there;
+    int length = tirnouch_describe(&device->core->slot, number, LIBUSB_DT_CONFIG, 0, none, 0);
     if (length < LIBUSB_DT_CONFIG_SIZE)
         return LIBUSB_ERROR_OTHER;
     device->config = malloc((size_t)length);
     if (!device->config)
         return LIBUSB_ERROR_NO_MEM;
-    device->config_length = tirnouch_describe(&process.bus.core, number, LIBUSB_DT_CONFIG, 0, device->config, (size_t)length);
+    device->config_length = tirnouch_describe(&device->core->slot, number, LIBUSB_DT_CONFIG, 0, device->config, (size_t)length);
     device->configuration = device->config[5];
     return 0;
 }
@@ -68,16 +78,16 @@ static int learn_config(struct device *device)
 static void learn_word_lines(struct device *device)
 {
     struct tirnouch_told told = { 0 };
-    uint8_t number = (uint8_t)device->number;
+    uint8_t number = device->number_there;
     device->configurations = device->descriptor[17];
     device->descriptor[17] = 1;
-    if (!tirnouch_tell(&process.bus.core, number, 0, 0, &told)) {
+    if (!tirnouch_tell(&device->core->slot, number, 0, 0, &told)) {
         device->speed = told.kind;
         device->is_hidden = told.status;
         device->begins_anew = told.amount;
     }
-    if (!tirnouch_tell(&process.bus.core, number, 3, 0, &told)) {
-        device->leaves = true;
+    if (!tirnouch_tell(&device->core->slot, number, 3, 0, &told)) {
+        device->leaves = device->is_watched = true;
         device->leaves_ep = told.ep;
         device->leaves_behind = told.amount;
     }
@@ -85,8 +95,7 @@ static void learn_word_lines(struct device *device)
 
 int learn(struct device *device)
 {
-    uint8_t number = (uint8_t)device->number;
-    if (tirnouch_describe(&process.bus.core, number, LIBUSB_DT_DEVICE, 0, device->descriptor, 18) != 18)
+    if (tirnouch_describe(&device->core->slot, device->number_there, LIBUSB_DT_DEVICE, 0, device->descriptor, 18) != 18)
         return 0;
     device->is_there = true;
     learn_word_lines(device);
@@ -97,5 +106,6 @@ int learn(struct device *device)
         device->interfaces[i].name = -1;
     learn_endpoints(device);
     learn_drivers(device);
+    learn_living(device);
     return learn_gates(device);
 }

@@ -47,7 +47,7 @@ int submit_piece(struct transfer *transfer)
     transfer->stage = IN_CORE;
     pipe->cut = is_last ? NULL : transfer;
     pipe->in_core++;
-    process.bus.in_core++;
+    pipe->core->in_core++;
     activate(pipe);
     return 0;
 }
@@ -117,28 +117,44 @@ static void finish_piece(struct transfer *transfer, const struct tirnouch_told *
     join_first(&transfer->pipe->queue, transfer);
 }
 
-/* A result went out of the core. */
-static inline void finish(struct transfer *transfer, const struct tirnouch_told *told)
+/* A result went out of the core, and nothing goes into it for it. */
+static inline void finish_alone(struct transfer *transfer, const struct tirnouch_told *told)
 {
     struct pipe *pipe = transfer->pipe;
     pipe->in_core--;
-    process.bus.in_core--;
+    pipe->core->in_core--;
     if (pipe->cut == transfer)
         finish_piece(transfer, told);
     else
         end_transfer(transfer, status_of(transfer, told), transfer->moved + (int)told->amount);
+}
+
+static inline void finish(struct transfer *transfer, const struct tirnouch_told *told)
+{
+    struct pipe *pipe = transfer->pipe;
+    finish_alone(transfer, told);
     if (pipe->queue.first)
         feed(pipe);
 }
 
-/* A result goes out of the core; whether there was one. */
-bool reap_one(void)
+static inline bool reap_in(struct core *core)
 {
     struct tirnouch_told told;
-    struct transfer *transfer = process.bus.in_core ? core_take(&told) : NULL;
+    struct transfer *transfer = core->in_core ? core_take(core, &told) : NULL;
     if (transfer)
         finish(transfer, &told);
     return transfer;
+}
+
+/* A result goes out of a core; whether there was one. */
+bool reap_one(void)
+{
+    if (reap_in(&process.bus.core))
+        return true;
+    for (struct core *core = process.bus.own; core; core = core->next)
+        if (reap_in(core))
+            return true;
+    return false;
 }
 
 bool reap(void)
@@ -181,4 +197,54 @@ bool turn_only_one(void)
         bus->active_count = 0;
     }
     return bus->active_count || bus->controls.first;
+}
+
+/* A transfer that is taken out of its core: it has moved what its piece moved. One that came to an end of its own meanwhile has ended. */
+static void finish_moving(struct transfer *transfer, const struct tirnouch_told *told)
+{
+    struct pipe *pipe = transfer->pipe;
+    if (!transfer->is_moving || told->status != LIBUSB_TRANSFER_CANCELLED) {
+        transfer->is_moving = false;
+        finish_alone(transfer, told);
+        return;
+    }
+    pipe->in_core--;
+    pipe->core->in_core--;
+    transfer->moved += (int)told->amount;
+    transfer->stage = QUEUED;
+    if (pipe->cut == transfer)
+        pipe->cut = NULL;
+}
+
+static void ask_out(struct transfer *transfer)
+{
+    transfer->is_moving = true;
+    core_call(transfer->pipe->core, TIRNOUCH_CANCEL, name_of(transfer->pipe), 0, transfer->number);
+}
+
+/* All that a device has in its core comes out of it, and waits at its endpoints again, before what waits there, in order. What was asked to
+ * end ends. The next session of its core goes on with it, as with pieces. */
+void take_out(struct device *device)
+{
+    struct tirnouch_told told;
+    struct transfer *transfer;
+    for (struct libusb_context *context = process.contexts; context; context = context->next)
+        for (struct transfer *it = context->flying.first; it; it = it->next)
+            if (it->stage == IN_CORE && it->pipe->device == device && !it->ask)
+                ask_out(it);
+    for (bool any = true; any && device->core->in_core;) {
+        any = core_settle_in(device->core, ALL);
+        while (device->core->in_core && (transfer = core_take(device->core, &told))) {
+            finish_moving(transfer, &told);
+            any = true;
+        }
+    }
+    for (struct libusb_context *context = process.contexts; context; context = context->next) {
+        for (struct transfer *it = context->flying.last; it; it = it->previous) {
+            if (!it->is_moving)
+                continue;
+            it->is_moving = false;
+            join_first(&it->pipe->queue, it);
+        }
+    }
 }

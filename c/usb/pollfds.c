@@ -17,7 +17,7 @@ static bool is_due(const struct libusb_context *context)
 /* The next moment at which something is to be done by itself; 0 for none. */
 static uint64_t next_time(const struct libusb_context *context)
 {
-    uint64_t moment = context->earliest, again = process.bus.again;
+    uint64_t moment = context->earliest, again = next_ask();
     return again && (!moment || again < moment) && context->flying.first ? again : moment;
 }
 

@@ -45,6 +45,12 @@ static inline void stir(struct libusb_context *context)
         wake_others(context);
 }
 
+/* When a device is to be asked again; 0 for none. */
+static inline uint64_t next_ask(void)
+{
+    return process.bus.own ? next_ask_of_all() : process.bus.controls.first ? process.bus.again : 0;
+}
+
 static inline bool is_settled(void)
 {
     return process.bus.settled == process.bus.stirs;
@@ -142,7 +148,7 @@ static inline int submit_at_endpoint(struct transfer *transfer)
 /* Whether a device's answers are looked at one by one. */
 static inline bool is_watched(const struct device *device)
 {
-    return device->has_gates || device->leaves || process.bus.is_watched;
+    return device->is_watched || process.bus.is_watched;
 }
 
 /* Whether a call of this answer is told: a refusal at level 3, any other at level 4. With or without the lock. */
@@ -168,7 +174,7 @@ static inline struct tirnouch_memory no_memory(void)
 static inline int core_submit(struct transfer *transfer, int length, uint8_t flags)
 {
     const struct pipe *pipe = transfer->pipe;
-    struct tirnouch_slot *core = &process.bus.core;
+    struct tirnouch_slot *core = &pipe->core->slot;
     uint8_t name = (uint8_t)name_of(pipe), *at = length ? seen(transfer)->buffer + transfer->moved : process.nowhere;
     uint32_t timeout = transfer->deadline ? 1 : 0;
     uint64_t payload = (uint64_t)(uintptr_t)transfer;
@@ -201,7 +207,7 @@ static inline struct transfer *transfer_of(const struct tirnouch_told *told, con
 static inline struct transfer *core_turn(const struct pipe *pipe, struct tirnouch_told *told)
 {
     struct tirnouch_memory back = no_memory();
-    int answer = tirnouch_turn(&process.bus.core, (uint8_t)pipe->device->number, pipe->ep, ALL, ALL, &back, told);
+    int answer = tirnouch_turn(&pipe->core->slot, pipe->number, pipe->ep, ALL, ALL, &back, told);
     return answer == 1 ? transfer_of(told, &back) : NULL;
 }
 

@@ -68,10 +68,11 @@ static void halt(struct pipe *pipe)
 /* The halt ends, at the device and in the core, where nothing is in flight. */
 static void end_halt(struct pipe *pipe)
 {
-    int name = pipe->device->interfaces[pipe->interface].name;
+    int name = name_of(pipe);
     pipe->is_stopped = false;
-    if (name >= 0 && !pipe->in_core && !core_call(TIRNOUCH_CLEAR_HALT, name, pipe->ep, 0))
+    if (name >= 0 && !pipe->in_core && !core_call(pipe->core, TIRNOUCH_CLEAR_HALT, name, pipe->ep, 0))
         pipe->is_halted = false;
+    tell_device(pipe->device, TIRNOUCH_EVENT_CLEARED, pipe->ep);
 }
 
 static int answer_of_endpoint(struct device *device, const uint8_t *setup, uint8_t *data)

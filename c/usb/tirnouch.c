@@ -4,6 +4,9 @@
 #include <stdlib.h>
 #include <string.h>
 
+/* Of a packet that was taken in a session before. */
+#define NOT_KEPT (-2)
+
 int tirnouch_plug(const char *text, size_t length)
 {
     char *copy = malloc(length + 1);
@@ -40,6 +43,47 @@ int tirnouch_on_control(int number, tirnouch_control answer, void *user)
     return 0;
 }
 
+/* Of an endpoint but 0. A device that is there moves into a core of its own with its first function. */
+int tirnouch_on_packet(int number, uint8_t ep, tirnouch_packet answer, void *user)
+{
+    if (number < 0 || number >= DEVICES || !(ep & 15) || ep & 0x70)
+        return LIBUSB_ERROR_NOT_FOUND;
+    lock();
+    struct device *device = device_of(number);
+    int r = device && answer ? come_alive(device) : 0;
+    if (!r) {
+        process.packets[number][place_of(ep)].answer = answer;
+        process.packets[number][place_of(ep)].user = user;
+    }
+    if (!r && device)
+        learn_living(device);
+    if (!r && device)
+        ask_at_once(device);
+    unlock();
+    return r;
+}
+
+int tirnouch_on_event(int number, tirnouch_listener listener, void *user)
+{
+    if (number < 0 || number >= DEVICES)
+        return LIBUSB_ERROR_NOT_FOUND;
+    lock();
+    process.listeners[number].tell = listener;
+    process.listeners[number].user = user;
+    unlock();
+    return 0;
+}
+
+int tirnouch_ready(int number)
+{
+    lock();
+    struct device *device = device_of(number);
+    if (device)
+        ask_at_once(device);
+    unlock();
+    return device ? 0 : LIBUSB_ERROR_NOT_FOUND;
+}
+
 int tirnouch_pull(int number)
 {
     lock();
@@ -53,11 +97,7 @@ int tirnouch_show(int number)
 {
     lock();
     struct device *device = device_of(number);
-    int r = device && device->is_hidden ? 0 : LIBUSB_ERROR_NOT_FOUND;
-    if (!r) {
-        device->is_hidden = false;
-        tell_all(device, LIBUSB_HOTPLUG_EVENT_DEVICE_ARRIVED);
-    }
+    int r = device && !is_present(device) ? plug_in(device) : LIBUSB_ERROR_NOT_FOUND;
     unlock();
     return r;
 }
@@ -67,9 +107,12 @@ int tirnouch_took(int number, uint8_t ep, size_t index, uint8_t *data, size_t ro
     uint8_t none[1];
     lock();
     const struct device *device = device_of(number);
-    int r = device ? tirnouch_taken(&process.bus.core, (uint8_t)number, ep, index, room ? data : none, room) : -1;
+    uint64_t before = device ? device->pipes[place_of(ep)].took : 0;
+    int r = -1;
+    if (device && index >= before)
+        r = tirnouch_taken(&device->core->slot, device->number_there, ep, index - (size_t)before, room ? data : none, room);
     unlock();
-    return r < 0 ? -1 : r;
+    return r >= 0 ? r : index < before ? NOT_KEPT : -1;
 }
 
 int tirnouch_requests(int number, size_t index, uint8_t out[64])

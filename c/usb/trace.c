@@ -1,32 +1,43 @@
 /* The steps that the core made, as a scenario's text, for `usbtrace run`; behind a step's line what it was answered, as a comment.
  *
  * Each step is written out as soon as it is whole, so that a run that is ended by abort, by _exit or by a signal leaves all that it did. A
- * trace that can't be written any more ends with a sentence on standard error, and the run goes on. */
+ * trace that can't be written any more ends with a sentence on standard error, and the run goes on.
+ *
+ * Each session of a core has a file. The second bus of a process has names that end in .2, and so on; a device's own core has one that ends
+ * in .d and the device's number, and its second session .2 behind that. */
 #include "bus.h"
 
 #include <errno.h>
 #include <fcntl.h>
 #include <stdarg.h>
 #include <stdio.h>
+#include <stdlib.h>
 #include <string.h>
 #include <unistd.h>
 
+/* What isn't written yet, and of which core it is. */
 static struct {
-    int file;
+    struct core *core;
     size_t length;
     char text[8192];
-} out = { .file = -1 };
+} out;
 
 static void give_up(void)
 {
     fprintf(stderr, "libusb: error TIRNOUCH_TRACE: the trace can't be written on: %s\n", strerror(errno));
-    trace_end();
+    trace_end(out.core);
+}
+
+/* What follows is of this core. */
+void trace_to(struct core *core)
+{
+    out.core = core;
 }
 
 void trace_out(void)
 {
-    for (size_t done = 0; out.file >= 0 && done < out.length;) {
-        ssize_t count = write(out.file, out.text + done, out.length - done);
+    for (size_t done = 0; out.core->trace >= 0 && done < out.length;) {
+        ssize_t count = write(out.core->trace, out.text + done, out.length - done);
         if (count < 0 && errno != EINTR)
             give_up();
         else if (count > 0)
@@ -78,12 +89,13 @@ void trace_hex(const uint8_t *bytes, int count)
 }
 
 /* A line that says something beside the steps. */
-void trace_comment(const char *format, ...)
+void trace_comment(struct core *core, const char *format, ...)
 {
     char line[1024];
     va_list rest;
     if (!process.bus.is_traced)
         return;
+    trace_to(core);
     va_start(rest, format);
     vsnprintf(line, sizeof line, format, rest);
     va_end(rest);
@@ -93,49 +105,68 @@ void trace_comment(const char *format, ...)
     trace_out();
 }
 
-static bool begins(const char *line, size_t length, const char *word)
-{
-    size_t count = strlen(word);
-    return length > count && !memcmp(line, word, count);
-}
-
 /* The lines of a text of devices that a scenario has too. */
-void trace_devices(const char *text, size_t length)
+void trace_devices(struct core *core, const char *text, size_t length)
 {
-    while (process.bus.is_traced && length) {
-        const char *end = memchr(text, '\n', length);
-        size_t line = end ? (size_t)(end - text) : length;
-        if (begins(text, line, "device ") || begins(text, line, "script ")) {
-            put(text, line);
-            put("\n", 1);
-        }
-        text += end ? line + 1 : line;
-        length -= end ? line + 1 : line;
+    struct line line = { .number = 0 };
+    size_t at = 0;
+    if (!process.bus.is_traced)
+        return;
+    trace_to(core);
+    while (next_line(text, length, &at, &line)) {
+        if (!begins(&line, "device ") && !begins(&line, "script "))
+            continue;
+        put(line.at, line.length);
+        put("\n", 1);
     }
     trace_out();
 }
 
-/* False where no such file can be written. */
-bool trace_begin(const char *name)
+static bool open_file(struct core *core, const char *name)
 {
-    out.file = open(name, O_WRONLY | O_CREAT | O_TRUNC | O_CLOEXEC, 0666);
+    core->trace = open(name, O_WRONLY | O_CREAT | O_TRUNC | O_CLOEXEC, 0666);
+    if (core->trace < 0)
+        return false;
+    trace_comment(core, "What the core did. \"usbtrace run\" does it once more.");
+    return true;
+}
+
+/* The file of a session that begins: of a device's own core, or of the one that is shared, where that is NULL. False where no such file can
+ * be written, which is told. */
+bool trace_begin(struct core *core, const struct device *device)
+{
+    char numbered[4096], bus[16] = "", own[16] = "", session[16] = "";
+    const char *name = getenv("TIRNOUCH_TRACE");
+    core->trace = -1;
+    if (!process.bus.is_traced)
+        return true;
+    if (process.traces > 1)
+        snprintf(bus, sizeof bus, ".%u", process.traces);
+    if (device)
+        snprintf(own, sizeof own, ".d%d", device->number);
+    if (core->sessions)
+        snprintf(session, sizeof session, ".%u", core->sessions + 1);
+    snprintf(numbered, sizeof numbered, "%s%s%s%s", name, bus, own, session);
+    if (open_file(core, numbered))
+        return true;
+    fprintf(stderr, "libusb: error TIRNOUCH_TRACE: %s can't be written\n", numbered);
+    return false;
+}
+
+void trace_end(struct core *core)
+{
+    if (core->trace >= 0)
+        close(core->trace);
+    core->trace = -1;
     out.length = 0;
-    process.bus.is_traced = out.file >= 0;
-    trace_comment("What the core did. \"usbtrace run\" does it once more.");
-    return process.bus.is_traced;
 }
 
-void trace_end(void)
-{
-    if (out.file >= 0)
-        close(out.file);
-    trace_forget();
-}
-
-/* A child of fork leaves the file to its parent. */
+/* A child of fork leaves the files to its parent. */
 void trace_forget(void)
 {
-    out.file = -1;
+    process.bus.core.trace = -1;
+    for (struct core *core = process.bus.own; core; core = core->next)
+        core->trace = -1;
     out.length = 0;
     process.bus.is_traced = false;
 }

@@ -69,8 +69,8 @@ int cancel(struct transfer *transfer, enum ask ask)
         return r;
     if (transfer->stage == IN_CORE) {
         const struct pipe *pipe = transfer->pipe;
-        int name = pipe->device->interfaces[pipe->interface].name;
-        r = core_call(expires ? TIRNOUCH_EXPIRE : TIRNOUCH_CANCEL, name, 0, transfer->number);
+        int name = name_of(pipe);
+        r = core_call(pipe->core, expires ? TIRNOUCH_EXPIRE : TIRNOUCH_CANCEL, name, 0, transfer->number);
         if (r == LIBUSB_ERROR_NOT_FOUND && pipe->cut == transfer)
             r = 0;
         if (!r) {
@@ -175,6 +175,7 @@ static void begin_anew(struct transfer *transfer, struct libusb_device_handle *h
     transfer->deadline = deadline;
     transfer->moved = transfer->piece = 0;
     transfer->naks = 0;
+    transfer->later = 0;
     transfer->ask = ASKED_NOTHING;
     transfer->is_dropped = transfer->is_freed = transfer->is_stalled = false;
 }
@@ -185,7 +186,7 @@ static int submit(struct transfer *transfer)
     struct libusb_device_handle *handle = it->dev_handle;
     if (transfer->stage != AT_REST)
         return LIBUSB_ERROR_BUSY;
-    if (handle->is_closing || handle->device->is_gone)
+    if (handle->is_shut || handle->device->is_gone)
         return LIBUSB_ERROR_NO_DEVICE;
     if (it->length < 0 || (it->length && !it->buffer))
         return LIBUSB_ERROR_INVALID_PARAM;

@@ -52,6 +52,13 @@ static void say_gate(struct sentence *it, const struct pipe *pipe, const struct 
         say(it, "%02x waits for control request %" PRIu64 ", %" PRIu64 " came", pipe->ep, gate->count, came);
 }
 
+static void say_asked(struct sentence *it, const struct pipe *pipe)
+{
+    say(it, "the device's %s isn't ready at %02x", pipe->device->program ? "program" : "function", pipe->ep);
+    if (pipe->later > now())
+        say(it, ", for %" PRIu64 " ms more", (pipe->later - now() + MILLISECOND - 1) / MILLISECOND);
+}
+
 /* What an endpoint waits for; false where something is to be done there. */
 static bool say_why_at(struct sentence *it, struct pipe *pipe)
 {
@@ -63,6 +70,8 @@ static bool say_why_at(struct sentence *it, struct pipe *pipe)
         say_gate(it, pipe, gate);
     else if (core_serves(pipe) || pipe->is_stopped || rest.answers)
         return false;
+    else if (pipe->is_asked)
+        say_asked(it, pipe);
     else if (pipe->script)
         say(it, "the script of %02x is at its end behind %" PRIu32 " answer%s", pipe->ep, pipe->script, plural(pipe->script));
     else
@@ -102,7 +111,7 @@ static void tell_one(struct transfer *transfer, const char *what, bool always)
     if (!waits)
         say(&why, "events weren't handled since it could go on");
     note(transfer->context, LIBUSB_LOG_LEVEL_WARNING, "%s %s: %s", which.text, what, why.text);
-    trace_comment("why: %s %s: %s", which.text, what, why.text);
+    trace_comment(transfer->handle->device->core, "why: %s %s: %s", which.text, what, why.text);
 }
 
 static bool is_wanted(const struct libusb_context *context)
@@ -139,7 +148,7 @@ static void write_context(int file, struct libusb_context *context)
         if (!say_why(&why, it))
             say(&why, "events aren't handled, where it could go on");
         dprintf(file, "libusb:   %s is in flight: %s\n", which.text, why.text);
-        trace_comment("why: %s is in flight: %s", which.text, why.text);
+        trace_comment(it->handle->device->core, "why: %s is in flight: %s", which.text, why.text);
     }
 }
 

@@ -9,11 +9,12 @@ static bool is_leaving(const struct pipe *pipe)
 
 int pull_out(struct device *device)
 {
-    int r = core_call(TIRNOUCH_UNPLUG, 0, (uint8_t)device->number, 0);
+    int r = core_call(device->core, TIRNOUCH_UNPLUG, 0, device->number_there, 0);
     if (!r) {
         device->is_gone = true;
         process.bus.stirs++;
         tell_all(device, LIBUSB_HOTPLUG_EVENT_DEVICE_LEFT);
+        tell_device(device, TIRNOUCH_EVENT_PULLED, 0);
     }
     return r;
 }
@@ -36,8 +37,16 @@ static bool serve_one(struct pipe *pipe)
     if (!pipe->device->is_gone)
         count_answer(pipe, &told);
     if (is_leaving(pipe))
-        pull_out(pipe->device);
+        leave_by_itself(pipe->device);
     return told.kind != TIRNOUCH_ENDED;
+}
+
+/* Whether a packet does something, for which a device that computes its answer is asked first. */
+static bool is_answered(struct pipe *pipe)
+{
+    if (pipe->is_asked && !pipe->device->is_gone)
+        return ask_device(pipe);
+    return core_serves(pipe);
 }
 
 /* A device answers at an endpoint, at most so many packets; whether something came of it. */
@@ -47,9 +56,11 @@ bool serve(struct pipe *pipe, uint32_t most)
     bool any = false, goes_on = true;
     if (!is_watched(pipe->device))
         return core_serve(pipe, most, &told);
-    if (is_leaving(pipe))
-        any = !pull_out(pipe->device);
-    for (uint32_t i = 0; goes_on && i < most && !gate_before(pipe) && core_serves(pipe); i++) {
+    if (is_leaving(pipe)) {
+        leave_by_itself(pipe->device);
+        any = true;
+    }
+    for (uint32_t i = 0; goes_on && i < most && !gate_before(pipe) && is_answered(pipe); i++) {
         goes_on = serve_one(pipe);
         any = true;
     }

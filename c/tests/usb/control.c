@@ -182,7 +182,7 @@ static void functions(void)
     begin("answered by a function", "control 0 c0 * * * d:77\n");
     answered = 0;
     answer("set", tirnouch_on_control(0, by_function, &answered));
-    answer("set of device 4", tirnouch_on_control(4, by_function, &answered));
+    answer("set of device 16", tirnouch_on_control(16, by_function, &answered));
     show("computed", ask(0xc0, 0, 0x21, 0, 8, 100));
     show("refused", ask(0xc0, 1, 0, 0, 8, 100));
     show("as the text", ask(0xc0, 2, 0, 0, 8, 100));

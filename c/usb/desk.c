@@ -1,0 +1,286 @@
+/* Texts of devices: whose line is whose. The devices that compute their answers have a core of their own, in which each has the number 0;
+ * the others share one, in which they are numbered from 0 on. The core has no word of `program` and `comes back`: those are read here. */
+#include "bus.h"
+
+#include <stdio.h>
+#include <stdlib.h>
+#include <string.h>
+
+static const char numbers[] = "a device's number stands here, 0 to 15";
+
+/* The line that begins there; false where the text is at its end. */
+bool next_line(const char *text, size_t length, size_t *at, struct line *line)
+{
+    if (*at >= length)
+        return false;
+    const char *end = memchr(text + *at, '\n', length - *at);
+    line->at = text + *at;
+    line->length = end ? (size_t)(end - line->at) : length - *at;
+    line->number++;
+    *at += line->length + 1;
+    return true;
+}
+
+/* The word of this index of a line, from 0 on; words stand between single spaces. */
+const char *word_of(const char *line, int length, uint32_t index, int *word_length)
+{
+    const char *end = line + length, *word = line;
+    for (; index && word < end; index--) {
+        const char *next = memchr(word, ' ', (size_t)(end - word));
+        word = next ? next + 1 : end;
+    }
+    const char *next = memchr(word, ' ', (size_t)(end - word));
+    *word_length = (int)((next ? next : end) - word);
+    return word;
+}
+
+bool begins(const struct line *line, const char *word)
+{
+    size_t count = strlen(word);
+    return line->length > count && !memcmp(line->at, word, count);
+}
+
+/* A device's number that a word says, in digits; -1 where it says none. */
+static int number_in(const struct line *line, uint32_t index)
+{
+    int length, number = 0;
+    const char *word = word_of(line->at, (int)line->length, index, &length);
+    if (length < 1 || length > 2 || (length > 1 && *word == '0'))
+        return -1;
+    for (int i = 0; i < length; i++) {
+        if (word[i] < '0' || word[i] > '9')
+            return -1;
+        number = number * 10 + word[i] - '0';
+    }
+    return number < DEVICES ? number : -1;
+}
+
+/* The device of which a line says something; -1 for none. */
+int device_of_line(const struct line *line)
+{
+    if (!line->length || *line->at == '#')
+        return -1;
+    return number_in(line, begins(line, "comes back ") ? 2 : 1);
+}
+
+static bool is_for_here(const struct line *line)
+{
+    return begins(line, "program ") || begins(line, "comes ");
+}
+
+static bool refuse(const struct desk *desk, const struct line *line, int word, const char *why)
+{
+    complain_of(desk->name, line, word, why);
+    return false;
+}
+
+/* What all lines of the core are, too. */
+static bool is_even(const struct desk *desk, const struct line *line)
+{
+    if (line->at[line->length - 1] == '\r')
+        return refuse(desk, line, -1, "the line ends in CR LF, and lines end in LF alone");
+    if (line->at[line->length - 1] == ' ')
+        return refuse(desk, line, -1, "single spaces stand between words, and none at the line's end");
+    if (memchr(line->at, 0, line->length))
+        return refuse(desk, line, -1, "a byte of the line is zero");
+    return true;
+}
+
+/* `program D COMMAND`: the device is a program. It is started behind this, where all such lines are read. */
+static bool read_program(struct desk *desk, const struct line *line)
+{
+    int device = number_in(line, 1), length;
+    word_of(line->at, (int)line->length, 2, &length);
+    if (!is_even(desk, line))
+        return false;
+    if (device < 0)
+        return refuse(desk, line, 1, numbers);
+    if (!length)
+        return refuse(desk, line, -1, "the form is `program D COMMAND`");
+    if (desk->is_own[device] && desk->commands[device].length)
+        return refuse(desk, line, -1, "the device is a program already");
+    desk->is_own[device] = true;
+    desk->commands[device] = *line;
+    return true;
+}
+
+static bool is_word(const struct line *line, uint32_t index, const char *word)
+{
+    int length;
+    const char *at = word_of(line->at, (int)line->length, index, &length);
+    return (size_t)length == strlen(word) && !memcmp(at, word, (size_t)length);
+}
+
+/* `comes back D as E`: where device D leaves, it is device E that comes back in its place. */
+static bool read_return(struct desk *desk, const struct line *line)
+{
+    int device = number_in(line, 2), successor = number_in(line, 4), rest;
+    word_of(line->at, (int)line->length, 5, &rest);
+    if (!is_even(desk, line))
+        return false;
+    if (!is_word(line, 1, "back") || !is_word(line, 3, "as") || rest)
+        return refuse(desk, line, -1, "the form is `comes back D as E`");
+    if (device < 0 || successor < 0)
+        return refuse(desk, line, device < 0 ? 2 : 4, numbers);
+    if (device == successor)
+        return refuse(desk, line, 4, "another device stands here: without this line it comes back as itself");
+    if (desk->successors[device] >= 0)
+        return refuse(desk, line, -1, "another line says that of the device already");
+    desk->successors[device] = successor;
+    desk->has_returns = true;
+    return true;
+}
+
+/* Lines that are read here alone, and whether any device has its own core. */
+static bool read_own_lines(struct desk *desk)
+{
+    struct line line = { .number = 0 };
+    size_t at = 0;
+    while (next_line(desk->text, desk->length, &at, &line)) {
+        if (begins(&line, "program ") && !read_program(desk, &line))
+            return false;
+        if (begins(&line, "comes ") && !read_return(desk, &line))
+            return false;
+    }
+    for (int i = 0; i < DEVICES; i++) {
+        for (int k = 0; k < ENDPOINTS; k++)
+            desk->is_own[i] |= process.packets[i][k].answer != NULL;
+        desk->has_own |= desk->is_own[i];
+    }
+    return true;
+}
+
+static bool refuse_number(const struct desk *desk, const struct line *line)
+{
+    char why[64];
+    snprintf(why, sizeof why, "the next device has the number %d", desk->count);
+    return refuse(desk, line, 1, why);
+}
+
+/* A line of a device that is known by it first, or was. */
+static void number_device(struct desk *desk, int device, int *shared)
+{
+    if (device < desk->count)
+        return;
+    desk->there[device] = desk->is_own[device] ? -1 : (*shared)++;
+    desk->count++;
+}
+
+/* The devices in order. Lines of a device stand behind the one that has it; the core says so of those that it shares. */
+static bool number_devices(struct desk *desk)
+{
+    struct line line = { .number = 0 };
+    bool is_described[DEVICES] = { false };
+    size_t at = 0;
+    int shared = 0;
+    while (next_line(desk->text, desk->length, &at, &line)) {
+        int device = device_of_line(&line);
+        bool describes = begins(&line, "device ");
+        if (device < 0)
+            continue;
+        if (!describes && !begins(&line, "program ")) {
+            if (device >= desk->count && (desk->is_own[device] || is_for_here(&line)))
+                return refuse(desk, &line, -1, "no line before this one has the device");
+            continue;
+        }
+        if (device > desk->count || (describes && is_described[device]))
+            return refuse_number(desk, &line);
+        is_described[device] |= describes;
+        number_device(desk, device, &shared);
+    }
+    return true;
+}
+
+static bool are_successors_there(const struct desk *desk)
+{
+    for (int i = 0; i < DEVICES; i++) {
+        if (desk->successors[i] < desk->count)
+            continue;
+        fprintf(stderr, "libusb: error %s: device %d comes back as device %d, which no line has\n", desk->name, i, desk->successors[i]);
+        return false;
+    }
+    return true;
+}
+
+/* Reads it as far as that is done here; LIBUSB_ERROR_OTHER where a line isn't taken, which is told. */
+int read_desk(struct desk *desk)
+{
+    for (int i = 0; i < DEVICES; i++) {
+        desk->there[i] = i;
+        desk->successors[i] = -1;
+    }
+    if (!read_own_lines(desk))
+        return LIBUSB_ERROR_OTHER;
+    if (!desk->has_own && !desk->has_returns)
+        return 0;
+    return number_devices(desk) && are_successors_there(desk) ? 0 : LIBUSB_ERROR_OTHER;
+}
+
+void grow(struct growing *text, const char *bytes, size_t length)
+{
+    if (text->failed)
+        return;
+    if (text->room - text->length < length) {
+        size_t room = 2 * text->room + length;
+        char *more = realloc(text->at, room);
+        text->failed = !more;
+        if (!more)
+            return;
+        text->at = more;
+        text->room = room;
+    }
+    memcpy(text->at + text->length, bytes, length);
+    text->length += length;
+}
+
+/* A script's line, of which the answers that were given are left out; a comment where none is left. */
+static void write_rest(struct growing *to, const struct line *line, const struct device *device)
+{
+    int length, count = 0;
+    const char *ep = word_of(line->at, (int)line->length, 2, &length), *end = line->at + line->length;
+    unsigned address = (unsigned)strtoul(ep, NULL, 16);
+    const struct pipe *pipe = &device->pipes[place_of((uint8_t)address)];
+    for (const char *at = ep + length; at < end; at++)
+        count += *at == ' ';
+    int left = name_of(pipe) < 0 ? count : (int)core_rest(pipe).answers;
+    if (!left) {
+        grow(to, "#", 1);
+        return;
+    }
+    const char *answers = word_of(line->at, (int)line->length, (uint32_t)(3 + count - (left < count ? left : count)), &length);
+    grow(to, "script 0 ", 9);
+    grow(to, ep, 2);
+    grow(to, " ", 1);
+    grow(to, answers, (size_t)(end - answers));
+}
+
+/* A line with another number of its device. */
+static void write_line(struct growing *to, const struct line *line, int there)
+{
+    int length;
+    char number[4];
+    const char *word = word_of(line->at, (int)line->length, 1, &length), *behind = word + length;
+    grow(to, line->at, (size_t)(word - line->at));
+    grow(to, number, (size_t)snprintf(number, sizeof number, "%d", there));
+    grow(to, behind, (size_t)(line->at + line->length - behind));
+}
+
+/* The lines of the devices that have a number `there`, with that, and those of none where there are several; all others are comments, so that
+ * the lines keep their places. With `rests` the scripts have what that device has left of them in its core. */
+void write_lines(struct growing *to, const char *text, size_t length, const int there[DEVICES], const struct device *rests)
+{
+    struct line line = { .number = 0 };
+    size_t at = 0;
+    while (next_line(text, length, &at, &line)) {
+        int device = device_of_line(&line);
+        if (is_for_here(&line) || (device >= 0 && there[device] < 0))
+            grow(to, "#", 1);
+        else if (device < 0)
+            grow(to, line.at, line.length);
+        else if (rests && begins(&line, "script "))
+            write_rest(to, &line, rests);
+        else
+            write_line(to, &line, there[device]);
+        grow(to, "\n", 1);
+    }
+}

@@ -1,0 +1,185 @@
+/* Devices that compute their answers: a function of the program's, or a program, is asked for the answer to a packet just before it is
+ * served. What isn't ready makes no step and stands in no script, so that polls cost nothing there. */
+#include "bus.h"
+
+#include <stdio.h>
+
+/* Which endpoints are asked for; a device with a core of its own is looked at packet by packet. */
+void learn_living(struct device *device)
+{
+    device->is_living = device->core != &process.bus.core;
+    device->is_watched |= device->is_living;
+    for (int i = 0; i < ENDPOINTS; i++) {
+        struct pipe *pipe = &device->pipes[i];
+        pipe->is_asked = device->is_living && pipe->kind && (device->program || process.packets[device->number][i].answer);
+    }
+}
+
+static int ask_function(const struct pipe *pipe, uint8_t *data, int length)
+{
+    int number = pipe->device->number;
+    unsigned place = place_of(pipe->ep);
+    begin_asking(number, "endpoint", pipe->ep);
+    int answer = process.packets[number][place].answer(process.packets[number][place].user, pipe->ep, data, length);
+    end_asking();
+    return answer;
+}
+
+/* By tirnouch.h's numbers; TIRNOUCH_AS_TEXT where nothing is asked. */
+int ask_for_request(struct device *device, const uint8_t *setup, uint8_t *data, int length)
+{
+    int number = device->number;
+    if (device->program)
+        return ask_program_for_request(device, setup, data, length);
+    if (!process.controls[number].answer)
+        return TIRNOUCH_AS_TEXT;
+    begin_asking(number, "requests", 0);
+    int answer = process.controls[number].answer(process.controls[number].user, setup, data, length);
+    end_asking();
+    return answer;
+}
+
+/* A device is told what happened to it. A program that can't be told has ended. */
+void tell_device(struct device *device, enum tirnouch_event event, int number)
+{
+    int of = device->number;
+    if (of == HUB)
+        return;
+    if (device->program)
+        tell_program(device, event, number);
+    if (!process.listeners[of].tell)
+        return;
+    begin_asking(of, "events", 0);
+    process.listeners[of].tell(process.listeners[of].user, event, number);
+    end_asking();
+}
+
+uint64_t moment_later(int answer)
+{
+    return now() + (uint64_t)(TIRNOUCH_LATER(0) - (int64_t)answer) * MILLISECOND;
+}
+
+/* The kinds of `tirnouch_feed`. */
+enum { A_PACKET, A_TAKEN, A_STALL = 3, A_BROKEN = 4 };
+
+/* Of which kind an answer is. One that means nothing is told, and breaks the transaction. */
+static uint8_t kind_of(const struct pipe *pipe, int answer)
+{
+    if (answer == TIRNOUCH_STALL)
+        return A_STALL;
+    if (answer == TIRNOUCH_BROKEN)
+        return A_BROKEN;
+    if (!is_in(pipe->ep) && answer >= 0)
+        return A_TAKEN;
+    if (answer >= 0 && answer <= MOST_PACKET)
+        return A_PACKET;
+    fprintf(stderr, "libusb: error device %d: its function of endpoint %02x answered %d, which is no answer to a packet: a broken transaction\n",
+            pipe->device->number, pipe->ep, answer);
+    return A_BROKEN;
+}
+
+/* The answer goes behind the script, and is to be served. */
+static bool feed_answer(struct pipe *pipe, int answer, const uint8_t *data)
+{
+    struct device *device = pipe->device;
+    uint8_t kind = kind_of(pipe, answer);
+    int count = kind == A_PACKET ? answer : 0;
+    int r = tirnouch_feed(&pipe->core->slot, pipe->number, pipe->ep, kind, data, (size_t)count);
+    if (!r) {
+        trace_feed(pipe, kind, data, count);
+        pipe->core->fed++;
+        pipe->fed++;
+        return true;
+    }
+    fprintf(stderr, "libusb: error device %d: an answer of endpoint %02x can't be kept (%s): it is pulled out\n", device->number, pipe->ep,
+            libusb_error_name(r));
+    pull_out(device);
+    return core_serves(pipe);
+}
+
+static bool take_answer(struct pipe *pipe, int answer, const uint8_t *data)
+{
+    if (answer == TIRNOUCH_NOT_READY || answer <= TIRNOUCH_LATER(0)) {
+        pipe->later = answer == TIRNOUCH_NOT_READY ? 0 : moment_later(answer);
+        return false;
+    }
+    if (answer != TIRNOUCH_GONE)
+        return feed_answer(pipe, answer, data);
+    leave_by_itself(pipe->device);
+    return core_serves(pipe);
+}
+
+static struct tirnouch_told offer(const struct pipe *pipe, uint8_t data[MOST_PACKET])
+{
+    struct tirnouch_told told = { 0 };
+    tirnouch_offer(&pipe->core->slot, pipe->number, pipe->ep, data, MOST_PACKET, &told);
+    return told;
+}
+
+/* Whether a packet at an endpoint is to be served, for which its device is asked where the script has no answer. */
+bool ask_device(struct pipe *pipe)
+{
+    uint8_t data[MOST_PACKET];
+    renew_where_full(pipe);
+    struct tirnouch_told told = offer(pipe, data);
+    if (told.kind != 1)
+        return core_serves(pipe);
+    if (pipe->later > now())
+        return false;
+    pipe->later = 0;
+    int length = (int)told.amount;
+    return take_answer(pipe, pipe->device->program ? ask_program(pipe->device, pipe->ep, data, length) : ask_function(pipe, data, length),
+                       data);
+}
+
+/* Whether the next packet is one for which the device is asked, now. */
+bool may_be_asked(const struct pipe *pipe)
+{
+    uint8_t data[MOST_PACKET];
+    return pipe->is_asked && !pipe->device->is_gone && pipe->later <= now() && offer(pipe, data).kind == 1;
+}
+
+/* Requests, and endpoints where a packet waits for that. */
+uint64_t next_ask_of_all(void)
+{
+    struct bus *bus = &process.bus;
+    uint64_t moment = bus->controls.first ? bus->again : 0;
+    for (size_t i = 0; i < bus->active_count; i++) {
+        struct pipe *pipe = bus->active[i];
+        if (pipe->later && pipe->in_core && (!moment || pipe->later < moment) && !gate_before(pipe))
+            moment = pipe->later;
+    }
+    return moment;
+}
+
+void ask_at_once(struct device *device)
+{
+    for (int i = 0; i < ENDPOINTS; i++)
+        device->pipes[i].later = 0;
+    for (struct transfer *it = process.bus.controls.first; it; it = it->behind)
+        if (it->handle->device == device)
+            it->later = 0;
+    process.bus.stirs++;
+    for (struct libusb_context *context = process.contexts; context; context = context->next)
+        wake(context);
+}
+
+static int end_halt(struct pipe *pipe)
+{
+    int r = pipe->is_halted ? core_call(pipe->core, TIRNOUCH_CLEAR_HALT, name_of(pipe), pipe->ep, 0) : 0;
+    if (!r)
+        pipe->is_halted = pipe->is_stopped = false;
+    pipe->later = 0;
+    return r;
+}
+
+/* Its endpoints go on in their scripts, of which nothing is left, and their halts end. A reset of the core's would begin the scripts anew.
+ * Nothing is in flight. */
+int reset_living(struct device *device)
+{
+    int r = 0;
+    for (int i = 0; i < ENDPOINTS && !r; i++)
+        if (device->pipes[i].kind && name_of(&device->pipes[i]) >= 0)
+            r = end_halt(&device->pipes[i]);
+    return r;
+}
