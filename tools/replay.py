@@ -81,7 +81,7 @@ def steps_of(text, name):
                 stop(f"{name}, line {number}: there is no step of which this could be said: {short(line)}")
             if said:
                 steps[-1] = steps[-1]._replace(said=said)
-        elif line and not line.startswith(("device ", "script ")):
+        elif line and not line.startswith(("device ", "script ", "feed ")):
             steps.append(Step(number, line, None))
     return steps
 
