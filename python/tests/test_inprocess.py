@@ -239,13 +239,24 @@ class Plugs(unittest.TestCase):
 
     def test_behind_close_its_methods_arent_called(self) -> None:
         device = Thing()
-        plug(device, library=str(PATH)).close()
+        bus = plug(device, library=str(PATH))
         program = Program()
         try:
             self.assertTrue(program.open(VENDOR, PRODUCT))
+            device.send(0x81, b"abc")
+            device.events.clear()
+            bus.close()
+            bus.close()
             self.assertEqual(program.read(0x81, milliseconds=20), TIMEOUT)
+            program.close()
             self.assertEqual(device.events, [])
         finally:
             program.end()
         with self.assertRaisesRegex(RuntimeError, "returns later"):
             device.ready()
+
+    def test_behind_close_the_bus_is_empty(self) -> None:
+        plug(Thing(), library=str(PATH)).close()
+        program = Program()
+        self.assertFalse(program.open(VENDOR, PRODUCT))
+        program.end()

@@ -122,9 +122,12 @@ class Bus:
         self._call("show", device)
 
     def close(self) -> None:
-        """The devices' functions are called no more. The devices of the next `plug`, or of TIRNOUCH_DEVICES, come with the next context."""
+        """The devices' methods are called no more. Where no context of libusb is open, the bus of the next one is empty until devices are
+        plugged in again; else the devices are there until the last one is closed, and answer nothing."""
         for it in self.plugged:
             it.take_back()
+        if self.plugged:
+            self.library.tirnouch_plug(b"", ctypes.c_size_t(0))
         self.plugged = []
 
     def _call(self, name: str, device: Device) -> None:
