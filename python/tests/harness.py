@@ -39,7 +39,7 @@ class Host:
     def ask(self, line: str) -> Optional[str]:
         """The answer to a line, without its end."""
         assert self.device is not None
-        return protocol.answered(self.device, line.split(" "))
+        return protocol.answered(self.device, line.encode())
 
     def tell(self, line: str) -> None:
         """An event, which isn't answered."""

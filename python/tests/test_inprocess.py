@@ -219,10 +219,23 @@ class Plugs(unittest.TestCase):
             finally:
                 program.end()
 
+    def test_sixteen_devices(self) -> None:
+        things = [type("Thing", (Thing,), {"product": PRODUCT + number})() for number in range(16)]
+        with plug(*things, library=str(PATH)):
+            program = Program()
+            try:
+                for number, thing in enumerate(things):
+                    self.assertTrue(program.open(VENDOR, PRODUCT + number))
+                    thing.send(0x81, bytes((number,)))
+                    self.assertEqual(program.read(0x81), bytes((number,)))
+            finally:
+                program.end()
+
     def test_what_isnt_a_device(self) -> None:
         thing = Thing()
         for words, error, sentence in (((Thing,), TypeError, r"plug takes devices, and not .*: plug\(Thing\(\)\)"),
-                                       ((thing, 5), TypeError, "not 5"), ((thing, thing), ValueError, "each device once")):
+                                       ((thing, 5), TypeError, "not 5"), ((thing, thing), ValueError, "each device once"),
+                                       (tuple(Thing() for _ in range(17)), ValueError, "at most 16 devices, and not 17")):
             with self.assertRaisesRegex(error, sentence):
                 plug(*words, library=str(PATH))
 

@@ -97,9 +97,16 @@ class Programs(unittest.TestCase):
         self.assertIsNone(host.hear())
         self.assertEqual(host.end()[0], 0)
 
+    def test_the_library_may_end_before_it_hears_an_answer(self) -> None:
+        host = self.start()
+        host.hello()
+        host.say(b"out 02 61\nin 81 512\n" * 2000)
+        status, errors = host.end()
+        self.assertEqual((status, errors.replace("printed by the module\n", "")), (0, ""))
+
     def test_what_isnt_a_question_ends_it_with_a_sentence(self) -> None:
         for line in ("huh", "", "in 81", "in 82 5", "in 02 5", "in 81 -1", "out 02 6", "out 02 zz", "control c001 00", "claimed", "reset 1",
-                     "cleared zz", "out 02 61\0", "in 81 \u00e9", "in 81 5 5"):
+                     "cleared zz", "out 02 61\0", "in 81 \u00e9", "in 81 5 5", "hello", "hello x", "hello 0 1"):
             host = self.start()
             host.hello()
             host.say(line.encode() + b"\n")

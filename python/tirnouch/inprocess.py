@@ -14,8 +14,9 @@ from tirnouch.answers import BROKEN, Answer
 from tirnouch.device import ASKED, Device
 from tirnouch.endpoints import IN
 
-# What there is room for where a packet is read.
+# What there is room for where a packet is read, and how many devices a bus has (tirnouch.h).
 MOST_PACKET = 2048
+MOST_DEVICES = 16
 BYTES = ctypes.POINTER(ctypes.c_uint8)
 PACKET = ctypes.CFUNCTYPE(ctypes.c_int, ctypes.c_void_p, ctypes.c_uint8, BYTES, ctypes.c_int)
 CONTROL = ctypes.CFUNCTYPE(ctypes.c_int, ctypes.c_void_p, BYTES, BYTES, ctypes.c_int)
@@ -161,6 +162,8 @@ def plug(*devices: Device, library: Optional[str] = None) -> Bus:
             raise TypeError(f"plug takes devices, and not {it!r}{hint}")
     if len(set(map(id, devices))) != len(devices):
         raise ValueError("plug takes each device once")
+    if len(devices) > MOST_DEVICES:
+        raise ValueError(f"plug takes at most {MOST_DEVICES} devices, and not {len(devices)}")
     text = "".join(it.text(number) for number, it in enumerate(devices)).encode("ascii")
     found = loaded(library or os.environ.get("TIRNOUCH_LIBRARY") or "libusb-1.0.so.0")
     if found.tirnouch_plug(text, ctypes.c_size_t(len(text))):

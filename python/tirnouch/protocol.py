@@ -8,11 +8,12 @@ output, a line a question.
     claimed I, released I, reset, cleared EP, plugged, pulled: told, and not answered"""
 from __future__ import annotations
 
+import contextlib
 import inspect
 import os
 import signal
 import sys
-from typing import BinaryIO, Iterable, List, Optional, Type, Union
+from typing import BinaryIO, Callable, Iterable, List, Optional, Type, Union
 
 from tirnouch import questions
 from tirnouch.answers import Answer
@@ -20,6 +21,8 @@ from tirnouch.device import Device
 from tirnouch.endpoints import IN
 
 HEXADECIMAL, DECIMAL = 16, 10
+# The bytes of a setup packet (USB 2.0, 9.3), and more than any host reads at once.
+SETUP, MOST_ROOM = 8, 1 << 31
 
 
 class NotAQuestion(ValueError):
@@ -49,42 +52,51 @@ def endpoint(device: Device, word: str, inward: bool) -> int:
     return address
 
 
-def answered(device: Device, words: List[str]) -> Optional[str]:
-    """The answer to a question's words; None where it isn't one. ValueError where they don't fit."""
+def question(device: Device, words: List[str]) -> Callable[[], Optional[str]]:
+    """What answers a question of these words; its answer is None where the library waits for none. ValueError where they don't fit."""
     kind, *rest = words
     if kind == "hello":
-        (device_number,) = rest
-        return device.text(number(device_number, DECIMAL, 0xFF)) + "ok"
+        (word,) = rest
+        own = number(word, DECIMAL, 0xFF)
+        return lambda: device.text(own) + "ok"
     if kind == "in":
-        address, room = rest
-        return said(questions.packet_in(device, endpoint(device, address, True), number(room, DECIMAL, 1 << 31)), True)
+        word, length = rest
+        address, room = endpoint(device, word, True), number(length, DECIMAL, MOST_ROOM)
+        return lambda: said(questions.packet_in(device, address, room), True)
     if kind == "out":
-        address, *data = rest
-        return said(questions.packet_out(device, endpoint(device, address, False), bytes.fromhex("".join(data))), False)
+        word, *digits = rest
+        address, packet = endpoint(device, word, False), bytes.fromhex("".join(digits))
+        return lambda: said(questions.packet_out(device, address, packet), False)
     if kind == "control":
-        first, *data = rest
-        setup = bytes.fromhex(first)
-        if len(setup) != 8:
-            raise ValueError(first)
-        return said(questions.request(device, setup, bytes.fromhex("".join(data))), bool(setup[0] & IN))
+        word, *digits = rest
+        setup, written = bytes.fromhex(word), bytes.fromhex("".join(digits))
+        if len(setup) != SETUP:
+            raise ValueError(word)
+        return lambda: said(questions.request(device, setup, written), bool(setup[0] & IN))
+    return event(device, kind, rest)
+
+
+def event(device: Device, kind: str, rest: List[str]) -> Callable[[], None]:
+    """What tells the device of an event."""
     if kind not in questions.EVENTS or len(rest) != (kind in questions.NUMBERED):
         raise ValueError(kind)
-    questions.event(device, kind, number(rest[0], HEXADECIMAL if kind == "cleared" else DECIMAL, 0xFF) if rest else 0)
-    return None
+    about = number(rest[0], HEXADECIMAL if kind == "cleared" else DECIMAL, 0xFF) if rest else 0
+    return lambda: questions.event(device, kind, about)
+
+
+def answered(device: Device, line: bytes) -> Optional[str]:
+    """The answer to a line. NotAQuestion where it isn't one: the library would wait in vain for an answer, so the device had better end."""
+    try:
+        answer = question(device, line.decode("ascii").split(" "))
+    except ValueError as error:
+        raise NotAQuestion(f"{device}: this isn't a question of the protocol: {line[:60]!r}") from error
+    return answer()
 
 
 def serve(device: Device, asked: Iterable[bytes], answers: BinaryIO) -> None:
-    """Answers what is asked, until there is no question any more. NotAQuestion where a line isn't one: the library would wait in vain for
-    its answer, so the device had better end. A last line without its end isn't asked."""
+    """Answers what is asked, until there is no question any more. A last line without its end isn't asked."""
     for line in asked:
-        if not line.endswith(b"\n"):
-            return
-        try:
-            answer = answered(device, line[:-1].decode("ascii").split(" "))
-        except ValueError as error:
-            if isinstance(error, UnicodeDecodeError) or line.split(b" ")[0].strip() != b"hello":
-                raise NotAQuestion(f"{device}: this isn't a question of the protocol: {line[:60]!r}") from error
-            raise
+        answer = answered(device, line[:-1]) if line.endswith(b"\n") else None
         if answer is not None:
             answers.write(answer.encode("ascii") + b"\n")
             answers.flush()
@@ -128,7 +140,8 @@ def main(kind: Union[Device, Type[Device]]) -> None:
     device = made(kind, sys.argv[1:])
     try:
         serve(device, asked, answers)
-    except (BrokenPipeError, ConnectionResetError):
-        os._exit(0)                             # nobody is there who would hear the rest
     except NotAQuestion as error:
         sys.exit(str(error))
+    except (BrokenPipeError, ConnectionResetError):
+        with contextlib.suppress(OSError):      # nobody is there any more who would hear the rest
+            answers.close()
