@@ -22,6 +22,8 @@ FLAGS = "-std=c11 -g -Wall -Wextra -pedantic -D_GNU_SOURCE".split() + ["-I", str
 MORE = {"memory": ["-Wl,--wrap=malloc,--wrap=calloc,--wrap=realloc"]}
 # A process that forks isn't looked at by the thread sanitizer; nor are allocations that are refused its own.
 LEFT_OUT = {"thread": {"fork", "memory"}}
+# Those that take no seed: they have dice of their own, refuse memory, or are long.
+UNSEEDED = ("memory", "races", "endless")
 SECONDS = 240
 # What is tried besides: runs that hang, crash or fail with some seeds; what a trace has where a run ends; what long work says; and devices
 # and examples in Python.
@@ -102,7 +104,7 @@ def runs(way, names):
         for dice in range(1, 1 + (DICE[way.kind()] if name == "races" else 1)):
             yield program, name, [str(dice)], None, f"{name} {dice}, {way.name}", True
             yield program, name, [str(dice)], None, f"{name} {dice}, untraced, {way.name}", False
-        for seed in range(1, 1 + (0 if name in ("memory", "races") else SEEDS[way.kind()])):
+        for seed in range(1, 1 + (0 if name in UNSEEDED else SEEDS[way.kind()])):
             yield program, name, ["1"], seed, f"{name}, seed {seed}, {way.name}", True
 
 

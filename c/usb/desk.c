@@ -265,15 +265,21 @@ static void write_line(struct growing *to, const struct line *line, int there)
     grow(to, behind, (size_t)(line->at + line->length - behind));
 }
 
-/* The lines of the devices that have a number `there`, with that, and those of none where there are several; all others are comments, so that
- * the lines keep their places. With `rests` the scripts have what that device has left of them in its core. */
+/* What is counted here, from the device's beginning on, over all its sessions. */
+static bool is_learned_once(const struct line *line)
+{
+    return begins(line, "after ") || begins(line, "leaves ");
+}
+
+/* The lines of the devices that have a number `there`, with that, and those of no device; all others are comments, so that the lines keep
+ * their places. With `rests` they are for a further session: the scripts have what that device has left of them in its core. */
 void write_lines(struct growing *to, const char *text, size_t length, const int there[DEVICES], const struct device *rests)
 {
     struct line line = { .number = 0 };
     size_t at = 0;
     while (next_line(text, length, &at, &line)) {
         int device = device_of_line(&line);
-        if (is_for_here(&line) || (device >= 0 && there[device] < 0))
+        if (is_for_here(&line) || (device >= 0 && there[device] < 0) || (rests && is_learned_once(&line)))
             grow(to, "#", 1);
         else if (device < 0)
             grow(to, line.at, line.length);

@@ -28,6 +28,7 @@ struct program {
     int socket;                       /* -1 where it is lost */
     pid_t process;                    /* the first of its group; 0 where it isn't ours to end */
     uint64_t patience;                /* in nanoseconds */
+    bool is_met;                      /* it said that it is ready */
     size_t count;                     /* bytes behind the line that was read last */
     size_t taken;                     /* of that line, with its end */
     char text[MOST_LINE];
@@ -102,7 +103,7 @@ static int start(struct program *it, const char *command, const char *folder)
 static void lose(struct device *device, const char *why)
 {
     struct program *it = device->program;
-    fprintf(stderr, "libusb: error device %d: its program %s: it is pulled out\n", device->number, why);
+    fprintf(stderr, "libusb: error device %d: its program %s%s\n", device->number, why, it->is_met ? ": it is pulled out" : " before it said ok");
     trace_comment(device->core, "device %d: its program %s", device->number, why);
     close(it->socket);
     it->socket = -1;
@@ -316,7 +317,8 @@ int begin_program(struct device *device, const struct desk *desk, struct growing
         complain_of(desk->name, line, -1, strerror(r));
         return r == ENOMEM ? LIBUSB_ERROR_NO_MEM : LIBUSB_ERROR_OTHER;
     }
-    return greet(device, text) ? 0 : LIBUSB_ERROR_OTHER;
+    it->is_met = greet(device, text);
+    return it->is_met ? 0 : LIBUSB_ERROR_OTHER;
 }
 
 static void hang_up(struct program *it)

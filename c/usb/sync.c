@@ -10,10 +10,10 @@ static void complete(struct libusb_transfer *transfer)
     __atomic_store_n((int *)transfer->user_data, 1, __ATOMIC_RELEASE);
 }
 
-/* A callback may not wait for another. */
-static bool is_in_callback(struct libusb_context *context)
+/* A callback may not wait for another; `function` is what it calls. */
+static bool is_in_callback(struct libusb_context *context, const char *function)
 {
-    lock();
+    lock_for(function);
     bool r = is_handler(context) && context->is_calling;
     unlock();
     return r;
@@ -77,7 +77,7 @@ int libusb_control_transfer(libusb_device_handle *handle, uint8_t type, uint8_t 
 {
     struct libusb_context *context = handle->context;
     int completed = 0;
-    if (is_in_callback(context))
+    if (is_in_callback(context, __func__))
         return LIBUSB_ERROR_BUSY;
     struct libusb_transfer *transfer = libusb_alloc_transfer(0);
     unsigned char *buffer = malloc(LIBUSB_CONTROL_SETUP_SIZE + length);
@@ -101,11 +101,12 @@ int libusb_control_transfer(libusb_device_handle *handle, uint8_t type, uint8_t 
     return r;
 }
 
-static int move(libusb_device_handle *handle, uint8_t ep, uint8_t type, unsigned char *data, int length, int *moved, unsigned timeout)
+static int move(libusb_device_handle *handle, uint8_t ep, uint8_t type, unsigned char *data, int length, int *moved, unsigned timeout,
+                const char *function)
 {
     struct libusb_context *context = handle->context;
     int completed = 0;
-    if (is_in_callback(context))
+    if (is_in_callback(context, function))
         return LIBUSB_ERROR_BUSY;
     struct libusb_transfer *transfer = libusb_alloc_transfer(0);
     if (!transfer)
@@ -114,7 +115,7 @@ static int move(libusb_device_handle *handle, uint8_t ep, uint8_t type, unsigned
     transfer->type = type;
     int r = carry_out(transfer, context, &completed);
     if (is_told(context, r))
-        note_end(context, transfer, r, type == LIBUSB_TRANSFER_TYPE_BULK ? "libusb_bulk_transfer" : "libusb_interrupt_transfer");
+        note_end(context, transfer, r, function);
     if (moved)
         *moved = transfer->actual_length;
     libusb_free_transfer(transfer);
@@ -123,11 +124,11 @@ static int move(libusb_device_handle *handle, uint8_t ep, uint8_t type, unsigned
 
 int libusb_bulk_transfer(libusb_device_handle *handle, unsigned char ep, unsigned char *data, int length, int *moved, unsigned timeout)
 {
-    return move(handle, ep, LIBUSB_TRANSFER_TYPE_BULK, data, length, moved, timeout);
+    return move(handle, ep, LIBUSB_TRANSFER_TYPE_BULK, data, length, moved, timeout, __func__);
 }
 
 int libusb_interrupt_transfer(libusb_device_handle *handle, unsigned char ep, unsigned char *data, int length, int *moved,
                               unsigned timeout)
 {
-    return move(handle, ep, LIBUSB_TRANSFER_TYPE_INTERRUPT, data, length, moved, timeout);
+    return move(handle, ep, LIBUSB_TRANSFER_TYPE_INTERRUPT, data, length, moved, timeout, __func__);
 }
