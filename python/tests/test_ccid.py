@@ -44,8 +44,8 @@ class Cards(unittest.TestCase):
 
     def test_wrong_commands_have_their_status_words(self) -> None:
         """6E00 the class, 6D00 the instruction, 6700 the length."""
-        for apdu, status in (("80a4040000", "6e00"), ("00ff0000", "6d00"), ("00a404", "6700"), ("", "6700"), ("00a40400030102", "6700"),
-                             ("00a404000001", "6700"), ("00a4040001020304", "6700"), ("00840000", "6700")):
+        for apdu, status in (("0084010008", "6a86"), ("0084000108", "6a86"), ("80a4040000", "6e00"), ("00ff0000", "6d00"),
+                             ("00a404", "6700"), ("", "6700"), ("00a40400030102", "6700"), ("00a404000001", "6700"), ("00a4040001020304", "6700"), ("00840000", "6700")):
             self.assertEqual(self.status(bytes.fromhex(apdu)), status, apdu)
 
     def test_a_file_is_read(self) -> None:
@@ -78,7 +78,11 @@ class Cards(unittest.TestCase):
         self.card.answer(SELECT)
         self.assertEqual(self.status(asked), "6982")
         self.card.answer(PIN)
-        self.assertEqual(self.card.answer(asked), hmac.new(b"tirnouch's key", challenge[:8], hashlib.sha256).digest() + b"\x90\x00")
+        digest = hmac.new(b"tirnouch's key", challenge[:8], hashlib.sha256).digest()
+        self.assertEqual(self.card.answer(asked), digest + b"\x90\x00")
+        self.assertEqual(self.card.answer(asked[:-1] + b"\4"), digest[:4] + b"\x90\x00")
+        self.assertEqual((self.status(asked[:-1]), self.status(bytes.fromhex("0088000000"))), ("6700", "6700"))
+        self.assertEqual(len(self.card.answer(bytes.fromhex("0084000000"))), 32 + 2)
         self.card.answer(SELECT)
         self.assertEqual(self.status(asked), "6982")
 

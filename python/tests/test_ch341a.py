@@ -112,9 +112,22 @@ class Chips(Files):
         self.assertEqual(self.do("05", 3), b"\1\1\0")
 
     def test_the_status_register_is_written(self) -> None:
-        self.do("06")
-        self.do("01 1c")
+        """Bits 7 to 2 are those that are written; BUSY and WEL aren't. The second register is 0."""
+        self.change_status("01 1f")
         self.assertEqual(self.do("05", 3), b"\x1d\x1d\x1c")
+        self.assertEqual(self.do("35", 1), b"\0")
+
+    def change_status(self, instruction: str) -> None:
+        """An instruction behind Write Enable."""
+        self.do("06")
+        self.do(instruction)
+
+    def test_instructions_that_end_too_early_arent_done(self) -> None:
+        before = self.path.read_bytes()
+        for instruction in ("01", "02 000000", "02 0000"):
+            self.change_status(instruction)
+            self.assertEqual(self.do("05", 1), b"\x02", instruction)
+        self.assertEqual(self.path.read_bytes(), before)
 
 
 class Programmers(Files):
@@ -142,6 +155,36 @@ class Programmers(Files):
             self.host.write(0x02, b"\xa8" + reversed_bits(bytes.fromhex(instruction)), 32)
             out = self.host.read(0x82, 32, 32)
         self.assertEqual(out, reversed_bits(b"\xff\x02"))
+
+    def begin(self) -> None:
+        """An instruction that is read from, and goes on."""
+        self.host.write(0x02, b"\xa8" + reversed_bits(b"\x9f\0"), 32)
+        self.assertEqual(self.host.read(0x82, 32, 32), reversed_bits(b"\xff\xef"))
+
+    def goes_on(self) -> bool:
+        """Whether the chip is still selected: it reads on, and else it has a new instruction, 00."""
+        self.host.write(0x02, b"\xa8" + bytes(1), 32)
+        return self.host.read(0x82, 32, 32) == reversed_bits(b"\x40")
+
+    def test_other_steps_leave_the_chip_selected(self) -> None:
+        """Levels whose pin 0 is low; pins that are read (00), directions (40), waits (C0), with the same bit."""
+        for steps, expected in (("b6", True), ("01", True), ("41", True), ("c1", True), ("81", False), ("60 81", False), ("20 81", True),
+                                ("a0 81", False), ("", True)):
+            self.begin()
+            self.host.write(0x02, bytes.fromhex(f"ab {steps}"), 32)
+            self.assertEqual(self.goes_on(), expected, steps)
+            self.host.write(0x02, bytes.fromhex("ab 81 20"), 32)
+
+    def test_a_reset_deselects_the_chip(self) -> None:
+        self.begin()
+        self.host.tell("reset")
+        self.assertFalse(self.goes_on())
+
+    def test_its_descriptors(self) -> None:
+        """As `lsusb -v` has those of a CH341A: class FF, 01, 02; 82 and 02 bulk of 32 bytes, 81 interrupt of 8."""
+        lines = self.host.device.text(0).splitlines() if self.host.device else []
+        self.assertEqual(lines[0], "device 0 0902270001010080320904000003ff010200" + "07050202200000" + "07058103080001" + "07058202200000")
+        self.assertEqual(lines[1:], ["ids 0 1a86 5512 0304", "speed 0 full", "string 0 2 USB UART-LPT"])
 
     def test_what_stands_behind_the_end_isnt_done(self) -> None:
         self.host.write(0x02, b"\xa8" + reversed_bits(b"\x9f"), 32)

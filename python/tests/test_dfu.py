@@ -121,9 +121,10 @@ class Transfers(unittest.TestCase):
         self.assertEqual((self.host.state(), self.host.upload(0, 64)), (IDLE, b"old"))
 
     def test_a_reset_begins_anew(self) -> None:
-        self.host.download(0, b"new")
-        self.host.tell("reset")
-        self.assertEqual((self.host.state(), self.path.exists()), (IDLE, False))
+        for event in ("reset", "plugged"):
+            self.host.download(0, b"new")
+            self.host.tell(event)
+            self.assertEqual((self.host.state(), self.path.exists()), (IDLE, False))
 
     def test_its_descriptors(self) -> None:
         """4.2.3 and 4.2.4: class FE, subclass 01, protocol 02; bitCanDnload, bitCanUpload, bitManifestationTolerant; 255 ms; 1024; 1.1."""
@@ -131,5 +132,6 @@ class Transfers(unittest.TestCase):
         lines = program.hello()
         self.assertEqual(program.end(), (0, ""))
         self.assertEqual(lines[0], "device 0 09021b000101008032" + "0904000000fe010204" + "092107ff0000041001")
+        self.assertIn("ids 0 1209 0006 0100", lines)
         self.assertIn("class 0 fe 01 02", lines)
         self.assertIn("string 0 4 memory", lines)

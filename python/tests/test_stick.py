@@ -127,6 +127,17 @@ class Commands(Sticks):
         self.assertEqual(self.host.fetch(ten(0x28, 0, 0), 0), (b"", PASSED, 0))
         self.assertEqual(self.host.give(ten(0x2A, 0, 0), b""), (PASSED, 0, False))
 
+    def test_the_last_block(self) -> None:
+        self.assertEqual(self.host.fetch(ten(0x28, BLOCKS - 1, 1), 512), (self.image[-512:], PASSED, 0))
+        self.assertEqual(self.host.fetch(ten(0x28, 0, BLOCKS), 512 * BLOCKS), (self.image, PASSED, 0))
+
+    def test_a_command_moves_no_more_than_was_asked_for(self) -> None:
+        """The allocation length of INQUIRY has two bytes, that of MODE SENSE one."""
+        self.assertEqual(self.host.fetch(bytes((0x12, 0, 0, 0, 5, 0)), 5)[0], bytes.fromhex("008004021f"))
+        self.assertEqual(self.host.fetch(bytes((0x12, 0, 0, 1, 0, 0)), 256)[2], 256 - 36)
+        self.assertEqual(self.host.fetch(bytes((0x12, 1, 0x80, 0, 4, 0)), 4)[0], bytes((0, 0x80, 0, 12)))
+        self.assertEqual(self.host.fetch(bytes((0x1A, 0, 0x3F, 0, 255, 0)), 255)[2], 255 - 24)
+
     def test_blocks_behind_the_last_are_refused(self) -> None:
         """ILLEGAL REQUEST, LOGICAL BLOCK ADDRESS OUT OF RANGE."""
         for at, count in ((BLOCKS, 1), (BLOCKS - 1, 2), (0xFFFFFFFF, 1), (BLOCKS, 0)):
@@ -140,6 +151,13 @@ class Commands(Sticks):
         self.assertEqual(self.host.fetch(ten(0xFF), 8), (b"", FAILED, 8))
         self.assertEqual(self.host.sense(), (5, 0x20, 0))
         self.assertEqual(self.host.sense(), (0, 0, 0))
+
+    def test_all_bytes_of_the_sense(self) -> None:
+        """SPC-4, 4.5.3: current errors in the fixed format, the key at 2, 10 bytes behind the first 8, the code at 12."""
+        self.host.give(ten(0xFF), b"")
+        self.assertEqual(self.host.fetch(bytes((0x03, 0, 0, 0, 18, 0)), 18)[0].hex(), "700005000000000a00000000200000000000")
+        self.host.give(ten(0xFF), b"")
+        self.assertEqual(self.host.fetch(bytes((0x03, 0, 0, 0, 4, 0)), 4), (bytes((0x70, 0, 5, 0)), PASSED, 0))
 
     def test_sense_is_kept_until_another_command(self) -> None:
         """INQUIRY leaves it, TEST UNIT READY doesn't."""
@@ -178,6 +196,9 @@ class Commands(Sticks):
     def test_verify(self) -> None:
         self.assertEqual(self.host.give(ten(0x2F, 0, 4), b""), (PASSED, 0, False))
         self.assertEqual(self.host.give(ten(0x2F, 0, BLOCKS + 1), b"")[0], FAILED)
+        self.assertEqual(self.host.sense(), (5, 0x21, 0))
+        self.assertEqual(self.host.give(bytes((0x2F, 2)) + ten(0x2F, 0, 1)[2:], bytes(512)), (FAILED, 512, True))
+        self.assertEqual(self.host.sense(), (5, 0x24, 0))
 
 
 class Lengths(Sticks):
@@ -231,17 +252,37 @@ class Wrappers(Sticks):
             self.assertEqual(self.host.give(bytes(6), b""), (PASSED, 0, False))
 
     def test_a_reset_of_the_bus_begins_anew(self) -> None:
-        self.host.write(0x02, self.host.wrapper(ten(0x2A, 0, 2), 1024, False))
-        self.host.write(0x02, bytes(512))
-        self.host.tell("reset")
-        self.assertEqual(self.host.give(bytes(6), b""), (PASSED, 0, False))
-        self.assertEqual(self.path.read_bytes(), self.image)
+        for event in ("reset", "plugged"):
+            self.host.write(0x02, self.host.wrapper(ten(0x2A, 0, 2), 1024, False))
+            self.host.write(0x02, bytes(512))
+            self.host.tell(event)
+            self.assertEqual(self.host.give(bytes(6), b""), (PASSED, 0, False))
+            self.assertEqual(self.path.read_bytes(), self.image)
+
+    def test_a_command_without_data_may_say_either_direction(self) -> None:
+        """5.1: bit 7 of bmCBWFlags is ignored where dCBWDataTransferLength is 0."""
+        self.host.write(0x02, self.host.wrapper(bytes(6), 0, True))
+        self.assertEqual(self.host.status(), (PASSED, 0))
+        self.host.write(0x02, self.host.wrapper(ten(0x28, 0, 1), 0, True))
+        self.assertEqual(self.host.status(), (PHASE_ERROR, 0))
 
     def test_one_unit(self) -> None:
         self.assertEqual(self.host.control(0xA1, 0xFE, 0, 0, 1), b"\0")
 
 
 class Programs(Sticks):
+    def test_a_disk_has_whole_blocks(self) -> None:
+        """One is enough."""
+        for block in ("0", "-512", "1000"):
+            with self.assertRaisesRegex(ValueError, "one or more blocks of"):
+                Stick(str(self.path), block)
+        self.path.write_bytes(bytes(4096))
+        self.assertEqual(self.host_of(Stick(str(self.path), "4096")).fetch(ten(0x25), 8)[0], struct.pack(">II", 0, 4096))
+        for size in (0, 4095, 4097):
+            self.path.write_bytes(bytes(size))
+            with self.assertRaisesRegex(ValueError, f"has {size} bytes"):
+                Stick(str(self.path))
+
     def test_files_that_are_no_disk(self) -> None:
         for words, sentence in (((str(self.path), "500"), "a multiple of 512"), ((str(self.path), "65536"), "one or more blocks"),
                                 ((str(self.path), "512", "often"), "`protected`"), ((str(self.path) + "x",), "No such file"),
@@ -253,7 +294,9 @@ class Programs(Sticks):
             self.assertIn(sentence, errors)
 
     def test_as_a_program(self) -> None:
+        """4.3: class 08, subclass 06 (SCSI), protocol 50 (bulk-only); 4.4: a bulk endpoint of each direction."""
         host = ProgramHost(str(DEVICES / "stick.py"), str(self.path))
-        self.assertTrue(any(line.startswith("string 0 3 4954524E4F55") for line in host.hello()))
+        configuration = "0902200001010080320904000002080650000705020200020007058102000200"
+        self.assertEqual(host.hello()[:2], [f"device 0 {configuration}", "ids 0 1209 0007 0100"])
         self.assertEqual(host.control(0xA1, 0xFE, 0, 0, 1), b"\0")
         self.assertEqual(host.end(), (0, ""))
