@@ -22,12 +22,10 @@ SIZE, PIECE, PAYLOAD = 8, 7, 64
 # A frame: payload, slot, check sum, filler.
 FRAME = struct.Struct("<64sBH3x")
 LAST = FRAME.size // PIECE - 1
-# The last byte of a report: the host writes this piece; an answer is there; a write that ends the reading of one.
-WRITTEN, PENDING, END = 0x80, 0x40, 0x8F
+# The last byte of a report has a piece's number, and says that the host writes it, or that it is one of an answer.
+WRITTEN, PENDING = 0x80, 0x40
 SERIAL, CHALLENGE_2 = 0x10, 0x38
 VERSION, SEQUENCE, SLOT_2_VALID = (4, 3, 1), 1, 0x02
-# The check sum of a message with its check sum behind it.
-RESIDUE = 0xF0B8
 # RFC 2202, test case 1 of HMAC with SHA-1.
 KEY = "0b" * 20
 
@@ -85,16 +83,15 @@ class Yubikey(Device):
 
     @control(0x21, SET_REPORT, FEATURE, 0)
     def set_report(self, request: Request) -> None:
-        """A piece of a frame; pieces of zeros needn't be written, and the last one ends it (HID 1.11, 7.2.2)."""
+        """A piece of a frame; pieces of zeros needn't be written, and the last one ends it (HID 1.11, 7.2.2). A number behind the last
+        piece's ends what is written or read: 8F is written for that."""
         if len(request.data) != SIZE or not request.data[-1] & WRITTEN:
             return
         number = request.data[-1] & ~WRITTEN
-        if request.data[-1] == END or number > LAST:
+        if number == 0 or number > LAST:
             self.renew()
-            return
-        if number == 0:
-            self.renew()
-        self.frame[PIECE * number : PIECE * (number + 1)] = request.data[:PIECE]
+        if number <= LAST:
+            self.frame[PIECE * number : PIECE * (number + 1)] = request.data[:PIECE]
         if number == LAST:
             self.command(bytes(self.frame))
 

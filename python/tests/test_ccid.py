@@ -45,7 +45,8 @@ class Cards(unittest.TestCase):
     def test_wrong_commands_have_their_status_words(self) -> None:
         """6E00 the class, 6D00 the instruction, 6700 the length."""
         for apdu, status in (("0084010008", "6a86"), ("0084000108", "6a86"), ("80a4040000", "6e00"), ("00ff0000", "6d00"),
-                             ("00a404", "6700"), ("", "6700"), ("00a40400030102", "6700"), ("00a404000001", "6700"), ("00a4040001020304", "6700"), ("00840000", "6700")):
+                             ("00a404", "6700"), ("", "6700"), ("00a40400030102", "6700"), ("00a404000001", "6700"),
+                             ("00a4040001020304", "6700"), ("00840000", "6700")):
             self.assertEqual(self.status(bytes.fromhex(apdu)), status, apdu)
 
     def test_a_file_is_read(self) -> None:
@@ -155,6 +156,12 @@ class Readers(unittest.TestCase):
         self.ask(0x62)
         self.assertEqual(self.ask(0x6F, bytes.fromhex("00a40400f0") + bytes(240))[4], bytes.fromhex("6a82"))
 
+    def test_the_longest_message_and_one_that_fills_a_packet(self) -> None:
+        """A message ends where its length says so, without an empty packet behind it."""
+        self.ask(0x62)
+        self.assertEqual(self.ask(0x6F, bytes.fromhex("00ff0000ff") + bytes(256))[:3], (0x80, 0, 0))
+        self.assertEqual(self.ask(0x6F, bytes.fromhex("00ff000031") + bytes(49))[4], bytes.fromhex("6d00"))
+
     def test_an_answer_that_fills_its_last_packet_is_ended(self) -> None:
         """10 bytes of head, 52 of data and 2 of the status word are 64, and an empty packet follows (USB 2.0, 5.8.3)."""
         device = self.host.device
@@ -168,18 +175,25 @@ class Readers(unittest.TestCase):
     def test_a_card_is_told_once(self) -> None:
         """6.3.1: RDR_to_PC_NotifySlotChange, slot 0: a card is present, and that changed; and anew behind a reset."""
         self.assertEqual([self.host.ask("in 83 8") for _ in range(2)], ["d:5003", "n"])
-        self.host.tell("reset")
-        self.assertEqual(self.host.ask("in 83 8"), "d:5003")
+        for event in ("reset", "plugged"):
+            self.ask(0x62)
+            self.host.tell(event)
+            self.assertEqual([self.host.ask("in 83 8") for _ in range(2)], ["d:5003", "n"])
+            self.assertEqual(self.ask(0x65), (0x81, 1, 0, 0, b""))
 
     def test_its_descriptor(self) -> None:
-        """5.1: 54 bytes of type 21, version 1.1, one slot, T=1; short commands, and all that is automatic; 271 bytes a message."""
+        """5.1: 54 bytes of type 21, version 1.1, slot 0, all voltages, T=1; 4,000 kHz; 10,752 bits a second; IFSD 254; no synchronous
+        protocols, nothing mechanical; short commands, and all that is automatic; 271 bytes a message; no classes of its own, no display, no
+        keypad, one slot at a time. Interrupts have 8 bytes."""
         program = ProgramHost(str(DEVICES / "ccid.py"), "04e6:5116")
         lines = program.hello()
         program.end()
-        functional = bytes.fromhex(lines[0].split(" ")[2])[18:72]
-        self.assertEqual(functional[:10], bytes.fromhex("3621 1001 00 07 02000000"))
-        self.assertEqual(struct.unpack("<II", functional[40:48]), (0x2047A, 271))
-        self.assertIn("ids 0 04e6 5116 0100", lines)
+        functional = ("3621 1001 00 07 02000000" "a00f0000 a00f0000 00" "002a0000 002a0000 00" "fe000000" "00000000 00000000"
+                      "7a040200" "0f010000" "ff ff 0000 00 01")
+        configuration = ("0902 5d00 0101008032" "0904 00 00 03 0b0000 00" + functional
+                         + "0705 02 02 4000 00" "0705 81 02 4000 00" "0705 83 03 0800 10")
+        self.assertEqual(lines[0], "device 0 " + configuration.replace(" ", ""))
+        self.assertEqual(lines[1:3], ["ids 0 04e6 5116 0100", "speed 0 full"])
 
     def test_an_abort_forgets_half_a_message(self) -> None:
         self.host.write(0x02, struct.pack("<BIBB", 0x6F, 200, 0, 1) + bytes(57), 64)

@@ -76,6 +76,24 @@ class Keys(unittest.TestCase):
             self.host.control(0x21, 9, 0x0300, 0, data)
             self.assertEqual(self.report()[7], 0)
 
+    def test_pieces_that_arent_written_leave_a_frame_as_it_is(self) -> None:
+        """Without 80 in its last byte a piece isn't one, nor where it hasn't 8 bytes."""
+        self.host.control(0x21, 9, 0x0300, 0, b"Hi The" + b"r\x80")
+        for data in (b"abcdefg\x00", b"abcdefg\x09", b"abc\x80"):
+            self.host.control(0x21, 9, 0x0300, 0, data)
+        frame = (b"Hi There".ljust(64, b"\0") + struct.pack("<BH", CHALLENGE, check_sum(b"Hi There".ljust(64, b"\0")))).ljust(70, b"\0")
+        for number in (1, 9):
+            self.host.control(0x21, 9, 0x0300, 0, frame[7 * number : 7 * number + 7] + bytes((0x80 | number,)))
+        self.assertEqual(self.answer()[:20].hex(), "b617318655057264e28bc0b6fb378c8ef146be00")
+
+    def test_a_frame_that_was_left_begins_anew(self) -> None:
+        """By 8F, and by another first piece."""
+        for end in (b"\x8f", b"\x80"):
+            self.host.control(0x21, 9, 0x0300, 0, b"abcdefg\x81")
+            self.host.control(0x21, 9, 0x0300, 0, bytes(7) + end)
+            self.write(SERIAL)
+            self.assertEqual(self.answer()[:4], (1234567).to_bytes(4, "big"))
+
     def test_an_answer_is_left_by_a_write(self) -> None:
         """DUMMY_REPORT_WRITE, 8F."""
         self.write(SERIAL)
@@ -84,9 +102,15 @@ class Keys(unittest.TestCase):
         self.assertEqual(self.report()[7], 0)
 
     def test_a_reset_forgets_an_answer(self) -> None:
-        self.write(SERIAL)
-        self.host.tell("reset")
-        self.assertEqual(self.report()[7], 0)
+        for event in ("reset", "plugged"):
+            self.write(SERIAL)
+            self.host.tell(event)
+            self.assertEqual(self.report()[7], 0)
+
+    def test_it_may_be_idle(self) -> None:
+        """HID 1.11, 7.2.4: SET_IDLE, of any duration. It types nothing."""
+        self.host.control(0x21, 0x0A, 0x0500, 0)
+        self.assertEqual(self.host.ask("in 81 8"), "n")
 
     def test_other_reports_are_refused(self) -> None:
         """HID 1.11, 7.2.1: an input report isn't asked for so here; the descriptors answer, by a stall."""
@@ -95,12 +119,15 @@ class Keys(unittest.TestCase):
     def test_it_is_a_keyboard(self) -> None:
         """HID 1.11, 4.2 and 4.3: class 3, boot, keyboard; 6.2.1: the report descriptor's length stands in the HID descriptor."""
         program = ProgramHost(str(DEVICES / "yubikey.py"))
-        configuration = bytes.fromhex(program.hello()[0].split(" ")[2])
+        lines = program.hello()
+        configuration = bytes.fromhex(lines[0].split(" ")[2])
         report = program.control(0x81, 6, 0x2200, 0, 255)
         program.end()
         self.assertEqual(configuration[14:17], b"\3\1\1")
         self.assertEqual(configuration[18:27], bytes((9, 0x21, 0x11, 1, 0, 1, 0x22, len(report), 0)))
+        self.assertEqual(configuration[27:].hex(), "0705810308000a")
         self.assertEqual((report[:6].hex(), report[-1]), ("05010906a101", 0xC0))
+        self.assertEqual(lines[1:3], ["ids 0 1050 0010 0431", "speed 0 full"])
 
     def test_keys_that_arent_hexadecimal_end_it(self) -> None:
         program = ProgramHost(str(DEVICES / "yubikey.py"), "1", "key")
