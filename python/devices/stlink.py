@@ -17,11 +17,10 @@ from tirnouch import Device, bulk_in, bulk_out, main
 REPLIES, COMMANDS, PACKET, COMMAND = 0x81, 0x02, 64, 16
 # Commands: the probe's version, its mode, the target's voltage; its loader's, and those that debug.
 GET_VERSION, DFU, DEBUG, GET_MODE, GET_VOLTAGE = 0xF1, 0xF3, 0xF2, 0xF5, 0xF7
-DFU_EXIT = 0x07
 EXIT, READ_MEMORY, WRITE_MEMORY, RUN = 0x21, 0x07, 0x08, 0x09
 ENTER, READ_IDS, RESET, READ_REGISTER, WRITE_REGISTER, LAST_STATUS, DRIVE_RESET, LAST_STATUS_2, SET_FREQUENCY = (
     0x30, 0x31, 0x32, 0x36, 0x35, 0x3B, 0x3C, 0x3E, 0x43)
-DFU_MODE, MASS_MODE, DEBUG_MODE = 0, 1, 2
+MASS_MODE, DEBUG_MODE = 1, 2
 OK, FAULT = 0x80, 0x81
 # V2J37S7: four bits, six and six; then vendor and product.
 VERSION = struct.pack(">H", 2 << 12 | 37 << 6 | 7) + struct.pack("<HH", 0x0483, 0x3748)
@@ -59,7 +58,7 @@ class Target:
 
 
 class Stlink(Device):
-    """The probe: a command of 16 bytes is answered at 81, or not at all."""
+    """The probe: a command of 16 bytes is answered at 81, or not at all, as those of the loader, which it is never in."""
 
     vendor, product = 0x0483, 0x3748
     interfaces = ((0xFF, 0xFF, 0xFF),)
@@ -72,7 +71,7 @@ class Stlink(Device):
         self.target = Target()
         self.commands: Dict[int, Callable[[bytes], bytes]] = {
             GET_VERSION: lambda _words: VERSION, GET_MODE: lambda _words: bytes((self.mode, 0)), GET_VOLTAGE: lambda _words: VOLTAGE,
-            DFU: self.leave_loader, DEBUG: self.debug}
+            DFU: lambda _words: b"", DEBUG: self.debug}
         self.debugs: Dict[int, Callable[[bytes], bytes]] = {
             ENTER: self.enter, EXIT: self.leave, READ_IDS: lambda _words: status(OK, struct.pack("<II", CORE, 0)), RESET: self.reset,
             READ_REGISTER: self.read_register, WRITE_REGISTER: self.write_register, READ_MEMORY: self.read_memory,
@@ -81,8 +80,9 @@ class Stlink(Device):
         self.renew()
 
     def renew(self) -> None:
-        """As it is when it is plugged in: a mass storage, which debugs nothing yet."""
+        """As it is when it is plugged in: a mass storage, which debugs nothing yet; the target runs."""
         self.mode, self.at, self.left = MASS_MODE, 0, 0
+        self.target.is_halted = False
 
     def on_reset(self) -> None:
         self.renew()
@@ -100,12 +100,6 @@ class Stlink(Device):
         reply = do(data.ljust(COMMAND, b"\0")) if do else bytes((FAULT, 0))
         if reply:
             self.send(REPLIES, reply)
-
-    def leave_loader(self, words: bytes) -> bytes:
-        """The loader is left: nothing is answered."""
-        if words[1] == DFU_EXIT and self.mode == DFU_MODE:
-            self.mode = MASS_MODE
-        return b""
 
     def debug(self, words: bytes) -> bytes:
         """A command that debugs."""

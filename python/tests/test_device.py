@@ -1,9 +1,12 @@
 """What a device's methods answer, and what becomes of each answer; the words are those of docs/DEVICES.md."""
+import pathlib
+import re
 import threading
 import unittest
 from typing import Any
 
 from tirnouch import AS_TEXT, BROKEN, GONE, NAK, STALL, Device, Request, bulk_in, bulk_out, control, interrupt_in, later
+from tirnouch.questions import EVENTS
 
 from tests.harness import Host, told
 
@@ -232,6 +235,24 @@ class Events(unittest.TestCase):
             self.host.tell("reset")
         self.assertIn("RuntimeError: no reset here", errors.getvalue())
         self.assertIn("Echo: an exception at `reset`", errors.getvalue())
+
+
+class Numbers(unittest.TestCase):
+    """What stands in c/include/tirnouch.h."""
+
+    def setUp(self) -> None:
+        self.header = (pathlib.Path(__file__).resolve().parents[2] / "c" / "include" / "tirnouch.h").read_text()
+
+    def test_answers_have_the_headers_numbers(self) -> None:
+        found = dict(re.findall(r"#define TIRNOUCH_(\w+) \((-\d+)\)", self.header))
+        mine = {"STALL": STALL, "AS_TEXT": AS_TEXT, "NOT_READY": NAK, "BROKEN": BROKEN, "GONE": GONE}
+        self.assertEqual(found, {name: str(answer.number) for name, answer in mine.items()})
+        self.assertIn(f"({later(0).number} - (int)(", self.header)
+        self.assertEqual(later(0).number - later(7).number, 7)
+
+    def test_events_have_the_headers_numbers(self) -> None:
+        found = re.findall(r"TIRNOUCH_EVENT_(\w+) = (\d+)", self.header)
+        self.assertEqual([(name.lower(), int(number)) for name, number in found], list(zip(EVENTS, range(1, 7))))
 
 
 class Waits(unittest.TestCase):

@@ -46,6 +46,25 @@ class Probes(unittest.TestCase):
         self.send("f307")
         self.assertEqual(self.ask("f5"), b"\1\0")
 
+    def test_a_reset_begins_anew(self) -> None:
+        """A mass storage again, whose target runs; words that were to come are commands."""
+        for event in ("reset", "plugged"):
+            self.ask("f230a3")
+            self.ask("f235", DHCSR, 0xA05F0003)
+            self.send("f208", 0x20000000, 8)
+            self.host.tell(event)
+            self.assertEqual(self.ask("f5"), b"\1\0")
+            self.assertFalse(self.word(DHCSR) & 1 << 17)
+
+    def test_other_answers(self) -> None:
+        """A speed is taken, the last status is good; a reset, by the wires or by the pin, lets the target run."""
+        for command in ("f243", "f23b"):
+            self.assertEqual(self.ask(command), b"\x80\0")
+        for command in ("f232", "f23c02"):
+            self.ask("f235", DHCSR, 0xA05F0003)
+            self.assertEqual(self.ask(command), b"\x80\0")
+            self.assertFalse(self.word(DHCSR) & 1 << 17)
+
     def test_the_targets_voltage(self) -> None:
         """Twice 1.2 V by the second reading over the first: 3.3 V."""
         factor, reading = struct.unpack("<II", self.ask("f7"))
@@ -60,12 +79,13 @@ class Probes(unittest.TestCase):
         self.assertEqual(self.word(0xE0042000) & 0xFFF, 0x410)
         self.assertEqual(self.word(0x1FFFF7E0) & 0xFFFF, 64)
         self.assertEqual(self.word(0xE000ED00) >> 4 & 0xFFF, 0xC23)
+        self.assertEqual(self.word(0x20000000), 0)
 
     def test_the_core_is_halted_and_runs(self) -> None:
-        """DHCSR takes A05F in its upper half; bit 17 is S_HALT."""
-        self.assertFalse(self.word(DHCSR) & 1 << 17)
+        """DHCSR takes A05F in its upper half. Bit 0 is C_DEBUGEN, 1 C_HALT, 16 S_REGRDY, 17 S_HALT."""
+        self.assertEqual(self.word(DHCSR), 0x10001)
         self.assertEqual(self.ask("f235", DHCSR, 0xA05F0003), b"\x80\0")
-        self.assertTrue(self.word(DHCSR) & 1 << 17)
+        self.assertEqual(self.word(DHCSR), 0x30003)
         self.assertEqual(self.ask("f209"), b"\x80\0")
         self.assertFalse(self.word(DHCSR) & 1 << 17)
 
@@ -89,5 +109,6 @@ class Probes(unittest.TestCase):
         program = ProgramHost(str(DEVICES / "stlink.py"), "0123456789ABCDEF01234567")
         lines = program.hello()
         program.end()
-        self.assertIn("ids 0 0483 3748 0100", lines)
+        configuration = "0902270001010080320904000003ffffff00" + "07050202400000" + "07058102400000" + "07058302400000"
+        self.assertEqual(lines[:3], [f"device 0 {configuration}", "ids 0 0483 3748 0100", "speed 0 full"])
         self.assertIn("string 0 3 0123456789ABCDEF01234567", lines)
