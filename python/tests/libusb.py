@@ -1,10 +1,12 @@
 """A few calls of libusb by ctypes, for tests with devices in this process: the library lets go of Python's lock meanwhile."""
 from __future__ import annotations
 
+import contextlib
 import ctypes
 import os
 import pathlib
-from typing import Any, Optional, Tuple
+import tempfile
+from typing import Any, Callable, Iterator, Optional, Tuple
 
 # The names of libusb's errors (libusb.h).
 IO, NO_DEVICE, TIMEOUT, PIPE = -1, -4, -7, -9
@@ -18,6 +20,22 @@ def lacking() -> Optional[str]:
     if not hasattr(ctypes.CDLL(str(PATH)), "tirnouch_on_packet"):
         return f"{PATH} is older than devices that compute: build it anew by `make c-try`"
     return None
+
+
+@contextlib.contextmanager
+def logged() -> Iterator[Callable[[], str]]:
+    """What the library says on standard error meanwhile, as it is told behind."""
+    with tempfile.TemporaryFile() as file:
+        kept = os.dup(2)
+        os.dup2(file.fileno(), 2)
+        said = []
+        try:
+            yield lambda: said[0]
+        finally:
+            os.dup2(kept, 2)
+            os.close(kept)
+            file.seek(0)
+            said.append(file.read().decode())
 
 
 class Program:
