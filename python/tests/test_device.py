@@ -75,6 +75,7 @@ class Answers(unittest.TestCase):
 
     def test_a_method_that_is_read_is_asked_with_the_room(self) -> None:
         self.assertEqual(self.host.ask("in 83 4"), "d:04")
+        self.assertEqual(self.host.ask("in 83 64"), "d:40")
 
     def test_a_long_answer_is_cut_into_packets_of_the_endpoint(self) -> None:
         self.device.answer = b"123456789"

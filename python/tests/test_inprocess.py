@@ -170,11 +170,11 @@ class Events(Plugged):
     def test_a_device_is_pulled_out(self) -> None:
         self.bus.pull(self.device)
         self.assertEqual(self.program.write(0x02, b"a"), NO_DEVICE)
-        with self.assertRaisesRegex(RuntimeError, "Thing: pull: it is gone already"):
+        with self.assertRaisesRegex(RuntimeError, "Thing: pull: it is gone"):
             self.bus.pull(self.device)
 
     def test_a_device_that_is_there_isnt_shown(self) -> None:
-        with self.assertRaisesRegex(RuntimeError, "Thing: show: "):
+        with self.assertRaisesRegex(RuntimeError, "Thing: show: there is none to do that with"):
             self.bus.show(self.device)
 
     def test_a_method_that_is_asked_doesnt_call_the_library(self) -> None:
@@ -269,7 +269,9 @@ class Plugs(unittest.TestCase):
             device.ready()
 
     def test_behind_close_the_bus_is_empty(self) -> None:
-        plug(Thing(), library=str(PATH)).close()
+        with plug(Thing(), library=str(PATH)) as bus:
+            self.assertEqual(len(bus.plugged), 1)
+        self.assertEqual(bus.plugged, [])
         program = Program()
         self.assertFalse(program.open(VENDOR, PRODUCT))
         program.end()

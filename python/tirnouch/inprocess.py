@@ -21,7 +21,8 @@ BYTES = ctypes.POINTER(ctypes.c_uint8)
 PACKET = ctypes.CFUNCTYPE(ctypes.c_int, ctypes.c_void_p, ctypes.c_uint8, BYTES, ctypes.c_int)
 CONTROL = ctypes.CFUNCTYPE(ctypes.c_int, ctypes.c_void_p, BYTES, BYTES, ctypes.c_int)
 LISTENER = ctypes.CFUNCTYPE(None, ctypes.c_void_p, ctypes.c_int, ctypes.c_int)
-SENTENCES = {-4: "it is gone already", -5: "it isn't there", -6: "a program still uses it"}
+# What its functions that pull devices out and plug them in refuse.
+SENTENCES = {-4: "it is gone", -5: "there is none to do that with", -11: "there is no memory"}
 # The functions that libraries were given: a library may be in one of them while they are taken away, so they stay.
 KEPT: List[Any] = []
 
