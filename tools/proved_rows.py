@@ -28,6 +28,8 @@ STEPS = {
     "take": "Take",
     "unplug": "(Unplug {})",
 }
+# Those that say what the devices are and answer, wherever they stand.
+OF_DEVICES = ("device", "script", "feed")
 REQUESTS = {"bulk": "bulk", "int": "interrupt"}
 ANSWERS = {"a": "Ack", "n": "Nak", "s": "Stall", "b": "Broken"}
 FLAGS = {"SHORT_NOT_OK": 1, "FREE_BUFFER": 2, "FREE_TRANSFER": 4, "ADD_ZERO_PACKET": 8}
@@ -179,21 +181,24 @@ def piece(verb, *words):
 
 
 def setup_of(lines, devices):
-    """The devices of a scenario, with their scripts."""
+    """The devices of a scenario, with their scripts: those of `script` lines, and behind them what `feed` lines say."""
     known, found = {it.descriptor: it for it in devices}, []
     for verb, number, *words in lines:
         if verb == "device":
             found.append((known[words[0]], {}))
         else:
-            found[int(number)][1][words[0]] = argument([answer(it) for it in words[1:]])
-    return " ++ ".join(device.term(scripts) for device, scripts in found) or "[]"
+            found[int(number)][1].setdefault(words[0], []).extend(answer(it) for it in words[1:])
+    scripted = [(device, {ep: argument(script) for ep, script in scripts.items()}) for device, scripts in found]
+    return " ++ ".join(device.term(scripts) for device, scripts in scripted) or "[]"
 
 
 def definition(row, sentence, devices):
     try:
         lines = [it.split(" ") for it in row.input.decode().splitlines() if it and not it.startswith("#")]
-        steps = [it for it in lines if it[0] not in ("device", "script")]
-        setup, rules = setup_of(lines[:len(lines) - len(steps)], devices), rules_of(steps)
+        said, steps = [], []
+        for it in lines:
+            (said if it[0] in OF_DEVICES else steps).append(it)
+        setup, rules = setup_of(said, devices), rules_of(steps)
         plan = filled([piece(*it) for it in steps])
     except (IndexError, KeyError, ValueError) as why:
         raise BadRow(f"{row.name}.in has what no row of proof_rows says: {why}") from why

@@ -11,7 +11,7 @@
  *   device      `references`: one of its context while that is open, one for each handle, and those of the program
  *   handle      the program's, from libusb_open to libusb_close, which waits for a callback of its that runs elsewhere
  *   core        the bus's, from its first context to its last; a device's own is begun and ended with it, or made where the device is
- *               given its first function while the bus is there. What is in flight is counted in it (`in_core`)
+ *               given its first function while the bus is there
  *   program     its device's, from its beginning to the bus's end, where it is waited for; in a child of fork it is nobody's
  *   transfer    the program's; in flight, the library's too: freed in flight, it goes when it has ended
  *   hotplug     `holds`: one while it is registered, one for each call of it that runs */
@@ -82,7 +82,8 @@ struct transfers {
 struct pipe {
     struct device *device;
     struct core *core;                /* its device's, and */
-    uint8_t number;                   /* the device's number there */
+    uint8_t number;                   /* the device's number there; and */
+    int name;                         /* the handle there that claimed its interface; -1 for none so far */
     struct transfers queue;
     struct transfer *cut;             /* the one that goes in pieces, while there are more than the one in the core */
     int most;                         /* bytes of a piece but the last: whole packets, so that none goes past a piece's end */
@@ -95,6 +96,7 @@ struct pipe {
     uint8_t in_core;                  /* at most PLACES */
     bool is_halted, is_active;
     bool is_stopped;                  /* halted by a request of the program's: it stalls until the halt is cleared */
+    bool is_watched;                  /* its answers are looked at one by one */
     bool is_asked;                    /* behind its script a function, or a program, is asked for its answers; */
     uint32_t fed;                     /* so many were in this session of the core; */
     uint64_t later;                   /* it isn't before this moment, 0 for none */
@@ -118,9 +120,8 @@ struct gate {
 
 /* A session of the core, with its devices: what is in flight in it, and what of it is kept here. */
 struct core {
-    struct core *next;                /* of the devices' own */
     struct tirnouch_slot slot;
-    int in_core;                      /* transfers, or pieces of them */
+    struct core *next;                /* of the devices' own */
     uint32_t fed;                     /* answers that were computed, since this session began */
     unsigned sessions;                /* how many there were before */
     int trace;                        /* the file of its steps; -1 for none */
@@ -143,7 +144,7 @@ struct device {
     uint8_t configuration;            /* the value of the one that is set; 0 for none */
     struct interface interfaces[INTERFACES];
     struct pipe pipes[ENDPOINTS];
-    bool is_watched;                  /* its answers are looked at one by one */
+    bool is_watched;                  /* so are all of its endpoints' */
     bool leaves;                      /* pulled out behind so many answers of an endpoint */
     uint8_t leaves_ep;
     uint32_t leaves_behind;
@@ -233,6 +234,7 @@ struct rest {
 /* What all contexts share, as programs on one machine share its bus. */
 struct bus {
     int users;
+    int in_core;                      /* transfers, or pieces of them, in all cores */
     struct core core;                 /* the one that scripted devices share; */
     struct core *own;                 /* and those that have one device each */
     const char *text;                 /* the devices, as a person wrote them: of tirnouch_plug, or */
@@ -288,7 +290,7 @@ extern struct process {
 
 /* A device's function that calls the library would wait for itself: it is told, and the program ends. `lock` is a macro for the name of the
  * call. */
-void refuse_asked(const char *function);
+void refuse_asked(const char *function) __attribute__((cold));
 static inline void lock_for(const char *function)
 {
     if (__atomic_load_n(&process.is_asking, __ATOMIC_ACQUIRE))
@@ -296,6 +298,8 @@ static inline void lock_for(const char *function)
     pthread_mutex_lock(&process.lock);
 }
 #define lock() lock_for(__func__)
+/* Behind a callback, or a wait: no function of a device's is asked in this thread. */
+static inline void lock_again(void) { pthread_mutex_lock(&process.lock); }
 static inline void unlock(void) { pthread_mutex_unlock(&process.lock); }
 
 static inline struct libusb_transfer *seen(struct transfer *transfer) { return (struct libusb_transfer *)(void *)(transfer + 1); }
@@ -312,7 +316,7 @@ void bus_end(void);
 
 /* learn.c: what a device's lines and descriptors say */
 int learn(struct device *device);
-void learn_hidden(struct device *device);
+void watch(struct device *device);
 void forget(struct device *device);
 bool is_present(const struct device *device);
 bool is_lost(const struct libusb_device_handle *handle);

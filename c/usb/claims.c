@@ -4,13 +4,15 @@
  * where the device stands, unless its text says `anew`. What the program's handles hold is kept here. */
 #include "bus.h"
 
-/* How many answers there are at its endpoints, which stand at the beginning. */
+/* Its endpoints know who has them, and how many answers there are, which stand at the beginning. */
 static void learn_scripts(struct device *device, int interface)
 {
     for (int i = 0; i < ENDPOINTS; i++) {
         struct pipe *pipe = &device->pipes[i];
-        if (pipe->kind && pipe->interface == interface)
-            pipe->script = core_rest(pipe).answers;
+        if (!pipe->kind || pipe->interface != interface)
+            continue;
+        pipe->name = device->interfaces[interface].name;
+        pipe->script = core_rest(pipe).answers;
     }
 }
 

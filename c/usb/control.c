@@ -33,6 +33,8 @@ int submit_control(struct transfer *transfer)
     int r = hold(transfer->handle, it->buffer);
     if (r)
         return r;
+    transfer->naks = 0;
+    transfer->later = 0;
     transfer->stage = AT_CONTROL;
     join(&process.bus.controls, transfer);
     return 0;

@@ -62,7 +62,7 @@ static void trace_request(struct transfer *transfer, int length, uint8_t flags)
 {
     const struct pipe *pipe = transfer->pipe;
     trace_text("submit ");
-    trace_number((uint64_t)name_of(pipe));
+    trace_number((uint64_t)pipe->name);
     trace_text(" ");
     trace_hex(&pipe->ep, 1);
     trace_text(pipe->kind == LIBUSB_TRANSFER_TYPE_INTERRUPT ? " int " : " bulk ");

@@ -242,7 +242,7 @@ static void write_rest(struct growing *to, const struct line *line, const struct
     const struct pipe *pipe = &device->pipes[place_of((uint8_t)address)];
     for (const char *at = ep + length; at < end; at++)
         count += *at == ' ';
-    int left = name_of(pipe) < 0 ? count : (int)core_rest(pipe).answers;
+    int left = pipe->name < 0 ? count : (int)core_rest(pipe).answers;
     if (!left) {
         grow(to, "#", 1);
         return;

@@ -76,7 +76,7 @@ static void call_back(struct libusb_context *context, struct transfer *transfer)
         it->callback(it);
     if (flags & LIBUSB_TRANSFER_FREE_TRANSFER)
         libusb_free_transfer(it);
-    lock();
+    lock_again();
     context->calling = NULL;
     context->is_calling = false;
     if (context->waiting)

@@ -170,7 +170,7 @@ static int clear_halt(struct libusb_device_handle *handle, uint8_t ep)
     settle_all();
     if (pipe->in_core || pipe->queue.first)
         return LIBUSB_ERROR_BUSY;
-    r = core_call(pipe->core, TIRNOUCH_CLEAR_HALT, name_of(pipe), ep, 0);
+    r = core_call(pipe->core, TIRNOUCH_CLEAR_HALT, pipe->name, ep, 0);
     if (r)
         return r;
     pipe->is_halted = pipe->is_stopped = false;

@@ -21,6 +21,14 @@ bool is_present(const struct device *device)
     return device->is_there && !device->is_hidden && !device->is_gone;
 }
 
+/* Its answers are looked at one by one, where it or all devices need that. */
+void watch(struct device *device)
+{
+    bool is_watched = device->is_watched || process.bus.is_watched;
+    for (int i = 0; i < ENDPOINTS; i++)
+        device->pipes[i].is_watched = is_watched;
+}
+
 /* Whether a handle's device is gone, or was plugged in anew since it was opened. */
 bool is_lost(const struct libusb_device_handle *handle)
 {
@@ -33,7 +41,7 @@ static void learn_endpoints(struct device *device)
     struct interface *interface = NULL;
     const uint8_t *config = device->config;
     for (unsigned i = 0; i < ENDPOINTS; i++)
-        device->pipes[i] = (struct pipe){ .device = device, .core = device->core, .number = device->number_there,
+        device->pipes[i] = (struct pipe){ .device = device, .core = device->core, .number = device->number_there, .name = -1,
                                           .ep = (uint8_t)(i / 2 + i % 2 * 128) };
     for (int at = config[0]; at + 1 < device->config_length && config[at] >= 2; at += config[at]) {
         const uint8_t *it = config + at;
@@ -107,5 +115,7 @@ int learn(struct device *device)
     learn_endpoints(device);
     learn_drivers(device);
     learn_living(device);
-    return learn_gates(device);
+    r = learn_gates(device);
+    watch(device);
+    return r;
 }

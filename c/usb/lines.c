@@ -47,7 +47,7 @@ int submit_piece(struct transfer *transfer)
     transfer->stage = IN_CORE;
     pipe->cut = is_last ? NULL : transfer;
     pipe->in_core++;
-    pipe->core->in_core++;
+    process.bus.in_core++;
     activate(pipe);
     return 0;
 }
@@ -122,7 +122,7 @@ static inline void finish_alone(struct transfer *transfer, const struct tirnouch
 {
     struct pipe *pipe = transfer->pipe;
     pipe->in_core--;
-    pipe->core->in_core--;
+    process.bus.in_core--;
     if (pipe->cut == transfer)
         finish_piece(transfer, told);
     else
@@ -140,7 +140,7 @@ static inline void finish(struct transfer *transfer, const struct tirnouch_told 
 static inline bool reap_in(struct core *core)
 {
     struct tirnouch_told told;
-    struct transfer *transfer = core->in_core ? core_take(core, &told) : NULL;
+    struct transfer *transfer = process.bus.in_core ? core_take(core, &told) : NULL;
     if (transfer)
         finish(transfer, &told);
     return transfer;
@@ -178,13 +178,14 @@ static bool turn_over(struct pipe *pipe)
     return any;
 }
 
-/* The one endpoint where something is to be done, whose answers needn't be looked at one by one; NULL where there is none, or several.
+/* The one endpoint where something is to be done, whose answers needn't be looked at one by one, as they are with a seed; NULL where there is
+ * none, or several.
  * With several each has its turn before an order runs, so that their results come as their packets do. */
 static struct pipe *only_one(void)
 {
     struct bus *bus = &process.bus;
     struct pipe *pipe = bus->active_count == 1 ? bus->active[0] : NULL;
-    return pipe && !bus->seed && !bus->controls.first && !is_watched(pipe->device) ? pipe : NULL;
+    return pipe && !bus->controls.first && !pipe->is_watched ? pipe : NULL;
 }
 
 /* The quick way, where there is but one endpoint. What waited there went on with each result. Whether something is left to be done. */
@@ -209,7 +210,7 @@ static void finish_moving(struct transfer *transfer, const struct tirnouch_told 
         return;
     }
     pipe->in_core--;
-    pipe->core->in_core--;
+    process.bus.in_core--;
     transfer->moved += (int)told->amount;
     transfer->stage = QUEUED;
     if (pipe->cut == transfer)
@@ -219,7 +220,7 @@ static void finish_moving(struct transfer *transfer, const struct tirnouch_told 
 static void ask_out(struct transfer *transfer)
 {
     transfer->is_moving = true;
-    core_call(transfer->pipe->core, TIRNOUCH_CANCEL, name_of(transfer->pipe), 0, transfer->number);
+    core_call(transfer->pipe->core, TIRNOUCH_CANCEL, transfer->pipe->name, 0, transfer->number);
 }
 
 /* All that a device has in its core comes out of it, and waits at its endpoints again, before what waits there, in order. What was asked to
@@ -232,9 +233,9 @@ void take_out(struct device *device)
         for (struct transfer *it = context->flying.first; it; it = it->next)
             if (it->stage == IN_CORE && it->pipe->device == device && !it->ask)
                 ask_out(it);
-    for (bool any = true; any && device->core->in_core;) {
+    for (bool any = true; any;) {
         any = core_settle_in(device->core, ALL);
-        while (device->core->in_core && (transfer = core_take(device->core, &told))) {
+        while ((transfer = core_take(device->core, &told))) {
             finish_moving(transfer, &told);
             any = true;
         }

@@ -9,6 +9,7 @@ void learn_living(struct device *device)
 {
     device->is_living = device->core != &process.bus.core;
     device->is_watched |= device->is_living;
+    watch(device);
     for (int i = 0; i < ENDPOINTS; i++) {
         struct pipe *pipe = &device->pipes[i];
         pipe->is_asked = device->is_living && pipe->kind && (device->program || process.packets[device->number][i].answer);
@@ -166,7 +167,7 @@ void ask_at_once(struct device *device)
 
 static int end_halt(struct pipe *pipe)
 {
-    int r = pipe->is_halted ? core_call(pipe->core, TIRNOUCH_CLEAR_HALT, name_of(pipe), pipe->ep, 0) : 0;
+    int r = pipe->is_halted ? core_call(pipe->core, TIRNOUCH_CLEAR_HALT, pipe->name, pipe->ep, 0) : 0;
     if (!r)
         pipe->is_halted = pipe->is_stopped = false;
     pipe->later = 0;
@@ -179,7 +180,7 @@ int reset_living(struct device *device)
 {
     int r = 0;
     for (int i = 0; i < ENDPOINTS && !r; i++)
-        if (device->pipes[i].kind && name_of(&device->pipes[i]) >= 0)
+        if (device->pipes[i].kind && device->pipes[i].name >= 0)
             r = end_halt(&device->pipes[i]);
     return r;
 }

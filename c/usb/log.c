@@ -55,6 +55,9 @@ void note_call(struct libusb_context *context, int answer, const char *function,
 /* What warnings say of a device needs its answers counted, from now on. */
 void watch_for(int level)
 {
-    if (level >= LIBUSB_LOG_LEVEL_WARNING)
-        process.bus.is_watched = true;
+    if (level < LIBUSB_LOG_LEVEL_WARNING || process.bus.is_watched)
+        return;
+    process.bus.is_watched = true;
+    for (int i = 0; i < DEVICES; i++)
+        watch(&process.bus.devices[i]);
 }

@@ -145,22 +145,11 @@ static inline int submit_at_endpoint(struct transfer *transfer)
     return 0;
 }
 
-/* Whether a device's answers are looked at one by one. */
-static inline bool is_watched(const struct device *device)
-{
-    return device->is_watched || process.bus.is_watched;
-}
-
 /* Whether a call of this answer is told: a refusal at level 3, any other at level 4. With or without the lock. */
 static inline bool is_told(const struct libusb_context *context, int answer)
 {
     int level = __atomic_load_n(&context->log_level, __ATOMIC_RELAXED);
     return level >= LIBUSB_LOG_LEVEL_INFO && (answer < 0 || level >= LIBUSB_LOG_LEVEL_DEBUG);
-}
-
-static inline int name_of(const struct pipe *pipe)
-{
-    return pipe->device->interfaces[pipe->interface].name;
 }
 
 /* Memory of no bytes, which has an address too. */
@@ -175,7 +164,7 @@ static inline int core_submit(struct transfer *transfer, int length, uint8_t fla
 {
     const struct pipe *pipe = transfer->pipe;
     struct tirnouch_slot *core = &pipe->core->slot;
-    uint8_t name = (uint8_t)name_of(pipe), *at = length ? seen(transfer)->buffer + transfer->moved : process.nowhere;
+    uint8_t name = (uint8_t)pipe->name, *at = length ? seen(transfer)->buffer + transfer->moved : process.nowhere;
     uint32_t timeout = transfer->deadline ? 1 : 0;
     uint64_t payload = (uint64_t)(uintptr_t)transfer;
     bool lends = length && is_in(pipe->ep);

@@ -243,7 +243,7 @@ int come_alive(struct device *device)
 /* Whatever is in flight at a device that was pulled out ends. */
 static void end_flight(struct device *device)
 {
-    for (bool any = true; any && device->core->in_core;) {
+    for (bool any = true; any;) {
         any = false;
         for (int i = 0; i < ENDPOINTS; i++)
             if (device->pipes[i].in_core)
@@ -277,6 +277,7 @@ static void forget_state(struct device *device)
     }
     for (int i = 0; i < ENDPOINTS; i++) {
         struct pipe *pipe = &device->pipes[i];
+        pipe->name = -1;
         pipe->gates_passed = 0;
         pipe->answers = pipe->naks = pipe->script = pipe->fed = 0;
         pipe->later = pipe->took = 0;

@@ -44,7 +44,7 @@ static int answer_word(uint8_t *data, unsigned word, unsigned length)
 
 static bool is_halted(const struct pipe *pipe)
 {
-    bool is_held = pipe->device->interfaces[pipe->interface].name >= 0;
+    bool is_held = pipe->name >= 0;
     return pipe->is_stopped || (is_held && core_rest(pipe).is_halted);
 }
 
@@ -68,7 +68,7 @@ static void halt(struct pipe *pipe)
 /* The halt ends, at the device and in the core, where nothing is in flight. */
 static void end_halt(struct pipe *pipe)
 {
-    int name = name_of(pipe);
+    int name = pipe->name;
     pipe->is_stopped = false;
     if (name >= 0 && !pipe->in_core && !core_call(pipe->core, TIRNOUCH_CLEAR_HALT, name, pipe->ep, 0))
         pipe->is_halted = false;

@@ -69,7 +69,7 @@ int cancel(struct transfer *transfer, enum ask ask)
         return r;
     if (transfer->stage == IN_CORE) {
         const struct pipe *pipe = transfer->pipe;
-        int name = name_of(pipe);
+        int name = pipe->name;
         r = core_call(pipe->core, expires ? TIRNOUCH_EXPIRE : TIRNOUCH_CANCEL, name, 0, transfer->number);
         if (r == LIBUSB_ERROR_NOT_FOUND && pipe->cut == transfer)
             r = 0;
@@ -174,8 +174,6 @@ static void begin_anew(struct transfer *transfer, struct libusb_device_handle *h
     transfer->number = 0;
     transfer->deadline = deadline;
     transfer->moved = transfer->piece = 0;
-    transfer->naks = 0;
-    transfer->later = 0;
     transfer->ask = ASKED_NOTHING;
     transfer->is_dropped = transfer->is_freed = transfer->is_stalled = false;
 }

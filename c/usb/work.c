@@ -54,7 +54,7 @@ bool serve(struct pipe *pipe, uint32_t most)
 {
     struct tirnouch_told told = { 0 };
     bool any = false, goes_on = true;
-    if (!is_watched(pipe->device))
+    if (!pipe->is_watched)
         return core_serve(pipe, most, &told);
     if (is_leaving(pipe)) {
         leave_by_itself(pipe->device);

@@ -6,6 +6,7 @@
     memory         every word over every row: an allocation or a thread is refused, alone or with all behind it
     again          check_calls and check_random, which make again what an allocation was refused to
     random         every word over random scenarios
+    fed            every word over random scenarios whose answers are fed, and over the same ones with whole scripts
     damaged        every word over rows and random scenarios in which bytes, words or lines are changed
     streams        every word: reads and writes that fail, are cut short or interrupted; streams that are closed, full or broken
     sizes          inputs, lines and runs as long as may be, and longer; and what is open and held at the end of a run
@@ -42,6 +43,7 @@ PARTS = {
     "memory": memory.PART,
     "again": again.PART,
     **{name: texts.part(text_of) for name, text_of in texts.TEXTS.items()},
+    "fed": texts.FED,
     "streams": streams.PART,
     "sizes": sizes.PART,
     "descriptors": descriptors.PART,

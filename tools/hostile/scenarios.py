@@ -75,6 +75,27 @@ def scenario(dice):
     return "".join(line + "\n" for line in lines).encode()
 
 
+def pieces(dice, answers):
+    """Answers in up to four pieces, in their order; the first may be empty, and no other is."""
+    cuts = sorted({dice.randint(0, len(answers) - 1) for _ in range(dice.randint(1, 3))})
+    return [answers[:cuts[0]], *(answers[at:end] for at, end in zip(cuts, [*cuts[1:], len(answers)]))]
+
+
+def fed(dice):
+    """A random scenario in which the ends of scripts are fed, by lines anywhere behind them; and the same one with whole scripts, and
+    comments in the place of these lines."""
+    lines = [[line, line] for line in scenario(dice).decode().splitlines()]
+    for whole in [it[0] for it in lines if it[0].startswith("script ")]:
+        _, dev, ep, *answers = whole.split(" ")
+        first, *rest = pieces(dice, answers)
+        at = lines.index([whole, whole])
+        lines[at] = [" ".join(["script", dev, ep, *first]) if first else "#", whole]
+        for piece in rest:
+            at = dice.randint(at + 1, len(lines))
+            lines.insert(at, [" ".join(["feed", dev, ep, *piece]), "#"])
+    return tuple("".join(it[side] + "\n" for it in lines).encode() for side in (0, 1))
+
+
 def damage_byte(dice, text):
     """A text in which a byte is changed, put in or left out, or which ends early."""
     at, byte = dice.randrange(len(text) + 1), bytes([dice.choice(HARMFUL_BYTES)])

@@ -1,11 +1,12 @@
-"""Every word over random scenarios and over damaged ones: the words agree with each other."""
+"""Every word over random scenarios and over damaged ones: the words agree with each other. And every word but `live` over scenarios that
+are fed: each says what it says of the whole scripts."""
 import random
 import re
 import xml.etree.ElementTree
 
 from refuse_allocations import has_whole_records
 from runs import UNFINISHED, Part, has_too_many, is_refusal, wrong_unless
-from scenarios import damaged, scenario
+from scenarios import damaged, fed, scenario
 
 # How many texts the gate tries of each part.
 GATE_COUNT = 60
@@ -121,9 +122,21 @@ def part(text_of):
     return Part(lambda asked: seeds(asked, asked.count), lambda asked: seeds(asked, GATE_COUNT), tried)
 
 
+def tried_fed(runs, seed):
+    """Every word over a text whose answers are fed, and over the one with whole scripts."""
+    dice = random.Random(seed)
+    fed_text, whole = fed(dice)
+    for word in ("run", "run --steps", f"alone {dice.randint(0, 3)}", "left", "explain", "draw", "capture", "check", "test"):
+        it, other = runs.of(word, fed_text), runs.of(word, whole)
+        alike = not it.status and (it.status, it.out, it.err) == (other.status, other.out, other.err)
+        yield wrong_unless(alike, "alike", f"{word}: --seed {seed}", it)
+
+
 def seeds(asked, count):
     return [(asked.seed + number,) for number in range(count)]
 
 
+# The part of the texts that are fed.
+FED = Part(lambda asked: seeds(asked, asked.count), lambda asked: seeds(asked, GATE_COUNT), tried_fed)
 # How the texts of a part are made.
 TEXTS = {"random": scenario, "damaged": damaged}

@@ -59,7 +59,7 @@ fn step_of(alloc: Global, line: &str) -> Option<Step> {
     match Line::from_text(alloc, line.as_bytes()).ok()? {
         Line::Submit { h, request, .. } => Some(Step::Submit { h, request }),
         Line::Piece(piece) => Some(step_in(piece)),
-        Line::Device { .. } | Line::Script { .. } => None,
+        Line::Device { .. } | Line::Script { .. } | Line::Feed { .. } => None,
     }
 }
 

@@ -64,3 +64,4 @@ pub mod FirstEvents
 pub mod Inventory
 pub mod HeldEnds
 pub mod Feeds
+pub mod Offers

@@ -31,7 +31,7 @@ use Rattle.proof_core.proofs.Fronts.{IsAtWork, at_work, by_bytes, has_here}
 use Rattle.proof_core.proofs.Held.{is_at}
 
 -- where the controller works there is a TRB
-first_trb : (x : Context) (first : TrbAt) → working x ≡ Some first → slice_get (trbs x) 0 ≡ Some first.trb
+pub first_trb : (x : Context) (first : TrbAt) → working x ≡ Some first → slice_get (trbs x) 0 ≡ Some first.trb
 first_trb x first work = by_trb (slice_get (trbs x) 0) refl (by_state (is_running x.state) work)
   where
     by_state : (b : Bool) → (if b then trb_at x 0 else None) ≡ Some first → trb_at x 0 ≡ Some first

@@ -1,5 +1,5 @@
 -- Parts whose device is fed: one more answer behind a script of it.
-use Rattle.std.specs.Prelude.{◌≡◌, ℕ, ◌<◌, Bool, true, false, List, [], ◌∷◌, length, Some}
+use Rattle.std.specs.Prelude.{◌≡◌, ℕ, ◌<◌, Bool, true, false, [], ◌∷◌, length, Some}
 use Rattle.usb_model.specs.declared.response.Response.{Response}
 use Rattle.usb_model.specs.Limits.{longest_script}
 use Rattle.usb_model.specs.Requests.{is_unsupported}

@@ -1,5 +1,5 @@
 -- The theorems, as the contracts of src/laws.rt name them. P: what callers keep with their transfers.
-use Rattle.std.specs.Prelude.{◌≡◌, ℕ, ◌+◌, ◌-◌, ◌<◌, ◌≤◌, ◌==◌, List, [], ◌∷◌, ◌++◌, length, drop, replicate, Option, Some, None, slice_set, if◌then◌else◌}
+use Rattle.std.specs.Prelude.{◌≡◌, ℕ, ◌+◌, ◌-◌, ◌<◌, ◌≤◌, ◌==◌, List, [], ◌∷◌, ◌++◌, length, replicate, Option, Some, None, slice_set, if◌then◌else◌}
 use Rattle.usb_tables.specs.Caller.{Kept as Caller}
 use Rattle.usb_tables.specs.Callers.{SameCallbacks, SameCounts, SameNumbers, SameResults, is_there, number_of, results_at}
 use Rattle.usb_tables.specs.declared.outstanding.Sent.{Sent}

@@ -11,3 +11,4 @@ pub mod Calls
 pub mod Submissions
 pub mod Renewals
 pub mod Feeds
+pub mod Offers

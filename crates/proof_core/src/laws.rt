@@ -1,6 +1,7 @@
 //! What is proved of the definitions in specs/. Each is the contract of a function with an empty body.
 
 ghost use Rattle.proof_core.specs.Feeds.{FeedsFeedable, FeedsOnlyFeedable, FeedsWorlds};
+ghost use Rattle.proof_core.specs.Offers.{OffersNext};
 ghost use Rattle.proof_core.specs.Laws.{AsksTransfers, FinishesTransfers, JoinsSteps, LeavesBlanks, MovesPackets, OrdersErrands, PausesTransfers, ResumesEndpoints, RunsWorlds, ServesSafely, SkimsPackets, SkimsSafely, StartsTransfers, TurnsWorlds, WithdrawsTransfers};
 
 /// An errand that is ordered is ordered in the core.
@@ -91,4 +92,9 @@ pub fn feeds_feedable<P>()
 /// No endpoint may have another one.
 pub fn feeds_only_feedable<P>()
     ensures { FeedsOnlyFeedable P }
+{}
+
+/// What the controller makes next of a transfer is the packet that is next in the world.
+pub fn offers<P>()
+    ensures { OffersNext P }
 {}

@@ -12,6 +12,7 @@
 //! - specs/ Calls, Submissions, Handles, Deliveries: the same for results and callbacks, submissions, the calls of
 //!   handles, and events
 //! - specs/ Made: devices that are set up, and parts that are unused
+//! - specs/ Feeds, Offers: a device is fed; the packet that is next at an endpoint
 //! - specs/ Payloads: what callers keep with the transfers in flight
 //! - specs/ Laws: the statements of the laws of `laws.rt`
 //!
@@ -39,6 +40,12 @@
 //!   parts then show the next world
 //! - `joins`, `runs`: steps in a row and steps behind them are one row; a row of the core's steps are the world's turns,
 //!   one behind another
+//!
+//! - `feeds`, `feeds_feedable`, `feeds_only_feedable`: parts that are fed show the world of the longer scripts where it
+//!   stands; which answers an endpoint may have. Premise: the parts show a world
+//! - `offers`: what the controller makes next of the transfer where it works is the packet that is next in the world
+//!   (`IsNext`): of the first transfer that waits, the bytes behind those that moved, at most a packet's. Premise: the
+//!   same
 //!
 //! Lemmas of its proofs/ are cited by `usb_steps`: a step in code is the core's, case by case.
 #![tactic(auto)]

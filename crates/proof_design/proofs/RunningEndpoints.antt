@@ -30,6 +30,7 @@ at_end size e os ns b sent told s fresh none = ap (λ f. f.place) (s.stands fres
 
 -- the transfer where the controller stands is the first that waits
 pub record Stood (size : ℕ) (e : Endpoint) (b : KeptEndpoint) (x : Item) : Type 0 where
+  pub first : first_waiting e.line ≡ Some x
   pub fronted : Fronted size e.line b.line b.end x
   pub stands : record { place = b.dequeue; within = b.within } ≡ front_of size x fronted.y
   pub found : find_at b.dequeue b.line ≡ Some fronted.y
@@ -39,7 +40,7 @@ pub stood : (size : ℕ) (e : Endpoint) (os : List Errand) (ns : List Event) (b 
 stood size e os ns b sent told x c s fresh first =
     let f : Fronted size e.line b.line b.end x = fronts size e.line b.line b.end x s.kept s.row c.in_order first in
     let at : record { place = b.dequeue; within = b.within } ≡ front_of size x f.y = s.stands fresh ∙ f.stands in
-    record { fronted = f; stands = at; found = subst (λ p. find_at p b.line ≡ Some f.y) (f.at ∙ sym (ap (λ f. f.place) at)) f.found }
+    record { first = first; fronted = f; stands = at; found = subst (λ p. find_at p b.line ≡ Some f.y) (f.at ∙ sym (ap (λ f. f.place) at)) f.found }
 
 -- a transfer that is found there is the first that waits
 pub found_waits : (size : ℕ) (e : Endpoint) (os : List Errand) (ns : List Event) (b : KeptEndpoint) (sent : List SentErrand) (told : List Telling) (y : KeptTransfer) → IsCoherent e os ns → ShowsEnd size e os ns b sent told → is_stale e.state e.errand os ≡ false → find_at b.dequeue b.line ≡ Some y

@@ -54,7 +54,7 @@ total-split (suc i) [] = omega arith
 total-split (suc i) (l ∷ ls) = omega (arith, total-split i ls)
 
 -- the room that the controller sees is what is left of the request
-room_is : (size : ℕ) (b : KeptEndpoint) (x : Item) (y : KeptTransfer) → IsLive size x y → At size b x y → room_at b y ≡ length_of x.request.body - count size x
+pub room_is : (size : ℕ) (b : KeptEndpoint) (x : Item) (y : KeptTransfer) → IsLive size x y → At size b x y → room_at b y ≡ length_of x.request.body - count size x
 room_is size b x y live a =
     let whole : total y.lengths ≡ length_of x.request.body = ap total live.lengths ∙ total_of (is_extra size x.request x.request.body) (length_of x.request.body) in
     omega (arith, whole, a.before, total-split (b.dequeue - y.place) y.lengths)

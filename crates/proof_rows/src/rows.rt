@@ -8,13 +8,14 @@ ghost use Rattle.proof_rows.specs.Rows.Cancels.{cancel_amid_transfer, cancel_aft
 ghost use Rattle.proof_rows.specs.Rows.Handles.{refusals_of_handles, reset_with_other_holder, interface_changes_hands, close_waits_for_quiet, close_waits_for_errand};
 ghost use Rattle.proof_rows.specs.Rows.Callbacks.{resubmit_three_rounds, resubmit_until_stall, again_without_a_place, again_at_a_gone_device};
 ghost use Rattle.proof_rows.specs.Rows.Unplugs.{unplug_amid_transfers, unplug_of_nothing};
-ghost use Rattle.proof_rows.specs.Rows.Alone.{stall_beside_cancel_alone_1, stall_beside_cancel_alone_2, interface_changes_hands_alone_2, two_handles_two_rules_alone_1, two_handles_two_rules_alone_2, unplug_amid_transfers_alone_2};
+ghost use Rattle.proof_rows.specs.Rows.Alone.{stall_beside_cancel_alone_1, stall_beside_cancel_alone_2, interface_changes_hands_alone_2, two_handles_two_rules_alone_1, two_handles_two_rules_alone_2, unplug_amid_transfers_alone_2, fed_answers_alone};
 ghost use Rattle.proof_rows.specs.Rows.Refusals.{refusals_of_open, handle_that_is_not_open, interface_that_is_not_held, calls_amid_a_transfer};
 ghost use Rattle.proof_rows.specs.Rows.Requests.{unsupported_endpoints, bad_requests_at_a_full_endpoint, refused_asks, answers_of_no_callback};
 ghost use Rattle.proof_rows.specs.Rows.Closes.{close_frees_its_interfaces, numbers_go_on_behind_a_close, result_that_waits_is_in_the_way, errand_is_in_the_way, release_looks_at_one_interface, claim_of_what_is_held, reset_ends_a_halt};
 ghost use Rattle.proof_rows.specs.Rows.Places.{blanks_behind_a_failed_transfer, blanks_behind_a_completed_transfer, sixteen_places_at_each_endpoint};
 ghost use Rattle.proof_rows.specs.Rows.Devices.{two_devices_one_unplugged, four_devices_one_unplugged, served_before_the_unplug, unplug_amid_packets, cancel_at_a_gone_device, cancel_loses_to_the_unplug};
 ghost use Rattle.proof_rows.specs.Rows.Answers.{broken_at_first, broken_amid_packets, broken_behind_a_cancel, stall_amid_out, stall_and_babble_amid_reads, cancel_behind_a_stall};
+ghost use Rattle.proof_rows.specs.Rows.Feeds.{fed_amid_a_transfer, fed_behind_a_serve, fed_at_the_very_end, fed_behind_its_script, fed_over_a_claim, fed_over_a_reset, fed_at_a_stall, fed_to_an_out_endpoint, fed_to_two_devices, fed_behind_an_unplug};
 ghost use Rattle.proof_rows.specs.Rows.Statuses.{every_status, every_flag};
 ghost use Rattle.proof_rows.specs.Rows.Steps.{again_with_other_bytes, again_with_bytes_for_in, write_over_the_limit, requests_of_unsupported_kinds, last_number_is_given_to_none};
 ghost use Rattle.proof_rows.specs.Rows.Dues.{two_names_at_two_devices, no_timeout_is_never_due, no_deadline_is_later, submitted_again_begins_anew, asked_already, ended_already};
@@ -87,6 +88,7 @@ pub fn alone()
     ensures two_handles_two_rules_alone_1 { PrintsAlone two_handles_two_rules_alone_1 1 }
     ensures two_handles_two_rules_alone_2 { PrintsAlone two_handles_two_rules_alone_2 2 }
     ensures unplug_amid_transfers_alone_2 { PrintsAlone unplug_amid_transfers_alone_2 2 }
+    ensures fed_answers_alone { PrintsAlone fed_answers_alone 2 }
 {}
 
 /// Refusals of a handle's calls.
@@ -141,6 +143,20 @@ pub fn answers()
     ensures stall_amid_out { Prints stall_amid_out }
     ensures stall_and_babble_amid_reads { Prints stall_and_babble_amid_reads }
     ensures cancel_behind_a_stall { Prints cancel_behind_a_stall }
+{}
+
+/// Answers that lines further down feed.
+pub fn feeding()
+    ensures fed_amid_a_transfer { Prints fed_amid_a_transfer }
+    ensures fed_behind_a_serve { Prints fed_behind_a_serve }
+    ensures fed_at_the_very_end { Prints fed_at_the_very_end }
+    ensures fed_behind_its_script { Prints fed_behind_its_script }
+    ensures fed_over_a_claim { Prints fed_over_a_claim }
+    ensures fed_over_a_reset { Prints fed_over_a_reset }
+    ensures fed_at_a_stall { Prints fed_at_a_stall }
+    ensures fed_to_an_out_endpoint { Prints fed_to_an_out_endpoint }
+    ensures fed_to_two_devices { Prints fed_to_two_devices }
+    ensures fed_behind_an_unplug { Prints fed_behind_an_unplug }
 {}
 
 /// Each status and each flag.

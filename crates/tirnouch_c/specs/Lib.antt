@@ -14,3 +14,4 @@ pub mod Requests
 pub mod Descriptions
 pub mod Turn
 pub mod Exports
+pub mod Feeds

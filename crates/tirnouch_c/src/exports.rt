@@ -8,6 +8,7 @@ ghost use Rattle.usb_desk.specs.Packet.{needs_of, packet_of};
 ghost use Rattle.tirnouch_c.specs.Complaints.{TellsWrong};
 ghost use Rattle.tirnouch_c.specs.Calls.{Calls, InSlot, ReadsSlot, step_of};
 ghost use Rattle.tirnouch_c.specs.Exports.{Creates, Destroys, LooksBy, PendsBy, ServesBy, SettlesBy, TakenBy, WorksBy, after, device_by};
+ghost use Rattle.tirnouch_c.specs.Feeds.{FeedsBy, OffersBy};
 ghost use Rattle.tirnouch_c.specs.Sessions.{IsMade, IsUnmade};
 ghost use Rattle.tirnouch_c.specs.Descriptions.{Describes, Tells};
 ghost use Rattle.tirnouch_c.specs.Results.{Fetches, Takes};
@@ -556,14 +557,8 @@ pub extern "C" fn tirnouch_look(
 }
 
 /// An answer for a device of a number that may be none.
-fn feed_in(
-    alloc: Global,
-    session: &mut Session,
-    dev: u8,
-    ep: u8,
-    kind: u8,
-    bytes: &[u8],
-) -> i32
+fn feed_in(alloc: Global, session: &mut Session, dev: u8, ep: u8, kind: u8, bytes: &[u8]) -> i32
+    ensures { FeedsBy dev ep kind bytes.now result session.old session.new }
 {
     match device(dev) {
         None => INVALID,
@@ -584,6 +579,7 @@ pub extern "C" fn tirnouch_feed(
     kind: u8,
     bytes: &[u8],
 ) -> i32
+    ensures { InSlot slot.old.held.value slot.new.held.value result (FeedsBy dev ep kind bytes.now result) }
 {
     let Some(mut session) = slot.take(alloc) else {
         return NO_SESSION;
@@ -595,6 +591,7 @@ pub extern "C" fn tirnouch_feed(
 
 /// The packet that is next at an endpoint of a number that may be no device's.
 fn offer_in(session: &Session, dev: u8, ep: u8, buffer: &mut [u8], told: &mut Told) -> i32
+    ensures { OffersBy dev ep result told.old told.new buffer.old buffer.new session.now }
 {
     match device(dev) {
         None => INVALID,
@@ -618,6 +615,7 @@ pub extern "C" fn tirnouch_offer(
     buffer: &mut [u8],
     told: &mut Told,
 ) -> i32
+    ensures { ReadsSlot slot.old.held.value slot.new.held.value result (OffersBy dev ep result told.old told.new buffer.old buffer.new) }
 {
     let Some(session) = slot.take(alloc) else {
         return NO_SESSION;

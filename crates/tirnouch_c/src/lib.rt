@@ -13,6 +13,7 @@
 //! - `calls.rt`, `submission.rt`, `packets.rt`, `settling.rt`, `results.rt`, `reads.rt`: steps that carry nothing; submissions;
 //!   packets; what is to be done until nothing is; results and their bytes; what can be asked without a step
 //! - `requests.rt`, `descriptions.rt`: requests on the default control endpoint; what the text says of a device
+//! - `feeds.rt`: a device is fed while the run goes on, and the packet that it is to answer next
 //! - `complaints.rt`: what is wrong with a text that isn't taken
 //! - specs/ by the same names: what each call says of a session before and behind. proofs/ Rows, Progress, Quiet: packets in a
 //!   row, and row after row; that where nothing is to be done each transfer that was asked to end has ended
@@ -34,6 +35,9 @@
 //!   lent goes back, and has its bytes; else they are still to be fetched (`BytesGo`). `tirnouch_fetch`: its bytes, just once
 //! - `tirnouch_turn`: packets, what is to be done, and the oldest result, one behind the other (`Works`)
 //! - `tirnouch_taken`: a packet that a device took
+//! - `tirnouch_feed`: one more answer behind a device's script, as if it had stood there from the beginning: the session shows the
+//!   world of the longer script where it stood, and no step is made (`Feeds`); refused, nothing changed. `tirnouch_offer`: the packet
+//!   that a device is to answer next, by the world, its bytes, and whether the device is asked (`TellsNext`)
 //! - `tirnouch_request`: what `usb_desk` says that the device answers; `tirnouch_needs`: what a host has to hold for that; `tirnouch_describe`, `tirnouch_tell`: what it has of the text
 //! - `tirnouch_complain`: of a text that isn't taken the number of the line, and a sentence whose reason fits that (`TellsWrong`)
 //!

@@ -1,6 +1,6 @@
 //! What a call told, in numbers.
 
-ghost use Rattle.std.specs.Prelude.{◌≡◌};
+ghost use Rattle.std.specs.Prelude.{◌≡◌, ◌<◌};
 ghost use Rattle.tirnouch_c.specs.Complaints.{complaint_told, place_number};
 ghost use Rattle.tirnouch_c.specs.Descriptions.{departure_told, device_told, driver_told, gate_told};
 ghost use Rattle.tirnouch_c.specs.Requests.{ended_told, needs_told};
@@ -186,7 +186,10 @@ impl Told {
     }
 
     /// The packet that is next at an endpoint.
-    pub fn offer(ep: EpAddr, offer: &Offer<'_>) -> Told {
+    pub fn offer(ep: EpAddr, offer: &Offer<'_>) -> Told
+        requires { offer.now.room < 65536 }
+        ensures { result ≡ record (of_kind offer.now.owner (bit offer.now.wants)) { ep = ep; amount = offer.now.room; n = offer.now.n } }
+    {
         Told {
             ep: ep.address(),
             amount: offer.room as u32,

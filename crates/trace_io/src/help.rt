@@ -20,6 +20,7 @@ macro_rules! help_text {
             "Input: a scenario, a line for each device, script and step. Words stand between single spaces.\n",
             "  device D HEX               the next device, 0 to 3, with this configuration descriptor\n",
             "  script D EP A A ..         what a bulk or interrupt endpoint answers: d:HEX, a, n, s or b\n",
+            "  feed D EP A A ..           further answers of it, as if they had stood in its script; also amid the steps\n",
             "  open H D                   handle H, 0 to 63, opens a device; so close, claim, release, reset, clear\n",
             "  submit H EP K B ..         a transfer of kind bulk or int, of B bytes, or out with x:HEX; so cancel, expire\n",
             "    ..                       options in this order: flags=SHORT_NOT_OK+ADD_ZERO_PACKET timeout=MS then=again:COMPLETED+STALL:ROUNDS\n",

@@ -9,5 +9,6 @@ pub mod GoodAndBad
 pub mod Places
 mod Lines
 mod Runnables
+mod Feeds
 pub mod StepLines
 pub mod DeviceLines

@@ -26,10 +26,11 @@ use Rattle.trace_scenario.specs.declared.line.Line.{Line}
 use Rattle.trace_scenario.specs.declared.line.Line.TheVariants as line
 use Rattle.trace_scenario.specs.declared.verb.Verb.{Verb}
 use Rattle.trace_scenario.specs.declared.verb.Verb.TheVariants as verb
-use Rattle.trace_scenario.specs.Line.{answer_of, answers_of, ascii_of, body_of, device_line_of, each_of, kind_of, line_by, line_of, line_of_text, packet_of, script_of, submission, submit_of, transfer_of}
+use Rattle.trace_scenario.specs.Line.{answer_of, answers_of, ascii_of, body_of, device_line_of, each_of, endpoint_answers, endpoint_answers_of, feed_line, kind_of, line_by, line_of, line_of_text, packet_of, script_line, submission, submit_of, transfer_of}
 use Rattle.trace_scenario.specs.Step.{bare_of, cancel_of, claim_of, clear_of, close_of, expire_of, line_of_step, open_of, release_of, reset_of, return_of, serve_of, unplug_of}
 use Rattle.trace_scenario.specs.Verb.{verb_of}
 use Rattle.trace_scenario.specs.declared.option.Options.{Options}
+use Rattle.trace_scenario.specs.declared.script.EndpointAnswers.{EndpointAnswers}
 use Rattle.trace_scenario.specs.Names.{union_of}
 use Rattle.trace_scenario.specs.Number.{address_of, bytes_of, device_of, handle_of, is_decimal, last_device, number_of, u64_of, u8_of}
 use Rattle.trace_scenario.specs.Option.{again_of, flags_said, option_rest, option_value, options_of, rule_by, rule_of, rule_said, timeout_said}
@@ -179,10 +180,11 @@ options_fixed words =
     Fixed : Options → Type 0
     Fixed o = IsFixed o.rule
 
--- what a line always says: one of four devices; a script that its endpoint may have; a rule that isn't Free; and as another piece neither a verdict nor a submission
+-- what a line always says: one of four devices; a script, or answers behind one, that its endpoint may have; a rule that isn't Free; and as another piece neither a verdict nor a submission
 abbrev pub SaysFit : Line → Type 0
 SaysFit (line.Device number config) = number ≤ last_device
 SaysFit (line.Script dev ep answers) = IsScriptOf ep answers
+SaysFit (line.Feed dev ep answers) = IsScriptOf ep answers
 SaysFit (line.Submit h request rule) = IsFixed rule
 SaysFit (line.Piece piece) = (is_verdict piece ≡ false) × (is_submission piece ≡ false)
 
@@ -195,13 +197,23 @@ device_fits [] = tt
 device_fits (number ∷ []) = tt
 device_fits (number ∷ descriptor ∷ more ∷ words) = tt
 
-script_fits : (words : List (List ℕ)) → IfSome (script_of words) SaysFit
-unfolding script_of
-script_fits (dev ∷ ep ∷ words) =
-    if_and_then SaysFit (λ d. option_and_then (λ e. option_map (line.Script d e) (answers_of e words)) (address_of ep)) (device_of dev)
-    (λ d. if_and_then SaysFit (λ e. option_map (line.Script d e) (answers_of e words)) (address_of ep) (λ e. if_map_of (IsScriptOf e) SaysFit (line.Script d e) (answers_of e words) (answers_fit e words) (λ answers fit. fit)))
-script_fits [] = tt
-script_fits (dev ∷ []) = tt
+-- answers that their endpoint may have
+abbrev AreFit : EndpointAnswers → Type 0
+AreFit said = IsScriptOf said.ep said.answers
+
+said_fit : (words : List (List ℕ)) → IfSome (endpoint_answers_of words) AreFit
+unfolding endpoint_answers_of
+said_fit (dev ∷ ep ∷ words) =
+    if_and_then AreFit (λ d. option_and_then (λ e. option_map (endpoint_answers d e) (answers_of e words)) (address_of ep)) (device_of dev)
+    (λ d. if_and_then AreFit (λ e. option_map (endpoint_answers d e) (answers_of e words)) (address_of ep) (λ e. if_map_of (IsScriptOf e) AreFit (endpoint_answers d e) (answers_of e words) (answers_fit e words) (λ answers fit. fit)))
+said_fit [] = tt
+said_fit (dev ∷ []) = tt
+
+script_fits : (words : List (List ℕ)) → IfSome (option_map script_line (endpoint_answers_of words)) SaysFit
+script_fits words = if_map_of AreFit SaysFit script_line (endpoint_answers_of words) (said_fit words) (λ said fit. fit)
+
+feed_fits : (words : List (List ℕ)) → IfSome (option_map feed_line (endpoint_answers_of words)) SaysFit
+feed_fits words = if_map_of AreFit SaysFit feed_line (endpoint_answers_of words) (said_fit words) (λ said fit. fit)
 
 transfer_fits : (h ep : ℕ) (words : List (List ℕ)) → IfSome (transfer_of h ep words) SaysFit
 unfolding transfer_of
@@ -307,6 +319,7 @@ return_fits (h ∷ n ∷ more ∷ words) = tt
 verb_fits : (v : Verb) (words : List (List ℕ)) → IfSome (line_by v words) SaysFit
 verb_fits verb.Device words = device_fits words
 verb_fits verb.Script words = script_fits words
+verb_fits verb.Feed words = feed_fits words
 verb_fits verb.Submit words = submit_fits words
 verb_fits verb.Open words = open_fits words
 verb_fits verb.Close words = close_fits words

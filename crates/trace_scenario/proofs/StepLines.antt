@@ -6,12 +6,13 @@ use Rattle.std.specs.Option.{option_and_then, option_map}
 use Rattle.std.proofs.lemmas.Bool.{ltb-false, ltb-true}
 use Rattle.std.proofs.lemmas.List.{at_drop_all, at_drop_more, length_push}
 use Rattle.usb_model.specs.declared.plan.Plan.TheVariants.{Do}
+use Rattle.usb_model.specs.declared.setup.DeviceSetup.{DeviceSetup}
 use Rattle.usb_model.specs.declared.step.Step.TheVariants as step
 use Rattle.trace_scenario.specs.declared.line.Line.{Line}
 use Rattle.trace_scenario.specs.declared.line.Line.TheVariants as line
 use Rattle.trace_scenario.specs.Line.{line_of_text}
 use Rattle.trace_scenario.specs.declared.scenario.Scenario.{Scenario}
-use Rattle.trace_scenario.specs.Scenario.{device_with, new_device, nothing_said, says_nothing, scenario_from, scenario_of, taken_at, with_line, with_text}
+use Rattle.trace_scenario.specs.Scenario.{device_fed, device_with, new_device, nothing_said, says_nothing, scenario_from, scenario_of, taken_at, with_device, with_line, with_text}
 use Rattle.trace_scenario.specs.StepLines.{has_grown, step_lines, step_lines_from, step_lines_past}
 use Rattle.trace_scenario.proofs.Lines.{if_and_then, if_map, if_tested}
 
@@ -19,17 +20,22 @@ use Rattle.trace_scenario.proofs.Lines.{if_and_then, if_map, if_tested}
 abbrev Grows : Scenario → Scenario → Type 0
 Grows s t = (length t.plan ≡ length s.plan) ⊎ (length t.plan ≡ length s.plan + 1)
 
+-- with another device in the place of one
+device_grows : (s : Scenario) (dev : ℕ) (change : DeviceSetup → Option DeviceSetup) → IfSome (with_device change dev s) (Grows s)
+device_grows s dev change =
+    if_and_then (Grows s) (λ device. option_map (λ changed. record s { setup = slice_set s.setup dev changed }) (change device)) (slice_get s.setup dev)
+    (λ device. if_map (Grows s) (λ changed. record s { setup = slice_set s.setup dev changed }) (change device) (λ changed. inl refl))
+
 -- with what one more line says
 line_grows : (s : Scenario) (l : Line) → IfSome (with_line s l) (Grows s)
 line_grows s (line.Device number config) =
     if_tested (Grows s) ((length s.plan == 0) && (number == length s.setup)) (record s { setup = s.setup ++ new_device config ∷ [] }) (λ passed. inl refl)
 line_grows s (line.Script dev ep answers) = by_test (length s.plan == 0)
   where
-    by_test : (b : Bool) → IfSome (if b then option_and_then (λ device. option_map (λ changed. record s { setup = slice_set s.setup dev changed }) (device_with ep answers device)) (slice_get s.setup dev) else None) (Grows s)
+    by_test : (b : Bool) → IfSome (if b then with_device (device_with ep answers) dev s else None) (Grows s)
     by_test false = tt
-    by_test true =
-        if_and_then (Grows s) (λ device. option_map (λ changed. record s { setup = slice_set s.setup dev changed }) (device_with ep answers device)) (slice_get s.setup dev)
-        (λ device. if_map (Grows s) (λ changed. record s { setup = slice_set s.setup dev changed }) (device_with ep answers device) (λ changed. inl refl))
+    by_test true = device_grows s dev (device_with ep answers)
+line_grows s (line.Feed dev ep answers) = device_grows s dev (device_fed ep answers)
 line_grows s (line.Submit h request rule) = inr (length_push s.plan (Do (step.Submit h request)))
 line_grows s (line.Piece piece) = inr (length_push s.plan piece)
 

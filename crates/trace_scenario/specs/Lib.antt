@@ -14,6 +14,7 @@ pub mod Counts
 pub mod Findings
 pub mod TextResults
 pub mod Runnable
+pub mod Feeds
 pub mod Scenario
 pub mod StepLines
 pub mod DeviceLines

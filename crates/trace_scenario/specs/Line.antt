@@ -16,8 +16,9 @@ use Rattle.usb_descriptors.specs.Grammar.{reading}
 use Rattle.trace_scenario.specs.declared.line.Line.{Line}
 use Rattle.trace_scenario.specs.declared.line.Line.TheVariants as line
 use Rattle.trace_scenario.specs.declared.option.Options.{Options}
+use Rattle.trace_scenario.specs.declared.script.EndpointAnswers.{EndpointAnswers}
 use Rattle.trace_scenario.specs.declared.verb.Verb.{Verb}
-use Rattle.trace_scenario.specs.declared.verb.Verb.TheVariants.{Device, Script, Open, Close, Claim, Release, Reset, Clear, Submit, Cancel, Expire, Serve, Command, Deliver, Take, Return, Unplug}
+use Rattle.trace_scenario.specs.declared.verb.Verb.TheVariants.{Device, Script, Feed, Open, Close, Claim, Release, Reset, Clear, Submit, Cancel, Expire, Serve, Command, Deliver, Take, Return, Unplug}
 use Rattle.usb_model.specs.declared.step.Step.TheVariants as step
 use Rattle.trace_scenario.specs.Number.{handle_of, device_of, u32_of, address_of, bytes_of}
 use Rattle.trace_scenario.specs.Verb.{verb_of}
@@ -49,11 +50,23 @@ answer_of ep word =
 unfoldable pub answers_of : ℕ → List (List ℕ) → Option (List Response)
 answers_of ep words = if nat_lt 0 (length words) && nat_le (length words) longest_script then each_of (answer_of ep) words else None
 
--- a script: a device, an endpoint and the answers
-unfoldable pub script_of : List (List ℕ) → Option Line
-script_of (dev ∷ ep ∷ words) =
-    option_and_then (λ d. option_and_then (λ e. option_map (line.Script d e) (answers_of e words)) (address_of ep)) (device_of dev)
-script_of _ = None
+-- the answers of an endpoint of a device
+abbrev pub endpoint_answers : ℕ → ℕ → List Response → EndpointAnswers
+endpoint_answers dev ep answers = record { dev = dev; ep = ep; answers = answers }
+
+-- those that words say: a device, an endpoint and the answers
+unfoldable pub endpoint_answers_of : List (List ℕ) → Option EndpointAnswers
+endpoint_answers_of (dev ∷ ep ∷ words) =
+    option_and_then (λ d. option_and_then (λ e. option_map (endpoint_answers d e) (answers_of e words)) (address_of ep)) (device_of dev)
+endpoint_answers_of _ = None
+
+-- a script: the answers that an endpoint begins with
+abbrev pub script_line : EndpointAnswers → Line
+script_line said = line.Script said.dev said.ep said.answers
+
+-- answers behind those that an endpoint has
+abbrev pub feed_line : EndpointAnswers → Line
+feed_line said = line.Feed said.dev said.ep said.answers
 
 -- a device: its number and its configuration descriptor
 unfoldable pub device_line_of : List (List ℕ) → Option Line
@@ -92,7 +105,8 @@ submit_of _ = None
 -- the line of a verb and the words behind it
 abbrev pub line_by : Verb → List (List ℕ) → Option Line
 line_by Device words = device_line_of words
-line_by Script words = script_of words
+line_by Script words = option_map script_line (endpoint_answers_of words)
+line_by Feed words = option_map feed_line (endpoint_answers_of words)
 line_by Submit words = submit_of words
 line_by Open words = open_of words
 line_by Close words = close_of words

@@ -1,5 +1,5 @@
 -- A scenario: what its lines say together.
-use Rattle.std.specs.Prelude.{ℕ, zero, suc, ◌+◌, ◌==◌, Bool, true, false, ◌&&◌, List, [], ◌∷◌, ◌++◌, length, Option, Some, None, Result, Ok, Err, slice_get, slice_set, if◌then◌else◌}
+use Rattle.std.specs.Prelude.{ℕ, zero, suc, ◌+◌, ◌==◌, nat_le, Bool, true, false, ◌&&◌, List, [], ◌∷◌, ◌++◌, length, Option, Some, None, Result, Ok, Err, slice_get, slice_set, unwrap_or, if◌then◌else◌}
 use Rattle.std.specs.Option.{option_map, option_and_then}
 use Rattle.std.specs.List.{list_any, slice_split}
 use Rattle.usb_model.specs.declared.response.Response.{Response}
@@ -10,6 +10,7 @@ use Rattle.usb_model.specs.declared.setup.DeviceSetup.{DeviceSetup}
 use Rattle.usb_model.specs.declared.plan.Plan.{Plan}
 use Rattle.usb_model.specs.declared.plan.Plan.TheVariants.{Do}
 use Rattle.usb_model.specs.declared.step.Step.TheVariants as step
+use Rattle.usb_model.specs.Limits.{longest_script}
 use Rattle.usb_model.specs.Setup.{endpoint_id}
 use Rattle.trace_scenario.specs.declared.line.Line.{Line}
 use Rattle.trace_scenario.specs.declared.line.Line.TheVariants as line
@@ -46,6 +47,26 @@ device_with ep answers device =
     then Some (record device { scripts = slice_set device.scripts (endpoint_id ep) answers })
     else None
 
+-- the script at an id; none is empty
+abbrev pub script_at : ℕ → List (List Response) → List Response
+script_at id scripts = unwrap_or (slice_get scripts id) []
+
+-- whether so many more answers fit behind a script that is there
+abbrev pub fits_behind : ℕ → Option (List Response) → Bool
+fits_behind more None = false
+fits_behind more (Some script) = nat_le (length script + more) longest_script
+
+-- whether so many more answers fit behind the script at an id
+abbrev pub has_room : ℕ → ℕ → List (List Response) → Bool
+has_room id more scripts = fits_behind more (slice_get scripts id)
+
+-- this device with answers behind the script of one of its endpoints, where they fit
+abbrev pub device_fed : ℕ → List Response → DeviceSetup → Option DeviceSetup
+device_fed ep answers device =
+    if takes_script device.config ep && has_room (endpoint_id ep) (length answers) device.scripts
+    then Some (record device { scripts = slice_set device.scripts (endpoint_id ep) (script_at (endpoint_id ep) device.scripts ++ answers) })
+    else None
+
 -- so many empty scripts
 unfoldable pub empty_scripts : ℕ → List (List Response)
 empty_scripts zero = []
@@ -63,14 +84,18 @@ new_device config = record { config = config; scripts = empty_scripts endpoint_i
 abbrev pub with_piece : Plan → Scenario → Scenario
 with_piece piece s = record s { plan = s.plan ++ piece ∷ [] }
 
--- the scenario with what one more line says, where that may stand here: devices by number, scripts of their endpoints, and both before the first step
+-- the scenario with one of its devices changed, where it has that device and that may be changed so
+abbrev pub with_device : (DeviceSetup → Option DeviceSetup) → ℕ → Scenario → Option Scenario
+with_device change dev s = option_and_then (λ device. option_map (λ changed. record s { setup = slice_set s.setup dev changed }) (change device)) (slice_get s.setup dev)
+
+-- the scenario with what one more line says, where that may stand here: devices by number, scripts of their endpoints, and both before the first step; answers
+-- that are fed anywhere behind their device, as if they had stood in the script from the beginning
 abbrev pub with_line : Scenario → Line → Option Scenario
 with_line s (line.Device number config) =
     if (length s.plan == 0) && (number == length s.setup) then Some (record s { setup = s.setup ++ new_device config ∷ [] }) else None
 with_line s (line.Script dev ep answers) =
-    if length s.plan == 0
-    then option_and_then (λ device. option_map (λ changed. record s { setup = slice_set s.setup dev changed }) (device_with ep answers device)) (slice_get s.setup dev)
-    else None
+    if length s.plan == 0 then with_device (device_with ep answers) dev s else None
+with_line s (line.Feed dev ep answers) = with_device (device_fed ep answers) dev s
 with_line s (line.Submit h request rule) = Some (record (with_piece (Do (step.Submit h request)) s) { rules = s.rules ++ rule ∷ [] })
 with_line s (line.Piece piece) = Some (with_piece piece s)
 

@@ -2,7 +2,7 @@
 use Rattle.std.specs.Prelude.{ℕ, Bool, true, false, List, codes, Option, Some, None, if◌then◌else◌}
 use Rattle.std.specs.Str.{bytes_eq}
 use Rattle.trace_scenario.specs.declared.verb.Verb.{Verb}
-use Rattle.trace_scenario.specs.declared.verb.Verb.TheVariants.{Device, Script, Open, Close, Claim, Release, Reset, Clear, Submit, Cancel, Expire, Serve, Command, Deliver, Take, Return, Unplug}
+use Rattle.trace_scenario.specs.declared.verb.Verb.TheVariants.{Device, Script, Feed, Open, Close, Claim, Release, Reset, Clear, Submit, Cancel, Expire, Serve, Command, Deliver, Take, Return, Unplug}
 
 -- the verb of a word
 unfoldable pub verb_of : List ℕ → Option Verb
@@ -13,6 +13,7 @@ verb_of word =
     if bytes_eq word (codes "take") then Some Take else
     if bytes_eq word (codes "return") then Some Return else
     if bytes_eq word (codes "command") then Some Command else
+    if bytes_eq word (codes "feed") then Some Feed else
     if bytes_eq word (codes "device") then Some Device else
     if bytes_eq word (codes "script") then Some Script else
     if bytes_eq word (codes "open") then Some Open else
@@ -30,5 +31,6 @@ verb_of word =
 abbrev pub says_piece : Verb → Bool
 says_piece Device = false
 says_piece Script = false
+says_piece Feed = false
 says_piece Submit = false
 says_piece _ = true

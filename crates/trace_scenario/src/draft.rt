@@ -1,18 +1,20 @@
 //! The scenario that the lines so far say.
 
-ghost use Rattle.std.specs.Prelude.{◌≡◌, ◌==◌, IfOk, Some, length, not, slice_set, true};
+ghost use Rattle.std.specs.Prelude.{◌≡◌, ◌++◌, ◌==◌, [], IfOk, Some, is_ok, length, not, slice_set, true};
 ghost use Rattle.std.specs.Option.{option_and_then};
 ghost use Rattle.trace_scenario.specs.Counts.{counts_of, scripts_of, written_scripts};
-ghost use Rattle.trace_scenario.specs.Line.{line_of};
+ghost use Rattle.trace_scenario.specs.Line.{feed_line, line_of};
 ghost use Rattle.trace_scenario.specs.LineResults.{submitted_line};
-ghost use Rattle.trace_scenario.specs.Scenario.{says_nothing, empty_scripts, is_free, takes_script};
+ghost use Rattle.trace_scenario.specs.Scenario.{empty_scripts, has_room, is_free, says_nothing, script_at, takes_script};
 ghost use Rattle.trace_scenario.specs.TextResults.{Becomes, IsJudged};
 ghost use Rattle.trace_scenario.specs.Words.{words_of};
+ghost use Rattle.usb_model.specs.Setup.{endpoint_id};
 
 use crate::endpoint_set::EndpointSet;
 use crate::findings::Counts;
 use crate::line::{cut, piece};
 use crate::scenario::Scenario;
+use crate::script::{EndpointAnswers, endpoint_answers};
 use crate::scripted::ScriptedDevice;
 use crate::submit::{Submitted, submit};
 use crate::{Line, LineFault, Misplaced, Problem, Verb};
@@ -20,6 +22,7 @@ use std::alloc::{AllocError, Global};
 use std::marker::Model;
 use std::mem;
 use usb_descriptors::Config;
+use usb_model::limits::LONGEST_SCRIPT;
 use usb_model::{DeviceNo, EpAddr, Kind, Plan, Rule, Script, Sequence, Step};
 
 /// How many ids the endpoints of a device have: one for each number and direction.
@@ -89,7 +92,7 @@ impl Draft {
         self.read_words(alloc, words.as_slice())
     }
 
-    /// Adds what the words of a line say. A piece of the plan is added as it is read, without the line that it would be.
+    /// Adds what the words of a line say. A piece of the plan and answers are added as they are read, without the line that they would be.
     fn read_words(&mut self, alloc: Global, words: &[&str]) -> Result<(), LineFault>
         ensures { Becomes result (option_and_then (with_line self.old) (line_of (words_of words.now))) self.old self.new }
     {
@@ -101,6 +104,7 @@ impl Draft {
                 self.take(alloc, Line::of_verb(alloc, verb, rest)?)
             }
             Verb::Submit => self.add_submission(submit(alloc, rest)?),
+            Verb::Feed => self.add_answers(alloc, endpoint_answers(alloc, Verb::Feed, rest)?),
             verb => self.add_piece(piece(verb, rest)?),
         }
     }
@@ -140,6 +144,9 @@ impl Draft {
         match line {
             Line::Device { number, config } => self.add_device(alloc, number, config),
             Line::Script { dev, ep, answers } => self.add_script(alloc, dev, ep, answers),
+            Line::Feed { dev, ep, answers } => {
+                self.add_answers(alloc, EndpointAnswers { dev, ep, answers })
+            }
             Line::Submit { h, request, rule } => {
                 self.add_submission(Submitted { h, request, rule })
             }
@@ -219,19 +226,34 @@ impl Draft {
         if self.has_steps() {
             return Err(LineFault::Bad(Problem::Place(Misplaced::Late)));
         }
-        let (place, id) = (usize::from(dev.number()), usize::from(ep.id()));
+        let (place, id) = places(dev, ep);
         let device = self
             .devices
             .get(place)
             .ok_or(Problem::Place(Misplaced::NoDevice))?;
-        if !takes_script(&device.config, ep) {
-            let there = EndpointSet::scripted(&device.config);
-            return Err(LineFault::Bad(Problem::Place(Misplaced::NoEndpoint(there))));
-        }
+        find_endpoint(&device.config, ep)?;
         if !is_free(device.scripts.as_slice(), id) {
             return Err(LineFault::Bad(Problem::Place(Misplaced::SecondScript)));
         }
         put_script(alloc, &mut self.devices[place], id, answers);
+        Ok(())
+    }
+
+    /// Adds answers behind those that an endpoint has, where the whole script stays within its limit. Steps may stand before.
+    fn add_answers(&mut self, alloc: Global, more: EndpointAnswers) -> Result<(), LineFault>
+        ensures { Becomes result (with_line self.old (feed_line more)) self.old self.new }
+    {
+        let EndpointAnswers { dev, ep, answers } = more;
+        let (place, id) = places(dev, ep);
+        let device = self
+            .devices
+            .get(place)
+            .ok_or(Problem::Place(Misplaced::NoDevice))?;
+        find_endpoint(&device.config, ep)?;
+        if !has_room(device.scripts.as_slice(), id, answers.len()) {
+            return Err(LineFault::Bad(Problem::Answers));
+        }
+        feed_script(alloc, &mut self.devices[place], id, answers)?;
         Ok(())
     }
 }
@@ -281,6 +303,25 @@ fn takes_script(config: &Config, ep: EpAddr) -> bool
         && matches!(info.kind, Kind::Bulk | Kind::Interrupt))
 }
 
+/// Where a device stands among the others, and an endpoint's script among those of its device.
+fn places(dev: DeviceNo, ep: EpAddr) -> (usize, usize)
+    ensures device { result.0 ≡ dev }
+    ensures script { result.1 ≡ endpoint_id ep }
+{
+    (usize::from(dev.number()), usize::from(ep.id()))
+}
+
+/// Finds that a configuration has a bulk or interrupt endpoint of this address.
+fn find_endpoint(config: &Config, ep: EpAddr) -> Result<(), Problem>
+    ensures { is_ok result ≡ takes_script config.now ep }
+{
+    if !takes_script(config, ep) {
+        let there = EndpointSet::scripted(config);
+        return Err(Problem::Place(Misplaced::NoEndpoint(there)));
+    }
+    Ok(())
+}
+
 /// Whether there is room for a script at an id: none so far.
 fn is_free(scripts: &[Script], id: usize) -> bool
     ensures { result ≡ is_free id scripts.now }
@@ -297,4 +338,43 @@ fn put_script(alloc: Global, device: &mut ScriptedDevice, id: usize, answers: Sc
     let mut scripts = mem::replace(&mut device.scripts, Sequence::new(alloc)).into_vec();
     scripts[id] = answers;
     device.scripts = Sequence::from_vec(scripts);
+}
+
+/// Whether so many more answers fit behind the script at an id.
+fn has_room(scripts: &[Script], id: usize, more: usize) -> bool
+    ensures { result ≡ has_room id more scripts.now }
+{
+    match scripts.get(id) {
+        Some(script) => script.len().saturating_add(more) <= LONGEST_SCRIPT,
+        None => false,
+    }
+}
+
+/// Takes the script at an id out of its place, which is free then.
+#[tactic(auto, using(crate::proofs::Places::room_place, crate::proofs::Places::room_read))]
+fn take_script(alloc: Global, device: &mut ScriptedDevice, id: usize) -> Script
+    requires { has_room id 0 device.old.scripts ≡ true }
+    ensures script { result ≡ script_at id device.old.scripts }
+    ensures others { device.new ≡ record device.old { scripts = slice_set device.old.scripts id [] } }
+{
+    let mut scripts = mem::replace(&mut device.scripts, Sequence::new(alloc)).into_vec();
+    let script = mem::replace(&mut scripts[id], Script::new(alloc));
+    device.scripts = Sequence::from_vec(scripts);
+    script
+}
+
+/// Puts answers behind those of the script at an id, where they fit. An error where memory is refused.
+#[tactic(auto, using(crate::proofs::Places::room_for_none, crate::proofs::Places::freed, crate::proofs::Places::put_back))]
+fn feed_script(
+    alloc: Global,
+    device: &mut ScriptedDevice,
+    id: usize,
+    answers: Script,
+) -> Result<(), AllocError>
+    requires { has_room id (length answers) device.old.scripts ≡ true }
+    ensures { IfOk result (λ _. device.new ≡ record device.old { scripts = slice_set device.old.scripts id (script_at id device.old.scripts ++ answers) }) }
+{
+    let script = take_script(alloc, device, id);
+    put_script(alloc, device, id, script.append(answers)?);
+    Ok(())
 }

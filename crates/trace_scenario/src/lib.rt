@@ -1,5 +1,5 @@
 //! Scenarios as text, in the form that docs/FORMATS.md gives: what single words say (numbers, addresses, bytes, flags,
-//! options), what a line says (a device, a script, a submission or another piece of a plan), and the whole.
+//! options), what a line says (a device, a script, answers behind one, a submission or another piece of a plan), and the whole.
 //!
 //! The one promise: what `Line::from_text` gives is what the definition `line_of_text` makes of the text, what
 //! `read_scenario` gives is what `scenario_of` makes of it, and the lines that `check` finds bad are those that
@@ -11,7 +11,7 @@
 //!   words; the options of a submission
 //! - `expected.rt`: what a word had to be, in a sentence
 //! - `verb.rt`, `line.rt`: first words; one line
-//! - `script.rt`, `submit.rt`, `step.rt`: the lines of scripts, of submissions, of other pieces of a plan
+//! - `script.rt`, `submit.rt`, `step.rt`: the lines of scripts and of answers behind them, of submissions, of other pieces of a plan
 //! - `problem.rt`, `slip.rt`, `fault.rt`: what is wrong with a line, in a sentence; slips of editors and other notations; why it
 //!   isn't taken
 //! - `draft.rt`, `scenario.rt`, `scripted.rt`: what the lines so far say; a scenario; a device of it
@@ -21,10 +21,12 @@
 //! - `culprit.rt`, `shown.rt`, `near.rt`, `endpoint_set.rt`: the word that a problem is about; how it is shown; words that are almost
 //!   another; which endpoints a device has
 //! - `text_fault.rt`, `laws.rt`: why a text isn't read; a text has no bad line exactly where it is that of a
-//!   scenario, and each scenario can be run
+//!   scenario, and each scenario can be run; answers that are fed are as if they had stood in the script
+//! - specs/Feeds: texts in which answers stand in a line of their own, and in the script
 //! - specs/Runnable: what a program needs of a scenario to run it: devices that can be made, a plan without verdicts,
 //!   a rule for each submission
-//! - proofs/ Lines, Runnables: what a line that is taken always says; that each leaves a scenario runnable
+//! - proofs/ Lines, Runnables, Feeds: what a line that is taken always says; that each leaves a scenario runnable; that answers may stand
+//!   before the lines that leave their endpoint alone
 //!
 //! # Contracts
 //!
@@ -41,6 +43,8 @@
 //!   what the good ones say
 //! - `laws::bad_lines`: a text has no bad line exactly where it is that of a scenario; where it is none, the line
 //!   that `read_scenario` names is the first of them
+//! - `laws::feeds`: a text with a line that feeds answers (`IsFedLater`, `IsFedAlone`) says the same scenario, or has the same first bad
+//!   line, as the text in which they stand in the endpoint's script, with an empty line in the place of the other
 //! - `laws::scenarios`: the scenario of any text is runnable (`IsRunnable`): it has four devices at most; each has 32
 //!   scripts, by endpoint id, that a `TableDevice` of its configuration may have (none longer than 65,536 answers, no
 //!   packet over 2,048 bytes, each answer of its endpoint's direction, none where there is no endpoint); its plan

@@ -13,7 +13,7 @@ use crate::Expected;
 use crate::fault::LineFault;
 use crate::number::{bytes, device};
 use crate::problem::Problem;
-use crate::script::script;
+use crate::script::{EndpointAnswers, endpoint_answers};
 use crate::step::{
     bare, callback, cancel, claim, clear, close, expire, open, release, reset, serve, unplug,
 };
@@ -34,6 +34,12 @@ pub enum Line {
     },
     /// The answers of an endpoint of a device.
     Script {
+        dev: DeviceNo,
+        ep: EpAddr,
+        answers: Script,
+    },
+    /// Answers of an endpoint of a device, behind those that it has.
+    Feed {
         dev: DeviceNo,
         ep: EpAddr,
         answers: Script,
@@ -79,7 +85,14 @@ impl Line {
     {
         match verb {
             Verb::Device => device_line(alloc, words),
-            Verb::Script => script(alloc, words),
+            Verb::Script => {
+                let EndpointAnswers { dev, ep, answers } = endpoint_answers(alloc, verb, words)?;
+                Ok(Line::Script { dev, ep, answers })
+            }
+            Verb::Feed => {
+                let EndpointAnswers { dev, ep, answers } = endpoint_answers(alloc, verb, words)?;
+                Ok(Line::Feed { dev, ep, answers })
+            }
             Verb::Submit => {
                 let Submitted { h, request, rule } = submit(alloc, words)?;
                 Ok(Line::Submit { h, request, rule })
@@ -109,7 +122,9 @@ pub(crate) fn piece(verb: Verb, words: &[&str]) -> Result<Plan, LineFault>
         Verb::Take => bare(verb, words, Step::Take),
         Verb::Return => callback(words),
         Verb::Unplug => unplug(words),
-        Verb::Device | Verb::Script | Verb::Submit => Err(LineFault::Bad(Problem::Form(verb))),
+        Verb::Device | Verb::Script | Verb::Feed | Verb::Submit => {
+            Err(LineFault::Bad(Problem::Form(verb)))
+        }
     }
 }
 

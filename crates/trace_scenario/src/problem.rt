@@ -22,7 +22,7 @@ pub enum Problem {
     Form(Verb),
     /// A word isn't this, as it had to be.
     Word(Expected),
-    /// A script has no answer, or more than 65,536.
+    /// A script has no answer, or more than 65,536, with those that are fed.
     Answers,
     /// A packet has more than 2,048 bytes.
     Packet,
@@ -41,11 +41,11 @@ pub enum Misplaced {
     Late,
     /// A device isn't the next one, which has this number.
     Turn(usize),
-    /// A script is that of a device without a line.
+    /// The device of a script, or of answers that are fed, has no line.
     NoDevice,
-    /// A script's endpoint is no bulk or interrupt endpoint of its device, which has these.
+    /// Their endpoint is no bulk or interrupt endpoint of the device, which has these.
     NoEndpoint(EndpointSet),
-    /// A script's endpoint has one.
+    /// The endpoint of a script has answers already.
     SecondScript,
 }
 

@@ -1,33 +1,47 @@
-//! Lines that say what a device will answer.
+//! Lines that say what an endpoint of a device will answer.
 
 ghost use Rattle.std.specs.Prelude.{codes};
 ghost use Rattle.std.specs.Option.{option_and_then};
-ghost use Rattle.trace_scenario.specs.Line.{script_of, answers_of, each_of, answer_of, packet_of};
+ghost use Rattle.trace_scenario.specs.Line.{answer_of, answers_of, each_of, endpoint_answers_of, packet_of};
 ghost use Rattle.trace_scenario.specs.Prefix.{behind};
 ghost use Rattle.trace_scenario.specs.LineResults.{ReadsAs};
 ghost use Rattle.trace_scenario.specs.Words.{words_of};
 
 use crate::fault::LineFault;
-use crate::line::Line;
 use crate::number::{address, bytes, device};
 use crate::problem::Problem;
 use crate::verb::Verb;
 use crate::{Expected, behind};
 use std::alloc::Global;
 use usb_model::limits::{LARGEST_PACKET, LONGEST_SCRIPT};
-use usb_model::{EpAddr, Response, Script};
+use usb_model::{DeviceNo, EpAddr, Response, Script};
 
 /// The answers of an endpoint of a device.
-#[tactic(auto, unfolding(crate::specs::Line::script_of))]
-pub(crate) fn script(alloc: Global, words: &[&str]) -> Result<Line, LineFault>
-    ensures { ReadsAs result (script_of (words_of words.now)) }
+#[derive(Drop)]
+pub(crate) struct EndpointAnswers {
+    /// The device.
+    pub(crate) dev: DeviceNo,
+    /// The endpoint.
+    pub(crate) ep: EpAddr,
+    /// One at least.
+    pub(crate) answers: Script,
+}
+
+/// The answers that the words behind a verb say: a device, an endpoint and the answers.
+#[tactic(auto, unfolding(crate::specs::Line::endpoint_answers_of))]
+pub(crate) fn endpoint_answers(
+    alloc: Global,
+    verb: Verb,
+    words: &[&str],
+) -> Result<EndpointAnswers, LineFault>
+    ensures { ReadsAs result (endpoint_answers_of (words_of words.now)) }
 {
     let [dev, ep, words @ ..] = words else {
-        return Err(LineFault::Bad(Problem::Form(Verb::Script)));
+        return Err(LineFault::Bad(Problem::Form(verb)));
     };
     let (dev, ep) = (device(dev)?, address(ep)?);
     let answers = answers(alloc, ep, words)?;
-    Ok(Line::Script { dev, ep, answers })
+    Ok(EndpointAnswers { dev, ep, answers })
 }
 
 /// The answers of some words: 1 to 65,536.

@@ -12,6 +12,8 @@ pub enum Verb {
     Device,
     /// `script`
     Script,
+    /// `feed`
+    Feed,
     /// `open`
     Open,
     /// `close`
@@ -45,9 +47,10 @@ pub enum Verb {
 }
 
 /// All verbs.
-const ALL: [Verb; 17] = [
+const ALL: [Verb; 18] = [
     Verb::Device,
     Verb::Script,
+    Verb::Feed,
     Verb::Open,
     Verb::Close,
     Verb::Claim,
@@ -78,6 +81,7 @@ impl Verb {
             "take" => Some(Verb::Take),
             "return" => Some(Verb::Return),
             "command" => Some(Verb::Command),
+            "feed" => Some(Verb::Feed),
             "device" => Some(Verb::Device),
             "script" => Some(Verb::Script),
             "open" => Some(Verb::Open),
@@ -98,6 +102,7 @@ impl Verb {
         match self {
             Verb::Device => "device D HEX",
             Verb::Script => "script D EP A A ..",
+            Verb::Feed => "feed D EP A A ..",
             Verb::Open => "open H D",
             Verb::Close => "close H",
             Verb::Claim => "claim H I",

@@ -96,24 +96,44 @@ impl Expanded {
         Ok(())
     }
 
-    /// Adds what a line of a test stands for.
-    fn add(&mut self, alloc: Global, at: u64, line: &[u8]) -> Result<(), AllocError>
+    /// Adds a line, or it so many times where a star behind it says so.
+    fn push_repeated(&mut self, at: u64, line: &[u8]) -> Result<(), AllocError>
         ensures { IfOk result (λ _. AddsLine at line.now self.old self.new) }
     {
-        if expected(line).is_some() {
-            return Ok(());
-        }
-        if line == b"settle".as_slice() {
-            let steps = steps_to_rest(alloc, self.text.as_slice())?;
-            self.push_steps(at, steps.as_slice())?;
-            return Ok(());
-        }
         match times_of(line) {
             Some(Repeated { line, times }) => self.push_times(at, line, times)?,
             None => self.push(at, line)?,
         }
         Ok(())
     }
+
+    /// Adds what a line of a test stands for.
+    fn add(&mut self, alloc: Global, test: &[u8], at: u64, line: &[u8]) -> Result<(), AllocError>
+        ensures { IfOk result (λ _. AddsLine at line.now self.old self.new) }
+    {
+        if expected(line).is_some() {
+            return Ok(());
+        }
+        if line == b"settle".as_slice() {
+            let fed = fed_behind(alloc, test, at)?;
+            let steps = steps_to_rest(alloc, self.text.as_slice(), fed.as_slice())?;
+            self.push_steps(at, steps.as_slice())?;
+            return Ok(());
+        }
+        self.push_repeated(at, line)
+    }
+}
+
+/// The lines behind one of a test's that feed devices: their answers are as if they had been known from the beginning.
+fn fed_behind(alloc: Global, test: &[u8], at: u64) -> Result<Vec<u8>, AllocError> {
+    let mut fed = Expanded::new(alloc);
+    for line in test.split(|byte| *byte == b'\n').skip(at as usize) {
+        if line.starts_with(b"feed ") {
+            fed.push_repeated(at, line)?;
+        }
+    }
+    let Expanded { text, .. } = fed;
+    Ok(text)
 }
 
 /// Adds a number so many times.
@@ -144,7 +164,7 @@ pub fn expand(alloc: Global, text: &[u8]) -> Result<Expanded, AllocError>
     let mut at: u64 = 0;
     for line in text.split(|byte| *byte == b'\n') {
         at = at.saturating_add(1);
-        expanded.add(alloc, at, line)?;
+        expanded.add(alloc, text, at, line)?;
     }
     Ok(expanded)
 }

@@ -71,10 +71,17 @@ fn settle<C: Callback, D: Device>(
     Ok(())
 }
 
-/// The steps that settle where the run of a scenario ends; none where it isn't one. They are at most 65,536.
-pub(crate) fn steps_to_rest(alloc: Global, text: &[u8]) -> Result<Vec<Settling>, AllocError> {
+/// The steps that settle where the run of a scenario ends, over devices that are fed this behind it; none where it isn't one. They are at
+/// most 65,536.
+pub(crate) fn steps_to_rest(
+    alloc: Global,
+    text: &[u8],
+    fed: &[u8],
+) -> Result<Vec<Settling>, AllocError> {
     let mut steps = Vec::new(alloc);
-    let scenario = match read_scenario(alloc, text) {
+    let mut whole = Vec::from_slice(alloc, text)?;
+    whole.extend_from_slice(fed)?;
+    let scenario = match read_scenario(alloc, whole.as_slice()) {
         Ok(scenario) => scenario,
         Err(TextFault::Line(_)) => return Ok(steps),
         Err(TextFault::Memory) => return Err(AllocError),

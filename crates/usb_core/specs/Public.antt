@@ -27,3 +27,6 @@ pub use Rattle.usb_core.specs.Bursts.{TakesAndStops}
 pub use Rattle.usb_core.specs.declared.inventory.WaitingResult.{WaitingResult}
 pub use Rattle.usb_core.specs.Inventory.{waiting_result, number_in, halted}
 pub use Rattle.usb_steps.specs.declared.events.Delivered.{Delivered}
+-- a device is fed: the world of the longer scripts is shown where it stands; the packet that is next, or that there is none
+pub use Rattle.proof_core.specs.Feeds.{FeedsWorld, may_be_fed_at}
+pub use Rattle.proof_core.specs.Offers.{HasNone, IsNext}

@@ -1,9 +1,13 @@
 //! Answers that are made while the run goes on.
 
-ghost use Rattle.std.specs.Prelude.{◌≡◌, true, IfErr, OnErr, OnOk, if◌then◌else◌};
+ghost use Rattle.std.specs.Prelude.{◌≡◌, ◌<◌, None, true, IfErr, IfSome, OnErr, OnOk, if◌then◌else◌};
+ghost use Rattle.usb_model.specs.Setup.{Setup as ModelSetup};
+ghost use Rattle.usb_model.specs.World.{World};
 ghost use Rattle.usb_model.specs.declared.refused.Refused.TheVariants.{InvalidParam, NoMem};
 ghost use Rattle.proof_core.specs.Feeds.{FeedsWorld, may_be_fed_at};
+ghost use Rattle.proof_core.specs.Offers.{HasNone, IsNext};
 ghost use Rattle.proof_core.specs.Payloads.{StillCarries};
+ghost use Rattle.proof_core.specs.State.{ShowsWorld};
 
 use crate::calls::Core;
 use usb_device::{Feed, Scripted};
@@ -11,9 +15,14 @@ use usb_model::{DeviceNo, EpAddr, Refused, Response};
 use usb_steps::Offer;
 
 impl<P, D: Scripted> Core<P, D> {
-    /// The packet that a device is to answer next at an endpoint; None where nobody holds it, or there is nothing to serve. Takes
-    /// no memory.
-    pub fn offer(&self, dev: DeviceNo, ep: EpAddr) -> Option<Offer<'_>> {
+    /// The packet that a device is to answer next at an endpoint: that of the first transfer that waits there, where the endpoint runs
+    /// and somebody holds it, and whether the device is asked, since its script has no answer left (`IsNext`). None where a Serve would
+    /// be idle. Takes no memory, and no step is made.
+    pub fn offer(&self, dev: DeviceNo, ep: EpAddr) -> Option<Offer<'_>>
+        ensures next { (setup : ModelSetup) (w : World) → ShowsWorld setup self.now w → IfSome result (λ o. IsNext setup w dev ep o.owner o.n o.out.now o.room o.wants) }
+        ensures none { (setup : ModelSetup) (w : World) → ShowsWorld setup self.now w → result ≡ None → HasNone setup w dev ep }
+        ensures below { IfSome result (λ o. o.room < 65536) }
+    {
         self.parts.offer(dev, ep)
     }
 }

@@ -11,6 +11,7 @@
 //! - `step.rt`: any step, with its payload
 //! - `runs.rt`: a list of steps, from a core in which nothing is open; of its run the laws hold with nothing asked
 //!   of the devices
+//! - `feeds.rt`: a device is fed, and the packet that it is to answer next
 //! - `inventory.rt`: what handles haven't finished, part by part
 //! - `reads.rt`: what can be asked without a step; the controller, with its rings; the devices handed back
 //!   (`into_setup`)
@@ -87,6 +88,10 @@
 //!   its callback
 //! - `Core::has_packet`, `has_order`, `has_event`, `has_result`: the same of one endpoint's packet, of Command, of Deliver
 //!   and of Take alone, without a look at all endpoints
+//! - `Core::feed`: one more answer behind a device's script, as if it had stood there from the beginning: of each world
+//!   that the core shows, it then shows that of the longer scripts where it stands (`FeedsWorld`); no step is made
+//! - `Core::offer`: the packet that a device is to answer next, by the world: whose transfer it is of, its bytes or how
+//!   many it may have, and whether the device is asked (`IsNext`); None just where a Serve would be idle
 //! - `Core::device_of`, `owner`, `holder`, `config`, `next_number`, `callback_at`, `result_at`, `orders_waiting`,
 //!   `events_waiting`: who has and holds what in the world, a transfer in its callback, a result that waits, and how
 //!   many orders and events wait

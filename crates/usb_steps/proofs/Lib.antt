@@ -12,3 +12,4 @@ mod Carried
 mod Readings
 mod Drains
 mod TakesDone
+pub mod NextPackets

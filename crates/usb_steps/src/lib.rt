@@ -60,6 +60,10 @@
 //! - `Parts::pending`: what is to be done next, by the world: the first endpoint, by device and address in a circle
 //!   from behind one, where a packet does something; whether Command, Deliver and Take do; whether a transfer is in
 //!   its callback
+//! - `Parts::feed`: one more answer behind a device's script, as if it had stood there from the beginning: of each
+//!   world that the parts show, they then show that of the longer scripts; no step is made. Refused, nothing changed
+//! - `Parts::offer`: the packet that a device is to answer next at an endpoint, by the world, and whether it is asked;
+//!   None just where a Serve would be idle
 //! - `Parts::deliver_at`: as `deliver`, and the endpoint of the world's oldest event
 //! - `Parts::drain`: so many events and orders as there are until a result waits, an event before an order: as many steps
 //!   of the core, one behind another, as `drained_steps` says of the world

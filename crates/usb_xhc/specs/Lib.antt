@@ -10,4 +10,3 @@ pub mod Made
 pub mod Controller
 pub mod Skims
 pub mod Feeds
-pub mod Offers

@@ -40,6 +40,10 @@ asks s ep = not s.gone && is_some (option_and_then working (context_of s ep))
 abbrev pub sends : DeviceSlot → ℕ → List ℕ → Option (List ℕ)
 sends s ep bytes = option_and_then (λ c. option_map (λ f. packet_out c f.trb bytes) (working c)) (context_of s ep)
 
+-- the bytes that the next packet may have; None where there is nothing to serve
+abbrev pub room_ahead : DeviceSlot → ℕ → Option ℕ
+room_ahead s ep = option_and_then (λ c. option_map (λ f. packet_room c) (working c)) (context_of s ep)
+
 -- the slot behind one packet, where this was sent
 abbrev pub slot_after : DeviceSlot → ℕ → Option (List ℕ) → DeviceSlot
 slot_after s ep out = record s {

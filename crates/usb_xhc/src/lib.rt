@@ -8,7 +8,7 @@
 //! # Files
 //!
 //! - `controller.rt`: `Controller`: new, add, slot, into_slots; serve_in, serve_out, skim_in, skim_out; order,
-//!   run_command, take_event; ring_doorbell, renew, renew_all, push, blank, drop_front, clear_halt, unplug;
+//!   run_command, take_event; feed; ring_doorbell, renew, renew_all, push, blank, drop_front, clear_halt, unplug;
 //!   orders_waiting, events_waiting, command_ring, event_ring
 //! - `slot.rt`: `DeviceSlot`: a device, whether it is gone, and its endpoints by their ids; the calls above at one
 //!   device, and context, ready, taken, answers_left, is_halted
@@ -56,6 +56,9 @@
 //! - `Controller::new`, `add`: empty rings at their addresses; one slot more, with a ring for each bulk or interrupt
 //!   endpoint; the device comes back, and nothing changed, where there are four or memory is refused
 //! - `orders_waiting`, `events_waiting`: how many TRBs wait in the two rings
+//! - `feed`: one more answer behind a device's script, and nothing else; refused, nothing changed
+//! - `DeviceSlot::packet_room`, `next_packet`: how many bytes the packet may have that is next, and its bytes, before the
+//!   device is asked; None just where there is nothing to serve
 //! - `slot`, `into_slots`; `DeviceSlot`: `context`, `ready`, `taken`, `is_gone`, `into_device`; `EndpointContext`:
 //!   `ring`, `state`, `slot`, `id`: what stands there
 //!

@@ -8,10 +8,9 @@ ghost use Rattle.usb_device.specs.Pipe.{IsLawful, pipe_at, cleared, is_ready};
 ghost use Rattle.usb_xhc.specs.Feeds.{slot_fed};
 ghost use Rattle.usb_xhc.specs.Ahead.{room};
 ghost use Rattle.usb_xhc.specs.Context.{trbs};
-ghost use Rattle.usb_xhc.specs.Offers.{next_packet, next_room};
 ghost use Rattle.usb_xhc.specs.Skims.{AreWhole, read_skimmed, slot_skimmed};
 ghost use Rattle.usb_xhc.specs.Transaction.{offset_by, packet_room, working};
-ghost use Rattle.usb_xhc.specs.Slots.{context_of, serving, sends, slot_after, events_after, read_after, changed, order_code, order_events, renewed, slot_renewed};
+ghost use Rattle.usb_xhc.specs.Slots.{context_of, room_ahead, serving, sends, slot_after, events_after, read_after, changed, order_code, order_events, renewed, slot_renewed};
 ghost use Rattle.usb_xhc.specs.Made.{slot_for};
 ghost use Rattle.std.specs.Option.{option_copied};
 ghost use Rattle.usb_tring.specs.Line.{capacity, normals, used};
@@ -227,7 +226,7 @@ impl<D: Device> DeviceSlot<D> {
 
     /// How many bytes the packet may have that is next at an endpoint, below 65,536; None where there is nothing to serve.
     pub fn packet_room(&self, ep: EpAddr) -> Option<usize>
-        ensures value { result ≡ next_room self.now ep }
+        ensures value { result ≡ room_ahead self.now ep }
         ensures below { IfSome result (λ room. room < 65536) }
     {
         let context = self.context(ep)?;
@@ -238,7 +237,7 @@ impl<D: Device> DeviceSlot<D> {
     /// The packet that is next at an endpoint, of these bytes of the transfer; None where there is nothing to serve.
     pub fn next_packet<'a>(&self, ep: EpAddr, bytes: &'a [u8]) -> Option<&'a [u8]>
         requires { IfSome (context_of self.now ep) (λ c. IfSome (working c) (λ f. offset_by f.trb c.within + packet_room c ≤ length bytes.now)) }
-        ensures { option_copied result ≡ next_packet self.now ep bytes.now }
+        ensures { option_copied result ≡ sends self.now ep bytes.now }
     {
         let context = self.context(ep)?;
         let first = context.working()?;

@@ -1,7 +1,7 @@
 -- What one handle alone says.
 use Rattle.std.proofs.Common.{refl}
 use Rattle.proof_rows.specs.Rows.{PrintsAlone}
-use Rattle.proof_rows.specs.Rows.Alone.{stall_beside_cancel_alone_1, stall_beside_cancel_alone_2, interface_changes_hands_alone_2, two_handles_two_rules_alone_1, two_handles_two_rules_alone_2, unplug_amid_transfers_alone_2}
+use Rattle.proof_rows.specs.Rows.Alone.{stall_beside_cancel_alone_1, stall_beside_cancel_alone_2, interface_changes_hands_alone_2, two_handles_two_rules_alone_1, two_handles_two_rules_alone_2, unplug_amid_transfers_alone_2, fed_answers_alone}
 use Rattle.proof_rows.proofs.Computed.{computed}
 
 pub stall_beside_cancel_alone_1_holds : PrintsAlone stall_beside_cancel_alone_1 1
@@ -27,3 +27,7 @@ two_handles_two_rules_alone_2_holds = record { amid = refl; by_itself = refl }
 pub unplug_amid_transfers_alone_2_holds : PrintsAlone unplug_amid_transfers_alone_2 2
 unfolding computed
 unplug_amid_transfers_alone_2_holds = record { amid = refl; by_itself = refl }
+
+pub fed_answers_alone_holds : PrintsAlone fed_answers_alone 2
+unfolding computed
+fed_answers_alone_holds = record { amid = refl; by_itself = refl }

@@ -12,9 +12,9 @@ abbrev pub stall_beside_cancel_alone_1 : Row
 stall_beside_cancel_alone_1 = record {
   setup = example (Stall ∷ []) [] (Data (170 ∷ []) ∷ []);
   plan =
-      Do (Open 1 0) ∷ Do (Open 2 0) ∷ Do (Claim 1 0) ∷ Do (Claim 2 1) ∷ Do (Submit 1 (bulk 0x81 (In 8))) ∷
-      Do (Submit 2 (interrupt 0x83 (In 8))) ∷ Do (Serve 0 0x81) ∷ Do (Serve 0 0x83) ∷ Do Deliver ∷ Do (Cancel 2 0) ∷ Do Command ∷ Do Deliver ∷
-      Do Deliver ∷ Do Command ∷ Do Take ∷ Do Deliver ∷ Do Take ∷ Do Command ∷ Do Deliver ∷ [];
+      Do (Open 1 0) ∷ Do (Open 2 0) ∷ Do (Claim 1 0) ∷ Do (Claim 2 1) ∷ Do (Submit 1 (bulk 0x81 (In 8))) ∷ Do (Submit 2 (interrupt 0x83 (In 8))) ∷
+      Do (Serve 0 0x81) ∷ Do (Serve 0 0x83) ∷ Do Deliver ∷ Do (Cancel 2 0) ∷ Do Command ∷ Do Deliver ∷ Do Deliver ∷ Do Command ∷ Do Take ∷
+      Do Deliver ∷ Do Take ∷ Do Command ∷ Do Deliver ∷ [];
   rules = [];
   lines =
       codes "h1 done" ∷ codes "h1 done" ∷ codes "h1 number 0" ∷ codes "h1 ended 0 code 6" ∷ codes "h1 finished 0" ∷ codes "h1 ran reset 81 ok" ∷
@@ -27,9 +27,9 @@ abbrev pub stall_beside_cancel_alone_2 : Row
 stall_beside_cancel_alone_2 = record {
   setup = example (Stall ∷ []) [] (Data (170 ∷ []) ∷ []);
   plan =
-      Do (Open 1 0) ∷ Do (Open 2 0) ∷ Do (Claim 1 0) ∷ Do (Claim 2 1) ∷ Do (Submit 1 (bulk 0x81 (In 8))) ∷
-      Do (Submit 2 (interrupt 0x83 (In 8))) ∷ Do (Serve 0 0x81) ∷ Do (Serve 0 0x83) ∷ Do Deliver ∷ Do (Cancel 2 0) ∷ Do Command ∷ Do Deliver ∷
-      Do Deliver ∷ Do Command ∷ Do Take ∷ Do Deliver ∷ Do Take ∷ Do Command ∷ Do Deliver ∷ [];
+      Do (Open 1 0) ∷ Do (Open 2 0) ∷ Do (Claim 1 0) ∷ Do (Claim 2 1) ∷ Do (Submit 1 (bulk 0x81 (In 8))) ∷ Do (Submit 2 (interrupt 0x83 (In 8))) ∷
+      Do (Serve 0 0x81) ∷ Do (Serve 0 0x83) ∷ Do Deliver ∷ Do (Cancel 2 0) ∷ Do Command ∷ Do Deliver ∷ Do Deliver ∷ Do Command ∷ Do Take ∷
+      Do Deliver ∷ Do Take ∷ Do Command ∷ Do Deliver ∷ [];
   rules = [];
   lines =
       codes "h2 done" ∷ codes "h2 done" ∷ codes "h2 number 0" ∷ codes "h2 ended 0 code 13" ∷ codes "h2 done" ∷ codes "h2 finished 0" ∷
@@ -55,9 +55,9 @@ abbrev pub two_handles_two_rules_alone_1 : Row
 two_handles_two_rules_alone_1 = record {
   setup = example (Data (10 ∷ []) ∷ Data (11 ∷ []) ∷ []) [] (Data (170 ∷ []) ∷ Data (187 ∷ []) ∷ []);
   plan =
-      Do (Open 1 0) ∷ Do (Open 2 0) ∷ Do (Claim 1 0) ∷ Do (Claim 2 1) ∷ Do (Submit 1 (bulk 0x81 (In 1))) ∷
-      Do (Submit 2 (interrupt 0x83 (In 1))) ∷ Do (Serve 0 0x83) ∷ Do (Serve 0 0x81) ∷ Do Deliver ∷ Do Deliver ∷ Do Take ∷ Do Take ∷ Return 1 0 ∷
-      Return 2 0 ∷ Do (Serve 0 0x81) ∷ Do (Serve 0 0x83) ∷ Do Deliver ∷ Do Deliver ∷ Do Take ∷ Do Take ∷ Return 2 1 ∷ Return 1 1 ∷ [];
+      Do (Open 1 0) ∷ Do (Open 2 0) ∷ Do (Claim 1 0) ∷ Do (Claim 2 1) ∷ Do (Submit 1 (bulk 0x81 (In 1))) ∷ Do (Submit 2 (interrupt 0x83 (In 1))) ∷
+      Do (Serve 0 0x83) ∷ Do (Serve 0 0x81) ∷ Do Deliver ∷ Do Deliver ∷ Do Take ∷ Do Take ∷ Return 1 0 ∷ Return 2 0 ∷ Do (Serve 0 0x81) ∷
+      Do (Serve 0 0x83) ∷ Do Deliver ∷ Do Deliver ∷ Do Take ∷ Do Take ∷ Return 2 1 ∷ Return 1 1 ∷ [];
   rules = Again (record { 0 = 1 }) 1 ∷ Again (record { 0 = 1 }) 1 ∷ [];
   lines =
       codes "h1 done" ∷ codes "h1 done" ∷ codes "h1 number 0" ∷ codes "h1 ended 0 code 1" ∷ codes "h1 finished 0" ∷
@@ -70,9 +70,9 @@ abbrev pub two_handles_two_rules_alone_2 : Row
 two_handles_two_rules_alone_2 = record {
   setup = example (Data (10 ∷ []) ∷ Data (11 ∷ []) ∷ []) [] (Data (170 ∷ []) ∷ Data (187 ∷ []) ∷ []);
   plan =
-      Do (Open 1 0) ∷ Do (Open 2 0) ∷ Do (Claim 1 0) ∷ Do (Claim 2 1) ∷ Do (Submit 1 (bulk 0x81 (In 1))) ∷
-      Do (Submit 2 (interrupt 0x83 (In 1))) ∷ Do (Serve 0 0x83) ∷ Do (Serve 0 0x81) ∷ Do Deliver ∷ Do Deliver ∷ Do Take ∷ Do Take ∷ Return 1 0 ∷
-      Return 2 0 ∷ Do (Serve 0 0x81) ∷ Do (Serve 0 0x83) ∷ Do Deliver ∷ Do Deliver ∷ Do Take ∷ Do Take ∷ Return 2 1 ∷ Return 1 1 ∷ [];
+      Do (Open 1 0) ∷ Do (Open 2 0) ∷ Do (Claim 1 0) ∷ Do (Claim 2 1) ∷ Do (Submit 1 (bulk 0x81 (In 1))) ∷ Do (Submit 2 (interrupt 0x83 (In 1))) ∷
+      Do (Serve 0 0x83) ∷ Do (Serve 0 0x81) ∷ Do Deliver ∷ Do Deliver ∷ Do Take ∷ Do Take ∷ Return 1 0 ∷ Return 2 0 ∷ Do (Serve 0 0x81) ∷
+      Do (Serve 0 0x83) ∷ Do Deliver ∷ Do Deliver ∷ Do Take ∷ Do Take ∷ Return 2 1 ∷ Return 1 1 ∷ [];
   rules = Again (record { 0 = 1 }) 1 ∷ Again (record { 0 = 1 }) 1 ∷ [];
   lines =
       codes "h2 done" ∷ codes "h2 done" ∷ codes "h2 number 0" ∷ codes "h2 ended 0 code 1" ∷ codes "h2 finished 0" ∷
@@ -92,4 +92,17 @@ unplug_amid_transfers_alone_2 = record {
   lines =
       codes "h2 done" ∷ codes "h2 done" ∷ codes "h2 number 0" ∷ codes "- done" ∷ codes "- refused 2" ∷ codes "h2 ended 0 code 4" ∷
       codes "h2 finished 0" ∷ codes "h2 called 0 ep 83 round 0 NO_DEVICE 0 data -" ∷ [];
+}
+
+-- Who reads what is fed to another endpoint of the device meanwhile, alone.
+abbrev pub fed_answers_alone : Row
+fed_answers_alone = record {
+  setup = example (Data (170 ∷ []) ∷ []) [] (Data (187 ∷ []) ∷ []);
+  plan =
+      Do (Open 1 0) ∷ Do (Open 2 0) ∷ Do (Claim 1 0) ∷ Do (Claim 2 1) ∷ Do (Submit 1 (bulk 0x81 (In 8))) ∷ Do (Submit 2 (interrupt 0x83 (In 8))) ∷
+      Do (Serve 0 0x83) ∷ Do (Serve 0 0x81) ∷ Do Deliver ∷ Do Deliver ∷ Do Take ∷ Do Take ∷ [];
+  rules = [];
+  lines =
+      codes "h2 done" ∷ codes "h2 done" ∷ codes "h2 number 0" ∷ codes "h2 ended 0 code 13" ∷ codes "h2 finished 0" ∷
+      codes "h2 called 0 ep 83 round 0 COMPLETED 1 data bb" ∷ [];
 }

@@ -1,4 +1,4 @@
-use Rattle.proof_rows.proofs.WorkedRows.Alone.{stall_beside_cancel_alone_1_holds, stall_beside_cancel_alone_2_holds, interface_changes_hands_alone_2_holds, two_handles_two_rules_alone_1_holds, two_handles_two_rules_alone_2_holds, unplug_amid_transfers_alone_2_holds}
+use Rattle.proof_rows.proofs.WorkedRows.Alone.{stall_beside_cancel_alone_1_holds, stall_beside_cancel_alone_2_holds, interface_changes_hands_alone_2_holds, two_handles_two_rules_alone_1_holds, two_handles_two_rules_alone_2_holds, unplug_amid_transfers_alone_2_holds, fed_answers_alone_holds}
 use Rattle.proof_rows.proofs.rows.alone.Goals as goal
 
 pub returns-clause-stall_beside_cancel_alone_1 : goal.returns-clause-stall_beside_cancel_alone_1
@@ -18,3 +18,6 @@ returns-clause-two_handles_two_rules_alone_2 c = two_handles_two_rules_alone_2_h
 
 pub returns-clause-unplug_amid_transfers_alone_2 : goal.returns-clause-unplug_amid_transfers_alone_2
 returns-clause-unplug_amid_transfers_alone_2 c = unplug_amid_transfers_alone_2_holds
+
+pub returns-clause-fed_answers_alone : goal.returns-clause-fed_answers_alone
+returns-clause-fed_answers_alone c = fed_answers_alone_holds

@@ -1,0 +1,1 @@
+run --packets --steps
