@@ -105,6 +105,12 @@ c-try:
 c-test: c c-usb
 	@tools/progress.py timed c-test -- tools/c_test.py
 
+# Devices in Python: their own tests, and the tests of c/example. What can't run here is skipped, and told.
+.PHONY: python-try
+python-try: c-try
+	@tools/device_test.py
+	@tools/python_test.py
+
 # gcc's analyzer and cppcheck over the C code; what they find is explained in c/findings.txt.
 .PHONY: c-lint
 c-lint:

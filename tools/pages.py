@@ -4,7 +4,7 @@
 README.md has at most 70 lines. Its first commands are `make run` and `make test`; its scenario is a file of scenarios/, which the gate
 tests; its devices, test in Python and output are those of c/example, which c_test runs; its lines of Rattle stand in crates/example_first.
 docs/SCENARIOS.md has in front of each picture the worked row of that picture, with what it prints. docs/DEVICES.md has the devices of
-c/example, docs/PYTHON.md its tests, docs/RATTLE.md the code of crates/example_first. docs/README.md lists each page of docs/.
+c/example, docs/PYTHON.md its tests and a device of python/devices, docs/RATTLE.md the code of crates/example_first. docs/README.md lists each page of docs/.
 docs/FROM_LIBUSB.md has a row for each function of c/include/libusb.h. Each link leads to a file and a heading; each page, call and file of
 code that is named is there."""
 import pathlib
@@ -104,11 +104,12 @@ def device_faults() -> Iterator[str]:
 
 def example_faults() -> Iterator[str]:
     """Tests in docs/PYTHON.md and code in docs/RATTLE.md that aren't those of the examples."""
-    tests = [[line for line in it.read_text().splitlines() if line] for it in EXAMPLE.rglob("test_*.py")]
+    sources = [*EXAMPLE.rglob("test_*.py"), *(ROOT / "python" / "devices").glob("*.py")]
+    tests = [[line for line in it.read_text().splitlines() if line] for it in sources]
     for block in blocks((DOCS / "PYTHON.md").read_text()):
         lines = [line for line in block if line]
-        if any(it.startswith("def test_") for it in lines) and not has_lines(tests, lines):
-            yield f"docs/PYTHON.md has a test that isn't one of c/example: {lines[0]}"
+        if any(it.startswith(("def test_", "class ")) for it in lines) and not has_lines(tests, lines):
+            yield f"docs/PYTHON.md has a test or a device that is none of c/example and python/devices: {lines[0]}"
     sources = [it.read_text() for it in DRIVER.parent.glob("*.rt")]
     for block in blocks((DOCS / "RATTLE.md").read_text()):
         if any(it.endswith(";") for it in block) and not any(stand_in_order(block, it) for it in sources):

@@ -44,6 +44,7 @@ def run(words: Sequence[object], folder: pathlib.Path) -> "subprocess.CompletedP
     """Runs a command in a folder, without what steers the library from outside."""
     environment = {key: value for key, value in os.environ.items() if not key.startswith(STEERING)}
     environment["PYTHONDONTWRITEBYTECODE"] = "1"
+    environment["PYTHONPATH"] = os.pathsep.join(filter(None, [str(ROOT / "python"), os.environ.get("PYTHONPATH", "")]))
     done = [str(word) for word in words]
     return subprocess.run(done, cwd=folder, env=environment, capture_output=True, text=True, timeout=SECONDS, check=False)
 

@@ -1,6 +1,7 @@
-"""Scripted devices for pyusb, usb1 and hid in tests by pytest: copy this file beside your tests.
+"""Scripted devices for pyusb, usb1 and hid in tests by pytest, and devices in Python: copy this file beside your tests.
 
-TIRNOUCH_LIBRARY names the library; without it bin/libusb-1.0.so.0 of this repository is taken."""
+TIRNOUCH_LIBRARY names the library; without it bin/libusb-1.0.so.0 of this repository is taken. Devices in Python need the package
+tirnouch, in the folder python of this repository: PYTHONPATH names that."""
 import ctypes
 import ctypes.util
 import gc
@@ -9,7 +10,7 @@ import importlib.util
 import os
 import pathlib
 import sys
-from typing import Iterator
+from typing import Any, Iterator
 
 import pytest
 
@@ -31,18 +32,35 @@ class Bus:
 
     def __init__(self, folder: pathlib.Path, monkeypatch: pytest.MonkeyPatch) -> None:
         self.folder, self.monkeypatch = folder, monkeypatch
+        self.plugged: Any = None
         self.plug("")
 
     def plug(self, text: str, seed: int = 0, virtual: bool = False) -> None:
         """The devices of this text, from the next context on. `seed` makes single steps by dice; 0 is none. With `virtual` a timeout
         passes at once where nothing else is to be done."""
-        close_contexts()
-        devices = self.folder / "devices.txt"
-        devices.write_text(text)
-        settings = {"DEVICES": str(devices), "TRACE": str(self.folder / "trace"), "SEED": str(seed), "TIME": "virtual" if virtual else ""}
-        for name, value in settings.items():
+        self.begin(seed, virtual)
+        data = text.encode("ascii")
+        if TIRNOUCH.tirnouch_plug(data, ctypes.c_size_t(len(data))):
+            raise RuntimeError("a context of libusb is open: those of usb1 are the test's own")
+
+    def plug_devices(self, *devices: Any, seed: int = 0, virtual: bool = False) -> None:
+        """These devices, objects of classes of tirnouch.Device, from the next context on."""
+        self.begin(seed, virtual)
+        self.plugged = importlib.import_module("tirnouch").plug(*devices, library=str(LIBRARY))
+
+    def begin(self, seed: int, virtual: bool) -> None:
+        """No context is open any more, no device is plugged in, and the next run is steered so."""
+        self.end()
+        for name, value in {"TRACE": str(self.folder / "trace"), "SEED": str(seed), "TIME": "virtual" if virtual else ""}.items():
             self.monkeypatch.setenv(f"TIRNOUCH_{name}", value)
         self.monkeypatch.setenv("LIBUSB_DEBUG", "2")
+
+    def end(self) -> None:
+        """No context is open, and no device is called."""
+        close_contexts()
+        if self.plugged:
+            self.plugged.close()
+        self.plugged = None
 
     def plug_example(self, name: str) -> None:
         """The devices of a file of c/example/devices."""
@@ -81,7 +99,8 @@ def close_contexts() -> None:
 @pytest.fixture
 def bus(tmp_path: pathlib.Path, monkeypatch: pytest.MonkeyPatch) -> Iterator[Bus]:
     """A bus without devices, until `plug`. Its steps are traced: pytest prints the file's name where the test fails."""
-    yield Bus(tmp_path, monkeypatch)
-    close_contexts()
+    it = Bus(tmp_path, monkeypatch)
+    yield it
+    it.end()
     for trace in tmp_path.glob("trace*"):
         print(f"trace: {trace}")

@@ -1,0 +1,122 @@
+#!/usr/bin/env python3
+"""A key that answers challenges, as ykinfo and ykchalresp ask a YubiKey: a HID keyboard with a feature report of 8 bytes.
+
+    yubikey.py [SERIAL [KEY]]    its serial number, and the 20 bytes of slot 2 in hexadecimal digits, which answer by HMAC with SHA-1
+
+What is written and read is by Yubico's library ykpers (ykcore.c, ykdef.h): a frame of 70 bytes in pieces of 7, each with its number behind
+it. Slot 1 is empty."""
+from __future__ import annotations
+
+import hashlib
+import hmac
+import struct
+from typing import Callable, Dict, List
+
+from tirnouch import Device, Interface, Request, control, hid_descriptor, interrupt_in, main
+
+# HID 1.11, appendix E.6, with a feature report in front of its end: 8 bytes
+REPORT = bytes.fromhex("05010906a101050719e029e71500250175019508810295017508810195057501050819012905910295017503910195067508150025650507"
+                       "1900296581000903750895 08b102c0")
+GET_REPORT, SET_REPORT, FEATURE = 0x01, 0x09, 0x0300
+SIZE, PIECE, PAYLOAD = 8, 7, 64
+# A frame: payload, slot, check sum, filler.
+FRAME = struct.Struct("<64sBH3x")
+LAST = FRAME.size // PIECE - 1
+# The last byte of a report has a piece's number, and says that the host writes it, or that it is one of an answer.
+WRITTEN, PENDING = 0x80, 0x40
+SERIAL, CHALLENGE_2 = 0x10, 0x38
+VERSION, SEQUENCE, SLOT_2_VALID = (4, 3, 1), 1, 0x02
+# RFC 2202, test case 1 of HMAC with SHA-1.
+KEY = "0b" * 20
+
+
+def check_sum(data: bytes) -> int:
+    """CRC-16 of ISO/IEC 13239, without its last complement."""
+    value = 0xFFFF
+    for byte in data:
+        value ^= byte
+        for _ in range(8):
+            value = value >> 1 ^ (0x8408 if value & 1 else 0)
+    return value
+
+
+class Yubikey(Device):
+    """The key. It types nothing by itself."""
+
+    vendor, product, release = 0x1050, 0x0010, 0x0431
+    interfaces = (Interface(0x03, 1, 1, "", hid_descriptor(REPORT)),)
+    strings = ("Works", "Key that answers")
+    speed = "full"
+    keys = interrupt_in(0x81, 8, 10)
+
+    def __init__(self, serial: str = "1234567", key: str = KEY) -> None:
+        self.serial, self.key = int(serial), bytes.fromhex(key)
+        self.commands: Dict[int, Callable[[bytes], bytes]] = {SERIAL: self.tell_serial, CHALLENGE_2: self.answer_challenge}
+        self.renew()
+
+    def renew(self) -> None:
+        """Nothing is written, and no answer is there."""
+        self.frame = bytearray(FRAME.size)
+        self.pieces: List[bytes] = []
+
+    def on_reset(self) -> None:
+        self.renew()
+
+    def on_plugged(self) -> None:
+        self.renew()
+
+    @control(0x81, 0x06, 0x2200, 0)
+    def report_descriptor(self, _request: Request) -> bytes:
+        """GET_DESCRIPTOR of the report descriptor (HID 1.11, 7.1.1)."""
+        return REPORT
+
+    @control(0x21, 0x0A)
+    def set_idle(self, _request: Request) -> None:
+        """SET_IDLE (HID 1.11, 7.2.4)."""
+
+    @control(0xA1, GET_REPORT, FEATURE, 0)
+    def get_report(self, _request: Request) -> bytes:
+        """A piece of an answer with its number; else the status: version, sequence, which slots are in use (HID 1.11, 7.2.1)."""
+        if self.pieces:
+            return self.pieces.pop(0)
+        return bytes((0, *VERSION, SEQUENCE, SLOT_2_VALID, 0, 0))
+
+    @control(0x21, SET_REPORT, FEATURE, 0)
+    def set_report(self, request: Request) -> None:
+        """A piece of a frame; pieces of zeros needn't be written, and the last one ends it (HID 1.11, 7.2.2). A number behind the last
+        piece's ends what is written or read: 8F is written for that."""
+        if len(request.data) != SIZE or not request.data[-1] & WRITTEN:
+            return
+        number = request.data[-1] & ~WRITTEN
+        if number == 0 or number > LAST:
+            self.renew()
+        if number <= LAST:
+            self.frame[PIECE * number : PIECE * (number + 1)] = request.data[:PIECE]
+        if number == LAST:
+            self.command(bytes(self.frame))
+
+    def command(self, frame: bytes) -> None:
+        """A whole frame; one with a wrong check sum, or for a slot that isn't here, gets no answer."""
+        self.renew()
+        payload, slot, found = FRAME.unpack(frame)
+        if found == check_sum(payload) and slot in self.commands:
+            self.pieces = in_pieces(self.commands[slot](payload))
+
+    def tell_serial(self, _payload: bytes) -> bytes:
+        """The serial number, the highest byte first."""
+        return self.serial.to_bytes(4, "big")
+
+    def answer_challenge(self, payload: bytes) -> bytes:
+        """HMAC with SHA-1 of a challenge, which ends before the bytes that are like its last one."""
+        return hmac.new(self.key, payload.rstrip(payload[-1:]), hashlib.sha1).digest()
+
+
+def in_pieces(answer: bytes) -> List[bytes]:
+    """An answer with its check sum, as reports: each has its number, and the one behind the last has number 0 again."""
+    whole = answer + (check_sum(answer) ^ 0xFFFF).to_bytes(2, "little")
+    pieces = [whole[at : at + PIECE].ljust(PIECE, b"\0") for at in range(0, len(whole), PIECE)]
+    return [*(piece + bytes((PENDING | number,)) for number, piece in enumerate(pieces)), bytes(PIECE) + bytes((PENDING,))]
+
+
+if __name__ == "__main__":
+    main(Yubikey)
