@@ -25,18 +25,56 @@ pub struct Driver {
     dev: DeviceNo,
 }
 
+/// The device opened, and its interface claimed. Like the other calls here it promises nothing: what a call promises stands before each
+/// goal behind it, and a driver needs no more of them than that they are safe.
+fn opened(alloc: Global, h: Name, dev: DeviceNo) -> Result<Core<(), TableDevice>> {
+    let mut core = Core::new(alloc, devices(alloc, 1, 64, &[])?)?;
+    let _opened = core.call(Step::Open { h, dev });
+    let _claimed = core.call(Step::Claim { h, i: 0 });
+    Ok(core)
+}
+
+/// A transfer is submitted.
+fn submit(core: &mut Core<(), TableDevice>, h: Name, ep: EpAddr, body: Body) -> Result<()> {
+    let request = Request {
+        ep,
+        kind: Kind::Bulk,
+        flags: Flags::empty(),
+        timeout: 0,
+        body,
+    };
+    match core.submit(h, request, ()) {
+        Ok(_) => Ok(()),
+        Err(_) => Err(anyhow!("the transfer is refused")),
+    }
+}
+
+/// The device answers one packet.
+fn serve(
+    core: &mut Core<(), TableDevice>,
+    flash: &mut Flash,
+    dev: DeviceNo,
+    ep: EpAddr,
+) -> Result<()> {
+    let _entry = ask(core, flash, dev, ep)?;
+    Ok(())
+}
+
+/// Events are handled: what was called back, if anything was.
+fn called_back(core: &mut Core<(), TableDevice>) -> Option<Returned> {
+    let _steps = core.drain(PATIENCE);
+    Some(core.take_done()?.returned)
+}
+
 impl Driver {
     /// Opens the memory and claims its interface.
     pub fn new(alloc: Global) -> Result<Driver> {
         let (Some(h), Some(dev)) = (Name::new(1), DeviceNo::new(0)) else {
             return Err(anyhow!("there is no such handle, or no such device"));
         };
-        let mut core = Core::new(alloc, devices(alloc, 1, 64, &[])?)?;
-        let _opened = core.call(Step::Open { h, dev });
-        let _claimed = core.call(Step::Claim { h, i: 0 });
         Ok(Driver {
             alloc,
-            core,
+            core: opened(alloc, h, dev)?,
             flash: Flash::new(alloc)?,
             h,
             dev,
@@ -45,21 +83,11 @@ impl Driver {
 
     /// A transfer, until its callback.
     fn transfer(&mut self, ep: EpAddr, body: Body) -> Result<Returned> {
-        let request = Request {
-            ep,
-            kind: Kind::Bulk,
-            flags: Flags::empty(),
-            timeout: 0,
-            body,
-        };
-        let Ok(_n) = self.core.submit(self.h, request, ()) else {
-            return Err(anyhow!("the transfer is refused"));
-        };
+        submit(&mut self.core, self.h, ep, body)?;
         for _ in 0..PATIENCE {
-            let _entry = ask(&mut self.core, &mut self.flash, self.dev, ep)?;
-            let _steps = self.core.drain(PATIENCE);
-            if let Some(taken) = self.core.take_done() {
-                return Ok(taken.returned);
+            serve(&mut self.core, &mut self.flash, self.dev, ep)?;
+            if let Some(returned) = called_back(&mut self.core) {
+                return Ok(returned);
             }
         }
         Err(anyhow!("the transfer doesn't end"))
