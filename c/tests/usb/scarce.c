@@ -1,6 +1,7 @@
-/* As memory.c, with devices that compute their answers: each allocation of a run is refused, one in each run, alone and with all behind it that
- * the same call makes. A call answers LIBUSB_ERROR_NO_MEM, or a device whose answer can't be kept is pulled out, and comes back; then the run
- * goes on, with nothing wrong. Nothing is traced: each run has a bus, and files, of its own. Linked with -Wl,--wrap=malloc,--wrap=calloc,--wrap=realloc. */
+/* As memory.c, with devices that compute their answers: each allocation of a run is refused, one in each run, alone and with all behind it
+ * that the same call makes. A call answers LIBUSB_ERROR_NO_MEM, or a device whose answer can't be kept is pulled out, and comes back; then
+ * the run goes on, with nothing wrong. Nothing is traced: each run has a bus, and files, of its own. Linked with
+ * -Wl,--wrap=malloc,--wrap=calloc,--wrap=realloc. */
 #include "libusb.h"
 #include "tirnouch.h"
 
