@@ -87,7 +87,7 @@ def programs_are_refused(trial: Trial) -> None:
     told = trial.run([str(devices), "--no-programs", "--", "sh", "-c", "echo $TIRNOUCH_PROGRAMS"])
     trial.check(told.stdout == "no\n", f"the program's environment has {told.stdout!r}")
     ran = trial.run([str(devices), "--no-programs", "--", str(trial.program), "ends"])
-    trial.expect(ran, 1, f'{devices}, line 1, "program 0 true": no program is started', "--no-programs")
+    trial.expect(ran, 10, f'{devices}, line 1, "program 0 true": no program is started', "--no-programs")
     ran = trial.run([str(devices), "--no-programs", "--seeds", "1-1", "--", str(trial.program), "ends"])
     trial.expect(ran, 1, f"--seed 1 --no-programs -- {trial.program} ends")
     for it in trial.files():

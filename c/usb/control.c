@@ -139,8 +139,8 @@ static void trace_request(const struct device *device, const uint8_t *setup, int
         trace_comment(device->core, "request %d %02x %02x %04x %04x %u %s", device->number, setup[0], setup[1], two_bytes(setup + 2),
                       two_bytes(setup + 4), two_bytes(setup + 6), answer == TIRNOUCH_STALL ? "STALL" : "ERROR");
     else
-        trace_comment(device->core, "request %d %02x %02x %04x %04x %u COMPLETED %d %s%s", device->number, setup[0], setup[1], two_bytes(setup + 2),
-                      two_bytes(setup + 4), two_bytes(setup + 6), answer, bytes, answer > MOST_SHOWN ? ".." : "");
+        trace_comment(device->core, "request %d %02x %02x %04x %04x %u COMPLETED %d %s%s", device->number, setup[0], setup[1],
+                      two_bytes(setup + 2), two_bytes(setup + 4), two_bytes(setup + 6), answer, bytes, answer > MOST_SHOWN ? ".." : "");
 }
 
 static void end_request(struct transfer *transfer, int answer)

@@ -74,8 +74,9 @@ static uint8_t kind_of(const struct pipe *pipe, int answer)
         return A_TAKEN;
     if (answer >= 0 && answer <= MOST_PACKET)
         return A_PACKET;
-    fprintf(stderr, "libusb: error device %d: its function of endpoint %02x answered %d, which is no answer to a packet: a broken transaction\n",
+    fprintf(stderr, "libusb: error device %d: its function for endpoint %02x answered %d, which is no answer to a packet: ",
             pipe->device->number, pipe->ep, answer);
+    fputs("a broken transaction\n", stderr);
     return A_BROKEN;
 }
 

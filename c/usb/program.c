@@ -103,7 +103,8 @@ static int start(struct program *it, const char *command, const char *folder)
 static void lose(struct device *device, const char *why)
 {
     struct program *it = device->program;
-    fprintf(stderr, "libusb: error device %d: its program %s%s\n", device->number, why, it->is_met ? ": it is pulled out" : " before it said ok");
+    const char *then = it->is_met ? ": it is pulled out" : " before it said ok";
+    fprintf(stderr, "libusb: error device %d: its program %s%s\n", device->number, why, then);
     trace_comment(device->core, "device %d: its program %s", device->number, why);
     close(it->socket);
     it->socket = -1;

@@ -1,5 +1,5 @@
-/* Devices that are programs (`program` in a text): one that is well, and those that end, are slow, or answer what means nothing. What a program
- * does wrong costs its own device alone, and never hangs the driver. The expected lines are written from docs/DEVICES.md. */
+/* Devices that are programs (`program` in a text): some that are well, and those that end, are slow, or answer what means nothing. What a
+ * program does wrong costs its own device alone, and never hangs the driver. The expected lines are written from docs/DEVICES.md. */
 #include "scene.h"
 
 #include <stdio.h>

@@ -1,6 +1,6 @@
-/* Devices that compute their answers, under threads: two contexts with a thread each that handles events, drivers that read and write, handles
+/* Devices that compute their answers, under threads: two contexts, whose events three threads handle, drivers that read and write, handles
  * that are closed while a function is asked, and a device that is pulled out and plugged in again all the while. What each call answers is
- * one of what it may; the bytes that come are those that were given, in order. Its word is the seed of the dice. */
+ * one of what it may; the bytes that come are those that were given, in order. */
 #include "scene.h"
 
 #include <pthread.h>

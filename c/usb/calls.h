@@ -1,0 +1,143 @@
+/* What each file of this folder gives to the others; living.h has those of devices that compute. bus.h includes this file. */
+#ifndef CALLS_H
+#define CALLS_H
+
+#include "bus.h"
+
+/* bus.c: the bus begins with the first context and ends with the last. */
+int bus_begin(void);
+void bus_end(void);
+
+/* learn.c: what a device's lines and descriptors say */
+int learn(struct device *device);
+void watch(struct device *device);
+void forget(struct device *device);
+bool is_present(const struct device *device);
+bool is_lost(const struct libusb_device_handle *handle);
+
+/* hub.c */
+int learn_hub(struct device *device);
+
+/* log.c */
+void note(struct libusb_context *context, enum libusb_log_level level, const char *format, ...) __attribute__((format(printf, 3, 4)));
+void note_call(struct libusb_context *context, int answer, const char *function, const char *format, ...)
+    __attribute__((format(printf, 4, 5)));
+void watch_for(int level);
+
+/* why.c: why a transfer doesn't end */
+void tell_why(struct transfer *transfer, const char *what, bool always);
+void tell_all_why(struct libusb_context *context, const char *what);
+void write_all_why(int file);
+
+/* limit.c: TIRNOUCH_LIMIT */
+void begin_limit(void);
+
+/* context.c */
+struct libusb_context *usual_context(void);
+void release_context(struct libusb_context *context);
+
+/* core.c: the core's calls, each of which the trace has. A negative answer is libusb's. */
+_Noreturn void end_for_memory(void);
+int core_call(struct core *core, enum tirnouch_verb verb, int name, uint8_t a, uint64_t n);
+void trace_submission(struct transfer *transfer, int length, uint8_t flags, int answer);
+struct rest core_rest(const struct pipe *pipe);
+bool core_serves(const struct pipe *pipe);
+bool core_serve(struct pipe *pipe, uint32_t most, struct tirnouch_told *told);
+bool core_settle_in(struct core *core, uint32_t most);
+bool core_settle(uint32_t most);
+struct transfer *core_take(struct core *core, struct tirnouch_told *told);
+void trace_feed(const struct pipe *pipe, uint8_t kind, const uint8_t *bytes, int count);
+
+/* claims.c */
+int claim(struct libusb_device_handle *handle, int interface);
+int claim_unasked(struct libusb_device_handle *handle, int interface);
+void unclaim(struct libusb_device_handle *handle, int interface);
+int name_interface(struct device *device, int interface, int name);
+int make_new(struct device *device, int interface);
+void give_back(struct device *device);
+
+/* gates.c: answers that wait for what is to happen elsewhere */
+int learn_gates(struct device *device);
+const struct gate *gate_before(struct pipe *pipe);
+uint64_t came_at(const struct device *device, uint8_t ep);
+
+/* lines.c: from the endpoints' queues into the core, and out of it */
+int submit_piece(struct transfer *transfer);
+void queue_up(struct transfer *transfer);
+bool feed(struct pipe *pipe);
+bool reap_one(void);
+bool reap(void);
+bool turn_only_one(void);
+void leave_amid(struct transfers *queue, struct transfer *transfer);
+void take_out(struct device *device);
+
+/* work.c: devices, controller and events */
+bool work_on(bool waits);
+bool serve(struct pipe *pipe, uint32_t most);
+bool feed_all(void);
+void settle_all(void);
+void reap_all(void);
+int pull_out(struct device *device);
+
+/* dice.c: the same by single steps, where a seed is given */
+bool work_by_dice(bool waits);
+void shake_by_dice(void);
+
+/* transfers.c */
+void end_transfer(struct transfer *transfer, enum libusb_transfer_status status, int moved);
+int cancel(struct transfer *transfer, enum ask ask);
+bool has_ended(const struct libusb_device_handle *handle);
+void withdraw(struct libusb_device_handle *handle, int interface, bool drops);
+
+/* living.c: when one of the devices that compute is to be asked again; 0 for never */
+uint64_t next_ask_of_all(void);
+
+/* control.c */
+int submit_control(struct transfer *transfer);
+bool answer_controls(void);
+void end_requests(const struct device *device);
+
+/* standard.c: standard requests that tell and change what is kept here */
+bool is_standard(struct device *device, const uint8_t *setup);
+int answer_standard(struct device *device, const uint8_t *setup, uint8_t *data);
+void carry_out_request(struct device *device, const uint8_t *setup);
+
+/* timeouts.c */
+uint64_t now(void);
+uint64_t end_of(const struct timeval *wait);
+struct timespec moment_behind(const struct timeval *wait);
+struct timespec moment_of(uint64_t nanoseconds);
+struct timespec moment_in(uint64_t nanoseconds);
+void expire(struct libusb_context *context);
+
+/* events.c */
+void ring(struct libusb_context *context);
+void drain(struct libusb_context *context);
+void wake_others(const struct libusb_context *context);
+void disturb(struct libusb_context *context);
+void tell_lockers(struct libusb_context *context);
+void wait_for_move(struct libusb_context *context);
+
+/* pollfds.c */
+void show_readiness(struct libusb_context *context);
+int poll_in_child(struct libusb_context *context);
+void end_polling(struct libusb_context *context);
+
+/* hotplug.c */
+void tell_all(struct device *device, libusb_hotplug_event event);
+bool call_hotplugs(struct libusb_context *context);
+void end_hotplugs(struct libusb_context *context);
+
+/* trace.c: words are put behind each other, and written out when a step is whole */
+bool trace_begin(struct core *core, const struct device *device);
+void trace_end(struct core *core);
+void trace_forget(void);
+void trace_to(struct core *core);
+void trace_devices(struct core *core, const char *text, size_t length);
+void trace_text(const char *text);
+void trace_number(uint64_t number);
+void trace_hex(const uint8_t *bytes, int count);
+void trace_comment(struct core *core, const char *format, ...) __attribute__((format(printf, 2, 3)));
+void trace_out(void);
+
+#endif
