@@ -29,6 +29,7 @@ FOLDERS = ["usr/lib/x86_64-linux-gnu", "lib/x86_64-linux-gnu", "usr/lib/aarch64-
 SECONDS = 40
 # Programs that try what libusb has no part in, or leaves undefined.
 LEFT_OUT = {
+    **{name: "its devices compute their answers" for name in ("living", "sessions", "endless", "programs", "inside", "together", "scarce")},
     "environment": "its variables are Tirnouch's",
     "fork": "libusb says nothing of a child of fork",
     "memory": "it refuses Tirnouch's own allocations",

@@ -19,11 +19,12 @@ ROOT = pathlib.Path(__file__).resolve().parent.parent
 TESTS = ROOT / "c" / "tests" / "usb"
 FUZZER = ROOT / "tools" / "fuzz"
 FLAGS = "-std=c11 -g -Wall -Wextra -pedantic -D_GNU_SOURCE".split() + ["-I", str(ROOT / "c" / "include")]
-MORE = {"memory": ["-Wl,--wrap=malloc,--wrap=calloc,--wrap=realloc"]}
+WRAPPED = ["-Wl,--wrap=malloc,--wrap=calloc,--wrap=realloc"]
+MORE = {"memory": WRAPPED, "scarce": WRAPPED}
 # A process that forks isn't looked at by the thread sanitizer; nor are allocations that are refused its own.
-LEFT_OUT = {"thread": {"fork", "memory"}}
+LEFT_OUT = {"thread": {"fork", "memory", "scarce"}}
 # Those that take no seed: they have dice of their own, refuse memory, or are long.
-UNSEEDED = ("memory", "races", "endless")
+UNSEEDED = ("memory", "scarce", "races", "endless")
 SECONDS = 240
 # What is tried besides: runs that hang, crash or fail with some seeds; what a trace has where a run ends; what long work says; and devices
 # and examples in Python.

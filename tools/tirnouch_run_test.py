@@ -78,7 +78,20 @@ def wrong_words_are_refused(trial: Trial) -> None:
 
 def help_names_every_word(trial: Trial) -> None:
     ran = trial.run(["--help"])
-    trial.expect(ran, 0, *"--trace --seed --virtual --limit --seeds --keep-going --jobs --version".split())
+    trial.expect(ran, 0, *"--trace --seed --virtual --no-programs --limit --seeds --keep-going --jobs --version".split())
+
+
+def programs_are_refused(trial: Trial) -> None:
+    devices = trial.folder / "program.txt"
+    devices.write_text("program 0 true\n")
+    told = trial.run([str(devices), "--no-programs", "--", "sh", "-c", "echo $TIRNOUCH_PROGRAMS"])
+    trial.check(told.stdout == "no\n", f"the program's environment has {told.stdout!r}")
+    ran = trial.run([str(devices), "--no-programs", "--", str(trial.program), "ends"])
+    trial.expect(ran, 1, f'{devices}, line 1, "program 0 true": no program is started', "--no-programs")
+    ran = trial.run([str(devices), "--no-programs", "--seeds", "1-1", "--", str(trial.program), "ends"])
+    trial.expect(ran, 1, f"--seed 1 --no-programs -- {trial.program} ends")
+    for it in trial.files():
+        (trial.folder / it).unlink()
 
 
 def the_version_is_told(trial: Trial) -> None:
@@ -241,7 +254,7 @@ def asked_to_end(trial: Trial) -> None:
 
 
 TRIALS = [
-    plain_runs_are_the_program, wrong_words_are_refused, help_names_every_word, the_version_is_told, a_limit_lets_a_program_end,
+    plain_runs_are_the_program, wrong_words_are_refused, help_names_every_word, programs_are_refused, the_version_is_told, a_limit_lets_a_program_end,
     over_limit("events"), over_limit("loop"), over_limit("before", "ended by SIGTERM", "there is no trace"), over_limit("deadlock"),
     over_limit("deaf"), a_limit_tells_the_last_steps, a_limit_ends_children_too, signals_are_passed_on, the_terminal_is_the_programs,
     seeds_stop_at_the_lowest, seeds_have_a_limit, seeds_tell_other_failures, asked_to_end,

@@ -63,9 +63,15 @@ int device_of_line(const struct line *line)
     return number_in(line, begins(line, "comes back ") ? 2 : 1);
 }
 
+static bool has_first_word(const struct line *line, const char *word)
+{
+    size_t count = strlen(word);
+    return line->length >= count && !memcmp(line->at, word, count) && (line->length == count || line->at[count] == ' ');
+}
+
 static bool is_for_here(const struct line *line)
 {
-    return begins(line, "program ") || begins(line, "comes ");
+    return has_first_word(line, "program") || has_first_word(line, "comes");
 }
 
 static bool refuse(const struct desk *desk, const struct line *line, int word, const char *why)
@@ -93,10 +99,10 @@ static bool read_program(struct desk *desk, const struct line *line)
     word_of(line->at, (int)line->length, 2, &length);
     if (!is_even(desk, line))
         return false;
-    if (device < 0)
-        return refuse(desk, line, 1, numbers);
     if (!length)
         return refuse(desk, line, -1, "the form is `program D COMMAND`");
+    if (device < 0)
+        return refuse(desk, line, 1, numbers);
     if (desk->is_own[device] && desk->commands[device].length)
         return refuse(desk, line, -1, "the device is a program already");
     desk->is_own[device] = true;
@@ -137,9 +143,9 @@ static bool read_own_lines(struct desk *desk)
     struct line line = { .number = 0 };
     size_t at = 0;
     while (next_line(desk->text, desk->length, &at, &line)) {
-        if (begins(&line, "program ") && !read_program(desk, &line))
+        if (has_first_word(&line, "program") && !read_program(desk, &line))
             return false;
-        if (begins(&line, "comes ") && !read_return(desk, &line))
+        if (has_first_word(&line, "comes") && !read_return(desk, &line))
             return false;
     }
     for (int i = 0; i < DEVICES; i++) {
@@ -178,7 +184,7 @@ static bool number_devices(struct desk *desk)
         bool describes = begins(&line, "device ");
         if (device < 0)
             continue;
-        if (!describes && !begins(&line, "program ")) {
+        if (!describes && !has_first_word(&line, "program")) {
             if (device >= desk->count && (desk->is_own[device] || is_for_here(&line)))
                 return refuse(desk, &line, -1, "no line before this one has the device");
             continue;
@@ -193,12 +199,11 @@ static bool number_devices(struct desk *desk)
 
 static bool are_successors_there(const struct desk *desk)
 {
-    for (int i = 0; i < DEVICES; i++) {
-        if (desk->successors[i] < desk->count)
-            continue;
-        fprintf(stderr, "libusb: error %s: device %d comes back as device %d, which no line has\n", desk->name, i, desk->successors[i]);
-        return false;
-    }
+    struct line line = { .number = 0 };
+    size_t at = 0;
+    while (next_line(desk->text, desk->length, &at, &line))
+        if (has_first_word(&line, "comes") && number_in(&line, 4) >= desk->count)
+            return refuse(desk, &line, 4, "no line of the text has the device");
     return true;
 }
 

@@ -2,7 +2,7 @@
 
     python3 tools/runs version LIBRARY FILE
     python3 tools/runs limit TIME MILLISECONDS -- PROGRAM ..
-    python3 tools/runs seeds FIRST LAST [--jobs N] [--keep-going] [--limit TIME MILLISECONDS] [--virtual] \
+    python3 tools/runs seeds FIRST LAST [--jobs N] [--keep-going] [--limit TIME MILLISECONDS] [--virtual] [--no-programs] \
         --picture USBTRACE REMEDY --again RUN DEVICES -- PROGRAM ..
 
 tools/tirnouch-run has checked the words, and has set the environment of the program. It knows where the parts stand, in the repository
@@ -88,6 +88,7 @@ def arguments(words: Sequence[str]) -> argparse.Namespace:
     seeds.add_argument("--keep-going", action="store_true")
     seeds.add_argument("--limit", nargs=2)
     seeds.add_argument("--virtual", action="store_true")
+    seeds.add_argument("--no-programs", action="store_true")
     seeds.add_argument("--picture", nargs=2, required=True)
     seeds.add_argument("--again", nargs=2, required=True)
     return parser.parse_args(words)

@@ -105,7 +105,7 @@ def tell_last_steps(name: str, since: float) -> None:
     if not traces:
         tell("there is no trace: no context was begun")
         return
-    with traces[-1].open("rb") as file:
+    with max(reversed(traces), key=lambda it: it.stat().st_mtime_ns).open("rb") as file:
         lines = last_lines(file, LAST_LINES)
     tell("the last lines of its trace:" if lines else "its trace is empty")
     for line in lines:

@@ -8,7 +8,7 @@ import sys
 from typing import Dict, List, Sequence
 
 from seeds import Seeds
-from traces import traces_of
+from traces import buses_of, own_traces
 
 # Of an output so many bytes are shown, the last ones, and of a trace so many lines are drawn.
 MOST_OUTPUT, MOST_DRAWN = 65536, 2000
@@ -49,22 +49,32 @@ def draw(trace: pathlib.Path, page: pathlib.Path, usbtrace: str, remedy: str) ->
 
 def keep(folder: pathlib.Path, seed: int, usbtrace: str, remedy: str) -> None:
     """Keeps what a failing run left, in this folder, and says so."""
-    traces = traces_of(str(folder / "trace"), 0)
-    if not traces:
+    buses = buses_of(str(folder / "trace"), 0)
+    if not buses:
         print("it left no trace: no context was begun")
         return
     kept = pathlib.Path(f"tirnouch-seed-{seed}.trace")
     try:
-        shutil.copyfile(traces[-1], kept)
-        print(f"its trace{f', that of the last of {len(traces)} buses' if len(traces) > 1 else ''}: ./{kept}")
-        print(draw(kept, kept.with_suffix(".html"), usbtrace, remedy))
+        longest = copy_traces(buses[-1], kept)
+        print(f"its trace{f', that of the last of {len(buses)} buses' if len(buses) > 1 else ''}: ./{kept}")
+        print(draw(longest, kept.with_suffix(".html"), usbtrace, remedy))
     except OSError as error:
         print(f"its trace can't be kept: {error}")
+
+
+def copy_traces(bus: pathlib.Path, kept: pathlib.Path) -> pathlib.Path:
+    """Keeps a bus's trace under this name, and beside it those of devices with a core of their own, which it names. The longest one."""
+    copies = [pathlib.Path(shutil.copyfile(bus, kept))]
+    for own in own_traces(bus, 0):
+        copies.append(pathlib.Path(shutil.copyfile(own, f"{kept}{own.name[len(bus.name):]}")))
+        print(f"the trace of a device's own core: ./{copies[-1]}")
+    return max(copies, key=lambda it: it.stat().st_size)
 
 
 def command_again(words: argparse.Namespace, program: Sequence[str], seed: int) -> str:
     run, devices = words.again
     more = ["--virtual"] if words.virtual else []
+    more += ["--no-programs"] if words.no_programs else []
     more += ["--limit", words.limit[0]] if words.limit else []
     return shlex.join([run, devices, "--seed", str(seed), *more, "--", *program])
 

@@ -9,9 +9,12 @@ from typing import BinaryIO, Deque, Iterator, List
 TIMING = re.compile(rb" timeout=\d+")
 
 
-def traces_of(name: str, since: float) -> List[pathlib.Path]:
-    """The files of a run's trace in order: a second bus of a process is traced in one whose name ends in .2, and so on."""
-    out = []
+# How many devices may have a trace of their own.
+DEVICES = 16
+
+
+def numbered(name: str, since: float) -> Iterator[pathlib.Path]:
+    """A file of this name, and those behind it whose names end in .2 and so on, as far as they are there."""
     for number in range(1, 1_000_000):
         path = pathlib.Path(name if number == 1 else f"{name}.{number}")
         try:
@@ -19,8 +22,22 @@ def traces_of(name: str, since: float) -> List[pathlib.Path]:
                 break
         except OSError:
             break
-        out.append(path)
-    return out
+        yield path
+
+
+def buses_of(name: str, since: float) -> List[pathlib.Path]:
+    """The files of a run's trace in order: a second bus of a process is traced in one whose name ends in .2, and so on."""
+    return list(numbered(name, since))
+
+
+def own_traces(bus: pathlib.Path, since: float) -> List[pathlib.Path]:
+    """Those of devices that compute their answers, beside their bus's: each has a session after the other."""
+    return [path for device in range(DEVICES) for path in numbered(f"{bus}.d{device}", since)]
+
+
+def traces_of(name: str, since: float) -> List[pathlib.Path]:
+    """All of them."""
+    return [path for bus in buses_of(name, since) for path in (bus, *own_traces(bus, since))]
 
 
 def last_lines(file: BinaryIO, count: int) -> List[str]:
@@ -32,7 +49,7 @@ def step_lines(trace: pathlib.Path) -> Iterator[bytes]:
     """The lines of a trace that are steps, without what a run's times make of them."""
     with trace.open("rb") as file:
         for line in file:
-            if not line.startswith((b"#", b"device ", b"script ")):
+            if not line.startswith((b"#", b"device ", b"script ", b"feed ")):
                 yield TIMING.sub(b"", line)
 
 

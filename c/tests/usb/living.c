@@ -303,6 +303,27 @@ static void cancelled_request(void)
     virtual_time(0);
 }
 
+static void LIBUSB_CALL print_log(libusb_context *of, enum libusb_log_level level, const char *line)
+{
+    (void)of;
+    if (level == LIBUSB_LOG_LEVEL_WARNING)
+        printf("  %s", line);
+}
+
+/* What a warning says of a transfer that isn't answered. */
+static void says_why(void)
+{
+    virtual_time(1);
+    PLAN(TIRNOUCH_NOT_READY, TIRNOUCH_LATER(1000));
+    begin_living("why it doesn't end", "");
+    libusb_set_log_cb(context, print_log, LIBUSB_LOG_CB_CONTEXT);
+    libusb_set_option(context, LIBUSB_OPTION_LOG_LEVEL, LIBUSB_LOG_LEVEL_WARNING);
+    read_once(8, 50);
+    read_once(8, 50);
+    end_living();
+    virtual_time(0);
+}
+
 static void refusals(void)
 {
     puts("what can't be set");
@@ -327,6 +348,7 @@ int main(void)
     is_ready();
     requests();
     cancelled_request();
+    says_why();
     refusals();
     return 0;
 }

@@ -100,6 +100,21 @@ static void echo(void)
     no_child_is_left();
 }
 
+/* The device of docs/DEVICES.md. */
+static void counter(void)
+{
+    begin_text("the counter of c/example", "program 0 sh ../../example/devices/counter.sh\n");
+    handle = libusb_open_device_with_vid_pid(context, 0x1209, 0x000a);
+    answer("claim", libusb_claim_interface(handle, 0));
+    for (int i = 0; i < 3; i++)
+        write_once("");
+    read_once();
+    request(1);
+    read_once();
+    end();
+    no_child_is_left();
+}
+
 /* `later` in virtual time; then it says that it is gone, and is plugged in again: the same program goes on. */
 static void leaves(void)
 {
@@ -218,6 +233,7 @@ static void one_of_two(void)
 int main(void)
 {
     echo();
+    counter();
     leaves();
     hostile("nonsense", "20");
     hostile("digits of another case", "20");

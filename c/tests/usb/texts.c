@@ -70,6 +70,24 @@ static void places(void)
     refuse("packets too long for a speed", "device 0 0902200001010080320904000002ff0000000705810200020007050202000200\nspeed 0 full\n");
 }
 
+/* Lines that start programs, or have a device come back as another: nothing is started where one isn't taken. */
+static void own_lines(void)
+{
+    refuse("a program without a command", "program 0\n");
+    refuse("a program without words", "program 0 \n");
+    refuse("a program of a device that can't be", "program 16 true\n");
+    refuse("a program that isn't next", "program 1 true\n");
+    refuse("two programs", "program 0 true\nprogram 0 false\n");
+    refuse("a program's line of another system", "program 0 true\r\n");
+    refuse("lines before their program's", "ids 0 1209 0001\nprogram 0 true\n");
+    refuse("comes back, and not as what", DEVICE "comes back 0\n");
+    refuse("comes forth", DEVICE "comes forth 0 as 1\n");
+    refuse("comes back as itself", DEVICE "comes back 0 as 0\n");
+    refuse("comes back as a device that isn't there", DEVICE "comes back 0 as 1\n");
+    refuse("comes back before it is there", "comes back 0 as 1\n" DEVICE);
+    refuse("comes back twice", DEVICE "comes back 0 as 1\ncomes back 0 as 2\n");
+}
+
 static void taken(void)
 {
     refuse("a packet over the endpoint's size, which is babble", DEVICE "speed 0 full\nscript 0 81 d:" "00112233445566778899aabbccddeeff"
@@ -81,6 +99,7 @@ int main(void)
     words();
     spaces();
     places();
+    own_lines();
     taken();
     return 0;
 }
