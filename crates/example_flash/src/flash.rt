@@ -37,7 +37,7 @@ impl Flash {
     /// The bytes from one on, at most so many.
     fn cells_at(&mut self, at: u8, count: usize) -> &mut [u8] {
         let first = usize::from(at) * 16;
-        let end = (first + count).min(SIZE);
+        let end = first.saturating_add(count).min(SIZE);
         match self.cells.as_mut_slice().get_mut(first..end) {
             Some(cells) => cells,
             None => &mut [],

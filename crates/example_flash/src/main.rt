@@ -13,23 +13,30 @@ mod flash;
 
 use crate::driver::Driver;
 use anyhow::Result;
+use std::alloc::Global;
+use std::io::Print;
+
+/// What a memory answers to a command, as digits.
+fn ask(alloc: Global, driver: &mut Driver, command: &[u8], count: u32) -> Result<String> {
+    let answer = driver.query(command, count)?;
+    Ok(hex::encode(alloc, answer.bytes.as_slice())?)
+}
+
+/// Writes, and in vain where that isn't enabled; then erases. The driver is lent, so that what owns the core has one way out.
+fn drive<R: Print>(rt: &R, alloc: Global, driver: &mut Driver) -> Result<()> {
+    println!(rt; "identity {}", ask(alloc, driver, &[0x9f], 3)?)?;
+    let _enabled = driver.send(&[0x06])?;
+    let _written = driver.send(&[0x02, 1, 0x54, 0x69, 0x72])?;
+    let _not_enabled = driver.send(&[0x02, 1, 0, 0, 0])?;
+    println!(rt; "written {}", ask(alloc, driver, &[0x03, 1, 4], 4)?)?;
+    let _enabled = driver.send(&[0x06])?;
+    let _erased = driver.send(&[0x20, 0])?;
+    println!(rt; "erased {}", ask(alloc, driver, &[0x03, 1, 4], 4)?)?;
+    Ok(())
+}
 
 fn main(rt: HostRuntime) -> Result<()> {
     let alloc = rt.alloc();
     let mut driver = Driver::new(alloc)?;
-    let identity = driver.query(&[0x9f], 3)?;
-    println!(rt;
-        "identity {}",
-        hex::encode(alloc, identity.bytes.as_slice())?
-    )?;
-    let _enabled = driver.send(&[0x06])?;
-    let _written = driver.send(&[0x02, 1, 0x54, 0x69, 0x72])?;
-    let _not_enabled = driver.send(&[0x02, 1, 0, 0, 0])?;
-    let written = driver.query(&[0x03, 1, 4], 4)?;
-    println!(rt; "written {}", hex::encode(alloc, written.bytes.as_slice())?)?;
-    let _enabled = driver.send(&[0x06])?;
-    let _erased = driver.send(&[0x20, 0])?;
-    let erased = driver.query(&[0x03, 1, 4], 4)?;
-    println!(rt; "erased {}", hex::encode(alloc, erased.bytes.as_slice())?)?;
-    Ok(())
+    drive(&rt, alloc, &mut driver)
 }
