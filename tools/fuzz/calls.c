@@ -31,11 +31,11 @@ static const struct {
     { "submit", submit_one, 30 }, { "cancel", cancel_one, 12 }, { "free", free_one, 4 }, { "send", send_one, 5 },
     { "open", open_one, 6 }, { "close", close_one, 3 }, { "a call of a handle", call_handle, 16 },
     { "a read that is waited for", read_and_wait, 4 }, { "a write that is waited for", write_and_wait, 4 },
-    { "a request that is waited for", ask_device, 4 }, { "a context of its own", visit, 3 }, { "the default context", visit_usual, 2 },
+    { "a request that is waited for", request_and_wait, 4 }, { "a context of its own", visit, 3 }, { "the default context", visit_usual, 2 },
     { "a device that outlives its context", let_one_go, 4 },
     { "a transfer that is waited for by hand", wait_by_hand, 6 }, { "the events' lock", lock_and_handle, 2 },
     { "events", handle_some, 24 }, { "locked events", handle_locked, 8 }, { "wait_for_event", wait_for_event, 4 },
-    { "a look at events", look_at_events, 6 }, { "a look at devices", look_at_devices, 6 }, { "hotplug", watch, 3 },
+    { "a look at events", look_at_events, 6 }, { "a look at devices", look_at_devices, 6 }, { "hotplug", watch_hotplug, 3 },
     { "hotplug's end", watch_no_more, 3 },
 };
 #define CALLS (sizeof calls / sizeof calls[0])

@@ -125,7 +125,7 @@ static int on_device(libusb_context *context, libusb_device *device, libusb_hotp
     return roll(6) == 0;
 }
 
-void watch(void)
+void watch_hotplug(void)
 {
     unsigned place = roll(WATCHES);
     libusb_hotplug_callback_handle made = 0;

@@ -85,7 +85,7 @@ void tell_transfers(void);
 /* waits.c: transfers that are waited for, and contexts that are one thread's own */
 void read_and_wait(void);
 void write_and_wait(void);
-void ask_device(void);
+void request_and_wait(void);
 void wait_by_hand(void);
 void visit(void);
 void visit_usual(void);
@@ -99,7 +99,7 @@ void lock_and_handle(void);
 void wait_for_event(void);
 void look_at_events(void);
 void look_at_devices(void);
-void watch(void);
+void watch_hotplug(void);
 void watch_no_more(void);
 
 #endif

@@ -59,7 +59,7 @@ void write_and_wait(void)
 }
 
 /* Control requests. */
-void ask_device(void)
+void request_and_wait(void)
 {
     unsigned char data[64] = { 0 };
     int place = hold_handle(), r;
