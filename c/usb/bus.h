@@ -48,6 +48,7 @@
 
 struct core;
 struct device;
+struct judged;
 struct pipe;
 struct program;
 
@@ -101,6 +102,7 @@ struct pipe {
     uint32_t fed;                     /* so many were in this session of the core; */
     uint64_t later;                   /* it isn't before this moment, 0 for none */
     uint64_t took;                    /* packets that it took in sessions before */
+    struct judged *judged;            /* what is expected of the driver there; NULL for nothing */
 };
 
 struct interface {
@@ -150,6 +152,7 @@ struct device {
     uint32_t leaves_behind;
     uint8_t (*requests)[64];
     size_t request_count;
+    struct judged *judged;            /* its lines `control`, where one of them expects something of the driver; else NULL */
     struct program *program;          /* what is asked in place of functions; NULL for none */
     char *text;                       /* its lines, where it has a core of its own, */
     size_t text_length;
@@ -247,6 +250,7 @@ struct bus {
     uint64_t stirs, settled;          /* how often there was something to be done; and how often when all was done */
     uint64_t moment;                  /* of virtual time */
     bool is_virtual;                  /* time passes only where nothing else is to be done */
+    bool is_judged;                   /* a text expects something of the driver, of which the end isn't told yet */
     size_t active_count;
     struct pipe *active[DEVICES * ENDPOINTS]; /* where something waits or is in the core */
     struct libusb_device_handle *handles;
@@ -313,5 +317,6 @@ static inline unsigned place_of(uint8_t ep) { return (ep & 15u) * 2 + (ep >> 7);
 #include "calls.h"
 #include "quick.h"
 #include "living.h"
+#include "judged.h"
 
 #endif

@@ -30,6 +30,7 @@ static int make_session(const struct device *device, bool rests, struct session 
     *made = (struct session){ .text = { .length = 0 } };
     number_alone(there, device->number, 0);
     write_lines(&made->text, device->text, device->text_length, there, rests ? device : NULL);
+    made->text.length = without_expected(made->text.at, made->text.length);
     int r = made->text.failed ? LIBUSB_ERROR_NO_MEM : 0;
     if (!r)
         r = tirnouch_create(&made->slot, (const uint8_t *)made->text.at, made->text.length, &told);
@@ -143,6 +144,7 @@ static void replace_session(struct device *device, struct session *made)
     core->slot = made->slot;
     core->fed = 0;
     core->sessions++;
+    expect_requests_anew(device);
     trace_begin(core, device);
     trace_devices(core, made->text.at, made->text.length);
 }
@@ -201,6 +203,7 @@ static void move(struct device *device, struct core *core, const struct session 
     leave_names(device);
     use_core(device, core);
     core->slot = made->slot;
+    expect_requests_anew(device);
     trace_begin(core, device);
     trace_devices(core, made->text.at, made->text.length);
     go_on(device);
@@ -282,6 +285,7 @@ static void forget_state(struct device *device)
         pipe->answers = pipe->naks = pipe->script = pipe->fed = 0;
         pipe->later = pipe->took = 0;
         pipe->is_halted = pipe->is_stopped = false;
+        expect_anew(pipe);
     }
     free(device->requests);
     device->requests = NULL;

@@ -3,32 +3,11 @@
 #include "bus.h"
 
 #include <inttypes.h>
-#include <stdarg.h>
 #include <stdio.h>
 #include <unistd.h>
 
 /* Of how many in flight this is told at once. */
 #define MOST_TOLD 16
-
-struct sentence {
-    size_t length;
-    char text[400];
-};
-
-__attribute__((format(printf, 2, 3))) static void say(struct sentence *it, const char *format, ...)
-{
-    va_list rest;
-    size_t room = sizeof it->text - it->length;
-    va_start(rest, format);
-    int count = vsnprintf(it->text + it->length, room, format, rest);
-    va_end(rest);
-    it->length += count < 0 ? 0 : (size_t)count < room ? (size_t)count : room - 1;
-}
-
-static const char *plural(uint64_t count)
-{
-    return count == 1 ? "" : "s";
-}
 
 static void say_which(struct sentence *it, struct transfer *transfer)
 {
