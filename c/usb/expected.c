@@ -141,7 +141,7 @@ static int read_answer(struct judged *judged, const struct place *place, const s
         return 0;
     if (!read_bytes(judged, it, word, length))
         return refuse(place, line, index,
-                      "the packet that is expected stands behind `a:`: an even number of hexadecimal digits, and `*` where more may follow");
+                      "what is expected stands behind `a:`: an even number of hexadecimal digits, and `*` where more may follow");
     if (judged->bytes.failed)
         return LIBUSB_ERROR_NO_MEM;
     return it->length > judged->most ? refuse_length(place, line, index, judged->most) : 0;

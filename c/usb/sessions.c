@@ -171,12 +171,17 @@ static void go_on(struct device *device)
             feed(&device->pipes[i]);
 }
 
-/* How many packets it took at its endpoints, before the session ends that has them. */
+/* How many packets it took at its endpoints, before the session ends that has them; till then they are judged. */
 static void count_taken(struct device *device)
 {
-    for (int i = 0; i < ENDPOINTS; i++)
-        if (device->pipes[i].kind && !is_in(device->pipes[i].ep))
-            device->pipes[i].took = came_at(device, device->pipes[i].ep);
+    for (int i = 0; i < ENDPOINTS; i++) {
+        struct pipe *pipe = &device->pipes[i];
+        if (!pipe->kind || is_in(pipe->ep))
+            continue;
+        if (pipe->judged)
+            judge(pipe);
+        pipe->took = came_at(device, pipe->ep);
+    }
 }
 
 /* Where memory is refused the session goes on, and another time is as good. */

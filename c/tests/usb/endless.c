@@ -130,9 +130,51 @@ static void amid_a_write(void)
     tirnouch_on_packet(0, 0x02, NULL, NULL);
 }
 
+static int give_eight(void *user, uint8_t ep, uint8_t *data, int length)
+{
+    (void)user;
+    (void)ep;
+    memset(data, 0x2a, (size_t)length);
+    return length;
+}
+
+static void write_byte(unsigned char byte)
+{
+    int moved = 0;
+    answer("write", libusb_bulk_transfer(handle, 0x02, &byte, 1, &moved, 1000));
+}
+
+/* A script that expects something is judged where its session ends: behind it, before it, and amid one transfer. */
+static void judged(void)
+{
+    unsigned char *data = calloc(1, SIZE);
+    int moved = 0;
+    hear_errors();
+    tirnouch_on_packet(0, 0x81, give_eight, NULL);
+    begin("packets that are expected before and behind a session's end", "script 0 02 a:01 a:02 a:03\n");
+    write_byte(1);
+    answer("read", libusb_bulk_transfer(handle, 0x81, data, SIZE, &moved, 0));
+    number("  moved", moved);
+    write_byte(2);
+    write_byte(4);
+    end();
+    show_errors();
+    tirnouch_on_packet(0, 0x81, NULL, NULL);
+    memset(data, 0, SIZE);
+    hear_errors();
+    tirnouch_on_packet(0, 0x02, take, NULL);
+    begin("a session's end amid a write that begins in the script", "script 0 02 a:0000000000000000 a:00000000000000ff\n");
+    write_all(data);
+    end();
+    show_errors();
+    tirnouch_on_packet(0, 0x02, NULL, NULL);
+    free(data);
+}
+
 int main(void)
 {
     without_end();
     amid_a_write();
+    judged();
     return 0;
 }

@@ -1,39 +1,14 @@
-/* What a driver writes is judged where its device's text says what is expected. Standard error is printed behind each scene. The expected
+/* What a driver writes is judged where its device's text says what is expected. What the library says on standard error is printed behind each scene. The expected
  * lines are written from docs/DEVICES.md: which packet differs, at which byte, both packets; and at the end all that never came. */
 #include "scene.h"
 
 #include <stdio.h>
 #include <stdlib.h>
 #include <string.h>
+#include <sys/wait.h>
 #include <unistd.h>
 
 #define SHORT 20
-
-static FILE *errors;
-static int before;
-
-/* Standard error goes to a file meanwhile. */
-static void hear_errors(void)
-{
-    before = dup(STDERR_FILENO);
-    errors = tmpfile();
-    if (before < 0 || !errors)
-        exit(1);
-    fflush(stderr);
-    dup2(fileno(errors), STDERR_FILENO);
-}
-
-static void show_errors(void)
-{
-    char line[1000];
-    fflush(stderr);
-    dup2(before, STDERR_FILENO);
-    close(before);
-    rewind(errors);
-    while (fgets(line, sizeof line, errors))
-        printf("  %s", line);
-    fclose(errors);
-}
 
 static void begin_judged(const char *name, const char *more)
 {
@@ -224,6 +199,93 @@ static void anew(void)
     end_judged();
 }
 
+/* A device that leaves took what came before; one that is hidden to the end could be written nothing. */
+static void absent(void)
+{
+    begin_judged("pulled out before all was written", "script 0 02 a:01 a:02\n");
+    put(0x02, "00");
+    answer("pull", tirnouch_pull(0));
+    put(0x02, "02");
+    end_judged();
+    begin_judged("hidden to the end",
+                 "device 1 0902190001010080320904000001ff00000007050202080000\nhidden 1\nscript 1 02 a:01\n");
+    end_judged();
+}
+
+static int taken_behind;
+
+static int take(void *user, uint8_t ep, uint8_t *data, int length)
+{
+    (void)user;
+    (void)ep;
+    (void)data;
+    taken_behind++;
+    return length;
+}
+
+static int answer_control(void *user, const uint8_t setup[8], uint8_t *data, int length)
+{
+    (void)user;
+    (void)data;
+    return setup[1] == 1 ? length : TIRNOUCH_AS_TEXT;
+}
+
+/* Of a device that computes its answers the scripted part is judged, from the beginning or where it begins to compute amid a run. */
+static void computed(void)
+{
+    static const char more[] = "script 0 02 a:01 a:02\n";
+    taken_behind = 0;
+    tirnouch_on_packet(0, 0x02, take, NULL);
+    begin_judged("a function behind the script", more);
+    put(0x02, "01");
+    put(0x02, "03");
+    put(0x02, "99");
+    number("taken behind it", taken_behind);
+    tirnouch_pull(0);
+    answer("show", tirnouch_show(0));
+    libusb_close(handle);
+    handle = open_standard(context);
+    answer("claim", libusb_claim_interface(handle, 0));
+    put(0x02, "01");
+    put(0x02, "02");
+    put(0x02, "99");
+    number("taken behind it", taken_behind);
+    end_judged();
+    tirnouch_on_packet(0, 0x02, NULL, NULL);
+    begin_judged("a function that comes amid the script", more);
+    put(0x02, "01");
+    answer("function", tirnouch_on_packet(0, 0x02, take, NULL));
+    put(0x02, "12");
+    put(0x02, "99");
+    number("taken behind it", taken_behind);
+    end_judged();
+    tirnouch_on_packet(0, 0x02, NULL, NULL);
+    tirnouch_on_control(0, answer_control, NULL);
+    begin_judged("a function answers requests in place of the text", "control 0 40 01 * * a:01\ncontrol 0 40 02 * * a:02\n");
+    ask_to("4001000000000000", "99");
+    ask_to("4002000000000000", "02");
+    end_judged();
+    tirnouch_on_control(0, NULL, NULL);
+}
+
+/* A child of fork has the devices, too: what it writes is judged, and it isn't told what it doesn't write. */
+static void children(void)
+{
+    int status = 0;
+    begin_judged("a child of fork", "script 0 02 a:01 a:02\n");
+    pid_t child = fork();
+    if (child == 0) {
+        put(0x02, "ff");
+        libusb_close(handle);
+        libusb_exit(context);
+        _exit(0);
+    }
+    waitpid(child, &status, 0);
+    put(0x02, "01");
+    put(0x02, "02");
+    end_judged();
+}
+
 int main(void)
 {
     alike();
@@ -234,5 +296,8 @@ int main(void)
     requests();
     two_endpoints();
     anew();
+    absent();
+    computed();
+    children();
     return 0;
 }
