@@ -29,7 +29,7 @@ struct sentence {
     size_t length;
     char text[400];
 };
-void say(struct sentence *it, const char *format, ...) __attribute__((format(printf, 2, 3)));
+void append(struct sentence *it, const char *format, ...) __attribute__((format(printf, 2, 3)));
 const char *plural(uint64_t count);
 
 /* why.c: why a transfer doesn't end */

@@ -18,22 +18,22 @@ static void say_bytes(struct sentence *it, const uint8_t *bytes, int length, int
 {
     int first = marked > AROUND ? marked - AROUND : 0, end = length - marked > AROUND + 1 ? marked + AROUND + 1 : length;
     if (first)
-        say(it, "..");
+        append(it, "..");
     for (int i = first; i < end; i++)
-        say(it, i == marked ? "[%02x]" : "%02x", bytes[i]);
+        append(it, i == marked ? "[%02x]" : "%02x", bytes[i]);
     if (marked >= length)
-        say(it, "[]");
+        append(it, "[]");
     else if (!length)
-        say(it, "nothing");
+        append(it, "nothing");
     if (end < length)
-        say(it, "..");
+        append(it, "..");
 }
 
 static void say_expected(struct sentence *it, const struct judged *judged, const struct expected *expected, int marked)
 {
-    say(it, "expected ");
+    append(it, "expected ");
     say_bytes(it, bytes_of(judged, expected), expected->length, marked);
-    say(it, expected->goes_on ? "* (length %d or more)" : " (length %d)", expected->length);
+    append(it, expected->goes_on ? "* (length %d or more)" : " (length %d)", expected->length);
 }
 
 /* The first byte that differs, or the end of the shorter one; -1 where what came is as expected. */
@@ -48,27 +48,27 @@ static int first_difference(const struct judged *judged, const struct expected *
 
 static void say_endpoint(struct sentence *it, const struct pipe *pipe)
 {
-    say(it, "device %d, endpoint %02x: ", pipe->device->number, pipe->ep);
+    append(it, "device %d, endpoint %02x: ", pipe->device->number, pipe->ep);
 }
 
 static void say_request(struct sentence *it, const struct device *device, const struct judged *judged)
 {
-    say(it, "device %d, requests", device->number);
+    append(it, "device %d, requests", device->number);
     for (int i = 0; i < 4; i++)
         if (judged->fields[i] < 0)
-            say(it, " *");
+            append(it, " *");
         else
-            say(it, " %0*x", i < 2 ? 2 : 4, (unsigned)judged->fields[i]);
-    say(it, ": ");
+            append(it, " %0*x", i < 2 ? 2 : 4, (unsigned)judged->fields[i]);
+    append(it, ": ");
 }
 
 /* Behind who it is: what came. */
 static void compare(struct sentence *it, const struct judged *judged, const struct expected *expected, const uint8_t *data, int length,
                     int at)
 {
-    say(it, "differs at offset %d: came ", at);
+    append(it, "differs at offset %d: came ", at);
     say_bytes(it, data, length, at);
-    say(it, " (length %d), ", length);
+    append(it, " (length %d), ", length);
     say_expected(it, judged, expected, at);
 }
 
@@ -81,7 +81,7 @@ static void judge_packet(const struct pipe *pipe, struct expected *expected, con
         return;
     struct sentence it = { 0 };
     say_endpoint(&it, pipe);
-    say(&it, "packet %" PRIu64 " ", judged->place + 1);
+    append(&it, "packet %" PRIu64 " ", judged->place + 1);
     compare(&it, judged, expected, data, length, at);
     tell_difference(pipe->device, &it);
 }
@@ -100,9 +100,9 @@ void judge_end(struct pipe *pipe)
     judged->is_past = true;
     struct sentence it = { 0 };
     say_endpoint(&it, pipe);
-    say(&it, "packet %" PRIu64 " is more than the script takes, and waits: came ", judged->place + 1);
+    append(&it, "packet %" PRIu64 " is more than the script takes, and waits: came ", judged->place + 1);
     say_bytes(&it, data, (int)told.amount, -1);
-    say(&it, " (length %d)", (int)told.amount);
+    append(&it, " (length %d)", (int)told.amount);
     tell_difference(pipe->device, &it);
 }
 
@@ -148,7 +148,7 @@ void judge_request(struct device *device, const uint8_t *setup, const uint8_t *d
         return;
     struct sentence it = { 0 };
     say_request(&it, device, judged);
-    say(&it, "request %" PRIu64 " ", place + 1);
+    append(&it, "request %" PRIu64 " ", place + 1);
     compare(&it, judged, expected, data, length, at);
     tell_difference(device, &it);
 }
@@ -188,7 +188,7 @@ static void tell_what_is_missing(struct sentence *it, const struct device *devic
     const struct expected *first = first_missing(judged, &count);
     if (!first)
         return;
-    say(it, "%" PRIu64 " expected %s%s never came; the first is %s %zu: ", count, what, plural(count), what,
+    append(it, "%" PRIu64 " expected %s%s never came; the first is %s %zu: ", count, what, plural(count), what,
         (size_t)(first - judged->all) + 1);
     say_expected(it, judged, first, -1);
     tell_missing(device, it, count);

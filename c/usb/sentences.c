@@ -4,7 +4,7 @@
 #include <stdarg.h>
 #include <stdio.h>
 
-void say(struct sentence *it, const char *format, ...)
+void append(struct sentence *it, const char *format, ...)
 {
     va_list rest;
     size_t room = sizeof it->text - it->length;
