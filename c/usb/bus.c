@@ -31,13 +31,14 @@ static int make_core(const struct desk *desk)
 {
     struct growing text = { 0 };
     bool is_mixed = desk->has_own || desk->has_returns;
-    if (!is_mixed && !has_expected(desk->text, desk->length))
+    if (!is_mixed && !desk->has_expected)
         return make_shared(desk, desk->text, desk->length);
     if (is_mixed)
         write_lines(&text, desk->text, desk->length, desk->there, NULL);
     else
         grow(&text, desk->text, desk->length);
-    text.length = without_expected(text.at, text.length);
+    if (desk->has_expected && !text.failed)
+        text.length = without_expected(text.at, text.length);
     int r = text.failed ? LIBUSB_ERROR_NO_MEM : make_shared(desk, text.at ? text.at : "", text.length);
     free(text.at);
     return r;
@@ -52,7 +53,7 @@ static int make_device(struct device *device, const struct desk *desk)
     r = learn(device);
     if (!r && is_own)
         return learn_expected(device, device->text, device->text_length, desk->name);
-    return r ? r : learn_expected(device, desk->text, desk->length, desk->name);
+    return !r && desk->has_expected ? learn_expected(device, desk->text, desk->length, desk->name) : r;
 }
 
 static void begin_device(int number, const struct desk *desk)
@@ -78,6 +79,7 @@ static int make_devices(const char *text, size_t length, const char *name)
     struct desk desk = { .text = text, .length = length, .name = name };
     process.bus.text = text;
     process.bus.text_length = length;
+    desk.has_expected = has_expected(text, length);
     int r = read_desk(&desk);
     if (!r)
         r = make_core(&desk);

@@ -98,11 +98,11 @@ struct pipe {
     bool is_halted, is_active;
     bool is_stopped;                  /* halted by a request of the program's: it stalls until the halt is cleared */
     bool is_watched;                  /* its answers are looked at one by one */
+    bool is_judged;                   /* something is expected of the driver there; `expected_at` has it */
     bool is_asked;                    /* behind its script a function, or a program, is asked for its answers; */
     uint32_t fed;                     /* so many were in this session of the core; */
     uint64_t later;                   /* it isn't before this moment, 0 for none */
     uint64_t took;                    /* packets that it took in sessions before */
-    struct judged *judged;            /* what is expected of the driver there; NULL for nothing */
 };
 
 struct interface {
@@ -152,11 +152,12 @@ struct device {
     uint32_t leaves_behind;
     uint8_t (*requests)[64];
     size_t request_count;
-    struct judged *judged;            /* its lines `control`, where one of them expects something of the driver; else NULL */
     struct program *program;          /* what is asked in place of functions; NULL for none */
     char *text;                       /* its lines, where it has a core of its own, */
     size_t text_length;
     size_t program_lines;             /* of which so many are its program's, before those of the text */
+    struct judged *judged;            /* its lines `control`, where one of them expects something of the driver; else NULL */
+    struct judged *packets[ENDPOINTS]; /* and what is expected at its endpoints; NULL for nothing */
 };
 
 struct libusb_device {

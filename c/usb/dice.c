@@ -33,7 +33,7 @@ static bool may_serve(struct pipe *pipe, bool asks)
         return false;
     if (core_serves(pipe) || (asks && may_be_asked(pipe)))
         return true;
-    if (pipe->judged)
+    if (pipe->is_judged)
         judge_end(pipe);
     return false;
 }

@@ -177,12 +177,14 @@ static struct judged *new_judged(int most)
 
 static int learn_script(struct device *device, const struct place *place, const struct line *line)
 {
-    struct pipe *pipe = &device->pipes[place_of((uint8_t)field_of(line, 2))];
+    unsigned at = place_of((uint8_t)field_of(line, 2));
     if (!is_judged(line))
         return 0;
-    process.bus.is_judged = true;
-    pipe->judged = new_judged(pipe->packet);
-    return pipe->judged ? read_answers(pipe->judged, place, line, SCRIPT) : LIBUSB_ERROR_NO_MEM;
+    device->packets[at] = new_judged(device->pipes[at].packet);
+    if (!device->packets[at])
+        return LIBUSB_ERROR_NO_MEM;
+    device->pipes[at].is_judged = process.bus.is_judged = true;
+    return read_answers(device->packets[at], place, line, SCRIPT);
 }
 
 /* All of a device's are kept, since the first one that a request fits answers it. */
@@ -220,8 +222,9 @@ static void forget_requests(struct device *device)
 void forget_expected(struct device *device)
 {
     for (int i = 0; i < ENDPOINTS; i++) {
-        free_judged(device->pipes[i].judged);
-        device->pipes[i].judged = NULL;
+        free_judged(device->packets[i]);
+        device->packets[i] = NULL;
+        device->pipes[i].is_judged = false;
     }
     forget_requests(device);
 }

@@ -74,7 +74,7 @@ static void compare(struct sentence *it, const struct judged *judged, const stru
 
 static void judge_packet(const struct pipe *pipe, struct expected *expected, const uint8_t *data, int length)
 {
-    const struct judged *judged = pipe->judged;
+    const struct judged *judged = expected_at(pipe);
     expected->came = true;
     int at = expected->length < 0 ? -1 : first_difference(judged, expected, data, length);
     if (at < 0)
@@ -90,7 +90,7 @@ static void judge_packet(const struct pipe *pipe, struct expected *expected, con
 void judge_end(struct pipe *pipe)
 {
     uint8_t data[MOST_PACKET];
-    struct judged *judged = pipe->judged;
+    struct judged *judged = expected_at(pipe);
     struct tirnouch_told told = { 0 };
     if (judged->is_past || judged->place < judged->count || pipe->is_asked || pipe->device->is_gone)
         return;
@@ -110,7 +110,7 @@ void judge_end(struct pipe *pipe)
 void judge(struct pipe *pipe)
 {
     uint8_t data[MOST_PACKET];
-    struct judged *judged = pipe->judged;
+    struct judged *judged = expected_at(pipe);
     while (judged->place < judged->count) {
         size_t index = (size_t)(judged->place - pipe->took);
         int length = tirnouch_taken(&pipe->core->slot, pipe->number, pipe->ep, index, data, sizeof data);
@@ -156,10 +156,10 @@ void judge_request(struct device *device, const uint8_t *setup, const uint8_t *d
 /* The script begins anew. */
 void expect_anew(struct pipe *pipe)
 {
-    if (!pipe->judged)
+    if (!pipe->is_judged)
         return;
-    pipe->judged->place = 0;
-    pipe->judged->is_past = false;
+    expected_at(pipe)->place = 0;
+    expected_at(pipe)->is_past = false;
 }
 
 void expect_requests_anew(struct device *device)
@@ -199,10 +199,10 @@ void judge_device(struct device *device)
 {
     for (int i = 0; i < ENDPOINTS; i++) {
         struct sentence it = { 0 };
-        if (!device->pipes[i].judged)
+        if (!device->packets[i])
             continue;
         say_endpoint(&it, &device->pipes[i]);
-        tell_what_is_missing(&it, device, device->pipes[i].judged, "packet");
+        tell_what_is_missing(&it, device, device->packets[i], "packet");
     }
     for (const struct judged *judged = device->judged; judged; judged = judged->next) {
         struct sentence it = { 0 };

@@ -28,6 +28,8 @@ struct judged {
     int fields[4];                    /* of a line `control`: bmRequestType, bRequest, wValue, wIndex; -1 for any */
 };
 
+static inline struct judged *expected_at(const struct pipe *pipe) { return pipe->device->packets[place_of(pipe->ep)]; }
+
 /* expected.c: what a text expects */
 bool has_expected(const char *text, size_t length);
 size_t without_expected(char *text, size_t length);

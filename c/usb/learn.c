@@ -27,7 +27,7 @@ void watch(struct device *device)
 {
     bool is_watched = device->is_watched || process.bus.is_watched;
     for (int i = 0; i < ENDPOINTS; i++)
-        device->pipes[i].is_watched = is_watched || device->pipes[i].judged;
+        device->pipes[i].is_watched = is_watched || device->pipes[i].is_judged;
 }
 
 /* Whether a handle's device is gone, or was plugged in anew since it was opened. */

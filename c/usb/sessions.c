@@ -30,8 +30,8 @@ static int make_session(const struct device *device, bool rests, struct session 
     *made = (struct session){ .text = { .length = 0 } };
     number_alone(there, device->number, 0);
     write_lines(&made->text, device->text, device->text_length, there, rests ? device : NULL);
-    made->text.length = without_expected(made->text.at, made->text.length);
     int r = made->text.failed ? LIBUSB_ERROR_NO_MEM : 0;
+    made->text.length = without_expected(made->text.at, made->text.length);
     if (!r)
         r = tirnouch_create(&made->slot, (const uint8_t *)made->text.at, made->text.length, &told);
     return r;
@@ -178,7 +178,7 @@ static void count_taken(struct device *device)
         struct pipe *pipe = &device->pipes[i];
         if (!pipe->kind || is_in(pipe->ep))
             continue;
-        if (pipe->judged)
+        if (pipe->is_judged)
             judge(pipe);
         pipe->took = came_at(device, pipe->ep);
     }

@@ -64,7 +64,7 @@ bool serve(struct pipe *pipe, uint32_t most)
         goes_on = serve_one(pipe);
         any = true;
     }
-    if (pipe->judged)
+    if (pipe->is_judged)
         judge(pipe);
     return any;
 }
