@@ -251,7 +251,8 @@ def what_is_written_is_judged(trial: Trial) -> None:
 
 
 def other_differences_make_the_status(trial: Trial) -> None:
-    trial.expect(expecting(trial, "a:0102 a:0304 a:05 a:06", "ends"), 3, "2 expected packets never came; the first is packet 3: expected 05 ")
+    ran = expecting(trial, "a:0102 a:0304 a:05 a:06", "ends")
+    trial.expect(ran, 3, "2 expected packets never came; the first is packet 3: expected 05 ")
     trial.expect(expecting(trial, "a:0102", "ends"), 3, "packet 2 is more than the script takes, and waits: came 0304 (length 2)")
     ran = expecting(trial, "a:0102 a:0304 a:05", "leaves")
     trial.expect(ran, 0, "ended without exit and without libusb_exit: what it didn't write isn't known")

@@ -1,6 +1,6 @@
-/* What a driver wrote differs from what its devices expect: the first difference is told at once, on standard error and in the trace, and once
- * more at the end, with how many there were. TIRNOUCH_DIFFERENCES=FILE names a file for tools/tirnouch-run: a line `begun` of each bus that is
- * judged, `differs` with the sentence of what was told, and `ended` where the end was judged.
+/* What a driver wrote differs from what its devices expect: the first difference is told at once, on standard error and in the trace, and
+ * once more at the end, with how many there were. TIRNOUCH_DIFFERENCES=FILE names a file for tools/tirnouch-run: a line `begun` of each bus
+ * that is judged, `differs` with the sentence of what was told, and `ended` where the end was judged.
  *
  * The end is that of the bus, by the last libusb_exit; or that of the process, where the bus is there still. In a child of fork the bus has
  * no such end: what the child doesn't write its parent may. */

@@ -130,7 +130,8 @@ static int refuse_length(const struct place *place, const struct line *line, uin
 }
 
 /* An answer, which the core has taken, but for what stands behind `a:`. At an endpoint those that take no packet aren't kept. */
-static int read_answer(struct judged *judged, const struct place *place, const struct line *line, uint32_t index, const char *word, int length)
+static int read_answer(struct judged *judged, const struct place *place, const struct line *line, uint32_t index, const char *word,
+                       int length)
 {
     if (judged->most != MOST_REQUEST && *word != 'a')
         return 0;

@@ -12,7 +12,7 @@ NAME = b"TIRNOUCH_DIFFERENCES"
 
 
 class Judgement:
-    """The file that the library writes in a run: a line `begun` for each bus that is judged, `ended` where its end was, and `differs ..`."""
+    """The file that the library writes in a run: a line `begun` for each bus that is judged, `ended` where its end was, `differs ..`."""
 
     def __init__(self, folder: pathlib.Path) -> None:
         self.path = folder / "differences"

@@ -1,5 +1,6 @@
-/* What a driver writes is judged where its device's text says what is expected. What the library says on standard error is printed behind each scene. The expected
- * lines are written from docs/DEVICES.md: which packet differs, at which byte, both packets; and at the end all that never came. */
+/* What a driver writes is judged where its device's text says what is expected. What the library says on standard error is printed behind
+ * each scene. The expected lines are written from docs/DEVICES.md: which packet differs, at which byte, both packets; and at the end what never
+ * came. */
 #include "scene.h"
 
 #include <stdio.h>
@@ -96,8 +97,8 @@ static void cut(void)
 {
     static const char digits[] = "000102030405060708090a0b0c0d0e0f101112131415161718191a1b1c1d1e1f202122232425262728292a2b2c2d2e2f30";
     char text[600];
-    snprintf(text, sizeof text, "device 0 0902200001010080320904000002ff0000000705810240000007050202400000\nids 0 04a9 31c0\nscript 0 02 a:%s\n",
-             digits);
+    snprintf(text, sizeof text,
+             "device 0 0902200001010080320904000002ff0000000705810240000007050202400000\nids 0 04a9 31c0\nscript 0 02 a:%s\n", digits);
     hear_errors();
     begin_text("long packets are cut around the byte", text);
     handle = open_standard(context);
