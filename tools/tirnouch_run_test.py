@@ -78,7 +78,7 @@ def wrong_words_are_refused(trial: Trial) -> None:
 
 def help_names_every_word(trial: Trial) -> None:
     ran = trial.run(["--help"])
-    trial.expect(ran, 0, *"--trace --seed --virtual --no-programs --limit --seeds --keep-going --jobs --version".split())
+    trial.expect(ran, 0, *"--trace --seed --virtual --no-programs --lenient --limit --seeds --keep-going --jobs --version".split())
 
 
 def programs_are_refused(trial: Trial) -> None:
@@ -226,6 +226,72 @@ def seeds_tell_other_failures(trial: Trial) -> None:
     trial.check(len(ran.stdout) < 70000, "the output is too long")
 
 
+def expecting(trial: Trial, script: str, how: str, *words: str) -> "subprocess.CompletedProcess[str]":
+    """A run of the program that writes 0102 and 0304, against a device with this script."""
+    devices = trial.folder / "expects.txt"
+    devices.write_text(DEVICES.read_text() + f"script 0 02 {script}\n")
+    return trial.run([str(devices), *words, "--", str(trial.program), "writes", how])
+
+
+# What is told of the second packet where 0305 is expected.
+DIFFERS = "device 0, endpoint 02: packet 2 differs at offset 1: came 03[04] (length 2), expected 03[05] (length 2)"
+
+
+def what_is_written_is_judged(trial: Trial) -> None:
+    for script in ("a:0102 a:0304", "a a:03*", "a a"):
+        ran = expecting(trial, script, "ends")
+        trial.expect(ran, 0)
+        trial.check("libusb: error" not in ran.stderr and " expects" not in ran.stderr, f"{script}: told {ran.stderr!r}")
+    judged = f"what {trial.program} wrote isn't what {trial.folder}/expects.txt expects: status 3 in place of 0"
+    for how in ("ends", "exits"):
+        ran = expecting(trial, "a:0102 a:0305", how)
+        trial.expect(ran, 3, f"libusb: error {DIFFERS}\n", f"1 difference; the first: {DIFFERS}\n", judged)
+    trial.expect(expecting(trial, "a:0102 a:0305", "leaves"), 3, f"libusb: error {DIFFERS}\n", judged)
+    trial.expect(expecting(trial, "a:0102 a:0305", "ends", "--limit", "20s"), 3, DIFFERS, judged)
+
+
+def other_differences_make_the_status(trial: Trial) -> None:
+    ran = expecting(trial, "a:0102 a:0304 a:05 a:06", "ends")
+    trial.expect(ran, 3, "2 expected packets never came; the first is packet 3: expected 05 ")
+    trial.expect(expecting(trial, "a:0102", "ends"), 3, "packet 2 is more than the script takes, and waits: came 0304 (length 2)")
+    ran = expecting(trial, "a:0102 a:0304 a:05", "leaves")
+    trial.expect(ran, 0, "ended without exit and without libusb_exit: what it didn't write isn't known")
+
+
+def a_status_of_its_own_stays(trial: Trial) -> None:
+    ran = expecting(trial, "a:0102 a:0305", "fails")
+    trial.expect(ran, 7, DIFFERS)
+    trial.check("status 3" not in ran.stderr, f"told {ran.stderr!r}")
+    trial.expect(expecting(trial, "a:0102 a:0305", "fails", "--limit", "20s"), 7, DIFFERS)
+
+
+def lenient_runs_only_tell(trial: Trial) -> None:
+    for words in ([], ["--limit", "20s"]):
+        ran = expecting(trial, "a:0102 a:0305", "ends", "--lenient", *words)
+        trial.expect(ran, 0, DIFFERS)
+        trial.check("status 3" not in ran.stderr, f"told {ran.stderr!r}")
+    trial.expect(expecting(trial, "a:0102 a:0305", "ends", "--lenient", "--seeds", "1-3"), 0, "3 runs, 0 failed")
+
+
+def each_seed_is_judged(trial: Trial) -> None:
+    trial.expect(expecting(trial, "a:0102 a:0304", "ends", "--seeds", "1-5"), 0, "5 runs, 0 failed")
+    ran = expecting(trial, "a:0102 a:0305", "ends", "--seeds", "1-3", "--keep-going")
+    trial.expect(ran, 1, "seed 1 failed: it wrote something else than is expected\n", DIFFERS, "so did 2, 3\n", "3 runs, 3 failed")
+    trial.expect(expecting(trial, "a:0102", "ends", "--seeds", "1-2", "--keep-going"), 1, "is more than the script takes", "2 failed")
+    trace = (trial.folder / "tirnouch-seed-1.trace").read_text()
+    trial.check("# differs: device 0, endpoint 02: packet 2 is more" in trace, "the trace says nothing of it")
+
+
+def a_program_of_a_device_expects(trial: Trial) -> None:
+    """Its own lines have what is expected; and the text that starts it is judged as any other."""
+    lines = DEVICES.read_text().splitlines()[0], "script 0 02 a:0102 a:0305", "ok"
+    (trial.folder / "device.sh").write_text("read hello\n" + "".join(f"echo '{it}'\n" for it in lines) + "cat >/dev/null\n")
+    devices = trial.folder / "program.txt"
+    devices.write_text("program 0 sh device.sh\n")
+    ran = trial.run([str(devices), "--", str(trial.program), "writes", "ends"])
+    trial.expect(ran, 3, DIFFERS)
+
+
 def environment_of(process: str) -> str:
     """The environment of a process; nothing where it has ended."""
     try:
@@ -257,7 +323,8 @@ TRIALS = [
     plain_runs_are_the_program, wrong_words_are_refused, help_names_every_word, programs_are_refused, the_version_is_told, a_limit_lets_a_program_end,
     over_limit("events"), over_limit("loop"), over_limit("before", "ended by SIGTERM", "there is no trace"), over_limit("deadlock"),
     over_limit("deaf"), a_limit_tells_the_last_steps, a_limit_ends_children_too, signals_are_passed_on, the_terminal_is_the_programs,
-    seeds_stop_at_the_lowest, seeds_have_a_limit, seeds_tell_other_failures, asked_to_end,
+    what_is_written_is_judged, other_differences_make_the_status, a_status_of_its_own_stays, lenient_runs_only_tell,
+    each_seed_is_judged, a_program_of_a_device_expects, seeds_stop_at_the_lowest, seeds_have_a_limit, seeds_tell_other_failures, asked_to_end,
 ]
 
 

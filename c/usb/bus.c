@@ -26,13 +26,19 @@ static int make_shared(const struct desk *desk, const char *text, size_t length)
     return r;
 }
 
-/* The text as it is, where no device has its own core. */
+/* The text as it is, where no device has its own core and nothing is expected of a driver. */
 static int make_core(const struct desk *desk)
 {
     struct growing text = { 0 };
-    if (!desk->has_own && !desk->has_returns)
+    bool is_mixed = desk->has_own || desk->has_returns;
+    if (!is_mixed && !desk->has_expected)
         return make_shared(desk, desk->text, desk->length);
-    write_lines(&text, desk->text, desk->length, desk->there, NULL);
+    if (is_mixed)
+        write_lines(&text, desk->text, desk->length, desk->there, NULL);
+    else
+        grow(&text, desk->text, desk->length);
+    if (desk->has_expected && !text.failed)
+        text.length = without_expected(text.at, text.length);
     int r = text.failed ? LIBUSB_ERROR_NO_MEM : make_shared(desk, text.at ? text.at : "", text.length);
     free(text.at);
     return r;
@@ -42,9 +48,12 @@ static int make_device(struct device *device, const struct desk *desk)
 {
     bool is_own = device->number < desk->count && desk->is_own[device->number];
     int r = is_own ? begin_own_core(device, desk) : 0;
-    if (!r && (is_own || desk->there[device->number] >= 0))
-        r = learn(device);
-    return r;
+    if (r || (!is_own && desk->there[device->number] < 0))
+        return r;
+    r = learn(device);
+    if (!r && is_own)
+        return learn_expected(device, device->text, device->text_length, desk->name);
+    return !r && desk->has_expected ? learn_expected(device, desk->text, desk->length, desk->name) : r;
 }
 
 static void begin_device(int number, const struct desk *desk)
@@ -70,6 +79,7 @@ static int make_devices(const char *text, size_t length, const char *name)
     struct desk desk = { .text = text, .length = length, .name = name };
     process.bus.text = text;
     process.bus.text_length = length;
+    desk.has_expected = has_expected(text, length);
     int r = read_desk(&desk);
     if (!r)
         r = make_core(&desk);
@@ -79,6 +89,8 @@ static int make_devices(const char *text, size_t length, const char *name)
     }
     if (!r)
         hide_successors();
+    if (!r && process.bus.is_judged)
+        begin_judging();
     return r;
 }
 
@@ -158,6 +170,8 @@ void bus_end(void)
 {
     if (--process.bus.users)
         return;
+    if (process.bus.is_judged)
+        report_differences();
     for (int i = 0; process.bus.is_traced && i < DEVICES; i++)
         give_back(&process.bus.devices[i]);
     clear_bus();

@@ -48,6 +48,7 @@
 
 struct core;
 struct device;
+struct judged;
 struct pipe;
 struct program;
 
@@ -97,6 +98,7 @@ struct pipe {
     bool is_halted, is_active;
     bool is_stopped;                  /* halted by a request of the program's: it stalls until the halt is cleared */
     bool is_watched;                  /* its answers are looked at one by one */
+    bool is_judged;                   /* something is expected of the driver there; `expected_at` has it */
     bool is_asked;                    /* behind its script a function, or a program, is asked for its answers; */
     uint32_t fed;                     /* so many were in this session of the core; */
     uint64_t later;                   /* it isn't before this moment, 0 for none */
@@ -154,6 +156,8 @@ struct device {
     char *text;                       /* its lines, where it has a core of its own, */
     size_t text_length;
     size_t program_lines;             /* of which so many are its program's, before those of the text */
+    struct judged *judged;            /* its lines `control`, where one of them expects something of the driver; else NULL */
+    struct judged *packets[ENDPOINTS]; /* and what is expected at its endpoints; NULL for nothing */
 };
 
 struct libusb_device {
@@ -247,6 +251,7 @@ struct bus {
     uint64_t stirs, settled;          /* how often there was something to be done; and how often when all was done */
     uint64_t moment;                  /* of virtual time */
     bool is_virtual;                  /* time passes only where nothing else is to be done */
+    bool is_judged;                   /* a text expects something of the driver, of which the end isn't told yet */
     size_t active_count;
     struct pipe *active[DEVICES * ENDPOINTS]; /* where something waits or is in the core */
     struct libusb_device_handle *handles;
@@ -313,5 +318,6 @@ static inline unsigned place_of(uint8_t ep) { return (ep & 15u) * 2 + (ep >> 7);
 #include "calls.h"
 #include "quick.h"
 #include "living.h"
+#include "judged.h"
 
 #endif

@@ -24,6 +24,14 @@ void note_call(struct libusb_context *context, int answer, const char *function,
     __attribute__((format(printf, 4, 5)));
 void watch_for(int level);
 
+/* sentences.c: a sentence that is put together; what doesn't fit is left out */
+struct sentence {
+    size_t length;
+    char text[400];
+};
+void append(struct sentence *it, const char *format, ...) __attribute__((format(printf, 2, 3)));
+const char *plural(uint64_t count);
+
 /* why.c: why a transfer doesn't end */
 void tell_why(struct transfer *transfer, const char *what, bool always);
 void tell_all_why(struct libusb_context *context, const char *what);

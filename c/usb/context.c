@@ -51,11 +51,12 @@ static void begin_in_child(struct libusb_context *context)
         poll_in_child(context);
 }
 
-/* The trace is the parent's, and so are its programs. */
+/* The trace is the parent's, and so are its programs; and it is the parent that is told what wasn't written. */
 static void go_on_in_child(void)
 {
     trace_forget();
     leave_programs();
+    process.bus.is_judged = false;
     for (struct libusb_context *context = process.contexts; context; context = context->next)
         begin_in_child(context);
     unlock();

@@ -79,6 +79,8 @@ static int answer_by_text(struct transfer *transfer, const uint8_t *setup, uint8
         int r = tirnouch_request(&device->core->slot, device->number_there, setup, data, (size_t)length, &told);
         if (r < 0)
             return r == LIBUSB_ERROR_NO_MEM ? TIRNOUCH_BROKEN : TIRNOUCH_STALL;
+        if (device->judged)
+            judge_request(device, setup, data);
         if (told.kind == TIRNOUCH_CALLED)
             break;
         transfer->naks++;

@@ -27,6 +27,17 @@ static bool is_passed_over(struct pipe *pipe)
     return !dice(4);
 }
 
+static bool may_serve(struct pipe *pipe, bool asks)
+{
+    if (gate_before(pipe))
+        return false;
+    if (core_serves(pipe) || (asks && may_be_asked(pipe)))
+        return true;
+    if (pipe->is_judged)
+        judge_end(pipe);
+    return false;
+}
+
 /* A packet at one of the endpoints; whether one was served, or may be another time. A function of the program's isn't asked, unless events
  * are handled. */
 static bool serve_some(bool asks)
@@ -36,7 +47,7 @@ static bool serve_some(bool asks)
     bool any = false;
     for (size_t i = 0; i < count; i++) {
         struct pipe *pipe = bus->active[(first + i) % count];
-        if (!pipe->in_core || gate_before(pipe) || !(core_serves(pipe) || (asks && may_be_asked(pipe))))
+        if (!pipe->in_core || !may_serve(pipe, asks))
             continue;
         if (is_passed_over(pipe))
             any = true;

@@ -8,6 +8,7 @@ void forget(struct device *device)
 {
     for (unsigned i = 0; i < ENDPOINTS; i++)
         free(device->pipes[i].gates);
+    forget_expected(device);
     end_own_core(device);
     free_program(device->program);
     free(device->config);
@@ -26,7 +27,7 @@ void watch(struct device *device)
 {
     bool is_watched = device->is_watched || process.bus.is_watched;
     for (int i = 0; i < ENDPOINTS; i++)
-        device->pipes[i].is_watched = is_watched;
+        device->pipes[i].is_watched = is_watched || device->pipes[i].is_judged;
 }
 
 /* Whether a handle's device is gone, or was plugged in anew since it was opened. */

@@ -25,6 +25,7 @@ struct desk {
     size_t length;
     int count;                        /* of the devices that it has */
     bool has_own, has_returns;
+    bool has_expected;                /* some line may say what is expected of the driver */
     bool is_own[DEVICES];
     struct line commands[DEVICES];    /* the line of a program; of no length for none */
     int successors[DEVICES];          /* -1 for none */

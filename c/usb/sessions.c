@@ -31,6 +31,7 @@ static int make_session(const struct device *device, bool rests, struct session 
     number_alone(there, device->number, 0);
     write_lines(&made->text, device->text, device->text_length, there, rests ? device : NULL);
     int r = made->text.failed ? LIBUSB_ERROR_NO_MEM : 0;
+    made->text.length = without_expected(made->text.at, made->text.length);
     if (!r)
         r = tirnouch_create(&made->slot, (const uint8_t *)made->text.at, made->text.length, &told);
     return r;
@@ -143,6 +144,7 @@ static void replace_session(struct device *device, struct session *made)
     core->slot = made->slot;
     core->fed = 0;
     core->sessions++;
+    expect_requests_anew(device);
     trace_begin(core, device);
     trace_devices(core, made->text.at, made->text.length);
 }
@@ -169,12 +171,17 @@ static void go_on(struct device *device)
             feed(&device->pipes[i]);
 }
 
-/* How many packets it took at its endpoints, before the session ends that has them. */
+/* How many packets it took at its endpoints, before the session ends that has them; till then they are judged. */
 static void count_taken(struct device *device)
 {
-    for (int i = 0; i < ENDPOINTS; i++)
-        if (device->pipes[i].kind && !is_in(device->pipes[i].ep))
-            device->pipes[i].took = came_at(device, device->pipes[i].ep);
+    for (int i = 0; i < ENDPOINTS; i++) {
+        struct pipe *pipe = &device->pipes[i];
+        if (!pipe->kind || is_in(pipe->ep))
+            continue;
+        if (pipe->is_judged)
+            judge(pipe);
+        pipe->took = came_at(device, pipe->ep);
+    }
 }
 
 /* Where memory is refused the session goes on, and another time is as good. */
@@ -201,6 +208,7 @@ static void move(struct device *device, struct core *core, const struct session 
     leave_names(device);
     use_core(device, core);
     core->slot = made->slot;
+    expect_requests_anew(device);
     trace_begin(core, device);
     trace_devices(core, made->text.at, made->text.length);
     go_on(device);
@@ -282,6 +290,7 @@ static void forget_state(struct device *device)
         pipe->answers = pipe->naks = pipe->script = pipe->fed = 0;
         pipe->later = pipe->took = 0;
         pipe->is_halted = pipe->is_stopped = false;
+        expect_anew(pipe);
     }
     free(device->requests);
     device->requests = NULL;

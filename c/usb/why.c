@@ -3,60 +3,39 @@
 #include "bus.h"
 
 #include <inttypes.h>
-#include <stdarg.h>
 #include <stdio.h>
 #include <unistd.h>
 
 /* Of how many in flight this is told at once. */
 #define MOST_TOLD 16
 
-struct sentence {
-    size_t length;
-    char text[400];
-};
-
-__attribute__((format(printf, 2, 3))) static void say(struct sentence *it, const char *format, ...)
-{
-    va_list rest;
-    size_t room = sizeof it->text - it->length;
-    va_start(rest, format);
-    int count = vsnprintf(it->text + it->length, room, format, rest);
-    va_end(rest);
-    it->length += count < 0 ? 0 : (size_t)count < room ? (size_t)count : room - 1;
-}
-
-static const char *plural(uint64_t count)
-{
-    return count == 1 ? "" : "s";
-}
-
 static void say_which(struct sentence *it, struct transfer *transfer)
 {
     const struct libusb_transfer *shown = seen(transfer);
     const uint8_t *setup = shown->buffer;
     if (transfer->pipe)
-        say(it, "the transfer of %d byte%s at %02x", shown->length, plural((uint64_t)shown->length), transfer->pipe->ep);
+        append(it, "the transfer of %d byte%s at %02x", shown->length, plural((uint64_t)shown->length), transfer->pipe->ep);
     else if (setup)
-        say(it, "the request %02x %02x %04x %04x of %u bytes", setup[0], setup[1], two_bytes(setup + 2), two_bytes(setup + 4),
+        append(it, "the request %02x %02x %04x %04x of %u bytes", setup[0], setup[1], two_bytes(setup + 2), two_bytes(setup + 4),
             two_bytes(setup + 6));
     else
-        say(it, "a request");
+        append(it, "a request");
 }
 
 static void say_gate(struct sentence *it, const struct pipe *pipe, const struct gate *gate)
 {
     uint64_t came = came_at(pipe->device, gate->other);
     if (gate->other)
-        say(it, "%02x waits for packet %" PRIu64 " at %02x, %" PRIu64 " came", pipe->ep, gate->count, gate->other, came);
+        append(it, "%02x waits for packet %" PRIu64 " at %02x, %" PRIu64 " came", pipe->ep, gate->count, gate->other, came);
     else
-        say(it, "%02x waits for control request %" PRIu64 ", %" PRIu64 " came", pipe->ep, gate->count, came);
+        append(it, "%02x waits for control request %" PRIu64 ", %" PRIu64 " came", pipe->ep, gate->count, came);
 }
 
 static void say_asked(struct sentence *it, const struct pipe *pipe)
 {
-    say(it, "the device's %s isn't ready at %02x", pipe->device->program ? "program" : "function", pipe->ep);
+    append(it, "the device's %s isn't ready at %02x", pipe->device->program ? "program" : "function", pipe->ep);
     if (pipe->later > now())
-        say(it, ", for %" PRIu64 " ms more", (pipe->later - now() + MILLISECOND - 1) / MILLISECOND);
+        append(it, ", for %" PRIu64 " ms more", (pipe->later - now() + MILLISECOND - 1) / MILLISECOND);
 }
 
 /* What an endpoint waits for; false where something is to be done there. */
@@ -73,11 +52,11 @@ static bool say_why_at(struct sentence *it, struct pipe *pipe)
     else if (pipe->is_asked)
         say_asked(it, pipe);
     else if (pipe->script)
-        say(it, "the script of %02x is at its end behind %" PRIu32 " answer%s", pipe->ep, pipe->script, plural(pipe->script));
+        append(it, "the script of %02x is at its end behind %" PRIu32 " answer%s", pipe->ep, pipe->script, plural(pipe->script));
     else
-        say(it, "%02x has no script, and never answers", pipe->ep);
+        append(it, "%02x has no script, and never answers", pipe->ep);
     if (pipe->naks)
-        say(it, "; the device answered not ready %" PRIu32 " time%s", pipe->naks, plural(pipe->naks));
+        append(it, "; the device answered not ready %" PRIu32 " time%s", pipe->naks, plural(pipe->naks));
     return true;
 }
 
@@ -89,9 +68,9 @@ static bool say_why_at_control(struct sentence *it, const struct transfer *trans
     if (!transfer->naks && (!first || first == transfer || !first->naks))
         return false;
     if (transfer->naks)
-        say(it, "the device answered not ready %u time%s", transfer->naks, plural(transfer->naks));
+        append(it, "the device answered not ready %u time%s", transfer->naks, plural(transfer->naks));
     else
-        say(it, "the device answered a request before it not ready %u time%s", first->naks, plural(first->naks));
+        append(it, "the device answered a request before it not ready %u time%s", first->naks, plural(first->naks));
     return true;
 }
 
@@ -109,7 +88,7 @@ static void tell_one(struct transfer *transfer, const char *what, bool always)
         return;
     say_which(&which, transfer);
     if (!waits)
-        say(&why, "events weren't handled since it could go on");
+        append(&why, "events weren't handled since it could go on");
     note(transfer->context, LIBUSB_LOG_LEVEL_WARNING, "%s %s: %s", which.text, what, why.text);
     trace_comment(transfer->handle->device->core, "why: %s %s: %s", which.text, what, why.text);
 }
@@ -146,7 +125,7 @@ static void write_context(int file, struct libusb_context *context)
         struct sentence which = { 0 }, why = { 0 };
         say_which(&which, it);
         if (!say_why(&why, it))
-            say(&why, "events aren't handled, where it could go on");
+            append(&why, "events aren't handled, where it could go on");
         dprintf(file, "libusb:   %s is in flight: %s\n", which.text, why.text);
         trace_comment(it->handle->device->core, "why: %s is in flight: %s", which.text, why.text);
     }

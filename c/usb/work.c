@@ -64,6 +64,8 @@ bool serve(struct pipe *pipe, uint32_t most)
         goes_on = serve_one(pipe);
         any = true;
     }
+    if (pipe->is_judged)
+        judge(pipe);
     return any;
 }
 

@@ -1,15 +1,16 @@
 """The part of tools/tirnouch-run that watches programs: a limit, many seeds, the library's version.
 
     python3 tools/runs version LIBRARY FILE
-    python3 tools/runs limit TIME MILLISECONDS -- PROGRAM ..
-    python3 tools/runs seeds FIRST LAST [--jobs N] [--keep-going] [--limit TIME MILLISECONDS] [--virtual] [--no-programs] \
+    python3 tools/runs judge DEVICES -- PROGRAM ..
+    python3 tools/runs limit TIME MILLISECONDS [--judge DEVICES] -- PROGRAM ..
+    python3 tools/runs seeds FIRST LAST [--jobs N] [--keep-going] [--limit TIME MILLISECONDS] [--virtual] [--no-programs] [--lenient] \
         --picture USBTRACE REMEDY --again RUN DEVICES -- PROGRAM ..
 
 tools/tirnouch-run has checked the words, and has set the environment of the program. It knows where the parts stand, in the repository
 and where they are installed: the library, the FILE with the version, and usbtrace, with the REMEDY where that is missing.
 
-The modules, from below: program (a process group, and its end); traces (the files of a run's steps); limit (a run that is ended when
-its time is over); seeds (many runs); shown (what is told of them)."""
+The modules, from below: program (a process group, and its end); traces (the files of a run's steps); judged (whether a run wrote what is
+expected); limit (a run that is watched, and ended when its time is over); seeds (many runs); shown (what is told of them)."""
 import argparse
 import ctypes
 import pathlib
@@ -18,7 +19,7 @@ import sys
 import tempfile
 from typing import List, NoReturn, Sequence
 
-from limit import run_with_limit
+from limit import run_judged, run_with_limit
 from program import end_by, tell
 from seeds import Seeds
 from shown import report
@@ -78,9 +79,12 @@ def arguments(words: Sequence[str]) -> argparse.Namespace:
     version = kinds.add_parser("version")
     version.add_argument("library")
     version.add_argument("file", type=pathlib.Path)
+    judge = kinds.add_parser("judge")
+    judge.add_argument("devices")
     limit = kinds.add_parser("limit")
     limit.add_argument("said")
     limit.add_argument("milliseconds", type=int)
+    limit.add_argument("--judge")
     seeds = kinds.add_parser("seeds")
     seeds.add_argument("first", type=int)
     seeds.add_argument("last", type=int)
@@ -89,6 +93,7 @@ def arguments(words: Sequence[str]) -> argparse.Namespace:
     seeds.add_argument("--limit", nargs=2)
     seeds.add_argument("--virtual", action="store_true")
     seeds.add_argument("--no-programs", action="store_true")
+    seeds.add_argument("--lenient", action="store_true")
     seeds.add_argument("--picture", nargs=2, required=True)
     seeds.add_argument("--again", nargs=2, required=True)
     return parser.parse_args(words)
@@ -99,8 +104,10 @@ def main(words: List[str]) -> int:
     asked, program = arguments(words[:at]), words[at + 1:]
     if asked.kind == "version":
         return print_version(asked.library, asked.file)
+    if asked.kind == "judge":
+        run_judged(asked.devices, program)
     if asked.kind == "limit":
-        run_with_limit(asked.said, asked.milliseconds, program)
+        run_with_limit(asked.said, asked.milliseconds, asked.judge, program)
     return run_seeds(asked, program)
 
 

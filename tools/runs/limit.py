@@ -3,16 +3,20 @@
 The library itself ends the run when the time is over, since it knows what is in flight; a program that doesn't get so far, or hangs
 elsewhere, is ended from here somewhat later."""
 import os
+import pathlib
 import signal
 import sys
 import tempfile
 import time
 from typing import Dict, NoReturn, Optional, Sequence
 
+from judged import Judgement
 from program import GRACE, OVER, SLACK, become, end_by, program_environment, signal_group, tell
 from traces import last_lines, traces_of
 
 LAST_LINES = 10
+# A run without a limit ends before this many seconds.
+NEVER = 1e9
 # What is passed on to the program: whatever asks this process to end, or tells it something.
 PASSED_ON = (signal.SIGINT, signal.SIGTERM, signal.SIGHUP, signal.SIGQUIT, signal.SIGUSR1, signal.SIGUSR2, signal.SIGTSTP)
 
@@ -112,13 +116,47 @@ def tell_last_steps(name: str, since: float) -> None:
         print(f"    {line}", file=sys.stderr, flush=True)
 
 
-def run_with_limit(said: str, milliseconds: int, words: Sequence[str]) -> NoReturn:
-    """Runs the program, and ends as it does, or with status 124 where the limit is over."""
+def end_as(program: Watched, status: int) -> NoReturn:
+    """Ends as the program did."""
+    sys.stdout.flush()
+    if os.WIFSIGNALED(status):
+        if program.had_terminal and os.WTERMSIG(status) == signal.SIGINT:
+            # The keyboard interrupted the program's group alone: whoever waits in ours is to know of it.
+            signal.signal(signal.SIGINT, signal.SIG_IGN)
+            os.killpg(program.ours, signal.SIGINT)
+        end_by(os.WTERMSIG(status))
+    os._exit(os.WEXITSTATUS(status))
+
+
+def judged_status(judgement: Judgement, devices: Optional[str], program: str, status: int) -> int:
+    """The status as `wait` has it. Without the devices' name the run isn't judged."""
+    if devices is None or not os.WIFEXITED(status):
+        return status
+    return judgement.status(program, devices, os.WEXITSTATUS(status)) << 8
+
+
+def run_judged(devices: str, words: Sequence[str]) -> NoReturn:
+    """Runs the program, and ends as it does, or by what is judged."""
+    environment = program_environment()
+    with tempfile.TemporaryDirectory(prefix="tirnouch-run-") as folder:
+        judgement = Judgement(pathlib.Path(folder))
+        environment.update(judgement.environment())
+        program = Watched(words, environment)
+        program.wait(time.monotonic() + NEVER)
+        status = judged_status(judgement, devices, words[0], program.status or 0)
+    end_as(program, status)
+
+
+def run_with_limit(said: str, milliseconds: int, devices: Optional[str], words: Sequence[str]) -> NoReturn:
+    """Runs the program, and ends as it does, or with status 124 where the limit is over. It is judged where the devices' name is said."""
     environment = program_environment()
     # A file's moment may be a little earlier than the clock.
     began, since = time.monotonic(), time.time() - 1
     with tempfile.TemporaryDirectory(prefix="tirnouch-run-") as folder:
         name = environment.setdefault(b"TIRNOUCH_TRACE", os.fsencode(folder) + b"/trace")
+        judgement = Judgement(pathlib.Path(folder))
+        if devices is not None:
+            environment.update(judgement.environment())
         program = Watched(words, environment)
         is_in_time = program.wait(began + milliseconds / 1000 + SLACK)
         status = program.status
@@ -130,13 +168,6 @@ def run_with_limit(said: str, milliseconds: int, words: Sequence[str]) -> NoRetu
             program.end()
             tell(f"{words[0]} didn't end within {said}: the library ended it")
             tell_last_steps(os.fsdecode(name), since)
-    sys.stdout.flush()
-    if status is None:
-        os._exit(OVER)
-    if os.WIFSIGNALED(status):
-        if program.had_terminal and os.WTERMSIG(status) == signal.SIGINT:
-            # The keyboard interrupted the program's group alone: whoever waits in ours is to know of it.
-            signal.signal(signal.SIGINT, signal.SIG_IGN)
-            os.killpg(program.ours, signal.SIGINT)
-        end_by(os.WTERMSIG(status))
-    os._exit(os.WEXITSTATUS(status))
+        if status is not None:
+            status = judged_status(judgement, devices, words[0], status)
+    end_as(program, OVER << 8 if status is None else status)

@@ -9,6 +9,7 @@ import threading
 import time
 from typing import Dict, List, NamedTuple, Optional, Sequence, Set
 
+from judged import Judgement
 from program import GRACE, OVER, SLACK, program_environment, signal_group
 from traces import steps_of
 
@@ -48,7 +49,8 @@ class Seeds:
                 return None
             self.next_seed += 1
             self.at(seed).mkdir()
-            more = {b"TIRNOUCH_SEED": b"%d" % seed, b"TIRNOUCH_TRACE": os.fsencode(self.at(seed) / "trace")}
+            more = {b"TIRNOUCH_SEED": b"%d" % seed, b"TIRNOUCH_TRACE": os.fsencode(self.at(seed) / "trace"),
+                    **Judgement(self.at(seed)).environment()}
             with (self.at(seed) / "output").open("wb") as output:
                 self.running[seed] = subprocess.Popen(self.program, env={**self.environment, **more}, stdin=subprocess.DEVNULL,
                                                       stdout=output, stderr=subprocess.STDOUT, start_new_session=True)
@@ -71,6 +73,8 @@ class Seeds:
         if limit and status == OVER and time.monotonic() - began >= int(limit[1]) / 1000:
             status = None  # the library ended it
         failure = f"it didn't end within {limit[0]}" if limit and status is None else failure_of(status or 0)
+        if not failure and not self.words.lenient and Judgement(self.at(seed)).differs():
+            failure = "it wrote something else than is expected"
         return Outcome(seed, failure, steps_of(self.at(seed)))
 
     def finish(self, outcome: Outcome) -> None:

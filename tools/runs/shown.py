@@ -75,6 +75,7 @@ def command_again(words: argparse.Namespace, program: Sequence[str], seed: int) 
     run, devices = words.again
     more = ["--virtual"] if words.virtual else []
     more += ["--no-programs"] if words.no_programs else []
+    more += ["--lenient"] if words.lenient else []
     more += ["--limit", words.limit[0]] if words.limit else []
     return shlex.join([run, devices, "--seed", str(seed), *more, "--", *program])
 

@@ -11,6 +11,7 @@
 #include <unistd.h>
 
 #define FROM_DEVICE 0x81
+#define TO_DEVICE 0x02
 #define PACKET 8
 
 static libusb_device_handle *handle;
@@ -186,6 +187,21 @@ static int reads_a_line(void)
     return 0;
 }
 
+/* Writes two packets, and ends as the word says: by libusb_exit, by exit alone, by _exit, or with a status of its own. */
+static int writes(const char *how)
+{
+    unsigned char first_packet[2] = { 1, 2 }, second_packet[2] = { 3, 4 };
+    int moved;
+    begin();
+    libusb_bulk_transfer(handle, TO_DEVICE, first_packet, 2, &moved, 100);
+    libusb_bulk_transfer(handle, TO_DEVICE, second_packet, 2, &moved, 100);
+    if (!strcmp(how, "leaves"))
+        _exit(0);
+    if (!strcmp(how, "exits"))
+        exit(0);
+    return end(!strcmp(how, "fails") ? 7 : 0);
+}
+
 int main(int count, char **words)
 {
     static const struct {
@@ -199,5 +215,7 @@ int main(int count, char **words)
     for (size_t i = 0; count > 1 && i < sizeof all / sizeof all[0]; i++)
         if (!strcmp(words[1], all[i].name))
             return all[i].run();
+    if (count > 2 && !strcmp(words[1], "writes"))
+        return writes(words[2]);
     return count > 2 ? atoi(words[2]) : 2;
 }

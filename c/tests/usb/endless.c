@@ -56,14 +56,23 @@ static void report(struct libusb_transfer *transfer)
         libusb_submit_transfer(transfer);
 }
 
-/* Reads wait all the time, as a keyboard's do, and each second question finds nothing: so reads are in flight wherever a session ends. */
+static void write_byte(unsigned char byte)
+{
+    int moved = 0;
+    answer("write", libusb_bulk_transfer(handle, 0x02, &byte, 1, &moved, 1000));
+}
+
+/* Reads wait all the time, as a keyboard's do, and each second question finds nothing: so reads are in flight wherever a session ends. What a
+ * script expects of the driver it expects over the sessions. */
 static void without_end(void)
 {
     struct timeval minute = { 60, 0 };
     struct libusb_transfer *all[2], *left;
     virtual_time(1);
     tirnouch_on_packet(0, 0x81, count_up, NULL);
-    begin("a read always waits", "");
+    hear_errors();
+    begin("a read always waits", "script 0 02 a:01 a:02\n");
+    write_byte(1);
     left = submit(3, 0x83, 8);
     for (int i = 0; i < 2; i++) {
         all[i] = make(i, 0x81, 8);
@@ -73,6 +82,7 @@ static void without_end(void)
     while (endless.reports < MANY && !libusb_handle_events_timeout(context, &minute))
         continue;
     number("reports", endless.reports);
+    write_byte(3);
     number("wrong", endless.wrong);
     number("out of order", endless.overtaken);
     answer("cancel of the last one", libusb_cancel_transfer(all[0]));
@@ -82,6 +92,7 @@ static void without_end(void)
     discard(all[1]);
     discard(left);
     end();
+    show_errors();
     tirnouch_on_packet(0, 0x81, NULL, NULL);
     virtual_time(0);
 }
@@ -109,7 +120,9 @@ static void amid_a_write(void)
     asked = 0;
     tirnouch_on_packet(0, 0x81, stall_once, NULL);
     tirnouch_on_packet(0, 0x02, take, NULL);
-    begin("a session that ends amid a write, at a halt", "script 0 83 d:01 d:02 d:03\nafter 0 83 1 02 3\n");
+    hear_errors();
+    begin("a session that ends amid a write, at a halt",
+          "script 0 83 d:01 d:02 d:03\nafter 0 83 1 02 3\nscript 0 02 a:0000000000000000 a:00000000000000ff\n");
     read_once();
     answer("script", libusb_interrupt_transfer(handle, 0x83, four, 8, &moved, 1000));
     bytes("  of", four, moved);
@@ -126,6 +139,7 @@ static void amid_a_write(void)
     number("behind it", tirnouch_took(0, 0x02, SIZE / 8, NULL, 0));
     free(data);
     end();
+    show_errors();
     tirnouch_on_packet(0, 0x81, NULL, NULL);
     tirnouch_on_packet(0, 0x02, NULL, NULL);
 }

@@ -6,37 +6,8 @@
 #include <stdlib.h>
 #include <string.h>
 #include <sys/wait.h>
-#include <unistd.h>
 
 #define ECHO "program 0 sh programs/echo.sh\n"
-
-static FILE *errors;
-static int before;
-
-/* What the library says on standard error goes to a file meanwhile. */
-static void catch_errors(void)
-{
-    errors = tmpfile();
-    before = dup(STDERR_FILENO);
-    if (!errors || before < 0)
-        exit(1);
-    fflush(stderr);
-    dup2(fileno(errors), STDERR_FILENO);
-}
-
-/* The library's own lines of it: a shell has its own words. */
-static void show_errors(void)
-{
-    char line[400];
-    fflush(stderr);
-    dup2(before, STDERR_FILENO);
-    close(before);
-    rewind(errors);
-    while (fgets(line, sizeof line, errors))
-        if (!strncmp(line, "libusb: ", 8))
-            printf("  %s", line);
-    fclose(errors);
-}
 
 static void patience(const char *seconds)
 {
@@ -141,7 +112,7 @@ static void begin_hostile(const char *wrong, const char *seconds)
     char text[1024];
     snprintf(text, sizeof text, "%sprogram 0 sh programs/hostile.sh \"%s\"\n", STANDARD, wrong);
     patience(seconds);
-    catch_errors();
+    hear_errors();
     begin_text(wrong, text);
     handle = open_standard(context);
     libusb_claim_interface(handle, 0);
@@ -162,7 +133,7 @@ static void hostile(const char *wrong, const char *seconds)
 static void refuse(const char *what, const char *text)
 {
     libusb_context *own = NULL;
-    catch_errors();
+    hear_errors();
     if (tirnouch_plug(text, strlen(text)))
         exit(1);
     puts(what);
@@ -215,7 +186,7 @@ static void one_of_two(void)
     snprintf(text, sizeof text, "%sprogram 0 sh programs/hostile.sh ends\n%s", STANDARD,
              "device 1 0902190001010080320904000001ff00000007058102080000\nids 1 1209 0041\nscript 1 81 d:01 d:02\n");
     patience("20");
-    catch_errors();
+    hear_errors();
     begin_text("one of two devices ends", text);
     handle = open_standard(context);
     libusb_device_handle *other = libusb_open_device_with_vid_pid(context, 0x1209, 0x41);

@@ -5,6 +5,7 @@
 #include <stdlib.h>
 #include <string.h>
 #include <time.h>
+#include <unistd.h>
 
 #define ROUNDS 20
 
@@ -215,6 +216,30 @@ void took(unsigned char ep)
     for (size_t i = 0; (length = tirnouch_took(0, ep, i, packet, sizeof packet)) >= 0; i++)
         printf(" %d", length);
     printf("\n");
+}
+
+static FILE *errors;
+static int errors_before;
+
+void hear_errors(void)
+{
+    fflush(stderr);
+    errors_before = dup(STDERR_FILENO);
+    errors = tmpfile();
+    require(errors && errors_before >= 0 && dup2(fileno(errors), STDERR_FILENO) >= 0, "errors");
+}
+
+void show_errors(void)
+{
+    char line[1000];
+    fflush(stderr);
+    dup2(errors_before, STDERR_FILENO);
+    close(errors_before);
+    rewind(errors);
+    while (fgets(line, sizeof line, errors))
+        if (!strncmp(line, "libusb: ", 8))
+            printf("  %s", line);
+    fclose(errors);
 }
 
 long long clock_now(void)

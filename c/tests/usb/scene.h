@@ -60,6 +60,10 @@ void wait_for(int count);
 /* The packets that device 0 took at an endpoint, by their lengths. */
 void took(unsigned char ep);
 
+/* Standard error goes to a file from here on; then the library's lines of it are printed. */
+void hear_errors(void);
+void show_errors(void);
+
 /* Milliseconds of a clock that only goes on. */
 long long clock_now(void);
 /* Whether time passes only where nothing else is to be done: from the next scene on. */

@@ -5,37 +5,21 @@
 #include <stdio.h>
 #include <stdlib.h>
 #include <string.h>
-#include <unistd.h>
 
 /* Bulk IN 81 and bulk OUT 02 of 64 bytes. */
-#define DEVICE "device 0 0902200001010080320904000002ff0000000705810240000007050202400000\n"
+#define DEVICE_LINE "device 0 0902200001010080320904000002ff0000000705810240000007050202400000"
+#define DEVICE DEVICE_LINE "\n"
 
-static void show_errors(FILE *errors)
-{
-    char line[400];
-    rewind(errors);
-    while (fgets(line, sizeof line, errors))
-        printf("  %s", line);
-}
-
-/* Standard error goes to a file meanwhile. */
 static void refuse(const char *what, const char *text)
 {
     libusb_context *own = NULL;
-    int before = dup(STDERR_FILENO);
-    FILE *errors = tmpfile();
-    if (before < 0 || !errors || tirnouch_plug(text, strlen(text)))
-        exit(1);
-    fflush(stderr);
-    dup2(fileno(errors), STDERR_FILENO);
-    int result = libusb_init(&own);
-    fflush(stderr);
-    dup2(before, STDERR_FILENO);
-    close(before);
     puts(what);
-    show_errors(errors);
+    if (tirnouch_plug(text, strlen(text)))
+        exit(1);
+    hear_errors();
+    int result = libusb_init(&own);
+    show_errors();
     answer("init", result);
-    fclose(errors);
     if (!result)
         libusb_exit(own);
 }
@@ -89,6 +73,25 @@ static void own_lines(void)
     refuse("comes back twice", DEVICE "comes back 0 as 1\ncomes back 0 as 2\n");
 }
 
+/* What stands behind `a:`; all else of such a line is judged before. */
+static void expected(void)
+{
+    refuse("an expected packet of odd digits", DEVICE "script 0 02 n a:0 a\n");
+    refuse("an expected packet of no digits", DEVICE "script 0 02 a:01 a:0x02\n");
+    refuse("a star amid digits", DEVICE "script 0 02 a:01*02\n");
+    refuse("an expected packet over the endpoint's size", "device 0 0902200001010080320904000002ff0000000705810208000007050202080000\n"
+           "script 0 02 a:000102030405060708\n");
+    refuse("an expected packet at an IN endpoint", DEVICE "script 0 81 a:01\n");
+    refuse("expected data of a request that reads", DEVICE "control 0 c0 01 0000 0000 a:01\n");
+    refuse("expected data of odd digits", DEVICE "control 0 40 01 * 0000 a a:012\n");
+    refuse("an expected packet at an endpoint that isn't there", DEVICE "script 0 03 a:01\n");
+    refuse("a line of another system behind an expected packet", DEVICE "script 0 02 a:01\r\n");
+    refuse("a word that begins otherwise", DEVICE "script 0 02 ab:01\n");
+    refuse("what a program expects", "program 0 sh -c 'read x; echo " DEVICE_LINE "; echo script 0 02 a:01 a:1; echo ok'\n");
+    refuse("what a text expects at a device that is a program",
+           "program 0 sh -c 'read x; echo " DEVICE_LINE "; echo ok'\n# its packets\nscript 0 02 a:2\n");
+}
+
 static void taken(void)
 {
     refuse("a packet over the endpoint's size, which is babble", DEVICE "speed 0 full\nscript 0 81 d:" "00112233445566778899aabbccddeeff"
@@ -101,6 +104,7 @@ int main(void)
     spaces();
     places();
     own_lines();
+    expected();
     taken();
     return 0;
 }

@@ -1,0 +1,93 @@
+/* What a driver wrote differs from what its devices expect: the first difference is told at once, on standard error and in the trace, and
+ * once more at the end, with how many there were. TIRNOUCH_DIFFERENCES=FILE names a file for tools/tirnouch-run: a line `begun` of each bus
+ * that is judged, `differs` with the sentence of what was told, and `ended` where the end was judged.
+ *
+ * The end is that of the bus, by the last libusb_exit; or that of the process, where the bus is there still. In a child of fork the bus has
+ * no such end: what the child doesn't write its parent may. */
+#include "bus.h"
+
+#include <errno.h>
+#include <fcntl.h>
+#include <inttypes.h>
+#include <stdio.h>
+#include <stdlib.h>
+#include <string.h>
+#include <time.h>
+#include <unistd.h>
+
+static struct {
+    uint64_t count;
+    struct sentence first;
+} differences;
+
+/* In one write, so that lines of several processes don't mix. */
+static void write_down(const char *word, const char *sentence)
+{
+    const char *name = getenv("TIRNOUCH_DIFFERENCES");
+    if (!name || !*name)
+        return;
+    int file = open(name, O_WRONLY | O_APPEND | O_CREAT | O_CLOEXEC, 0666);
+    if (file < 0 || dprintf(file, "%s%s\n", word, sentence) < 0)
+        fprintf(stderr, "libusb: error TIRNOUCH_DIFFERENCES: %s can't be written: %s\n", name, strerror(errno));
+    if (file >= 0)
+        close(file);
+}
+
+static void tell(const struct device *device, const struct sentence *it)
+{
+    fprintf(stderr, "libusb: error %s\n", it->text);
+    trace_comment(device->core, "differs: %s", it->text);
+    write_down("differs ", it->text);
+}
+
+void tell_difference(const struct device *device, const struct sentence *it)
+{
+    if (differences.count++)
+        return;
+    differences.first = *it;
+    tell(device, it);
+}
+
+/* So many at once, at the end, where each place is told. */
+void tell_missing(const struct device *device, const struct sentence *it, uint64_t count)
+{
+    differences.count += count;
+    tell(device, it);
+}
+
+/* Devices that were never there could be written nothing. */
+void report_differences(void)
+{
+    for (int i = 0; i < DEVICES; i++)
+        if (process.bus.devices[i].is_there && !process.bus.devices[i].is_hidden)
+            judge_device(&process.bus.devices[i]);
+    if (differences.count)
+        fprintf(stderr, "libusb: error what was written isn't what the devices' text expects: %" PRIu64 " difference%s%s%s\n",
+                differences.count, plural(differences.count), differences.first.length ? "; the first: " : "", differences.first.text);
+    memset(&differences, 0, sizeof differences);
+    process.bus.is_judged = false;
+    write_down("ended", "");
+}
+
+/* A thread may be in a call for ever. */
+static void report_at_exit(void)
+{
+    struct timespec until;
+    clock_gettime(CLOCK_REALTIME, &until);
+    until.tv_sec++;
+    if (pthread_mutex_timedlock(&process.lock, &until))
+        return;
+    if (process.bus.is_judged)
+        report_differences();
+    unlock();
+}
+
+/* A text of the bus expects something. */
+void begin_judging(void)
+{
+    static bool is_registered;
+    if (!is_registered && atexit(report_at_exit))
+        fprintf(stderr, "libusb: error there is no memory to judge at the process's end: only libusb_exit does\n");
+    is_registered = true;
+    write_down("begun", "");
+}
