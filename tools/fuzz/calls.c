@@ -1,7 +1,7 @@
-/* calls SEED [COUNT]: threads make so many random calls of libusb each, all of which its manual allows, over two contexts and four
+/* calls SEED [COUNT]: threads make so many random calls of libusb each, all of which its manual allows, over two contexts and six
  * devices. Each accepted transfer is called back just once, or never where its handle was closed; none behind the close. What is read
- * is what the devices' scripts have, and what is written is what they took. Status 1 and a sentence where that isn't so; a round that
- * hangs is ended, and says what each thread was doing. */
+ * is what the devices' scripts have or their functions gave, and what is written is what they took. Status 1 and a sentence where that
+ * isn't so; a round that hangs is ended, and says what each thread was doing. */
 #include "fuzz.h"
 
 #include <signal.h>
@@ -16,7 +16,6 @@
 
 _Thread_local struct caller *me;
 libusb_context *contexts[CONTEXTS];
-atomic_bool is_pulled[DEVICES];
 bool has_long;
 
 static struct caller callers[THREADS + 1];
@@ -29,14 +28,15 @@ static const struct {
     unsigned weight;
 } calls[] = {
     { "submit", submit_one, 30 }, { "cancel", cancel_one, 12 }, { "free", free_one, 4 }, { "send", send_one, 5 },
-    { "open", open_one, 6 }, { "close", close_one, 3 }, { "a call of a handle", call_handle, 16 },
+    { "open", open_one, 12 }, { "close", close_one, 9 }, { "a call of a handle", call_handle, 16 },
     { "a read that is waited for", read_and_wait, 4 }, { "a write that is waited for", write_and_wait, 4 },
-    { "a request that is waited for", request_and_wait, 4 }, { "a context of its own", visit, 3 }, { "the default context", visit_usual, 2 },
+    { "a request that is waited for", request_and_wait, 4 }, { "a context of its own", visit, 3 },
+    { "the default context", visit_usual, 2 },
     { "a device that outlives its context", let_one_go, 4 },
     { "a transfer that is waited for by hand", wait_by_hand, 6 }, { "the events' lock", lock_and_handle, 2 },
     { "events", handle_some, 24 }, { "locked events", handle_locked, 8 }, { "wait_for_event", wait_for_event, 4 },
     { "a look at events", look_at_events, 6 }, { "a look at devices", look_at_devices, 6 }, { "hotplug", watch_hotplug, 3 },
-    { "hotplug's end", watch_no_more, 3 },
+    { "hotplug's end", watch_no_more, 3 }, { "a device that is ready", say_ready, 6 }, { "a device that is replugged", replug, 3 },
 };
 #define CALLS (sizeof calls / sizeof calls[0])
 
@@ -100,18 +100,15 @@ static void call_some(void)
     calls[place].call();
 }
 
-/* The first thread plugs two devices in, and pulls one or two out. */
+/* The first thread plugs two devices in, and pulls one or two out that don't come back. */
 static void plug(int made)
 {
     if (made == count / 3)
         tirnouch_show(HIDDEN);
     if (made == count / 2)
         tirnouch_show(ALSO_HIDDEN);
-    if (made == count / 4 * 3 || made == count - count / 10) {
-        int device = (int)roll(DEVICES);
-        atomic_store(&is_pulled[device], true);
-        tirnouch_pull(device);
-    }
+    if (made == count / 4 * 3 || made == count - count / 10)
+        pull_one((int)roll(REPLUGGED));
 }
 
 static void *run(void *number)
@@ -130,6 +127,7 @@ static void begin(void)
 {
     begin_handles();
     begin_transfers();
+    begin_living();
     char *text = device_text();
     if (tirnouch_plug(text, strlen(text)))
         fail("plug");
@@ -147,6 +145,7 @@ static void end(void)
     check_taken();
     close_all();
     count_transfers();
+    check_living();
     free_all();
     let_all_go();
     for (int i = 0; i < CONTEXTS; i++)

@@ -15,11 +15,14 @@
 #define TEXT_BYTES (DEVICES * (2 * ANSWERS * 19 + ANSWERS * 2 + ANSWERS / GATE * 64 + 1024) + LONG_ANSWERS * 2)
 
 /* Which packets of an endpoint came: 81 and 83. */
-static atomic_uint seen[DEVICES][2][ANSWERS / 32 + 1];
+static atomic_uint seen[DEVICES][2][MOST_PACKETS / 32 + 1];
 /* How many bytes a transfer is said to have written, and one more; 0 where nobody says so. */
 static atomic_int written[SERIALS];
 static unsigned char device_of[SERIALS];
 static atomic_uint serials;
+/* How many bytes of a write its device took, and which write a device took a packet of last, and one more. */
+static atomic_int taken[SERIALS];
+static atomic_uint last_taken[DEVICES];
 
 static void put_four(unsigned char *at, uint32_t value)
 {
@@ -32,11 +35,20 @@ static uint32_t get_four(const unsigned char *at)
     return (uint32_t)at[0] | (uint32_t)at[1] << 8 | (uint32_t)at[2] << 16 | (uint32_t)at[3] << 24;
 }
 
+void put_packet(unsigned char packet[PACKET], int device, int ep, uint32_t index)
+{
+    put_four(packet, index);
+    packet[4] = (unsigned char)device;
+    packet[5] = (unsigned char)ep;
+    packet[6] = 0x5a;
+    packet[7] = (unsigned char)index;
+}
+
 static size_t add_packet(char *out, int device, int ep, uint32_t index, int length)
 {
-    unsigned char packet[PACKET] = { 0, 0, 0, 0, (unsigned char)device, (unsigned char)ep, 0x5a, (unsigned char)index };
+    unsigned char packet[PACKET];
     size_t at = (size_t)sprintf(out, " d:");
-    put_four(packet, index);
+    put_packet(packet, device, ep, index);
     for (int i = 0; i < length; i++)
         at += (size_t)sprintf(out + at, "%02x", packet[i]);
     return at;
@@ -56,10 +68,16 @@ static size_t add_reads(char *out, int device, int ep)
     return at + (size_t)sprintf(out + at, "\n");
 }
 
+/* In a trace each packet is a line, so there are none. */
+bool has_long_writes(int device)
+{
+    return has_long && (device == LONG || device == LONG_COMPUTED);
+}
+
 static size_t add_writes(char *out, int device)
 {
     size_t at = (size_t)sprintf(out, "script %d 02", device);
-    bool is_long = has_long && device == LONG;
+    bool is_long = has_long_writes(device);
     for (int i = 0; i < (is_long ? LONG_ANSWERS : ANSWERS); i++)
         at += (size_t)sprintf(out + at, " %c", roll(is_long ? 5000 : 80) ? 'a' : "nns"[roll(3)]);
     return at + (size_t)sprintf(out + at, "\n");
@@ -72,7 +90,7 @@ static size_t add_gates(char *out, int device)
     for (int place = GATE; place < ANSWERS; place += GATE) {
         at += (size_t)sprintf(out + at, "after %d 81 %d 02 %d\n", device, place, place / 2);
         at += (size_t)sprintf(out + at, "after %d 83 %d 00 %d\n", device, place, place / 4);
-        if (device != LONG || !has_long)
+        if (!has_long_writes(device))
             at += (size_t)sprintf(out + at, "after %d 02 %d 00 %d\n", device, place, place / 4);
     }
     return at;
@@ -86,6 +104,8 @@ char *device_text(void)
         fail("no memory");
     for (int i = 0; i < DEVICES; i++) {
         at += (size_t)sprintf(text + at, "device %d " CONFIG "\nids %d 1209 %04x\nstring %d 2 Fuzz\n", i, i, i, i);
+        if (i >= SCRIPTED)
+            continue;
         at += (size_t)sprintf(text + at, "control %d c0 01 * * d:0102030405060708\ncontrol %d 40 02 * * n a\n", i, i);
         at += add_reads(text + at, i, 0x81);
         at += add_reads(text + at, i, 0x83);
@@ -111,11 +131,20 @@ int number_of(libusb_device *device)
 
 static void see(int device, uint8_t ep, uint32_t index)
 {
-    if (index >= ANSWERS)
+    if (index >= (device < SCRIPTED ? ANSWERS : MOST_PACKETS))
         fail("device %d, %02x: packet %u, which it doesn't have", device, ep, index);
     unsigned before = atomic_fetch_or(&seen[device][ep == 0x83][index / 32], 1u << index % 32);
     if (before >> index % 32 & 1 && device != RENEWED)
         fail("device %d, %02x: packet %u came twice", device, ep, index);
+}
+
+/* How many packets of an endpoint came. */
+unsigned came(int device, uint8_t ep)
+{
+    unsigned count = 0;
+    for (unsigned i = 0; i <= MOST_PACKETS / 32; i++)
+        count += (unsigned)__builtin_popcount(atomic_load(&seen[device][ep == 0x83][i]));
+    return count;
 }
 
 /* The packets of a read stand one behind the other; a short one ends it. */
@@ -158,42 +187,41 @@ void wrote(uint32_t serial, int length)
         fail("write %u ended twice", serial);
 }
 
-/* How many bytes of each write a device took: each packet in its place, and no other write between two packets of one. */
-static void count_taken(int device, int *taken)
+/* A packet that a device took: in its place in its write, and no other write between two packets of one. */
+void count_packet(int device, const unsigned char *packet, int length)
 {
-    unsigned char packet[PACKET];
-    uint32_t last = SERIALS;
-    int length;
-    for (size_t i = 0; (length = tirnouch_took(device, 0x02, i, packet, sizeof packet)) >= 0; i++) {
-        if (!length)
-            continue; /* the end of a write of whole packets */
-        uint32_t serial = get_four(packet);
-        if (serial >= SERIALS || device_of[serial] != device)
-            fail("device %d took a packet of nobody's", device);
-        if (serial != last && taken[serial])
-            fail("device %d: packets of write %u and of %u are mixed", device, serial, last);
-        int place = packet[4] | packet[5] << 8;
-        if (length > 4 && place * PACKET != taken[serial])
-            fail("device %d: packet %d of write %u came where %d bytes were taken", device, place, serial, taken[serial]);
-        taken[serial] += length;
-        last = serial;
-    }
+    if (!length)
+        return; /* the end of a write of whole packets */
+    uint32_t serial = length < 4 ? SERIALS : get_four(packet);
+    if (serial >= SERIALS || device_of[serial] != device)
+        fail("device %d took a packet of nobody's", device);
+    int before = atomic_load(&taken[serial]), place = packet[4] | packet[5] << 8;
+    if (atomic_load(&last_taken[device]) != serial + 1 && before)
+        fail("device %d: packets of write %u and of %u are mixed", device, serial, atomic_load(&last_taken[device]) - 1);
+    if (length > 4 && place * PACKET != before)
+        fail("device %d: packet %d of write %u came where %d bytes were taken", device, place, serial, before);
+    atomic_store(&taken[serial], before + length);
+    atomic_store(&last_taken[device], serial + 1);
 }
 
-/* What the devices took is what the transfers said. */
+static void count_taken(int device)
+{
+    unsigned char packet[PACKET];
+    int length;
+    for (size_t i = 0; (length = tirnouch_took(device, 0x02, i, packet, sizeof packet)) >= 0; i++)
+        count_packet(device, packet, length);
+}
+
+/* What the devices took is what the transfers said. Those that compute have counted it. */
 void check_taken(void)
 {
-    int *taken = calloc(SERIALS, sizeof *taken);
-    if (!taken)
-        fail("no memory");
-    for (int i = 0; i < DEVICES; i++)
+    for (int i = 0; i < SCRIPTED; i++)
         if (i != RENEWED)
-            count_taken(i, taken);
+            count_taken(i);
     uint32_t count = atomic_load(&serials);
     for (uint32_t i = 0; i < count; i++) {
-        int said = atomic_load(&written[i]) - 1;
-        if (said >= 0 && device_of[i] != RENEWED && said != taken[i])
-            fail("write %u said that %d bytes went, and the device took %d", i, said, taken[i]);
+        int said = atomic_load(&written[i]) - 1, took = atomic_load(&taken[i]);
+        if (said >= 0 && device_of[i] != RENEWED && said != took)
+            fail("write %u said that %d bytes went, and the device took %d", i, said, took);
     }
-    free(taken);
 }

@@ -15,8 +15,12 @@
 
 #define THREADS 8
 #define CONTEXTS 2
-#define DEVICES 4
+/* The scripted devices come first; those behind them compute their answers. */
+#define SCRIPTED 4
+#define DEVICES 6
 #define PACKET 8
+/* Of an endpoint that computes its packets. */
+#define MOST_PACKETS (1u << 18)
 #define MOST_BYTES 96
 /* More than the library gives to its core in one piece. */
 #define LONG_BYTES 262400
@@ -25,6 +29,9 @@
 #define RENEWED 2
 #define HIDDEN 3
 #define ALSO_HIDDEN 1
+/* Of those that compute: one has transfers of more than one piece too, and the last one is pulled out and plugged in again. */
+#define LONG_COMPUTED 4
+#define REPLUGGED 5
 
 struct slot;
 
@@ -39,7 +46,6 @@ struct caller {
 
 extern _Thread_local struct caller *me;
 extern libusb_context *contexts[CONTEXTS];
-extern atomic_bool is_pulled[DEVICES];
 /* Whether there are transfers of more than one piece: not in a trace, where each packet is a line. */
 extern bool has_long;
 
@@ -50,10 +56,32 @@ _Noreturn void fail(const char *format, ...) __attribute__((format(printf, 1, 2)
 /* devices.c: the text, what a device's bytes should be, and what it took */
 char *device_text(void);
 int number_of(libusb_device *device);
+bool has_long_writes(int device);
+void put_packet(unsigned char packet[PACKET], int device, int ep, uint32_t index);
+void count_packet(int device, const unsigned char *packet, int length);
+unsigned came(int device, uint8_t ep);
 void check_read(int device, uint8_t ep, const unsigned char *data, int length);
 uint32_t fill_write(int device, unsigned char *data, int length);
 void wrote(uint32_t serial, int length);
 void check_taken(void);
+
+/* living.c: devices that compute their answers */
+void begin_living(void);
+void say_ready(void);
+void lose_packets(int device, uint8_t ep, unsigned count);
+void check_living(void);
+
+/* plugs.c: devices are pulled out and plugged in, and which handles are of before that */
+struct plugs {
+    int device, begun, done;
+};
+void begin_plugs(int device, struct plugs *seen);
+void end_plugs(struct plugs *seen);
+bool may_have_left(const struct plugs *seen);
+bool has_left(const struct plugs *seen);
+bool was_replaced(const struct plugs *seen);
+void pull_one(int device);
+void replug(void);
 
 /* handles.c: the handles; each belongs to a context, by its place */
 void begin_handles(void);
@@ -63,6 +91,7 @@ void let_go(int place);
 libusb_device_handle *handle_at(int place);
 int device_at(int place);
 libusb_context *context_at(int place);
+const struct plugs *plugs_at(int place);
 void sent_by(int place, int more);
 void open_one(void);
 void close_one(void);

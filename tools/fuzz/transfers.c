@@ -21,6 +21,7 @@ struct slot {
     unsigned char buffer[LONG_BYTES];
     atomic_int word;
     int device;
+    struct plugs plugs;
     uint32_t serial;
 };
 
@@ -63,13 +64,14 @@ static void fill(struct slot *slot, int place)
     unsigned timeout = roll(3) ? 0 : 1 + roll(20);
     int packets = (int)roll(MOST_BYTES / PACKET), tail = roll(6) ? 0 : PACKET / 2, length;
     slot->device = device_at(place);
+    slot->plugs = *plugs_at(place);
     slot->it->flags = 0;
     switch (roll(4)) {
     case 0:
         fill_control(slot, handle, timeout);
         break;
     case 1:
-        length = has_long && slot->device == LONG && !roll(24) ? LONG_BYTES : packets * PACKET + tail;
+        length = has_long_writes(slot->device) && !roll(24) ? LONG_BYTES : packets * PACKET + tail;
         libusb_fill_bulk_transfer(slot->it, handle, 0x02, slot->buffer, length, on_call, slot, timeout);
         slot->serial = fill_write(slot->device, slot->buffer, length);
         slot->it->flags = roll(4) ? 0 : LIBUSB_TRANSFER_ADD_ZERO_PACKET;
@@ -89,7 +91,10 @@ static void fill(struct slot *slot, int place)
 static void submit(struct slot *slot, int place)
 {
     atomic_store(&slot->word, FLYING(place));
+    bool is_sure = has_left(plugs_at(place));
     int r = libusb_submit_transfer(slot->it), word = FLYING(place);
+    if ((is_sure && r != LIBUSB_ERROR_NO_DEVICE) || (r == LIBUSB_ERROR_NO_DEVICE && !may_have_left(plugs_at(place))))
+        fail("a submission to device %d, which has%s left: %s", device_at(place), is_sure ? "" : " not", libusb_error_name(r));
     if (!r)
         atomic_fetch_add(&accepted, 1);
     else if (!atomic_compare_exchange_strong(&slot->word, &word, IDLE))
@@ -145,7 +150,7 @@ void free_one(void)
 }
 
 /* What a transfer says of itself. */
-static void check_status(const struct libusb_transfer *transfer, int device)
+static void check_status(const struct libusb_transfer *transfer, const struct slot *slot)
 {
     int status = (int)transfer->status;
     if (status < 0 || status > LIBUSB_TRANSFER_OVERFLOW)
@@ -155,10 +160,12 @@ static void check_status(const struct libusb_transfer *transfer, int device)
         fail("%d bytes of %d moved", transfer->actual_length, transfer->length);
     if (status == LIBUSB_TRANSFER_TIMED_OUT && !transfer->timeout)
         fail("timed out without a timeout");
-    if (status == LIBUSB_TRANSFER_NO_DEVICE && !atomic_load(&is_pulled[device]))
-        fail("device %d is said to be gone", device);
+    if (status == LIBUSB_TRANSFER_NO_DEVICE && !may_have_left(&slot->plugs))
+        fail("device %d is said to be gone", slot->device);
     if (status == LIBUSB_TRANSFER_OVERFLOW && transfer->length && transfer->length % PACKET == 0)
         fail("overflow of %d bytes", transfer->length);
+    if (status == LIBUSB_TRANSFER_OVERFLOW)
+        lose_packets(slot->device, transfer->endpoint, 1);
 }
 
 /* Of an overflow only the packets before it are known. */
@@ -171,7 +178,7 @@ static void check(const struct slot *slot)
 {
     const struct libusb_transfer *transfer = slot->it;
     int length = transfer->actual_length;
-    check_status(transfer, slot->device);
+    check_status(transfer, slot);
     if (transfer->type == LIBUSB_TRANSFER_TYPE_CONTROL)
         return;
     if (transfer->endpoint & LIBUSB_ENDPOINT_IN)
@@ -207,6 +214,7 @@ static void call_within(int place)
     case 4: close_of_context(place % CONTEXTS); break;
     case 5: look_at_devices(); break;
     case 6: watch_no_more(); break;
+    case 7: say_ready(); break;
     default: break;
     }
 }
@@ -233,6 +241,8 @@ void drop_those_of(int place)
 {
     for (int i = 0; i < TRANSFERS; i++) {
         int word = FLYING(place);
+        if (atomic_load(&slots[i].word) == word)
+            lose_packets(slots[i].device, slots[i].it->endpoint, (unsigned)slots[i].it->length / PACKET + 1);
         if (atomic_compare_exchange_strong(&slots[i].word, &word, IDLE))
             atomic_fetch_add(&dropped, 1);
         else if (word == CALLED(place) && me->called != &slots[i])

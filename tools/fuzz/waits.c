@@ -14,14 +14,16 @@ static unsigned some_time(void)
 }
 
 /* What such a call may answer. */
-static void expect(int r, int device, const char *call)
+static void expect(int r, int place, bool had_left, const char *call)
 {
+    if (had_left && r != LIBUSB_ERROR_NO_DEVICE)
+        fail("%s of device %d, which has left: %s", call, device_at(place), libusb_error_name(r));
     switch (r) {
     case LIBUSB_SUCCESS: case LIBUSB_ERROR_TIMEOUT: case LIBUSB_ERROR_PIPE: case LIBUSB_ERROR_IO: case LIBUSB_ERROR_BUSY:
     case LIBUSB_ERROR_NOT_FOUND: case LIBUSB_ERROR_INTERRUPTED: case LIBUSB_ERROR_OVERFLOW:
         return;
     case LIBUSB_ERROR_NO_DEVICE:
-        if (atomic_load(&is_pulled[device]))
+        if (may_have_left(plugs_at(place)))
             return;
         break;
     }
@@ -36,9 +38,10 @@ void read_and_wait(void)
     if (place < 0)
         return;
     uint8_t ep = roll(2) ? 0x81 : 0x83;
+    bool had_left = has_left(plugs_at(place));
     int r = ep == 0x81 ? libusb_bulk_transfer(handle_at(place), ep, data, length, &moved, some_time())
                        : libusb_interrupt_transfer(handle_at(place), ep, data, length, &moved, some_time());
-    expect(r, device_at(place), "read");
+    expect(r, place, had_left, "read");
     check_read(device_at(place), ep, data, moved);
     let_go(place);
 }
@@ -50,8 +53,9 @@ void write_and_wait(void)
     if (place < 0)
         return;
     uint32_t serial = fill_write(device_at(place), data, length);
+    bool had_left = has_left(plugs_at(place));
     int r = libusb_bulk_transfer(handle_at(place), 0x02, data, length, &moved, some_time());
-    expect(r, device_at(place), "write");
+    expect(r, place, had_left, "write");
     if (!r && moved != length)
         fail("%d bytes of %d were written", moved, length);
     wrote(serial, moved);
@@ -66,6 +70,7 @@ void request_and_wait(void)
     if (place < 0)
         return;
     libusb_device_handle *handle = handle_at(place);
+    bool had_left = has_left(plugs_at(place));
     if (roll(2)) {
         r = libusb_get_string_descriptor_ascii(handle, 2, data, sizeof data);
         if (r >= 0 && (r != 4 || data[0] != 'F'))
@@ -75,7 +80,7 @@ void request_and_wait(void)
         if (r >= 0 && (r != 8 || data[7] != 8))
             fail("a request gave %d bytes", r);
     }
-    expect(r, device_at(place), "control");
+    expect(r, place, had_left, "control");
     let_go(place);
 }
 
