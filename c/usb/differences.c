@@ -18,16 +18,18 @@
 static struct {
     uint64_t count;
     struct sentence first;
+    bool is_unwritten;                /* the file can't be written, which was told */
 } differences;
 
 /* In one write, so that lines of several processes don't mix. */
 static void write_down(const char *word, const char *sentence)
 {
     const char *name = getenv("TIRNOUCH_DIFFERENCES");
-    if (!name || !*name)
+    if (!name || !*name || differences.is_unwritten)
         return;
     int file = open(name, O_WRONLY | O_APPEND | O_CREAT | O_CLOEXEC, 0666);
-    if (file < 0 || dprintf(file, "%s%s\n", word, sentence) < 0)
+    differences.is_unwritten = file < 0 || dprintf(file, "%s%s\n", word, sentence) < 0;
+    if (differences.is_unwritten)
         fprintf(stderr, "libusb: error TIRNOUCH_DIFFERENCES: %s can't be written: %s\n", name, strerror(errno));
     if (file >= 0)
         close(file);
@@ -40,15 +42,17 @@ static void tell(const struct device *device, const struct sentence *it)
     write_down("differs ", it->text);
 }
 
-void tell_difference(const struct device *device, const struct sentence *it)
+/* Whether it is told: the first one is. */
+bool tell_difference(const struct device *device, const struct sentence *it)
 {
     if (differences.count++)
-        return;
+        return false;
     differences.first = *it;
     tell(device, it);
+    return true;
 }
 
-/* So many at once, at the end, where each place is told. */
+/* At the end each place is told: of so many that weren't counted before. */
 void tell_missing(const struct device *device, const struct sentence *it, uint64_t count)
 {
     differences.count += count;
@@ -64,7 +68,8 @@ void report_differences(void)
     if (differences.count)
         fprintf(stderr, "libusb: error what was written isn't what the devices' text expects: %" PRIu64 " difference%s%s%s\n",
                 differences.count, plural(differences.count), differences.first.length ? "; the first: " : "", differences.first.text);
-    memset(&differences, 0, sizeof differences);
+    differences.count = 0;
+    differences.first = (struct sentence){ 0 };
     process.bus.is_judged = false;
     write_down("ended", "");
 }

@@ -103,7 +103,8 @@ void judge_end(struct pipe *pipe)
     append(&it, "packet %" PRIu64 " is more than the script takes, and waits: came ", judged->place + 1);
     say_bytes(&it, data, (int)told.amount, -1);
     append(&it, " (length %d)", (int)told.amount);
-    tell_difference(pipe->device, &it);
+    if (!tell_difference(pipe->device, &it))
+        judged->untold = judged->place + 1;
 }
 
 /* The packets that came at an endpoint since it was looked at last. */
@@ -194,6 +195,15 @@ static void tell_what_is_missing(struct sentence *it, const struct device *devic
     tell_missing(device, it, count);
 }
 
+/* What was only counted when it came. */
+static void tell_what_was_more(struct pipe *pipe)
+{
+    struct sentence it = { 0 };
+    say_endpoint(&it, pipe);
+    append(&it, "packet %" PRIu64 " was more than the script takes", expected_at(pipe)->untold);
+    tell_missing(pipe->device, &it, 0);
+}
+
 /* At the end. */
 void judge_device(struct device *device)
 {
@@ -201,6 +211,8 @@ void judge_device(struct device *device)
         struct sentence it = { 0 };
         if (!device->packets[i])
             continue;
+        if (device->packets[i]->untold)
+            tell_what_was_more(&device->pipes[i]);
         say_endpoint(&it, &device->pipes[i]);
         tell_what_is_missing(&it, device, device->packets[i], "packet");
     }

@@ -24,7 +24,8 @@ struct judged {
     int most;                         /* bytes of an answer */
     struct growing bytes;
     uint64_t place;                   /* of the packet, or the request, that comes next since the script began */
-    bool is_past;                     /* a packet waits behind the script's end, which was told */
+    bool is_past;                     /* a packet waits behind the script's end */
+    uint64_t untold;                  /* the number of one that did, from 1 on, where another difference was told before; else 0 */
     int fields[4];                    /* of a line `control`: bmRequestType, bRequest, wValue, wIndex; -1 for any */
 };
 
@@ -45,7 +46,7 @@ void expect_anew(struct pipe *pipe);
 void expect_requests_anew(struct device *device);
 
 /* differences.c: what differs is told, and once more at the end */
-void tell_difference(const struct device *device, const struct sentence *it);
+bool tell_difference(const struct device *device, const struct sentence *it);
 void tell_missing(const struct device *device, const struct sentence *it, uint64_t count);
 void begin_judging(void);
 void report_differences(void);

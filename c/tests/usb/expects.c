@@ -142,6 +142,15 @@ static void lost_and_doubled(void)
     end_judged();
 }
 
+static void doubled_behind_another(void)
+{
+    begin_judged("a doubled write behind another difference", "script 0 02 a:01 a:02\n");
+    put(0x02, "01");
+    put(0x02, "01");
+    put(0x02, "02");
+    end_judged();
+}
+
 static void requests(void)
 {
     static const char more[] = "control 0 40 01 0000 0000 a:aabb a a:\ncontrol 0 40 01 * 0000 a:cc*\ncontrol 0 c0 * * * d:01\n";
@@ -294,6 +303,7 @@ int main(void)
     cut();
     several();
     lost_and_doubled();
+    doubled_behind_another();
     requests();
     two_endpoints();
     anew();
