@@ -210,12 +210,12 @@ int main(void)
     hostile("digits of another case", "20");
     hostile("too much", "20");
     hostile("a zero", "20");
-    hostile("half a line", "0.3");
+    hostile("half a line", "2");
     hostile("long line", "20");
-    hostile("silent", "0.3");
+    hostile("silent", "2");
     hostile("ends amid", "20");
     hostile("ends", "20");
-    hostile("forks", "0.3");
+    hostile("forks", "2");
     hostile("unasked", "20");
     hostile("flood", "20");
     beginnings();
