@@ -45,14 +45,14 @@ take_none zero = refl
 take_none (suc n) = refl
 
 -- as many bytes as there are, or fewer
-take_min : (n : ℕ) (xs : List ℕ) → take (min n (length xs)) xs ≡ take n xs
+pub take_min : (n : ℕ) (xs : List ℕ) → take (min n (length xs)) xs ≡ take n xs
 take_min n [] = take_none (min n 0) ∙ sym (take_none n)
 take_min zero (x ∷ xs) = ap (λ (m : ℕ). take m (x ∷ xs)) (let none : min 0 (length (x ∷ xs)) ≡ 0 = omega arith in none)
 take_min (suc n) (x ∷ xs) =
     ap (λ (m : ℕ). take m (x ∷ xs)) (let one : min (suc n) (length (x ∷ xs)) ≡ suc (min n (length xs)) = omega arith in one)
     ∙ ap (λ (ys : List ℕ). x ∷ ys) (take_min n xs)
 
-length_drop : (k : ℕ) (xs : List ℕ) → length (drop k xs) ≡ length xs - k
+pub length_drop : (k : ℕ) (xs : List ℕ) → length (drop k xs) ≡ length xs - k
 length_drop zero xs = omega arith
 length_drop (suc k) [] = omega arith
 length_drop (suc k) (x ∷ xs) = length_drop k xs ∙ omega arith

@@ -17,20 +17,20 @@ use Rattle.proof_living.proofs.Runs.{journal_same, world_same}
 none_more : (e : Endpoint) → with_more [] e ≡ e
 none_more e = λ i. record e { script_left = append-nil e.script_left i }
 
-world_none : (w : World) → world_with (λ d ep. []) w ≡ w
+pub world_none : (w : World) → world_with (λ d ep. []) w ≡ w
 world_none w = λ i. record w { endpoints = λ d ep. none_more (w.endpoints d ep) i }
 
 -- more, and then more
 twice_more : (xs ys : List Response) (e : Endpoint) → with_more (xs ++ ys) e ≡ with_more ys (with_more xs e)
 twice_more xs ys e = λ i. record e { script_left = sym (append_assoc e.script_left xs ys) i }
 
-world_twice : (a b : More) (w : World) → world_with (λ d ep. a d ep ++ b d ep) w ≡ world_with b (world_with a w)
+pub world_twice : (a b : More) (w : World) → world_with (λ d ep. a d ep ++ b d ep) w ≡ world_with b (world_with a w)
 world_twice a b w = λ i. record w { endpoints = λ d ep. twice_more (a d ep) (b d ep) (w.endpoints d ep) i }
 
-goes_none : (setup : Setup) → GoesOn setup setup (λ d ep. [])
+pub goes_none : (setup : Setup) → GoesOn setup setup (λ d ep. [])
 goes_none setup = record { devices = λ d. refl; interfaces = λ d. refl; endpoints = λ d. refl; scripts = λ d ep. sym (append-nil _) }
 
-goes_twice : (setup next last : Setup) (a b : More) → GoesOn setup next a → GoesOn next last b → GoesOn setup last (λ d ep. a d ep ++ b d ep)
+pub goes_twice : (setup next last : Setup) (a b : More) → GoesOn setup next a → GoesOn next last b → GoesOn setup last (λ d ep. a d ep ++ b d ep)
 goes_twice setup next last a b g f = record {
   devices = λ d. f.devices d ∙ g.devices d;
   interfaces = λ d. f.interfaces d ∙ g.interfaces d;

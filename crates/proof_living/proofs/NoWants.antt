@@ -51,7 +51,7 @@ stays_none setup longer more w (step ∷ steps) g n = (
   subst (λ t. WantsNone longer t.world steps) (sym (turn_same setup longer more w step g (within_by setup more w step n.0))) (stays_none setup longer more (turn setup w step).world steps g n.1),
 )
 
-stays_within : (setup : Setup) (more : More) (w : World) (steps : List Step) → WantsNone setup w steps → StaysWithin setup more w steps
+pub stays_within : (setup : Setup) (more : More) (w : World) (steps : List Step) → WantsNone setup w steps → StaysWithin setup more w steps
 stays_within setup more w [] n = tt
 stays_within setup more w (step ∷ steps) n = (within_by setup more w step n.0, stays_within setup more (turn setup w step).world steps n.1)
 

@@ -9,3 +9,4 @@ pub mod Requested
 pub mod Outs
 pub mod Looks
 pub mod Submitting
+pub mod Living

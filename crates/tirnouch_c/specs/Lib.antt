@@ -15,3 +15,4 @@ pub mod Descriptions
 pub mod Turn
 pub mod Exports
 pub mod Feeds
+pub mod Living

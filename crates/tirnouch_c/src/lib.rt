@@ -15,6 +15,7 @@
 //! - `requests.rt`, `descriptions.rt`: requests on the default control endpoint; what the text says of a device
 //! - `feeds.rt`: a device is fed while the run goes on, and the packet that it is to answer next
 //! - `complaints.rt`: what is wrong with a text that isn't taken
+//! - `laws.rt`, specs/Living: what any calls in a row leave of a session whose devices are fed
 //! - specs/ by the same names: what each call says of a session before and behind. proofs/ Rows, Progress, Quiet: packets in a
 //!   row, and row after row; that where nothing is to be done each transfer that was asked to end has ended
 //!
@@ -38,6 +39,8 @@
 //! - `tirnouch_feed`: one more answer behind a device's script, as if it had stood there from the beginning: the session shows the
 //!   world of the longer script where it stood, and no step is made (`Feeds`); refused, nothing changed. `tirnouch_offer`: the packet
 //!   that a device is to answer next, by the world, its bytes, and whether the device is asked (`TellsNext`)
+//! - `laws::fed_sessions`: of a session of a text, by any calls in a row each of whose packets had an answer, in the text or fed: the
+//!   session shows the world where their steps lead over the scripts as they are at the end, and what was told is what is told over these
 //! - `tirnouch_request`: what `usb_desk` says that the device answers; `tirnouch_needs`: what a host has to hold for that; `tirnouch_describe`, `tirnouch_tell`: what it has of the text
 //! - `tirnouch_complain`: of a text that isn't taken the number of the line, and a sentence whose reason fits that (`TellsWrong`)
 //!
@@ -51,6 +54,7 @@ mod descriptions;
 mod exports;
 mod feeds;
 mod held;
+pub mod laws;
 mod lent;
 mod loose;
 mod packets;

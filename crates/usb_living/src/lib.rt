@@ -7,6 +7,7 @@
 //!
 //! - `living.rt`: `Living`: a device that is asked
 //! - `asking.rt`: `ask`: one packet of a core, in one thread
+//! - `laws.rt`, specs/Offered, Rows: what holds of devices that are asked, whatever they compute
 //! - specs/Asks: what became of a packet and of the device
 //!
 //! # Contracts
@@ -16,6 +17,10 @@
 //!   world (`IsNext`), and answers: the answer is fed, and the entry is that of a Serve over the longer script. It isn't ready: the
 //!   core is as it was, and the entry says so. It may answer only what `Living::may_answer` says of it, once for each call
 //! - the same, where an answer is refused: the core is as it was; InvalidParam where the endpoint can't have it, else NoMem
+//! - `laws::offered`: what a device is told to be next it has behind its Ack, as one packet; and a packet of its own is too long just
+//!   where it has more bytes than the room that it is told
+//! - `laws::rows`: of calls in a row, some of which put answers behind scripts, and each of whose packets had an answer: the core shows
+//!   the world where their steps lead over the scripts as they are at the end, and what was told is what is told over these
 //! - clause `carries`: what callers keep with their transfers stays with them
 //!
 //! That a step at an endpoint whose device isn't ready isn't made is on purpose: a Serve that finds no answer is one of a shorter
@@ -23,6 +28,7 @@
 #![tactic(auto)]
 
 mod asking;
+pub mod laws;
 mod living;
 
 pub use asking::ask;
