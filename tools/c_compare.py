@@ -35,6 +35,7 @@ LEFT_OUT = {
     "fork": "libusb says nothing of a child of fork",
     "memory": "it refuses Tirnouch's own allocations",
     "races": "it releases, resets and closes in flight, which libusb leaves undefined",
+    "reports": "what it asks of a run is Tirnouch's",
     "seeds": "its seeds are Tirnouch's",
     "speaks": "its messages are Tirnouch's",
     "texts": "its refusals are Tirnouch's",

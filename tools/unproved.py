@@ -101,7 +101,7 @@ def exports(text):
 def make_program(crate):
     """Makes the library of a copy of the crate a program."""
     source = crate / "src"
-    modules = re.findall(r"^mod (\w+);", (source / "lib.rt").read_text(), re.M)
+    modules = re.findall(r"^(?:pub )?mod (\w+);", (source / "lib.rt").read_text(), re.M)
     calls = "".join(
         f"    let _ = exports::{name}({', '.join(GIVEN.get(kind, '0') for kind in kinds)});\n"
         for name, kinds in exports((source / "exports.rt").read_text())

@@ -72,6 +72,32 @@ int tirnouch_pull(int device);
  * where it is a program that ended; LIBUSB_ERROR_NO_MEM where memory is refused. */
 int tirnouch_show(int device);
 
+/* The same behind each other: a device that is there is pulled out, and is plugged in again; one that isn't there is plugged in, as by
+ * `tirnouch_show`. So a scripted device begins anew, too; its script goes on over claims and resets from then on, as that of a device with a
+ * function does. LIBUSB_ERROR_NOT_FOUND where there is no such device, or where it is scripted and
+ * was gone before; else as `tirnouch_show`. */
+int tirnouch_replug(int device);
+
+/* What isn't finished, and why: a line each, as `the transfer of 8 bytes at 81 is in flight: the script of 81 is at its end behind 2
+ * answers`. How many bytes that are; as many of them as there is room for are put into `text`, with a NUL behind them. 0 where nothing is
+ * in flight. From any thread. */
+size_t tirnouch_left(char *text, size_t room);
+
+/* What of a run differs so far from what the devices' text expects: the first difference, and which packets and requests haven't come, in
+ * the sentences of docs/DEVICES.md, a line each. Sizes as above; 0 where nothing differs. */
+size_t tirnouch_report(char *text, size_t room);
+
+/* What went wrong last with the bus, since it began or wasn't begun: which line of a text isn't taken and why, which file can't be read or
+ * written, what a device's program did. A line, as on standard error. Sizes as above; 0 where nothing did. */
+size_t tirnouch_error(char *text, size_t room);
+
+/* The milliseconds since the bus began, by the clock of timeouts: 0 where there is none. */
+uint64_t tirnouch_now(void);
+
+/* With TIRNOUCH_TIME=virtual so many milliseconds pass at once. What is due then is done where events are handled next.
+ * LIBUSB_ERROR_NOT_SUPPORTED where time is real, or there is no bus. */
+int tirnouch_advance(unsigned milliseconds);
+
 /* The packet of this index, from 0 on, that a device took at an endpoint since it was plugged in: its length, and its bytes, as far as
  * there is room; -1 past the last. Of a device that computes its answers the last ones are kept, at most some 32,000 answers back: -2
  * where that packet isn't any more. */

@@ -101,9 +101,9 @@ static int understand(const struct device *device, const struct asked *asked, co
     int answer;
     if (!memchr(line, 0, length) && read_answer(asked, line, &answer))
         return answer;
-    fprintf(stderr, "libusb: error device %d: its program answered ", device->number);
-    quote(line, (int)length);
-    fprintf(stderr, " to \"%.*s\": a broken transaction\n", MOST_SHOWN, asked->question);
+    struct sentence shown = { 0 };
+    append_quoted(&shown, line, (int)length);
+    tell_failure("device %d: its program answered %s to \"%.*s\": a broken transaction", device->number, shown.text, MOST_SHOWN, asked->question);
     return TIRNOUCH_BROKEN;
 }
 
@@ -156,9 +156,10 @@ static bool is_own_line(const struct device *device, const struct line *line)
     bool says_nothing = !line->length || *line->at == '#';
     if (says_nothing || (device_of_line(line) == device->number && !begins(line, "program ") && !begins(line, "comes ")))
         return true;
-    fprintf(stderr, "libusb: error device %d: its program said ", device->number);
-    quote(line->at, (int)line->length);
-    fprintf(stderr, " before it said ok: lines of device %d stand here, as \"device %d ..\"\n", device->number, device->number);
+    struct sentence shown = { 0 };
+    append_quoted(&shown, line->at, (int)line->length);
+    tell_failure("device %d: its program said %s before it said ok: lines of device %d stand here, as \"device %d ..\"", device->number, shown.text,
+                 device->number, device->number);
     return false;
 }
 
@@ -175,7 +176,7 @@ bool greet(struct device *device, struct growing *text)
         grow(text, at, length);
         grow(text, "\n", 1);
         if (text->failed || text->length > MOST_TEXT) {
-            fprintf(stderr, "libusb: error device %d: its program said too much before it said ok\n", device->number);
+            tell_failure("device %d: its program said too much before it said ok", device->number);
             return false;
         }
         at = hear_line(device, &length);

@@ -109,7 +109,7 @@ static char *read_file(const char *name, size_t *length)
     if (file)
         fclose(file);
     if (!text)
-        fprintf(stderr, "libusb: error TIRNOUCH_DEVICES: %s can't be read\n", name);
+        tell_failure("TIRNOUCH_DEVICES: %s can't be read", name);
     *length = text ? (size_t)size : 0;
     return text;
 }
@@ -152,10 +152,12 @@ int bus_begin(void)
     begin_limit();
     if (process.bus.users++)
         return 0;
+    process.failure[0] = 0;
     process.bus.seed = seed ? strtoull(seed, NULL, 10) : 0;
     process.bus.is_watched = process.bus.seed;
     process.bus.is_virtual = time && !strcmp(time, "virtual");
     process.bus.moment = BEGINNING;
+    process.bus.begun = now();
     process.bus.core.trace = -1;
     int r = begin_trace(getenv("TIRNOUCH_TRACE"));
     if (!r)

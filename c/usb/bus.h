@@ -249,7 +249,8 @@ struct bus {
     struct transfers controls;
     uint64_t again;                   /* when a request is to be asked again; 0 for none */
     uint64_t stirs, settled;          /* how often there was something to be done; and how often when all was done */
-    uint64_t moment;                  /* of virtual time */
+    uint64_t moment;                  /* of virtual time; */
+    uint64_t begun;                   /* when the bus began */
     bool is_virtual;                  /* time passes only where nothing else is to be done */
     bool is_judged;                   /* a text expects something of the driver, of which the end isn't told yet */
     size_t active_count;
@@ -287,6 +288,7 @@ extern struct process {
         void *user;
     } listeners[DEVICES];
     libusb_log_cb log;
+    char failure[1024];               /* what was told last of what went wrong with the bus; empty for nothing */
     unsigned traces;                  /* how many were begun */
     bool was_misused;                 /* it was told that the default context isn't the program's */
     bool is_asking;                   /* atomic: a function of a device's is being asked */

@@ -36,6 +36,8 @@ const char *plural(uint64_t count);
 void tell_why(struct transfer *transfer, const char *what, bool always);
 void tell_all_why(struct libusb_context *context, const char *what);
 void write_all_why(int file);
+typedef void left_fn(void *to, struct transfer *transfer, const struct sentence *left);
+void each_left_of_all(left_fn *say, void *to);
 
 /* limit.c: TIRNOUCH_LIMIT */
 void begin_limit(void);

@@ -1,6 +1,8 @@
-/* Which line of a text of devices isn't taken, which word of it, and why: on standard error, since there is no context yet. */
+/* What went wrong with the bus: on standard error, since there may be no context yet, and kept for tirnouch_error. Which line of a text of
+ * devices isn't taken, which word of it, and why. */
 #include "bus.h"
 
+#include <stdarg.h>
 #include <stdio.h>
 #include <string.h>
 
@@ -8,12 +10,21 @@
 #define MOST_SHOWN 60
 
 /* In quotes, as far as it is shown; what isn't a character of ASCII by its number. */
-void quote(const char *text, int length)
+void append_quoted(struct sentence *it, const char *text, int length)
 {
-    fputc('"', stderr);
+    append(it, "\"");
     for (int i = 0; i < length && i < MOST_SHOWN; i++)
-        fprintf(stderr, text[i] >= ' ' && text[i] <= '~' ? "%c" : "\\x%02x", (unsigned char)text[i]);
-    fputs(length > MOST_SHOWN ? "..\"" : "\"", stderr);
+        append(it, text[i] >= ' ' && text[i] <= '~' ? "%c" : "\\x%02x", (unsigned char)text[i]);
+    append(it, length > MOST_SHOWN ? "..\"" : "\"");
+}
+
+void tell_failure(const char *format, ...)
+{
+    va_list rest;
+    va_start(rest, format);
+    vsnprintf(process.failure, sizeof process.failure, format, rest);
+    va_end(rest);
+    fprintf(stderr, "libusb: error %s\n", process.failure);
 }
 
 /* Of this word of the line, from 0 on; of the whole line where that is -1. */
@@ -21,11 +32,11 @@ void complain_of(const char *name, const struct line *line, int word, const char
 {
     int length = (int)line->length;
     const char *shown = word < 0 ? line->at : word_of(line->at, length, (uint32_t)word, &length);
-    fprintf(stderr, "libusb: error %s, line %lu, ", name, (unsigned long)line->number);
+    struct sentence it = { 0 };
     if (word >= 0)
-        fprintf(stderr, "word %d, ", word + 1);
-    quote(shown, length);
-    fprintf(stderr, ": %s\n", why);
+        append(&it, "word %d, ", word + 1);
+    append_quoted(&it, shown, length);
+    tell_failure("%s, line %lu, %s: %s", name, (unsigned long)line->number, it.text, why);
 }
 
 /* The core's own words of the first line of a text that it doesn't take, as it stands in the text that is `shown`, line by line. Of those the
@@ -38,7 +49,7 @@ void complain(const char *text, size_t length, const char *shown, const char *be
     struct line line = { .number = 0 };
     size_t at = 0;
     if (count <= 0) {
-        fprintf(stderr, "libusb: error %s: a line isn't one of devices (docs/DEVICES.md), and there is no memory to say which\n", name);
+        tell_failure("%s: a line isn't one of devices (docs/DEVICES.md), and there is no memory to say which", name);
         return;
     }
     while (next_line(shown, SIZE_MAX / 2, &at, &line) && line.number < told.n) {

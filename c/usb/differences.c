@@ -53,18 +53,32 @@ bool tell_difference(const struct device *device, const struct sentence *it)
 }
 
 /* At the end each place is told: of so many that weren't counted before. */
-void tell_missing(const struct device *device, const struct sentence *it, uint64_t count)
+static void tell_missing(void *to, const struct device *device, const struct sentence *it, uint64_t count)
 {
+    (void)to;
     differences.count += count;
     tell(device, it);
 }
 
 /* Devices that were never there could be written nothing. */
-void report_differences(void)
+static void each_missing_of_all(missing_fn *say, void *to)
 {
     for (int i = 0; i < DEVICES; i++)
         if (process.bus.devices[i].is_there && !process.bus.devices[i].is_hidden)
-            judge_device(&process.bus.devices[i]);
+            each_missing(&process.bus.devices[i], say, to);
+}
+
+/* What differed so far, of which the first is told, and what hasn't come: without an end. */
+void each_difference(missing_fn *say, void *to)
+{
+    if (differences.first.length)
+        say(to, NULL, &differences.first, differences.count);
+    each_missing_of_all(say, to);
+}
+
+void report_differences(void)
+{
+    each_missing_of_all(tell_missing, NULL);
     if (differences.count)
         fprintf(stderr, "libusb: error what was written isn't what the devices' text expects: %" PRIu64 " difference%s%s%s\n",
                 differences.count, plural(differences.count), differences.first.length ? "; the first: " : "", differences.first.text);

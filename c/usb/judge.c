@@ -182,43 +182,46 @@ static const struct expected *first_missing(const struct judged *judged, uint64_
     return first;
 }
 
-/* What never came, behind who it is. */
-static void tell_what_is_missing(struct sentence *it, const struct device *device, const struct judged *judged, const char *what)
+/* What hasn't come, behind who it is; how often. */
+static uint64_t say_what_is_missing(struct sentence *it, const struct judged *judged, const char *what)
 {
     uint64_t count;
     const struct expected *first = first_missing(judged, &count);
     if (!first)
-        return;
+        return 0;
     append(it, "%" PRIu64 " expected %s%s never came; the first is %s %zu: ", count, what, plural(count), what,
         (size_t)(first - judged->all) + 1);
     say_expected(it, judged, first, -1);
-    tell_missing(device, it, count);
+    return count;
 }
 
-/* What was only counted when it came. */
-static void tell_what_was_more(struct pipe *pipe)
-{
-    struct sentence it = { 0 };
-    say_endpoint(&it, pipe);
-    append(&it, "packet %" PRIu64 " was more than the script takes", expected_at(pipe)->untold);
-    tell_missing(pipe->device, &it, 0);
-}
-
-/* At the end. */
-void judge_device(struct device *device)
+static void each_missing_packet(const struct device *device, missing_fn *say, void *to)
 {
     for (int i = 0; i < ENDPOINTS; i++) {
-        struct sentence it = { 0 };
+        const struct pipe *pipe = &device->pipes[i];
+        struct sentence more = { 0 }, missing = { 0 };
         if (!device->packets[i])
             continue;
-        if (device->packets[i]->untold)
-            tell_what_was_more(&device->pipes[i]);
-        say_endpoint(&it, &device->pipes[i]);
-        tell_what_is_missing(&it, device, device->packets[i], "packet");
+        say_endpoint(&more, pipe);
+        say_endpoint(&missing, pipe);
+        append(&more, "packet %" PRIu64 " was more than the script takes", device->packets[i]->untold);
+        if (device->packets[i]->untold)                       /* it was only counted when it came */
+            say(to, device, &more, 0);
+        uint64_t count = say_what_is_missing(&missing, device->packets[i], "packet");
+        if (count)
+            say(to, device, &missing, count);
     }
+}
+
+/* What of a device's expectations hasn't come so far, a sentence each. */
+void each_missing(const struct device *device, missing_fn *say, void *to)
+{
+    each_missing_packet(device, say, to);
     for (const struct judged *judged = device->judged; judged; judged = judged->next) {
         struct sentence it = { 0 };
         say_request(&it, device, judged);
-        tell_what_is_missing(&it, device, judged, "request");
+        uint64_t count = say_what_is_missing(&it, judged, "request");
+        if (count)
+            say(to, device, &it, count);
     }
 }

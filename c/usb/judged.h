@@ -40,14 +40,15 @@ void forget_expected(struct device *device);
 /* judge.c: what came is compared with it */
 void judge(struct pipe *pipe);
 void judge_end(struct pipe *pipe);
-void judge_device(struct device *device);
+typedef void missing_fn(void *to, const struct device *device, const struct sentence *it, uint64_t count);
+void each_missing(const struct device *device, missing_fn *say, void *to);
 void judge_request(struct device *device, const uint8_t *setup, const uint8_t *data);
 void expect_anew(struct pipe *pipe);
 void expect_requests_anew(struct device *device);
 
 /* differences.c: what differs is told, and once more at the end */
 bool tell_difference(const struct device *device, const struct sentence *it);
-void tell_missing(const struct device *device, const struct sentence *it, uint64_t count);
+void each_difference(missing_fn *say, void *to);
 void begin_judging(void);
 void report_differences(void);
 

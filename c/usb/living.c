@@ -74,9 +74,8 @@ static uint8_t kind_of(const struct pipe *pipe, int answer)
         return A_TAKEN;
     if (answer >= 0 && answer <= MOST_PACKET)
         return A_PACKET;
-    fprintf(stderr, "libusb: error device %d: its function for endpoint %02x answered %d, which is no answer to a packet: ",
-            pipe->device->number, pipe->ep, answer);
-    fputs("a broken transaction\n", stderr);
+    tell_failure("device %d: its function for endpoint %02x answered %d, which is no answer to a packet: a broken transaction", pipe->device->number,
+                 pipe->ep, answer);
     return A_BROKEN;
 }
 
@@ -93,8 +92,7 @@ static bool feed_answer(struct pipe *pipe, int answer, const uint8_t *data)
         pipe->fed++;
         return true;
     }
-    fprintf(stderr, "libusb: error device %d: an answer of endpoint %02x can't be kept (%s): it is pulled out\n", device->number, pipe->ep,
-            libusb_error_name(r));
+    tell_failure("device %d: an answer of endpoint %02x can't be kept (%s): it is pulled out", device->number, pipe->ep, libusb_error_name(r));
     pull_out(device);
     return core_serves(pipe);
 }

@@ -42,7 +42,8 @@ struct growing {
 /* complaints.c: which line of a text isn't taken, and why */
 void complain(const char *text, size_t length, const char *shown, const char *before_name, const char *name, size_t before);
 void complain_of(const char *name, const struct line *line, int word, const char *why);
-void quote(const char *text, int length);
+void append_quoted(struct sentence *it, const char *text, int length);
+void tell_failure(const char *format, ...) __attribute__((format(printf, 1, 2)));
 
 /* desk.c: whose line is whose */
 bool next_line(const char *text, size_t length, size_t *at, struct line *line);

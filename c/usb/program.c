@@ -104,7 +104,7 @@ static void lose(struct device *device, const char *why)
 {
     struct program *it = device->program;
     const char *then = it->is_met ? ": it is pulled out" : " before it said ok";
-    fprintf(stderr, "libusb: error device %d: its program %s%s\n", device->number, why, then);
+    tell_failure("device %d: its program %s%s", device->number, why, then);
     trace_comment(device->core, "device %d: its program %s", device->number, why);
     close(it->socket);
     it->socket = -1;

@@ -163,7 +163,7 @@ static void go_on(struct device *device)
         pipe->is_halted = false;
     }
     if (r) {
-        fprintf(stderr, "libusb: error device %d: its core can't go on (%s): it is pulled out\n", device->number, libusb_error_name(r));
+        tell_failure("device %d: its core can't go on (%s): it is pulled out", device->number, libusb_error_name(r));
         pull_out(device);
     }
     for (int i = 0; i < ENDPOINTS; i++)
@@ -341,6 +341,5 @@ void leave_by_itself(struct device *device)
         return;
     int r = plug_in(device);
     if (r)
-        fprintf(stderr, "libusb: error device %d: it can't come back as device %d (%s)\n", device->number, device->successor,
-                libusb_error_name(r));
+        tell_failure("device %d: it can't come back as device %d (%s)", device->number, device->successor, libusb_error_name(r));
 }

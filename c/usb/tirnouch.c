@@ -102,6 +102,24 @@ int tirnouch_show(int number)
     return r;
 }
 
+/* A scripted one has a core of its own from then on: the one that is shared plugs none in again. */
+int tirnouch_replug(int number)
+{
+    lock();
+    struct device *device = device_of(number);
+    int r = device ? 0 : LIBUSB_ERROR_NOT_FOUND;
+    if (!r && is_present(device)) {
+        r = come_alive(device);
+        learn_living(device);
+        if (!r)
+            r = pull_out(device);
+    }
+    if (!r)
+        r = plug_in(device);
+    unlock();
+    return r;
+}
+
 int tirnouch_took(int number, uint8_t ep, size_t index, uint8_t *data, size_t room)
 {
     uint8_t none[1];

@@ -24,7 +24,7 @@ static struct {
 
 static void give_up(void)
 {
-    fprintf(stderr, "libusb: error TIRNOUCH_TRACE: the trace can't be written on: %s\n", strerror(errno));
+    tell_failure("TIRNOUCH_TRACE: the trace can't be written on: %s", strerror(errno));
     trace_end(out.core);
 }
 
@@ -149,7 +149,7 @@ bool trace_begin(struct core *core, const struct device *device)
     snprintf(numbered, sizeof numbered, "%s%s%s%s", name, bus, own, session);
     if (open_file(core, numbered))
         return true;
-    fprintf(stderr, "libusb: error TIRNOUCH_TRACE: %s can't be written\n", numbered);
+    tell_failure("TIRNOUCH_TRACE: %s can't be written", numbered);
     return false;
 }
 

@@ -114,21 +114,36 @@ void tell_all_why(struct libusb_context *context, const char *what)
         tell_one(it, what, true);
 }
 
-static void write_context(int file, struct libusb_context *context)
+/* What a context hasn't finished, a sentence each: at most so many of its transfers. The transfer is NULL where none is meant. */
+static void each_left(struct libusb_context *context, size_t most, left_fn *say, void *to)
 {
-    int told = 0;
+    size_t told = 0;
     if (context->is_calling)
-        dprintf(file, "libusb:   a callback runs\n");
+        say(to, NULL, &(struct sentence){ .text = "a callback runs" });
     if (context->ended.first)
-        dprintf(file, "libusb:   ended, and not called back yet: libusb_handle_events isn't called\n");
-    for (struct transfer *it = context->flying.first; it && told < MOST_TOLD; it = it->next, told++) {
-        struct sentence which = { 0 }, why = { 0 };
-        say_which(&which, it);
+        say(to, NULL, &(struct sentence){ .text = "ended, and not called back yet: libusb_handle_events isn't called" });
+    for (struct transfer *it = context->flying.first; it && told < most; it = it->next, told++) {
+        struct sentence left = { 0 }, why = { 0 };
+        say_which(&left, it);
         if (!say_why(&why, it))
             append(&why, "events aren't handled, where it could go on");
-        dprintf(file, "libusb:   %s is in flight: %s\n", which.text, why.text);
-        trace_comment(it->handle->device->core, "why: %s is in flight: %s", which.text, why.text);
+        append(&left, " is in flight: %s", why.text);
+        say(to, it, &left);
     }
+}
+
+void each_left_of_all(left_fn *say, void *to)
+{
+    for (struct libusb_context *it = process.contexts; it; it = it->next)
+        each_left(it, SIZE_MAX, say, to);
+}
+
+static void write_left(void *to, struct transfer *transfer, const struct sentence *left)
+{
+    const int *file = to;
+    dprintf(*file, "libusb:   %s\n", left->text);
+    if (transfer)
+        trace_comment(transfer->handle->device->core, "why: %s", left->text);
 }
 
 /* All contexts' transfers, at a limit. */
@@ -137,7 +152,7 @@ void write_all_why(int file)
     bool any = false;
     for (struct libusb_context *it = process.contexts; it; it = it->next) {
         any |= it->flying.first || it->ended.first || it->is_calling;
-        write_context(file, it);
+        each_left(it, MOST_TOLD, write_left, &file);
     }
     if (!any)
         dprintf(file, "libusb:   no transfer is in flight\n");

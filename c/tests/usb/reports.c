@@ -1,0 +1,172 @@
+/* What a test asks of a run amid it: what is left and why, what differs from what is expected, what went wrong with the bus, the clock; and a
+ * device that is plugged in anew. The expected lines are written from tirnouch.h and docs/DEVICES.md. */
+#include "scene.h"
+
+#include <stdio.h>
+#include <string.h>
+
+#define SHORT 1000
+
+/* A text's lines, and how long all of it is. */
+static void show(const char *what, const char *text, size_t length)
+{
+    printf("  %s, %zu bytes:\n", what, length);
+    for (const char *at = text; *at;) {
+        size_t count = strcspn(at, "\n");
+        printf("    %.*s\n", (int)count, at);
+        at += count + (at[count] == '\n');
+    }
+}
+
+static void show_left(void)
+{
+    char text[1024];
+    size_t length = tirnouch_left(text, sizeof text);
+    show("left", text, length);
+}
+
+static void show_report(void)
+{
+    char text[1024];
+    size_t length = tirnouch_report(text, sizeof text);
+    show("report", text, length);
+}
+
+/* As far as the colon behind the word: why a line isn't taken is the core's to say. */
+static void show_error(void)
+{
+    char text[1024];
+    size_t length = tirnouch_error(text, sizeof text);
+    char *reason = strstr(text, "\": ");
+    if (reason)
+        reason[1] = 0;
+    printf("  error, %s: %s\n", length ? "some bytes" : "no bytes", text);
+}
+
+static void left(void)
+{
+    begin("what is left, and why", "script 0 81 d:01\nafter 0 81 0 02 1\n");
+    show_left();
+    struct libusb_transfer *read = submit(1, 0x81, 8), *waits = submit(2, 0x83, 8);
+    work();
+    show_left();
+    libusb_cancel_transfer(waits);
+    wait_for(1);
+    show_left();
+    libusb_cancel_transfer(read);
+    wait_for(2);
+    show_left();
+    discard(read);
+    discard(waits);
+    end();
+}
+
+static void cut(void)
+{
+    char text[16];
+    begin("a text that doesn't fit", "");
+    struct libusb_transfer *read = submit(1, 0x81, 8);
+    size_t whole = tirnouch_left(NULL, 0), again = tirnouch_left(text, sizeof text);
+    printf("  %s: \"%s\"\n", whole == again ? "as long with room as without" : "another length", text);
+    libusb_cancel_transfer(read);
+    wait_for(1);
+    discard(read);
+    end();
+}
+
+static void write_to(unsigned char ep, unsigned char byte)
+{
+    int moved = 0;
+    answer("write", libusb_bulk_transfer(handle, ep, &byte, 1, &moved, SHORT));
+}
+
+static void report(void)
+{
+    hear_errors();
+    begin("what differs so far", "script 0 02 a:01 a:02 a:03\n");
+    show_report();
+    write_to(0x02, 1);
+    show_report();
+    write_to(0x02, 9);
+    show_report();
+    end();
+    show_errors();
+    begin("where nothing is expected", "script 0 02 a\n");
+    show_report();
+    end();
+}
+
+static void error(void)
+{
+    static const char bad[] = "device 0 " STANDARD_CONFIG "\nhuh 0\n";
+    hear_errors();
+    say("a text that isn't taken");
+    answer("plug", tirnouch_plug(bad, strlen(bad)));
+    answer("init", libusb_init(&context));
+    show_error();
+    begin("the next one is", "");
+    show_error();
+    end();
+}
+
+static void clock_of_the_bus(void)
+{
+    virtual_time(1);
+    begin("virtual time", "");
+    number("now", (long long)tirnouch_now());
+    struct libusb_transfer *read = submit_with(1, 0x81, 8, 0, 1000);
+    answer("advance", tirnouch_advance(400));
+    work();
+    number("now", (long long)tirnouch_now());
+    answer("advance", tirnouch_advance(600));
+    wait_for(1);
+    number("now", (long long)tirnouch_now());
+    discard(read);
+    end();
+    number("without a bus", (long long)tirnouch_now());
+    answer("advance", tirnouch_advance(1));
+    virtual_time(0);
+    begin("real time", "");
+    answer("advance", tirnouch_advance(1));
+    end();
+}
+
+static void read_one(libusb_device_handle *of)
+{
+    unsigned char data[8];
+    int moved = 0, r = libusb_bulk_transfer(of, 0x81, data, sizeof data, &moved, SHORT);
+    answer("read", r);
+    if (!r)
+        bytes("read", data, moved);
+}
+
+static void replug(void)
+{
+    begin("a scripted device is plugged in anew", "script 0 81 d:01 d:02\n");
+    read_one(handle);
+    answer("replug", tirnouch_replug(0));
+    read_one(handle);
+    libusb_device_handle *further = open_standard(context);
+    answer("claim", libusb_claim_interface(further, 0));
+    read_one(further);
+    answer("replug of none", tirnouch_replug(5));
+    answer("pull", tirnouch_pull(0));
+    answer("replug of one that is out", tirnouch_replug(0));
+    libusb_close(further);
+    end();
+    begin("one that was scripted, and is out", "");
+    answer("pull", tirnouch_pull(0));
+    answer("replug", tirnouch_replug(0));
+    end();
+}
+
+int main(void)
+{
+    left();
+    cut();
+    report();
+    error();
+    clock_of_the_bus();
+    replug();
+    return 0;
+}
