@@ -9,7 +9,7 @@ import tempfile
 from typing import Any, Callable, Iterator, Optional, Tuple
 
 # The names of libusb's errors (libusb.h).
-IO, NO_DEVICE, TIMEOUT, PIPE = -1, -4, -7, -9
+IO, NO_DEVICE, TIMEOUT, PIPE, OTHER = -1, -4, -7, -9, -99
 PATH = pathlib.Path(os.environ.get("TIRNOUCH_LIBRARY") or pathlib.Path(__file__).resolve().parents[2] / "bin" / "libusb-1.0.so.0")
 
 

@@ -1,6 +1,7 @@
 """Devices in this process, over the library itself: what libusb's manual says of each error is what a device's answer becomes."""
 from __future__ import annotations
 
+import ctypes
 import os
 import threading
 import unittest
@@ -8,7 +9,7 @@ from typing import Any, List, Optional
 from unittest import mock
 
 from tests.harness import told
-from tests.libusb import IO, NO_DEVICE, PATH, PIPE, TIMEOUT, Program, lacking
+from tests.libusb import IO, NO_DEVICE, OTHER, PATH, PIPE, TIMEOUT, Program, lacking, logged
 from tirnouch import GONE, STALL, Bus, Device, Request, bulk_in, bulk_out, control, later, plug
 
 VENDOR, PRODUCT = 0x1209, 0x0021
@@ -173,6 +174,39 @@ class Events(Plugged):
         with self.assertRaisesRegex(RuntimeError, "Thing: pull: it is gone"):
             self.bus.pull(self.device)
 
+    def test_a_device_is_plugged_in_anew(self) -> None:
+        self.bus.replug(self.device)
+        self.assertEqual(self.program.read(0x81), NO_DEVICE)
+        self.assertTrue(self.program.open(VENDOR, PRODUCT))
+        self.assertEqual(self.device.events, ["pulled", "plugged", ("claimed", 0)])
+
+    def test_nothing_is_left_and_nothing_differs(self) -> None:
+        self.assertEqual(self.bus.left(), [])
+        self.assertEqual(self.bus.report(), [])
+        self.assertEqual(self.bus.error(), "")
+
+    def test_the_clock(self) -> None:
+        before = self.bus.now()
+        self.bus.advance(250)
+        self.assertEqual(self.bus.now(), before + 250)
+        with self.assertRaises(ValueError):
+            self.bus.advance(-1)
+
+    def test_what_isnt_called_from_a_method(self) -> None:
+        refused: List[str] = []
+
+        def answer(call: Any) -> bytes:
+            try:
+                call()
+            except RuntimeError as error:
+                refused.append(str(error))
+            return b"x"
+
+        for call in (self.bus.left, self.bus.report, self.bus.now, lambda: self.bus.advance(1)):
+            with mock.patch.object(Thing, "told", lambda _thing, _request, call=call: answer(call)):
+                self.assertEqual(self.program.control(0xC0, 1, 0, 0, 8), b"x")
+        self.assertEqual(len(refused), 4)
+
     def test_a_device_that_is_there_isnt_shown(self) -> None:
         with self.assertRaisesRegex(RuntimeError, "Thing: show: there is none to do that with"):
             self.bus.show(self.device)
@@ -244,6 +278,16 @@ class Plugs(unittest.TestCase):
                                ("libc.so.6", "isn't Tirnouch's library")):
             with self.assertRaisesRegex(RuntimeError, sentence + ".*TIRNOUCH_LIBRARY"):
                 plug(Thing(), library=path)
+
+    def test_why_a_device_isnt_taken(self) -> None:
+        """The bus begins with the first context: that one is refused, and the bus says which line it is about."""
+        thing = Thing()
+        thing.lines = [("speed", "fast")]
+        with plug(thing, library=str(PATH)) as bus, logged() as log:
+            context = ctypes.c_void_p()
+            self.assertEqual(ctypes.CDLL(str(PATH)).libusb_init(ctypes.byref(context)), OTHER)
+            self.assertIn('"fast"', bus.error())
+        self.assertIn('"fast"', log())
 
     def test_a_device_that_isnt_plugged_in(self) -> None:
         with plug(Thing(), library=str(PATH)) as bus:

@@ -23,6 +23,8 @@ CONTROL = ctypes.CFUNCTYPE(ctypes.c_int, ctypes.c_void_p, BYTES, BYTES, ctypes.c
 LISTENER = ctypes.CFUNCTYPE(None, ctypes.c_void_p, ctypes.c_int, ctypes.c_int)
 # What its functions that pull devices out and plug them in refuse.
 SENTENCES = {-4: "it is gone", -5: "there is none to do that with", -11: "there is no memory"}
+# How many bytes of text there is room for at first.
+ROOM = 4096
 # The functions that libraries were given: a library may be in one of them while they are taken away, so they stay.
 KEPT: List[Any] = []
 
@@ -47,6 +49,18 @@ def moved(answer: Any, data: Any, room: int, inward: bool) -> int:
     count = min(len(answer), room)
     ctypes.memmove(data, answer, count)
     return count
+
+
+def lines_of(call: Callable[..., int]) -> List[str]:
+    """The lines of a text that the library puts into memory, which says how many bytes that are."""
+    call.restype = ctypes.c_size_t  # type: ignore[attr-defined]
+    room = ROOM
+    while True:
+        memory = ctypes.create_string_buffer(room)
+        length = call(memory, ctypes.c_size_t(room))
+        if length < room:
+            return memory.value.decode("ascii", "backslashreplace").splitlines()
+        room = length + 1
 
 
 class Plugged:
@@ -123,6 +137,35 @@ class Bus:
         """Plugs a device in: one that was pulled out, or one that has the line ("hidden",)."""
         self._call("show", device)
 
+    def replug(self, device: Device) -> None:
+        """Pulls a device out, where it is there, and plugs it in again: handles of before are answered LIBUSB_ERROR_NO_DEVICE."""
+        self._call("replug", device)
+
+    def left(self) -> List[str]:
+        """What isn't finished and why, a sentence for each transfer; empty where nothing is in flight."""
+        return lines_of(self._free("left"))
+
+    def report(self) -> List[str]:
+        """What differs so far from what lines of a device expect: the first difference, and what hasn't come."""
+        return lines_of(self._free("report"))
+
+    def error(self) -> str:
+        """What went wrong last with the bus, as a device's line that isn't taken, and why; "" where nothing did."""
+        return "".join(lines_of(self._free("error")))
+
+    def now(self) -> int:
+        """The milliseconds since the first context opened, by the clock of timeouts; 0 where none is open."""
+        clock = self._free("now")
+        clock.restype = ctypes.c_uint64
+        return int(clock())
+
+    def advance(self, milliseconds: int) -> None:
+        """So many milliseconds of virtual time pass. RuntimeError where time is real, or no context is open."""
+        if not 0 <= milliseconds < 1 << 32:
+            raise ValueError(f"advance takes milliseconds from 0 to {(1 << 32) - 1}, and not {milliseconds}")
+        if self._free("advance")(ctypes.c_uint(milliseconds)):
+            raise RuntimeError("time is real here, or no context is open: TIRNOUCH_TIME=virtual makes it pass where nothing else is to be done")
+
     def close(self) -> None:
         """The devices' methods are called no more. Where no context of libusb is open, the bus of the next one is empty until devices are
         plugged in again; else the devices are there until the last one is closed, and answer nothing."""
@@ -131,6 +174,12 @@ class Bus:
         if self.plugged:
             self.library.tirnouch_plug(b"", ctypes.c_size_t(0))
         self.plugged = []
+
+    def _free(self, name: str) -> Any:
+        """A function of the library's, where none of its calls waits for this thread's answer."""
+        if getattr(ASKED, "is_asked", False):
+            raise RuntimeError(f"{name} isn't called from a method that is asked: the library waits for its answer")
+        return getattr(self.library, f"tirnouch_{name}")
 
     def _call(self, name: str, device: Device) -> None:
         number = next((it.number for it in self.plugged if it.device is device), None)
