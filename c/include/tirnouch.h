@@ -17,6 +17,27 @@ extern "C" {
  * refused. Whether each line is taken is told by that `libusb_init`. */
 int tirnouch_plug(const char *text, size_t length);
 
+/* How a bus begins that a test begins by itself. Zeros are none, and what is pointed to is copied. */
+struct tirnouch_options {
+    size_t size;           /* sizeof (struct tirnouch_options) */
+    const char *devices;   /* the text of the devices; NULL for that of tirnouch_plug, or of the file that TIRNOUCH_DEVICES names */
+    size_t devices_length;
+    const char *trace;     /* the file of the trace, as TIRNOUCH_TRACE */
+    uint64_t seed;         /* single steps by dice, as TIRNOUCH_SEED */
+    unsigned limit;        /* after so many milliseconds the process ends with status 124, as by TIRNOUCH_LIMIT, if the bus is there still */
+    int is_virtual;        /* time passes only where nothing else is to be done, as by TIRNOUCH_TIME=virtual */
+};
+
+/* The bus begins now, with its devices, and is there until `tirnouch_end`: contexts come and go meanwhile, and the devices go on. Of the
+ * variables TIRNOUCH_TRACE, TIRNOUCH_SEED and TIRNOUCH_TIME none steers it. LIBUSB_ERROR_BUSY where there is a bus, LIBUSB_ERROR_INVALID_PARAM
+ * for another size, LIBUSB_ERROR_NO_MEM where memory is refused, LIBUSB_ERROR_OTHER where a line isn't taken or the trace can't be written
+ * (`tirnouch_error` says why): then there is none. */
+int tirnouch_begin(const struct tirnouch_options *options);
+
+/* It ends: what never came of what is expected is told, and the trace ends. LIBUSB_ERROR_BUSY while a context is open, so in a callback
+ * too; LIBUSB_ERROR_NOT_FOUND where `tirnouch_begin` didn't begin it. */
+int tirnouch_end(void);
+
 /* A device's functions compute what it answers. They are called with the library's lock held, and may call nothing of libusb or
  * Tirnouch: such a call ends the program by abort, with a sentence that says whose function it is. They are set for the device of a
  * number, 0 to 15, at any time; NULL in place of one takes it back. Set before the `libusb_init` that begins the bus, or while the bus is

@@ -119,18 +119,21 @@ static int begin_devices(void)
     const char *name = getenv("TIRNOUCH_DEVICES");
     size_t length = 0;
     if (process.text)
-        return make_devices(process.text, process.text_length, "the text of tirnouch_plug");
+        return make_devices(process.text, process.text_length, process.text_name);
     if (!name || !*name)
         return make_devices("", 0, "");
     process.bus.file_text = read_file(name, &length);
     return process.bus.file_text ? make_devices(process.bus.file_text, length, name) : LIBUSB_ERROR_OTHER;
 }
 
-static int begin_trace(const char *name)
+static int begin_trace(const struct beginning *so)
 {
-    if (!name || !*name)
+    if (!so->trace)
         return 0;
-    process.traces++;
+    process.bus.trace = strdup(so->trace);
+    if (!process.bus.trace)
+        return LIBUSB_ERROR_NO_MEM;
+    process.bus.trace_number = so->trace_number;
     process.bus.is_watched = process.bus.is_traced = true;
     return trace_begin(&process.bus.core, NULL) ? 0 : LIBUSB_ERROR_OTHER;
 }
@@ -143,28 +146,47 @@ static void clear_bus(void)
     tirnouch_destroy(&process.bus.core.slot);
     trace_end(&process.bus.core);
     free(process.bus.file_text);
+    free(process.bus.trace);
     process.bus = (struct bus){ 0 };
 }
 
-int bus_begin(void)
+/* There is none. */
+int bus_begin_so(const struct beginning *so)
 {
-    const char *seed = getenv("TIRNOUCH_SEED"), *time = getenv("TIRNOUCH_TIME");
-    begin_limit();
-    if (process.bus.users++)
-        return 0;
     process.failure[0] = 0;
-    process.bus.seed = seed ? strtoull(seed, NULL, 10) : 0;
-    process.bus.is_watched = process.bus.seed;
-    process.bus.is_virtual = time && !strcmp(time, "virtual");
+    process.bus.users = 1;
+    process.bus.turn = ++process.buses;
+    process.bus.seed = so->seed;
+    process.bus.is_watched = so->seed;
+    process.bus.is_virtual = so->is_virtual;
     process.bus.moment = BEGINNING;
     process.bus.begun = now();
     process.bus.core.trace = -1;
-    int r = begin_trace(getenv("TIRNOUCH_TRACE"));
+    int r = begin_trace(so);
     if (!r)
         r = begin_devices();
     if (r)
         clear_bus();
     return r;
+}
+
+/* By what the environment says: each bus has a trace of its own. */
+int bus_begin(void)
+{
+    const char *seed = getenv("TIRNOUCH_SEED"), *time = getenv("TIRNOUCH_TIME"), *trace = getenv("TIRNOUCH_TRACE");
+    begin_limit();
+    if (process.bus.users) {
+        process.bus.users++;
+        return 0;
+    }
+    struct beginning so = {
+        .trace = trace && *trace ? trace : NULL,
+        .seed = seed ? strtoull(seed, NULL, 10) : 0,
+        .is_virtual = time && !strcmp(time, "virtual"),
+    };
+    if (so.trace)
+        so.trace_number = ++process.traces;
+    return bus_begin_so(&so);
 }
 
 /* The core's handles are closed in the trace too, so that it blames nobody who tidied up. */

@@ -244,6 +244,9 @@ struct bus {
     const char *text;                 /* the devices, as a person wrote them: of tirnouch_plug, or */
     char *file_text;                  /* of the file, which is the bus's own */
     size_t text_length;
+    char *trace;                      /* the name of the trace's file, the bus's own; NULL for none; */
+    unsigned trace_number;            /* and what stands behind it, where it is more than 1 */
+    unsigned turn;                    /* which bus of the process it is, from 1 on */
     uint64_t seed;                    /* 0 for none */
     bool is_traced, is_watched;       /* is_watched: answers are counted one by one, for the trace or the log */
     struct transfers controls;
@@ -273,8 +276,9 @@ extern struct process {
     struct libusb_context *usual, *fallback, *contexts;
     struct libusb_context nobody;     /* the default context where none is open */
     struct defaults defaults;
-    char *text;                       /* of tirnouch_plug */
+    char *text;                       /* of tirnouch_plug, or tirnouch_begin, */
     size_t text_length;
+    const char *text_name;            /* by which it is told of */
     struct {
         tirnouch_control answer;
         void *user;
@@ -289,7 +293,9 @@ extern struct process {
     } listeners[DEVICES];
     libusb_log_cb log;
     char failure[1024];               /* what was told last of what went wrong with the bus; empty for nothing */
-    unsigned traces;                  /* how many were begun */
+    unsigned traces;                  /* how many were begun by the environment */
+    unsigned buses;                   /* how many were begun */
+    bool has_begun;                   /* the bus that is there was begun by tirnouch_begin, which is one of its users */
     bool was_misused;                 /* it was told that the default context isn't the program's */
     bool is_asking;                   /* atomic: a function of a device's is being asked */
     uint8_t nowhere[1];               /* where memory of no bytes lies: nobody reads or writes it */

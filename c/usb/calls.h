@@ -4,8 +4,17 @@
 
 #include "bus.h"
 
-/* bus.c: the bus begins with the first context and ends with the last. */
+/* How a bus begins: what steers it. */
+struct beginning {
+    const char *trace;                /* a file's name; NULL for none */
+    unsigned trace_number;            /* behind it, where it is more than 1 */
+    uint64_t seed;                    /* 0 for none */
+    bool is_virtual;
+};
+
+/* bus.c: the bus begins with the first context, or by tirnouch_begin, and ends with the last. */
 int bus_begin(void);
+int bus_begin_so(const struct beginning *so);
 void bus_end(void);
 
 /* learn.c: what a device's lines and descriptors say */
@@ -39,8 +48,9 @@ void write_all_why(int file);
 typedef void left_fn(void *to, struct transfer *transfer, const struct sentence *left);
 void each_left_of_all(left_fn *say, void *to);
 
-/* limit.c: TIRNOUCH_LIMIT */
+/* limit.c: TIRNOUCH_LIMIT, and the limit of one bus */
 void begin_limit(void);
+int begin_limit_of(unsigned turn, unsigned milliseconds);
 
 /* context.c */
 struct libusb_context *usual_context(void);

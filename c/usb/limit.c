@@ -1,5 +1,6 @@
-/* TIRNOUCH_LIMIT=MILLISECONDS ends a run that hangs: a thread of ours waits from the first `libusb_init` on, and when the time is over says
- * what is in flight and why, and ends the process with status 124. Without the variable there is no such thread. */
+/* TIRNOUCH_LIMIT=MILLISECONDS, or the limit that tirnouch_begin is given, ends a run that hangs: a thread of ours waits from the first
+ * `libusb_init`, or from that call, on, and when the time is over says what is in flight and why, and ends the process with status 124. Without
+ * a limit there is no such thread. */
 #include "bus.h"
 
 #include <errno.h>
@@ -11,7 +12,13 @@
 
 #define STATUS 124
 
+/* Of the whole process, in milliseconds. */
 static unsigned long limit;
+
+/* Of one bus. */
+struct bus_limit {
+    unsigned turn, milliseconds;
+};
 
 /* Whoever holds the lock for a second more holds it for ever: a control function that doesn't return, say. */
 static bool lock_in_a_second(void)
@@ -22,38 +29,80 @@ static bool lock_in_a_second(void)
     return pthread_mutex_timedlock(&process.lock, &until) == 0;
 }
 
-static void *wait_for_limit(void *unused)
+static void sleep_for(unsigned long milliseconds)
 {
-    (void)unused;
-    struct timespec until = moment_in((uint64_t)limit * 1000000u);
+    struct timespec until = moment_in((uint64_t)milliseconds * MILLISECOND);
     while (clock_nanosleep(CLOCK_MONOTONIC, TIMER_ABSTIME, &until, NULL) == EINTR) {
     }
-    dprintf(STDERR_FILENO, "libusb: error the limit of %lu ms is over: the run is ended\n", limit);
-    if (lock_in_a_second())
+}
+
+_Noreturn static void end_run(unsigned long milliseconds, bool is_locked)
+{
+    dprintf(STDERR_FILENO, "libusb: error the limit of %lu ms is over: the run is ended\n", milliseconds);
+    if (is_locked)
         write_all_why(STDERR_FILENO);
     else
         dprintf(STDERR_FILENO, "libusb:   a thread is in a call of the library that doesn't return\n");
     _exit(STATUS);
 }
 
-/* With all signals blocked in it, so that the program's own threads get them. */
-static void begin(void)
+static void *wait_for_limit(void *unused)
 {
-    const char *text = getenv("TIRNOUCH_LIMIT");
+    (void)unused;
+    sleep_for(limit);
+    end_run(limit, lock_in_a_second());
+}
+
+/* A bus that ended in time has no limit any more. */
+static void *wait_for_limit_of(void *of)
+{
+    struct bus_limit it = *(struct bus_limit *)of;
+    free(of);
+    sleep_for(it.milliseconds);
+    bool is_locked = lock_in_a_second();
+    if (is_locked && process.bus.turn != it.turn) {
+        unlock();
+        return NULL;
+    }
+    end_run(it.milliseconds, is_locked);
+}
+
+/* With all signals blocked in it, so that the program's own threads get them. Whether it began. */
+static bool begin_thread(void *(*work)(void *), void *of)
+{
     pthread_attr_t detached;
     pthread_t thread;
     sigset_t all, before;
-    limit = text ? strtoul(text, NULL, 10) : 0;
-    if (!limit)
-        return;
     sigfillset(&all);
     pthread_sigmask(SIG_BLOCK, &all, &before);
     pthread_attr_init(&detached);
     pthread_attr_setdetachstate(&detached, PTHREAD_CREATE_DETACHED);
-    if (pthread_create(&thread, &detached, wait_for_limit, NULL))
-        fprintf(stderr, "libusb: error TIRNOUCH_LIMIT: there is no thread for it, and so no limit\n");
+    bool begun = !pthread_create(&thread, &detached, work, of);
     pthread_attr_destroy(&detached);
     pthread_sigmask(SIG_SETMASK, &before, NULL);
+    return begun;
+}
+
+static void begin(void)
+{
+    const char *text = getenv("TIRNOUCH_LIMIT");
+    limit = text ? strtoul(text, NULL, 10) : 0;
+    if (limit && !begin_thread(wait_for_limit, NULL))
+        fprintf(stderr, "libusb: error TIRNOUCH_LIMIT: there is no thread for it, and so no limit\n");
+}
+
+/* With the lock. */
+int begin_limit_of(unsigned turn, unsigned milliseconds)
+{
+    struct bus_limit *it = malloc(sizeof *it);
+    if (!it)
+        return LIBUSB_ERROR_NO_MEM;
+    *it = (struct bus_limit){ .turn = turn, .milliseconds = milliseconds };
+    if (begin_thread(wait_for_limit_of, it))
+        return 0;
+    free(it);
+    tell_failure("the limit of %u ms: there is no thread for it", milliseconds);
+    return LIBUSB_ERROR_OTHER;
 }
 
 void begin_limit(void)

@@ -19,6 +19,7 @@ int tirnouch_plug(const char *text, size_t length)
         free(process.text);
         process.text = copy;
         process.text_length = length;
+        process.text_name = "the text of tirnouch_plug";
     }
     unlock();
     if (is_used)

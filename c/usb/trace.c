@@ -136,17 +136,16 @@ static bool open_file(struct core *core, const char *name)
 bool trace_begin(struct core *core, const struct device *device)
 {
     char numbered[4096], bus[16] = "", own[16] = "", session[16] = "";
-    const char *name = getenv("TIRNOUCH_TRACE");
     core->trace = -1;
     if (!process.bus.is_traced)
         return true;
-    if (process.traces > 1)
-        snprintf(bus, sizeof bus, ".%u", process.traces);
+    if (process.bus.trace_number > 1)
+        snprintf(bus, sizeof bus, ".%u", process.bus.trace_number);
     if (device)
         snprintf(own, sizeof own, ".d%d", device->number);
     if (core->sessions)
         snprintf(session, sizeof session, ".%u", core->sessions + 1);
-    snprintf(numbered, sizeof numbered, "%s%s%s%s", name, bus, own, session);
+    snprintf(numbered, sizeof numbered, "%s%s%s%s", process.bus.trace, bus, own, session);
     if (open_file(core, numbered))
         return true;
     tell_failure("TIRNOUCH_TRACE: %s can't be written", numbered);

@@ -40,6 +40,7 @@ static void show_error(void)
     char *reason = strstr(text, "\": ");
     if (reason)
         reason[1] = 0;
+    text[strcspn(text, "\n")] = 0;
     printf("  error, %s: %s\n", length ? "some bytes" : "no bytes", text);
 }
 
@@ -160,6 +161,72 @@ static void replug(void)
     end();
 }
 
+/* A context on the bus that is there, with the standard device open and its interface 0 claimed. */
+static void open_on_bus(void)
+{
+    answer("init", libusb_init(&context));
+    handle = libusb_open_device_with_vid_pid(context, VENDOR, PRODUCT);
+    answer("claim", handle ? libusb_claim_interface(handle, 0) : LIBUSB_ERROR_NOT_FOUND);
+}
+
+static void close_on_bus(void)
+{
+    libusb_close(handle);
+    libusb_exit(context);
+    handle = NULL;
+    context = NULL;
+}
+
+static int begin_with(const char *devices, const char *trace)
+{
+    struct tirnouch_options options = { .size = sizeof options, .devices = devices, .trace = trace, .is_virtual = 1 };
+    options.devices_length = strlen(devices);
+    return tirnouch_begin(&options);
+}
+
+static void bus_of_a_test(void)
+{
+    static const char name[] = "reports.trace";
+    struct tirnouch_options none = { .size = 0 };
+    char line[100] = "";
+    say("a bus that a test begins");
+    answer("begin of another size", tirnouch_begin(&none));
+    answer("begin of nothing", tirnouch_begin(NULL));
+    answer("end of none", tirnouch_end());
+    answer("begin", begin_with(STANDARD "script 0 81 d:01 d:02 d:03\n", name));
+    answer("begin again", begin_with(STANDARD, NULL));
+    answer("plug", tirnouch_plug("", 0));
+    open_on_bus();
+    read_one(handle);
+    answer("end with a context", tirnouch_end());
+    close_on_bus();
+    say("another context: the device goes on");
+    open_on_bus();
+    read_one(handle);
+    close_on_bus();
+    answer("end", tirnouch_end());
+    answer("end again", tirnouch_end());
+    FILE *trace = fopen(name, "r");
+    printf("  the trace: %s", trace && fgets(line, sizeof line, trace) ? line : "there is none\n");
+    if (trace)
+        fclose(trace);
+    remove(name);
+}
+
+static void bus_that_isnt_begun(void)
+{
+    hear_errors();
+    say("a bus that can't begin");
+    answer("begin", begin_with(STANDARD "huh 0\n", NULL));
+    show_error();
+    answer("end", tirnouch_end());
+    answer("begin", begin_with(STANDARD, "no such folder/trace"));
+    show_error();
+    answer("begin", begin_with(STANDARD, NULL));
+    show_error();
+    answer("end", tirnouch_end());
+}
+
 int main(void)
 {
     left();
@@ -168,5 +235,7 @@ int main(void)
     error();
     clock_of_the_bus();
     replug();
+    bus_of_a_test();
+    bus_that_isnt_begun();
     return 0;
 }
