@@ -12,3 +12,4 @@ mod Runnables
 mod Feeds
 pub mod StepLines
 pub mod DeviceLines
+mod LinesExpected

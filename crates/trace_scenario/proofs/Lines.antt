@@ -1,5 +1,5 @@
 -- What a line that is taken always says.
-use Rattle.std.proofs.Common.{◌≡◌, ℕ, suc, ◌≤◌, ◌==◌, nat_le, nat_lt, Bool, true, false, not, ◌&&◌, List, [], ◌∷◌, length, Option, Some, None, refl, sym, ap, subst}
+use Rattle.std.proofs.Common.{◌≡◌, ℕ, suc, ◌≤◌, ◌==◌, nat_le, nat_lt, Bool, true, false, ◌&&◌, List, [], ◌∷◌, length, Option, Some, None, refl, sym, ap, subst}
 use Rattle.std.specs.Prelude.{◌≢◌, IfSome, codes, if◌then◌else◌}
 use Rattle.std.specs.List.{after_first, before_first, list_all, position_or_len}
 use Rattle.std.specs.Option.{option_and_then, option_map}
@@ -26,6 +26,7 @@ use Rattle.trace_scenario.specs.declared.line.Line.{Line}
 use Rattle.trace_scenario.specs.declared.line.Line.TheVariants as line
 use Rattle.trace_scenario.specs.declared.verb.Verb.{Verb}
 use Rattle.trace_scenario.specs.declared.verb.Verb.TheVariants as verb
+use Rattle.trace_scenario.specs.ExpectedPacket.{expected_packet_of}
 use Rattle.trace_scenario.specs.Line.{answer_of, answers_of, ascii_of, body_of, device_line_of, each_of, endpoint_answers, endpoint_answers_of, feed_line, kind_of, line_by, line_of, line_of_text, packet_of, script_line, submission, submit_of, transfer_of}
 use Rattle.trace_scenario.specs.Step.{bare_of, cancel_of, claim_of, clear_of, close_of, expire_of, line_of_step, open_of, release_of, reset_of, return_of, serve_of, unplug_of}
 use Rattle.trace_scenario.specs.Verb.{verb_of}
@@ -82,7 +83,7 @@ packet_fits ep word inward =
 -- an answer is one that the endpoint may give
 answer_fits : (ep : ℕ) (word : List ℕ) → IfSome (answer_of ep word) (MayAnswer ep)
 unfolding answer_of
-answer_fits ep word = by_n (bytes_eq word (codes "n")) (bytes_eq word (codes "s")) (bytes_eq word (codes "b")) (bytes_eq word (codes "a")) (is_in ep) refl
+answer_fits ep word = by_n (bytes_eq word (codes "n")) (bytes_eq word (codes "s")) (bytes_eq word (codes "b")) (is_in ep) refl
   where
     packets : is_in ep ≡ true → IfSome (option_and_then packet_of (behind (codes "d:") word)) (MayAnswer ep)
     packets inward = if_and_then (MayAnswer ep) packet_of (behind (codes "d:") word) (λ digits. packet_fits ep digits inward)
@@ -102,15 +103,13 @@ answer_fits ep word = by_n (bytes_eq word (codes "n")) (bytes_eq word (codes "s"
     breaks true = refl
     breaks false = refl
 
-    by_n : (n s b a inward : Bool) → is_in ep ≡ inward
-        → IfSome (if n then Some response.Nak else if s then Some response.Stall else if b then Some response.Broken else if a && not inward then Some response.Ack else if inward then option_and_then packet_of (behind (codes "d:") word) else None) (MayAnswer ep)
-    by_n true s b a inward e = either response.Nak naks
-    by_n false true b a inward e = either response.Stall stalls
-    by_n false false true a inward e = either response.Broken breaks
-    by_n false false false true false e = rw e refl
-    by_n false false false true true e = packets e
-    by_n false false false false true e = packets e
-    by_n false false false false false e = tt
+    by_n : (n s b inward : Bool) → is_in ep ≡ inward
+        → IfSome (if n then Some response.Nak else if s then Some response.Stall else if b then Some response.Broken else if inward then option_and_then packet_of (behind (codes "d:") word) else option_map (λ expected. response.Ack) (expected_packet_of word)) (MayAnswer ep)
+    by_n true s b inward e = either response.Nak naks
+    by_n false true b inward e = either response.Stall stalls
+    by_n false false true inward e = either response.Broken breaks
+    by_n false false false true e = packets e
+    by_n false false false false e = if_map (MayAnswer ep) (λ expected. response.Ack) (expected_packet_of word) (λ expected. rw e refl)
 
 -- each answer of some words
 each_fits : (ep : ℕ) (words : List (List ℕ)) → IfSome (each_of (answer_of ep) words) (λ answers. (list_all (is_answer (is_in ep)) answers ≡ true) × (length answers ≡ length words))

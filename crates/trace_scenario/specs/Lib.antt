@@ -3,6 +3,7 @@ pub mod Number
 pub mod Option
 pub mod Prefix
 pub mod Words
+pub mod ExpectedPacket
 pub use Rattle.usb_model.specs.World.Plans
 pub mod Line
 pub mod LineResults
@@ -18,3 +19,4 @@ pub mod Feeds
 pub mod Scenario
 pub mod StepLines
 pub mod DeviceLines
+pub mod Expectations

@@ -1,5 +1,5 @@
 -- Lines: what the words of each say.
-use Rattle.std.specs.Prelude.{ℕ, nat_le, nat_lt, Bool, not, ◌&&◌, List, [], ◌∷◌, codes, length, Option, Some, None, if◌then◌else◌}
+use Rattle.std.specs.Prelude.{ℕ, nat_le, nat_lt, Bool, ◌&&◌, List, [], ◌∷◌, codes, length, Option, Some, None, if◌then◌else◌}
 use Rattle.std.specs.Option.{option_map, option_and_then}
 use Rattle.std.specs.Result.{result_ok}
 use Rattle.std.specs.List.{list_all}
@@ -20,6 +20,7 @@ use Rattle.trace_scenario.specs.declared.script.EndpointAnswers.{EndpointAnswers
 use Rattle.trace_scenario.specs.declared.verb.Verb.{Verb}
 use Rattle.trace_scenario.specs.declared.verb.Verb.TheVariants.{Device, Script, Feed, Open, Close, Claim, Release, Reset, Clear, Submit, Cancel, Expire, Serve, Command, Deliver, Take, Return, Unplug}
 use Rattle.usb_model.specs.declared.step.Step.TheVariants as step
+use Rattle.trace_scenario.specs.ExpectedPacket.{expected_packet_of}
 use Rattle.trace_scenario.specs.Number.{handle_of, device_of, u32_of, address_of, bytes_of}
 use Rattle.trace_scenario.specs.Verb.{verb_of}
 use Rattle.trace_scenario.specs.Words.{words_in}
@@ -36,15 +37,14 @@ each_of f (word ∷ words) = option_and_then (λ x. option_map (λ xs. x ∷ xs)
 unfoldable pub packet_of : List ℕ → Option Response
 packet_of digits = option_and_then (λ bytes. if nat_le (length bytes) largest_packet then Some (response.Data bytes) else None) (bytes_of digits)
 
--- an answer of an endpoint: packets are for IN, and that one was taken for OUT
+-- an answer of an endpoint: packets are for IN, and that one is taken for OUT, whatever is expected of it
 unfoldable pub answer_of : ℕ → List ℕ → Option Response
 answer_of ep word =
     if bytes_eq word (codes "n") then Some response.Nak
     else if bytes_eq word (codes "s") then Some response.Stall
     else if bytes_eq word (codes "b") then Some response.Broken
-    else if bytes_eq word (codes "a") && not (is_in ep) then Some response.Ack
     else if is_in ep then option_and_then packet_of (behind (codes "d:") word)
-    else None
+    else option_map (λ expected. response.Ack) (expected_packet_of word)
 
 -- the answers of an endpoint: one at least
 unfoldable pub answers_of : ℕ → List (List ℕ) → Option (List Response)

@@ -23,7 +23,7 @@ pub(crate) fn culprit<'a>(line: &'a [u8], problem: &Problem) -> Option<&'a str> 
     match problem {
         Problem::FirstWord => line.split(' ').next(),
         Problem::Word(expected) => unexpected(line, *expected),
-        Problem::Packet => first_wrong_answer(line, true),
+        Problem::Packet => first_wrong_packet(line),
         Problem::Slip(Slip::Prefix) => line.split(' ').find(|word| has_zero_x(word.as_bytes())),
         _ => None,
     }
@@ -45,7 +45,7 @@ fn unexpected(line: &str, expected: Expected) -> Option<&str> {
         Expected::Rule => beginning(line, "then="),
         Expected::Option => out_of_turn(line),
         Expected::InAnswer => first_wrong_answer(line, true),
-        Expected::OutAnswer => first_wrong_answer(line, false),
+        Expected::OutAnswer | Expected::PacketBytes => first_wrong_answer(line, false),
     }
 }
 
@@ -75,12 +75,19 @@ fn first_wrong_answer(line: &str, is_in: bool) -> Option<&str> {
         .find(|word| !is_answer(word, is_in))
 }
 
+/// The first answer that is none of an endpoint of either direction.
+fn first_wrong_packet(line: &str) -> Option<&str> {
+    line.split(' ')
+        .skip(BEFORE_ANSWERS)
+        .find(|word| !is_answer(word, true) && !is_answer(word, false))
+}
+
 /// Whether a word is an answer of an endpoint of this direction.
 fn is_answer(word: &str, is_in: bool) -> bool {
     match word {
         "n" | "s" | "b" => true,
-        "a" => !is_in,
-        _ => is_in && is_packet(word),
+        _ if is_in => is_packet(word),
+        _ => is_taken(word),
     }
 }
 
@@ -89,6 +96,14 @@ fn is_packet(word: &str) -> bool {
     match behind("d:", word) {
         Some(digits) => are_packet_digits(digits),
         None => false,
+    }
+}
+
+/// Whether a word says that a packet is taken.
+fn is_taken(word: &str) -> bool {
+    match behind("a:", word) {
+        Some(expected) => are_packet_digits(expected.strip_suffix('*').unwrap_or(expected)),
+        None => word == "a",
     }
 }
 

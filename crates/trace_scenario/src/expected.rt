@@ -31,6 +31,8 @@ pub enum Expected {
     InAnswer,
     /// An answer of an endpoint for OUT.
     OutAnswer,
+    /// What stands behind `a:`: an even number of hexadecimal digits, and `*` where more may follow.
+    PacketBytes,
 }
 
 impl Expected {
@@ -60,7 +62,12 @@ impl Expected {
             Expected::InAnswer => {
                 "an answer of an IN endpoint isn't `d:` and a packet's bytes, `n`, `s` or `b`"
             }
-            Expected::OutAnswer => "an answer of an OUT endpoint isn't `a`, `n`, `s` or `b`",
+            Expected::OutAnswer => {
+                "an answer of an OUT endpoint isn't `a`, `a:` and the bytes that are expected, `n`, `s` or `b`"
+            }
+            Expected::PacketBytes => {
+                "behind `a:` stands something other than an even number of hexadecimal digits, and `*` where more may follow"
+            }
         }
     }
 }

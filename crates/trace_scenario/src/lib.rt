@@ -12,6 +12,7 @@
 //! - `expected.rt`: what a word had to be, in a sentence
 //! - `verb.rt`, `line.rt`: first words; one line
 //! - `script.rt`, `submit.rt`, `step.rt`: the lines of scripts and of answers behind them, of submissions, of other pieces of a plan
+//! - `expected_packet.rt`, `expectations.rt`: what a word, and what the lines of a text, expect of the packets that devices take
 //! - `problem.rt`, `slip.rt`, `fault.rt`: what is wrong with a line, in a sentence; slips of editors and other notations; why it
 //!   isn't taken
 //! - `draft.rt`, `scenario.rt`, `scripted.rt`: what the lines so far say; a scenario; a device of it
@@ -38,6 +39,9 @@
 //!   what it gives can be run (`IsRunnable`). Want of memory leaves both open
 //! - `read_lined`: the same with the line of each piece of the plan: its number and its bytes (`step_lines`), as many
 //!   lines as pieces; and the line of each device: its number and the bytes of its configuration (`device_lines`)
+//! - `read_expected`: what the lines of a text expect of packets that are taken (`expected_of`), one for each line
+//!   `script` or `feed`, with an entry for each answer that takes a packet. Want of memory leaves it open. The scenario
+//!   of a text is the same, whatever is expected
 //! - `into_setups`, `ScriptedDevice::into_setup`: devices as the model has them: the same
 //! - `check`: the numbers of the bad lines, each line judged by what the good ones before it say, and the counts of
 //!   what the good ones say
@@ -55,7 +59,9 @@ mod culprit;
 mod described;
 mod draft;
 mod endpoint_set;
+mod expectations;
 mod expected;
+mod expected_packet;
 mod fault;
 mod findings;
 pub mod laws;
@@ -79,7 +85,9 @@ mod verb;
 
 pub use described::DescribedDevice;
 pub use endpoint_set::EndpointSet;
+pub use expectations::{ExpectedPackets, read_expected};
 pub use expected::Expected;
+pub use expected_packet::ExpectedPacket;
 pub use fault::LineFault;
 pub use findings::{Counts, Finding, Findings, check};
 pub use line::Line;

@@ -7,6 +7,7 @@ ghost use Rattle.trace_scenario.specs.Prefix.{behind};
 ghost use Rattle.trace_scenario.specs.LineResults.{ReadsAs};
 ghost use Rattle.trace_scenario.specs.Words.{words_of};
 
+use crate::expected_packet::expected_packet;
 use crate::fault::LineFault;
 use crate::number::{address, bytes, device};
 use crate::problem::Problem;
@@ -66,7 +67,8 @@ fn each_answer(alloc: Global, ep: EpAddr, words: &[&str]) -> Result<Script, Line
     Ok(Script::from_vec(answers))
 }
 
-/// One answer: a packet of an endpoint for IN, that one was taken by an endpoint for OUT, or what either may answer.
+/// One answer: a packet of an endpoint for IN, that one is taken by an endpoint for OUT, or what either may answer. What is
+/// expected of a packet that is taken is read, and isn't kept: it is no part of the answer.
 #[tactic(auto, unfolding(crate::specs::Line::answer_of))]
 fn answer(alloc: Global, ep: EpAddr, word: &str) -> Result<Response, LineFault>
     ensures { ReadsAs result (answer_of ep word.now) }
@@ -75,9 +77,11 @@ fn answer(alloc: Global, ep: EpAddr, word: &str) -> Result<Response, LineFault>
         "n" => Ok(Response::Nak),
         "s" => Ok(Response::Stall),
         "b" => Ok(Response::Broken),
-        "a" if !ep.is_in() => Ok(Response::Ack),
         _ if ep.is_in() => packet(alloc, word),
-        _ => Err(LineFault::Bad(Problem::Word(Expected::OutAnswer))),
+        _ => {
+            let _expected = expected_packet(alloc, word)?;
+            Ok(Response::Ack)
+        }
     }
 }
 

@@ -107,7 +107,8 @@ script 0 91 n => the device has no bulk or interrupt endpoint of this address; i
 script 0 83 n => the endpoint has a script already
 script 0 81 => a script has 1 to 65536 answers
 script 0 81 n a => `a`: an answer of an IN endpoint isn't `d:` and a packet's bytes, `n`, `s` or `b`
-script 0 02 a d:00 => `d:00`: an answer of an OUT endpoint isn't `a`, `n`, `s` or `b`
+script 0 02 a d:00 => `d:00`: an answer of an OUT endpoint isn't `a`, `a:` and the bytes that are expected, `n`, `s` or `b`
+script 0 02 a a:0* => `a:0*`: behind `a:` stands something other than an even number of hexadecimal digits, and `*` where more may follow
 ";
 
 /// Descriptors that are refused, each with its fault and where it is.

@@ -1,0 +1,2 @@
+mod Judges
+mod Places

@@ -1,0 +1,5 @@
+pub mod Expected
+pub mod Differences
+pub mod Missing
+pub mod Report
+pub mod Text

@@ -1,0 +1,38 @@
+//! What a run writes to devices, compared with what its scenario expects: the first packet that differs, how many do,
+//! and which expected packets never came, told in sentences.
+//!
+//! The one promise: what is told is the text of the definition, read off the worlds of the run; nothing is told where
+//! each packet that is taken is as expected, and each that is expected comes.
+//!
+//! # Files
+//!
+//! - `expected.rt`, specs/Expected: what is expected of the packets of an endpoint, and where one differs
+//! - `difference.rt`, specs/Differences: the packet that a step's device takes, and those of a run that differ
+//! - `missing.rt`, specs/Missing: what never came at an endpoint
+//! - `judged.rt`: a run, and what came of it
+//! - `sentence.rt`, `told.rt`, specs/Report: how it is told
+//! - `text.rt`, specs/Text: of the scenario that a text is
+//!
+//! # Contracts
+//!
+//! - `judge`: the packets that differ are those of the definition (`differences`), in the run's order, each with its
+//!   line, endpoint, index, bytes, what was expected, and the first byte that differs or the end of the shorter; and
+//!   what never came is what the last world says (`all_missing`). The plain program makes the run, since between two of
+//!   its steps all that devices took can be looked at
+//! - `report`: its text (`report_text`); no byte where nothing differs and nothing is missing
+//! - `judged_text`: the same of the scenario of a text; no byte where the text has no ` a:`
+#![tactic(auto)]
+
+mod difference;
+mod expected;
+mod judged;
+mod missing;
+mod sentence;
+mod text;
+mod told;
+
+pub use difference::Difference;
+pub use judged::{Judged, judge};
+pub use missing::Missing;
+pub use text::judged_text;
+pub use told::report;
