@@ -10,3 +10,4 @@ mod Counted
 mod Joined
 mod Hubs
 mod FilesReadBack
+mod Expected

@@ -12,11 +12,12 @@ use Rattle.trace_recorded.specs.declared.event.RecordedType.TheVariants.{Submiss
 use Rattle.trace_recorded.specs.declared.transfer.RecordedEnd.{RecordedEnd}
 use Rattle.trace_recorded.specs.declared.transfer.RecordedEnd.TheVariants.{Stalled, TooLong}
 use Rattle.trace_recorded.specs.declared.transfer.RecordedTransfer.{RecordedTransfer}
-use Rattle.trace_recorded.specs.declared.endpoint.RecordedSubmission.{RecordedSubmission}
+use Rattle.trace_recorded.specs.declared.submission.RecordedSubmission.{RecordedSubmission}
 use Rattle.trace_recorded.specs.declared.endpoint.RecordedEndpoint.{RecordedEndpoint}
 use Rattle.trace_recorded.specs.Answers.{answers_of, end_of}
 use Rattle.trace_recorded.specs.Folds.{after}
 use Rattle.trace_recorded.specs.Tables.{value_at, with_value, without}
+use Rattle.trace_recorded.specs.Written.{recorded_answers}
 
 -- so many more are counted; a counter stays at the largest number of 64 bits
 abbrev pub counted : ℕ → ℕ → ℕ
@@ -52,11 +53,11 @@ abbrev pub is_too_long : RecordedEnd → Bool
 is_too_long TooLong = true
 is_too_long _ = false
 
--- what is kept of a submission: its length, its flags, and how often the halt was ended before
+-- what is kept of a submission: its length, its flags, its bytes, and how often the halt was ended before
 abbrev pub submitted : RecordedEvent → RecordedEndpoint → RecordedSubmission
-submitted event x = record { length = event.length; flags = event.flags; clears = x.clears }
+submitted event x = record { length = event.length; flags = event.flags; bytes = event.bytes; clears = x.clears }
 
--- the transfer of a submission and its callback; bit 6 of the flags asks for an empty packet behind whole ones
+-- the transfer of a submission and its callback, with what the one wrote or the other read; bit 6 of the flags asks for an empty packet behind whole ones
 abbrev pub transfer_of : EndpointInfo → RecordedSubmission → RecordedEvent → RecordedTransfer
 transfer_of info s event = record {
   ep = info.address;
@@ -64,16 +65,16 @@ transfer_of info s event = record {
   zero_packet = s.flags / 64 % 2 == 1;
   moved = event.length;
   end = end_of event.status;
-  bytes = event.bytes;
+  bytes = if is_in info.address then event.bytes else s.bytes;
 }
 
 -- a transfer of more bytes than a request may have
 abbrev pub is_too_large : RecordedTransfer → Bool
 is_too_large transfer = nat_lt most_bytes transfer.asked || nat_lt most_bytes transfer.moved
 
--- a transfer that ended behind a stall, by the host: nothing moved, and since the stall was answered no halt was ended before it was submitted
-abbrev pub is_behind_stall : RecordedSubmission → RecordedTransfer → RecordedEndpoint → Bool
-is_behind_stall s transfer x = is_stalled transfer.end && ((transfer.moved == 0) && option_map_or (λ clears. clears == s.clears) x.stalled_at false)
+-- a transfer that ended behind a stall, by the host: nothing moved, and the halt was ended as often before it was submitted as before the transfer that got the stall
+abbrev pub is_behind_stall : ℕ → RecordedTransfer → RecordedEndpoint → Bool
+is_behind_stall clears transfer x = is_stalled transfer.end && ((transfer.moved == 0) && option_map_or (λ stalled_at. stalled_at == clears) x.stalled_at false)
 
 -- how many bytes of a read weren't recorded, and whether one was too long
 abbrev pub bytes_lost : RecordedTransfer → ℕ
@@ -83,28 +84,30 @@ abbrev pub reads_too_long : RecordedTransfer → ℕ
 reads_too_long transfer = if is_in transfer.ep && is_too_long transfer.end then 1 else 0
 
 -- a transfer's answers, as many as there is room for; all are counted
-abbrev pub with_answers : ℕ → RecordedSubmission → RecordedTransfer → RecordedEndpoint → RecordedEndpoint
-with_answers size s transfer x = record x {
-  stalled_at = if is_stalled transfer.end then Some s.clears else x.stalled_at;
-  answers = x.answers ++ take (longest_script - length x.answers) (answers_of size transfer);
+abbrev pub with_answers : ℕ → ℕ → RecordedTransfer → RecordedEndpoint → RecordedEndpoint
+with_answers size clears transfer x = record x {
+  stalled_at = if is_stalled transfer.end then Some clears else x.stalled_at;
+  answers = x.answers ++ take (longest_script - length x.answers) (recorded_answers size transfer);
   count = counted x.count (length (answers_of size transfer));
   lost = counted x.lost (bytes_lost transfer);
   too_long = counted x.too_long (reads_too_long transfer);
 }
 
 -- a transfer ended
-unfoldable pub with_transfer : ℕ → RecordedSubmission → RecordedTransfer → RecordedEndpoint → RecordedEndpoint
-with_transfer size s transfer x =
+unfoldable pub with_transfer : ℕ → ℕ → RecordedTransfer → RecordedEndpoint → RecordedEndpoint
+with_transfer size clears transfer x =
     if is_too_large transfer then record x { left_out = counted x.left_out 1 }
-    else if is_behind_stall s transfer x then x
-    else with_answers size s transfer x
+    else if is_behind_stall clears transfer x then x
+    else with_answers size clears transfer x
 
--- an event of a transfer of this endpoint; of a callback whose submission wasn't recorded the length and the flags are its own
+-- a transfer ended that was submitted so
+abbrev pub with_callback : EndpointInfo → RecordedSubmission → RecordedEvent → RecordedEndpoint → RecordedEndpoint
+with_callback info s event x = with_transfer info.packet_size s.clears (transfer_of info s event) x
+
+-- an event of a transfer of this endpoint; of a callback whose submission wasn't recorded the length, the flags and the bytes are its own
 abbrev pub with_own_by : RecordedType → EndpointInfo → RecordedEvent → RecordedEndpoint → RecordedEndpoint
 with_own_by Submission info event x = record x { waiting = with_value event.id (submitted event x) x.waiting }
-with_own_by Callback info event x =
-    with_transfer info.packet_size (unwrap_or (value_at event.id x.waiting) (submitted event x)) (transfer_of info (unwrap_or (value_at event.id x.waiting) (submitted event x)) event)
-    (record x { waiting = without event.id x.waiting })
+with_own_by Callback info event x = with_callback info (unwrap_or (value_at event.id x.waiting) (submitted event x)) event (record x { waiting = without event.id x.waiting })
 with_own_by SubmissionError info event x = record x { waiting = without event.id x.waiting }
 
 -- an event of the device

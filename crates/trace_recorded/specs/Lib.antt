@@ -11,3 +11,4 @@ pub mod Laws
 pub mod Lines
 pub mod Scenario
 pub mod Tables
+pub mod Written

@@ -7,6 +7,9 @@ use Rattle.usb_model.specs.declared.response.Response.{Response}
 use Rattle.usb_model.specs.declared.response.Response.TheVariants.{Data, Ack, Nak, Stall, Broken}
 use Rattle.usb_model.specs.Limits.{longest_script, most_bytes}
 use Rattle.usb_model.specs.Text.{hex_byte}
+use Rattle.trace_recorded.specs.declared.answer.RecordedAnswer.{RecordedAnswer}
+use Rattle.trace_recorded.specs.declared.answer.RecordedAnswer.TheVariants.{Given, Taken}
+use Rattle.trace_recorded.specs.declared.answer.WrittenBytes.{WrittenBytes}
 use Rattle.trace_recorded.specs.declared.endpoint.RecordedEndpoint.{RecordedEndpoint}
 use Rattle.trace_recorded.specs.declared.device.RecordedDevice.{RecordedDevice}
 use Rattle.trace_recorded.specs.declared.left_out.LeftOut.{LeftOut}
@@ -59,14 +62,28 @@ other_notes others zero = []
 other_notes others (suc ep) = other_notes others ep ++ other_note others ep
 
 -- an answer as a script has it
-abbrev pub answer_text : Response → List ℕ
-answer_text (Data bytes) = codes "d:" ++ encode_lower bytes
-answer_text Ack = codes "a"
-answer_text Nak = codes "n"
-answer_text Stall = codes "s"
-answer_text Broken = codes "b"
+abbrev pub response_text : Response → List ℕ
+response_text (Data bytes) = codes "d:" ++ encode_lower bytes
+response_text Ack = codes "a"
+response_text Nak = codes "n"
+response_text Stall = codes "s"
+response_text Broken = codes "b"
 
-abbrev pub answers_text : List Response → List ℕ
+-- bytes that were taken: all, or those with which they begin, or none that are known
+abbrev pub expected_text : List ℕ → List ℕ
+expected_text bytes = codes "a:" ++ encode_lower bytes
+
+abbrev pub taken_text : WrittenBytes → List ℕ
+taken_text written =
+    if written.is_whole then expected_text written.bytes
+    else if length written.bytes == 0 then codes "a"
+    else expected_text written.bytes ++ codes "*"
+
+abbrev pub answer_text : RecordedAnswer → List ℕ
+answer_text (Given response) = response_text response
+answer_text (Taken written) = taken_text written
+
+abbrev pub answers_text : List RecordedAnswer → List ℕ
 answers_text answers = flat_map (λ answer. codes " " ++ answer_text answer) answers
 
 -- the line of a script

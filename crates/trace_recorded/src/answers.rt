@@ -1,10 +1,13 @@
 //! The answers that a recorded transfer stands for.
 
 ghost use Rattle.std.specs.Prelude.{◌≡◌, ◌<◌, IfOk, length, replicate};
+ghost use Rattle.std.specs.Option.{option_to_list};
 ghost use Rattle.usb_model.specs.Endpoint.Packets.{full_packets};
 ghost use Rattle.trace_recorded.specs.Answers.{answers_in, answers_of, answers_out, last_read, last_reads, last_writes, last_written, packets_acknowledged, packets_read, recorded_bytes, room_behind};
+ghost use Rattle.trace_recorded.specs.Written.{recorded_answers};
 
-use crate::packets::{acknowledgements, packets, with_last};
+use crate::answer::RecordedAnswer;
+use crate::packets::{acknowledgements, given, packets, with_last, written_packets};
 use crate::transfer::{RecordedEnd, RecordedTransfer};
 use std::alloc::{AllocError, Global};
 use usb_model::{Bytes, Response, Script, Sequence};
@@ -25,6 +28,26 @@ pub fn answers_of(
     } else {
         answers_out(alloc, usize::from(size), transfer)
     }
+}
+
+/// The same, each with what was written for it. Takes memory for as many bytes more as were written.
+#[tactic(auto, unfolding(crate::specs::Written::recorded_answers))]
+pub(crate) fn recorded_answers(
+    alloc: Global,
+    size: u16,
+    transfer: &RecordedTransfer,
+) -> Result<Sequence<RecordedAnswer>, AllocError>
+    requires { 0 < size }
+    ensures { IfOk result (λ answers. answers ≡ recorded_answers size transfer.now) }
+{
+    let size = usize::from(size);
+    if transfer.ep.is_in() {
+        return given(alloc, answers_in(alloc, size, transfer)?);
+    }
+    let count = transfer.packets_acknowledged(size);
+    let asked = transfer.asked as usize;
+    let front = written_packets(alloc, size, count, asked, transfer.bytes.as_slice())?;
+    front.append(given(alloc, transfer.script_written(alloc)?)?)
 }
 
 /// How many they are. Takes no memory.
@@ -166,6 +189,13 @@ impl RecordedTransfer {
             RecordedEnd::Done => before_last + 1,
             _ => before_last.min(self.moved as usize / size),
         }
+    }
+
+    /// The same, as answers.
+    fn script_written(&self, alloc: Global) -> Result<Script, AllocError>
+        ensures { IfOk result (λ answers. answers ≡ option_to_list (last_written self.now.end)) }
+    {
+        with_last(Sequence::new(alloc), self.last_written())
     }
 
     /// What ended it instead, if anything did.

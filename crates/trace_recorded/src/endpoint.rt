@@ -2,29 +2,20 @@
 
 ghost use Rattle.std.specs.Prelude.{◌≡◌, ◌-◌, ◌<◌, ◌++◌, IfOk, length, take};
 ghost use Rattle.usb_model.specs.Limits.{longest_script};
-ghost use Rattle.trace_recorded.specs.Answers.{answers_of};
-ghost use Rattle.trace_recorded.specs.Endpoints.{bytes_lost, endpoint_of, is_behind_stall, is_own, is_stalled, is_too_large, is_too_long, no_answers, reads_too_long, submitted, transfer_of, with_answers, with_event, with_own_by, with_transfer};
+ghost use Rattle.trace_recorded.specs.Endpoints.{bytes_lost, endpoint_of, is_behind_stall, is_own, is_stalled, is_too_large, is_too_long, no_answers, reads_too_long, submitted, with_answers, with_event, with_own_by, with_transfer};
+ghost use Rattle.trace_recorded.specs.Written.{recorded_answers};
 
-use crate::answers::{answer_count, answers_of};
+use crate::answer::RecordedAnswer;
+use crate::answers::{answer_count, recorded_answers};
 use crate::event::{RecordedEvent, RecordedType};
 use crate::halt::submits_end;
+use crate::submission::{RecordedSubmission, copied};
 use crate::table::ByNumber;
 use crate::transfer::{RecordedEnd, RecordedTransfer};
 use std::alloc::{AllocError, Global};
 use std::mem;
 use usb_model::limits::{LONGEST_SCRIPT, MOST_BYTES};
-use usb_model::{EndpointInfo, EpAddr, Script, Sequence};
-
-/// What is kept of a submission while its transfer is in flight.
-#[derive(Clone, Copy)]
-pub(crate) struct RecordedSubmission {
-    /// How many bytes were asked for.
-    length: u32,
-    /// The transfer flags.
-    flags: u32,
-    /// How often the endpoint's halt was ended before.
-    clears: u64,
-}
+use usb_model::{EndpointInfo, EpAddr, Sequence};
 
 /// What an endpoint answered, as far as its device's events were read. Counters stay at the largest number of 64 bits.
 #[derive(Drop)]
@@ -38,7 +29,7 @@ pub(crate) struct RecordedEndpoint {
     /// How often it had been ended where the transfer was submitted that got the last stall.
     stalled_at: Option<u64>,
     /// Its first answers, as many as a script may have.
-    pub(crate) answers: Script,
+    pub(crate) answers: Sequence<RecordedAnswer>,
     /// How many there are.
     pub(crate) count: u64,
     /// How many bytes that were read weren't recorded.
@@ -69,27 +60,6 @@ impl RecordedEnd {
         ensures { result ≡ is_too_long self }
     {
         matches!(self, RecordedEnd::TooLong)
-    }
-}
-
-impl RecordedSubmission {
-    /// The transfer of a submission and its callback.
-    fn transfer(
-        self,
-        alloc: Global,
-        info: &EndpointInfo,
-        event: &RecordedEvent,
-    ) -> Result<RecordedTransfer, AllocError>
-        ensures { IfOk result (λ transfer. transfer ≡ transfer_of info.now self event.now) }
-    {
-        Ok(RecordedTransfer {
-            ep: info.address,
-            asked: self.length,
-            zero_packet: self.flags / 64 % 2 == 1,
-            moved: event.length,
-            end: RecordedEnd::of(event.status),
-            bytes: Sequence::from_vec(Vec::from_slice(alloc, event.bytes.as_slice())?),
-        })
     }
 }
 
@@ -143,22 +113,27 @@ impl RecordedEndpoint {
     }
 
     /// What is kept of a submission.
-    fn submitted(&self, event: &RecordedEvent) -> RecordedSubmission
-        ensures { result ≡ submitted event.now self.now }
+    fn submitted(
+        &self,
+        alloc: Global,
+        event: &RecordedEvent,
+    ) -> Result<RecordedSubmission, AllocError>
+        ensures { IfOk result (λ s. s ≡ submitted event.now self.now) }
     {
-        RecordedSubmission {
+        Ok(RecordedSubmission {
             length: event.length,
             flags: event.flags,
+            bytes: copied(alloc, event.bytes.as_slice())?,
             clears: self.clears,
-        }
+        })
     }
 
-    /// Whether a transfer ended behind a stall, without an answer.
-    fn is_behind_stall(&self, submitted: RecordedSubmission, transfer: &RecordedTransfer) -> bool
-        ensures { result ≡ is_behind_stall submitted transfer.now self.now }
+    /// Whether a transfer ended behind a stall, without an answer, where the halt was ended so often before it was submitted.
+    fn is_behind_stall(&self, clears: u64, transfer: &RecordedTransfer) -> bool
+        ensures { result ≡ is_behind_stall clears transfer.now self.now }
     {
         let is_since = match self.stalled_at {
-            Some(clears) => clears == submitted.clears,
+            Some(stalled_at) => stalled_at == clears,
             None => false,
         };
         transfer.end.is_stalled() && transfer.moved == 0 && is_since
@@ -172,13 +147,13 @@ impl RecordedEndpoint {
         transfer: &RecordedTransfer,
     ) -> Result<(), AllocError>
         requires { 0 < size }
-        ensures { IfOk result (λ _. self.new ≡ record self.old { answers = self.old.answers ++ take (longest_script - length self.old.answers) (answers_of size transfer.now) }) }
+        ensures { IfOk result (λ _. self.new ≡ record self.old { answers = self.old.answers ++ take (longest_script - length self.old.answers) (recorded_answers size transfer.now) }) }
     {
         let room = LONGEST_SCRIPT.saturating_sub(self.answers.len());
         if room == 0 {
             return Ok(());
         }
-        let mut more = answers_of(alloc, size, transfer)?.into_vec();
+        let mut more = recorded_answers(alloc, size, transfer)?.into_vec();
         more.truncate(room);
         let answers = mem::replace(&mut self.answers, Sequence::new(alloc));
         self.answers = answers.append(Sequence::from_vec(more))?;
@@ -190,15 +165,15 @@ impl RecordedEndpoint {
         &mut self,
         alloc: Global,
         size: u16,
-        submitted: RecordedSubmission,
+        clears: u64,
         transfer: &RecordedTransfer,
     ) -> Result<(), AllocError>
         requires { 0 < size }
-        ensures { IfOk result (λ _. self.new ≡ with_answers size submitted transfer.now self.old) }
+        ensures { IfOk result (λ _. self.new ≡ with_answers size clears transfer.now self.old) }
     {
         self.push_answers(alloc, size, transfer)?;
         if transfer.end.is_stalled() {
-            self.stalled_at = Some(submitted.clears);
+            self.stalled_at = Some(clears);
         }
         self.count = self
             .count
@@ -214,20 +189,20 @@ impl RecordedEndpoint {
         &mut self,
         alloc: Global,
         size: u16,
-        submitted: RecordedSubmission,
+        clears: u64,
         transfer: &RecordedTransfer,
     ) -> Result<(), AllocError>
         requires { 0 < size }
-        ensures { IfOk result (λ _. self.new ≡ with_transfer size submitted transfer.now self.old) }
+        ensures { IfOk result (λ _. self.new ≡ with_transfer size clears transfer.now self.old) }
     {
         if transfer.is_too_large() {
             self.left_out = self.left_out.saturating_add(1);
             return Ok(());
         }
-        if self.is_behind_stall(submitted, transfer) {
+        if self.is_behind_stall(clears, transfer) {
             return Ok(());
         }
-        self.answer(alloc, size, submitted, transfer)
+        self.answer(alloc, size, clears, transfer)
     }
 
     /// An event of a transfer of this endpoint.
@@ -240,13 +215,19 @@ impl RecordedEndpoint {
         requires { 0 < info.now.packet_size }
         ensures { IfOk result (λ _. self.new ≡ with_own_by event.now.event_type info.now event.now self.old) }
     {
-        let submitted = self.submitted(event);
         match event.event_type {
-            RecordedType::Submission => self.waiting.put(event.id, submitted),
+            RecordedType::Submission => {
+                let submitted = self.submitted(alloc, event)?;
+                self.waiting.put(event.id, submitted)
+            }
             RecordedType::Callback => {
-                let submitted = self.waiting.take(event.id).unwrap_or(submitted);
-                let transfer = submitted.transfer(alloc, info, event)?;
-                self.end(alloc, info.packet_size, submitted, &transfer)
+                let submitted = match self.waiting.take(event.id) {
+                    Some(submitted) => submitted,
+                    None => self.submitted(alloc, event)?,
+                };
+                let clears = submitted.clears;
+                let transfer = submitted.into_transfer(alloc, info, event)?;
+                self.end(alloc, info.packet_size, clears, &transfer)
             }
             RecordedType::SubmissionError => {
                 let _ = self.waiting.take(event.id);

@@ -12,9 +12,10 @@
 //! - `configuration.rt`, specs/Configurations: the configuration that a device was used in, from its control transfers
 //! - `transfer.rt`: a recorded transfer, and how it ended
 //! - `packets.rt`, `answers.rt`, specs/Answers: its answers, one a packet
-//! - `halt.rt`, `endpoint.rt`, specs/Endpoints: requests that end a halt; what an endpoint answered, and what of that is noted
+//! - `answer.rt`, specs/Written: the same, each with what was written for it
+//! - `submission.rt`, `halt.rt`, `endpoint.rt`, specs/Endpoints: what is kept of a submission; requests that end a halt; what an endpoint answered, and what of that is noted
 //! - `hub.rt`, `device.rt`, `left_out.rt`, specs/Devices: the devices of a recording, and which are left out
-//! - `note.rt`, `text.rt`, specs/Lines: the lines
+//! - `note.rt`, `text.rt`, `answer_text.rt`, specs/Lines: the lines
 //! - `scenario.rt`, `capture_fault.rt`, specs/Scenario, Faults: the whole, or why there is none
 //! - `laws.rt`, specs/Laws, proofs/: what is written is read back; what the answers come to, by the definitions of the model
 //!
@@ -30,6 +31,8 @@
 //! - `laws::files`: of a file that it writes of events each is read, and nothing else
 //! - `laws::reads`, `laws::writes`: the answers of a transfer end a request of its length with the last of them, and the
 //!   callback is told the recorded bytes and the recorded status: 0, -121, -32, -71 or -75 of a read, 0, -32 or -71 of a write
+//! - `laws::answers`, `laws::packets`: the answers that are told with what was written are these; and of a write that was
+//!   recorded to its end the packets are the first of those that a request for the same bytes sends
 //!
 //! Where a transfer was withdrawn, or its device was gone, its answers are those of the whole packets that moved, and end nothing.
 //! A transfer of more bytes than a request may have is left out, and so is one that ended behind a stall. Of an endpoint's answers
@@ -39,6 +42,8 @@
 //! and transfers in flight there are.
 #![tactic(auto)]
 
+mod answer;
+mod answer_text;
 mod answers;
 mod block;
 mod capture_fault;
@@ -57,6 +62,7 @@ mod pcap;
 mod pcapng;
 mod recording;
 mod scenario;
+mod submission;
 mod table;
 mod text;
 mod transfer;

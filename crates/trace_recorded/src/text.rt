@@ -3,7 +3,7 @@
 ghost use Rattle.std.specs.Prelude.{◌≡◌, ◌++◌, [], IfOk};
 ghost use Rattle.std.specs.List.{flat_map};
 ghost use Rattle.hex.specs.Hex.{encode_lower};
-ghost use Rattle.trace_recorded.specs.Lines.{answer_text, answers_text, device_line, device_text, endpoint_notes, left_out_line, note_line, origin_line, other_note, other_notes, script_head, script_line, script_text};
+ghost use Rattle.trace_recorded.specs.Lines.{device_line, device_text, endpoint_notes, left_out_line, note_line, origin_line, other_note, other_notes, script_head, script_line, script_text};
 
 use crate::device::RecordedDevice;
 use crate::endpoint::RecordedEndpoint;
@@ -11,7 +11,7 @@ use crate::left_out::LeftOut;
 use crate::note::EndpointNote;
 use std::alloc::{AllocError, Global};
 use std::marker::Model;
-use usb_model::{Bytes, EpAddr, Response, Sequence};
+use usb_model::{Bytes, EpAddr, Sequence};
 
 /// A text that is written line by line; contracts see its bytes.
 #[derive(Drop)]
@@ -62,7 +62,7 @@ impl ScenarioText {
     }
 
     /// Puts bytes behind it, as two hexadecimal digits each.
-    fn put_hex(&mut self, bytes: &[u8]) -> Result<(), AllocError>
+    pub(crate) fn put_hex(&mut self, bytes: &[u8]) -> Result<(), AllocError>
         ensures { IfOk result (λ _. self.new ≡ self.old ++ encode_lower bytes.now) }
     {
         let digits = hex::encode(self.alloc, bytes)?;
@@ -114,33 +114,6 @@ impl ScenarioText {
     {
         for ep in 0..256u16 {
             self.put_other(others, ep as u8)?;
-        }
-        Ok(())
-    }
-
-    /// Puts an answer behind it, as a script has it.
-    fn put_answer(&mut self, answer: &Response) -> Result<(), AllocError>
-        ensures { IfOk result (λ _. self.new ≡ self.old ++ answer_text answer.now) }
-    {
-        match answer {
-            Response::Data(bytes) => {
-                self.put("d:")?;
-                self.put_hex(bytes.as_slice())
-            }
-            Response::Ack => self.put("a"),
-            Response::Nak => self.put("n"),
-            Response::Stall => self.put("s"),
-            Response::Broken => self.put("b"),
-        }
-    }
-
-    /// Puts answers behind it, each behind a space.
-    fn put_answers(&mut self, answers: &[Response]) -> Result<(), AllocError>
-        ensures { IfOk result (λ _. self.new ≡ self.old ++ answers_text answers.now) }
-    {
-        for answer in answers {
-            self.put(" ")?;
-            self.put_answer(answer)?;
         }
         Ok(())
     }

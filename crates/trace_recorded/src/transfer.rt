@@ -33,7 +33,7 @@ pub struct RecordedTransfer {
     pub moved: u32,
     /// How it ended.
     pub end: RecordedEnd,
-    /// The bytes that were read, as far as they were recorded. Those behind them count as zeros.
+    /// The bytes that were read, or written, as far as they were recorded. Of a read those behind them count as zeros.
     pub bytes: Bytes,
 }
 
