@@ -11,3 +11,4 @@ mod Joined
 mod Hubs
 mod FilesReadBack
 mod Expected
+mod ByKey

@@ -1,7 +1,7 @@
 -- What is written of an event, and of a file of them, is read back; and a driver that asks as the recorded one did is told what it was told.
-use Rattle.std.specs.Prelude.{◌≡◌, ℕ, ◌+◌, ◌-◌, ◌%◌, ◌^◌, ◌<◌, ◌≤◌, ◌⊎◌, Bool, true, false, List, [], ◌++◌, length, take, drop, map, Option, Some, None, Ok}
-use Rattle.std.specs.List.{AllByRecursion}
-use Rattle.std.specs.Option.{option_to_list}
+use Rattle.std.specs.Prelude.{◌≡◌, ℕ, ◌+◌, ◌-◌, ◌%◌, ◌^◌, ◌<◌, ◌≤◌, ◌⊎◌, ◌==◌, Bool, true, false, List, [], ◌∷◌, ◌++◌, length, take, drop, map, Option, Some, None, Ok, if◌then◌else◌}
+use Rattle.std.specs.List.{AllByRecursion, flat_map}
+use Rattle.std.specs.Option.{option_to_list, unwrap_or}
 use Rattle.usb_model.specs.declared.request.Body.TheVariants.{In, Out}
 use Rattle.usb_model.specs.declared.request.Request.{Request}
 use Rattle.usb_model.specs.declared.request.Kind.{Kind}
@@ -22,6 +22,8 @@ use Rattle.trace_capture.specs.Event.{errno_number, event_bytes, file_bytes, fla
 use Rattle.trace_capture.specs.Transfer.{errno_of}
 use Rattle.trace_recorded.specs.declared.answer.RecordedAnswer.{RecordedAnswer}
 use Rattle.trace_recorded.specs.declared.answer.RecordedAnswer.TheVariants.{Given, Taken}
+use Rattle.trace_recorded.specs.declared.control_lines.ControlLines.{ControlLines}
+use Rattle.trace_recorded.specs.declared.request.AnsweredRequest.{AnsweredRequest}
 use Rattle.trace_recorded.specs.declared.transfer.RecordedTransfer.{RecordedTransfer}
 use Rattle.trace_recorded.specs.declared.event.RecordedEvent.{RecordedEvent}
 use Rattle.trace_recorded.specs.declared.event.RecordedType.{RecordedType}
@@ -31,6 +33,8 @@ use Rattle.trace_recorded.specs.declared.number.Endianness.TheVariants.{Little}
 use Rattle.trace_recorded.specs.Answers.{answers_of, end_of, last_written, packets_acknowledged, recorded_bytes}
 use Rattle.trace_recorded.specs.Events.{event_of}
 use Rattle.trace_recorded.specs.Files.{recording}
+use Rattle.trace_recorded.specs.Requests.{control_lines, key_of}
+use Rattle.trace_recorded.specs.Tables.{value_at}
 use Rattle.trace_recorded.specs.Written.{recorded_answers, response_of}
 
 -- setup data are of a control transfer, and each field has room
@@ -144,3 +148,15 @@ abbrev pub PacketsAreWritten : Type 0
 PacketsAreWritten =
     (request : Request) (size : ℕ) (x : RecordedTransfer) → is_in x.ep ≡ false → request.body ≡ Out x.bytes → length x.bytes ≡ x.asked → adds_zero_packet request ≡ x.zero_packet
     → recorded_answers size x ≡ map is_taken (take (packets_acknowledged size x) (packets_by request size (Out x.bytes))) ++ map Given (option_to_list (last_written x.end))
+
+-- the answers of the line of a request
+abbrev pub line_of : ℕ → ControlLines → List RecordedAnswer
+line_of key lines = unwrap_or (value_at key lines.answers) []
+
+-- an answer, where it is to such a request
+abbrev pub answer_for : ℕ → AnsweredRequest → List RecordedAnswer
+answer_for key request = if key == key_of request.setup then request.answer ∷ [] else []
+
+-- the line of a request has the answers to such requests, and no others, in the order of their ends: so the k-th such request gets the k-th recorded answer
+abbrev pub LinesHaveTheAnswers : Type 0
+LinesHaveTheAnswers = (key : ℕ) (answered : List AnsweredRequest) → line_of key (control_lines answered) ≡ flat_map (answer_for key) answered

@@ -1,4 +1,4 @@
--- The lines of the text that is made of a recording.
+-- Lines of the text that is made of a recording: what is left out or unsaid, and scripts.
 use Rattle.std.specs.Prelude.{ℕ, zero, suc, ◌+◌, ◌/◌, ◌%◌, ◌==◌, nat_lt, Bool, true, false, List, [], ◌∷◌, ◌++◌, length, codes, count_by, Result, Ok, Err, if◌then◌else◌}
 use Rattle.std.specs.Fmt.{decimal}
 use Rattle.std.specs.List.{flat_map}
@@ -11,11 +11,11 @@ use Rattle.trace_recorded.specs.declared.answer.RecordedAnswer.{RecordedAnswer}
 use Rattle.trace_recorded.specs.declared.answer.RecordedAnswer.TheVariants.{Given, Taken}
 use Rattle.trace_recorded.specs.declared.answer.WrittenBytes.{WrittenBytes}
 use Rattle.trace_recorded.specs.declared.endpoint.RecordedEndpoint.{RecordedEndpoint}
-use Rattle.trace_recorded.specs.declared.device.RecordedDevice.{RecordedDevice}
 use Rattle.trace_recorded.specs.declared.left_out.LeftOut.{LeftOut}
 use Rattle.trace_recorded.specs.declared.left_out.LeftOut.TheVariants.{NoConfiguration, Refused, Hub, NoAnswers, FifthDevice}
 use Rattle.trace_recorded.specs.declared.note.EndpointNote.{EndpointNote}
-use Rattle.trace_recorded.specs.declared.note.EndpointNote.TheVariants.{Lost, TooLong, TooLarge, TooMany, Others}
+use Rattle.trace_recorded.specs.declared.note.EndpointNote.TheVariants.{Lost, TooLong, TooLarge, Requests, TooMany, Others}
+use Rattle.trace_recorded.specs.Requests.{most_data}
 
 -- why a device is left out
 abbrev pub left_out_text : LeftOut → List ℕ
@@ -34,6 +34,7 @@ abbrev pub note_text : EndpointNote → List ℕ
 note_text (Lost n) = decimal n ++ codes " bytes were not recorded; they are 00 here"
 note_text (TooLong n) = decimal n ++ codes " packets were too long; their bytes are 00 here"
 note_text (TooLarge n) = decimal n ++ (codes " transfers of more than " ++ (decimal most_bytes ++ codes " bytes are left out"))
+note_text (Requests n) = decimal n ++ (codes " requests of more than " ++ (decimal most_data ++ codes " bytes are left out"))
 note_text (TooMany n) = codes "the first " ++ (decimal longest_script ++ (codes " of " ++ (decimal n ++ codes " answers")))
 note_text (Others n) = decimal n ++ codes " transfers are left out: not a bulk or interrupt endpoint of this configuration"
 
@@ -42,6 +43,7 @@ abbrev pub is_due : EndpointNote → Bool
 is_due (Lost n) = nat_lt 0 n
 is_due (TooLong n) = nat_lt 0 n
 is_due (TooLarge n) = nat_lt 0 n
+is_due (Requests n) = nat_lt 0 n
 is_due (TooMany n) = nat_lt longest_script n
 is_due (Others n) = nat_lt 0 n
 
@@ -96,20 +98,3 @@ script_text number x = script_head number x.ep ++ (answers_text x.answers ++ cod
 -- where it has answers
 abbrev pub script_line : ℕ → RecordedEndpoint → List ℕ
 script_line number x = if length x.answers == 0 then [] else script_text number x
-
--- the line that says which recorded device it was
-abbrev pub origin_line : ℕ → ℕ → List ℕ
-origin_line number key = codes "# device " ++ (decimal number ++ (codes " was bus " ++ (decimal (key / 256) ++ (codes " device " ++ (decimal (key % 256) ++ codes "\n")))))
-
--- a device's own line
-abbrev pub device_line : ℕ → List ℕ → List ℕ
-device_line number descriptor = (codes "device " ++ (decimal number ++ codes " ")) ++ (encode_lower descriptor ++ codes "\n")
-
--- the lines of a device that is kept, under its number
-unfoldable pub device_text : ℕ → ℕ → RecordedDevice → List ℕ
-device_text number key device =
-    origin_line number key
-    ++ (flat_map endpoint_notes device.endpoints
-    ++ (other_notes device.others 256
-    ++ (device_line number device.descriptor
-    ++ flat_map (script_line number) device.endpoints)))

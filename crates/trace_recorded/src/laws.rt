@@ -1,6 +1,6 @@
 //! Laws over the definitions, as functions that do nothing.
 
-ghost use Rattle.trace_recorded.specs.Laws.{AnswersAreThose, EventsAreReadBack, FilesAreReadBack, PacketsAreWritten, ReadsAreToldAgain, WritesAreToldAgain};
+ghost use Rattle.trace_recorded.specs.Laws.{AnswersAreThose, EventsAreReadBack, FilesAreReadBack, LinesHaveTheAnswers, PacketsAreWritten, ReadsAreToldAgain, WritesAreToldAgain};
 
 /// What a capture says of an event is read back from it.
 pub fn events()
@@ -30,4 +30,9 @@ pub fn answers()
 /// Who writes as the recorded driver did sends the packets that are told: the first ones, as many as were acknowledged.
 pub fn packets()
     ensures { PacketsAreWritten }
+{}
+
+/// The k-th request of a type, number, value and index gets the k-th recorded answer to such a request.
+pub fn requests()
+    ensures { LinesHaveTheAnswers }
 {}

@@ -3,9 +3,8 @@
 ghost use Rattle.std.specs.Prelude.{◌≡◌, ◌++◌, [], IfOk};
 ghost use Rattle.std.specs.List.{flat_map};
 ghost use Rattle.hex.specs.Hex.{encode_lower};
-ghost use Rattle.trace_recorded.specs.Lines.{device_line, device_text, endpoint_notes, left_out_line, note_line, origin_line, other_note, other_notes, script_head, script_line, script_text};
+ghost use Rattle.trace_recorded.specs.Lines.{endpoint_notes, left_out_line, note_line, other_note, other_notes, script_head, script_line, script_text};
 
-use crate::device::RecordedDevice;
 use crate::endpoint::RecordedEndpoint;
 use crate::left_out::LeftOut;
 use crate::note::EndpointNote;
@@ -37,6 +36,11 @@ impl ScenarioText {
             bytes: Vec::new(alloc),
             alloc,
         }
+    }
+
+    /// Where its memory comes from.
+    pub(crate) fn alloc(&self) -> Global {
+        self.alloc
     }
 
     /// Its bytes.
@@ -79,7 +83,7 @@ impl ScenarioText {
     }
 
     /// Puts a note of an endpoint behind it, where there is something to note.
-    fn put_note(&mut self, ep: EpAddr, note: EndpointNote) -> Result<(), AllocError>
+    pub(crate) fn put_note(&mut self, ep: EpAddr, note: EndpointNote) -> Result<(), AllocError>
         ensures { IfOk result (λ _. self.new ≡ self.old ++ note_line ep note) }
     {
         if !note.is_due() {
@@ -109,7 +113,7 @@ impl ScenarioText {
     }
 
     /// Puts those of all endpoints behind it.
-    fn put_others(&mut self, others: &[u8]) -> Result<(), AllocError>
+    pub(crate) fn put_others(&mut self, others: &[u8]) -> Result<(), AllocError>
         ensures { IfOk result (λ _. self.new ≡ self.old ++ other_notes others.now 256) }
     {
         for ep in 0..256u16 {
@@ -146,27 +150,8 @@ impl ScenarioText {
         self.put_line(number, endpoint)
     }
 
-    /// Puts the line behind it that says which recorded device it was.
-    fn put_origin(&mut self, number: u8, key: u64) -> Result<(), AllocError>
-        ensures { IfOk result (λ _. self.new ≡ self.old ++ origin_line number key) }
-    {
-        let (bus, device) = (key / 256, key % 256);
-        let line = format!(in self.alloc; "# device {number} was bus {bus} device {device}\n")?;
-        self.put(line.as_str())
-    }
-
-    /// Puts a device's own line behind it.
-    fn put_descriptor(&mut self, number: u8, descriptor: &[u8]) -> Result<(), AllocError>
-        ensures { IfOk result (λ _. self.new ≡ self.old ++ device_line number descriptor.now) }
-    {
-        let line = format!(in self.alloc; "device {number} ")?;
-        self.put(line.as_str())?;
-        self.put_hex(descriptor)?;
-        self.put("\n")
-    }
-
     /// Puts the notes of endpoints behind it.
-    fn put_all_notes(&mut self, endpoints: &[RecordedEndpoint]) -> Result<(), AllocError>
+    pub(crate) fn put_all_notes(&mut self, endpoints: &[RecordedEndpoint]) -> Result<(), AllocError>
         ensures { IfOk result (λ _. self.new ≡ self.old ++ flat_map endpoint_notes endpoints.now) }
     {
         for endpoint in endpoints {
@@ -176,29 +161,16 @@ impl ScenarioText {
     }
 
     /// Puts the lines of scripts behind it.
-    fn put_scripts(&mut self, number: u8, endpoints: &[RecordedEndpoint]) -> Result<(), AllocError>
+    pub(crate) fn put_scripts(
+        &mut self,
+        number: u8,
+        endpoints: &[RecordedEndpoint],
+    ) -> Result<(), AllocError>
         ensures { IfOk result (λ _. self.new ≡ self.old ++ flat_map (script_line number) endpoints.now) }
     {
         for endpoint in endpoints {
             self.put_script(number, endpoint)?;
         }
         Ok(())
-    }
-
-    /// Puts the lines of a device that is kept behind it, under this number.
-    #[tactic(auto, unfolding(crate::specs::Lines::device_text))]
-    pub(crate) fn put_device(
-        &mut self,
-        number: u8,
-        key: u64,
-        device: &RecordedDevice,
-    ) -> Result<(), AllocError>
-        ensures { IfOk result (λ _. self.new ≡ self.old ++ device_text number key device.now) }
-    {
-        self.put_origin(number, key)?;
-        self.put_all_notes(device.endpoints.as_slice())?;
-        self.put_others(device.others.as_slice())?;
-        self.put_descriptor(number, device.descriptor.as_slice())?;
-        self.put_scripts(number, device.endpoints.as_slice())
     }
 }
