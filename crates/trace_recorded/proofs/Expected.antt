@@ -14,7 +14,7 @@ use Rattle.usb_model.specs.Endpoint.Packets.{full_packets, packets_by}
 use Rattle.trace_recorded.specs.declared.answer.RecordedAnswer.{RecordedAnswer}
 use Rattle.trace_recorded.specs.declared.answer.RecordedAnswer.TheVariants.{Given, Taken}
 use Rattle.trace_recorded.specs.declared.transfer.RecordedEnd.{RecordedEnd}
-use Rattle.trace_recorded.specs.declared.transfer.RecordedEnd.TheVariants.{Done, Stalled, Failed, TooLong, Cut}
+use Rattle.trace_recorded.specs.declared.transfer.RecordedEnd.TheVariants.{Done, Stalled, Failed, TooLong, Withdrawn, Cut}
 use Rattle.trace_recorded.specs.declared.transfer.RecordedTransfer.{RecordedTransfer}
 use Rattle.trace_recorded.specs.Answers.{acknowledged_by, answers_in, answers_of, front_packets, last_written, packets_acknowledged}
 use Rattle.trace_recorded.specs.Written.{recorded_answers, response_of, written_packets}
@@ -63,6 +63,7 @@ few Done before_last whole = omega arith
 few Stalled before_last whole = omega arith
 few Failed before_last whole = omega arith
 few TooLong before_last whole = omega arith
+few Withdrawn before_last whole = omega arith
 few Cut before_last whole = omega arith
 
 first_are : (request : Request) (size k : ℕ) (bytes : List ℕ) → k ≤ suc (front_count request size bytes) → front_packets size k bytes ≡ take k (packets_by request size (Out bytes))

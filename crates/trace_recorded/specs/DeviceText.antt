@@ -5,15 +5,18 @@ use Rattle.std.specs.List.{flat_map}
 use Rattle.std.specs.Option.{unwrap_or}
 use Rattle.hex.specs.Hex.{encode_lower}
 use Rattle.usb_model.specs.Limits.{longest_script}
+use Rattle.usb_model.specs.Text.{hex_byte}
 use Rattle.trace_capture.specs.declared.control_setup.ControlSetup.{ControlSetup}
 use Rattle.trace_recorded.specs.declared.answer.RecordedAnswer.{RecordedAnswer}
 use Rattle.trace_recorded.specs.declared.control_lines.ControlLines.{ControlLines}
 use Rattle.trace_recorded.specs.declared.device.RecordedDevice.{RecordedDevice}
+use Rattle.trace_recorded.specs.declared.endpoint.RecordedEndpoint.{RecordedEndpoint}
 use Rattle.trace_recorded.specs.declared.identity.DeviceIdentity.{DeviceIdentity}
 use Rattle.trace_recorded.specs.declared.identity.RecordedString.{RecordedString}
 use Rattle.trace_recorded.specs.declared.note.EndpointNote.TheVariants.{Lost, Requests, TooMany}
 use Rattle.trace_recorded.specs.declared.reader.TextReader.{TextReader}
 use Rattle.trace_recorded.specs.declared.reader.TextReader.TheVariants.{Library, Scenario}
+use Rattle.trace_recorded.specs.declared.waits.Wait.{Wait}
 use Rattle.trace_recorded.specs.Lines.{answers_text, endpoint_notes, is_due, note_line, note_text, other_notes, script_line}
 use Rattle.trace_recorded.specs.Requests.{key_of}
 use Rattle.trace_recorded.specs.Tables.{value_at}
@@ -89,6 +92,22 @@ controls_text number lines = flat_map (control_line number lines) lines.firsts
 abbrev pub scripts_text : ℕ → RecordedDevice → List ℕ
 scripts_text number device = flat_map (script_line number) device.endpoints
 
+-- the lines of answers that wait
+abbrev pub wait_head : ℕ → ℕ → List ℕ
+wait_head number ep = codes "after " ++ (decimal number ++ (codes " " ++ hex_byte ep))
+
+abbrev pub wait_rest : Wait → List ℕ
+wait_rest wait = codes " " ++ (decimal wait.place ++ (codes " " ++ (hex_byte wait.other ++ (codes " " ++ (decimal wait.count ++ codes "\n")))))
+
+abbrev pub wait_line : ℕ → ℕ → Wait → List ℕ
+wait_line number ep wait = wait_head number ep ++ wait_rest wait
+
+abbrev pub wait_lines : ℕ → RecordedEndpoint → List ℕ
+wait_lines number x = flat_map (wait_line number x.info.address) x.waits.lines
+
+abbrev pub waits_text : ℕ → List RecordedEndpoint → List ℕ
+waits_text number endpoints = flat_map (wait_lines number) endpoints
+
 -- what the text leaves unsaid, of control requests and of all; a scenario has no control requests
 abbrev pub request_notes : TextReader → RecordedDevice → List ℕ
 request_notes Library device = note_line 0 (Lost device.lost) ++ note_line 0 (Requests device.left_out)
@@ -100,7 +119,7 @@ notes_text reader device = flat_map endpoint_notes device.endpoints ++ (request_
 -- the lines of a device: a scenario has its configuration and its scripts alone
 abbrev pub lines_text : TextReader → ℕ → RecordedDevice → List ℕ
 lines_text Library number device =
-    device_line number device.descriptor ++ (identity_text number device.identity ++ (scripts_text number device ++ controls_text number device.controls))
+    device_line number device.descriptor ++ (identity_text number device.identity ++ (scripts_text number device ++ (controls_text number device.controls ++ waits_text number device.endpoints)))
 lines_text Scenario number device = device_line number device.descriptor ++ scripts_text number device
 
 -- a device that is kept, under its number

@@ -7,7 +7,7 @@ use Rattle.usb_model.specs.declared.setup.Configuration.{Configuration}
 use Rattle.usb_model.specs.declared.setup.EndpointInfo.{EndpointInfo}
 use Rattle.usb_model.specs.Requests.{is_same_kind}
 use Rattle.usb_descriptors.specs.declared.fault.DescFault.{DescFault}
-use Rattle.usb_descriptors.specs.Grammar.{is_interface, is_transfer_kind, reading}
+use Rattle.usb_descriptors.specs.Grammar.{is_interface, reading}
 use Rattle.usb_descriptors.specs.Pieces.{Piece, byte, pieces}
 use Rattle.trace_recorded.specs.declared.event.RecordedEvent.{RecordedEvent}
 use Rattle.trace_recorded.specs.declared.event.RecordedType.{RecordedType}
@@ -21,9 +21,10 @@ use Rattle.trace_recorded.specs.declared.reader.TextReader.TheVariants.{Library,
 use Rattle.trace_recorded.specs.declared.left_out.LeftOut.TheVariants.{NoConfiguration, Refused, Hub, NoAnswers}
 use Rattle.trace_recorded.specs.Configurations.{configuration_by}
 use Rattle.trace_recorded.specs.Controls.{controls_of}
-use Rattle.trace_recorded.specs.Endpoints.{endpoint_of, is_own}
+use Rattle.trace_recorded.specs.Endpoints.{is_own, is_scripted}
 use Rattle.trace_recorded.specs.Folds.{after}
 use Rattle.trace_recorded.specs.Requests.{control_lines}
+use Rattle.trace_recorded.specs.Sessions.{session_of}
 use Rattle.trace_recorded.specs.Tables.{value_at, with_value, without}
 
 -- a device's number in a table: 256 times its bus, and its address there
@@ -53,17 +54,6 @@ is_hub_behind found (p ∷ ps) = option_map_or (λ more. is_hub_behind more ps) 
 -- whether a configuration is a hub's: it has an interface, and each has that class
 abbrev pub is_hub : List ℕ → Bool
 is_hub descriptor = is_hub_behind false (pieces (byte 0 descriptor) (drop (byte 0 descriptor) descriptor))
-
--- whether an endpoint's answers make a script: it is a bulk or interrupt endpoint; no configuration has one of packet size 0
-abbrev pub is_scripted : EndpointInfo → Bool
-is_scripted info = is_transfer_kind info.kind && nat_lt 0 info.packet_size
-
--- what such an endpoint answered, behind the others
-abbrev pub with_endpoint : List RecordedEvent → EndpointInfo → List RecordedEndpoint → List RecordedEndpoint
-with_endpoint events info endpoints = if is_scripted info then endpoints ++ endpoint_of events info ∷ [] else endpoints
-
-abbrev pub endpoints_of : List EndpointInfo → List RecordedEvent → List RecordedEndpoint
-endpoints_of infos events = after (with_endpoint events) [] infos
 
 -- whether an event is the callback of a transfer of no such endpoint, and of none for control
 abbrev pub is_callback : RecordedType → Bool
@@ -103,7 +93,7 @@ device_with descriptor infos controls events = record {
   controls = control_lines controls.requests.answered;
   lost = controls.requests.lost;
   left_out = controls.requests.left_out;
-  endpoints = endpoints_of infos events;
+  endpoints = (session_of infos events).endpoints;
   others = others_of infos events;
 }
 

@@ -14,5 +14,7 @@ pub mod Laws
 pub mod Lines
 pub mod Requests
 pub mod Scenario
+pub mod Sessions
 pub mod Tables
+pub mod Waits
 pub mod Written

@@ -52,7 +52,7 @@ note_line ep note = if is_due note then codes "# ep " ++ (hex_byte ep ++ (codes 
 
 -- the notes of an endpoint
 abbrev pub endpoint_notes : RecordedEndpoint → List ℕ
-endpoint_notes x = note_line x.ep (Lost x.lost) ++ (note_line x.ep (TooLong x.too_long) ++ (note_line x.ep (TooLarge x.left_out) ++ note_line x.ep (TooMany x.count)))
+endpoint_notes x = note_line x.info.address (Lost x.lost) ++ (note_line x.info.address (TooLong x.too_long) ++ (note_line x.info.address (TooLarge x.left_out) ++ note_line x.info.address (TooMany x.count)))
 
 -- the note of transfers of an endpoint without a script
 abbrev pub other_note : List ℕ → ℕ → List ℕ
@@ -93,7 +93,7 @@ abbrev pub script_head : ℕ → ℕ → List ℕ
 script_head number ep = codes "script " ++ (decimal number ++ (codes " " ++ hex_byte ep))
 
 unfoldable pub script_text : ℕ → RecordedEndpoint → List ℕ
-script_text number x = script_head number x.ep ++ (answers_text x.answers ++ codes "\n")
+script_text number x = script_head number x.info.address ++ (answers_text x.answers ++ codes "\n")
 
 -- where it has answers
 abbrev pub script_line : ℕ → RecordedEndpoint → List ℕ

@@ -12,7 +12,7 @@ use Rattle.trace_recorded.specs.declared.request.AnsweredRequest.{AnsweredReques
 use Rattle.trace_recorded.specs.declared.request.AnsweredRequests.{AnsweredRequests}
 use Rattle.trace_recorded.specs.declared.control_lines.ControlLines.{ControlLines}
 use Rattle.trace_recorded.specs.declared.transfer.RecordedEnd.{RecordedEnd}
-use Rattle.trace_recorded.specs.declared.transfer.RecordedEnd.TheVariants.{Done, Stalled, Failed, TooLong, Cut}
+use Rattle.trace_recorded.specs.declared.transfer.RecordedEnd.TheVariants.{Done, Stalled, Failed}
 use Rattle.trace_recorded.specs.Answers.{end_of}
 use Rattle.trace_recorded.specs.Endpoints.{counted}
 use Rattle.trace_recorded.specs.Folds.{after}

@@ -124,7 +124,7 @@ impl RecordedEnd {
     {
         match self {
             RecordedEnd::Stalled | RecordedEnd::Failed | RecordedEnd::TooLong => 1,
-            RecordedEnd::Done | RecordedEnd::Cut => 0,
+            RecordedEnd::Done | RecordedEnd::Withdrawn | RecordedEnd::Cut => 0,
         }
     }
 
@@ -134,7 +134,7 @@ impl RecordedEnd {
     {
         match self {
             RecordedEnd::Stalled | RecordedEnd::Failed => 1,
-            RecordedEnd::Done | RecordedEnd::TooLong | RecordedEnd::Cut => 0,
+            _ => 0,
         }
     }
 }
@@ -166,7 +166,7 @@ impl RecordedTransfer {
                 let packet = zeros(alloc, self.room_behind(size).min(size) + 1)?;
                 Ok(Some(Response::Data(packet)))
             }
-            RecordedEnd::Done | RecordedEnd::Cut => Ok(None),
+            RecordedEnd::Done | RecordedEnd::Withdrawn | RecordedEnd::Cut => Ok(None),
         }
     }
 
@@ -180,7 +180,7 @@ impl RecordedTransfer {
     }
 
     /// How many of its packets were acknowledged.
-    fn packets_acknowledged(&self, size: usize) -> usize
+    pub(crate) fn packets_acknowledged(&self, size: usize) -> usize
         requires { 0 < size }
         ensures { result ≡ packets_acknowledged size self.now }
     {
@@ -205,7 +205,7 @@ impl RecordedTransfer {
         match self.end {
             RecordedEnd::Stalled => Some(Response::Stall),
             RecordedEnd::Failed => Some(Response::Broken),
-            RecordedEnd::Done | RecordedEnd::TooLong | RecordedEnd::Cut => None,
+            _ => None,
         }
     }
 }

@@ -1,17 +1,18 @@
 //! The devices of a recording.
 
 ghost use Rattle.std.specs.Prelude.{◌≡◌, IfOk};
-ghost use Rattle.trace_recorded.specs.Devices.{by_device, device_key, device_of, device_with, endpoints_of, has_answers, has_script, is_callback, is_other, is_scripted, is_told, others_of, with_answers_only, with_device_event, with_endpoint, with_other};
+ghost use Rattle.trace_recorded.specs.Devices.{by_device, device_key, device_of, device_with, has_answers, has_script, is_callback, is_other, is_told, others_of, with_answers_only, with_device_event, with_other};
 
 use crate::control_lines::{ControlLines, control_lines};
 use crate::controls::{Controls, read_controls};
-use crate::endpoint::{RecordedEndpoint, endpoint_of, is_own};
+use crate::endpoint::{RecordedEndpoint, is_own, is_scripted};
 use crate::event::{RecordedEvent, RecordedType};
 use crate::hub::is_hub;
 use crate::identity::DeviceIdentity;
 use crate::left_out::LeftOut;
 use crate::reader::TextReader;
 use crate::request::AnsweredRequests;
+use crate::session::session_of;
 use crate::table::ByNumber;
 use std::alloc::{AllocError, Global};
 use usb_descriptors::read_config;
@@ -76,43 +77,6 @@ pub(crate) fn by_device(
         put_event(alloc, &mut devices, event)?;
     }
     Ok(devices)
-}
-
-/// Whether an endpoint's answers make a script.
-fn is_scripted(info: &EndpointInfo) -> bool
-    ensures { result ≡ is_scripted info.now }
-{
-    !info.kind.is_unsupported() && info.packet_size > 0
-}
-
-/// What the endpoints of a configuration answered.
-fn endpoints_of(
-    alloc: Global,
-    infos: &[EndpointInfo],
-    events: &[RecordedEvent],
-) -> Result<Sequence<RecordedEndpoint>, AllocError>
-    ensures { IfOk result (λ endpoints. endpoints ≡ endpoints_of infos.now events.now) }
-{
-    let mut endpoints = Sequence::new(alloc);
-    for info in infos {
-        push_endpoint(alloc, &mut endpoints, info, events)?;
-    }
-    Ok(endpoints)
-}
-
-/// What one of them answered, behind the others.
-fn push_endpoint(
-    alloc: Global,
-    endpoints: &mut Sequence<RecordedEndpoint>,
-    info: &EndpointInfo,
-    events: &[RecordedEvent],
-) -> Result<(), AllocError>
-    ensures { IfOk result (λ _. endpoints.new ≡ with_endpoint events.now info.now endpoints.old) }
-{
-    if is_scripted(info) {
-        endpoints.push(endpoint_of(alloc, info, events)?)?;
-    }
-    Ok(())
 }
 
 /// Whether an event is of a transfer of an endpoint with a script.
@@ -220,7 +184,7 @@ fn device_with(
         controls: control_lines(alloc, answered)?,
         lost,
         left_out,
-        endpoints: endpoints_of(alloc, infos, events)?,
+        endpoints: session_of(alloc, infos, events)?.endpoints,
         others: others_of(alloc, infos, events)?,
     })
 }

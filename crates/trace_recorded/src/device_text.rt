@@ -143,7 +143,8 @@ impl ScenarioText {
             TextReader::Library => {
                 self.put_identity(number, &device.identity)?;
                 self.put_scripts(number, device.endpoints.as_slice())?;
-                self.put_controls(number, &device.controls)
+                self.put_controls(number, &device.controls)?;
+                self.put_waits(number, device.endpoints.as_slice())
             }
             TextReader::Scenario => self.put_scripts(number, device.endpoints.as_slice()),
         }

@@ -2,7 +2,7 @@
 
 ghost use Rattle.std.specs.Prelude.{◌≡◌, ◌-◌, ◌<◌, ◌++◌, IfOk, length, take};
 ghost use Rattle.usb_model.specs.Limits.{longest_script};
-ghost use Rattle.trace_recorded.specs.Endpoints.{bytes_lost, endpoint_of, is_behind_stall, is_own, is_stalled, is_too_large, is_too_long, no_answers, reads_too_long, submitted, with_answers, with_event, with_own_by, with_transfer};
+ghost use Rattle.trace_recorded.specs.Endpoints.{is_behind_stall, is_own, is_scripted, no_answers, submitted, with_answers, with_callback, with_counts, with_event, with_own_by, with_places, with_transfer, with_turn};
 ghost use Rattle.trace_recorded.specs.Written.{recorded_answers};
 
 use crate::answer::RecordedAnswer;
@@ -11,17 +11,18 @@ use crate::event::{RecordedEvent, RecordedType};
 use crate::halt::submits_end;
 use crate::submission::{RecordedSubmission, copied};
 use crate::table::ByNumber;
-use crate::transfer::{RecordedEnd, RecordedTransfer};
+use crate::transfer::RecordedTransfer;
+use crate::waits::{TakenCount, Waits};
 use std::alloc::{AllocError, Global};
 use std::mem;
-use usb_model::limits::{LONGEST_SCRIPT, MOST_BYTES};
-use usb_model::{EndpointInfo, EpAddr, Sequence};
+use usb_model::limits::LONGEST_SCRIPT;
+use usb_model::{EndpointInfo, Sequence};
 
 /// What an endpoint answered, as far as its device's events were read. Counters stay at the largest number of 64 bits.
 #[derive(Drop)]
 pub(crate) struct RecordedEndpoint {
     /// The endpoint.
-    pub(crate) ep: EpAddr,
+    pub(crate) info: EndpointInfo,
     /// The submissions of transfers in flight, by their ids.
     waiting: ByNumber<RecordedSubmission>,
     /// How often its halt was ended.
@@ -32,12 +33,25 @@ pub(crate) struct RecordedEndpoint {
     pub(crate) answers: Sequence<RecordedAnswer>,
     /// How many there are.
     pub(crate) count: u64,
+    /// How many packets that were written were acknowledged.
+    pub(crate) acknowledged: u64,
+    /// How many reads the host made end before they had an answer.
+    withdrawn: u64,
+    /// Which of its answers wait for what.
+    pub(crate) waits: Waits,
     /// How many bytes that were read weren't recorded.
     pub(crate) lost: u64,
     /// How many packets were too long.
     pub(crate) too_long: u64,
     /// How many transfers were too large for a request.
     pub(crate) left_out: u64,
+}
+
+/// Whether an endpoint's answers make a script.
+pub(crate) fn is_scripted(info: &EndpointInfo) -> bool
+    ensures { result ≡ is_scripted info.now }
+{
+    !info.kind.is_unsupported() && info.packet_size > 0
 }
 
 /// Whether an event is of a transfer of this endpoint.
@@ -47,65 +61,21 @@ pub(crate) fn is_own(info: &EndpointInfo, event: &RecordedEvent) -> bool
     event.ep.address() == info.address.address() && event.kind.is_same(info.kind)
 }
 
-impl RecordedEnd {
-    /// Whether it is a stall.
-    fn is_stalled(self) -> bool
-        ensures { result ≡ is_stalled self }
-    {
-        matches!(self, RecordedEnd::Stalled)
-    }
-
-    /// Whether a packet was too long.
-    fn is_too_long(self) -> bool
-        ensures { result ≡ is_too_long self }
-    {
-        matches!(self, RecordedEnd::TooLong)
-    }
-}
-
-impl RecordedTransfer {
-    /// Whether it is too large for a request.
-    fn is_too_large(&self) -> bool
-        ensures { result ≡ is_too_large self.now }
-    {
-        self.asked as usize > MOST_BYTES || self.moved as usize > MOST_BYTES
-    }
-
-    /// How many of the bytes that it read weren't recorded.
-    fn bytes_lost(&self) -> u64
-        ensures { result ≡ bytes_lost self.now }
-    {
-        if self.ep.is_in() {
-            (self.moved as u64).saturating_sub(self.bytes.len() as u64)
-        } else {
-            0
-        }
-    }
-
-    /// 1 where it read a packet that was too long.
-    fn reads_too_long(&self) -> u64
-        ensures { result ≡ reads_too_long self.now }
-    {
-        if self.ep.is_in() && self.end.is_too_long() {
-            1
-        } else {
-            0
-        }
-    }
-}
-
 impl RecordedEndpoint {
     /// Nothing happened yet.
-    fn new(alloc: Global, ep: EpAddr) -> RecordedEndpoint
-        ensures { result ≡ no_answers ep }
+    pub(crate) fn new(alloc: Global, info: EndpointInfo) -> RecordedEndpoint
+        ensures { result ≡ no_answers info }
     {
         RecordedEndpoint {
-            ep,
+            info,
             waiting: ByNumber::new(alloc),
             clears: 0,
             stalled_at: None,
             answers: Sequence::new(alloc),
             count: 0,
+            acknowledged: 0,
+            withdrawn: 0,
+            waits: Waits::new(alloc),
             lost: 0,
             too_long: 0,
             left_out: 0,
@@ -183,17 +153,66 @@ impl RecordedEndpoint {
         Ok(())
     }
 
+    /// The answers of a read are to be put behind the others: they wait for what was taken so far.
+    fn wait(&mut self, taken: &[TakenCount], count: usize) -> Result<(), AllocError>
+        ensures { IfOk result (λ _. self.new ≡ with_places taken.now count self.old) }
+    {
+        if !self.info.address.is_in() || count == 0 || self.count >= LONGEST_SCRIPT as u64 {
+            return Ok(());
+        }
+        let (ep, place) = (self.info.address, self.count);
+        let own = TakenCount {
+            ep,
+            count: self.withdrawn,
+        };
+        self.waits.put_all(place, own, taken)
+    }
+
+    /// A transfer ended: its packets that were taken are counted, or that it was withdrawn.
+    fn count_ended(&mut self, size: u16, transfer: &RecordedTransfer, count: usize)
+        requires { 0 < size }
+        ensures { self.new ≡ with_counts size transfer.now count self.old }
+    {
+        if self.info.address.is_in() {
+            if transfer.end.is_withdrawn() && count == 0 {
+                self.withdrawn = self.withdrawn.saturating_add(1);
+            }
+        } else {
+            let acknowledged = transfer.packets_acknowledged(usize::from(size)) as u64;
+            self.acknowledged = self.acknowledged.saturating_add(acknowledged);
+        }
+    }
+
+    /// A transfer ended with answers of its own, perhaps none.
+    fn answer_in_turn(
+        &mut self,
+        alloc: Global,
+        taken: &[TakenCount],
+        clears: u64,
+        transfer: &RecordedTransfer,
+    ) -> Result<(), AllocError>
+        requires { 0 < self.old.info.packet_size }
+        ensures { IfOk result (λ _. self.new ≡ with_turn taken.now clears transfer.now self.old) }
+    {
+        let size = self.info.packet_size;
+        let count = answer_count(size, transfer);
+        self.wait(taken, count)?;
+        self.answer(alloc, size, clears, transfer)?;
+        self.count_ended(size, transfer, count);
+        Ok(())
+    }
+
     /// A transfer ended.
     #[tactic(auto, unfolding(crate::specs::Endpoints::with_transfer))]
     fn end(
         &mut self,
         alloc: Global,
-        size: u16,
+        taken: &[TakenCount],
         clears: u64,
         transfer: &RecordedTransfer,
     ) -> Result<(), AllocError>
-        requires { 0 < size }
-        ensures { IfOk result (λ _. self.new ≡ with_transfer size clears transfer.now self.old) }
+        requires { 0 < self.old.info.packet_size }
+        ensures { IfOk result (λ _. self.new ≡ with_transfer taken.now clears transfer.now self.old) }
     {
         if transfer.is_too_large() {
             self.left_out = self.left_out.saturating_add(1);
@@ -202,18 +221,35 @@ impl RecordedEndpoint {
         if self.is_behind_stall(clears, transfer) {
             return Ok(());
         }
-        self.answer(alloc, size, clears, transfer)
+        self.answer_in_turn(alloc, taken, clears, transfer)
+    }
+
+    /// A transfer was called back.
+    fn call_back(
+        &mut self,
+        alloc: Global,
+        taken: &[TakenCount],
+        submitted: RecordedSubmission,
+        event: &RecordedEvent,
+    ) -> Result<(), AllocError>
+        requires { 0 < self.old.info.packet_size }
+        ensures { IfOk result (λ _. self.new ≡ with_callback taken.now submitted event.now self.old) }
+    {
+        let clears = submitted.clears;
+        let info = self.info;
+        let transfer = submitted.into_transfer(alloc, &info, event)?;
+        self.end(alloc, taken, clears, &transfer)
     }
 
     /// An event of a transfer of this endpoint.
     fn read_own(
         &mut self,
         alloc: Global,
-        info: &EndpointInfo,
+        taken: &[TakenCount],
         event: &RecordedEvent,
     ) -> Result<(), AllocError>
-        requires { 0 < info.now.packet_size }
-        ensures { IfOk result (λ _. self.new ≡ with_own_by event.now.event_type info.now event.now self.old) }
+        requires { 0 < self.old.info.packet_size }
+        ensures { IfOk result (λ _. self.new ≡ with_own_by event.now.event_type taken.now event.now self.old) }
     {
         match event.event_type {
             RecordedType::Submission => {
@@ -225,9 +261,7 @@ impl RecordedEndpoint {
                     Some(submitted) => submitted,
                     None => self.submitted(alloc, event)?,
                 };
-                let clears = submitted.clears;
-                let transfer = submitted.into_transfer(alloc, info, event)?;
-                self.end(alloc, info.packet_size, clears, &transfer)
+                self.call_back(alloc, taken, submitted, event)
             }
             RecordedType::SubmissionError => {
                 let _ = self.waiting.take(event.id);
@@ -236,40 +270,24 @@ impl RecordedEndpoint {
         }
     }
 
-    /// An event of the device.
+    /// An event of the device, behind which the others had taken so much.
     #[tactic(auto, unfolding(crate::specs::Endpoints::with_event))]
-    fn read(
+    pub(crate) fn read(
         &mut self,
         alloc: Global,
-        info: &EndpointInfo,
+        taken: &[TakenCount],
         event: &RecordedEvent,
     ) -> Result<(), AllocError>
-        requires { 0 < info.now.packet_size }
-        ensures { IfOk result (λ _. self.new ≡ with_event info.now event.now self.old) }
+        ensures { IfOk result (λ _. self.new ≡ with_event taken.now event.now self.old) }
     {
-        if submits_end(info, event) {
+        let info = self.info;
+        if submits_end(&info, event) {
             self.clears = self.clears.saturating_add(1);
             return Ok(());
         }
-        if is_own(info, event) {
-            return self.read_own(alloc, info, event);
+        if is_scripted(&info) && is_own(&info, event) {
+            return self.read_own(alloc, taken, event);
         }
         Ok(())
     }
-}
-
-/// What this endpoint answered, by its device's events.
-pub(crate) fn endpoint_of(
-    alloc: Global,
-    info: &EndpointInfo,
-    events: &[RecordedEvent],
-) -> Result<RecordedEndpoint, AllocError>
-    requires { 0 < info.now.packet_size }
-    ensures { IfOk result (λ endpoint. endpoint ≡ endpoint_of events.now info.now) }
-{
-    let mut endpoint = RecordedEndpoint::new(alloc, info.address);
-    for event in events {
-        endpoint.read(alloc, info, event)?;
-    }
-    Ok(endpoint)
 }

@@ -18,9 +18,11 @@
 //! - `answer.rt`, specs/Written: the same, each with what was written for it
 //! - `submission.rt`, `halt.rt`, `endpoint.rt`, specs/Endpoints: what is kept of a submission; requests that end a halt; what an
 //!   endpoint answered, and what of that is noted
+//! - `waits.rt`, specs/Waits: which answers of an endpoint wait for what
+//! - `session.rt`, specs/Sessions: all endpoints of a device, over its events in order
 //! - `hub.rt`, `device.rt`, `left_out.rt`, specs/Devices: the devices of a recording, and which are left out
 //! - `note.rt`, `text.rt`, `answer_text.rt`, specs/Lines: notes and scripts
-//! - `reader.rt`, `control_text.rt`, `device_text.rt`, specs/DeviceText: the lines of a device, for who reads them
+//! - `reader.rt`, `control_text.rt`, `wait_text.rt`, `device_text.rt`, specs/DeviceText: the lines of a device, for who reads them
 //! - `scenario.rt`, `capture_fault.rt`, specs/Scenario, Faults: the whole, or why there is none
 //! - `laws.rt`, specs/Laws, proofs/: what is written is read back; what the answers come to, by the definitions of the model
 //!
@@ -75,10 +77,13 @@ mod reader;
 mod recording;
 mod request;
 mod scenario;
+mod session;
 mod submission;
 mod table;
 mod text;
 mod transfer;
+mod wait_text;
+mod waits;
 
 pub use answers::answers_of;
 pub use capture_fault::CaptureFault;

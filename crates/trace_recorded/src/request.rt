@@ -119,7 +119,7 @@ impl RecordedRequest {
             RecordedEnd::Done => Ok(Some(self.done(alloc, event)?)),
             RecordedEnd::Stalled => Ok(Some(RecordedAnswer::Given(Response::Stall))),
             RecordedEnd::Failed => Ok(Some(RecordedAnswer::Given(Response::Broken))),
-            RecordedEnd::TooLong | RecordedEnd::Cut => Ok(None),
+            RecordedEnd::TooLong | RecordedEnd::Withdrawn | RecordedEnd::Cut => Ok(None),
         }
     }
 

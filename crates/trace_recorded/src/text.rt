@@ -97,7 +97,7 @@ impl ScenarioText {
     fn put_notes(&mut self, endpoint: &RecordedEndpoint) -> Result<(), AllocError>
         ensures { IfOk result (λ _. self.new ≡ self.old ++ endpoint_notes endpoint.now) }
     {
-        let ep = endpoint.ep;
+        let ep = endpoint.info.address;
         self.put_note(ep, EndpointNote::Lost(endpoint.lost))?;
         self.put_note(ep, EndpointNote::TooLong(endpoint.too_long))?;
         self.put_note(ep, EndpointNote::TooLarge(endpoint.left_out))?;
@@ -135,7 +135,7 @@ impl ScenarioText {
     fn put_line(&mut self, number: u8, endpoint: &RecordedEndpoint) -> Result<(), AllocError>
         ensures { IfOk result (λ _. self.new ≡ self.old ++ script_text number endpoint.now) }
     {
-        self.put_head(number, endpoint.ep)?;
+        self.put_head(number, endpoint.info.address)?;
         self.put_answers(endpoint.answers.as_slice())?;
         self.put("\n")
     }
