@@ -49,7 +49,7 @@ def judged(machine, capture, count):
         return f"prints {strange!r}"
     if (it.status == 0) != any(line.startswith("device ") for line in lines):
         return f"ends with status {it.status}, and prints {lines[:3]}"
-    if it.out and machine.usbtrace("check", it.out).status:
+    if it.out and machine.usbtrace("check", machine.usbtrace("devices --scenario", capture).out).status:
         return "prints no scenario"
     count["read"] += it.status == 0
     count["without a device"] += it.status == 1

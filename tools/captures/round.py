@@ -1,4 +1,4 @@
-"""Part `round`: what `usbtrace devices` reads of a run's capture are the answers that the run's callbacks used, in each form."""
+"""Part `round`: what `usbtrace devices --scenario` reads of a run's capture are the answers that the run's callbacks used, in each form."""
 import collections
 import random
 
@@ -19,7 +19,8 @@ def packets_of(request, size, knows_flags):
 def written_answers(callback, size, knows_flags):
     acknowledged, last = callback.answers.count("a"), [it for it in callback.answers if it in "sb"]
     packets = packets_of(callback.request, size, knows_flags)
-    return ["a"] * (packets if callback.status == "COMPLETED" else min(acknowledged, packets - 1)) + last
+    taken = packets if callback.status == "COMPLETED" else min(acknowledged, packets - 1)
+    return ["a:" + callback.request.data[it * size : (it + 1) * size].hex() for it in range(taken)] + last
 
 
 def answers_of(callback, size, knows_flags, count):
@@ -50,7 +51,7 @@ def device_lines(number, device, scripts, too_long):
 
 
 def wanted_text(told, knows_flags, count):
-    """What `usbtrace devices` has to print, and how it has to end."""
+    """What `usbtrace devices --scenario` has to print, and how it has to end."""
     left_out, kept, number = [], [], 0
     for device in told.devices.values():
         scripts, too_long = collections.defaultdict(list), collections.Counter()
@@ -74,7 +75,7 @@ def faults_of(machine, name, scenario, form, count):
     if printed.status:
         return
     told = Told(scenario, printed.out)
-    read = machine.usbtrace("devices", FORMS[form](machine.usbtrace("capture", scenario).out))
+    read = machine.usbtrace("devices --scenario", FORMS[form](machine.usbtrace("capture", scenario).out))
     text, status = wanted_text(told, form != SHORT_FORM, count)
     count["captures"] += 1
     if (read.status, read.err) != (status, b""):

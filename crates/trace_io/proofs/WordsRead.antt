@@ -10,6 +10,7 @@ use Rattle.clap.specs.declared.error.kind.ErrorKind.TheVariants as kind
 use Rattle.clap.proofs.OnLiterals.{clap_on_literals}
 use Rattle.trace_io.specs.CommandLine.{AreBad, AskFor, AskForHelp, grammar, task_of}
 use Rattle.trace_io.specs.declared.words.Task.{Task}
+use Rattle.trace_recorded.specs.declared.reader.TextReader.TheVariants.{Library, Scenario}
 use Rattle.trace_io.specs.declared.words.Task.TheVariants.{Run, Steps, Packets, Alone, Live, Left, Check, Draw, Page, Capture, Devices, Explain, Test, Device, Describe}
 
 pub run_asks : (name : Text) → AskFor (name ∷ codes "run" ∷ []) Run
@@ -60,9 +61,13 @@ pub capture_asks : (name : Text) → AskFor (name ∷ codes "capture" ∷ []) Ca
 unfolding clap_on_literals
 capture_asks name = (refl, refl)
 
-pub devices_ask : (name : Text) → AskFor (name ∷ codes "devices" ∷ []) Devices
+pub devices_ask : (name : Text) → AskFor (name ∷ codes "devices" ∷ []) (Devices Library)
 unfolding clap_on_literals
 devices_ask name = (refl, refl)
+
+pub devices_scenario_ask : (name : Text) → AskFor (name ∷ codes "devices" ∷ codes "--scenario" ∷ []) (Devices Scenario)
+unfolding clap_on_literals
+devices_scenario_ask name = (refl, refl)
 
 pub explain_asks : (name : Text) → AskFor (name ∷ codes "explain" ∷ []) Explain
 unfolding clap_on_literals
@@ -170,7 +175,7 @@ is_alone h (Some Left) = false
 is_alone h (Some Check) = false
 is_alone h (Some (Draw from to)) = false
 is_alone h (Some Capture) = false
-is_alone h (Some Devices) = false
+is_alone h (Some (Devices reader)) = false
 is_alone h (Some (Page from to)) = false
 is_alone h (Some Explain) = false
 is_alone h (Some Test) = false
@@ -188,7 +193,7 @@ is_alone_says h (Some Left) e = let bad : false ≡ true = e in cc
 is_alone_says h (Some Check) e = let bad : false ≡ true = e in cc
 is_alone_says h (Some (Draw from to)) e = let bad : false ≡ true = e in cc
 is_alone_says h (Some Capture) e = let bad : false ≡ true = e in cc
-is_alone_says h (Some Devices) e = let bad : false ≡ true = e in cc
+is_alone_says h (Some (Devices reader)) e = let bad : false ≡ true = e in cc
 is_alone_says h (Some (Page from to)) e = let bad : false ≡ true = e in cc
 is_alone_says h (Some Explain) e = let bad : false ≡ true = e in cc
 is_alone_says h (Some Test) e = let bad : false ≡ true = e in cc

@@ -12,6 +12,8 @@ use Rattle.clap.specs.declared.builder.value_parser.ValueParser.TheVariants.{Uns
 use Rattle.clap.specs.declared.error.kind.ErrorKind.{ErrorKind}
 use Rattle.clap.specs.declared.error.kind.ErrorKind.TheVariants.{DisplayHelp}
 use Rattle.trace_scenario.specs.Number.{last_handle}
+use Rattle.trace_recorded.specs.declared.reader.TextReader.{TextReader}
+use Rattle.trace_recorded.specs.declared.reader.TextReader.TheVariants.{Library, Scenario}
 use Rattle.trace_io.specs.declared.words.Task.{Task}
 use Rattle.trace_io.specs.declared.words.Task.TheVariants.{Run, Steps, Packets, Alone, Live, Left, Check, Draw, Page, Capture, Devices, Explain, Test, Device, Describe}
 
@@ -103,9 +105,21 @@ draw_words = record (new_shape (codes "draw")) { rules = from_word ∷ to_word �
 abbrev pub capture_words : Shape
 capture_words = new_shape (codes "capture")
 
--- devices
+-- the word --scenario: a flag
+abbrev pub scenario_word : Rule
+scenario_word = record (new_rule (codes "scenario")) { long = Some (codes "scenario"); action = Some SetTrue }
+
+-- devices, or devices --scenario
 abbrev pub devices_words : Shape
-devices_words = new_shape (codes "devices")
+devices_words = record (new_shape (codes "devices")) { rules = scenario_word ∷ [] }
+
+-- for whom the devices of a capture are asked for: for the library, or for a scenario
+abbrev pub reader_by : Bool → TextReader
+reader_by true = Scenario
+reader_by false = Library
+
+abbrev pub devices_in : List Row → Task
+devices_in rows = Devices (reader_by (is_set (codes "scenario") rows))
 
 -- explain
 abbrev pub explain_words : Shape
@@ -186,7 +200,7 @@ task_named name rows =
     else (if bytes_eq name (codes "check") then Some Check
     else (if bytes_eq name (codes "draw") then drawing_in rows
     else (if bytes_eq name (codes "capture") then Some Capture
-    else (if bytes_eq name (codes "devices") then Some Devices
+    else (if bytes_eq name (codes "devices") then Some (devices_in rows)
     else (if bytes_eq name (codes "explain") then Some Explain
     else (if bytes_eq name (codes "test") then Some Test
     else (if bytes_eq name (codes "device") then Some Device

@@ -100,10 +100,13 @@ pub(crate) const CAPTURE: &str = help_text!(
 /// The help of `devices`, which reads no scenario.
 pub(crate) const DEVICES: &str = help_over_file!(
     "Input: a capture of Linux's usbmon, as tcpdump or Wireshark write it: a pcap or pcapng file of link type 220 or 189.\n",
-    "What is printed is the beginning of a scenario: a line for each device, and one for what each endpoint answered.";
+    "What is printed is a text of devices, for libusb's own interface: each with its descriptors, its strings, what its endpoints\n",
+    "answered, packet by packet, what it answered to control requests, and which answers waited for what. With --scenario it is the\n",
+    "beginning of a scenario.";
     "devices recorded.pcap";
     "Example:\n",
-    "  usbtrace devices < recorded.pcap > scenario.txt\n\n",
+    "  usbtrace devices < recorded.pcap > devices.txt\n",
+    "  usbtrace devices --scenario < recorded.pcap > scenario.txt\n\n",
     "Status: 0 where a device was found, 1 where none was, the input is no such capture, memory is wanting or a stream fails, ",
     "2 for bad words"
 );

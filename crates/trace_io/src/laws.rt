@@ -3,12 +3,13 @@
 ghost use Rattle.std.specs.Prelude.{◌<◌, ◌∷◌, [], ℕ, true, false, List, codes};
 ghost use Rattle.std.specs.Fmt.{decimal};
 ghost use Rattle.trace_io.specs.CommandLine.{AreBad, AskFor, AskForHelp};
+ghost use Rattle.trace_recorded.specs.declared.reader.TextReader.TheVariants.{Library, Scenario};
 ghost use Rattle.trace_io.specs.declared.words.Task.TheVariants.{Run, Steps, Packets, Alone, Live, Left, Check, Draw, Page, Capture, Devices, Explain, Test, Device, Describe};
 
 /// Whatever name the program is called by: `run` asks for a run, `run --steps` for a run step by step, `run --packets` for one with its
 /// packets, `run --packets --steps` for both, in either order, `alone H` for each of the 64 handles alone, a plus sign or leading zeros before its number included, `live` for a run in threads of
 /// a million callbacks at most, `live --rounds 25` for one of 25, `left` for what is left, `check` for a check, `draw` for
-/// a picture, `draw --from 11 --to 20` for one of ten steps, `capture` for a capture, `devices` for the devices of one, `draw --html`
+/// a picture, `draw --from 11 --to 20` for one of ten steps, `capture` for a capture, `devices` for the devices of one, `devices --scenario` for those of a scenario, `draw --html`
 /// for a page, `explain` for reasons, `test` for a test, `device` and `describe` for a descriptor's line and table, and `-h` for help. No words, a second
 /// word after `run`, `live`, `left`, `check`, `capture`, `devices` or `test`, no handle or the handle 64 after `alone`, no number after `--rounds`, a step 0 and `help` are bad.
 pub fn words()
@@ -27,7 +28,8 @@ pub fn words()
     ensures draw { (name : List ℕ) → AskFor (name ∷ codes "draw" ∷ []) (Draw 1 18446744073709551615) }
     ensures part { (name : List ℕ) → AskFor (name ∷ codes "draw" ∷ codes "--from" ∷ codes "11" ∷ codes "--to" ∷ codes "20" ∷ []) (Draw 11 20) }
     ensures capture { (name : List ℕ) → AskFor (name ∷ codes "capture" ∷ []) Capture }
-    ensures devices { (name : List ℕ) → AskFor (name ∷ codes "devices" ∷ []) Devices }
+    ensures devices { (name : List ℕ) → AskFor (name ∷ codes "devices" ∷ []) (Devices Library) }
+    ensures devices_of_a_scenario { (name : List ℕ) → AskFor (name ∷ codes "devices" ∷ codes "--scenario" ∷ []) (Devices Scenario) }
     ensures page { (name : List ℕ) → AskFor (name ∷ codes "draw" ∷ codes "--html" ∷ []) (Page 1 18446744073709551615) }
     ensures explain { (name : List ℕ) → AskFor (name ∷ codes "explain" ∷ []) Explain }
     ensures test { (name : List ℕ) → AskFor (name ∷ codes "test" ∷ []) Test }

@@ -9,13 +9,14 @@ ghost use Rattle.clap.specs.Matches.{found_of};
 ghost use Rattle.clap.specs.Simple.{app_of, shape_of};
 ghost use Rattle.clap.specs.declared.builder.command.Command.TheViews.{out-Command as fields_of};
 ghost use Rattle.clap.specs.Walk.{rows_of, rule_of};
-ghost use Rattle.trace_io.specs.CommandLine.{AskFor, alone_words, capture_words, check_words, describe_words, device_words, devices_words, draw_words, drawing_in, explain_words, from_word, grammar, handle_in, handle_word, html_word, is_set, left_words, live_words, number_in, packets_word, program_alone, program_of_captures, program_of_reasons, program_of_runs, program_of_scenarios, rounds_word, run_in, run_words, steps_word, test_words, to_word};
+ghost use Rattle.trace_io.specs.CommandLine.{AskFor, alone_words, capture_words, check_words, describe_words, device_words, devices_in, devices_words, draw_words, drawing_in, explain_words, from_word, grammar, handle_in, handle_word, html_word, is_set, left_words, live_words, number_in, packets_word, program_alone, program_of_captures, program_of_reasons, program_of_runs, program_of_scenarios, rounds_word, run_in, run_words, scenario_word, steps_word, test_words, to_word};
 ghost use Rattle.trace_scenario.specs.Words.{words_of};
 
 use crate::help;
 use clap::builder::ValueParser;
 use clap::{Arg, ArgAction, ArgMatches, Command, Error};
 use std::alloc::{AllocError, Global};
+use trace_recorded::TextReader;
 use usb_model::Name;
 
 /// What the program is asked to do.
@@ -54,8 +55,8 @@ pub enum Task {
     },
     /// Write the run of the scenario as a capture.
     Capture,
-    /// Print the scenario of a capture: its devices, and what they answered.
-    Devices,
+    /// Print the devices of a capture, and what they answered, for who reads it.
+    Devices(TextReader),
     /// Run the scenario, and print all entries with their reasons.
     Explain,
     /// Run a scenario whose lines say what is expected, and compare.
@@ -96,8 +97,8 @@ pub fn read_words(alloc: Global, words: &[&str]) -> Result<Task, Error>
     if matches.subcommand_matches("capture").is_some() {
         return Ok(Task::Capture);
     }
-    if matches.subcommand_matches("devices").is_some() {
-        return Ok(Task::Devices);
+    if let Some(found) = matches.subcommand_matches("devices") {
+        return Ok(devices_task(found));
     }
     if matches.subcommand_matches("explain").is_some() {
         return Ok(Task::Explain);
@@ -142,7 +143,7 @@ fn captures<'a>(alloc: Global) -> Result<Command<'a>, AllocError>
 {
     scenarios(alloc)?
         .subcommand(capture(alloc))?
-        .subcommand(devices(alloc))
+        .subcommand(devices(alloc)?)
 }
 
 /// The words that print something of a scenario.
@@ -349,14 +350,37 @@ fn capture<'a>(alloc: Global) -> Command<'a>
         .after_help(help::CAPTURE)
 }
 
-/// The words `devices`.
-fn devices<'a>(alloc: Global) -> Command<'a>
-    ensures words { shape_of result ≡ devices_words }
-    ensures local { (fields_of result).has_globals ≡ false }
+/// The words `devices` and `devices --scenario`.
+fn devices<'a>(alloc: Global) -> Result<Command<'a>, AllocError>
+    ensures words { IfOk result (λ command. shape_of command ≡ devices_words) }
+    ensures local { IfOk result (λ command. (fields_of command).has_globals ≡ false) }
 {
     Command::new(alloc, "devices")
-        .about("Prints the devices of a capture, and what they answered, as lines of a scenario")
+        .about("Prints the devices of a capture, and what they answered, as lines of a text")
         .after_help(help::DEVICES)
+        .arg(scenario(alloc))
+}
+
+/// The word `--scenario`.
+fn scenario<'a>(alloc: Global) -> Arg<'a>
+    ensures word { rule_of result ≡ scenario_word }
+    ensures local { result.global ≡ false }
+{
+    Arg::new(alloc, "scenario")
+        .long("scenario")
+        .action(ArgAction::SetTrue)
+        .help("Only the lines that a scenario may have: device and script")
+}
+
+/// Which text the words behind `devices` ask for.
+fn devices_task(found: &ArgMatches<'_>) -> Task
+    ensures { result ≡ devices_in (rows_of (found_of found.now)) }
+{
+    if is_set(found, "scenario") {
+        Task::Devices(TextReader::Scenario)
+    } else {
+        Task::Devices(TextReader::Library)
+    }
 }
 
 /// The words `explain`.

@@ -6,7 +6,7 @@ use Rattle.std.proofs.lemmas.List.{length-append, length-map, length-replicate}
 use Rattle.usb_model.specs.declared.response.Response.TheVariants.{Data, Ack}
 use Rattle.usb_model.specs.Setup.{is_in}
 use Rattle.trace_recorded.specs.declared.transfer.RecordedEnd.{RecordedEnd}
-use Rattle.trace_recorded.specs.declared.transfer.RecordedEnd.TheVariants.{Done, Stalled, Failed, TooLong, Cut}
+use Rattle.trace_recorded.specs.declared.transfer.RecordedEnd.TheVariants.{Done, Stalled, Failed, TooLong, Withdrawn, Cut}
 use Rattle.trace_recorded.specs.declared.transfer.RecordedTransfer.{RecordedTransfer}
 use Rattle.trace_recorded.specs.Answers.{answers_of, answers_in, answers_out, front_packets, recorded_bytes, packets_read, packets_acknowledged, last_by, last_read, last_written, last_reads, last_writes, room_behind}
 use Rattle.trace_recorded.proofs.FrontPackets.{many}
@@ -17,6 +17,7 @@ one_last Done size room = refl
 one_last Stalled size room = refl
 one_last Failed size room = refl
 one_last TooLong size room = refl
+one_last Withdrawn size room = refl
 one_last Cut size room = refl
 
 pub count_read : (size : ℕ) (x : RecordedTransfer) → is_in x.ep ≡ true → packets_read size x + last_reads x.end ≡ length (answers_of size x)

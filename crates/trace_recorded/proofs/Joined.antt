@@ -1,5 +1,5 @@
 -- One turn more of a loop that puts something behind a list for each value of another.
-use Rattle.std.proofs.Common.{◌≡◌, ℕ, suc, ◌+◌, ◌<◌, ◌≤◌, List, [], ◌∷◌, ◌++◌, length, drop, get_or, refl, ap, sym, ◌∙◌, append_assoc, append-nil, arith}
+use Rattle.std.proofs.Common.{◌≡◌, ℕ, suc, ◌+◌, ◌<◌, ◌≤◌, List, [], ◌∷◌, ◌++◌, length, drop, map, get_or, refl, ap, sym, ◌∙◌, append_assoc, append-nil, arith}
 use Rattle.std.specs.List.{flat_map}
 use Rattle.std.proofs.lemmas.List.{at_drop_more, at_drop_all}
 use Rattle.trace_recorded.specs.Lines.{other_note, other_notes}
@@ -13,6 +13,14 @@ joined_next f out more all xs i x less item next so_far =
 
 pub joined_end : {A B : Type 0} (f : A → List B) (out all : List B) (xs : List A) (i : ℕ) → length xs ≤ i → out ++ flat_map f (drop i xs) ≡ all → out ≡ all
 joined_end f out all xs i past so_far = sym (append-nil out) ∙ (sym (at_drop_all (λ l. out ++ flat_map f l) xs i past) ∙ so_far)
+
+-- the same of a loop that changes each value, taken out of a list of which some are left
+pub mapped_next : {A B : Type 0} (f : A → B) (out more all : List B) (x : A) (left rest : List A) → left ≡ x ∷ rest → more ≡ out ++ f x ∷ [] → out ++ map f left ≡ all → more ++ map f rest ≡ all
+mapped_next f out more all x left rest is next so_far =
+    ap (λ b. b ++ map f rest) next ∙ (append_assoc out (f x ∷ []) (map f rest) ∙ (ap (λ l. out ++ map f l) (sym is) ∙ so_far))
+
+pub mapped_end : {A B : Type 0} (f : A → B) (out all : List B) (left : List A) → left ≡ [] → out ++ map f left ≡ all → out ≡ all
+mapped_end f out all left none so_far = sym (append-nil out) ∙ (ap (λ l. out ++ map f l) (sym none) ∙ so_far)
 
 -- the notes of endpoints below an address
 pub notes_none : (out others : List ℕ) → out ≡ out ++ other_notes others 0

@@ -10,3 +10,5 @@ mod Counted
 mod Joined
 mod Hubs
 mod FilesReadBack
+mod Expected
+mod ByKey

@@ -33,11 +33,11 @@ no_naks zero = refl
 no_naks (suc j) = ap (λ l. Ack ∷ l) (no_naks j)
 
 -- how many packets of a write stand before the last
-abbrev front_count : Request → ℕ → List ℕ → ℕ
+abbrev pub front_count : Request → ℕ → List ℕ → ℕ
 front_count request size bytes = full_packets (adds_zero_packet request) (length bytes) size
 
 -- its packets
-all_are : (request : Request) (size : ℕ) (bytes : List ℕ) → packets_by request size (Out bytes) ≡ front_packets size (suc (front_count request size bytes)) bytes
+pub all_are : (request : Request) (size : ℕ) (bytes : List ℕ) → packets_by request size (Out bytes) ≡ front_packets size (suc (front_count request size bytes)) bytes
 unfolding pieces
 all_are request size bytes = pieces_are size (front_count request size bytes) bytes
 
@@ -75,7 +75,7 @@ answers_written size x e outward is =
     rw outward (ap (λ z. replicate (acknowledged_by z (full_packets x.zero_packet x.asked size) (x.moved / size)) Ack ++ option_to_list (last_written z)) is)
 
 -- the same, of this request
-same_count : (request : Request) (size : ℕ) (x : RecordedTransfer) (bytes : List ℕ) → length bytes ≡ x.asked → adds_zero_packet request ≡ x.zero_packet
+pub same_count : (request : Request) (size : ℕ) (x : RecordedTransfer) (bytes : List ℕ) → length bytes ≡ x.asked → adds_zero_packet request ≡ x.zero_packet
     → full_packets x.zero_packet x.asked size ≡ front_count request size bytes
 same_count request size x bytes long zeros = ap (λ z. full_packets z x.asked size) (sym zeros) ∙ ap (λ n. full_packets (adds_zero_packet request) n size) (sym long)
 

@@ -6,7 +6,7 @@ use Rattle.usb_model.specs.declared.response.Response.TheVariants.{Data, Ack, St
 use Rattle.usb_model.specs.Endpoint.Packets.{full_packets}
 use Rattle.usb_model.specs.Setup.{is_in}
 use Rattle.trace_recorded.specs.declared.transfer.RecordedEnd.{RecordedEnd}
-use Rattle.trace_recorded.specs.declared.transfer.RecordedEnd.TheVariants.{Done, Stalled, Failed, TooLong, Cut}
+use Rattle.trace_recorded.specs.declared.transfer.RecordedEnd.TheVariants.{Done, Stalled, Failed, TooLong, Withdrawn, Cut}
 use Rattle.trace_recorded.specs.declared.transfer.RecordedTransfer.{RecordedTransfer}
 
 -- whether a number is among these
@@ -21,6 +21,7 @@ end_by number =
     else if is_one_of (32 ∷ []) number then Stalled
     else if is_one_of (71 ∷ 84 ∷ 62 ∷ 70 ∷ 63 ∷ []) number then Failed
     else if is_one_of (75 ∷ []) number then TooLong
+    else if is_one_of (2 ∷ 104 ∷ []) number then Withdrawn
     else Cut
 
 -- by a status, 32 bits in two's complement

@@ -1,5 +1,5 @@
 -- The devices of a recording, and what each answered.
-use Rattle.std.specs.Prelude.{ℕ, ◌+◌, ◌*◌, ◌==◌, nat_lt, Bool, true, false, not, ◌&&◌, List, [], ◌∷◌, ◌++◌, drop, length, Option, Some, None, Result, Ok, Err, if◌then◌else◌}
+use Rattle.std.specs.Prelude.{ℕ, ◌+◌, ◌*◌, ◌==◌, nat_lt, Bool, true, false, not, ◌&&◌, ◌||◌, List, [], ◌∷◌, ◌++◌, drop, length, Option, Some, None, Result, Ok, Err, if◌then◌else◌}
 use Rattle.std.specs.List.{list_any}
 use Rattle.std.specs.Option.{option_map_or, unwrap_or}
 use Rattle.usb_model.specs.declared.request.Kind.TheVariants.{Control}
@@ -7,18 +7,24 @@ use Rattle.usb_model.specs.declared.setup.Configuration.{Configuration}
 use Rattle.usb_model.specs.declared.setup.EndpointInfo.{EndpointInfo}
 use Rattle.usb_model.specs.Requests.{is_same_kind}
 use Rattle.usb_descriptors.specs.declared.fault.DescFault.{DescFault}
-use Rattle.usb_descriptors.specs.Grammar.{is_interface, is_transfer_kind, reading}
+use Rattle.usb_descriptors.specs.Grammar.{is_interface, reading}
 use Rattle.usb_descriptors.specs.Pieces.{Piece, byte, pieces}
 use Rattle.trace_recorded.specs.declared.event.RecordedEvent.{RecordedEvent}
 use Rattle.trace_recorded.specs.declared.event.RecordedType.{RecordedType}
 use Rattle.trace_recorded.specs.declared.event.RecordedType.TheVariants.{Callback}
+use Rattle.trace_recorded.specs.declared.controls.Controls.{Controls}
 use Rattle.trace_recorded.specs.declared.endpoint.RecordedEndpoint.{RecordedEndpoint}
 use Rattle.trace_recorded.specs.declared.device.RecordedDevice.{RecordedDevice}
 use Rattle.trace_recorded.specs.declared.left_out.LeftOut.{LeftOut}
+use Rattle.trace_recorded.specs.declared.reader.TextReader.{TextReader}
+use Rattle.trace_recorded.specs.declared.reader.TextReader.TheVariants.{Library, Scenario}
 use Rattle.trace_recorded.specs.declared.left_out.LeftOut.TheVariants.{NoConfiguration, Refused, Hub, NoAnswers}
-use Rattle.trace_recorded.specs.Configurations.{configuration_of}
-use Rattle.trace_recorded.specs.Endpoints.{endpoint_of, is_own}
+use Rattle.trace_recorded.specs.Configurations.{configuration_by}
+use Rattle.trace_recorded.specs.Controls.{controls_of}
+use Rattle.trace_recorded.specs.Endpoints.{is_own, is_scripted}
 use Rattle.trace_recorded.specs.Folds.{after}
+use Rattle.trace_recorded.specs.Requests.{control_lines}
+use Rattle.trace_recorded.specs.Sessions.{session_of}
 use Rattle.trace_recorded.specs.Tables.{value_at, with_value, without}
 
 -- a device's number in a table: 256 times its bus, and its address there
@@ -49,17 +55,6 @@ is_hub_behind found (p ∷ ps) = option_map_or (λ more. is_hub_behind more ps) 
 abbrev pub is_hub : List ℕ → Bool
 is_hub descriptor = is_hub_behind false (pieces (byte 0 descriptor) (drop (byte 0 descriptor) descriptor))
 
--- whether an endpoint's answers make a script: it is a bulk or interrupt endpoint; no configuration has one of packet size 0
-abbrev pub is_scripted : EndpointInfo → Bool
-is_scripted info = is_transfer_kind info.kind && nat_lt 0 info.packet_size
-
--- what such an endpoint answered, behind the others
-abbrev pub with_endpoint : List RecordedEvent → EndpointInfo → List RecordedEndpoint → List RecordedEndpoint
-with_endpoint events info endpoints = if is_scripted info then endpoints ++ endpoint_of events info ∷ [] else endpoints
-
-abbrev pub endpoints_of : List EndpointInfo → List RecordedEvent → List RecordedEndpoint
-endpoints_of infos events = after (with_endpoint events) [] infos
-
 -- whether an event is the callback of a transfer of no such endpoint, and of none for control
 abbrev pub is_callback : RecordedType → Bool
 is_callback Callback = true
@@ -81,20 +76,37 @@ others_of infos events = after (with_other infos) [] events
 abbrev pub has_answers : List RecordedEndpoint → Bool
 has_answers endpoints = list_any (λ x. not (length x.answers == 0)) endpoints
 
--- the device is kept where something answered
-abbrev pub with_answers_only : RecordedDevice → Result RecordedDevice LeftOut
-with_answers_only device = if has_answers device.endpoints then Ok device else Err NoAnswers
+-- whether something is said of what a device answered: a scenario has no control requests
+abbrev pub is_told : TextReader → RecordedDevice → Bool
+is_told Library device = has_answers device.endpoints || not (length device.controls.firsts == 0)
+is_told Scenario device = has_answers device.endpoints
 
-abbrev pub device_by : Result Configuration DescFault → List ℕ → List RecordedEvent → Result RecordedDevice LeftOut
-device_by (Err fault) descriptor events = Err Refused
-device_by (Ok config) descriptor events =
+-- it is kept where something is
+abbrev pub with_answers_only : TextReader → RecordedDevice → Result RecordedDevice LeftOut
+with_answers_only reader device = if is_told reader device then Ok device else Err NoAnswers
+
+-- what a device with this configuration answered
+abbrev pub device_with : List ℕ → List EndpointInfo → Controls → List RecordedEvent → RecordedDevice
+device_with descriptor infos controls events = record {
+  descriptor = descriptor;
+  identity = controls.identity;
+  controls = control_lines controls.requests.answered;
+  lost = controls.requests.lost;
+  left_out = controls.requests.left_out;
+  endpoints = (session_of infos events).endpoints;
+  others = others_of infos events;
+}
+
+abbrev pub device_by : TextReader → Result Configuration DescFault → List ℕ → Controls → List RecordedEvent → Result RecordedDevice LeftOut
+device_by reader (Err fault) descriptor controls events = Err Refused
+device_by reader (Ok config) descriptor controls events =
     if is_hub descriptor then Err Hub
-    else with_answers_only (record { descriptor = descriptor; endpoints = endpoints_of config.endpoints events; others = others_of config.endpoints events })
+    else with_answers_only reader (device_with descriptor config.endpoints controls events)
 
-abbrev pub device_with : Option (List ℕ) → List RecordedEvent → Result RecordedDevice LeftOut
-device_with None events = Err NoConfiguration
-device_with (Some descriptor) events = device_by (reading descriptor) descriptor events
+abbrev pub device_from : TextReader → Option (List ℕ) → Controls → List RecordedEvent → Result RecordedDevice LeftOut
+device_from reader None controls events = Err NoConfiguration
+device_from reader (Some descriptor) controls events = device_by reader (reading descriptor) descriptor controls events
 
 -- what a device with these events answered, or why it is left out
-unfoldable pub device_of : List RecordedEvent → Result RecordedDevice LeftOut
-device_of events = device_with (configuration_of events) events
+unfoldable pub device_of : TextReader → List RecordedEvent → Result RecordedDevice LeftOut
+device_of reader events = device_from reader (configuration_by (controls_of events).configurations) (controls_of events) events

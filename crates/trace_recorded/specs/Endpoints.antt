@@ -1,22 +1,25 @@
 -- What an endpoint of a recorded device answered, from the device's events.
-use Rattle.std.specs.Prelude.{ℕ, ◌+◌, ◌-◌, ◌/◌, ◌%◌, ◌^◌, ◌==◌, min, nat_lt, Bool, true, false, ◌&&◌, ◌||◌, List, [], ◌++◌, length, take, Option, Some, None, if◌then◌else◌}
+use Rattle.std.specs.Prelude.{ℕ, ◌+◌, ◌-◌, ◌/◌, ◌%◌, ◌^◌, ◌==◌, min, nat_le, nat_lt, Bool, true, false, not, ◌&&◌, ◌||◌, List, [], ◌++◌, length, take, Option, Some, None, if◌then◌else◌}
 use Rattle.std.specs.Option.{option_map_or, unwrap_or}
 use Rattle.usb_model.specs.declared.setup.EndpointInfo.{EndpointInfo}
 use Rattle.usb_model.specs.Limits.{longest_script, most_bytes}
 use Rattle.usb_model.specs.Requests.{is_same_kind}
 use Rattle.usb_model.specs.Setup.{is_in}
+use Rattle.usb_descriptors.specs.Grammar.{is_transfer_kind}
 use Rattle.trace_capture.specs.declared.control_setup.ControlSetup.{ControlSetup}
 use Rattle.trace_recorded.specs.declared.event.RecordedEvent.{RecordedEvent}
 use Rattle.trace_recorded.specs.declared.event.RecordedType.{RecordedType}
 use Rattle.trace_recorded.specs.declared.event.RecordedType.TheVariants.{Submission, Callback, SubmissionError}
 use Rattle.trace_recorded.specs.declared.transfer.RecordedEnd.{RecordedEnd}
-use Rattle.trace_recorded.specs.declared.transfer.RecordedEnd.TheVariants.{Stalled, TooLong}
+use Rattle.trace_recorded.specs.declared.transfer.RecordedEnd.TheVariants.{Stalled, TooLong, Withdrawn}
 use Rattle.trace_recorded.specs.declared.transfer.RecordedTransfer.{RecordedTransfer}
-use Rattle.trace_recorded.specs.declared.endpoint.RecordedSubmission.{RecordedSubmission}
+use Rattle.trace_recorded.specs.declared.submission.RecordedSubmission.{RecordedSubmission}
 use Rattle.trace_recorded.specs.declared.endpoint.RecordedEndpoint.{RecordedEndpoint}
-use Rattle.trace_recorded.specs.Answers.{answers_of, end_of}
-use Rattle.trace_recorded.specs.Folds.{after}
+use Rattle.trace_recorded.specs.Answers.{answers_of, end_of, packets_acknowledged}
 use Rattle.trace_recorded.specs.Tables.{value_at, with_value, without}
+use Rattle.trace_recorded.specs.declared.waits.TakenCount.{TakenCount}
+use Rattle.trace_recorded.specs.Waits.{no_waits, with_waits}
+use Rattle.trace_recorded.specs.Written.{recorded_answers}
 
 -- so many more are counted; a counter stays at the largest number of 64 bits
 abbrev pub counted : ℕ → ℕ → ℕ
@@ -40,6 +43,10 @@ abbrev pub ends_halt_by : RecordedType → EndpointInfo → Option ControlSetup 
 ends_halt_by Submission info setup = option_map_or (λ s. ends_halt info s) setup false
 ends_halt_by _ info setup = false
 
+-- whether an endpoint's answers make a script: it is a bulk or interrupt endpoint; no configuration has one of packet size 0
+abbrev pub is_scripted : EndpointInfo → Bool
+is_scripted info = is_transfer_kind info.kind && nat_lt 0 info.packet_size
+
 -- whether an event is of a transfer of this endpoint
 abbrev pub is_own : EndpointInfo → RecordedEvent → Bool
 is_own info event = (event.ep == info.address) && is_same_kind event.kind info.kind
@@ -48,15 +55,19 @@ abbrev pub is_stalled : RecordedEnd → Bool
 is_stalled Stalled = true
 is_stalled _ = false
 
+abbrev pub is_withdrawn : RecordedEnd → Bool
+is_withdrawn Withdrawn = true
+is_withdrawn _ = false
+
 abbrev pub is_too_long : RecordedEnd → Bool
 is_too_long TooLong = true
 is_too_long _ = false
 
--- what is kept of a submission: its length, its flags, and how often the halt was ended before
+-- what is kept of a submission: its length, its flags, its bytes, and how often the halt was ended before
 abbrev pub submitted : RecordedEvent → RecordedEndpoint → RecordedSubmission
-submitted event x = record { length = event.length; flags = event.flags; clears = x.clears }
+submitted event x = record { length = event.length; flags = event.flags; bytes = event.bytes; clears = x.clears }
 
--- the transfer of a submission and its callback; bit 6 of the flags asks for an empty packet behind whole ones
+-- the transfer of a submission and its callback, with what the one wrote or the other read; bit 6 of the flags asks for an empty packet behind whole ones
 abbrev pub transfer_of : EndpointInfo → RecordedSubmission → RecordedEvent → RecordedTransfer
 transfer_of info s event = record {
   ep = info.address;
@@ -64,16 +75,16 @@ transfer_of info s event = record {
   zero_packet = s.flags / 64 % 2 == 1;
   moved = event.length;
   end = end_of event.status;
-  bytes = event.bytes;
+  bytes = if is_in info.address then event.bytes else s.bytes;
 }
 
 -- a transfer of more bytes than a request may have
 abbrev pub is_too_large : RecordedTransfer → Bool
 is_too_large transfer = nat_lt most_bytes transfer.asked || nat_lt most_bytes transfer.moved
 
--- a transfer that ended behind a stall, by the host: nothing moved, and since the stall was answered no halt was ended before it was submitted
-abbrev pub is_behind_stall : RecordedSubmission → RecordedTransfer → RecordedEndpoint → Bool
-is_behind_stall s transfer x = is_stalled transfer.end && ((transfer.moved == 0) && option_map_or (λ clears. clears == s.clears) x.stalled_at false)
+-- a transfer that ended behind a stall, by the host: nothing moved, and the halt was ended as often before it was submitted as before the transfer that got the stall
+abbrev pub is_behind_stall : ℕ → RecordedTransfer → RecordedEndpoint → Bool
+is_behind_stall clears transfer x = is_stalled transfer.end && ((transfer.moved == 0) && option_map_or (λ stalled_at. stalled_at == clears) x.stalled_at false)
 
 -- how many bytes of a read weren't recorded, and whether one was too long
 abbrev pub bytes_lost : RecordedTransfer → ℕ
@@ -83,41 +94,57 @@ abbrev pub reads_too_long : RecordedTransfer → ℕ
 reads_too_long transfer = if is_in transfer.ep && is_too_long transfer.end then 1 else 0
 
 -- a transfer's answers, as many as there is room for; all are counted
-abbrev pub with_answers : ℕ → RecordedSubmission → RecordedTransfer → RecordedEndpoint → RecordedEndpoint
-with_answers size s transfer x = record x {
-  stalled_at = if is_stalled transfer.end then Some s.clears else x.stalled_at;
-  answers = x.answers ++ take (longest_script - length x.answers) (answers_of size transfer);
+abbrev pub with_answers : ℕ → ℕ → RecordedTransfer → RecordedEndpoint → RecordedEndpoint
+with_answers size clears transfer x = record x {
+  stalled_at = if is_stalled transfer.end then Some clears else x.stalled_at;
+  answers = x.answers ++ take (longest_script - length x.answers) (recorded_answers size transfer);
   count = counted x.count (length (answers_of size transfer));
   lost = counted x.lost (bytes_lost transfer);
   too_long = counted x.too_long (reads_too_long transfer);
 }
 
+-- the answers of a read, so many, are to be put behind the others: they wait for the reads that were withdrawn here, and for what others had taken
+abbrev pub with_places : List TakenCount → ℕ → RecordedEndpoint → RecordedEndpoint
+with_places taken count x =
+    if not (is_in x.info.address) || ((count == 0) || nat_le longest_script x.count) then x
+    else record x { waits = with_waits x.count (record { ep = x.info.address; count = x.withdrawn }) taken x.waits }
+
+-- the packets that were taken, or that a read without an answer was withdrawn
+abbrev pub with_counts : ℕ → RecordedTransfer → ℕ → RecordedEndpoint → RecordedEndpoint
+with_counts size transfer count x =
+    if is_in x.info.address then (if is_withdrawn transfer.end && (count == 0) then record x { withdrawn = counted x.withdrawn 1 } else x)
+    else record x { acknowledged = counted x.acknowledged (packets_acknowledged size transfer) }
+
+-- a transfer's answers in their turn, perhaps none
+abbrev pub with_turn : List TakenCount → ℕ → RecordedTransfer → RecordedEndpoint → RecordedEndpoint
+with_turn taken clears transfer x =
+    with_counts x.info.packet_size transfer (length (answers_of x.info.packet_size transfer))
+    (with_answers x.info.packet_size clears transfer (with_places taken (length (answers_of x.info.packet_size transfer)) x))
+
 -- a transfer ended
-unfoldable pub with_transfer : ℕ → RecordedSubmission → RecordedTransfer → RecordedEndpoint → RecordedEndpoint
-with_transfer size s transfer x =
+unfoldable pub with_transfer : List TakenCount → ℕ → RecordedTransfer → RecordedEndpoint → RecordedEndpoint
+with_transfer taken clears transfer x =
     if is_too_large transfer then record x { left_out = counted x.left_out 1 }
-    else if is_behind_stall s transfer x then x
-    else with_answers size s transfer x
+    else if is_behind_stall clears transfer x then x
+    else with_turn taken clears transfer x
 
--- an event of a transfer of this endpoint; of a callback whose submission wasn't recorded the length and the flags are its own
-abbrev pub with_own_by : RecordedType → EndpointInfo → RecordedEvent → RecordedEndpoint → RecordedEndpoint
-with_own_by Submission info event x = record x { waiting = with_value event.id (submitted event x) x.waiting }
-with_own_by Callback info event x =
-    with_transfer info.packet_size (unwrap_or (value_at event.id x.waiting) (submitted event x)) (transfer_of info (unwrap_or (value_at event.id x.waiting) (submitted event x)) event)
-    (record x { waiting = without event.id x.waiting })
-with_own_by SubmissionError info event x = record x { waiting = without event.id x.waiting }
+-- a transfer ended that was submitted so
+abbrev pub with_callback : List TakenCount → RecordedSubmission → RecordedEvent → RecordedEndpoint → RecordedEndpoint
+with_callback taken s event x = with_transfer taken s.clears (transfer_of x.info s event) x
 
--- an event of the device
-unfoldable pub with_event : EndpointInfo → RecordedEvent → RecordedEndpoint → RecordedEndpoint
-with_event info event x =
-    if ends_halt_by event.event_type info event.setup then record x { clears = counted x.clears 1 }
-    else if is_own info event then with_own_by event.event_type info event x
+-- an event of a transfer of this endpoint; of a callback whose submission wasn't recorded the length, the flags and the bytes are its own
+abbrev pub with_own_by : RecordedType → List TakenCount → RecordedEvent → RecordedEndpoint → RecordedEndpoint
+with_own_by Submission taken event x = record x { waiting = with_value event.id (submitted event x) x.waiting }
+with_own_by Callback taken event x = with_callback taken (unwrap_or (value_at event.id x.waiting) (submitted event x)) event (record x { waiting = without event.id x.waiting })
+with_own_by SubmissionError taken event x = record x { waiting = without event.id x.waiting }
+
+-- an event of the device, before which so much was taken
+unfoldable pub with_event : List TakenCount → RecordedEvent → RecordedEndpoint → RecordedEndpoint
+with_event taken event x =
+    if ends_halt_by event.event_type x.info event.setup then record x { clears = counted x.clears 1 }
+    else if is_scripted x.info && is_own x.info event then with_own_by event.event_type taken event x
     else x
 
 -- nothing happened yet
-abbrev pub no_answers : ℕ → RecordedEndpoint
-no_answers ep = record { ep = ep; waiting = []; clears = 0; stalled_at = None; answers = []; count = 0; lost = 0; too_long = 0; left_out = 0 }
-
--- what an endpoint answered
-abbrev pub endpoint_of : List RecordedEvent → EndpointInfo → RecordedEndpoint
-endpoint_of events info = after (with_event info) (no_answers info.address) events
+abbrev pub no_answers : EndpointInfo → RecordedEndpoint
+no_answers info = record { info = info; waiting = []; clears = 0; stalled_at = None; answers = []; count = 0; acknowledged = 0; withdrawn = 0; waits = no_waits; lost = 0; too_long = 0; left_out = 0 }

@@ -1,6 +1,7 @@
 -- What is written of an event, and of a file of them, is read back; and a driver that asks as the recorded one did is told what it was told.
-use Rattle.std.specs.Prelude.{◌≡◌, ℕ, ◌+◌, ◌-◌, ◌%◌, ◌^◌, ◌<◌, ◌≤◌, ◌⊎◌, Bool, true, false, List, [], length, drop, map, Option, Some, None, Ok}
-use Rattle.std.specs.List.{AllByRecursion}
+use Rattle.std.specs.Prelude.{◌≡◌, ℕ, ◌+◌, ◌-◌, ◌%◌, ◌^◌, ◌<◌, ◌≤◌, ◌⊎◌, ◌==◌, Bool, true, false, List, [], ◌∷◌, ◌++◌, length, take, drop, map, Option, Some, None, Ok, if◌then◌else◌}
+use Rattle.std.specs.List.{AllByRecursion, flat_map}
+use Rattle.std.specs.Option.{option_to_list, unwrap_or}
 use Rattle.usb_model.specs.declared.request.Body.TheVariants.{In, Out}
 use Rattle.usb_model.specs.declared.request.Request.{Request}
 use Rattle.usb_model.specs.declared.request.Kind.{Kind}
@@ -9,7 +10,7 @@ use Rattle.usb_model.specs.declared.outcome.Outcome.{Outcome}
 use Rattle.usb_model.specs.Requests.{is_short_not_ok, adds_zero_packet}
 use Rattle.usb_model.specs.Setup.{is_in}
 use Rattle.usb_model.specs.Endpoint.{bytes_read}
-use Rattle.usb_model.specs.Endpoint.Packets.{Ends, count_of, outcome}
+use Rattle.usb_model.specs.Endpoint.Packets.{Ends, count_of, outcome, packets_by}
 use Rattle.usb_model.specs.Endpoint.Status.{told_status}
 use Rattle.trace_capture.specs.declared.errno.Errno.{Errno}
 use Rattle.trace_capture.specs.declared.errno.Errno.TheVariants.{Success, Pipe, Protocol, Overflow, RemoteIo}
@@ -19,15 +20,22 @@ use Rattle.trace_capture.specs.declared.event.EventType.{EventType}
 use Rattle.trace_capture.specs.declared.event.EventType.TheVariants as written
 use Rattle.trace_capture.specs.Event.{errno_number, event_bytes, file_bytes, flags_number, id_number}
 use Rattle.trace_capture.specs.Transfer.{errno_of}
+use Rattle.trace_recorded.specs.declared.answer.RecordedAnswer.{RecordedAnswer}
+use Rattle.trace_recorded.specs.declared.answer.RecordedAnswer.TheVariants.{Given, Taken}
+use Rattle.trace_recorded.specs.declared.control_lines.ControlLines.{ControlLines}
+use Rattle.trace_recorded.specs.declared.request.AnsweredRequest.{AnsweredRequest}
 use Rattle.trace_recorded.specs.declared.transfer.RecordedTransfer.{RecordedTransfer}
 use Rattle.trace_recorded.specs.declared.event.RecordedEvent.{RecordedEvent}
 use Rattle.trace_recorded.specs.declared.event.RecordedType.{RecordedType}
 use Rattle.trace_recorded.specs.declared.event.RecordedType.TheVariants.{Submission, Callback}
 use Rattle.trace_recorded.specs.declared.event.EventHeader.TheVariants.{Mapped}
 use Rattle.trace_recorded.specs.declared.number.Endianness.TheVariants.{Little}
-use Rattle.trace_recorded.specs.Answers.{answers_of, end_of, recorded_bytes}
+use Rattle.trace_recorded.specs.Answers.{answers_of, end_of, last_written, packets_acknowledged, recorded_bytes}
 use Rattle.trace_recorded.specs.Events.{event_of}
 use Rattle.trace_recorded.specs.Files.{recording}
+use Rattle.trace_recorded.specs.Requests.{control_lines, key_of}
+use Rattle.trace_recorded.specs.Tables.{value_at}
+use Rattle.trace_recorded.specs.Written.{recorded_answers, response_of}
 
 -- setup data are of a control transfer, and each field has room
 abbrev pub SetupFits : Kind → Option ControlSetup → Type 0
@@ -126,3 +134,29 @@ WritesAreToldAgain =
     → length bytes ≡ x.asked → adds_zero_packet request ≡ x.zero_packet
     → HasStatus x errno → CanWrite errno size x.asked x.moved
     → IsToldAgain request size x errno []
+
+-- the answers that are told with what was written are those of the transfer
+abbrev pub AnswersAreThose : Type 0
+AnswersAreThose = (size : ℕ) (x : RecordedTransfer) → map response_of (recorded_answers size x) ≡ answers_of size x
+
+-- a packet that was taken, and recorded to its end
+abbrev pub is_taken : List ℕ → RecordedAnswer
+is_taken packet = Taken (record { bytes = packet; is_whole = true })
+
+-- of a write whose bytes were all recorded, the packets are the first of those that a request for the same bytes sends, as many as were acknowledged
+abbrev pub PacketsAreWritten : Type 0
+PacketsAreWritten =
+    (request : Request) (size : ℕ) (x : RecordedTransfer) → is_in x.ep ≡ false → request.body ≡ Out x.bytes → length x.bytes ≡ x.asked → adds_zero_packet request ≡ x.zero_packet
+    → recorded_answers size x ≡ map is_taken (take (packets_acknowledged size x) (packets_by request size (Out x.bytes))) ++ map Given (option_to_list (last_written x.end))
+
+-- the answers of the line of a request
+abbrev pub line_of : ℕ → ControlLines → List RecordedAnswer
+line_of key lines = unwrap_or (value_at key lines.answers) []
+
+-- an answer, where it is to such a request
+abbrev pub answer_for : ℕ → AnsweredRequest → List RecordedAnswer
+answer_for key request = if key == key_of request.setup then request.answer ∷ [] else []
+
+-- the line of a request has the answers to such requests, and no others, in the order of their ends: so the k-th such request gets the k-th recorded answer
+abbrev pub LinesHaveTheAnswers : Type 0
+LinesHaveTheAnswers = (key : ℕ) (answered : List AnsweredRequest) → line_of key (control_lines answered) ≡ flat_map (answer_for key) answered

@@ -1,4 +1,4 @@
--- The lines of the text that is made of a recording.
+-- Lines of the text that is made of a recording: what is left out or unsaid, and scripts.
 use Rattle.std.specs.Prelude.{ℕ, zero, suc, ◌+◌, ◌/◌, ◌%◌, ◌==◌, nat_lt, Bool, true, false, List, [], ◌∷◌, ◌++◌, length, codes, count_by, Result, Ok, Err, if◌then◌else◌}
 use Rattle.std.specs.Fmt.{decimal}
 use Rattle.std.specs.List.{flat_map}
@@ -7,12 +7,15 @@ use Rattle.usb_model.specs.declared.response.Response.{Response}
 use Rattle.usb_model.specs.declared.response.Response.TheVariants.{Data, Ack, Nak, Stall, Broken}
 use Rattle.usb_model.specs.Limits.{longest_script, most_bytes}
 use Rattle.usb_model.specs.Text.{hex_byte}
+use Rattle.trace_recorded.specs.declared.answer.RecordedAnswer.{RecordedAnswer}
+use Rattle.trace_recorded.specs.declared.answer.RecordedAnswer.TheVariants.{Given, Taken}
+use Rattle.trace_recorded.specs.declared.answer.WrittenBytes.{WrittenBytes}
 use Rattle.trace_recorded.specs.declared.endpoint.RecordedEndpoint.{RecordedEndpoint}
-use Rattle.trace_recorded.specs.declared.device.RecordedDevice.{RecordedDevice}
 use Rattle.trace_recorded.specs.declared.left_out.LeftOut.{LeftOut}
 use Rattle.trace_recorded.specs.declared.left_out.LeftOut.TheVariants.{NoConfiguration, Refused, Hub, NoAnswers, FifthDevice}
 use Rattle.trace_recorded.specs.declared.note.EndpointNote.{EndpointNote}
-use Rattle.trace_recorded.specs.declared.note.EndpointNote.TheVariants.{Lost, TooLong, TooLarge, TooMany, Others}
+use Rattle.trace_recorded.specs.declared.note.EndpointNote.TheVariants.{Lost, TooLong, TooLarge, Requests, TooMany, Others}
+use Rattle.trace_recorded.specs.Requests.{most_data}
 
 -- why a device is left out
 abbrev pub left_out_text : LeftOut → List ℕ
@@ -31,6 +34,7 @@ abbrev pub note_text : EndpointNote → List ℕ
 note_text (Lost n) = decimal n ++ codes " bytes were not recorded; they are 00 here"
 note_text (TooLong n) = decimal n ++ codes " packets were too long; their bytes are 00 here"
 note_text (TooLarge n) = decimal n ++ (codes " transfers of more than " ++ (decimal most_bytes ++ codes " bytes are left out"))
+note_text (Requests n) = decimal n ++ (codes " requests of more than " ++ (decimal most_data ++ codes " bytes are left out"))
 note_text (TooMany n) = codes "the first " ++ (decimal longest_script ++ (codes " of " ++ (decimal n ++ codes " answers")))
 note_text (Others n) = decimal n ++ codes " transfers are left out: not a bulk or interrupt endpoint of this configuration"
 
@@ -39,6 +43,7 @@ abbrev pub is_due : EndpointNote → Bool
 is_due (Lost n) = nat_lt 0 n
 is_due (TooLong n) = nat_lt 0 n
 is_due (TooLarge n) = nat_lt 0 n
+is_due (Requests n) = nat_lt 0 n
 is_due (TooMany n) = nat_lt longest_script n
 is_due (Others n) = nat_lt 0 n
 
@@ -47,7 +52,7 @@ note_line ep note = if is_due note then codes "# ep " ++ (hex_byte ep ++ (codes 
 
 -- the notes of an endpoint
 abbrev pub endpoint_notes : RecordedEndpoint → List ℕ
-endpoint_notes x = note_line x.ep (Lost x.lost) ++ (note_line x.ep (TooLong x.too_long) ++ (note_line x.ep (TooLarge x.left_out) ++ note_line x.ep (TooMany x.count)))
+endpoint_notes x = note_line x.info.address (Lost x.lost) ++ (note_line x.info.address (TooLong x.too_long) ++ (note_line x.info.address (TooLarge x.left_out) ++ note_line x.info.address (TooMany x.count)))
 
 -- the note of transfers of an endpoint without a script
 abbrev pub other_note : List ℕ → ℕ → List ℕ
@@ -59,14 +64,28 @@ other_notes others zero = []
 other_notes others (suc ep) = other_notes others ep ++ other_note others ep
 
 -- an answer as a script has it
-abbrev pub answer_text : Response → List ℕ
-answer_text (Data bytes) = codes "d:" ++ encode_lower bytes
-answer_text Ack = codes "a"
-answer_text Nak = codes "n"
-answer_text Stall = codes "s"
-answer_text Broken = codes "b"
+abbrev pub response_text : Response → List ℕ
+response_text (Data bytes) = codes "d:" ++ encode_lower bytes
+response_text Ack = codes "a"
+response_text Nak = codes "n"
+response_text Stall = codes "s"
+response_text Broken = codes "b"
 
-abbrev pub answers_text : List Response → List ℕ
+-- bytes that were taken: all, or those with which they begin, or none that are known
+abbrev pub expected_text : List ℕ → List ℕ
+expected_text bytes = codes "a:" ++ encode_lower bytes
+
+abbrev pub taken_text : WrittenBytes → List ℕ
+taken_text written =
+    if written.is_whole then expected_text written.bytes
+    else if length written.bytes == 0 then codes "a"
+    else expected_text written.bytes ++ codes "*"
+
+abbrev pub answer_text : RecordedAnswer → List ℕ
+answer_text (Given response) = response_text response
+answer_text (Taken written) = taken_text written
+
+abbrev pub answers_text : List RecordedAnswer → List ℕ
 answers_text answers = flat_map (λ answer. codes " " ++ answer_text answer) answers
 
 -- the line of a script
@@ -74,25 +93,8 @@ abbrev pub script_head : ℕ → ℕ → List ℕ
 script_head number ep = codes "script " ++ (decimal number ++ (codes " " ++ hex_byte ep))
 
 unfoldable pub script_text : ℕ → RecordedEndpoint → List ℕ
-script_text number x = script_head number x.ep ++ (answers_text x.answers ++ codes "\n")
+script_text number x = script_head number x.info.address ++ (answers_text x.answers ++ codes "\n")
 
 -- where it has answers
 abbrev pub script_line : ℕ → RecordedEndpoint → List ℕ
 script_line number x = if length x.answers == 0 then [] else script_text number x
-
--- the line that says which recorded device it was
-abbrev pub origin_line : ℕ → ℕ → List ℕ
-origin_line number key = codes "# device " ++ (decimal number ++ (codes " was bus " ++ (decimal (key / 256) ++ (codes " device " ++ (decimal (key % 256) ++ codes "\n")))))
-
--- a device's own line
-abbrev pub device_line : ℕ → List ℕ → List ℕ
-device_line number descriptor = (codes "device " ++ (decimal number ++ codes " ")) ++ (encode_lower descriptor ++ codes "\n")
-
--- the lines of a device that is kept, under its number
-unfoldable pub device_text : ℕ → ℕ → RecordedDevice → List ℕ
-device_text number key device =
-    origin_line number key
-    ++ (flat_map endpoint_notes device.endpoints
-    ++ (other_notes device.others 256
-    ++ (device_line number device.descriptor
-    ++ flat_map (script_line number) device.endpoints)))

@@ -5,13 +5,15 @@ use Rattle.trace_recorded.specs.declared.device.RecordedDevice.{RecordedDevice}
 use Rattle.trace_recorded.specs.declared.event.RecordedEvent.{RecordedEvent}
 use Rattle.trace_recorded.specs.declared.left_out.LeftOut.{LeftOut}
 use Rattle.trace_recorded.specs.declared.left_out.LeftOut.TheVariants.{FifthDevice}
+use Rattle.trace_recorded.specs.declared.reader.TextReader.{TextReader}
 use Rattle.trace_recorded.specs.declared.recording.Recording.{Recording}
 use Rattle.trace_recorded.specs.declared.scenario.Listing.{Listing}
 use Rattle.trace_recorded.specs.declared.scenario.RecordedScenario.{RecordedScenario}
 use Rattle.trace_recorded.specs.Devices.{by_device, device_of}
 use Rattle.trace_recorded.specs.Files.{recording}
 use Rattle.trace_recorded.specs.Folds.{after}
-use Rattle.trace_recorded.specs.Lines.{device_text, left_out_line}
+use Rattle.trace_recorded.specs.DeviceText.{device_text}
+use Rattle.trace_recorded.specs.Lines.{left_out_line}
 
 -- a device is left out, for this reason
 abbrev pub with_left_out : ℕ → LeftOut → Listing → Listing
@@ -19,7 +21,7 @@ with_left_out key why listing = record listing { left_out = listing.left_out ++ 
 
 -- a device is kept, under the next number
 abbrev pub with_kept : ℕ → RecordedDevice → Listing → Listing
-with_kept key device listing = record listing { kept = listing.kept ++ device_text listing.count key device; count = listing.count + 1 }
+with_kept key device listing = record listing { kept = listing.kept ++ device_text listing.reader listing.count key device; count = listing.count + 1 }
 
 -- a device more: a scenario has four at most
 abbrev pub with_device : ℕ → Result RecordedDevice LeftOut → Listing → Listing
@@ -27,14 +29,14 @@ with_device key (Err why) listing = with_left_out key why listing
 with_device key (Ok device) listing = if nat_lt listing.count 4 then with_kept key device listing else with_left_out key FifthDevice listing
 
 unfoldable pub with_found : ℕ × List RecordedEvent → Listing → Listing
-with_found found listing = with_device found.0 (device_of found.1) listing
+with_found found listing = with_device found.0 (device_of listing.reader found.1) listing
 
-abbrev pub no_device : Listing
-no_device = record { left_out = []; kept = []; count = 0 }
+abbrev pub no_device : TextReader → Listing
+no_device reader = record { reader = reader; left_out = []; kept = []; count = 0 }
 
 -- the lines of all devices
-abbrev pub listing_of : List RecordedEvent → Listing
-listing_of events = after with_found no_device (by_device events)
+abbrev pub listing_of : TextReader → List RecordedEvent → Listing
+listing_of reader events = after with_found (no_device reader) (by_device events)
 
 -- the line that says that something is missing at the end
 abbrev pub cut_line : Bool → List ℕ
@@ -44,10 +46,10 @@ cut_line is_cut = if is_cut then codes "# the capture ends amid a record\n" else
 abbrev pub scenario_by : Bool → Listing → RecordedScenario
 scenario_by is_cut listing = record { text = cut_line is_cut ++ listing.left_out ++ listing.kept; has_devices = nat_lt 0 listing.count }
 
-abbrev pub scenario_from : Result Recording CaptureFault → Result RecordedScenario CaptureFault
-scenario_from (Err fault) = Err fault
-scenario_from (Ok recording) = Ok (scenario_by recording.is_cut (listing_of recording.events))
+abbrev pub scenario_from : TextReader → Result Recording CaptureFault → Result RecordedScenario CaptureFault
+scenario_from reader (Err fault) = Err fault
+scenario_from reader (Ok recording) = Ok (scenario_by recording.is_cut (listing_of reader recording.events))
 
--- the text of a capture's devices, as the lines `device` and `script` of a scenario, or why none is made
-unfoldable pub recorded_scenario : List ℕ → Result RecordedScenario CaptureFault
-recorded_scenario capture = scenario_from (recording capture)
+-- the text of a capture's devices, for one who reads it, or why none is made
+unfoldable pub recorded_scenario : TextReader → List ℕ → Result RecordedScenario CaptureFault
+recorded_scenario reader capture = scenario_from reader (recording capture)

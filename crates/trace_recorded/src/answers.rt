@@ -1,10 +1,13 @@
 //! The answers that a recorded transfer stands for.
 
 ghost use Rattle.std.specs.Prelude.{◌≡◌, ◌<◌, IfOk, length, replicate};
+ghost use Rattle.std.specs.Option.{option_to_list};
 ghost use Rattle.usb_model.specs.Endpoint.Packets.{full_packets};
 ghost use Rattle.trace_recorded.specs.Answers.{answers_in, answers_of, answers_out, last_read, last_reads, last_writes, last_written, packets_acknowledged, packets_read, recorded_bytes, room_behind};
+ghost use Rattle.trace_recorded.specs.Written.{recorded_answers};
 
-use crate::packets::{acknowledgements, packets, with_last};
+use crate::answer::RecordedAnswer;
+use crate::packets::{acknowledgements, given, packets, with_last, written_packets};
 use crate::transfer::{RecordedEnd, RecordedTransfer};
 use std::alloc::{AllocError, Global};
 use usb_model::{Bytes, Response, Script, Sequence};
@@ -25,6 +28,26 @@ pub fn answers_of(
     } else {
         answers_out(alloc, usize::from(size), transfer)
     }
+}
+
+/// The same, each with what was written for it. Takes memory for as many bytes more as were written.
+#[tactic(auto, unfolding(crate::specs::Written::recorded_answers))]
+pub(crate) fn recorded_answers(
+    alloc: Global,
+    size: u16,
+    transfer: &RecordedTransfer,
+) -> Result<Sequence<RecordedAnswer>, AllocError>
+    requires { 0 < size }
+    ensures { IfOk result (λ answers. answers ≡ recorded_answers size transfer.now) }
+{
+    let size = usize::from(size);
+    if transfer.ep.is_in() {
+        return given(alloc, answers_in(alloc, size, transfer)?);
+    }
+    let count = transfer.packets_acknowledged(size);
+    let asked = transfer.asked as usize;
+    let front = written_packets(alloc, size, count, asked, transfer.bytes.as_slice())?;
+    front.append(given(alloc, transfer.script_written(alloc)?)?)
 }
 
 /// How many they are. Takes no memory.
@@ -101,7 +124,7 @@ impl RecordedEnd {
     {
         match self {
             RecordedEnd::Stalled | RecordedEnd::Failed | RecordedEnd::TooLong => 1,
-            RecordedEnd::Done | RecordedEnd::Cut => 0,
+            RecordedEnd::Done | RecordedEnd::Withdrawn | RecordedEnd::Cut => 0,
         }
     }
 
@@ -111,7 +134,7 @@ impl RecordedEnd {
     {
         match self {
             RecordedEnd::Stalled | RecordedEnd::Failed => 1,
-            RecordedEnd::Done | RecordedEnd::TooLong | RecordedEnd::Cut => 0,
+            _ => 0,
         }
     }
 }
@@ -143,7 +166,7 @@ impl RecordedTransfer {
                 let packet = zeros(alloc, self.room_behind(size).min(size) + 1)?;
                 Ok(Some(Response::Data(packet)))
             }
-            RecordedEnd::Done | RecordedEnd::Cut => Ok(None),
+            RecordedEnd::Done | RecordedEnd::Withdrawn | RecordedEnd::Cut => Ok(None),
         }
     }
 
@@ -157,7 +180,7 @@ impl RecordedTransfer {
     }
 
     /// How many of its packets were acknowledged.
-    fn packets_acknowledged(&self, size: usize) -> usize
+    pub(crate) fn packets_acknowledged(&self, size: usize) -> usize
         requires { 0 < size }
         ensures { result ≡ packets_acknowledged size self.now }
     {
@@ -168,6 +191,13 @@ impl RecordedTransfer {
         }
     }
 
+    /// The same, as answers.
+    fn script_written(&self, alloc: Global) -> Result<Script, AllocError>
+        ensures { IfOk result (λ answers. answers ≡ option_to_list (last_written self.now.end)) }
+    {
+        with_last(Sequence::new(alloc), self.last_written())
+    }
+
     /// What ended it instead, if anything did.
     fn last_written(&self) -> Option<Response>
         ensures { result ≡ last_written self.now.end }
@@ -175,7 +205,7 @@ impl RecordedTransfer {
         match self.end {
             RecordedEnd::Stalled => Some(Response::Stall),
             RecordedEnd::Failed => Some(Response::Broken),
-            RecordedEnd::Done | RecordedEnd::TooLong | RecordedEnd::Cut => None,
+            _ => None,
         }
     }
 }

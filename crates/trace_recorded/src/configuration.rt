@@ -4,19 +4,15 @@ ghost use Rattle.std.specs.Prelude.{◌≡◌, ◌++◌, ◌∷◌, [], IfOk, sl
 ghost use Rattle.std.specs.List.{find};
 ghost use Rattle.std.specs.Option.{option_copied};
 ghost use Rattle.trace_capture.specs.Control.{configuration_value, total_length};
-ghost use Rattle.trace_recorded.specs.Configurations.{configuration_by, configuration_of, controls_of, is_complete, is_of, is_success, no_controls, reads_configuration, sets_configuration, with_answer, with_control, with_end, with_submission};
+ghost use Rattle.trace_recorded.specs.Configurations.{configuration_by, is_complete, is_of, no_configurations, reads_configuration, sets_configuration, with_answer};
 
-use crate::event::{RecordedEvent, RecordedType};
-use crate::table::ByNumber;
 use std::alloc::{AllocError, Global};
 use trace_capture::ControlSetup;
-use usb_model::{Bytes, Kind, Sequence};
+use usb_model::{Bytes, Sequence};
 
-/// What a device's control transfers say of its configurations.
+/// The configurations of a device, as far as its requests say.
 #[derive(Drop)]
-pub(crate) struct Controls {
-    /// What those in flight are to do, by their ids.
-    waiting: ByNumber<ControlSetup>,
+pub(crate) struct Configurations {
     /// The configuration descriptors that were read, in order.
     found: Sequence<Bytes>,
     /// The value of the configuration that was set last.
@@ -72,39 +68,31 @@ fn is_of(configured: Option<u8>, descriptor: &Bytes) -> bool
 }
 
 /// A copy of the first bytes, as many as there are.
-fn front(alloc: Global, bytes: &[u8], count: usize) -> Result<Bytes, AllocError>
+pub(crate) fn front(alloc: Global, bytes: &[u8], count: usize) -> Result<Bytes, AllocError>
     ensures { IfOk result (λ front. front ≡ take count bytes.now) }
 {
     let front = bytes.get(..count).unwrap_or(bytes);
     Ok(Sequence::from_vec(Vec::from_slice(alloc, front)?))
 }
 
-impl RecordedEvent {
-    /// Whether it says that a transfer succeeded.
-    fn is_success(&self) -> bool
-        ensures { result ≡ is_success self.now }
-    {
-        match self.event_type {
-            RecordedType::Callback => self.status == 0,
-            RecordedType::Submission | RecordedType::SubmissionError => false,
-        }
-    }
-}
-
-impl Controls {
+impl Configurations {
     /// Nothing is read yet.
-    fn new(alloc: Global) -> Controls
-        ensures { result ≡ no_controls }
+    pub(crate) fn new(alloc: Global) -> Configurations
+        ensures { result ≡ no_configurations }
     {
-        Controls {
-            waiting: ByNumber::new(alloc),
+        Configurations {
             found: Sequence::new(alloc),
             configured: None,
         }
     }
 
     /// A request succeeded, with these bytes.
-    fn answer(&mut self, alloc: Global, setup: ControlSetup, bytes: &[u8]) -> Result<(), AllocError>
+    pub(crate) fn answer(
+        &mut self,
+        alloc: Global,
+        setup: ControlSetup,
+        bytes: &[u8],
+    ) -> Result<(), AllocError>
         ensures { IfOk result (λ _. self.new ≡ with_answer setup bytes.now self.old) }
     {
         if reads_configuration(setup) && is_complete(bytes) {
@@ -113,53 +101,6 @@ impl Controls {
             self.configured = Some((setup.value % 256) as u8);
         }
         Ok(())
-    }
-
-    /// A transfer was submitted.
-    fn submit(&mut self, setup: Option<ControlSetup>, id: u64) -> Result<(), AllocError>
-        ensures { IfOk result (λ _. self.new ≡ with_submission setup id self.old) }
-    {
-        match setup {
-            Some(setup) => self.waiting.put(id, setup),
-            None => {
-                let _ = self.waiting.take(id);
-                Ok(())
-            }
-        }
-    }
-
-    /// A transfer ended that was to do this.
-    fn end(
-        &mut self,
-        alloc: Global,
-        setup: Option<ControlSetup>,
-        event: &RecordedEvent,
-    ) -> Result<(), AllocError>
-        ensures { IfOk result (λ _. self.new ≡ with_end setup event.now self.old) }
-    {
-        match setup {
-            Some(setup) if event.is_success() => {
-                self.answer(alloc, setup, event.bytes.as_slice())
-            }
-            _ => Ok(()),
-        }
-    }
-
-    /// One event more.
-    #[tactic(auto, unfolding(crate::specs::Configurations::with_control))]
-    fn read(&mut self, alloc: Global, event: &RecordedEvent) -> Result<(), AllocError>
-        ensures { IfOk result (λ _. self.new ≡ with_control event.now self.old) }
-    {
-        if !event.kind.is_same(Kind::Control) {
-            return Ok(());
-        }
-        match event.event_type {
-            RecordedType::Submission => self.submit(event.setup, event.id),
-            RecordedType::Callback | RecordedType::SubmissionError => {
-                let setup = self.waiting.take(event.id);
-                self.end(alloc, setup, event)
-            }
-        }
     }
 
     /// The first descriptor of the configuration that was set last.
@@ -174,7 +115,7 @@ impl Controls {
     }
 
     /// The same, or else the first that was read.
-    fn configuration(&self) -> Option<&Bytes>
+    fn chosen(&self) -> Option<&Bytes>
         ensures { option_copied result ≡ configuration_by self.now }
     {
         match self.of_configured() {
@@ -182,29 +123,14 @@ impl Controls {
             None => self.found.as_slice().first(),
         }
     }
-}
 
-/// What the control transfers among events say.
-fn read_controls(alloc: Global, events: &[RecordedEvent]) -> Result<Controls, AllocError>
-    ensures { IfOk result (λ controls. controls ≡ controls_of events.now) }
-{
-    let mut controls = Controls::new(alloc);
-    for event in events {
-        controls.read(alloc, event)?;
-    }
-    Ok(controls)
-}
-
-/// The descriptor of the configuration in which a device with these events was used, where it was recorded.
-#[tactic(auto, unfolding(crate::specs::Configurations::configuration_of))]
-pub(crate) fn configuration_of(
-    alloc: Global,
-    events: &[RecordedEvent],
-) -> Result<Option<Bytes>, AllocError>
-    ensures { IfOk result (λ configuration. configuration ≡ configuration_of events.now) }
-{
-    match read_controls(alloc, events)?.configuration() {
-        Some(descriptor) => Ok(Some(front(alloc, descriptor.as_slice(), descriptor.len())?)),
-        None => Ok(None),
+    /// The descriptor of the configuration in which the device was used, where it was recorded.
+    pub(crate) fn configuration(&self, alloc: Global) -> Result<Option<Bytes>, AllocError>
+        ensures { IfOk result (λ configuration. configuration ≡ configuration_by self.now) }
+    {
+        match self.chosen() {
+            Some(descriptor) => Ok(Some(front(alloc, descriptor.as_slice(), descriptor.len())?)),
+            None => Ok(None),
+        }
     }
 }

@@ -1,13 +1,18 @@
 //! The devices of a recording.
 
 ghost use Rattle.std.specs.Prelude.{◌≡◌, IfOk};
-ghost use Rattle.trace_recorded.specs.Devices.{by_device, device_key, device_of, endpoints_of, has_answers, has_script, is_callback, is_other, is_scripted, others_of, with_answers_only, with_device_event, with_endpoint, with_other};
+ghost use Rattle.trace_recorded.specs.Devices.{by_device, device_key, device_of, device_with, has_answers, has_script, is_callback, is_other, is_told, others_of, with_answers_only, with_device_event, with_other};
 
-use crate::configuration::configuration_of;
-use crate::endpoint::{RecordedEndpoint, endpoint_of, is_own};
+use crate::control_lines::{ControlLines, control_lines};
+use crate::controls::{Controls, read_controls};
+use crate::endpoint::{RecordedEndpoint, is_own, is_scripted};
 use crate::event::{RecordedEvent, RecordedType};
 use crate::hub::is_hub;
+use crate::identity::DeviceIdentity;
 use crate::left_out::LeftOut;
+use crate::reader::TextReader;
+use crate::request::AnsweredRequests;
+use crate::session::session_of;
 use crate::table::ByNumber;
 use std::alloc::{AllocError, Global};
 use usb_descriptors::read_config;
@@ -18,6 +23,14 @@ use usb_model::{Bytes, EndpointInfo, Kind, Sequence};
 pub(crate) struct RecordedDevice {
     /// Its configuration descriptor, with those behind it.
     pub(crate) descriptor: Bytes,
+    /// Who it says that it is.
+    pub(crate) identity: DeviceIdentity,
+    /// Its answers to control requests.
+    pub(crate) controls: ControlLines,
+    /// How many bytes of these weren't recorded.
+    pub(crate) lost: u64,
+    /// How many control requests were too large for an answer.
+    pub(crate) left_out: u64,
     /// Its bulk and interrupt endpoints, in the order of the configuration.
     pub(crate) endpoints: Sequence<RecordedEndpoint>,
     /// The endpoint of each transfer that isn't of these, nor for control, in the order of their callbacks.
@@ -64,43 +77,6 @@ pub(crate) fn by_device(
         put_event(alloc, &mut devices, event)?;
     }
     Ok(devices)
-}
-
-/// Whether an endpoint's answers make a script.
-fn is_scripted(info: &EndpointInfo) -> bool
-    ensures { result ≡ is_scripted info.now }
-{
-    !info.kind.is_unsupported() && info.packet_size > 0
-}
-
-/// What the endpoints of a configuration answered.
-fn endpoints_of(
-    alloc: Global,
-    infos: &[EndpointInfo],
-    events: &[RecordedEvent],
-) -> Result<Sequence<RecordedEndpoint>, AllocError>
-    ensures { IfOk result (λ endpoints. endpoints ≡ endpoints_of infos.now events.now) }
-{
-    let mut endpoints = Sequence::new(alloc);
-    for info in infos {
-        push_endpoint(alloc, &mut endpoints, info, events)?;
-    }
-    Ok(endpoints)
-}
-
-/// What one of them answered, behind the others.
-fn push_endpoint(
-    alloc: Global,
-    endpoints: &mut Sequence<RecordedEndpoint>,
-    info: &EndpointInfo,
-    events: &[RecordedEvent],
-) -> Result<(), AllocError>
-    ensures { IfOk result (λ _. endpoints.new ≡ with_endpoint events.now info.now endpoints.old) }
-{
-    if is_scripted(info) {
-        endpoints.push(endpoint_of(alloc, info, events)?)?;
-    }
-    Ok(())
 }
 
 /// Whether an event is of a transfer of an endpoint with a script.
@@ -150,7 +126,7 @@ fn push_other(
 }
 
 impl RecordedDevice {
-    /// Whether something answered.
+    /// Whether a bulk or interrupt endpoint answered.
     fn has_answers(&self) -> bool
         ensures { result ≡ has_answers self.now.endpoints }
     {
@@ -160,11 +136,21 @@ impl RecordedDevice {
             .any(|endpoint| !endpoint.answers.is_empty())
     }
 
-    /// The device, where something answered.
-    fn with_answers(self) -> Result<RecordedDevice, LeftOut>
-        ensures { result ≡ with_answers_only self }
+    /// Whether something is said of what it answered.
+    fn is_told(&self, reader: TextReader) -> bool
+        ensures { result ≡ is_told reader self.now }
     {
-        if self.has_answers() {
+        match reader {
+            TextReader::Library => self.has_answers() || !self.controls.firsts.is_empty(),
+            TextReader::Scenario => self.has_answers(),
+        }
+    }
+
+    /// The device, where something answered.
+    fn with_answers(self, reader: TextReader) -> Result<RecordedDevice, LeftOut>
+        ensures { result ≡ with_answers_only reader self }
+    {
+        if self.is_told(reader) {
             Ok(self)
         } else {
             Err(LeftOut::NoAnswers)
@@ -172,15 +158,48 @@ impl RecordedDevice {
     }
 }
 
+/// What a device with this configuration answered.
+fn device_with(
+    alloc: Global,
+    descriptor: Bytes,
+    infos: &[EndpointInfo],
+    controls: Controls,
+    events: &[RecordedEvent],
+) -> Result<RecordedDevice, AllocError>
+    ensures { IfOk result (λ device. device ≡ device_with descriptor infos.now controls events.now) }
+{
+    let Controls {
+        identity,
+        requests,
+        ..
+    } = controls;
+    let AnsweredRequests {
+        answered,
+        lost,
+        left_out,
+    } = requests;
+    Ok(RecordedDevice {
+        descriptor,
+        identity,
+        controls: control_lines(alloc, answered)?,
+        lost,
+        left_out,
+        endpoints: session_of(alloc, infos, events)?.endpoints,
+        others: others_of(alloc, infos, events)?,
+    })
+}
+
 /// What a device with these events answered, or why it is left out.
 #[tactic(auto, unfolding(crate::specs::Devices::device_of))]
 pub(crate) fn device_of(
     alloc: Global,
+    reader: TextReader,
     events: &[RecordedEvent],
 ) -> Result<Result<RecordedDevice, LeftOut>, AllocError>
-    ensures { IfOk result (λ device. device ≡ device_of events.now) }
+    ensures { IfOk result (λ device. device ≡ device_of reader events.now) }
 {
-    let Some(descriptor) = configuration_of(alloc, events)? else {
+    let controls = read_controls(alloc, events)?;
+    let Some(descriptor) = controls.configurations.configuration(alloc)? else {
         return Ok(Err(LeftOut::NoConfiguration));
     };
     let Ok(config) = read_config(descriptor.as_slice()) else {
@@ -189,12 +208,6 @@ pub(crate) fn device_of(
     if is_hub(descriptor.as_slice()) {
         return Ok(Err(LeftOut::Hub));
     }
-    let endpoints = endpoints_of(alloc, config.endpoints(), events)?;
-    let others = others_of(alloc, config.endpoints(), events)?;
-    let device = RecordedDevice {
-        descriptor,
-        endpoints,
-        others,
-    };
-    Ok(device.with_answers())
+    let device = device_with(alloc, descriptor, config.endpoints(), controls, events)?;
+    Ok(device.with_answers(reader))
 }

@@ -2,35 +2,27 @@
 
 ghost use Rattle.std.specs.Prelude.{◌≡◌, ◌-◌, ◌<◌, ◌++◌, IfOk, length, take};
 ghost use Rattle.usb_model.specs.Limits.{longest_script};
-ghost use Rattle.trace_recorded.specs.Answers.{answers_of};
-ghost use Rattle.trace_recorded.specs.Endpoints.{bytes_lost, endpoint_of, is_behind_stall, is_own, is_stalled, is_too_large, is_too_long, no_answers, reads_too_long, submitted, transfer_of, with_answers, with_event, with_own_by, with_transfer};
+ghost use Rattle.trace_recorded.specs.Endpoints.{is_behind_stall, is_own, is_scripted, no_answers, submitted, with_answers, with_callback, with_counts, with_event, with_own_by, with_places, with_transfer, with_turn};
+ghost use Rattle.trace_recorded.specs.Written.{recorded_answers};
 
-use crate::answers::{answer_count, answers_of};
+use crate::answer::RecordedAnswer;
+use crate::answers::{answer_count, recorded_answers};
 use crate::event::{RecordedEvent, RecordedType};
 use crate::halt::submits_end;
+use crate::submission::{RecordedSubmission, copied};
 use crate::table::ByNumber;
-use crate::transfer::{RecordedEnd, RecordedTransfer};
+use crate::transfer::RecordedTransfer;
+use crate::waits::{TakenCount, Waits};
 use std::alloc::{AllocError, Global};
 use std::mem;
-use usb_model::limits::{LONGEST_SCRIPT, MOST_BYTES};
-use usb_model::{EndpointInfo, EpAddr, Script, Sequence};
-
-/// What is kept of a submission while its transfer is in flight.
-#[derive(Clone, Copy)]
-pub(crate) struct RecordedSubmission {
-    /// How many bytes were asked for.
-    length: u32,
-    /// The transfer flags.
-    flags: u32,
-    /// How often the endpoint's halt was ended before.
-    clears: u64,
-}
+use usb_model::limits::LONGEST_SCRIPT;
+use usb_model::{EndpointInfo, Sequence};
 
 /// What an endpoint answered, as far as its device's events were read. Counters stay at the largest number of 64 bits.
 #[derive(Drop)]
 pub(crate) struct RecordedEndpoint {
     /// The endpoint.
-    pub(crate) ep: EpAddr,
+    pub(crate) info: EndpointInfo,
     /// The submissions of transfers in flight, by their ids.
     waiting: ByNumber<RecordedSubmission>,
     /// How often its halt was ended.
@@ -38,15 +30,28 @@ pub(crate) struct RecordedEndpoint {
     /// How often it had been ended where the transfer was submitted that got the last stall.
     stalled_at: Option<u64>,
     /// Its first answers, as many as a script may have.
-    pub(crate) answers: Script,
+    pub(crate) answers: Sequence<RecordedAnswer>,
     /// How many there are.
     pub(crate) count: u64,
+    /// How many packets that were written were acknowledged.
+    pub(crate) acknowledged: u64,
+    /// How many reads the host made end before they had an answer.
+    withdrawn: u64,
+    /// Which of its answers wait for what.
+    pub(crate) waits: Waits,
     /// How many bytes that were read weren't recorded.
     pub(crate) lost: u64,
     /// How many packets were too long.
     pub(crate) too_long: u64,
     /// How many transfers were too large for a request.
     pub(crate) left_out: u64,
+}
+
+/// Whether an endpoint's answers make a script.
+pub(crate) fn is_scripted(info: &EndpointInfo) -> bool
+    ensures { result ≡ is_scripted info.now }
+{
+    !info.kind.is_unsupported() && info.packet_size > 0
 }
 
 /// Whether an event is of a transfer of this endpoint.
@@ -56,86 +61,21 @@ pub(crate) fn is_own(info: &EndpointInfo, event: &RecordedEvent) -> bool
     event.ep.address() == info.address.address() && event.kind.is_same(info.kind)
 }
 
-impl RecordedEnd {
-    /// Whether it is a stall.
-    fn is_stalled(self) -> bool
-        ensures { result ≡ is_stalled self }
-    {
-        matches!(self, RecordedEnd::Stalled)
-    }
-
-    /// Whether a packet was too long.
-    fn is_too_long(self) -> bool
-        ensures { result ≡ is_too_long self }
-    {
-        matches!(self, RecordedEnd::TooLong)
-    }
-}
-
-impl RecordedSubmission {
-    /// The transfer of a submission and its callback.
-    fn transfer(
-        self,
-        alloc: Global,
-        info: &EndpointInfo,
-        event: &RecordedEvent,
-    ) -> Result<RecordedTransfer, AllocError>
-        ensures { IfOk result (λ transfer. transfer ≡ transfer_of info.now self event.now) }
-    {
-        Ok(RecordedTransfer {
-            ep: info.address,
-            asked: self.length,
-            zero_packet: self.flags / 64 % 2 == 1,
-            moved: event.length,
-            end: RecordedEnd::of(event.status),
-            bytes: Sequence::from_vec(Vec::from_slice(alloc, event.bytes.as_slice())?),
-        })
-    }
-}
-
-impl RecordedTransfer {
-    /// Whether it is too large for a request.
-    fn is_too_large(&self) -> bool
-        ensures { result ≡ is_too_large self.now }
-    {
-        self.asked as usize > MOST_BYTES || self.moved as usize > MOST_BYTES
-    }
-
-    /// How many of the bytes that it read weren't recorded.
-    fn bytes_lost(&self) -> u64
-        ensures { result ≡ bytes_lost self.now }
-    {
-        if self.ep.is_in() {
-            (self.moved as u64).saturating_sub(self.bytes.len() as u64)
-        } else {
-            0
-        }
-    }
-
-    /// 1 where it read a packet that was too long.
-    fn reads_too_long(&self) -> u64
-        ensures { result ≡ reads_too_long self.now }
-    {
-        if self.ep.is_in() && self.end.is_too_long() {
-            1
-        } else {
-            0
-        }
-    }
-}
-
 impl RecordedEndpoint {
     /// Nothing happened yet.
-    fn new(alloc: Global, ep: EpAddr) -> RecordedEndpoint
-        ensures { result ≡ no_answers ep }
+    pub(crate) fn new(alloc: Global, info: EndpointInfo) -> RecordedEndpoint
+        ensures { result ≡ no_answers info }
     {
         RecordedEndpoint {
-            ep,
+            info,
             waiting: ByNumber::new(alloc),
             clears: 0,
             stalled_at: None,
             answers: Sequence::new(alloc),
             count: 0,
+            acknowledged: 0,
+            withdrawn: 0,
+            waits: Waits::new(alloc),
             lost: 0,
             too_long: 0,
             left_out: 0,
@@ -143,22 +83,27 @@ impl RecordedEndpoint {
     }
 
     /// What is kept of a submission.
-    fn submitted(&self, event: &RecordedEvent) -> RecordedSubmission
-        ensures { result ≡ submitted event.now self.now }
+    fn submitted(
+        &self,
+        alloc: Global,
+        event: &RecordedEvent,
+    ) -> Result<RecordedSubmission, AllocError>
+        ensures { IfOk result (λ s. s ≡ submitted event.now self.now) }
     {
-        RecordedSubmission {
+        Ok(RecordedSubmission {
             length: event.length,
             flags: event.flags,
+            bytes: copied(alloc, event.bytes.as_slice())?,
             clears: self.clears,
-        }
+        })
     }
 
-    /// Whether a transfer ended behind a stall, without an answer.
-    fn is_behind_stall(&self, submitted: RecordedSubmission, transfer: &RecordedTransfer) -> bool
-        ensures { result ≡ is_behind_stall submitted transfer.now self.now }
+    /// Whether a transfer ended behind a stall, without an answer, where the halt was ended so often before it was submitted.
+    fn is_behind_stall(&self, clears: u64, transfer: &RecordedTransfer) -> bool
+        ensures { result ≡ is_behind_stall clears transfer.now self.now }
     {
         let is_since = match self.stalled_at {
-            Some(clears) => clears == submitted.clears,
+            Some(stalled_at) => stalled_at == clears,
             None => false,
         };
         transfer.end.is_stalled() && transfer.moved == 0 && is_since
@@ -172,13 +117,13 @@ impl RecordedEndpoint {
         transfer: &RecordedTransfer,
     ) -> Result<(), AllocError>
         requires { 0 < size }
-        ensures { IfOk result (λ _. self.new ≡ record self.old { answers = self.old.answers ++ take (longest_script - length self.old.answers) (answers_of size transfer.now) }) }
+        ensures { IfOk result (λ _. self.new ≡ record self.old { answers = self.old.answers ++ take (longest_script - length self.old.answers) (recorded_answers size transfer.now) }) }
     {
         let room = LONGEST_SCRIPT.saturating_sub(self.answers.len());
         if room == 0 {
             return Ok(());
         }
-        let mut more = answers_of(alloc, size, transfer)?.into_vec();
+        let mut more = recorded_answers(alloc, size, transfer)?.into_vec();
         more.truncate(room);
         let answers = mem::replace(&mut self.answers, Sequence::new(alloc));
         self.answers = answers.append(Sequence::from_vec(more))?;
@@ -190,15 +135,15 @@ impl RecordedEndpoint {
         &mut self,
         alloc: Global,
         size: u16,
-        submitted: RecordedSubmission,
+        clears: u64,
         transfer: &RecordedTransfer,
     ) -> Result<(), AllocError>
         requires { 0 < size }
-        ensures { IfOk result (λ _. self.new ≡ with_answers size submitted transfer.now self.old) }
+        ensures { IfOk result (λ _. self.new ≡ with_answers size clears transfer.now self.old) }
     {
         self.push_answers(alloc, size, transfer)?;
         if transfer.end.is_stalled() {
-            self.stalled_at = Some(submitted.clears);
+            self.stalled_at = Some(clears);
         }
         self.count = self
             .count
@@ -208,45 +153,115 @@ impl RecordedEndpoint {
         Ok(())
     }
 
+    /// The answers of a read are to be put behind the others: they wait for what was taken so far.
+    fn wait(&mut self, taken: &[TakenCount], count: usize) -> Result<(), AllocError>
+        ensures { IfOk result (λ _. self.new ≡ with_places taken.now count self.old) }
+    {
+        if !self.info.address.is_in() || count == 0 || self.count >= LONGEST_SCRIPT as u64 {
+            return Ok(());
+        }
+        let (ep, place) = (self.info.address, self.count);
+        let own = TakenCount {
+            ep,
+            count: self.withdrawn,
+        };
+        self.waits.put_all(place, own, taken)
+    }
+
+    /// A transfer ended: its packets that were taken are counted, or that it was withdrawn.
+    fn count_ended(&mut self, size: u16, transfer: &RecordedTransfer, count: usize)
+        requires { 0 < size }
+        ensures { self.new ≡ with_counts size transfer.now count self.old }
+    {
+        if self.info.address.is_in() {
+            if transfer.end.is_withdrawn() && count == 0 {
+                self.withdrawn = self.withdrawn.saturating_add(1);
+            }
+        } else {
+            let acknowledged = transfer.packets_acknowledged(usize::from(size)) as u64;
+            self.acknowledged = self.acknowledged.saturating_add(acknowledged);
+        }
+    }
+
+    /// A transfer ended with answers of its own, perhaps none.
+    fn answer_in_turn(
+        &mut self,
+        alloc: Global,
+        taken: &[TakenCount],
+        clears: u64,
+        transfer: &RecordedTransfer,
+    ) -> Result<(), AllocError>
+        requires { 0 < self.old.info.packet_size }
+        ensures { IfOk result (λ _. self.new ≡ with_turn taken.now clears transfer.now self.old) }
+    {
+        let size = self.info.packet_size;
+        let count = answer_count(size, transfer);
+        self.wait(taken, count)?;
+        self.answer(alloc, size, clears, transfer)?;
+        self.count_ended(size, transfer, count);
+        Ok(())
+    }
+
     /// A transfer ended.
     #[tactic(auto, unfolding(crate::specs::Endpoints::with_transfer))]
     fn end(
         &mut self,
         alloc: Global,
-        size: u16,
-        submitted: RecordedSubmission,
+        taken: &[TakenCount],
+        clears: u64,
         transfer: &RecordedTransfer,
     ) -> Result<(), AllocError>
-        requires { 0 < size }
-        ensures { IfOk result (λ _. self.new ≡ with_transfer size submitted transfer.now self.old) }
+        requires { 0 < self.old.info.packet_size }
+        ensures { IfOk result (λ _. self.new ≡ with_transfer taken.now clears transfer.now self.old) }
     {
         if transfer.is_too_large() {
             self.left_out = self.left_out.saturating_add(1);
             return Ok(());
         }
-        if self.is_behind_stall(submitted, transfer) {
+        if self.is_behind_stall(clears, transfer) {
             return Ok(());
         }
-        self.answer(alloc, size, submitted, transfer)
+        self.answer_in_turn(alloc, taken, clears, transfer)
+    }
+
+    /// A transfer was called back.
+    fn call_back(
+        &mut self,
+        alloc: Global,
+        taken: &[TakenCount],
+        submitted: RecordedSubmission,
+        event: &RecordedEvent,
+    ) -> Result<(), AllocError>
+        requires { 0 < self.old.info.packet_size }
+        ensures { IfOk result (λ _. self.new ≡ with_callback taken.now submitted event.now self.old) }
+    {
+        let clears = submitted.clears;
+        let info = self.info;
+        let transfer = submitted.into_transfer(alloc, &info, event)?;
+        self.end(alloc, taken, clears, &transfer)
     }
 
     /// An event of a transfer of this endpoint.
     fn read_own(
         &mut self,
         alloc: Global,
-        info: &EndpointInfo,
+        taken: &[TakenCount],
         event: &RecordedEvent,
     ) -> Result<(), AllocError>
-        requires { 0 < info.now.packet_size }
-        ensures { IfOk result (λ _. self.new ≡ with_own_by event.now.event_type info.now event.now self.old) }
+        requires { 0 < self.old.info.packet_size }
+        ensures { IfOk result (λ _. self.new ≡ with_own_by event.now.event_type taken.now event.now self.old) }
     {
-        let submitted = self.submitted(event);
         match event.event_type {
-            RecordedType::Submission => self.waiting.put(event.id, submitted),
+            RecordedType::Submission => {
+                let submitted = self.submitted(alloc, event)?;
+                self.waiting.put(event.id, submitted)
+            }
             RecordedType::Callback => {
-                let submitted = self.waiting.take(event.id).unwrap_or(submitted);
-                let transfer = submitted.transfer(alloc, info, event)?;
-                self.end(alloc, info.packet_size, submitted, &transfer)
+                let submitted = match self.waiting.take(event.id) {
+                    Some(submitted) => submitted,
+                    None => self.submitted(alloc, event)?,
+                };
+                self.call_back(alloc, taken, submitted, event)
             }
             RecordedType::SubmissionError => {
                 let _ = self.waiting.take(event.id);
@@ -255,40 +270,24 @@ impl RecordedEndpoint {
         }
     }
 
-    /// An event of the device.
+    /// An event of the device, behind which the others had taken so much.
     #[tactic(auto, unfolding(crate::specs::Endpoints::with_event))]
-    fn read(
+    pub(crate) fn read(
         &mut self,
         alloc: Global,
-        info: &EndpointInfo,
+        taken: &[TakenCount],
         event: &RecordedEvent,
     ) -> Result<(), AllocError>
-        requires { 0 < info.now.packet_size }
-        ensures { IfOk result (λ _. self.new ≡ with_event info.now event.now self.old) }
+        ensures { IfOk result (λ _. self.new ≡ with_event taken.now event.now self.old) }
     {
-        if submits_end(info, event) {
+        let info = self.info;
+        if submits_end(&info, event) {
             self.clears = self.clears.saturating_add(1);
             return Ok(());
         }
-        if is_own(info, event) {
-            return self.read_own(alloc, info, event);
+        if is_scripted(&info) && is_own(&info, event) {
+            return self.read_own(alloc, taken, event);
         }
         Ok(())
     }
-}
-
-/// What this endpoint answered, by its device's events.
-pub(crate) fn endpoint_of(
-    alloc: Global,
-    info: &EndpointInfo,
-    events: &[RecordedEvent],
-) -> Result<RecordedEndpoint, AllocError>
-    requires { 0 < info.now.packet_size }
-    ensures { IfOk result (λ endpoint. endpoint ≡ endpoint_of events.now info.now) }
-{
-    let mut endpoint = RecordedEndpoint::new(alloc, info.address);
-    for event in events {
-        endpoint.read(alloc, info, event)?;
-    }
-    Ok(endpoint)
 }

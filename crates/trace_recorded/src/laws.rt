@@ -1,6 +1,6 @@
 //! Laws over the definitions, as functions that do nothing.
 
-ghost use Rattle.trace_recorded.specs.Laws.{EventsAreReadBack, FilesAreReadBack, ReadsAreToldAgain, WritesAreToldAgain};
+ghost use Rattle.trace_recorded.specs.Laws.{AnswersAreThose, EventsAreReadBack, FilesAreReadBack, LinesHaveTheAnswers, PacketsAreWritten, ReadsAreToldAgain, WritesAreToldAgain};
 
 /// What a capture says of an event is read back from it.
 pub fn events()
@@ -20,4 +20,19 @@ pub fn reads()
 /// Who writes as the recorded driver did is told what it was told: as many bytes, and the same status.
 pub fn writes()
     ensures { WritesAreToldAgain }
+{}
+
+/// The answers that are told with what was written are those of the transfer.
+pub fn answers()
+    ensures { AnswersAreThose }
+{}
+
+/// Who writes as the recorded driver did sends the packets that are told: the first ones, as many as were acknowledged.
+pub fn packets()
+    ensures { PacketsAreWritten }
+{}
+
+/// The k-th request of a type, number, value and index gets the k-th recorded answer to such a request.
+pub fn requests()
+    ensures { LinesHaveTheAnswers }
 {}

@@ -1,5 +1,5 @@
 //! What recorded devices answered, read off a capture of Linux's usbmon (Linux, Documentation/usb/usbmon.rst), as the lines of a
-//! scenario.
+//! text of devices.
 //!
 //! The one promise: the answers that a recorded completion stands for end a request of the same length, and its callback is told the
 //! recorded bytes and the recorded status; and the text of a capture is that of the definition, or the fault is.
@@ -9,12 +9,20 @@
 //! - `number.rt`, `event.rt`, specs/Events: an event of a bus, and how it is read from a packet's bytes
 //! - `recording.rt`, `pcap.rt`, `block.rt`, `pcapng.rt`, specs/Files, Blocks: the events of a file, by its form
 //! - `table.rt`, specs/Tables, Folds: values by number; what a list leads to
-//! - `configuration.rt`, specs/Configurations: the configuration that a device was used in, from its control transfers
+//! - `controls.rt`, specs/Controls: control transfers, each submission with its callback
+//! - `configuration.rt`, specs/Configurations: the configuration that a device was used in
+//! - `identity.rt`, specs/Identity: its device descriptor and its strings
+//! - `request.rt`, `control_lines.rt`, specs/Requests: its driver's control requests with their answers, and these by request
 //! - `transfer.rt`: a recorded transfer, and how it ended
 //! - `packets.rt`, `answers.rt`, specs/Answers: its answers, one a packet
-//! - `halt.rt`, `endpoint.rt`, specs/Endpoints: requests that end a halt; what an endpoint answered, and what of that is noted
+//! - `answer.rt`, specs/Written: the same, each with what was written for it
+//! - `submission.rt`, `halt.rt`, `endpoint.rt`, specs/Endpoints: what is kept of a submission; requests that end a halt; what an
+//!   endpoint answered, and what of that is noted
+//! - `waits.rt`, specs/Waits: which answers of an endpoint wait for what
+//! - `session.rt`, specs/Sessions: all endpoints of a device, over its events in order
 //! - `hub.rt`, `device.rt`, `left_out.rt`, specs/Devices: the devices of a recording, and which are left out
-//! - `note.rt`, `text.rt`, specs/Lines: the lines
+//! - `note.rt`, `text.rt`, `answer_text.rt`, specs/Lines: notes and scripts
+//! - `reader.rt`, `control_text.rt`, `wait_text.rt`, `device_text.rt`, specs/DeviceText: the lines of a device, for who reads them
 //! - `scenario.rt`, `capture_fault.rt`, specs/Scenario, Faults: the whole, or why there is none
 //! - `laws.rt`, specs/Laws, proofs/: what is written is read back; what the answers come to, by the definitions of the model
 //!
@@ -30,6 +38,9 @@
 //! - `laws::files`: of a file that it writes of events each is read, and nothing else
 //! - `laws::reads`, `laws::writes`: the answers of a transfer end a request of its length with the last of them, and the
 //!   callback is told the recorded bytes and the recorded status: 0, -121, -32, -71 or -75 of a read, 0, -32 or -71 of a write
+//! - `laws::answers`, `laws::packets`: the answers that are told with what was written are these; and of a write that was
+//!   recorded to its end the packets are the first of those that a request for the same bytes sends
+//! - `laws::requests`: the line of a control request has the answers to such requests, in the order of their ends
 //!
 //! Where a transfer was withdrawn, or its device was gone, its answers are those of the whole packets that moved, and end nothing.
 //! A transfer of more bytes than a request may have is left out, and so is one that ended behind a stall. Of an endpoint's answers
@@ -39,15 +50,22 @@
 //! and transfers in flight there are.
 #![tactic(auto)]
 
+mod answer;
+mod answer_text;
 mod answers;
 mod block;
 mod capture_fault;
 mod configuration;
+mod control_lines;
+mod control_text;
+mod controls;
 mod device;
+mod device_text;
 mod endpoint;
 mod event;
 mod halt;
 mod hub;
+mod identity;
 pub mod laws;
 mod left_out;
 mod note;
@@ -55,15 +73,22 @@ mod number;
 mod packets;
 mod pcap;
 mod pcapng;
+mod reader;
 mod recording;
+mod request;
 mod scenario;
+mod session;
+mod submission;
 mod table;
 mod text;
 mod transfer;
+mod wait_text;
+mod waits;
 
 pub use answers::answers_of;
 pub use capture_fault::CaptureFault;
 pub use event::{EventHeader, RecordedEvent, RecordedType, event_of};
 pub use number::Endianness;
+pub use reader::TextReader;
 pub use scenario::{RecordedScenario, recorded_scenario};
 pub use transfer::{RecordedEnd, RecordedTransfer};

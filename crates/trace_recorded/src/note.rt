@@ -3,6 +3,7 @@
 ghost use Rattle.std.specs.Prelude.{◌≡◌, Some};
 ghost use Rattle.trace_recorded.specs.Lines.{is_due, note_text};
 
+use crate::request::MOST_DATA;
 use std::fmt;
 use usb_model::limits::{LONGEST_SCRIPT, MOST_BYTES};
 
@@ -15,6 +16,8 @@ pub(crate) enum EndpointNote {
     TooLong(u64),
     /// Transfers that were too large for a request.
     TooLarge(u64),
+    /// Control requests that were too large for an answer.
+    Requests(u64),
     /// Answers, more than a script has.
     TooMany(u64),
     /// Transfers of an endpoint that has no script.
@@ -30,6 +33,7 @@ impl EndpointNote {
             EndpointNote::Lost(n)
             | EndpointNote::TooLong(n)
             | EndpointNote::TooLarge(n)
+            | EndpointNote::Requests(n)
             | EndpointNote::Others(n) => n > 0,
             EndpointNote::TooMany(n) => n > LONGEST_SCRIPT as u64,
         }
@@ -49,6 +53,10 @@ impl fmt::Display for EndpointNote {
             EndpointNote::TooLarge(n) => {
                 let most = MOST_BYTES;
                 write!(f, "{n} transfers of more than {most} bytes are left out")
+            }
+            EndpointNote::Requests(n) => {
+                let most = MOST_DATA;
+                write!(f, "{n} requests of more than {most} bytes are left out")
             }
             EndpointNote::TooMany(n) => {
                 let longest = LONGEST_SCRIPT;

@@ -4,7 +4,10 @@ ghost use Rattle.std.specs.Prelude.{◌≡◌, map, take, drop, replicate, IfOk,
 ghost use Rattle.std.specs.Option.{option_to_list};
 ghost use Rattle.usb_model.specs.declared.response.Response.TheVariants.{Ack, Data};
 ghost use Rattle.trace_recorded.specs.Answers.{front_packets};
+ghost use Rattle.trace_recorded.specs.declared.answer.RecordedAnswer.TheVariants.{Given, Taken};
+ghost use Rattle.trace_recorded.specs.Written.{written_bytes, written_packets};
 
+use crate::answer::{RecordedAnswer, WrittenBytes};
 use std::alloc::{AllocError, Global};
 use usb_model::{Response, Script, Sequence};
 
@@ -50,6 +53,55 @@ pub(crate) fn acknowledgements(alloc: Global, count: usize) -> Result<Script, Al
     let mut answers = Sequence::new(alloc);
     for _ in 0..count {
         answers.push(Response::Ack)?;
+    }
+    Ok(answers)
+}
+
+/// What is known of the first so many bytes that were written, by those that were recorded.
+pub(crate) fn written_bytes(
+    alloc: Global,
+    count: usize,
+    bytes: &[u8],
+) -> Result<WrittenBytes, AllocError>
+    ensures { IfOk result (λ written. written ≡ written_bytes count bytes.now) }
+{
+    let front = bytes.get(..count).unwrap_or(bytes);
+    Ok(WrittenBytes {
+        bytes: Sequence::from_vec(Vec::from_slice(alloc, front)?),
+        is_whole: count <= bytes.len(),
+    })
+}
+
+/// The first so many packets of a write of `asked` bytes, each an answer; behind these they are empty.
+#[tactic(auto, using(crate::proofs::Loops::written_none, crate::proofs::Loops::written_more, crate::proofs::Loops::written_all))]
+pub(crate) fn written_packets(
+    alloc: Global,
+    size: usize,
+    count: usize,
+    asked: usize,
+    bytes: &[u8],
+) -> Result<Sequence<RecordedAnswer>, AllocError>
+    ensures { IfOk result (λ answers. answers ≡ written_packets size count asked bytes.now) }
+{
+    let mut answers = Sequence::new(alloc);
+    let mut rest = bytes;
+    let mut left = asked;
+    for _ in 0..count {
+        let written = written_bytes(alloc, size.min(left), rest)?;
+        answers.push(RecordedAnswer::Taken(written))?;
+        rest = past(rest, size);
+        left = left.saturating_sub(size);
+    }
+    Ok(answers)
+}
+
+/// Answers, whatever was written.
+pub(crate) fn given(alloc: Global, script: Script) -> Result<Sequence<RecordedAnswer>, AllocError>
+    ensures { IfOk result (λ answers. answers ≡ map Given script) }
+{
+    let mut answers = Sequence::new(alloc);
+    for response in script.into_vec() {
+        answers.push(RecordedAnswer::Given(response))?;
     }
     Ok(answers)
 }

@@ -8,6 +8,7 @@ use crate::capture_fault::CaptureFault;
 use crate::device::{RecordedDevice, by_device, device_of};
 use crate::event::RecordedEvent;
 use crate::left_out::LeftOut;
+use crate::reader::TextReader;
 use crate::recording::read_recording;
 use crate::text::ScenarioText;
 use std::alloc::{AllocError, Global};
@@ -28,6 +29,8 @@ pub struct RecordedScenario {
 /// The lines of the devices so far.
 #[derive(Drop)]
 pub(crate) struct Listing {
+    /// Who reads them.
+    reader: TextReader,
     /// Those of the devices that are left out.
     left_out: ScenarioText,
     /// Those of the devices that are kept.
@@ -38,10 +41,11 @@ pub(crate) struct Listing {
 
 impl Listing {
     /// No device yet.
-    fn new(alloc: Global) -> Listing
-        ensures { result ≡ no_device }
+    fn new(alloc: Global, reader: TextReader) -> Listing
+        ensures { result ≡ no_device reader }
     {
         Listing {
+            reader,
             left_out: ScenarioText::new(alloc),
             kept: ScenarioText::new(alloc),
             count: 0,
@@ -53,7 +57,8 @@ impl Listing {
         requires { self.old.count < 4 }
         ensures { IfOk result (λ _. self.new ≡ with_kept key device.now self.old) }
     {
-        self.kept.put_device(self.count, key, device)?;
+        let reader = self.reader;
+        self.kept.put_device(reader, self.count, key, device)?;
         self.count += 1;
         Ok(())
     }
@@ -74,7 +79,7 @@ impl Listing {
     fn read(&mut self, alloc: Global, key: u64, events: &[RecordedEvent]) -> Result<(), AllocError>
         ensures { IfOk result (λ _. self.new ≡ with_found (key, events.now) self.old) }
     {
-        let device = device_of(alloc, events)?;
+        let device = device_of(alloc, self.reader, events)?;
         self.put(key, device)
     }
 
@@ -86,6 +91,7 @@ impl Listing {
             left_out,
             kept,
             count,
+            ..
         } = self;
         let mut text = ScenarioText::new(alloc);
         if is_cut {
@@ -101,10 +107,14 @@ impl Listing {
 }
 
 /// The lines of all devices.
-fn read_listing(alloc: Global, events: Sequence<RecordedEvent>) -> Result<Listing, AllocError>
-    ensures { IfOk result (λ listing. listing ≡ listing_of events) }
+fn read_listing(
+    alloc: Global,
+    reader: TextReader,
+    events: Sequence<RecordedEvent>,
+) -> Result<Listing, AllocError>
+    ensures { IfOk result (λ listing. listing ≡ listing_of reader events) }
 {
-    let mut listing = Listing::new(alloc);
+    let mut listing = Listing::new(alloc, reader);
     for (key, events) in by_device(alloc, events)?.into_map() {
         listing.read(alloc, key, events.as_slice())?;
     }
@@ -118,12 +128,16 @@ fn read_listing(alloc: Global, events: Sequence<RecordedEvent>) -> Result<Listin
 /// Refuses a file of another form, a pcap file with another link type, and a pcapng file without an interface of usbmon's. Takes
 /// memory for some times as many bytes as the capture has.
 #[tactic(auto, unfolding(crate::specs::Scenario::recorded_scenario))]
-pub fn recorded_scenario(alloc: Global, capture: &[u8]) -> Result<RecordedScenario, CaptureFault>
-    ensures scenario { IfOk result (λ s. recorded_scenario capture.now ≡ Ok s) }
-    ensures fault { IfErr result (λ fault. IsCaptureFault fault (recorded_scenario capture.now)) }
+pub fn recorded_scenario(
+    alloc: Global,
+    reader: TextReader,
+    capture: &[u8],
+) -> Result<RecordedScenario, CaptureFault>
+    ensures scenario { IfOk result (λ s. recorded_scenario reader capture.now ≡ Ok s) }
+    ensures fault { IfErr result (λ fault. IsCaptureFault fault (recorded_scenario reader capture.now)) }
 {
     let recording = read_recording(alloc, capture)?;
     let is_cut = recording.is_cut;
-    let listing = read_listing(alloc, recording.events)?;
+    let listing = read_listing(alloc, reader, recording.events)?;
     Ok(listing.into_scenario(alloc, is_cut)?)
 }

@@ -1,6 +1,7 @@
 //! Values by number.
 
 ghost use Rattle.std.specs.Prelude.{◌≡◌, [], IfOk};
+ghost use Rattle.std.specs.Option.{option_copied};
 ghost use Rattle.trace_recorded.specs.Tables.{value_at, with_value, without};
 
 use std::alloc::{AllocError, Global};
@@ -37,6 +38,13 @@ impl<V: Drop> ByNumber<V> {
     {
         let _ = self.values.insert(number, value)?;
         Ok(())
+    }
+
+    /// The value of a number, where there is one.
+    pub(crate) fn get(&self, number: u64) -> Option<&V>
+        ensures { option_copied result ≡ value_at number self.now }
+    {
+        self.values.get(&number)
     }
 
     /// Takes the value of a number out, where there is one.

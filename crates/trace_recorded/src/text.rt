@@ -3,15 +3,14 @@
 ghost use Rattle.std.specs.Prelude.{◌≡◌, ◌++◌, [], IfOk};
 ghost use Rattle.std.specs.List.{flat_map};
 ghost use Rattle.hex.specs.Hex.{encode_lower};
-ghost use Rattle.trace_recorded.specs.Lines.{answer_text, answers_text, device_line, device_text, endpoint_notes, left_out_line, note_line, origin_line, other_note, other_notes, script_head, script_line, script_text};
+ghost use Rattle.trace_recorded.specs.Lines.{endpoint_notes, left_out_line, note_line, other_note, other_notes, script_head, script_line, script_text};
 
-use crate::device::RecordedDevice;
 use crate::endpoint::RecordedEndpoint;
 use crate::left_out::LeftOut;
 use crate::note::EndpointNote;
 use std::alloc::{AllocError, Global};
 use std::marker::Model;
-use usb_model::{Bytes, EpAddr, Response, Sequence};
+use usb_model::{Bytes, EpAddr, Sequence};
 
 /// A text that is written line by line; contracts see its bytes.
 #[derive(Drop)]
@@ -39,6 +38,11 @@ impl ScenarioText {
         }
     }
 
+    /// Where its memory comes from.
+    pub(crate) fn alloc(&self) -> Global {
+        self.alloc
+    }
+
     /// Its bytes.
     pub(crate) fn into_bytes(self) -> Bytes
         ensures { result ≡ self }
@@ -62,7 +66,7 @@ impl ScenarioText {
     }
 
     /// Puts bytes behind it, as two hexadecimal digits each.
-    fn put_hex(&mut self, bytes: &[u8]) -> Result<(), AllocError>
+    pub(crate) fn put_hex(&mut self, bytes: &[u8]) -> Result<(), AllocError>
         ensures { IfOk result (λ _. self.new ≡ self.old ++ encode_lower bytes.now) }
     {
         let digits = hex::encode(self.alloc, bytes)?;
@@ -79,7 +83,7 @@ impl ScenarioText {
     }
 
     /// Puts a note of an endpoint behind it, where there is something to note.
-    fn put_note(&mut self, ep: EpAddr, note: EndpointNote) -> Result<(), AllocError>
+    pub(crate) fn put_note(&mut self, ep: EpAddr, note: EndpointNote) -> Result<(), AllocError>
         ensures { IfOk result (λ _. self.new ≡ self.old ++ note_line ep note) }
     {
         if !note.is_due() {
@@ -93,7 +97,7 @@ impl ScenarioText {
     fn put_notes(&mut self, endpoint: &RecordedEndpoint) -> Result<(), AllocError>
         ensures { IfOk result (λ _. self.new ≡ self.old ++ endpoint_notes endpoint.now) }
     {
-        let ep = endpoint.ep;
+        let ep = endpoint.info.address;
         self.put_note(ep, EndpointNote::Lost(endpoint.lost))?;
         self.put_note(ep, EndpointNote::TooLong(endpoint.too_long))?;
         self.put_note(ep, EndpointNote::TooLarge(endpoint.left_out))?;
@@ -109,38 +113,11 @@ impl ScenarioText {
     }
 
     /// Puts those of all endpoints behind it.
-    fn put_others(&mut self, others: &[u8]) -> Result<(), AllocError>
+    pub(crate) fn put_others(&mut self, others: &[u8]) -> Result<(), AllocError>
         ensures { IfOk result (λ _. self.new ≡ self.old ++ other_notes others.now 256) }
     {
         for ep in 0..256u16 {
             self.put_other(others, ep as u8)?;
-        }
-        Ok(())
-    }
-
-    /// Puts an answer behind it, as a script has it.
-    fn put_answer(&mut self, answer: &Response) -> Result<(), AllocError>
-        ensures { IfOk result (λ _. self.new ≡ self.old ++ answer_text answer.now) }
-    {
-        match answer {
-            Response::Data(bytes) => {
-                self.put("d:")?;
-                self.put_hex(bytes.as_slice())
-            }
-            Response::Ack => self.put("a"),
-            Response::Nak => self.put("n"),
-            Response::Stall => self.put("s"),
-            Response::Broken => self.put("b"),
-        }
-    }
-
-    /// Puts answers behind it, each behind a space.
-    fn put_answers(&mut self, answers: &[Response]) -> Result<(), AllocError>
-        ensures { IfOk result (λ _. self.new ≡ self.old ++ answers_text answers.now) }
-    {
-        for answer in answers {
-            self.put(" ")?;
-            self.put_answer(answer)?;
         }
         Ok(())
     }
@@ -158,7 +135,7 @@ impl ScenarioText {
     fn put_line(&mut self, number: u8, endpoint: &RecordedEndpoint) -> Result<(), AllocError>
         ensures { IfOk result (λ _. self.new ≡ self.old ++ script_text number endpoint.now) }
     {
-        self.put_head(number, endpoint.ep)?;
+        self.put_head(number, endpoint.info.address)?;
         self.put_answers(endpoint.answers.as_slice())?;
         self.put("\n")
     }
@@ -173,27 +150,8 @@ impl ScenarioText {
         self.put_line(number, endpoint)
     }
 
-    /// Puts the line behind it that says which recorded device it was.
-    fn put_origin(&mut self, number: u8, key: u64) -> Result<(), AllocError>
-        ensures { IfOk result (λ _. self.new ≡ self.old ++ origin_line number key) }
-    {
-        let (bus, device) = (key / 256, key % 256);
-        let line = format!(in self.alloc; "# device {number} was bus {bus} device {device}\n")?;
-        self.put(line.as_str())
-    }
-
-    /// Puts a device's own line behind it.
-    fn put_descriptor(&mut self, number: u8, descriptor: &[u8]) -> Result<(), AllocError>
-        ensures { IfOk result (λ _. self.new ≡ self.old ++ device_line number descriptor.now) }
-    {
-        let line = format!(in self.alloc; "device {number} ")?;
-        self.put(line.as_str())?;
-        self.put_hex(descriptor)?;
-        self.put("\n")
-    }
-
     /// Puts the notes of endpoints behind it.
-    fn put_all_notes(&mut self, endpoints: &[RecordedEndpoint]) -> Result<(), AllocError>
+    pub(crate) fn put_all_notes(&mut self, endpoints: &[RecordedEndpoint]) -> Result<(), AllocError>
         ensures { IfOk result (λ _. self.new ≡ self.old ++ flat_map endpoint_notes endpoints.now) }
     {
         for endpoint in endpoints {
@@ -203,29 +161,16 @@ impl ScenarioText {
     }
 
     /// Puts the lines of scripts behind it.
-    fn put_scripts(&mut self, number: u8, endpoints: &[RecordedEndpoint]) -> Result<(), AllocError>
+    pub(crate) fn put_scripts(
+        &mut self,
+        number: u8,
+        endpoints: &[RecordedEndpoint],
+    ) -> Result<(), AllocError>
         ensures { IfOk result (λ _. self.new ≡ self.old ++ flat_map (script_line number) endpoints.now) }
     {
         for endpoint in endpoints {
             self.put_script(number, endpoint)?;
         }
         Ok(())
-    }
-
-    /// Puts the lines of a device that is kept behind it, under this number.
-    #[tactic(auto, unfolding(crate::specs::Lines::device_text))]
-    pub(crate) fn put_device(
-        &mut self,
-        number: u8,
-        key: u64,
-        device: &RecordedDevice,
-    ) -> Result<(), AllocError>
-        ensures { IfOk result (λ _. self.new ≡ self.old ++ device_text number key device.now) }
-    {
-        self.put_origin(number, key)?;
-        self.put_all_notes(device.endpoints.as_slice())?;
-        self.put_others(device.others.as_slice())?;
-        self.put_descriptor(number, device.descriptor.as_slice())?;
-        self.put_scripts(number, device.endpoints.as_slice())
     }
 }

@@ -2,7 +2,9 @@
 
 ghost use Rattle.std.specs.Prelude.{◌≡◌};
 ghost use Rattle.trace_recorded.specs.Answers.{end_of};
+ghost use Rattle.trace_recorded.specs.Endpoints.{bytes_lost, is_stalled, is_too_large, is_too_long, is_withdrawn, reads_too_long};
 
+use usb_model::limits::MOST_BYTES;
 use usb_model::{Bytes, EpAddr};
 
 /// How a recorded transfer ended (Linux, Documentation/driver-api/usb/error-codes.rst).
@@ -16,7 +18,9 @@ pub enum RecordedEnd {
     Failed,
     /// The device sent more than there was room for: -75, EOVERFLOW.
     TooLong,
-    /// It was made to end, or its device is gone: any other.
+    /// The host made it end: -2, ENOENT, and -104, ECONNRESET.
+    Withdrawn,
+    /// Its device is gone, or another error: any other.
     Cut,
 }
 
@@ -33,7 +37,7 @@ pub struct RecordedTransfer {
     pub moved: u32,
     /// How it ended.
     pub end: RecordedEnd,
-    /// The bytes that were read, as far as they were recorded. Those behind them count as zeros.
+    /// The bytes that were read, or written, as far as they were recorded. Of a read those behind them count as zeros.
     pub bytes: Bytes,
 }
 
@@ -47,7 +51,62 @@ impl RecordedEnd {
             32 => RecordedEnd::Stalled,
             62 | 63 | 70 | 71 | 84 => RecordedEnd::Failed,
             75 => RecordedEnd::TooLong,
+            2 | 104 => RecordedEnd::Withdrawn,
             _ => RecordedEnd::Cut,
+        }
+    }
+}
+
+impl RecordedEnd {
+    /// Whether it is a stall.
+    pub(crate) fn is_stalled(self) -> bool
+        ensures { result ≡ is_stalled self }
+    {
+        matches!(self, RecordedEnd::Stalled)
+    }
+
+    /// Whether the host made it end.
+    pub(crate) fn is_withdrawn(self) -> bool
+        ensures { result ≡ is_withdrawn self }
+    {
+        matches!(self, RecordedEnd::Withdrawn)
+    }
+
+    /// Whether a packet was too long.
+    fn is_too_long(self) -> bool
+        ensures { result ≡ is_too_long self }
+    {
+        matches!(self, RecordedEnd::TooLong)
+    }
+}
+
+impl RecordedTransfer {
+    /// Whether it is too large for a request.
+    pub(crate) fn is_too_large(&self) -> bool
+        ensures { result ≡ is_too_large self.now }
+    {
+        self.asked as usize > MOST_BYTES || self.moved as usize > MOST_BYTES
+    }
+
+    /// How many of the bytes that it read weren't recorded.
+    pub(crate) fn bytes_lost(&self) -> u64
+        ensures { result ≡ bytes_lost self.now }
+    {
+        if self.ep.is_in() {
+            (self.moved as u64).saturating_sub(self.bytes.len() as u64)
+        } else {
+            0
+        }
+    }
+
+    /// 1 where it read a packet that was too long.
+    pub(crate) fn reads_too_long(&self) -> u64
+        ensures { result ≡ reads_too_long self.now }
+    {
+        if self.ep.is_in() && self.end.is_too_long() {
+            1
+        } else {
+            0
         }
     }
 }

@@ -27,6 +27,7 @@ use Rattle.trace_descriptor.specs.Device.{device_text}
 use Rattle.trace_test.specs.Tests.{IsOfTest}
 use Rattle.trace_recorded.specs.declared.capture_fault.CaptureFault.{CaptureFault}
 use Rattle.trace_recorded.specs.declared.capture_fault.CaptureFault.TheVariants as capture
+use Rattle.trace_recorded.specs.declared.reader.TextReader.{TextReader}
 use Rattle.trace_recorded.specs.Faults.{IsCaptureFault}
 use Rattle.trace_recorded.specs.Scenario.{recorded_scenario}
 use Rattle.trace_scenario.specs.declared.scenario.Scenario.{Scenario}
@@ -184,7 +185,7 @@ threads_asked words Left asks threaded = absurd threaded
 threads_asked words Check asks threaded = absurd threaded
 threads_asked words (Draw from to) asks threaded = absurd threaded
 threads_asked words Capture asks threaded = absurd threaded
-threads_asked words Devices asks threaded = absurd threaded
+threads_asked words (Devices reader) asks threaded = absurd threaded
 threads_asked words (Page from to) asks threaded = absurd threaded
 threads_asked words Explain asks threaded = absurd threaded
 threads_asked words Test asks threaded = absurd threaded
@@ -205,9 +206,9 @@ reported words (Some text) t notes old new asks ends = (subst (λ (x : Task). As
 
 -- a capture without devices was asked for
 none_found : (words : List Text) (input : Option (List ℕ)) (t : Task) (notes : List ℕ) (old new : Option (List ℕ)) → AskFor words t
-    → IfSome input (λ text. Performs t text notes old new (Ok NoDevices)) → IfSome input (λ text. AskFor words Devices × FindsNone text old new)
+    → IfSome input (λ text. Performs t text notes old new (Ok NoDevices)) → IfSome input (λ text. (reader : TextReader) × AskFor words (Devices reader) × FindsNone reader text old new)
 none_found words None t notes old new asks ends = tt
-none_found words (Some text) t notes old new asks ends = (subst (λ (x : Task). AskFor words x) ends.0 asks, ends.1)
+none_found words (Some text) t notes old new asks ends = (ends.0, subst (λ (x : Task). AskFor words x) ends.1 asks, ends.2)
 
 -- a test that differs was asked for
 difference_found : (words : List Text) (input : Option (List ℕ)) (t : Task) (notes : List ℕ) (old new : Option (List ℕ)) → AskFor words t
@@ -241,9 +242,9 @@ wide_of (Some text) t steps notes old new ends = (ends.0, ends.2)
 
 -- a capture that is refused was asked for
 refused_of : (input : Option (List ℕ)) (t : Task) (refused : CaptureFault) (notes : List ℕ) (old new : Option (List ℕ)) → IfSome input (λ text. Performs t text notes old new (Err (why.Capture refused)))
-    → IfSome input (λ text. (t ≡ Devices) × (recorded_scenario text ≡ Err refused))
+    → IfSome input (λ text. (reader : TextReader) × (t ≡ Devices reader) × (recorded_scenario reader text ≡ Err refused))
 refused_of None t refused notes old new ends = tt
-refused_of (Some text) t refused notes old new ends = (ends.0, ends.2)
+refused_of (Some text) t refused notes old new ends = (ends.0, ends.1, ends.3)
 
 -- a descriptor that is refused was asked for
 descriptor_of : (input : Option (List ℕ)) (t : Task) (refused : DescriptorFault) (notes : List ℕ) (old new : Option (List ℕ)) → IfSome input (λ text. Performs t text notes old new (Err (why.Descriptor refused)))
@@ -284,12 +285,12 @@ test_fails text (why.Capture refused) old new is kept = absurd is
 test_fails text (why.Descriptor refused) old new is kept = absurd is
 
 -- a capture that is refused, where the fault is its own
-pub capture_refused : (text : List ℕ) (refused : CaptureFault) (old new : Option (List ℕ)) → IsCaptureFault refused (recorded_scenario text) → Keeps old new → Performs Devices text [] old new (Err (fault_of_capture refused))
-capture_refused text capture.NotACapture old new is kept = (refl, kept, is)
-capture_refused text capture.HeaderCutShort old new is kept = (refl, kept, is)
-capture_refused text (capture.LinkType number) old new is kept = (refl, kept, is)
-capture_refused text capture.NoInterface old new is kept = (refl, kept, is)
-capture_refused text capture.Memory old new is kept = tt
+pub capture_refused : (reader : TextReader) (text : List ℕ) (refused : CaptureFault) (old new : Option (List ℕ)) → IsCaptureFault refused (recorded_scenario reader text) → Keeps old new → Performs (Devices reader) text [] old new (Err (fault_of_capture refused))
+capture_refused reader text capture.NotACapture old new is kept = (reader, refl, kept, is)
+capture_refused reader text capture.HeaderCutShort old new is kept = (reader, refl, kept, is)
+capture_refused reader text (capture.LinkType number) old new is kept = (reader, refl, kept, is)
+capture_refused reader text capture.NoInterface old new is kept = (reader, refl, kept, is)
+capture_refused reader text capture.Memory old new is kept = tt
 
 -- where a line is bad nothing is written but by a task that reads something else, or tells its bad lines
 pub silent_unless : (words : List Text) (input : Option (List ℕ)) (t : Task) (old new : Option (List ℕ)) → AskFor words t → IfSome input (λ text. ReadsOther t ⊎ IsSilentAtBad text old new)

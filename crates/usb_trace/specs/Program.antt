@@ -8,6 +8,7 @@ use Rattle.trace_run.specs.declared.tasks.Ending.TheVariants.{Good, BadLines, No
 use Rattle.trace_run.specs.Tasks.{AppendsAny, alone_text, capture_bytes, left_lines, run_text, steps_text}
 use Rattle.trace_recorded.specs.declared.capture_fault.CaptureFault.{CaptureFault}
 use Rattle.trace_recorded.specs.declared.scenario.RecordedScenario.{RecordedScenario}
+use Rattle.trace_recorded.specs.declared.reader.TextReader.{TextReader}
 use Rattle.trace_recorded.specs.Scenario.{recorded_scenario}
 use Rattle.trace_descriptor.specs.declared.fault.DescriptorFault.{DescriptorFault}
 use Rattle.trace_descriptor.specs.Device.{device_text}
@@ -35,7 +36,7 @@ use Rattle.usb_trace.specs.Lived.{lived_of, AppendsCallbacks, BeginsCallbacks, G
 -- a task reads something else than a scenario, or a scenario whose bad lines it tells itself
 abbrev pub ReadsOther : Task → Type 0
 ReadsOther task.Check = ⊤
-ReadsOther task.Devices = ⊤
+ReadsOther (task.Devices reader) = ⊤
 ReadsOther task.Test = ⊤
 ReadsOther task.Device = ⊤
 ReadsOther task.Describe = ⊤
@@ -53,7 +54,7 @@ scenario_for task.Check text = scenario_of text
 scenario_for (task.Draw from to) text = scenario_of text
 scenario_for (task.Page from to) text = scenario_of text
 scenario_for task.Capture text = scenario_of text
-scenario_for task.Devices text = scenario_of text
+scenario_for (task.Devices reader) text = scenario_of text
 scenario_for task.Explain text = scenario_of text
 scenario_for task.Test text = scenario_of text
 scenario_for task.Device text = scenario_of text
@@ -92,15 +93,15 @@ Writes task.Check text s notes old new = Appends old new (check_text text s) × 
 Writes (task.Draw from to) text s notes old new = AppendsAny old new × (notes ≡ [])
 Writes (task.Page from to) text s notes old new = AppendsAny old new × (notes ≡ [])
 Writes task.Capture text s notes old new = Appends old new (capture_bytes text s) × (notes ≡ [])
-Writes task.Devices text s notes old new = ⊥
+Writes (task.Devices reader) text s notes old new = ⊥
 Writes task.Explain text s notes old new = Appends old new (reasons_text text s) × (notes ≡ [])
 Writes task.Test text s notes old new = ⊥
 Writes task.Device text s notes old new = ⊥
 Writes task.Describe text s notes old new = ⊥
 
--- the text is a capture of the longest length at most, and the scenario of it is written
-abbrev pub WritesRecorded : List ℕ → RecordedScenario → Option (List ℕ) → Option (List ℕ) → Type 0
-WritesRecorded text r old new = (recorded_scenario text ≡ Ok r) × (length text ≤ longest_input) × Appends old new r.text
+-- the text is a capture of the longest length at most, and the text of its devices is written, for who reads it
+abbrev pub WritesRecorded : TextReader → List ℕ → RecordedScenario → Option (List ℕ) → Option (List ℕ) → Type 0
+WritesRecorded reader text r old new = (recorded_scenario reader text ≡ Ok r) × (length text ≤ longest_input) × Appends old new r.text
 
 -- the text is a test of the longest length at most, this came of it, and that is written
 abbrev pub WritesOutcome : List ℕ → Outcome → Option (List ℕ) → Option (List ℕ) → Type 0
@@ -112,7 +113,7 @@ WritesDevice text old new = (lines : List ℕ) × (device_text text ≡ Ok lines
 
 -- what a task does that ends well: the text is a scenario of the longest length at most, and what the task makes of it is written; or the task prints that of a capture, in which a device is kept; or a test is passed; or a device's lines are written, or a table, of which no more is said
 abbrev pub IsDone : Task → List ℕ → (notes : List ℕ) → Option (List ℕ) → Option (List ℕ) → Type 0
-IsDone task.Devices text notes old new = (r : RecordedScenario) × WritesRecorded text r old new × (r.has_devices ≡ true) × (notes ≡ [])
+IsDone (task.Devices reader) text notes old new = (r : RecordedScenario) × WritesRecorded reader text r old new × (r.has_devices ≡ true) × (notes ≡ [])
 IsDone task.Test text notes old new = WritesOutcome text outcome.Passed old new × (notes ≡ [])
 IsDone task.Device text notes old new = WritesDevice text old new × (notes ≡ [])
 IsDone task.Describe text notes old new = (length text ≤ longest_input) × AppendsAny old new × (notes ≡ [])
@@ -122,9 +123,9 @@ IsDone t text notes old new = (s : Scenario) × (scenario_for t text ≡ Ok s) �
 abbrev pub IsReported : List ℕ → Option (List ℕ) → Option (List ℕ) → Type 0
 IsReported text old new = (bad_lines text ≢ []) × (length text ≤ longest_input) × AppendsReport (bad_lines text) (counts_of (good_lines text)) old new
 
--- what is done with a capture in which no device is kept: the scenario of it is written
-abbrev pub FindsNone : List ℕ → Option (List ℕ) → Option (List ℕ) → Type 0
-FindsNone text old new = (r : RecordedScenario) × WritesRecorded text r old new × (r.has_devices ≡ false)
+-- what is done with a capture in which no device is kept: what is said of the others is written
+abbrev pub FindsNone : TextReader → List ℕ → Option (List ℕ) → Option (List ℕ) → Type 0
+FindsNone reader text old new = (r : RecordedScenario) × WritesRecorded reader text r old new × (r.has_devices ≡ false)
 
 -- what is done with a test of which a line differs: that is told
 abbrev pub FindsDifference : List ℕ → Option (List ℕ) → Option (List ℕ) → Type 0
@@ -159,7 +160,7 @@ IsBadDescriptor t text fault = ⊥
 abbrev pub Performs : Task → List ℕ → (notes : List ℕ) → Option (List ℕ) → Option (List ℕ) → Result Ending Fault → Type 0
 Performs t text notes old new (Ok Good) = IsDone t text notes old new
 Performs t text notes old new (Ok BadLines) = (t ≡ task.Check) × IsReported text old new
-Performs t text notes old new (Ok NoDevices) = (t ≡ task.Devices) × FindsNone text old new
+Performs t text notes old new (Ok NoDevices) = (reader : TextReader) × (t ≡ task.Devices reader) × FindsNone reader text old new
 Performs t text notes old new (Ok Differs) = (t ≡ task.Test) × FindsDifference text old new
 Performs t text notes old new (Err (Line line)) = IsBadLine t text line × Keeps old new
 Performs t text notes old new (Err Memory) = ⊤
@@ -168,7 +169,7 @@ Performs t text notes old new (Err Closed) = ⊤
 Performs t text notes old new (Err TooLong) = (longest_input < length text) × Keeps old new
 Performs t text notes old new (Err (Rounds rounds)) = (t ≡ task.Live rounds) × Keeps old new × EndsLate text rounds notes
 Performs t text notes old new (Err (Wide steps)) = (most_drawn < steps) × Keeps old new × Draws t
-Performs t text notes old new (Err (Capture fault)) = (t ≡ task.Devices) × Keeps old new × (recorded_scenario text ≡ Err fault)
+Performs t text notes old new (Err (Capture fault)) = (reader : TextReader) × (t ≡ task.Devices reader) × Keeps old new × (recorded_scenario reader text ≡ Err fault)
 Performs t text notes old new (Err (Descriptor fault)) = IsBadDescriptor t text fault × Keeps old new
 
 -- nothing is to be told behind a fault, but where a run in threads goes on for too long
@@ -217,7 +218,7 @@ Begins task.Check text old new = BeginsCheck text (scenario_of text) old new
 Begins (task.Draw from to) text old new = BeginsPicture (scenario_of text) old new
 Begins (task.Page from to) text old new = BeginsPicture (scenario_of text) old new
 Begins task.Capture text old new = BeginsEntries (capture_bytes text) (scenario_of text) old new
-Begins task.Devices text old new = BeginsRecorded (recorded_scenario text) old new
+Begins (task.Devices reader) text old new = BeginsRecorded (recorded_scenario reader text) old new
 Begins task.Explain text old new = BeginsEntries (reasons_text text) (scenario_of text) old new
 Begins task.Test text old new = BeginsOutcome text old new
 Begins task.Device text old new = BeginsDevice (device_text text) old new
@@ -237,7 +238,7 @@ MayEnd words input notes Closed = ⊤
 MayEnd words input notes TooLong = (t : Task) × AskFor words t × IfSome input (λ text. longest_input < length text)
 MayEnd words input notes (Rounds rounds) = (t : Task) × AskFor words t × IfSome input (λ text. (t ≡ task.Live rounds) × EndsLate text rounds notes)
 MayEnd words input notes (Wide steps) = (t : Task) × AskFor words t × IfSome input (λ text. (most_drawn < steps) × Draws t)
-MayEnd words input notes (Capture fault) = (t : Task) × AskFor words t × IfSome input (λ text. (t ≡ task.Devices) × (recorded_scenario text ≡ Err fault))
+MayEnd words input notes (Capture fault) = (t : Task) × AskFor words t × IfSome input (λ text. (reader : TextReader) × (t ≡ task.Devices reader) × (recorded_scenario reader text ≡ Err fault))
 MayEnd words input notes (Descriptor fault) = (t : Task) × AskFor words t × IfSome input (λ text. IsBadDescriptor t text fault)
 
 -- what stands behind status 0: of a task that is done, a beginning of what is to be told behind it is told
@@ -248,7 +249,7 @@ TellsRest t text old new err_old err_new = (notes : List ℕ) × IsDone t text n
 abbrev pub TellsWhy : List Text → Option (List ℕ) → Option (List ℕ) → Option (List ℕ) → Option (List ℕ) → Option (List ℕ) → Type 0
 TellsWhy words input old new err_old err_new =
     (IfSome input (λ text. AskFor words task.Check × IsReported text old new) × Keeps err_old err_new)
-    ⊎ (IfSome input (λ text. AskFor words task.Devices × FindsNone text old new) × Keeps err_old err_new)
+    ⊎ (IfSome input (λ text. (reader : TextReader) × AskFor words (task.Devices reader) × FindsNone reader text old new) × Keeps err_old err_new)
     ⊎ (IfSome input (λ text. AskFor words task.Test × FindsDifference text old new) × Keeps err_old err_new)
     ⊎ ((fault : Fault) × (notes : List ℕ) × MayEnd words input notes fault × IsAlone notes fault × AppendsSome (message_of fault ++ notes) err_old err_new)
 

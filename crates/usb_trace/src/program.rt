@@ -166,7 +166,7 @@ fn perform<T: Threads + Wait + Sync, R: Read, W: Write>(
         Task::Draw { from, to } => drawn(alloc, text.as_slice(), Form::Picture, from, to, out),
         Task::Page { from, to } => drawn(alloc, text.as_slice(), Form::Page, from, to, out),
         Task::Capture => capture(alloc, text.as_slice(), out),
-        Task::Devices => devices(alloc, text.as_slice(), out),
+        Task::Devices(reader) => devices(alloc, reader, text.as_slice(), out),
         Task::Explain => explain(alloc, text.as_slice(), out),
         Task::Test => run_test(alloc, text.as_slice(), out),
         Task::Device => device(alloc, text.as_slice(), out),

@@ -8,17 +8,22 @@ ghost use Rattle.usb_trace.specs.Program.{Begins, Performs};
 use std::alloc::Global;
 use std::io::Write;
 use trace_io::{Fault, write_bytes};
-use trace_recorded::{RecordedScenario, recorded_scenario};
+use trace_recorded::{RecordedScenario, TextReader, recorded_scenario};
 use trace_run::Ending;
 
-/// Prints the scenario of a capture: its devices, and what they answered. Nothing is printed where it isn't read.
+/// Prints the devices of a capture, and what they answered, for who reads it. Nothing is printed where the capture isn't read.
 #[tactic(auto, using(crate::proofs::Begun::no_recorded, crate::proofs::Reports::capture_refused))]
-pub(crate) fn devices<W: Write>(alloc: Global, capture: &[u8], out: &mut W) -> Result<Ending, Fault>
+pub(crate) fn devices<W: Write>(
+    alloc: Global,
+    reader: TextReader,
+    capture: &[u8],
+    out: &mut W,
+) -> Result<Ending, Fault>
     requires { length capture.now ≤ longest_input }
-    ensures ends { Performs Devices capture.now [] (W.contents out.old) (W.contents out.new) result }
-    ensures begun { Begins Devices capture.now (W.contents out.old) (W.contents out.new) }
+    ensures ends { Performs (Devices reader) capture.now [] (W.contents out.old) (W.contents out.new) result }
+    ensures begun { Begins (Devices reader) capture.now (W.contents out.old) (W.contents out.new) }
 {
-    let RecordedScenario { text, has_devices } = recorded_scenario(alloc, capture)?;
+    let RecordedScenario { text, has_devices } = recorded_scenario(alloc, reader, capture)?;
     write_bytes(out, text.as_slice())?;
     out.flush()?;
     if has_devices {

@@ -46,7 +46,7 @@ For more information, try '--help'.
 === usbtrace devices 1
 error: unexpected argument '1' found
 
-Usage: usbtrace devices
+Usage: usbtrace devices [OPTIONS]
 
 For more information, try '--help'.
 === usbtrace run 1
@@ -142,7 +142,7 @@ fn help_is_printed_and_no_fault(rt: HostRuntime) {
         "\n  check     Prints what is wrong with the scenario, line by line\n",
         "\n  draw      Prints a picture of the scenario's run, an SVG document\n",
         "\n  capture   Writes the scenario's run as a capture of usbmon, a pcap file\n",
-        "\n  devices   Prints the devices of a capture, and what they answered, as lines of a scenario\n",
+        "\n  devices   Prints the devices of a capture, and what they answered, as lines of a text\n",
         "\n  explain   Runs the scenario, and says of each refusal, idle step and end why it came\n",
         "\n  test      Runs a scenario with `expect` lines, and compares what it prints\n",
         "\n  device    Prints the device line of a configuration descriptor\n",
@@ -175,7 +175,8 @@ fn the_help_of_each_subcommand_has_its_example(rt: HostRuntime) {
     );
     let devices = [
         "\nInput: a capture ",
-        "\n  usbtrace devices < recorded.pcap > scenario.txt\n\nStatus: 0 ",
+        "\n  usbtrace devices < recorded.pcap > devices.txt\n",
+        "\n  usbtrace devices --scenario < recorded.pcap > scenario.txt\n\nStatus: 0 ",
     ];
     assert!(rt;
         shows(

@@ -1,4 +1,4 @@
-use Rattle.trace_io.proofs.WordsRead.{alone_asks, both_ask, both_turned_ask, packets_ask, capture_asks, capture_of_a_file_is_bad, check_asks, check_of_a_file_is_bad, devices_ask, devices_of_a_file_are_bad, draw_asks, handle_64_is_bad, help_asks, help_is_no_word, leading_zeros_ask, left_asks, left_with_a_word_is_bad, live_asks, live_with_a_word_is_bad, no_handle_is_bad, no_rounds_are_bad, no_words_are_bad, part_asks, plus_sign_asks, rounds_ask, run_asks, step_0_is_bad, steps_ask, too_many_are_bad, describe_asks, device_asks, explain_asks, page_asks, test_asks, test_with_a_word_is_bad}
+use Rattle.trace_io.proofs.WordsRead.{alone_asks, both_ask, both_turned_ask, packets_ask, capture_asks, capture_of_a_file_is_bad, check_asks, check_of_a_file_is_bad, devices_ask, devices_scenario_ask, devices_of_a_file_are_bad, draw_asks, handle_64_is_bad, help_asks, help_is_no_word, leading_zeros_ask, left_asks, left_with_a_word_is_bad, live_asks, live_with_a_word_is_bad, no_handle_is_bad, no_rounds_are_bad, no_words_are_bad, part_asks, plus_sign_asks, rounds_ask, run_asks, step_0_is_bad, steps_ask, too_many_are_bad, describe_asks, device_asks, explain_asks, page_asks, test_asks, test_with_a_word_is_bad}
 use Rattle.trace_io.proofs.laws.words.Goals as goal
 
 pub returns-clause-run : goal.returns-clause-run
@@ -105,3 +105,6 @@ returns-clause-describe c = describe_asks
 
 pub returns-clause-test_with_a_word : goal.returns-clause-test_with_a_word
 returns-clause-test_with_a_word c = test_with_a_word_is_bad
+
+pub returns-clause-devices_of_a_scenario : goal.returns-clause-devices_of_a_scenario
+returns-clause-devices_of_a_scenario c = devices_scenario_ask

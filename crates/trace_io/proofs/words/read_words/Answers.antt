@@ -4,7 +4,7 @@ use Rattle.clap.specs.Matches.{found_of}
 use Rattle.clap.specs.Simple.{app_of}
 use Rattle.clap.specs.Walk.{rows_of}
 use Rattle.trace_scenario.specs.Words.{words_of}
-use Rattle.trace_io.specs.declared.words.Task.TheVariants.{Alone, Capture, Check, Describe, Device, Devices, Explain, Left, Live, Run, Test}
+use Rattle.trace_io.specs.declared.words.Task.TheVariants.{Alone, Capture, Check, Describe, Device, Explain, Left, Live, Run, Test}
 use Rattle.trace_io.proofs.CommandLines.{asks_behind, asks_for, has_one, met, with_fault, without_fault}
 use Rattle.trace_io.proofs.words.read_words.Goals as goal
 
@@ -83,6 +83,19 @@ returns-then-is_some-3-clause-task c =
           (search rules),
     )
 
+pub returns-in-Some-subcommand_matches-3-clause-fault : goal.returns-in-Some-subcommand_matches-3-clause-fault
+returns-in-Some-subcommand_matches-3-clause-fault c = without_fault (app_of c.in_ok-command.field-0) (words_of c.args.words.now) c.in_ok-command.ensures c.in_ok-matches.ensures.kinds
+
+pub returns-in-Some-subcommand_matches-3-clause-task : goal.returns-in-Some-subcommand_matches-3-clause-task
+returns-in-Some-subcommand_matches-3-clause-task c =
+    let words = words_of c.args.words.now in
+    let a = app_of c.in_ok-command.field-0 in (
+      without_fault a words c.in_ok-command.ensures c.in_ok-matches.ensures.kinds,
+      asks_behind (codes "devices") (rows_of (found_of c.in-Some-subcommand_matches-3.found.now)) c.devices_task.result (ap Some (sym c.devices_task.ensures)) words c.in_ok-matches.matches
+          (met a words c.in_ok-matches.matches c.in_ok-command.ensures c.in_ok-matches.ensures.matches)
+          (search rules) c.in-Some-subcommand_matches-3.ensures.rows,
+    )
+
 pub returns-then-is_some-4-clause-fault : goal.returns-then-is_some-4-clause-fault
 returns-then-is_some-4-clause-fault c = without_fault (app_of c.in_ok-command.field-0) (words_of c.args.words.now) c.in_ok-command.ensures c.in_ok-matches.ensures.kinds
 
@@ -91,7 +104,7 @@ returns-then-is_some-4-clause-task c =
     let words = words_of c.args.words.now in
     let a = app_of c.in_ok-command.field-0 in (
       without_fault a words c.in_ok-command.ensures c.in_ok-matches.ensures.kinds,
-      asks_for (codes "devices") Devices (λ rows. refl) words c.in_ok-matches.matches (met a words c.in_ok-matches.matches c.in_ok-command.ensures c.in_ok-matches.ensures.matches)
+      asks_for (codes "explain") Explain (λ rows. refl) words c.in_ok-matches.matches (met a words c.in_ok-matches.matches c.in_ok-command.ensures c.in_ok-matches.ensures.matches)
           (search rules),
     )
 
@@ -103,7 +116,7 @@ returns-then-is_some-5-clause-task c =
     let words = words_of c.args.words.now in
     let a = app_of c.in_ok-command.field-0 in (
       without_fault a words c.in_ok-command.ensures c.in_ok-matches.ensures.kinds,
-      asks_for (codes "explain") Explain (λ rows. refl) words c.in_ok-matches.matches (met a words c.in_ok-matches.matches c.in_ok-command.ensures c.in_ok-matches.ensures.matches)
+      asks_for (codes "test") Test (λ rows. refl) words c.in_ok-matches.matches (met a words c.in_ok-matches.matches c.in_ok-command.ensures c.in_ok-matches.ensures.matches)
           (search rules),
     )
 
@@ -115,7 +128,7 @@ returns-then-is_some-6-clause-task c =
     let words = words_of c.args.words.now in
     let a = app_of c.in_ok-command.field-0 in (
       without_fault a words c.in_ok-command.ensures c.in_ok-matches.ensures.kinds,
-      asks_for (codes "test") Test (λ rows. refl) words c.in_ok-matches.matches (met a words c.in_ok-matches.matches c.in_ok-command.ensures c.in_ok-matches.ensures.matches)
+      asks_for (codes "device") Device (λ rows. refl) words c.in_ok-matches.matches (met a words c.in_ok-matches.matches c.in_ok-command.ensures c.in_ok-matches.ensures.matches)
           (search rules),
     )
 
@@ -127,33 +140,21 @@ returns-then-is_some-7-clause-task c =
     let words = words_of c.args.words.now in
     let a = app_of c.in_ok-command.field-0 in (
       without_fault a words c.in_ok-command.ensures c.in_ok-matches.ensures.kinds,
-      asks_for (codes "device") Device (λ rows. refl) words c.in_ok-matches.matches (met a words c.in_ok-matches.matches c.in_ok-command.ensures c.in_ok-matches.ensures.matches)
-          (search rules),
-    )
-
-pub returns-then-is_some-8-clause-fault : goal.returns-then-is_some-8-clause-fault
-returns-then-is_some-8-clause-fault c = without_fault (app_of c.in_ok-command.field-0) (words_of c.args.words.now) c.in_ok-command.ensures c.in_ok-matches.ensures.kinds
-
-pub returns-then-is_some-8-clause-task : goal.returns-then-is_some-8-clause-task
-returns-then-is_some-8-clause-task c =
-    let words = words_of c.args.words.now in
-    let a = app_of c.in_ok-command.field-0 in (
-      without_fault a words c.in_ok-command.ensures c.in_ok-matches.ensures.kinds,
       asks_for (codes "describe") Describe (λ rows. refl) words c.in_ok-matches.matches (met a words c.in_ok-matches.matches c.in_ok-command.ensures c.in_ok-matches.ensures.matches)
           (search rules),
     )
 
-pub returns-in-Some-subcommand_matches-3-clause-fault : goal.returns-in-Some-subcommand_matches-3-clause-fault
-returns-in-Some-subcommand_matches-3-clause-fault c = without_fault (app_of c.in_ok-command.field-0) (words_of c.args.words.now) c.in_ok-command.ensures c.in_ok-matches.ensures.kinds
+pub returns-in-Some-subcommand_matches-4-clause-fault : goal.returns-in-Some-subcommand_matches-4-clause-fault
+returns-in-Some-subcommand_matches-4-clause-fault c = without_fault (app_of c.in_ok-command.field-0) (words_of c.args.words.now) c.in_ok-command.ensures c.in_ok-matches.ensures.kinds
 
-pub returns-in-Some-subcommand_matches-3-clause-task : goal.returns-in-Some-subcommand_matches-3-clause-task
-returns-in-Some-subcommand_matches-3-clause-task c =
+pub returns-in-Some-subcommand_matches-4-clause-task : goal.returns-in-Some-subcommand_matches-4-clause-task
+returns-in-Some-subcommand_matches-4-clause-task c =
     let words = words_of c.args.words.now in
     let a = app_of c.in_ok-command.field-0 in (
       without_fault a words c.in_ok-command.ensures c.in_ok-matches.ensures.kinds,
-      asks_behind (codes "run") (rows_of (found_of c.in-Some-subcommand_matches-3.found.now)) c.run_task.result (ap Some (sym c.run_task.ensures)) words c.in_ok-matches.matches
+      asks_behind (codes "run") (rows_of (found_of c.in-Some-subcommand_matches-4.found.now)) c.run_task.result (ap Some (sym c.run_task.ensures)) words c.in_ok-matches.matches
           (met a words c.in_ok-matches.matches c.in_ok-command.ensures c.in_ok-matches.ensures.matches)
-          (search rules) c.in-Some-subcommand_matches-3.ensures.rows,
+          (search rules) c.in-Some-subcommand_matches-4.ensures.rows,
     )
 
 pub returns-clause-fault : goal.returns-clause-fault

@@ -25,7 +25,7 @@ returns-in-Capture-clause-begun g c =
 
 pub returns-in-Devices-clause-begun : goal.returns-in-Devices-clause-begun
 returns-in-Devices-clause-begun g c =
-    bytes_begun (g.R.Read.remaining c.args.input.now) c.args.task Devices c.as_slice-in-Devices.result.now (g.W.Write.contents c.args.out.now) (g.W.Write.contents c.devices.new.out)
+    bytes_begun (g.R.Read.remaining c.args.input.now) c.args.task (Devices c.in-Devices.reader) c.as_slice-in-Devices.result.now (g.W.Write.contents c.args.out.now) (g.W.Write.contents c.devices.new.out)
     c.in-Devices.is (rw c.as_slice-in-Devices.ensures.value c.in_ok-text.ensures.whole) c.devices.ensures.begun
 
 pub returns-in-Device-clause-begun : goal.returns-in-Device-clause-begun

@@ -1,0 +1,82 @@
+//! The answers to control requests, by request.
+
+ghost use Rattle.std.specs.Prelude.{◌≡◌, IfOk};
+ghost use Rattle.std.specs.Option.{option_copied};
+ghost use Rattle.trace_recorded.specs.Requests.{control_lines, key_of, no_lines, with_answered};
+ghost use Rattle.trace_recorded.specs.Tables.{value_at};
+
+use crate::answer::RecordedAnswer;
+use crate::request::AnsweredRequest;
+use crate::table::ByNumber;
+use std::alloc::{AllocError, Global};
+use trace_capture::ControlSetup;
+use usb_model::Sequence;
+
+/// The answers to control requests, by type, number, value and index.
+#[derive(Drop)]
+pub(crate) struct ControlLines {
+    /// The first request of each line, in the order in which they were answered.
+    pub(crate) firsts: Sequence<ControlSetup>,
+    /// The answers of each line, by its number.
+    answers: ByNumber<Sequence<RecordedAnswer>>,
+}
+
+/// A request's number in a table.
+fn key_of(setup: ControlSetup) -> u64
+    ensures { result ≡ key_of setup }
+{
+    let (kind, request) = (u64::from(setup.request_type), u64::from(setup.request));
+    let (value, index) = (u64::from(setup.value), u64::from(setup.index));
+    ((kind * 256 + request) * 65536 + value) * 65536 + index
+}
+
+impl ControlLines {
+    /// No line.
+    fn new(alloc: Global) -> ControlLines
+        ensures { result ≡ no_lines }
+    {
+        ControlLines {
+            firsts: Sequence::new(alloc),
+            answers: ByNumber::new(alloc),
+        }
+    }
+
+    /// A request more that was answered.
+    #[tactic(auto, unfolding(crate::specs::Requests::with_answered))]
+    fn read(&mut self, alloc: Global, request: AnsweredRequest) -> Result<(), AllocError>
+        ensures { IfOk result (λ _. self.new ≡ with_answered request self.old) }
+    {
+        let AnsweredRequest { setup, answer } = request;
+        let key = key_of(setup);
+        let mut answers = match self.answers.take(key) {
+            Some(answers) => answers,
+            None => {
+                self.firsts.push(setup)?;
+                Sequence::new(alloc)
+            }
+        };
+        answers.push(answer)?;
+        self.answers.put(key, answers)
+    }
+
+    /// The answers of the line of such a request.
+    pub(crate) fn answers_of(&self, setup: ControlSetup) -> Option<&Sequence<RecordedAnswer>>
+        ensures { option_copied result ≡ value_at (key_of setup) self.now.answers }
+    {
+        self.answers.get(key_of(setup))
+    }
+}
+
+/// The lines of these requests.
+pub(crate) fn control_lines(
+    alloc: Global,
+    answered: Sequence<AnsweredRequest>,
+) -> Result<ControlLines, AllocError>
+    ensures { IfOk result (λ lines. lines ≡ control_lines answered) }
+{
+    let mut lines = ControlLines::new(alloc);
+    for request in answered.into_vec() {
+        lines.read(alloc, request)?;
+    }
+    Ok(lines)
+}
