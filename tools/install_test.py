@@ -24,7 +24,9 @@ SECONDS = 300
 Word = Union[str, pathlib.Path]
 Ran = subprocess.CompletedProcess[str]
 # What docs/INSTALL.md promises, below the prefix.
-PROMISED = """bin/tirnouch-run bin/tirnouch-replay bin/usbtrace
+PROMISED = """bin/tirnouch-run bin/tirnouch-record bin/tirnouch-replay bin/usbtrace lib/tirnouch/libtirnouch-record.so
+    share/man/man1/tirnouch-record.1 share/bash-completion/completions/tirnouch-record share/zsh/site-functions/_tirnouch-record
+    share/fish/vendor_completions.d/tirnouch-record.fish
     lib/tirnouch/libusb-1.0.so.0 lib/tirnouch/libusb-1.0.so lib/tirnouch/libusb-1.0.a
     lib/tirnouch/libtirnouch_core.a lib/pkgconfig/tirnouch-libusb.pc lib/pkgconfig/tirnouch-core.pc include/tirnouch/libusb-1.0/libusb.h
     include/tirnouch/tirnouch/tirnouch.h include/tirnouch/tirnouch/tirnouch_core.h share/man/man1/usbtrace.1
@@ -50,6 +52,9 @@ OFFERED = {
     "usbtrace de": ["describe", "device", "devices"],
     "usbtrace draw --h": ["--help", "--html"],
     "usbtrace live --r": ["--rounds"],
+    "tirnouch-record --de": ["--device"],
+    "tirnouch-record -o oth": ["other.txt"],
+    "tirnouch-record -o run.pcap -- dirna": ["dirname"],
     "tirnouch-run devices.txt --se": ["--seed", "--seeds"],
     "tirnouch-run dev": ["devices.txt"],
     "tirnouch-run devices.txt --trace oth": ["other.txt"],

@@ -1,16 +1,17 @@
-"""The part of tools/tirnouch-run that watches programs: a limit, many seeds, the library's version.
+"""The part of tools/tirnouch-run and tools/tirnouch-record that watches programs: a limit, many seeds, a recording, the library's version.
 
     python3 tools/runs version LIBRARY FILE
+    python3 tools/runs record FILE LIBRARY [--device VENDOR:PRODUCT] [--no-strings] -- PROGRAM ..
     python3 tools/runs judge DEVICES -- PROGRAM ..
     python3 tools/runs limit TIME MILLISECONDS [--judge DEVICES] -- PROGRAM ..
     python3 tools/runs seeds FIRST LAST [--jobs N] [--keep-going] [--limit TIME MILLISECONDS] [--virtual] [--no-programs] [--lenient] \
         --picture USBTRACE REMEDY --again RUN DEVICES -- PROGRAM ..
 
-tools/tirnouch-run has checked the words, and has set the environment of the program. It knows where the parts stand, in the repository
+tools/tirnouch-run or tools/tirnouch-record has checked the words; tirnouch-run has set the environment of the program. It knows where the parts stand, in the repository
 and where they are installed: the library, the FILE with the version, and usbtrace, with the REMEDY where that is missing.
 
 The modules, from below: program (a process group, and its end); traces (the files of a run's steps); judged (whether a run wrote what is
-expected); limit (a run that is watched, and ended when its time is over); seeds (many runs); shown (what is told of them)."""
+expected); limit (a run that is watched, and ended when its time is over); seeds (many runs); shown (what is told of them); recorded (a run that is recorded)."""
 import argparse
 import ctypes
 import pathlib
@@ -21,6 +22,7 @@ from typing import List, NoReturn, Sequence
 
 from limit import run_judged, run_with_limit
 from program import end_by, tell
+from recorded import run_recorded
 from seeds import Seeds
 from shown import report
 
@@ -79,6 +81,11 @@ def arguments(words: Sequence[str]) -> argparse.Namespace:
     version = kinds.add_parser("version")
     version.add_argument("library")
     version.add_argument("file", type=pathlib.Path)
+    record = kinds.add_parser("record")
+    record.add_argument("file", type=pathlib.Path)
+    record.add_argument("library")
+    record.add_argument("--device")
+    record.add_argument("--no-strings", action="store_true")
     judge = kinds.add_parser("judge")
     judge.add_argument("devices")
     limit = kinds.add_parser("limit")
@@ -104,6 +111,8 @@ def main(words: List[str]) -> int:
     asked, program = arguments(words[:at]), words[at + 1:]
     if asked.kind == "version":
         return print_version(asked.library, asked.file)
+    if asked.kind == "record":
+        run_recorded(asked, program)
     if asked.kind == "judge":
         run_judged(asked.devices, program)
     if asked.kind == "limit":

@@ -1,0 +1,79 @@
+"""A run that is recorded (tools/tirnouch-record): a library that stands before libusb appends what moves to a capture, which is begun
+here; and what is told of it at the end."""
+import argparse
+import os
+import pathlib
+import struct
+import tempfile
+import time
+from typing import Dict, Iterator, List, NoReturn, Sequence, Tuple
+
+from limit import NEVER, Watched, end_as
+from program import Speaker, program_environment, tell
+
+# A pcap file of microseconds, whose records are usbmon's with 64 bytes before the data, at most 262,144 (pcap-savefile(5)).
+EVENT_BYTES, MOST_DATA, LINK = 64, 262144, 220
+HEADER = struct.pack("<IHHiIII", 0xA1B2C3D4, 2, 4, 0, 0, EVENT_BYTES + MOST_DATA, LINK)
+# The status of a program that ended well, and whose recording isn't whole.
+NOT_WHOLE = 3
+
+
+def records(data: bytes) -> Iterator[Tuple[int, int, int]]:
+    """Of each record that is there whole its kind, bus and device."""
+    at = len(HEADER)
+    while at + 16 <= len(data):
+        (kept,) = struct.unpack_from("<I", data, at + 8)
+        if kept < EVENT_BYTES or at + 16 + kept > len(data):
+            return
+        yield data[at + 24], data[at + 28], data[at + 27]
+        at += 16 + kept
+
+
+class Recording:
+    """A capture; and a pipe by which the library tells what went wrong, since files may not grow any more then."""
+
+    def __init__(self, file: pathlib.Path, folder: pathlib.Path) -> None:
+        self.file, self.faults = file, folder / "faults"
+        self.file.write_bytes(HEADER)
+        os.mkfifo(self.faults)
+        self.told = os.open(self.faults, os.O_RDONLY | os.O_NONBLOCK | os.O_CLOEXEC)
+
+    def environment(self, asked: argparse.Namespace, before: Dict[bytes, bytes]) -> Dict[bytes, bytes]:
+        preload = os.fsencode(asked.library)
+        names = {b"TIRNOUCH_RECORD": os.fsencode(self.file.resolve()), b"TIRNOUCH_RECORD_FAULTS": os.fsencode(self.faults)}
+        if asked.device:
+            names[b"TIRNOUCH_RECORD_DEVICE"] = os.fsencode(asked.device)
+        if asked.no_strings:
+            names[b"TIRNOUCH_RECORD_NO_STRINGS"] = b"1"
+        others = [before[b"LD_PRELOAD"]] if before.get(b"LD_PRELOAD") else []
+        return {**before, **names, b"LD_PRELOAD": b":".join([preload, *others])}
+
+    def is_faulty(self) -> bool:
+        try:
+            return os.read(self.told, 1) != b""
+        except BlockingIOError:
+            return False
+
+    def sentences(self, program: str, device: str) -> List[str]:
+        """What is wrong with it; nothing where it is whole."""
+        if self.is_faulty():
+            return [f"{self.file} isn't whole: what is missing is told above"]
+        if any(records(self.file.read_bytes())):
+            return []
+        what = f"didn't open a device {device}" if device else "opened no device"
+        return [f"{self.file} has no event: {program} {what} by libusb 1.0; one that is linked statically, or runs setuid, isn't recorded"]
+
+
+def run_recorded(asked: argparse.Namespace, words: Sequence[str]) -> NoReturn:
+    """Runs the program, and ends as it does; with another status where that is 0 and the recording isn't whole."""
+    Speaker.name = "tirnouch-record"
+    with tempfile.TemporaryDirectory(prefix="tirnouch-record-") as folder:
+        recording = Recording(asked.file, pathlib.Path(folder))
+        program = Watched(words, recording.environment(asked, program_environment()))
+        program.wait(time.monotonic() + NEVER)
+        status = program.status or 0
+        faults = recording.sentences(words[0], asked.device or "")
+        tell(*faults)
+        if faults and status == 0:
+            status = NOT_WHOLE << 8
+    end_as(program, status)
