@@ -3,30 +3,16 @@ here; and what is told of it at the end."""
 import argparse
 import os
 import pathlib
-import struct
 import tempfile
 import time
-from typing import Dict, Iterator, List, NoReturn, Sequence, Tuple
+from typing import Dict, List, NoReturn, Sequence
 
+from capture import HEADER, events_of
 from limit import NEVER, Watched, end_as
 from program import Speaker, program_environment, tell
 
-# A pcap file of microseconds, whose records are usbmon's with 64 bytes before the data, at most 262,144 (pcap-savefile(5)).
-EVENT_BYTES, MOST_DATA, LINK = 64, 262144, 220
-HEADER = struct.pack("<IHHiIII", 0xA1B2C3D4, 2, 4, 0, 0, EVENT_BYTES + MOST_DATA, LINK)
 # The status of a program that ended well, and whose recording isn't whole.
 NOT_WHOLE = 3
-
-
-def records(data: bytes) -> Iterator[Tuple[int, int, int]]:
-    """Of each record that is there whole its kind, bus and device."""
-    at = len(HEADER)
-    while at + 16 <= len(data):
-        (kept,) = struct.unpack_from("<I", data, at + 8)
-        if kept < EVENT_BYTES or at + 16 + kept > len(data):
-            return
-        yield data[at + 24], data[at + 28], data[at + 27]
-        at += 16 + kept
 
 
 class Recording:
@@ -58,7 +44,7 @@ class Recording:
         """What is wrong with it; nothing where it is whole."""
         if self.is_faulty():
             return [f"{self.file} isn't whole: what is missing is told above"]
-        if any(records(self.file.read_bytes())):
+        if any(True for _ in events_of(self.file.read_bytes())):
             return []
         what = f"didn't open a device {device}" if device else "opened no device"
         return [f"{self.file} has no event: {program} {what} by libusb 1.0; one that is linked statically, or runs setuid, isn't recorded"]
