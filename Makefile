@@ -130,6 +130,11 @@ c-abi: c-usb
 c-clients: c-usb
 	@c/clients/run $(if $(CLIENTS),--root $(CLIENTS))
 
+# libfprint's own tests of its USB drivers, unchanged, against the captures that come with them: where Debian's libfprint-2-tests is installed.
+.PHONY: c-fprint
+c-fprint: c-usb
+	@python3 tools/fprint $(FPRINT)
+
 # The scenes of c/tests/usb on libusb itself, over a faked kernel: CLIENTS=DIR names a folder into which libusb was unpacked.
 .PHONY: c-compare
 c-compare:

@@ -4,7 +4,8 @@
  *     lose N    the N-th write isn't made, and the program is told that it was
  *     double N  the N-th write is made twice
  *
- * Writes are the bulk and interrupt transfers that have bytes for the device, counted from 1 in the order of their calls. */
+ * Writes are the bulk and interrupt transfers that have bytes for the device, counted from 1 in the order of their calls; with `requests`
+ * behind N, the requests that have some. Where TIRNOUCH_CHANGED_DONE names a file, it is made as the write is changed. */
 #include <libusb.h>
 
 #include <dlfcn.h>
@@ -24,18 +25,27 @@ static void find(const char *name, void *function)
     memcpy(function, &found, sizeof found);
 }
 
+static void note_done(void)
+{
+    const char *file = getenv("TIRNOUCH_CHANGED_DONE");
+    FILE *made = file ? fopen(file, "w") : NULL;
+    if (made)
+        fclose(made);
+}
+
 /* What is to be done with the write that is asked for now. A call that libusb makes of another counts once. */
-static enum change change_of(uint8_t ep, int length)
+static enum change change_of(bool is_request, uint8_t ep, int length)
 {
     static const char *const names[] = { "", "flip", "lose", "double" };
     static int count;
     const char *said = getenv("TIRNOUCH_CHANGED");
-    char name[8];
+    char name[8], kind[16] = "";
     int number;
-    if (is_inside || !said || ep & LIBUSB_ENDPOINT_IN || length <= 0 || sscanf(said, "%7s %d", name, &number) != 2)
+    if (is_inside || !said || ep & LIBUSB_ENDPOINT_IN || length <= 0 || sscanf(said, "%7s %d %15s", name, &number, kind) < 2)
         return NONE;
-    if (__atomic_add_fetch(&count, 1, __ATOMIC_RELAXED) != number)
+    if (is_request != !strcmp(kind, "requests") || __atomic_add_fetch(&count, 1, __ATOMIC_RELAXED) != number)
         return NONE;
+    note_done();
     for (enum change it = FLIP; it <= DOUBLE; it++)
         if (!strcmp(name, names[it]))
             return it;
@@ -56,7 +66,7 @@ typedef int move_function(libusb_device_handle *handle, unsigned char ep, unsign
 static int move(const char *name, libusb_device_handle *handle, uint8_t ep, unsigned char *data, int length, int *moved, unsigned timeout)
 {
     move_function *make = NULL;
-    enum change change = change_of(ep, length);
+    enum change change = change_of(false, ep, length);
     find(name, &make);
     if (change == LOSE) {
         if (moved)
@@ -91,7 +101,7 @@ static void on_lost(struct libusb_transfer *question)
 {
     struct libusb_transfer *lost = question->user_data;
     lost->status = LIBUSB_TRANSFER_COMPLETED;
-    lost->actual_length = lost->length;
+    lost->actual_length = lost->length - (lost->type == LIBUSB_TRANSFER_TYPE_CONTROL ? (int)LIBUSB_CONTROL_SETUP_SIZE : 0);
     free(question->buffer);
     libusb_free_transfer(question);
     lost->callback(lost);
@@ -135,14 +145,35 @@ static struct libusb_transfer *doubled(const struct libusb_transfer *transfer)
 int libusb_submit_transfer(struct libusb_transfer *transfer)
 {
     int (*submit)(struct libusb_transfer *) = NULL;
-    bool is_moved = transfer->type == LIBUSB_TRANSFER_TYPE_BULK || transfer->type == LIBUSB_TRANSFER_TYPE_INTERRUPT;
-    enum change change = is_moved ? change_of(transfer->endpoint, transfer->length) : NONE;
+    bool is_request = transfer->type == LIBUSB_TRANSFER_TYPE_CONTROL;
+    int head = is_request ? (int)LIBUSB_CONTROL_SETUP_SIZE : 0;
+    enum change change = change_of(is_request, is_request ? transfer->buffer[0] : transfer->endpoint, transfer->length - head);
     find("libusb_submit_transfer", &submit);
     if (change == LOSE)
         return submit(question_for(transfer));
     if (change == FLIP)
-        transfer->buffer[0] ^= 1;
+        transfer->buffer[head] ^= 1;
     if (change == DOUBLE)
         submit(doubled(transfer));
     return submit(transfer);
+}
+
+int libusb_control_transfer(libusb_device_handle *handle, uint8_t type, uint8_t request, uint16_t value, uint16_t index,
+                            unsigned char *data, uint16_t length, unsigned int timeout)
+{
+    int (*make)(libusb_device_handle *, uint8_t, uint8_t, uint16_t, uint16_t, unsigned char *, uint16_t, unsigned) = NULL;
+    enum change change = change_of(true, type, length);
+    find("libusb_control_transfer", &make);
+    if (change == LOSE)
+        return length;
+    unsigned char *other = change == FLIP ? copy_of(data, length) : NULL;
+    if (other)
+        other[0] ^= 1;
+    is_inside = true;
+    if (change == DOUBLE)
+        make(handle, type, request, value, index, data, length, timeout);
+    int r = make(handle, type, request, value, index, other ? other : data, length, timeout);
+    is_inside = false;
+    free(other);
+    return r;
 }
