@@ -1,4 +1,5 @@
-"""Runs libfprint's own tests of its USB drivers (Debian's libfprint-2-tests), unchanged, against the captures that come with them: make c-fprint.
+"""Runs libfprint's own tests of its USB drivers (Debian's libfprint-2-tests), unchanged, against the captures that come with them, and
+libgusb's self-test, through which libfprint uses libusb: make c-fprint.
 
     python3 tools/fprint [--seeds N] [--keep DIR] [NAME ..]      all drivers, or these
 
@@ -7,6 +8,8 @@ stands before it in PATH: tools/tirnouch-run makes a device of the capture, and 
 with each seed from 1 to N (3). A recording of ioctls is first made a capture, by tools/tirnouch-record under umockdev-run itself. At last one
 bit of the driver's third write is flipped (c/clients/changed.c), which has to fail the test: of a driver that writes by requests alone, of
 its third request that writes.
+
+libgusb's self-test is the client gusb_suite of c/clients, where its sources are below /usr/src: its devices are a text.
 
 A row is printed for each test, and what a run printed is kept in DIR, as NAME.SEED.out. What the machine lacks is said, and the status is 0;
 else it is 1 where a run failed or a flipped bit wasn't noticed."""
@@ -25,6 +28,7 @@ HERE = pathlib.Path(__file__).resolve().parent
 TESTS = pathlib.Path("/usr/share/installed-tests/libfprint-2")
 CHANGED = ROOT / "c" / "clients" / "changed.c"
 SECONDS = 300
+GUSB_TESTS = 5
 # Which write is flipped: of the transfers, and where a driver makes none, of the requests.
 FLIPS = ("flip 3", "flip 3 requests")
 
@@ -100,7 +104,8 @@ class Runs:
         for flip in FLIPS:
             done = self.folder / "done"
             done.unlink(missing_ok=True)
-            is_passed, text = self.run(test, "flipped", FPRINT_CHANGED=str(self.changed), TIRNOUCH_CHANGED=flip, TIRNOUCH_CHANGED_DONE=str(done))
+            is_passed, text = self.run(test, "flipped", FPRINT_CHANGED=str(self.changed), TIRNOUCH_CHANGED=flip,
+                                       TIRNOUCH_CHANGED_DONE=str(done))
             if done.exists():
                 by = "told" if "isn't what the devices' text expects" in text else "the test fails"
                 return "NOT NOTICED" if is_passed else f"noticed: {by}"
@@ -111,6 +116,24 @@ class Runs:
             return [test.name, test.kind, *["-"] * seeds, "-"]
         passed = ["passed" if self.run(test, str(seed), FPRINT_SEED=str(seed))[0] else "FAILED" for seed in range(1, seeds + 1)]
         return [test.name, test.kind, *passed, self.flipped(test)]
+
+    def self_test(self, *words: str) -> str:
+        """What the row of c/clients/run says of libgusb's self-test."""
+        run = [ROOT / "c" / "clients" / "run", "--keep", self.folder, *words, "gusb_suite"]
+        ran = subprocess.run(run, capture_output=True, text=True, timeout=SECONDS, check=False)
+        row = next((it for it in ran.stdout.splitlines() if it.startswith("gusb_suite ")), "")
+        return next((it for it in ("skipped", "NOT NOTICED", "noticed") if it in row), "ran")
+
+    def self_test_row(self, seeds: int) -> List[str]:
+        """It passed where all of its tests are ok: what it prints around them depends on GLib's version."""
+        passed = []
+        for seed in range(1, seeds + 1):
+            if self.self_test("--seed", str(seed)) == "skipped":
+                return ["libgusb's self-test", "no sources", *["-"] * seeds, "-"]
+            text = (self.folder / "gusb_suite.out").read_text()
+            is_well = "[status 0]" in text and len(re.findall(r"^ok ", text, re.M)) == GUSB_TESTS and "not ok" not in text
+            passed.append("passed" if is_well else "FAILED")
+        return ["libgusb's self-test", "a text", *passed, self.self_test("--flip")]
 
 
 def main() -> int:
@@ -133,6 +156,9 @@ def main() -> int:
         runs = Runs(pathlib.Path(folder), asked.keep and asked.keep.resolve())
         for test in chosen:
             rows.append(runs.row(test, asked.seeds))
+            print("".join(f"| {it} " for it in rows[-1]) + "|", flush=True)
+        if not asked.names or "gusb" in asked.names:
+            rows.append(runs.self_test_row(asked.seeds))
             print("".join(f"| {it} " for it in rows[-1]) + "|", flush=True)
     failed = sum(bool({"FAILED", "NOT NOTICED"} & set(row)) for row in rows)
     print(f"{len(rows) - failed} tests well, {failed} not")
