@@ -207,7 +207,7 @@ def threads_are_recorded(trial: Trial) -> None:
     count = {kind: sum(it.kind == kind and it.type != 2 for it in found) for kind in "SCE"}
     trial.check(count == {"S": 51, "C": 51, "E": 0}, f"the reports are {count}")
     requests = sum(it.kind == "S" and it.setup[:2] in (b"\xc0\x05", b"\x40\x06") for it in found)
-    trial.check(requests == 2 * 4 * 50, f"{requests} requests")
+    trial.check(requests == 3 * 4 * 50, f"{requests} requests")
 
 
 def the_script_comes_back(trial: Trial) -> None:

@@ -84,7 +84,29 @@ int has_two(void)
 
 enum { THREADS = 4, ROUNDS = 50 };
 
-/* Requests, reads that are cancelled, and writes, in a context of its own. */
+static void on_counted(struct libusb_transfer *transfer)
+{
+    __atomic_add_fetch((int *)transfer->user_data, 1, __ATOMIC_RELEASE);
+}
+
+/* A request that isn't waited for in its call. */
+static void submit_request(libusb_context *own, libusb_device_handle *mine)
+{
+    unsigned char data[LIBUSB_CONTROL_SETUP_SIZE + 8];
+    struct libusb_transfer *transfer = libusb_alloc_transfer(0);
+    int count = 0;
+    if (!transfer)
+        exit(33);
+    libusb_fill_control_setup(data, 0xc0, 5, 0x0102, 3, 8);
+    libusb_fill_control_transfer(transfer, mine, data, on_counted, &count, 1000);
+    if (libusb_submit_transfer(transfer))
+        exit(34);
+    while (__atomic_load_n(&count, __ATOMIC_ACQUIRE) == 0)
+        libusb_handle_events_completed(own, NULL);
+    libusb_free_transfer(transfer);
+}
+
+/* Requests in a context of its own. */
 static void *make_calls(void *unused)
 {
     libusb_context *own;
@@ -97,6 +119,7 @@ static void *make_calls(void *unused)
         unsigned char data[8] = { 0 };
         libusb_control_transfer(mine, 0xc0, 5, 0x0102, 3, data, 8, 1000);
         libusb_control_transfer(mine, 0x40, 6, 0, 0, data, 2, 1000);
+        submit_request(own, mine);
     }
     if (!mine)
         exit(31);
@@ -110,11 +133,6 @@ static void *handle_events(void *until)
     while (__atomic_load_n((int *)until, __ATOMIC_ACQUIRE) == 0)
         libusb_handle_events(context);
     return until;
-}
-
-static void on_counted(struct libusb_transfer *transfer)
-{
-    __atomic_add_fetch((int *)transfer->user_data, 1, __ATOMIC_RELEASE);
 }
 
 /* Threads with contexts of their own, beside one that submits and cancels while another handles events. */
