@@ -166,6 +166,14 @@ def words_are_refused(trial: Trial) -> None:
     trial.expect(trial.run(str(RECORD), "-o", "x.pcap", "--", "./nowhere", LD_LIBRARY_PATH=str(ROOT / "bin")), 127, "no program ./nowhere")
 
 
+def another_device_at_a_place_is_described(trial: Trial) -> None:
+    lines = [it.replace(" 1 ", " 0 ", 1) for it in DEVICES.read_text().splitlines() if it.split()[1] == "1"]
+    (trial.folder / "other.txt").write_text("".join(f"{it}\n" for it in lines))
+    trial.expect(trial.record("--no-strings", program=[str(trial.program), "another", str(trial.folder / "other.txt")]), 0)
+    wanted = expected()
+    trial.compare([*wanted["opened"], *wanted["opened 1"], "S 81 bulk 8", "C 81 bulk 0 2 1111"])
+
+
 def a_library_that_is_loaded_is_recorded(trial: Trial) -> None:
     """Python's ctypes loads libusb by itself."""
     text = """import ctypes, ctypes.util
@@ -281,7 +289,7 @@ def under(sanitizer: str) -> Callable[[Trial], None]:
 
 TRIALS: List[Callable[[Trial], None]] = [
     *map(kind_of, KINDS), strings_are_asked_for, one_device_is_recorded, a_full_disk_is_told, what_has_no_device_is_told, words_are_refused,
-    a_library_that_is_loaded_is_recorded, long_transfers_are_pieces, threads_are_recorded, the_script_comes_back, tshark_reads_it,
+    another_device_at_a_place_is_described, a_library_that_is_loaded_is_recorded, long_transfers_are_pieces, threads_are_recorded, the_script_comes_back, tshark_reads_it,
     libusb_itself_is_recorded, under("address"), under("thread"),
 ]
 

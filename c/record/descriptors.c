@@ -14,8 +14,9 @@ enum {
     PATIENCE = 1000
 };
 
-/* Which devices were recorded so, and of which the strings were asked for, by bus and address. */
-static bool is_described[DEVICES][DEVICES], is_asked[DEVICES][DEVICES];
+/* Which devices were recorded so, and of which the strings were asked for, by bus and address: their vendors and products, since another
+ * device may come to that place. */
+static uint32_t described[DEVICES][DEVICES], asked[DEVICES][DEVICES];
 
 /* Bytes of a descriptor, of which those that find no room are counted too. */
 struct bytes {
@@ -177,14 +178,14 @@ static bool record_strings(libusb_device_handle *handle, const struct libusb_dev
     return r != LIBUSB_ERROR_BUSY;
 }
 
-/* Whether this is done for the first time; it counts as done. */
-static bool is_first(bool *is_done)
+/* Whether this device wasn't the last one to be there; it is then. */
+static bool is_other(uint32_t *there, uint32_t ids)
 {
     lock();
-    bool was_done = *is_done;
-    *is_done = true;
+    uint32_t before = *there;
+    *there = ids;
     unlock();
-    return !was_done;
+    return before != ids;
 }
 
 void record_device(libusb_device_handle *handle)
@@ -194,13 +195,11 @@ void record_device(libusb_device_handle *handle)
     if (libusb_get_device_descriptor(device, &it) || !is_wanted(it.idVendor, it.idProduct))
         return;
     uint8_t bus = libusb_get_bus_number(device), address = libusb_get_device_address(device);
-    if (is_first(&is_described[bus][address])) {
+    uint32_t ids = (uint32_t)it.idVendor << 16 | it.idProduct;
+    if (is_other(&described[bus][address], ids)) {
         record_device_descriptor(handle, &it);
         record_configuration(handle);
     }
-    if (wants_strings() && is_first(&is_asked[bus][address]) && !record_strings(handle, &it)) {
-        lock();
-        is_asked[bus][address] = false;
-        unlock();
-    }
+    if (wants_strings() && is_other(&asked[bus][address], ids) && !record_strings(handle, &it))
+        is_other(&asked[bus][address], 0);
 }

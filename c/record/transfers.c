@@ -57,7 +57,8 @@ void LIBUSB_CALL on_end(struct libusb_transfer *transfer)
     uint32_t moved = transfer->actual_length > 0 ? (uint32_t)transfer->actual_length : 0;
     record_end(&flying.flight, status_of(&flying, moved), moved, data_of(transfer));
     transfer->callback = flying.callback;
-    transfer->callback(transfer);
+    if (transfer->callback)
+        transfer->callback(transfer);
 }
 
 /* usbmon's type; 0 for isochronous transfers, which aren't recorded. */

@@ -9,6 +9,7 @@
 libusb_context *context;
 libusb_device_handle *handle;
 static int ended;
+static const char *more; /* the word behind the kind */
 
 libusb_device_handle *open_device(libusb_context *of, uint16_t product)
 {
@@ -177,6 +178,20 @@ static int is_large(void)
     return end();
 }
 
+/* Another bus, on which another device stands at the same address. */
+static int is_another(void)
+{
+    unsigned char data[8];
+    int moved;
+    begin();
+    end();
+    if (!more || setenv("TIRNOUCH_DEVICES", more, 1) || libusb_init(&context))
+        return 35;
+    handle = open_device(context, 0x0002);
+    libusb_bulk_transfer(handle, FROM_DEVICE, data, 8, &moved, 1000);
+    return end();
+}
+
 /* An isochronous transfer, which isn't recorded. */
 static int is_isochronous(void)
 {
@@ -197,10 +212,12 @@ static const struct {
     { "waits", waits },         { "resubmits", resubmits },     { "otherwise", ends_otherwise }, { "leaves", leaves },
     { "drops", drops },         { "forks", forks },             { "closes", closes_files },      { "no room", has_no_room },
     { "two", has_two },         { "large", is_large },          { "isochronous", is_isochronous }, { "threads", threads },
+    { "another", is_another },
 };
 
 int main(int count, char **words)
 {
+    more = count > 2 ? words[2] : NULL;
     for (size_t i = 0; count > 1 && i < sizeof kinds / sizeof *kinds; i++)
         if (!strcmp(words[1], kinds[i].name))
             return kinds[i].act();
