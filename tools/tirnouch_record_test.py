@@ -289,8 +289,8 @@ def under(sanitizer: str) -> Callable[[Trial], None]:
 
 TRIALS: List[Callable[[Trial], None]] = [
     *map(kind_of, KINDS), strings_are_asked_for, one_device_is_recorded, a_full_disk_is_told, what_has_no_device_is_told, words_are_refused,
-    another_device_at_a_place_is_described, a_library_that_is_loaded_is_recorded, long_transfers_are_pieces, threads_are_recorded, the_script_comes_back, tshark_reads_it,
-    libusb_itself_is_recorded, under("address"), under("thread"),
+    another_device_at_a_place_is_described, a_library_that_is_loaded_is_recorded, long_transfers_are_pieces, threads_are_recorded,
+    the_script_comes_back, tshark_reads_it, libusb_itself_is_recorded, under("address"), under("thread"),
 ]
 
 

@@ -14,8 +14,8 @@ the parts stand, in the repository and where they are installed: the library, th
 that is missing. A FILE to --remove is the text that was made of a capture.
 
 The modules, from below: program (a process group, and its end); traces (the files of a run's steps); judged (whether a run wrote what is
-expected); limit (a run that is watched, and ended when its time is over); seeds (many runs); shown (what is told of them). Of captures: capture (its events), recorded (a run that makes one), described (what a device
-is, by other files), text (the text of devices that is made of one)."""
+expected); limit (a run that is watched, and ended when its time is over); seeds (many runs); shown (what is told of them). Of captures:
+capture (its events), recorded (a run that makes one), described (what a device is, by other files), text (what is made of one)."""
 import argparse
 import ctypes
 import pathlib

@@ -17,8 +17,8 @@ REFUSED = 2
 LEFT_OUT = re.compile(r"# bus (\d+) device (\d+) is left out: (.+)$")
 # What helps where a device isn't in the text.
 REMEDIES = {
-    "no configuration descriptor": "say which file has its descriptors: --descriptors FILE, a copy of its /sys/bus/usb/devices/*/descriptors; "
-                                   "or --umockdev FILE, of umockdev-record",
+    "no configuration descriptor": "say which file has its descriptors: --descriptors FILE, a copy of its "
+                                   "/sys/bus/usb/devices/*/descriptors; or --umockdev FILE, of umockdev-record",
     "its configuration descriptor is refused": "FORMATS.md has the rules that it breaks",
     "no answers": "nothing moved at its bulk and interrupt endpoints while it was recorded: record the program's run from its beginning",
     "the fifth device": "say which device the program uses: --device VENDOR:PRODUCT",
