@@ -104,6 +104,13 @@ def a_recorded_run_is_made_again(trial: Trial) -> None:
     trial.expect(trial.run("kept.txt", "--", str(trial.program), "resubmits"), 0)
 
 
+def a_reset_does_not_begin_it_anew(trial: Trial) -> None:
+    """What the device answered behind the reset stands behind the rest."""
+    record(trial, "resets")
+    trial.expect(trial.go(kind="resets"), 0, "read 01\nread 01\nread 09\n")
+    holds(trial, trial.text(), "lasts 0", "script 0 81 d:0102030405060708 d:0102030405060708 d:0910")
+
+
 def seeds_say_how_to_run_again(trial: Trial) -> None:
     trial.expect(trial.go("--seeds", "1-3", "--device", "1209:0001"), 0, "3 runs, 0 failed")
     trial.expect(trial.go("--seeds", "1-1", "--device", "1209:0001", kind="nothing"), 1, "run.pcap --seed 1 --device 1209:0001 -- ")
@@ -132,7 +139,8 @@ def other_forms_are_read(trial: Trial) -> None:
 
 def what_it_lacks_is_told(trial: Trial) -> None:
     trial.take_out_descriptors()
-    trial.expect(trial.go(), 2, "run.pcap: bus 1 device 2 is left out: no configuration descriptor", "--descriptors FILE", "--umockdev FILE")
+    trial.expect(trial.go(), 2, "run.pcap: bus 1 device 2 is left out: no configuration descriptor", "--descriptors FILE",
+                 "--umockdev FILE")
 
 
 def descriptors_complete_it(trial: Trial) -> None:
@@ -176,7 +184,8 @@ def one_device_is_chosen(trial: Trial) -> None:
     record(trial, "two")
     lines = trial.text("--device", "1209:0001")
     trial.check("script 0 81 d:0102030405060708" in lines and not any("1111" in it for it in lines), f"the text has {lines}")
-    trial.expect(trial.go("--device", "1209:0003"), 2, "run.pcap has no device 1209:0003; it has bus 1 device 2 (1209:0001), bus 1 device 3")
+    trial.expect(trial.go("--device", "1209:0003"), 2, "run.pcap has no device 1209:0003",
+                 "it has bus 1 device 2 (1209:0001), bus 1 device 3 (1209:0002)")
 
 
 def wrong_files_are_refused(trial: Trial) -> None:
@@ -200,9 +209,9 @@ def wrong_files_are_refused(trial: Trial) -> None:
 
 
 TRIALS: List[Callable[[Trial], None]] = [
-    a_recorded_run_is_made_again, seeds_say_how_to_run_again, another_run_differs, other_forms_are_read, what_it_lacks_is_told,
-    descriptors_complete_it, a_device_folder_completes_it, umockdev_completes_it, what_is_there_stays, one_device_is_chosen,
-    wrong_files_are_refused,
+    a_recorded_run_is_made_again, a_reset_does_not_begin_it_anew, seeds_say_how_to_run_again, another_run_differs, other_forms_are_read,
+    what_it_lacks_is_told, descriptors_complete_it, a_device_folder_completes_it, umockdev_completes_it, what_is_there_stays,
+    one_device_is_chosen, wrong_files_are_refused,
 ]
 
 

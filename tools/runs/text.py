@@ -137,13 +137,13 @@ class Text:
         return [f"# made by tirnouch-run of {self.name}", *(out for line in text for out in self.completed(line))]
 
     def completed(self, line: str) -> List[str]:
-        """A line, and behind the device's own comments what isn't in any capture: its speed."""
+        """A line; and with a device's own line what isn't in any capture: that it went on when it was reset, and its speed."""
         found = re.match(r"device (\d+) ", line)
-        if not (found and self.described):
+        if not found:
             return [line]
-        speed = self.described.speed
+        speed = self.described.speed if self.described else None
         more = [f"# the speed is from {self.described.file}", f"speed {found[1]} {speed}"] if speed in ("low", "full") else []
-        return [*self.notes, line, *more]
+        return [*self.notes, line, f"lasts {found[1]}", *more]
 
     def refusals(self, text: Sequence[str], fault: str) -> List[str]:
         if fault:

@@ -192,6 +192,21 @@ static int is_another(void)
     return end();
 }
 
+/* A reset amid reads, each of which prints the first byte that it got. */
+static int resets(void)
+{
+    begin();
+    for (int i = 0; i < 3; i++) {
+        unsigned char data[8] = { 0 };
+        int moved;
+        libusb_bulk_transfer(handle, FROM_DEVICE, data, 8, &moved, 1000);
+        printf("read %02x\n", data[0]);
+        if (i == 0 && libusb_reset_device(handle))
+            return 36;
+    }
+    return end();
+}
+
 /* An isochronous transfer, which isn't recorded. */
 static int is_isochronous(void)
 {
@@ -212,7 +227,7 @@ static const struct {
     { "waits", waits },         { "resubmits", resubmits },     { "otherwise", ends_otherwise }, { "leaves", leaves },
     { "drops", drops },         { "forks", forks },             { "closes", closes_files },      { "no room", has_no_room },
     { "two", has_two },         { "large", is_large },          { "isochronous", is_isochronous }, { "threads", threads },
-    { "another", is_another },
+    { "another", is_another },  { "resets", resets },
 };
 
 int main(int count, char **words)
