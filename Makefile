@@ -96,12 +96,17 @@ bin/libusb-1.0.so.0: bin/libusb-1.0.a c/usb.map
 	@$(CC) -shared -Wl,-soname,libusb-1.0.so.0 -Wl,--version-script=c/usb.map -Wl,--whole-archive $< -Wl,--no-whole-archive -pthread -o $@
 	@rm -f bin/libusb-1.0.so && cp $@ bin/libusb-1.0.so
 
-c-usb: bin/libusb-1.0.a bin/libusb-1.0.so.0
+# What stands before libusb, ours or the system's, and writes down what a program moves: tools/tirnouch-record.
+bin/libtirnouch-record.so: $(wildcard c/record/*) c/record.map bin/libusb-1.0.so.0
+	@$(CC) $(C_FLAGS) -D_GNU_SOURCE -shared -Wl,--version-script=c/record.map $(wildcard c/record/*.c) \
+		-Wl,--no-as-needed -Lbin -l:libusb-1.0.so.0 -pthread -o $@
+
+c-usb: bin/libusb-1.0.a bin/libusb-1.0.so.0 bin/libtirnouch-record.so
 
 # The same libraries over an unproved core. TRUST=1 leaves out its checks.
 .PHONY: c-try
 c-try:
-	@tools/progress.py timed c-try -- $(MAKE) --no-print-directory CORE=try bin/libusb-1.0.a bin/libusb-1.0.so.0
+	@tools/progress.py timed c-try -- $(MAKE) --no-print-directory CORE=try bin/libusb-1.0.a bin/libusb-1.0.so.0 bin/libtirnouch-record.so
 
 c-test: c c-usb
 	@tools/progress.py timed c-test -- tools/c_test.py
@@ -125,6 +130,11 @@ c-abi: c-usb
 .PHONY: c-clients
 c-clients: c-usb
 	@c/clients/run $(if $(CLIENTS),--root $(CLIENTS))
+
+# libfprint's own tests of its USB drivers, unchanged, against the captures that come with them: where Debian's libfprint-2-tests is installed.
+.PHONY: c-fprint
+c-fprint: c-usb
+	@python3 tools/fprint $(FPRINT)
 
 # The scenes of c/tests/usb on libusb itself, over a faked kernel: CLIENTS=DIR names a folder into which libusb was unpacked.
 .PHONY: c-compare

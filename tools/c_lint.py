@@ -1,5 +1,5 @@
 #!/usr/bin/env python3
-"""Looks at the C code with analyzers: tools/c_lint.py. gcc's -fanalyzer and, where it is there, cppcheck read each file of c/usb and c/heap.c.
+"""Looks at the C code with analyzers: tools/c_lint.py. gcc's -fanalyzer and, where it is there, cppcheck read each file of c/usb and c/record, and c/heap.c.
 
 What they find has to stand in c/findings.txt, with the reason why it is none: a line `FILE KIND: REASON`, where KIND is the
 analyzer's word for it (-Wanalyzer-..., or cppcheck's). What stands there and isn't found any more is told too."""
@@ -47,7 +47,7 @@ def explained() -> Set[Finding]:
 
 
 def main() -> int:
-    sources = [*sorted((ROOT / "c" / "usb").glob("*.c")), ROOT / "c" / "heap.c"]
+    sources = [*sorted((ROOT / "c" / "usb").glob("*.c")), *sorted((ROOT / "c" / "record").glob("*.c")), ROOT / "c" / "heap.c"]
     ways = [by_gcc] + ([by_cppcheck] if shutil.which("cppcheck") else [])
     with ThreadPoolExecutor() as pool:
         found = {it for way in ways for part in pool.map(way, sources) for it in part}

@@ -24,7 +24,9 @@ SECONDS = 300
 Word = Union[str, pathlib.Path]
 Ran = subprocess.CompletedProcess[str]
 # What docs/INSTALL.md promises, below the prefix.
-PROMISED = """bin/tirnouch-run bin/tirnouch-replay bin/usbtrace
+PROMISED = """bin/tirnouch-run bin/tirnouch-record bin/tirnouch-replay bin/usbtrace lib/tirnouch/libtirnouch-record.so
+    share/man/man1/tirnouch-record.1 share/bash-completion/completions/tirnouch-record share/zsh/site-functions/_tirnouch-record
+    share/fish/vendor_completions.d/tirnouch-record.fish
     lib/tirnouch/libusb-1.0.so.0 lib/tirnouch/libusb-1.0.so lib/tirnouch/libusb-1.0.a
     lib/tirnouch/libtirnouch_core.a lib/pkgconfig/tirnouch-libusb.pc lib/pkgconfig/tirnouch-core.pc include/tirnouch/libusb-1.0/libusb.h
     include/tirnouch/tirnouch/tirnouch.h include/tirnouch/tirnouch/tirnouch_core.h share/man/man1/usbtrace.1
@@ -50,6 +52,9 @@ OFFERED = {
     "usbtrace de": ["describe", "device", "devices"],
     "usbtrace draw --h": ["--help", "--html"],
     "usbtrace live --r": ["--rounds"],
+    "tirnouch-record --de": ["--device"],
+    "tirnouch-record -o oth": ["other.txt"],
+    "tirnouch-record -o run.pcap -- dirna": ["dirname"],
     "tirnouch-run devices.txt --se": ["--seed", "--seeds"],
     "tirnouch-run dev": ["devices.txt"],
     "tirnouch-run devices.txt --trace oth": ["other.txt"],
@@ -302,7 +307,8 @@ def offered_by_bash(trial: Trial, words: str) -> List[str]:
     folder = trial.prefix / "share" / "bash-completion" / "completions"
     first = f"source {BASH_COMPLETION}" if BASH_COMPLETION.exists() else ":"
     # compopt is for a shell that is at it.
-    text = f"""{first}; compopt() {{ :; }}; source '{folder}/usbtrace'; source '{folder}/tirnouch-run'; COMP_LINE='{words}'; COMP_POINT={len(words)}; COMP_WORDS=({words}); COMP_CWORD=$((${{#COMP_WORDS[@]}} - 1))
+    sources = "".join(f"source '{folder}/{it}'; " for it in ("usbtrace", "tirnouch-run", "tirnouch-record"))
+    text = f"""{first}; compopt() {{ :; }}; {sources}COMP_LINE='{words}'; COMP_POINT={len(words)}; COMP_WORDS=({words}); COMP_CWORD=$((${{#COMP_WORDS[@]}} - 1))
         "$(complete -p {name} | sed 's/.*-F \\([^ ]*\\).*/\\1/')"; printf '%s\\n' "${{COMPREPLY[@]}}" """
     ran = trial.here("bash", "--norc", "-c", text)
     trial.check(ran.returncode == 0 and not ran.stderr, f"bash, {words}: {ran.stderr}")
@@ -311,7 +317,8 @@ def offered_by_bash(trial: Trial, words: str) -> List[str]:
 
 def offered_by_fish(trial: Trial, words: str) -> List[str]:
     folder = trial.prefix / "share" / "fish" / "vendor_completions.d"
-    ran = trial.here("fish", "--no-config", "-c", f"source '{folder}/usbtrace.fish'; source '{folder}/tirnouch-run.fish'; complete -C '{words}'")
+    sources = "".join(f"source '{folder}/{it}.fish'; " for it in ("usbtrace", "tirnouch-run", "tirnouch-record"))
+    ran = trial.here("fish", "--no-config", "-c", f"{sources}complete -C '{words}'")
     trial.check(ran.returncode == 0 and not ran.stderr, f"fish, {words}: {ran.stderr}")
     return [line.split("\t")[0] for line in ran.stdout.split("\n")]
 
@@ -365,7 +372,8 @@ def archives_are_whole(trial: Trial) -> None:
     build = (root / "BUILD").read_text()
     told = trial.here(root / "bin" / "tirnouch-run", "--version").stdout
     core = re.match(r"tirnouch, (\w+) core", told)
-    trial.check(core is not None and f"lib/tirnouch/libusb-1.0.so.0     {core[1]} core" in build, f"BUILD says another core than {told!r}")
+    said = core is not None and re.search(f"^lib/tirnouch/libusb-1.0.so.0 +{core[1]} core$", build, re.M)
+    trial.check(bool(said), f"BUILD says another core than {told!r}")
     trial.check(set(PROMISED) <= set(true) | {"lib/tirnouch/libusb-1.0.so"}, "it has fewer files than an installation")
     trial.drive(root, trial.build(EXAMPLE / "driver.c", "driver", prefix=root))
 

@@ -78,7 +78,8 @@ def wrong_words_are_refused(trial: Trial) -> None:
 
 def help_names_every_word(trial: Trial) -> None:
     ran = trial.run(["--help"])
-    trial.expect(ran, 0, *"--trace --seed --virtual --no-programs --lenient --limit --seeds --keep-going --jobs --version".split())
+    words = "--trace --seed --virtual --no-programs --lenient --limit --seeds --keep-going --jobs --version --umockdev --descriptors"
+    trial.expect(ran, 0, *words.split(), "--device", "--text", "CAPTURE")
 
 
 def programs_are_refused(trial: Trial) -> None:

@@ -181,10 +181,11 @@ int32_t tirnouch_describe(struct tirnouch_slot *slot, uint8_t dev, uint8_t kind,
     size_t buffer_room);
 
 /* What the text says of a device in numbers. `what`: 0 its speed in `kind` (libusb's `libusb_speed`), in
- * `status` 1 where it isn't there yet, and in `amount` 1 where it begins anew with each claim; 1 the interface
- * in `n` for which the system has a driver; 2 answers that wait: those of `ep` from place `amount` on, until
- * `n` packets were taken at the endpoint in `status`; 3 when it is pulled out: behind `amount` answers of `ep`.
- * Of several that of index `i`, from 0 on; NotFound past the last. */
+ * `status` 1 where it isn't there yet, in `amount` 1 where it begins anew with each claim, and in `n` 1 where a
+ * reset doesn't begin it anew; 1 the interface in `n` for which the system has a driver; 2 answers that wait:
+ * those of `ep` from place `amount` on, until `n` packets were taken at the endpoint in `status`, or, where
+ * that is `ep`, until `n` transfers ended there without an answer; 3 when it is pulled out: behind `amount`
+ * answers of `ep`. Of several that of index `i`, from 0 on; NotFound past the last. */
 int32_t tirnouch_tell(struct tirnouch_slot *slot, uint8_t dev, uint8_t what, size_t i,
     struct tirnouch_told *told);
 

@@ -103,6 +103,7 @@ struct pipe {
     uint32_t fed;                     /* so many were in this session of the core; */
     uint64_t later;                   /* it isn't before this moment, 0 for none */
     uint64_t took;                    /* packets that it took in sessions before */
+    uint64_t withdrawn;               /* transfers that ended there without an answer since it was made new: cancelled, or out of time */
 };
 
 struct interface {
@@ -113,7 +114,8 @@ struct interface {
     uint8_t setting;
 };
 
-/* The answers of an endpoint from this place on wait until `count` packets were taken at `other`, or control requests where that is 0. */
+/* The answers of an endpoint from this place on wait until `count` packets were taken at `other`, or control requests where that is 0, or
+ * transfers ended without an answer where it is the endpoint itself, for IN. */
 struct gate {
     uint32_t place;
     uint8_t other;
@@ -137,6 +139,7 @@ struct device {
     struct core *core;                /* its own, or the one that is shared; and */
     uint8_t number_there;             /* its number there */
     bool is_there, is_hidden, is_gone, begins_anew;
+    bool lasts;                       /* a reset doesn't begin its scripts anew, but ends the halts that were seen */
     bool is_living;                   /* it computes answers, and has a core of its own */
     bool is_awaking;                  /* remote wakeup is enabled (USB 2.0, 9.4.5) */
     uint8_t configurations;           /* how many its descriptor says, of which one is there */

@@ -80,6 +80,7 @@ void give_back(struct device *device);
 int learn_gates(struct device *device);
 const struct gate *gate_before(struct pipe *pipe);
 uint64_t came_at(const struct device *device, uint8_t ep);
+void count_withdrawn(struct pipe *pipe, enum libusb_transfer_status status, int moved);
 
 /* lines.c: from the endpoints' queues into the core, and out of it */
 int submit_piece(struct transfer *transfer);

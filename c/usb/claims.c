@@ -64,6 +64,7 @@ int make_new(struct device *device, int interface)
         if (pipe->kind && pipe->interface == interface) {
             pipe->answers = pipe->naks = 0;
             pipe->gates_passed = 0;
+            pipe->withdrawn = 0;
             pipe->is_halted = pipe->is_stopped = false;
             expect_anew(pipe);
         }

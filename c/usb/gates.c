@@ -1,5 +1,5 @@
 /* Answers that wait (`after` in a device's text): an endpoint's, from some place on, until so many packets were taken at another, or so
- * many control requests came. An endpoint's stand in order of place, and what was reached stays reached: so it looks at each once. */
+ * many control requests came, or so many of its own transfers ended without an answer. An endpoint's stand in order of place, and what was reached stays reached: so it looks at each once. */
 #include "bus.h"
 
 #include <stdlib.h>
@@ -46,6 +46,8 @@ int learn_gates(struct device *device)
 static bool is_reached(const struct device *device, const struct gate *gate)
 {
     uint8_t none[1];
+    if (gate->other & LIBUSB_ENDPOINT_IN)
+        return device->pipes[place_of(gate->other)].withdrawn >= gate->count;
     uint64_t before = gate->other ? device->pipes[place_of(gate->other)].took : 0;
     if (gate->count <= before)
         return true;
@@ -67,14 +69,23 @@ const struct gate *gate_before(struct pipe *pipe)
     return NULL;
 }
 
-/* How many packets were taken at an endpoint so far, or control requests came where that is 0: by doubling and halving, since the core
- * tells of one at a time. */
+/* A transfer at an endpoint ended: without an answer, where it was withdrawn before there was one. */
+void count_withdrawn(struct pipe *pipe, enum libusb_transfer_status status, int moved)
+{
+    if (!moved && (status == LIBUSB_TRANSFER_CANCELLED || status == LIBUSB_TRANSFER_TIMED_OUT))
+        pipe->withdrawn++;
+}
+
+/* How many packets were taken at an endpoint so far, control requests came where that is 0, or transfers ended without an answer where it
+ * is one for IN: packets by doubling and halving, since the core tells of one at a time. */
 uint64_t came_at(const struct device *device, uint8_t ep)
 {
     struct gate gate = { .other = ep, .count = 1 };
     uint64_t least = 0;
     if (!ep)
         return device->request_count;
+    if (ep & LIBUSB_ENDPOINT_IN)
+        return device->pipes[place_of(ep)].withdrawn;
     while (is_reached(device, &gate)) {
         least = gate.count;
         gate.count *= 2;

@@ -206,7 +206,7 @@ static int reset(struct libusb_device_handle *handle)
         if (device->interfaces[i].holder && device->interfaces[i].holder != handle)
             return LIBUSB_ERROR_BUSY;
     withdraw(handle, -1, false);
-    int r = device->is_living ? reset_living(device) : make_all_new(device);
+    int r = device->is_living || device->lasts ? end_halts(device) : make_all_new(device);
     if (r)
         return r;
     for (int i = 0; i < INTERFACES; i++)

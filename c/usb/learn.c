@@ -94,6 +94,8 @@ static void learn_word_lines(struct device *device)
         device->speed = told.kind;
         device->is_hidden = told.status;
         device->begins_anew = told.amount;
+        device->lasts = told.n;
+        device->is_watched |= device->lasts;
     }
     if (!tirnouch_tell(&device->core->slot, number, 3, 0, &told)) {
         device->leaves = device->is_watched = true;

@@ -173,9 +173,8 @@ static int end_halt(struct pipe *pipe)
     return r;
 }
 
-/* Its endpoints go on in their scripts, of which nothing is left, and their halts end. A reset of the core's would begin the scripts anew.
- * Nothing is in flight. */
-int reset_living(struct device *device)
+/* Its endpoints go on in their scripts, and their halts end. A reset of the core's would begin the scripts anew. Nothing is in flight. */
+int end_halts(struct device *device)
 {
     int r = 0;
     for (int i = 0; i < ENDPOINTS && !r; i++)

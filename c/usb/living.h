@@ -66,7 +66,7 @@ void leave_by_itself(struct device *device);
 bool ask_device(struct pipe *pipe);
 bool may_be_asked(const struct pipe *pipe);
 void tell_device(struct device *device, enum tirnouch_event event, int number);
-int reset_living(struct device *device);
+int end_halts(struct device *device);
 int ask_for_request(struct device *device, const uint8_t *setup, uint8_t *data, int length);
 uint64_t moment_later(int answer);
 void learn_living(struct device *device);

@@ -288,7 +288,7 @@ static void forget_state(struct device *device)
         pipe->name = -1;
         pipe->gates_passed = 0;
         pipe->answers = pipe->naks = pipe->script = pipe->fed = 0;
-        pipe->later = pipe->took = 0;
+        pipe->later = pipe->took = pipe->withdrawn = 0;
         pipe->is_halted = pipe->is_stopped = false;
         expect_anew(pipe);
     }

@@ -45,6 +45,8 @@ void end_transfer(struct transfer *transfer, enum libusb_transfer_status status,
 {
     struct libusb_context *context = transfer->context;
     take_off(transfer);
+    if (transfer->pipe)
+        count_withdrawn(transfer->pipe, status, moved);
     if (transfer->pipe && transfer->pipe->cut == transfer)
         transfer->pipe->cut = NULL;
     if (transfer->is_dropped) {

@@ -23,7 +23,7 @@ class Fault(Exception):
 
 
 class Binary(NamedTuple):
-    """A file of bin/: where it is installed, the crate of which it is built, and the targets that build it."""
+    """A file of bin/: where it is installed, the crate of which it is built (nothing where it is C alone), and the targets that build it."""
 
     name: str
     place: str
@@ -35,6 +35,7 @@ LIBRARY = "make c-try, without proofs; or make c-usb, which proves its core"
 BINARIES = (
     Binary("libusb-1.0.so.0", "lib/tirnouch/libusb-1.0.so.0", "tirnouch_c", LIBRARY),
     Binary("libusb-1.0.a", "lib/tirnouch/libusb-1.0.a", "tirnouch_c", LIBRARY),
+    Binary("libtirnouch-record.so", "lib/tirnouch/libtirnouch-record.so", "", LIBRARY),
     Binary("libtirnouch_core.a", "lib/tirnouch/libtirnouch_core.a", "tirnouch_c", LIBRARY),
     Binary("usbtrace", "bin/usbtrace", "usbtrace", "make run, without proofs; or make build, which proves it"),
 )
@@ -118,8 +119,8 @@ class Build:
         missing = [it for it in BINARIES if not (folder / it.name).is_file()]
         if missing:
             raise Fault(*(f"there is no {folder / it.name}: build it by {it.targets}" for it in missing))
-        states = {it: self.state(it) for it in sorted({it.crate for it in BINARIES})}
-        self.labels = {it.name: self.label(it, states[it.crate]) for it in BINARIES}
+        states = {it: self.state(it) for it in sorted({it.crate for it in BINARIES if it.crate})}
+        self.labels = {it.name: self.label(it, states.get(it.crate, "")) for it in BINARIES}
 
     def data(self, binary: Binary) -> bytes:
         return (self.folder / binary.name).read_bytes()
@@ -132,6 +133,8 @@ class Build:
 
     def label(self, binary: Binary, state: str) -> str:
         """A library says by itself which core it has; that it isn't that of the sources is told too."""
+        if not binary.crate:
+            return "C, which is tested and not proved"
         if binary.crate == "usbtrace":
             return OLD if state == "none" else state
         found = CORE.search(self.data(binary))
@@ -143,7 +146,7 @@ class Build:
         for it in BINARIES:
             if OLD in self.labels[it.name]:
                 warn(f"bin/{it.name} was {OLD}: build it anew by {it.targets}")
-        used = [*(ROOT / "c").glob("*.c"), *(ROOT / "c" / "include").glob("*.h"), *(ROOT / "c" / "usb").iterdir()]
+        used = [*(ROOT / "c").glob("*.c"), *(ROOT / "c" / "include").glob("*.h"), *(ROOT / "c" / "usb").iterdir(), *(ROOT / "c" / "record").iterdir()]
         newest = max(used, key=lambda it: it.stat().st_mtime)
         if newest.stat().st_mtime > (self.folder / BINARIES[0].name).stat().st_mtime:
             warn(f"bin/{BINARIES[0].name} is older than {newest.relative_to(ROOT)}: if that changed, build it anew by {LIBRARY}")

@@ -6,27 +6,29 @@ from helps import Help, Row
 HEAD = "# Completions of {}, made from its help by tools/install.\n"
 # What stands behind an option or an argument, where that is a file.
 FILES = ("FILE", "DEVICES")
+# The programs before whose -- a file stands, and what zsh is told of it.
+FILED = {"tirnouch-run": "'1:file of devices:_files'"}
 
-BASH_RUN = """_tirnouch_run()
+BASH_RUN = """@function@()
 {
-    local word=${COMP_WORDS[COMP_CWORD]} at has_devices=
+    local word=${COMP_WORDS[COMP_CWORD]} at has_file=@no_file@
     COMPREPLY=()
     for ((at = 1; at < COMP_CWORD; at++)); do
         case ${COMP_WORDS[at]} in
         --)
-            _tirnouch_run_program $((at + 1))
+            @function@_program $((at + 1))
             return
             ;;
         @valued@) ((at++)) ;;
         -*) ;;
-        *) has_devices=yes ;;
+        *) has_file=yes ;;
         esac
     done
     case ${COMP_WORDS[COMP_CWORD-1]} in
     @filed@) ;;
     @others@) return ;;
     *)
-        if [[ $word == -* || $has_devices ]]; then
+        if [[ $word == -* || $has_file ]]; then
             mapfile -t COMPREPLY < <(compgen -W '@options@ --' -- "$word")
             return
         fi
@@ -37,7 +39,7 @@ BASH_RUN = """_tirnouch_run()
 }
 
 # The program, which is the word of this number, and its own words.
-_tirnouch_run_program()
+@function@_program()
 {
     local word=${COMP_WORDS[COMP_CWORD]}
     if declare -F _command_offset >/dev/null; then
@@ -51,7 +53,7 @@ _tirnouch_run_program()
         mapfile -t COMPREPLY < <(compgen -f -- "$word")
     fi
 }
-complete -F _tirnouch_run tirnouch-run
+complete -F @function@ @name@
 """
 BASH_TRACE = """_usbtrace()
 {
@@ -86,7 +88,7 @@ if (( at < CURRENT )); then
 fi
 _arguments \\
 @options@
-    '1:file of devices:_files'
+    @file@
 """
 ZSH_TRACE = """local context state state_descr line
 typeset -A opt_args
@@ -106,22 +108,22 @@ rest)
 esac
 """
 FISH_RUN = """# The words behind --
-function __tirnouch_run_program
+function _@function@_program
     set -l words (commandline -opc)
     set -l at (contains -i -- -- $words)
     and test $at -lt (count $words)
     and string join -- ' ' (string escape -- $words[(math $at + 1)..-1])
 end
 
-function __tirnouch_run_has_program
+function _@function@_has_program
     contains -- -- (commandline -opc)
 end
 
-function __tirnouch_run_complete
-    complete -C "$(string join -- ' ' (__tirnouch_run_program) (commandline -ct))"
+function _@function@_complete
+    complete -C "$(string join -- ' ' (_@function@_program) (commandline -ct))"
 end
 
-complete -c tirnouch-run -n __tirnouch_run_has_program -x -a '(__tirnouch_run_complete)'
+complete -c @name@ -n _@function@_has_program -x -a '(_@function@_complete)'
 """
 
 
@@ -145,14 +147,19 @@ def filed(rows: List[Row]) -> List[str]:
     return [name for row in rows if row.value() in FILES for name in row.options()]
 
 
-def bash_run(help_of: Help) -> str:
+def function_of(name: str) -> str:
+    """The name of a program's function in a shell."""
+    return f"_{name.replace('-', '_')}"
+
+
+def bash_run(name: str, help_of: Help) -> str:
     rows = help_of.options()
     others = [it for it in valued(rows) if it not in filed(rows)]
     return filled(BASH_RUN, valued=" | ".join(valued(rows)), filed=" | ".join(filed(rows)), others=" | ".join(others),
-                  options=" ".join(options_of(rows)))
+                  options=" ".join(options_of(rows)), function=function_of(name), name=name, no_file="" if name in FILED else "yes")
 
 
-def bash_trace(help_of: Help) -> str:
+def bash_trace(_name: str, help_of: Help) -> str:
     cases = "\n".join(f"    {name}) options='{' '.join(options_of(it.options()))}' ;;" for name, it in help_of.words.items())
     takes = sorted({name for it in help_of.words.values() for name in valued(it.options())})
     words = [*help_of.words, *options_of(help_of.options()), "--version"]
@@ -168,15 +175,16 @@ def zsh_text(text: str) -> str:
 
 def zsh_option(row: Row) -> Iterator[str]:
     for name in row.options():
-        value = f":{row.value()}:{'_files' if row.value() in FILES else ''}" if row.value() else ""
+        value = f":{zsh_text(row.value())}:{'_files' if row.value() in FILES else ''}" if row.value() else ""
         yield f"'{name}[{zsh_text(row.text)}]{value}'"
 
 
-def zsh_run(help_of: Help) -> str:
-    return filled(ZSH_RUN, options="\n".join(f"    {it} \\" for row in help_of.options() for it in zsh_option(row)))
+def zsh_run(name: str, help_of: Help) -> str:
+    options = "\n".join(f"    {it} \\" for row in help_of.options() for it in zsh_option(row))
+    return filled(ZSH_RUN, options=options, file=FILED.get(name, "'1: :'"))
 
 
-def zsh_trace(help_of: Help) -> str:
+def zsh_trace(_name: str, help_of: Help) -> str:
     words = "\n".join(f"        '{name}:{zsh_text(it.about)}'" for name, it in help_of.words.items())
     cases = []
     for name, it in help_of.words.items():
@@ -198,12 +206,13 @@ def fish_option(row: Row) -> str:
     return f"{names}{takes} -d {fish_text(row.text)}"
 
 
-def fish_run(help_of: Help) -> str:
-    lines = [f"complete -c tirnouch-run -n 'not __tirnouch_run_has_program' {fish_option(row)}" for row in help_of.options()]
-    return FISH_RUN + "\n".join(lines) + "\n"
+def fish_run(name: str, help_of: Help) -> str:
+    function = function_of(name)
+    lines = [f"complete -c {name} -n 'not _{function}_has_program' {fish_option(row)}" for row in help_of.options()]
+    return filled(FISH_RUN, function=function, name=name) + "\n".join(lines) + "\n"
 
 
-def fish_trace(help_of: Help) -> str:
+def fish_trace(_name: str, help_of: Help) -> str:
     lines = ["complete -c usbtrace -n __fish_use_subcommand -f -l version -d 'Print the version'"]
     for name, it in help_of.words.items():
         lines.append(f"complete -c usbtrace -n __fish_use_subcommand -f -a {name} -d {fish_text(it.about)}")
@@ -213,10 +222,11 @@ def fish_trace(help_of: Help) -> str:
 
 def completions(helps: Dict[str, Help]) -> Dict[str, str]:
     found = {}
-    makers = {"tirnouch-run": (bash_run, zsh_run, fish_run), "usbtrace": (bash_trace, zsh_trace, fish_trace)}
+    runs = (bash_run, zsh_run, fish_run)
+    makers = {"tirnouch-run": runs, "tirnouch-record": runs, "usbtrace": (bash_trace, zsh_trace, fish_trace)}
     for name, (bash, zsh, fish) in makers.items():
         head, it = HEAD.format(name), helps[name]
-        found[f"share/bash-completion/completions/{name}"] = head + bash(it)
-        found[f"share/zsh/site-functions/_{name}"] = f"#compdef {name}\n{head}{zsh(it)}"
-        found[f"share/fish/vendor_completions.d/{name}.fish"] = head + fish(it)
+        found[f"share/bash-completion/completions/{name}"] = head + bash(name, it)
+        found[f"share/zsh/site-functions/_{name}"] = f"#compdef {name}\n{head}{zsh(name, it)}"
+        found[f"share/fish/vendor_completions.d/{name}.fish"] = head + fish(name, it)
     return found

@@ -16,12 +16,14 @@ ROWS = {"tirnouch-replay": "COMMENTS OF A TRACE"}
 EXAMPLES = {
     "tirnouch-run": ["tirnouch-run devices.txt --trace run.txt -- ./driver",
                      "tirnouch-run devices.txt --seeds 1-200 --limit 10s -- ./test"],
+    "tirnouch-record": ["tirnouch-record -o run.pcap -- ./driver", "tirnouch-run run.pcap -- ./driver"],
     "tirnouch-replay": ["tirnouch-replay run.txt"],
     "usbtrace": ["usbtrace run --steps run.txt", "usbtrace draw --html run.txt > run.html"],
 }
 SEE = {
-    "usbtrace": "tirnouch-run(1), tirnouch-replay(1)",
-    "tirnouch-run": "usbtrace(1), tirnouch-replay(1)",
+    "usbtrace": "tirnouch-run(1), tirnouch-record(1), tirnouch-replay(1)",
+    "tirnouch-run": "tirnouch-record(1), usbtrace(1), tirnouch-replay(1)",
+    "tirnouch-record": "tirnouch-run(1), usbtrace(1)",
     "tirnouch-replay": "tirnouch-run(1), usbtrace(1)",
 }
 # Stands for the dash between a name and what it does.

@@ -16,6 +16,8 @@ NAME = "tirnouch"
 MAINTAINER = "Tirnouch maintainers <maintainers@users.noreply.tirnouch.example>"
 # Where the shared libraries stand that a binary may need, by package.
 PACKAGES = {"libc.so.6": "libc6", "libm.so.6": "libc6", "ld-linux-x86-64.so.2": "libc6", "libgcc_s.so.1": "libgcc-s1"}
+# What a program that is recorded has: the system's libusb, or this package's own under tirnouch-run.
+BROUGHT = "libusb-1.0.so.0"
 CONTROL = """Package: {name}
 Version: {version}
 Architecture: {architecture}
@@ -23,7 +25,7 @@ Maintainer: {maintainer}
 Installed-Size: {size}
 Depends: {depends}
 Recommends: python3
-Suggests: gcc, pkgconf | pkg-config
+Suggests: gcc, pkgconf | pkg-config, libusb-1.0-0
 Section: libdevel
 Priority: optional
 Description: libusb 1.0 over scripted USB devices, for tests of drivers
@@ -58,7 +60,7 @@ def needed(path: pathlib.Path) -> Dict[str, Tuple[int, ...]]:
     dynamic, symbols = answer_of("objdump", "-p", str(path)), answer_of("objdump", "-T", str(path))
     if dynamic is None or symbols is None:
         raise Fault(f"objdump can't read {path}: the package binutils has it")
-    libraries = re.findall(r"NEEDED\s+(\S+)", dynamic)
+    libraries = [it for it in re.findall(r"NEEDED\s+(\S+)", dynamic) if it != BROUGHT]
     strange = [it for it in libraries if it not in PACKAGES]
     if strange:
         raise Fault(f"{path.name} needs {', '.join(strange)}, of which tools/install/package.py doesn't know the package")

@@ -13,6 +13,7 @@ NAMES = {
     "tools/replay.py bin/usbtrace": "tirnouch-replay",
     "tools/replay.py": "tirnouch-replay",
     "tools/tirnouch-run": "tirnouch-run",
+    "tools/tirnouch-record": "tirnouch-record",
     "bin/usbtrace": "usbtrace",
     "-Ic/include ": "$(pkg-config --cflags tirnouch-libusb) ",
     "-Lbin -lusb-1.0": "$(pkg-config --libs tirnouch-libusb)",

@@ -24,7 +24,7 @@ Libs.private: -pthread
 CORE = """Cflags: -I${includedir} -I${includedir}/tirnouch
 Libs: -L${libdir} -ltirnouch_core
 """
-SCRIPTS = {"tirnouch-run": "tirnouch-run", "replay.py": "tirnouch-replay"}
+SCRIPTS = {"tirnouch-run": "tirnouch-run", "tirnouch-record": "tirnouch-record", "replay.py": "tirnouch-replay"}
 
 
 class File(NamedTuple):
@@ -60,7 +60,7 @@ def pkgconfig() -> Tree:
 
 
 def scripts() -> Tree:
-    """tirnouch-run, with the modules that watch its programs, and tirnouch-replay."""
+    """tirnouch-run and tirnouch-record, with the modules that watch their programs, and tirnouch-replay."""
     found = {f"bin/{it}": File((ROOT / "tools" / name).read_bytes(), 0o755) for name, it in SCRIPTS.items()}
     for path in sorted((ROOT / "tools" / "runs").glob("*.py")):
         found[f"share/tirnouch/runs/{path.name}"] = File(path.read_bytes())
@@ -79,7 +79,7 @@ def examples() -> Tree:
 def whole(build: Build) -> Tree:
     """All of it. Man pages and completions are made from what the programs, as they are installed, say of themselves."""
     found = {**binaries(build), **headers(), **pkgconfig(), **scripts(), **examples()}
-    helps = all_helps({name: found[f"bin/{name}"].data for name in ("usbtrace", "tirnouch-run", "tirnouch-replay")})
+    helps = all_helps({name: found[f"bin/{name}"].data for name in ("usbtrace", *SCRIPTS.values())})
     texts = {**manuals(helps), **completions(helps), "share/doc/tirnouch/BUILD": build.text()}
     found.update({name: File(text.encode()) for name, text in texts.items()})
     found.update({f"share/doc/tirnouch/{name}": File(data) for name, data in pages().items()})

@@ -1,16 +1,21 @@
-"""The part of tools/tirnouch-run that watches programs: a limit, many seeds, the library's version.
+"""The part of tools/tirnouch-run and tools/tirnouch-record that watches programs: a limit, many seeds, a recording; that makes a text of
+devices of a capture; and that tells the library's version.
 
     python3 tools/runs version LIBRARY FILE
-    python3 tools/runs judge DEVICES -- PROGRAM ..
-    python3 tools/runs limit TIME MILLISECONDS [--judge DEVICES] -- PROGRAM ..
+    python3 tools/runs record FILE LIBRARY [--device VENDOR:PRODUCT] [--no-strings] -- PROGRAM ..
+    python3 tools/runs text CAPTURE TEXT USBTRACE [--umockdev FILE] [--descriptors FILE] [--device VENDOR:PRODUCT]
+    python3 tools/runs judge DEVICES [--lenient] [--remove FILE] -- PROGRAM ..
+    python3 tools/runs limit TIME MILLISECONDS [--judge DEVICES] [--remove FILE] -- PROGRAM ..
     python3 tools/runs seeds FIRST LAST [--jobs N] [--keep-going] [--limit TIME MILLISECONDS] [--virtual] [--no-programs] [--lenient] \
-        --picture USBTRACE REMEDY --again RUN DEVICES -- PROGRAM ..
+        [--remove FILE] --picture USBTRACE REMEDY --again RUN DEVICES [--more WORD ..] -- PROGRAM ..
 
-tools/tirnouch-run has checked the words, and has set the environment of the program. It knows where the parts stand, in the repository
-and where they are installed: the library, the FILE with the version, and usbtrace, with the REMEDY where that is missing.
+tools/tirnouch-run or tools/tirnouch-record has checked the words, and tirnouch-run has set the environment of the program. They know where
+the parts stand, in the repository and where they are installed: the library, the FILE with the version, and usbtrace, with the REMEDY where
+that is missing. A FILE to --remove is the text that was made of a capture.
 
 The modules, from below: program (a process group, and its end); traces (the files of a run's steps); judged (whether a run wrote what is
-expected); limit (a run that is watched, and ended when its time is over); seeds (many runs); shown (what is told of them)."""
+expected); limit (a run that is watched, and ended when its time is over); seeds (many runs); shown (what is told of them). Of captures:
+capture (its events), recorded (a run that makes one), described (what a device is, by other files), text (what is made of one)."""
 import argparse
 import ctypes
 import pathlib
@@ -19,10 +24,12 @@ import sys
 import tempfile
 from typing import List, NoReturn, Sequence
 
-from limit import run_judged, run_with_limit
+from limit import remove, run_judged, run_with_limit
 from program import end_by, tell
+from recorded import run_recorded
 from seeds import Seeds
 from shown import report
+from text import write_text
 
 
 class Ended(Exception):
@@ -42,6 +49,7 @@ def run_seeds(words: argparse.Namespace, program: Sequence[str]) -> int:
             runs.run()
             return report(runs)
     except Ended as ended:
+        remove(words.remove)
         end_by(ended.args[0])
     except OSError as error:
         tell(f"the runs can't be made: {error}")
@@ -79,8 +87,14 @@ def arguments(words: Sequence[str]) -> argparse.Namespace:
     version = kinds.add_parser("version")
     version.add_argument("library")
     version.add_argument("file", type=pathlib.Path)
+    record = kinds.add_parser("record")
+    record.add_argument("file", type=pathlib.Path)
+    record.add_argument("library")
+    record.add_argument("--device")
+    record.add_argument("--no-strings", action="store_true")
     judge = kinds.add_parser("judge")
     judge.add_argument("devices")
+    judge.add_argument("--lenient", action="store_true")
     limit = kinds.add_parser("limit")
     limit.add_argument("said")
     limit.add_argument("milliseconds", type=int)
@@ -96,6 +110,16 @@ def arguments(words: Sequence[str]) -> argparse.Namespace:
     seeds.add_argument("--lenient", action="store_true")
     seeds.add_argument("--picture", nargs=2, required=True)
     seeds.add_argument("--again", nargs=2, required=True)
+    seeds.add_argument("--more", action="append", default=[])
+    for kind in (judge, limit, seeds):
+        kind.add_argument("--remove", type=pathlib.Path)
+    text = kinds.add_parser("text")
+    text.add_argument("capture", type=pathlib.Path)
+    text.add_argument("text", type=pathlib.Path)
+    text.add_argument("usbtrace")
+    text.add_argument("--umockdev", type=pathlib.Path)
+    text.add_argument("--descriptors", type=pathlib.Path)
+    text.add_argument("--device")
     return parser.parse_args(words)
 
 
@@ -104,11 +128,18 @@ def main(words: List[str]) -> int:
     asked, program = arguments(words[:at]), words[at + 1:]
     if asked.kind == "version":
         return print_version(asked.library, asked.file)
+    if asked.kind == "record":
+        run_recorded(asked, program)
     if asked.kind == "judge":
-        run_judged(asked.devices, program)
+        run_judged(asked, program)
     if asked.kind == "limit":
-        run_with_limit(asked.said, asked.milliseconds, asked.judge, program)
-    return run_seeds(asked, program)
+        run_with_limit(asked, program)
+    if asked.kind == "text":
+        return write_text(asked)
+    try:
+        return run_seeds(asked, program)
+    finally:
+        remove(asked.remove)
 
 
 if __name__ == "__main__":

@@ -2,6 +2,7 @@
 
 The library itself ends the run when the time is over, since it knows what is in flight; a program that doesn't get so far, or hangs
 elsewhere, is ended from here somewhat later."""
+import argparse
 import os
 import pathlib
 import signal
@@ -135,8 +136,15 @@ def judged_status(judgement: Judgement, devices: Optional[str], program: str, st
     return judgement.status(program, devices, os.WEXITSTATUS(status)) << 8
 
 
-def run_judged(devices: str, words: Sequence[str]) -> NoReturn:
+def remove(file: Optional[pathlib.Path]) -> None:
+    """Removes the text that was made for this run alone, if one was."""
+    if file:
+        file.unlink(missing_ok=True)
+
+
+def run_judged(asked: argparse.Namespace, words: Sequence[str]) -> NoReturn:
     """Runs the program, and ends as it does, or by what is judged."""
+    devices = None if asked.lenient else asked.devices
     environment = program_environment()
     with tempfile.TemporaryDirectory(prefix="tirnouch-run-") as folder:
         judgement = Judgement(pathlib.Path(folder))
@@ -144,11 +152,13 @@ def run_judged(devices: str, words: Sequence[str]) -> NoReturn:
         program = Watched(words, environment)
         program.wait(time.monotonic() + NEVER)
         status = judged_status(judgement, devices, words[0], program.status or 0)
+    remove(asked.remove)
     end_as(program, status)
 
 
-def run_with_limit(said: str, milliseconds: int, devices: Optional[str], words: Sequence[str]) -> NoReturn:
+def run_with_limit(asked: argparse.Namespace, words: Sequence[str]) -> NoReturn:
     """Runs the program, and ends as it does, or with status 124 where the limit is over. It is judged where the devices' name is said."""
+    said, milliseconds, devices = asked.said, asked.milliseconds, asked.judge
     environment = program_environment()
     # A file's moment may be a little earlier than the clock.
     began, since = time.monotonic(), time.time() - 1
@@ -170,4 +180,5 @@ def run_with_limit(said: str, milliseconds: int, devices: Optional[str], words: 
             tell_last_steps(os.fsdecode(name), since)
         if status is not None:
             status = judged_status(judgement, devices, words[0], status)
+    remove(asked.remove)
     end_as(program, OVER << 8 if status is None else status)

@@ -14,18 +14,25 @@ OVER = 124
 SLACK, GRACE = 2.0, 1.0
 
 
+class Speaker:
+    """The program that the user has started, in whose name something is told."""
+
+    name = "tirnouch-run"
+
+
 def tell(*sentences: str) -> None:
     """Each sentence is a line of its own."""
     sys.stdout.flush()
     for sentence in sentences:
-        print(f"tirnouch-run: {sentence}", file=sys.stderr, flush=True)
+        print(f"{Speaker.name}: {sentence}", file=sys.stderr, flush=True)
 
 
 def end_by(number: int) -> NoReturn:
     """Ends this process by the signal that ended the program, without a second core file."""
     resource.setrlimit(resource.RLIMIT_CORE, (0, 0))
-    signal.signal(number, signal.SIG_DFL)
-    signal.pthread_sigmask(signal.SIG_UNBLOCK, {number})
+    if number not in (signal.SIGKILL, signal.SIGSTOP):  # these can't be caught or blocked
+        signal.signal(number, signal.SIG_DFL)
+        signal.pthread_sigmask(signal.SIG_UNBLOCK, {number})
     os.kill(os.getpid(), number)
     os._exit(128 + number)
 

@@ -73,7 +73,7 @@ def copy_traces(bus: pathlib.Path, kept: pathlib.Path) -> pathlib.Path:
 
 def command_again(words: argparse.Namespace, program: Sequence[str], seed: int) -> str:
     run, devices = words.again
-    more = ["--virtual"] if words.virtual else []
+    more = [*words.more, *(["--virtual"] if words.virtual else [])]
     more += ["--no-programs"] if words.no_programs else []
     more += ["--lenient"] if words.lenient else []
     more += ["--limit", words.limit[0]] if words.limit else []

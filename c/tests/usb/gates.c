@@ -70,6 +70,45 @@ static void too_early(void)
     end();
 }
 
+/* An endpoint's own: its second answer waits until one of its reads was withdrawn before it had one, and its third until two were. */
+static void behind_those_that_ended(void)
+{
+    struct libusb_transfer *reads[4];
+    begin("answers behind reads that ended without one", "script 0 81 d:01 d:02 d:03\nafter 0 81 1 81 1\nafter 0 81 2 81 2\n");
+    reads[0] = submit(0, 0x81, 8);
+    reads[1] = submit(1, 0x81, 8);
+    reads[2] = submit(2, 0x81, 8);
+    work();
+    say(calls == 1 ? "the second waits" : "not one answer");
+    answer("cancel the second", libusb_cancel_transfer(reads[1]));
+    work();
+    reads[3] = submit_with(3, 0x81, 8, 0, 20);
+    wait_for(4);
+    for (int i = 0; i < 4; i++)
+        discard(reads[i]);
+    reads[0] = submit(4, 0x81, 8);
+    work();
+    discard(reads[0]);
+    end();
+}
+
+/* A read that got its answer isn't one without, whether it is cancelled then or not. */
+static void those_that_got_one_do_not_count(void)
+{
+    struct libusb_transfer *read;
+    begin("a read that got an answer", "script 0 81 d:0102030405060708 d:02 d:03\nafter 0 81 2 81 1\n");
+    read = submit(0, 0x81, 16);
+    work();
+    discard(read);
+    read = submit(1, 0x81, 8);
+    work();
+    say(calls == 1 ? "the third answer waits" : "it didn't wait");
+    libusb_cancel_transfer(read);
+    work();
+    discard(read);
+    end();
+}
+
 static void many_and_few(void)
 {
     long long few = exchange(FEW), many = exchange(MANY);
@@ -79,6 +118,8 @@ static void many_and_few(void)
 int main(void)
 {
     too_early();
+    behind_those_that_ended();
+    those_that_got_one_do_not_count();
     many_and_few();
     return 0;
 }

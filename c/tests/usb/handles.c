@@ -188,6 +188,19 @@ static void script_goes_on(void)
     end();
 }
 
+/* A reset ends its halts, and no more. */
+static void script_lasts(void)
+{
+    begin("the script lasts", "script 0 81 d:01 s d:02 d:03\nlasts 0\n");
+    read_one(handle, "read");
+    answer("reset", libusb_reset_device(handle));
+    read_one(handle, "read");
+    answer("reset", libusb_reset_device(handle));
+    read_one(handle, "read");
+    read_one(handle, "read");
+    end();
+}
+
 static void script_begins_with_each_claim(void)
 {
     begin("the script begins anew with each claim", "script 0 81 d:01 d:02 d:03\nanew 0\n");
@@ -348,6 +361,7 @@ int main(void)
     close_in_flight();
     release_in_flight();
     script_goes_on();
+    script_lasts();
     script_begins_with_each_claim();
     others_and_resets();
     driver();

@@ -49,6 +49,8 @@ static void places(void)
     refuse("an endpoint that isn't there", DEVICE "script 0 83 n\n");
     refuse("a second script", DEVICE "script 0 81 n\nscript 0 81 n\n");
     refuse("answers behind a script's end", DEVICE "script 0 81 n\nafter 0 81 1 02 1\n");
+    refuse("answers that wait for another IN endpoint", STANDARD "script 0 81 n\nafter 0 81 0 83 1\n");
+    refuse("a device that lasts for something", DEVICE "lasts 0 1\n");
     refuse("a departure behind a script's end", DEVICE "script 0 81 n\nleaves 0 81 2\n");
     refuse("a driver of no interface", DEVICE "driver 0 1\n");
     refuse("said twice", DEVICE "ids 0 1209 0002\n# again\nids 0 1209 0003\n");

@@ -46,8 +46,8 @@ speed_number Full = 2
 speed_number High = 3
 
 -- what a text says of a device, in numbers
-abbrev pub device_told : (speed : ℕ) → (hidden anew : Bool) → Told
-device_told speed hidden anew = record (of_kind 255 speed) { status = bit hidden; amount = bit anew }
+abbrev pub device_told : (speed : ℕ) → (hidden anew lasts : Bool) → Told
+device_told speed hidden anew lasts = record (of_kind 255 speed) { status = bit hidden; amount = bit anew; n = bit lasts }
 
 abbrev pub driver_told : ℕ → Told
 driver_told interface = record (of_kind 255 0) { n = interface }
@@ -60,7 +60,7 @@ departure_told d = record (of_kind 255 0) { ep = d.ep; amount = d.answers }
 
 abbrev pub fact : DeskDevice → (what i : ℕ) → Option Told
 fact d what i =
-    if what == 0 then Some (device_told (speed_number d.speed) d.hidden d.anew)
+    if what == 0 then Some (device_told (speed_number d.speed) d.hidden d.anew d.lasts)
     else if what == 1 then option_map driver_told (slice_get d.drivers i)
     else if what == 2 then option_map gate_told (slice_get d.gates i)
     else if what == 3 then option_map departure_told (slice_get d.departures i)

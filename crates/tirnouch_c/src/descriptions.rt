@@ -62,13 +62,18 @@ fn speed_number(speed: Speed) -> u8
     }
 }
 
-/// What a text says of a device, in numbers: 0 its speed, whether it isn't there yet, and whether it begins anew with each claim; 1 the
-/// driver of this index, 2 the answers that wait, 3 the departure.
+/// What a text says of a device, in numbers: 0 its speed, whether it isn't there yet, whether it begins anew with each claim, and whether
+/// a reset doesn't begin it anew; 1 the driver of this index, 2 the answers that wait, 3 the departure.
 fn fact(device: &DeskDevice, what: u8, i: usize) -> Option<Told>
     ensures { result ≡ fact device.now what i }
 {
     match what {
-        0 => Some(Told::device(speed_number(device.speed), device.hidden, device.anew)),
+        0 => Some(Told::device(
+            speed_number(device.speed),
+            device.hidden,
+            device.anew,
+            device.lasts,
+        )),
         1 => Some(Told::driver(*device.drivers.as_slice().get(i)?)),
         2 => Some(Told::gate(device.gates.as_slice().get(i)?)),
         3 => Some(Told::departure(device.departures.as_slice().get(i)?)),

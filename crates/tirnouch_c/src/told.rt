@@ -243,13 +243,14 @@ impl Told {
         }
     }
 
-    /// The speed of a device, whether it isn't there yet, and whether it begins anew with each claim.
-    pub fn device(speed: u8, hidden: bool, anew: bool) -> Told
-        ensures { result ≡ device_told speed hidden anew }
+    /// The speed of a device, whether it isn't there yet, whether it begins anew with each claim, and whether a reset doesn't begin it anew.
+    pub fn device(speed: u8, hidden: bool, anew: bool, lasts: bool) -> Told
+        ensures { result ≡ device_told speed hidden anew lasts }
     {
         Told {
             status: u8::from(hidden),
             amount: u32::from(anew),
+            n: u64::from(lasts),
             ..Told::of_kind(255, speed)
         }
     }

@@ -23,6 +23,7 @@ new_device configuration interfaces = record {
   speed = High;
   hidden = false;
   anew = false;
+  lasts = false;
   drivers = [];
   controls = [];
   gates = [];
@@ -55,4 +56,5 @@ said (says.After gate) d = record d { gates = d.gates ++ gate ∷ [] }
 said (says.Leaves departure) d = record d { departures = d.departures ++ departure ∷ [] }
 said says.Hidden d = record d { hidden = true }
 said says.Anew d = record d { anew = true }
+said says.Lasts d = record d { lasts = true }
 said (says.Driver interface) d = record d { drivers = d.drivers ++ interface ∷ [] }

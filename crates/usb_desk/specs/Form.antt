@@ -23,6 +23,7 @@ form topic.After = wanted.Device ∷ wanted.Address ∷ wanted.Number ∷ wanted
 form topic.Leaves = wanted.Device ∷ wanted.Address ∷ wanted.Number ∷ []
 form topic.Hidden = wanted.Device ∷ []
 form topic.Anew = wanted.Device ∷ []
+form topic.Lasts = wanted.Device ∷ []
 form topic.Driver = wanted.Device ∷ wanted.Interface ∷ []
 
 -- how many words a line has, the first word among them; how many answers stands with them
@@ -39,6 +40,7 @@ has_count topic.After count = count == 6
 has_count topic.Leaves count = count == 4
 has_count topic.Hidden count = count == 2
 has_count topic.Anew count = count == 2
+has_count topic.Lasts count = count == 2
 has_count topic.Driver count = count == 3
 
 -- a word by its place, the first at 0; an empty one past the last
@@ -80,4 +82,5 @@ form_text topic.After = codes "after D EP K OTHER N"
 form_text topic.Leaves = codes "leaves D EP N"
 form_text topic.Hidden = codes "hidden D"
 form_text topic.Anew = codes "anew D"
+form_text topic.Lasts = codes "lasts D"
 form_text topic.Driver = codes "driver D I"

@@ -74,7 +74,7 @@ descriptor_text desc.TooMany = codes "there are more than 32 interfaces"
 -- in words
 abbrev pub form_fault_text : FormFault → List ℕ
 form_fault_text (fault.Space at) = codes "single spaces stand between words, and none at the line's end"
-form_fault_text fault.FirstWord = codes "a line begins with device, script, ids, class, descriptor, string, speed, control, after, leaves, hidden, anew or driver"
+form_fault_text fault.FirstWord = codes "a line begins with device, script, ids, class, descriptor, string, speed, control, after, leaves, hidden, anew, lasts or driver"
 form_fault_text (fault.Count topic) = codes "the form is `" ++ (form_text topic ++ codes "`")
 form_fault_text (fault.Answers topic) = codes "there are 1 to 65536 answers in a line"
 form_fault_text (fault.Word at wanted) = wanted_text wanted

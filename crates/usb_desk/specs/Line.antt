@@ -10,8 +10,8 @@ use Rattle.usb_desk.specs.declared.line.DeskLine.{DeskLine}
 use Rattle.usb_desk.specs.declared.line.DeskLine.TheVariants as line
 use Rattle.usb_desk.specs.declared.statement.Statement.{Statement}
 use Rattle.usb_desk.specs.declared.topic.Topic.{Topic}
-use Rattle.usb_desk.specs.declared.topic.Topic.TheVariants.{Device, Script, Ids, Class, Descriptor, Text, Speed, Control, After, Leaves, Hidden, Anew, Driver}
-use Rattle.usb_desk.specs.Statement.{anew_of, class_of, control_of, descriptor_of, driver_of, gate_of, hidden_of, ids_of, leaves_of, speed_line_of, string_line_of}
+use Rattle.usb_desk.specs.declared.topic.Topic.TheVariants.{Device, Script, Ids, Class, Descriptor, Text, Speed, Control, After, Leaves, Hidden, Anew, Lasts, Driver}
+use Rattle.usb_desk.specs.Statement.{anew_of, class_of, control_of, descriptor_of, driver_of, gate_of, hidden_of, ids_of, lasts_of, leaves_of, speed_line_of, string_line_of}
 use Rattle.usb_desk.specs.Topic.{topic_of}
 
 -- the numbers of the interfaces that a configuration descriptor has
@@ -43,6 +43,7 @@ statement_by After words = gate_of words
 statement_by Leaves words = leaves_of words
 statement_by Hidden words = hidden_of words
 statement_by Anew words = anew_of words
+statement_by Lasts words = lasts_of words
 statement_by Driver words = driver_of words
 
 unfoldable pub said_by : Topic → List (List ℕ) → Option DeskLine

@@ -34,6 +34,10 @@ has_place d g = option_map_or (nat_lt g.place) (answer_count d g.ep) false
 abbrev pub takes_packets : DeviceSetup → ℕ → Bool
 takes_packets d ep = (ep == 0) || (takes_script d.config ep && not (is_in ep))
 
+-- or until transfers ended without an answer at the endpoint itself
+abbrev pub can_wait : DeviceSetup → Gate → Bool
+can_wait d g = (g.other == g.ep) || takes_packets d g.other
+
 -- a device is pulled out behind as many answers as the endpoint has at most
 abbrev pub has_answers : DeviceSetup → Departure → Bool
 has_answers d l = option_map_or (nat_le l.answers) (answer_count d l.ep) false
@@ -51,7 +55,7 @@ has_speed d speed = list_all (λ info. is_within speed info.kind info.packet_siz
 
 -- whether what a line says applies to its device
 abbrev pub applies : DeviceSetup → Statement → Bool
-applies d (says.After gate) = has_place d gate && takes_packets d gate.other
+applies d (says.After gate) = has_place d gate && can_wait d gate
 applies d (says.Leaves departure) = has_answers d departure
 applies d (says.Speed speed) = has_speed d speed
 applies d (says.Driver interface) = list_any (λ i. i == interface) d.config.interfaces

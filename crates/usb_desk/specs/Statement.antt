@@ -77,6 +77,10 @@ unfoldable pub anew_of : List (List ℕ) → Option Statement
 anew_of [] = Some says.Anew
 anew_of _ = None
 
+unfoldable pub lasts_of : List (List ℕ) → Option Statement
+lasts_of [] = Some says.Lasts
+lasts_of _ = None
+
 unfoldable pub driver_of : List (List ℕ) → Option Statement
 driver_of (number ∷ []) = option_map says.Driver (u8_of number)
 driver_of _ = None

@@ -2,7 +2,7 @@
 use Rattle.std.specs.Prelude.{ℕ, List, codes, Option, Some, None, if◌then◌else◌}
 use Rattle.std.specs.Str.{bytes_eq}
 use Rattle.usb_desk.specs.declared.topic.Topic.{Topic}
-use Rattle.usb_desk.specs.declared.topic.Topic.TheVariants.{Device, Script, Ids, Class, Descriptor, Text, Speed, Control, After, Leaves, Hidden, Anew, Driver}
+use Rattle.usb_desk.specs.declared.topic.Topic.TheVariants.{Device, Script, Ids, Class, Descriptor, Text, Speed, Control, After, Leaves, Hidden, Anew, Lasts, Driver}
 
 -- the topic of a word
 unfoldable pub topic_of : List ℕ → Option Topic
@@ -19,5 +19,6 @@ topic_of word =
     if bytes_eq word (codes "leaves") then Some Leaves else
     if bytes_eq word (codes "hidden") then Some Hidden else
     if bytes_eq word (codes "anew") then Some Anew else
+    if bytes_eq word (codes "lasts") then Some Lasts else
     if bytes_eq word (codes "driver") then Some Driver else
     None

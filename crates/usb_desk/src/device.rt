@@ -29,6 +29,8 @@ pub struct DeskDevice {
     pub hidden: bool,
     /// Whether it begins anew each time that one of its interfaces is claimed.
     pub anew: bool,
+    /// Whether it goes on where it stands when it is reset.
+    pub lasts: bool,
     /// The interfaces for which the system has a driver.
     pub drivers: Bytes,
     /// Its answers to requests; the first that a request fits answers it.
@@ -61,6 +63,7 @@ impl DeskDevice {
             speed: Speed::High,
             hidden: false,
             anew: false,
+            lasts: false,
             drivers: Bytes::new(alloc),
             controls: Sequence::new(alloc),
             gates: Sequence::new(alloc),
@@ -113,6 +116,7 @@ impl DeskDevice {
             Statement::Leaves(departure) => self.departures.push(departure)?,
             Statement::Hidden => self.hidden = true,
             Statement::Anew => self.anew = true,
+            Statement::Lasts => self.lasts = true,
             Statement::Driver(interface) => self.drivers.push(interface)?,
         }
         Ok(())

@@ -95,7 +95,7 @@ impl Topic {
             Topic::Control => CONTROL,
             Topic::After => AFTER,
             Topic::Leaves => LEAVES,
-            Topic::Hidden | Topic::Anew => BARE,
+            Topic::Hidden | Topic::Anew | Topic::Lasts => BARE,
             Topic::Driver => DRIVER,
         }
     }
@@ -106,7 +106,7 @@ impl Topic {
         ensures { result ≡ has_count self count }
     {
         match self {
-            Topic::Hidden | Topic::Anew => count == 2,
+            Topic::Hidden | Topic::Anew | Topic::Lasts => count == 2,
             Topic::Device | Topic::Descriptor | Topic::Speed | Topic::Driver => count == 3,
             Topic::Leaves => count == 4,
             Topic::Ids => count == 4 || count == 5,
@@ -171,6 +171,7 @@ impl Topic {
             Topic::Leaves => "leaves D EP N",
             Topic::Hidden => "hidden D",
             Topic::Anew => "anew D",
+            Topic::Lasts => "lasts D",
             Topic::Driver => "driver D I",
         }
     }

@@ -82,7 +82,7 @@ impl fmt::Display for FormFault {
                 f.write_str("single spaces stand between words, and none at the line's end")
             }
             FormFault::FirstWord => f.write_str(
-                "a line begins with device, script, ids, class, descriptor, string, speed, control, after, leaves, hidden, anew or driver",
+                "a line begins with device, script, ids, class, descriptor, string, speed, control, after, leaves, hidden, anew, lasts or driver",
             ),
             FormFault::Count(topic) => {
                 let form = topic.spelled();

@@ -11,7 +11,7 @@ ghost use Rattle.usb_desk.specs.Line.{device_of_words, interfaces_of, line_by, l
 
 use crate::statement::{
     Statement, anew_line, class_line, control_line, descriptor_line, driver_line, gate_line,
-    hidden_line, ids_line, leaves_line, speed_line, string_line,
+    hidden_line, ids_line, lasts_line, leaves_line, speed_line, string_line,
 };
 use crate::topic::Topic;
 use std::alloc::Global;
@@ -157,6 +157,7 @@ fn statement(alloc: Global, topic: Topic, words: &[&str]) -> Result<Statement, L
         Topic::Leaves => leaves_line(words),
         Topic::Hidden => hidden_line(words),
         Topic::Anew => anew_line(words),
+        Topic::Lasts => lasts_line(words),
         Topic::Driver => driver_line(words),
     }
 }

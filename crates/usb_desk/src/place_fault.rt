@@ -6,7 +6,7 @@ ghost use Rattle.trace_scenario.specs.Words.{words_of};
 ghost use Rattle.usb_desk.specs.declared.topic.Topic.TheVariants as topic;
 ghost use Rattle.usb_desk.specs.FormFault.{topic_in};
 ghost use Rattle.usb_desk.specs.Sense.{answer_count};
-ghost use Rattle.usb_desk.specs.PlaceFault.{FitsPlace, at_endpoint, device_in, has_interface, has_room, place_fault_place, place_fault_text, speed_text};
+ghost use Rattle.usb_desk.specs.PlaceFault.{FitsPlace, at_endpoint, device_in, has_interface, has_room, names_one, place_fault_place, place_fault_text, speed_text};
 
 use crate::form::word_at;
 use crate::sense::{answer_count, has_speed, takes_packets, takes_script};
@@ -30,7 +30,7 @@ pub enum PlaceFault {
     SecondScript,
     /// The endpoint has so many answers, and not the one that is meant, counted from 0.
     NoAnswer(usize),
-    /// Packets are neither taken at the default control endpoint, nor at a bulk or interrupt endpoint for OUT.
+    /// Packets are neither taken at the default control endpoint, nor at a bulk or interrupt endpoint for OUT; nor is it the endpoint itself.
     NotOut,
     /// The endpoint has so many answers, which are too few.
     FewAnswers(usize),
@@ -72,7 +72,7 @@ impl fmt::Display for PlaceFault {
                 "answers are counted from 0, and the endpoint's number of them is {count}"
             ),
             PlaceFault::NotOut => f.write_str(
-                "packets are taken at 00, for control requests, or at a bulk or interrupt OUT endpoint of the device",
+                "packets are taken at 00, for control requests, or at a bulk or interrupt OUT endpoint of the device; transfers end without an answer at the endpoint itself",
             ),
             PlaceFault::FewAnswers(count) => {
                 write!(f, "the endpoint's number of answers is {count}")
@@ -215,13 +215,25 @@ fn no_answer(devices: &[ScriptedDevice], words: &[&str]) -> Option<PlaceFault>
     }
 }
 
-/// That no packets are taken at the other endpoint.
+/// Whether a line's two addresses are one.
+fn names_one(words: &[&str]) -> bool
+    ensures { result ≡ names_one (words_of words.now) }
+{
+    match (address(word_at(words, 2)), address(word_at(words, 4))) {
+        (Ok(ep), Ok(other)) => other == ep,
+        _ => false,
+    }
+}
+
+/// That no packets are taken at the other endpoint, which isn't the endpoint itself.
 fn not_out(devices: &[ScriptedDevice], words: &[&str]) -> Option<PlaceFault>
     requires { topic_in (words_of words.now) ≡ Some topic.After }
     ensures { IfSome result (λ fault. FitsPlace fault devices.now (words_of words.now)) }
 {
     match (device_in(devices, words), address(word_at(words, 4))) {
-        (Some(device), Ok(ep)) if !takes_packets(device, ep) => Some(PlaceFault::NotOut),
+        (Some(device), Ok(ep)) if !takes_packets(device, ep) && !names_one(words) => Some(
+            PlaceFault::NotOut,
+        ),
         _ => None,
     }
 }

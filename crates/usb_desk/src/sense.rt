@@ -7,7 +7,7 @@ ghost use Rattle.std.specs.Option.{option_copied};
 ghost use Rattle.std.specs.Prelude.{Some};
 ghost use Rattle.trace_scenario.specs.Scenario.{takes_script};
 ghost use Rattle.trace_scenario.specs.TextResults.{Becomes};
-ghost use Rattle.usb_desk.specs.Sense.{answer_count, applies, applies_to, has_answers, has_place, has_speed, is_said, is_same, is_within, subject_of, takes_packets, with_saying, with_subject, with_text};
+ghost use Rattle.usb_desk.specs.Sense.{answer_count, applies, applies_to, can_wait, has_answers, has_place, has_speed, is_said, is_same, is_within, subject_of, takes_packets, with_saying, with_subject, with_text};
 
 use crate::draft::says_nothing;
 use crate::line::DeskLine;
@@ -61,6 +61,7 @@ impl Subject {
             | Statement::After(_)
             | Statement::Hidden
             | Statement::Anew
+            | Statement::Lasts
             | Statement::Driver(_) => None,
         }
     }
@@ -208,6 +209,14 @@ pub(crate) fn takes_packets(device: &ScriptedDevice, ep: EpAddr) -> bool
     ep.address() == 0 || (takes_script(&device.config, ep) && !ep.is_in())
 }
 
+/// Whether answers can wait for what comes there: for packets that are taken; or, at their own endpoint, for transfers that end without an
+/// answer.
+pub(crate) fn can_wait(device: &ScriptedDevice, gate: &Gate) -> bool
+    ensures { result ≡ can_wait device.now gate.now }
+{
+    gate.other == gate.ep || takes_packets(device, gate.other)
+}
+
 /// Whether the endpoint has as many answers.
 pub(crate) fn has_answers(device: &ScriptedDevice, departure: &Departure) -> bool
     ensures { result ≡ has_answers device.now departure.now }
@@ -246,7 +255,7 @@ fn applies(device: &ScriptedDevice, what: &Statement) -> bool
     ensures { result ≡ applies device.now what.now }
 {
     match what {
-        Statement::After(gate) => has_place(device, gate) && takes_packets(device, gate.other),
+        Statement::After(gate) => has_place(device, gate) && can_wait(device, gate),
         Statement::Leaves(departure) => has_answers(device, departure),
         Statement::Speed(speed) => has_speed(device, *speed),
         Statement::Driver(interface) => device.config.interfaces().contains(interface),

@@ -4,7 +4,7 @@ ghost use Rattle.std.specs.Result.{result_ok};
 ghost use Rattle.std.specs.Prelude.{◌≡◌};
 ghost use Rattle.trace_scenario.specs.LineResults.{ReadsAs};
 ghost use Rattle.trace_scenario.specs.Words.{words_of};
-ghost use Rattle.usb_desk.specs.Statement.{anew_of, class_of, control_of, descriptor_of, driver_of, gate_of, hidden_of, ids_of, leaves_of, pattern_of, release_of, speed_line_of, string_line_of, whole_of};
+ghost use Rattle.usb_desk.specs.Statement.{anew_of, class_of, control_of, descriptor_of, driver_of, gate_of, hidden_of, ids_of, lasts_of, leaves_of, pattern_of, release_of, speed_line_of, string_line_of, whole_of};
 
 use crate::answer::{ControlAnswer, answers};
 use crate::text::string_descriptor;
@@ -69,14 +69,14 @@ pub struct Control {
     pub asked: u32,
 }
 
-/// Answers that wait until packets were taken elsewhere.
+/// Answers that wait until packets were taken elsewhere, or transfers ended without an answer.
 #[derive(Clone, Copy)]
 pub struct Gate {
     /// Whose answers wait.
     pub ep: EpAddr,
     /// From which of them on, counted from 0.
     pub place: u32,
-    /// Where packets are to be taken; 00 for control requests.
+    /// Where packets are to be taken; 00 for control requests, and the same endpoint for transfers that end there without an answer.
     pub other: EpAddr,
     /// How many.
     pub packets: u32,
@@ -114,6 +114,8 @@ pub enum Statement {
     Hidden,
     /// It begins anew with each claim.
     Anew,
+    /// A reset doesn't begin it anew.
+    Lasts,
     /// The system has a driver for this interface.
     Driver(u8),
 }
@@ -285,6 +287,17 @@ pub(crate) fn anew_line(words: &[&str]) -> Result<Statement, LineFault>
         return Err(LineFault::Bad(Problem::FirstWord));
     };
     Ok(Statement::Anew)
+}
+
+/// A device goes on where it stands when it is reset.
+#[tactic(auto, unfolding(crate::specs::Statement::lasts_of))]
+pub(crate) fn lasts_line(words: &[&str]) -> Result<Statement, LineFault>
+    ensures { ReadsAs result (lasts_of (words_of words.now)) }
+{
+    let [] = words else {
+        return Err(LineFault::Bad(Problem::FirstWord));
+    };
+    Ok(Statement::Lasts)
 }
 
 /// The system has a driver for an interface.

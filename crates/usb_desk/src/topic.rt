@@ -30,6 +30,8 @@ pub enum Topic {
     Hidden,
     /// `anew`
     Anew,
+    /// `lasts`
+    Lasts,
     /// `driver`
     Driver,
 }
@@ -53,6 +55,7 @@ impl Topic {
             "leaves" => Some(Topic::Leaves),
             "hidden" => Some(Topic::Hidden),
             "anew" => Some(Topic::Anew),
+            "lasts" => Some(Topic::Lasts),
             "driver" => Some(Topic::Driver),
             _ => None,
         }
