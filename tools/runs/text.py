@@ -1,7 +1,6 @@
 """A text of devices, made of a capture (docs/CAPTURES.md). What the capture lacks of a device is put in front of its events as if it had
 been asked for; `usbtrace devices` makes the text, and comments say what came from where."""
 import argparse
-import pathlib
 import re
 import subprocess
 from typing import Dict, List, NamedTuple, Optional, Sequence, Tuple
