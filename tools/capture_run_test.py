@@ -16,7 +16,7 @@ TESTS = ROOT / "c" / "tests" / "record"
 DEVICES = TESTS / "devices.txt"
 RUN, RECORD = ROOT / "tools" / "tirnouch-run", ROOT / "tools" / "tirnouch-record"
 FLAGS = ["gcc", "-std=c11", "-O2", "-D_GNU_SOURCE", "-I", str(ROOT / "c" / "include"), "-Wl,--no-as-needed", "-pthread"]
-SECONDS = 60
+SECONDS = 120
 # Of devices.txt: device 0's configuration, its device descriptor (USB 2.0, 9.6.1), and another device's.
 CONFIG = DEVICES.read_text().splitlines()[1].split()[2]
 DEVICE, OTHER = "120100020000004009120100000101000301", "120100020000004009120200000100000001"
