@@ -38,6 +38,8 @@ pub enum Ending {
     NoDevices,
     /// A line of a test expects something else than there is, and that is told.
     Differs,
+    /// A run wrote something else than its scenario expects, and that is told.
+    Unexpected,
 }
 
 /// How a task ends whose run came so far.

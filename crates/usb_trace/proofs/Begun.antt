@@ -17,7 +17,7 @@ use Rattle.trace_recorded.specs.Scenario.{recorded_scenario}
 use Rattle.trace_run.specs.Tasks.{AppendsAny, alone_text, capture_bytes, left_lines, run_text, steps_text}
 use Rattle.trace_descriptor.specs.declared.fault.DescriptorFault.{DescriptorFault}
 use Rattle.trace_descriptor.specs.Device.{device_text}
-use Rattle.usb_trace.specs.Program.{check_text, packets_text, reasons_text, Begins, BeginsCheck, BeginsDevice, BeginsEntries, BeginsOutcome, BeginsPicture, BeginsRecorded}
+use Rattle.usb_trace.specs.Program.{check_text, packets_text, reasons_text, Begins, BeginsCheck, BeginsDevice, BeginsEntries, BeginsOutcome, BeginsPicture, BeginsRecorded, with_judged}
 
 -- known bytes stay
 pub keeps_same : (old : Option (List ℕ)) → Keeps old old
@@ -68,12 +68,12 @@ no_callbacks (Err line) old = keeps_same old
 
 -- nothing is written
 nothing_of : (t : Task) (text : List ℕ) (old : Option (List ℕ)) → Begins t text old old
-nothing_of Run text old = no_entries run_text (scenario_of text) old
-nothing_of Steps text old = no_entries (steps_text text) (scenario_of text) old
+nothing_of Run text old = no_entries (with_judged (λ x. run_text) text) (scenario_of text) old
+nothing_of Steps text old = no_entries (with_judged steps_text text) (scenario_of text) old
 nothing_of (Packets steps) text old = no_entries (packets_text steps text) (scenario_of text) old
 nothing_of (Alone h) text old = no_entries (alone_text h) (scenario_of text) old
 nothing_of (Live rounds) text old = no_callbacks (lived_of text) old
-nothing_of Left text old = no_entries left_lines (scenario_of text) old
+nothing_of Left text old = no_entries (with_judged (λ x. left_lines) text) (scenario_of text) old
 nothing_of Check text old = no_check text (scenario_of text) old
 nothing_of (Draw from to) text old = no_picture (scenario_of text) old
 nothing_of Capture text old = no_entries (capture_bytes text) (scenario_of text) old

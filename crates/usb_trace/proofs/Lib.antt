@@ -1,3 +1,4 @@
 pub mod Reports
 mod Begun
+mod JudgedRuns
 mod Unlived

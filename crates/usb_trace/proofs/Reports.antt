@@ -32,9 +32,9 @@ use Rattle.trace_recorded.specs.Faults.{IsCaptureFault}
 use Rattle.trace_recorded.specs.Scenario.{recorded_scenario}
 use Rattle.trace_scenario.specs.declared.scenario.Scenario.{Scenario}
 use Rattle.usb_trace.specs.Lived.{lived_of, AppendsCallbacks, GoesOn, IsOfLive}
-use Rattle.usb_trace.specs.Program.{status_of, AskForOther, AskForThreads, Begins, BeginsCheck, Draws, EndsLate, FindsDifference, FindsNone, IsAlone, IsBadDescriptor, IsBadLine, IsDone, IsReported, IsSilentAtBad, IsThreaded, Performs, ReadsOther, TellsRest, TellsWhy}
+use Rattle.usb_trace.specs.Program.{status_of, AskForOther, AskForThreads, Begins, BeginsCheck, Draws, EndsLate, FindsDifference, FindsNone, IsAlone, IsBadDescriptor, IsBadLine, IsDone, IsReported, IsSilentAtBad, IsThreaded, Performs, ReadsOther, TellsRest, TellsWhy, FindsUnexpected}
 use Rattle.trace_run.specs.declared.tasks.Ending.{Ending}
-use Rattle.trace_run.specs.declared.tasks.Ending.TheVariants.{Good, BadLines, NoDevices, Differs}
+use Rattle.trace_run.specs.declared.tasks.Ending.TheVariants.{Good, BadLines, NoDevices, Differs, Unexpected}
 use Rattle.usb_trace.proofs.Begun.{keeps_same, nothing_begun, told_front}
 use Rattle.trace_io.specs.declared.words.Task.{Task}
 use Rattle.trace_io.specs.declared.words.Task.TheVariants.{Run, Steps, Packets, Alone, Live, Left, Check, Draw, Page, Capture, Devices, Explain, Test, Device, Describe}
@@ -93,6 +93,7 @@ lived text rounds s notes old new (Ok Good) read short lines good fault silent =
 lived text rounds s notes old new (Ok BadLines) read short lines good fault silent = cc
 lived text rounds s notes old new (Ok NoDevices) read short lines good fault silent = cc
 lived text rounds s notes old new (Ok Differs) read short lines good fault silent = cc
+lived text rounds s notes old new (Ok Unexpected) read short lines good fault silent = cc
 lived text rounds s notes old new (Err (Line line)) read short lines good fault silent = absurd fault
 lived text rounds s notes old new (Err Memory) read short lines good fault silent = tt
 lived text rounds s notes old new (Err InputOutput) read short lines good fault silent = tt
@@ -114,6 +115,7 @@ captured text s old new (Ok Good) read short file good fault = (s, read, short, 
 captured text s old new (Ok BadLines) read short file good fault = cc
 captured text s old new (Ok NoDevices) read short file good fault = cc
 captured text s old new (Ok Differs) read short file good fault = cc
+captured text s old new (Ok Unexpected) read short file good fault = cc
 captured text s old new (Err (Line line)) read short file good fault = absurd fault
 captured text s old new (Err Memory) read short file good fault = tt
 captured text s old new (Err InputOutput) read short file good fault = tt
@@ -139,6 +141,7 @@ bad_status text notes (Ok Good) status old new done same bad = absurd (bad (done
 bad_status text notes (Ok BadLines) status old new done same bad = not_zero status same
 bad_status text notes (Ok NoDevices) status old new done same bad = not_zero status same
 bad_status text notes (Ok Differs) status old new done same bad = not_zero status same
+bad_status text notes (Ok Unexpected) status old new done same bad = λ zero. absurd (omega (arith, same, zero))
 bad_status text notes (Err fault) status old new done same bad = not_zero status same
 
 -- words ask for one task
@@ -160,6 +163,7 @@ done_rest t text notes (Ok Good) status old new err_old err_new ends same noted 
 done_rest t text notes (Ok BadLines) status old new err_old err_new ends same noted zero = absurd (omega arith)
 done_rest t text notes (Ok NoDevices) status old new err_old err_new ends same noted zero = absurd (omega arith)
 done_rest t text notes (Ok Differs) status old new err_old err_new ends same noted zero = absurd (omega arith)
+done_rest t text notes (Ok Unexpected) status old new err_old err_new ends same noted zero = absurd (omega arith)
 done_rest t text notes (Err fault) status old new err_old err_new ends same noted zero = absurd (omega arith)
 
 -- the same, whatever the input has
@@ -310,6 +314,7 @@ told_of words input t notes (Ok NoDevices) status old new err_old err_new asks e
     inr (inl (none_found words input t notes old new asks ends, quiet (no_device refl)))
 told_of words input t notes (Ok Differs) status old new err_old err_new asks ends bare same quiet none no_device no_difference told one =
     inr (inr (inl (difference_found words input t notes old new asks ends, quiet (no_difference refl))))
+told_of words input t notes (Ok Unexpected) status old new err_old err_new asks ends bare same quiet none no_device no_difference told one = absurd (omega arith)
 told_of words input t notes (Err (Line line)) status old new err_old err_new asks ends bare same quiet none no_device no_difference told one =
     inr (inr (inr (Line line, notes, (t, asks, line_of input t line notes old new ends), bare, told)))
 told_of words input t notes (Err Memory) status old new err_old err_new asks ends bare same quiet none no_device no_difference told one = inr (inr (inr (Memory, notes, tt, bare, told)))
@@ -325,6 +330,22 @@ told_of words input t notes (Err (why.Capture refused)) status old new err_old e
     inr (inr (inr (why.Capture refused, notes, (t, asks, refused_of input t refused notes old new ends), bare, told)))
 told_of words input t notes (Err (why.Descriptor refused)) status old new err_old err_new asks ends bare same quiet none no_device no_difference told one =
     inr (inr (inr (why.Descriptor refused, notes, (t, asks, descriptor_of input t refused notes old new ends), bare, told)))
+
+-- what a task found whose status is 3
+found_in : (input : Option (List ℕ)) (t : Task) (notes : List ℕ) (old new : Option (List ℕ)) → IfSome input (λ text. Performs t text notes old new (Ok Unexpected))
+    → IfSome input (λ text. FindsUnexpected t text old new)
+found_in None t notes old new ends = tt
+found_in (Some text) t notes old new ends = ends.0
+
+pub unexpected_found : (words : List Text) (input : Option (List ℕ)) (t : Task) (notes : List ℕ) (ended : Result Ending Fault) (status : ℕ) (old new : Option (List ℕ))
+    → AskFor words t → IfSome input (λ text. Performs t text notes old new ended) → status ≡ status_of ended → status ≡ 3
+    → (task : Task) × AskFor words task × IfSome input (λ text. FindsUnexpected task text old new)
+unexpected_found words input t notes (Ok Unexpected) status old new asks ends same three = (t, asks, found_in input t notes old new ends)
+unexpected_found words input t notes (Ok Good) status old new asks ends same three = absurd (omega arith)
+unexpected_found words input t notes (Ok BadLines) status old new asks ends same three = absurd (omega arith)
+unexpected_found words input t notes (Ok NoDevices) status old new asks ends same three = absurd (omega arith)
+unexpected_found words input t notes (Ok Differs) status old new asks ends same three = absurd (omega arith)
+unexpected_found words input t notes (Err fault) status old new asks ends same three = absurd (omega arith)
 
 -- what is told of a fault of memory or of a stream, whatever the words are
 pub told_words : (words : List Text) (input : Option (List ℕ)) (fault : Fault) (old new err_old err_new : Option (List ℕ)) → IsOfRun fault → AppendsSome (message_of fault) err_old err_new → TellsWhy words input old new err_old err_new

@@ -1,10 +1,10 @@
 -- What the program does.
-use Rattle.std.specs.Prelude.{◌≡◌, ◌≢◌, ◌≤◌, ◌<◌, ◌⊎◌, ◌++◌, ℕ, Bool, true, false, length, ⊤, IfSome, List, [], Option, Result, Ok, Err}
+use Rattle.std.specs.Prelude.{◌≡◌, ◌≢◌, ◌≤◌, ◌<◌, ◌⊎◌, ◌++◌, ℕ, Bool, true, false, length, ⊤, IfSome, List, [], Option, Some, None, Result, Ok, Err}
 use Rattle.std.specs.Io.KnownBytes.{Appends, Keeps}
 use Rattle.trace_io.specs.declared.fault.Fault.{Fault}
 use Rattle.trace_io.specs.declared.fault.Fault.TheVariants.{Line, Memory, InputOutput, Closed, TooLong, Rounds, Wide, Capture, Descriptor}
 use Rattle.trace_run.specs.declared.tasks.Ending.{Ending}
-use Rattle.trace_run.specs.declared.tasks.Ending.TheVariants.{Good, BadLines, NoDevices, Differs}
+use Rattle.trace_run.specs.declared.tasks.Ending.TheVariants.{Good, BadLines, NoDevices, Differs, Unexpected}
 use Rattle.trace_run.specs.Tasks.{AppendsAny, alone_text, capture_bytes, left_lines, run_text, steps_text}
 use Rattle.trace_recorded.specs.declared.capture_fault.CaptureFault.{CaptureFault}
 use Rattle.trace_recorded.specs.declared.scenario.RecordedScenario.{RecordedScenario}
@@ -16,6 +16,7 @@ use Rattle.trace_scenario.specs.StepLines.{step_lines}
 use Rattle.trace_explain.specs.Explained.{explained_text}
 use Rattle.trace_explain.specs.declared.telling.Telling.{Telling}
 use Rattle.trace_explain.specs.declared.telling.Telling.TheVariants.{Reasons, Refusals, Packets, StepPackets}
+use Rattle.trace_judged.specs.Text.{judged_text}
 use Rattle.trace_test.specs.Tests.{IsOfTest, IsOutcome, outcome_text}
 use Rattle.trace_test.specs.declared.difference.Difference.{Difference}
 use Rattle.trace_test.specs.declared.difference.Outcome.{Outcome}
@@ -25,7 +26,7 @@ use Rattle.clap.specs.Walk.{Text}
 use Rattle.trace_io.specs.CommandLine.{AskFor}
 use Rattle.trace_io.specs.declared.words.Task.{Task}
 use Rattle.trace_io.specs.declared.words.Task.TheVariants as task
-use Rattle.trace_io.specs.Faults.{message_of, most_drawn}
+use Rattle.trace_io.specs.Faults.{IsOfRun, message_of, most_drawn}
 use Rattle.trace_io.specs.Input.{longest_input}
 use Rattle.trace_io.specs.Output.{counts_line, AppendsReport, AppendsSome, AppendsSomeReport}
 use Rattle.trace_scenario.specs.Counts.{counts_of}
@@ -83,12 +84,12 @@ check_text text s = counts_line (counts_of s) ++ explained_text Refusals s.setup
 
 -- what a task writes of the scenario of a text: all entries, perhaps behind their lines, those of one handle alone, what callbacks were told in threads, what is left behind, how much the scenario says and what its run refuses, a picture, of which no more is said, a capture, or all entries with their reasons or their packets; and what is to be told behind it: of a run in threads what wasn't finished, and else nothing
 abbrev pub Writes : Task → List ℕ → Scenario → (notes : List ℕ) → Option (List ℕ) → Option (List ℕ) → Type 0
-Writes task.Run text s notes old new = Appends old new (run_text s) × (notes ≡ [])
-Writes task.Steps text s notes old new = Appends old new (steps_text text s) × (notes ≡ [])
+Writes task.Run text s notes old new = (judged_text text s ≡ []) × Appends old new (run_text s) × (notes ≡ [])
+Writes task.Steps text s notes old new = (judged_text text s ≡ []) × Appends old new (steps_text text s) × (notes ≡ [])
 Writes (task.Packets steps) text s notes old new = Appends old new (packets_text steps text s) × (notes ≡ [])
 Writes (task.Alone h) text s notes old new = Appends old new (alone_text h s) × (notes ≡ [])
 Writes (task.Live rounds) text s notes old new = AppendsCallbacks s notes old new
-Writes task.Left text s notes old new = Appends old new (left_lines s) × (notes ≡ [])
+Writes task.Left text s notes old new = (judged_text text s ≡ []) × Appends old new (left_lines s) × (notes ≡ [])
 Writes task.Check text s notes old new = Appends old new (check_text text s) × (notes ≡ [])
 Writes (task.Draw from to) text s notes old new = AppendsAny old new × (notes ≡ [])
 Writes (task.Page from to) text s notes old new = AppendsAny old new × (notes ≡ [])
@@ -98,6 +99,30 @@ Writes task.Explain text s notes old new = Appends old new (reasons_text text s)
 Writes task.Test text s notes old new = ⊥
 Writes task.Device text s notes old new = ⊥
 Writes task.Describe text s notes old new = ⊥
+
+-- what a task prints of a run that is judged: entries, alone or behind their lines, or what is left behind; of another nothing is judged
+abbrev pub run_printed : Task → List ℕ → Scenario → Option (List ℕ)
+run_printed task.Run text s = Some (run_text s)
+run_printed task.Steps text s = Some (steps_text text s)
+run_printed task.Left text s = Some (left_lines s)
+run_printed t text s = None
+
+-- what such a task prints, with what the run wrote that isn't as expected behind it
+abbrev pub with_judged : (List ℕ → Scenario → List ℕ) → List ℕ → Scenario → List ℕ
+with_judged printed text s = printed text s ++ judged_text text s
+
+-- behind a run it is told what it wrote that isn't as expected: nothing, where it ends well, and else that
+abbrev pub EndsJudged : List ℕ → Scenario → Option (List ℕ) → Option (List ℕ) → Result Ending Fault → Type 0
+EndsJudged text s old new (Ok Good) = (judged_text text s ≡ []) × Keeps old new
+EndsJudged text s old new (Ok Unexpected) = (judged_text text s ≢ []) × Appends old new (judged_text text s)
+EndsJudged text s old new (Ok ending) = ⊥
+EndsJudged text s old new (Err fault) = IsOfRun fault × AppendsSome (judged_text text s) old new
+
+-- what is done with a run that wrote something else than its scenario expects: what the task prints of it is written, and that behind it
+abbrev pub FindsUnexpected : Task → List ℕ → Option (List ℕ) → Option (List ℕ) → Type 0
+FindsUnexpected t text old new =
+    (s : Scenario) × (printed : List ℕ) × (scenario_of text ≡ Ok s) × (length text ≤ longest_input) × (run_printed t text s ≡ Some printed)
+    × (judged_text text s ≢ []) × Appends old new (printed ++ judged_text text s)
 
 -- the text is a capture of the longest length at most, and the text of its devices is written, for who reads it
 abbrev pub WritesRecorded : TextReader → List ℕ → RecordedScenario → Option (List ℕ) → Option (List ℕ) → Type 0
@@ -144,7 +169,7 @@ Draws t = ⊥
 -- a line of the text is bad, and ends the task: the first of its scenario, or of the one that a test stands for
 abbrev pub IsBadLine : Task → List ℕ → ℕ → Type 0
 IsBadLine task.Check text line = ⊥
-IsBadLine task.Devices text line = ⊥
+IsBadLine (task.Devices reader) text line = ⊥
 IsBadLine task.Test text line = IsOfTest text (Line line)
 IsBadLine task.Device text line = ⊥
 IsBadLine task.Describe text line = ⊥
@@ -162,6 +187,7 @@ Performs t text notes old new (Ok Good) = IsDone t text notes old new
 Performs t text notes old new (Ok BadLines) = (t ≡ task.Check) × IsReported text old new
 Performs t text notes old new (Ok NoDevices) = (reader : TextReader) × (t ≡ task.Devices reader) × FindsNone reader text old new
 Performs t text notes old new (Ok Differs) = (t ≡ task.Test) × FindsDifference text old new
+Performs t text notes old new (Ok Unexpected) = FindsUnexpected t text old new × (notes ≡ [])
 Performs t text notes old new (Err (Line line)) = IsBadLine t text line × Keeps old new
 Performs t text notes old new (Err Memory) = ⊤
 Performs t text notes old new (Err InputOutput) = ⊤
@@ -208,12 +234,12 @@ BeginsDevice (Err fault) old new = Keeps old new
 
 -- what a task over a text may have written, however it ends: a beginning of what it prints
 abbrev pub Begins : Task → List ℕ → Option (List ℕ) → Option (List ℕ) → Type 0
-Begins task.Run text old new = BeginsEntries run_text (scenario_of text) old new
-Begins task.Steps text old new = BeginsEntries (steps_text text) (scenario_of text) old new
+Begins task.Run text old new = BeginsEntries (with_judged (λ text. run_text) text) (scenario_of text) old new
+Begins task.Steps text old new = BeginsEntries (with_judged steps_text text) (scenario_of text) old new
 Begins (task.Packets steps) text old new = BeginsEntries (packets_text steps text) (scenario_of text) old new
 Begins (task.Alone h) text old new = BeginsEntries (alone_text h) (scenario_of text) old new
 Begins (task.Live rounds) text old new = BeginsCallbacks (lived_of text) old new
-Begins task.Left text old new = BeginsEntries left_lines (scenario_of text) old new
+Begins task.Left text old new = BeginsEntries (with_judged (λ text. left_lines) text) (scenario_of text) old new
 Begins task.Check text old new = BeginsCheck text (scenario_of text) old new
 Begins (task.Draw from to) text old new = BeginsPicture (scenario_of text) old new
 Begins (task.Page from to) text old new = BeginsPicture (scenario_of text) old new
@@ -272,6 +298,7 @@ status_of (Ok Good) = 0
 status_of (Ok BadLines) = 1
 status_of (Ok NoDevices) = 1
 status_of (Ok Differs) = 1
+status_of (Ok Unexpected) = 3
 status_of (Err fault) = 1
 
 -- nothing is written where a line of the text is bad

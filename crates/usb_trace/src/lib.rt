@@ -12,6 +12,7 @@
 //! - `live.rt`, `lived.rt`, specs/Lived: a scenario run in threads, and which lines it can't have
 //! - `checked.rt`, `told.rt`, `tested.rt`, `picture.rt`: what is wrong with a scenario, and what its run refuses; its run with
 //!   its reasons or its packets, as a test, and as a picture or a page
+//! - `judged.rt`: a run, and behind it what it wrote that isn't as expected
 //! - `recorded.rt`, `descriptor.rt`: the scenario of a capture; a device's lines and table
 //!
 //! # Contracts
@@ -40,9 +41,11 @@
 //!   only the fault that the definition has; of a descriptor, only under `device` and `describe`, and under `device` only that of the
 //!   definition. Want of memory and a failed stream fit always
 //! - `trace`, status 2: the words are bad; nothing is written on standard output, and the input isn't read
+//! - `trace`, status 3: the words asked for `run`, `run --steps` or `left`, what that prints was written, and behind it, which isn't empty, what
+//!   the run wrote that isn't as its scenario expects (`judged_text` of `trace_judged`). At status 0 such a run has none of that
 //! - `trace`, any status: at a bad line, all but `check`, and those that read something else than a scenario (`test`, `devices`,
 //!   `device`, `describe`), write nothing on standard output (help, where it is asked for, is written), and `check` doesn't answer 0. Where the words ask for
-//!   no task the input isn't read. The status is 0, 1 or 2. However a task ends, what it wrote is a beginning of its
+//!   no task the input isn't read. The status is 0 to 3. However a task ends, what it wrote is a beginning of its
 //!   text: of the lines of the run, of those of the handle, of what callbacks were told in such a run, of what is left,
 //!   of the check's report, of the run's capture, of the run with its reasons, of what came of a test, of a capture's
 //!   scenario, or of a device's lines; and nothing where a capture or a device is refused
@@ -62,6 +65,7 @@
 
 mod checked;
 mod descriptor;
+mod judged;
 mod live;
 mod lived;
 mod picture;

@@ -11,13 +11,14 @@ ghost use Rattle.trace_io.specs.Faults.{message_of, IsOfRun};
 ghost use Rattle.trace_io.specs.declared.fault.Fault.{Fault};
 ghost use Rattle.trace_io.specs.Input.{longest_input};
 ghost use Rattle.trace_io.specs.Output.{AppendsSome};
-ghost use Rattle.usb_trace.specs.Program.{status_of, AskForOther, AskForThreads, Begins, IsAlone, IsSilentAtBad, IsThreaded, Performs, ReadsOther, TellsRest, TellsWhy};
+ghost use Rattle.usb_trace.specs.Program.{status_of, AskForOther, AskForThreads, Begins, FindsUnexpected, IsAlone, IsSilentAtBad, IsThreaded, Performs, ReadsOther, TellsRest, TellsWhy};
 ghost use Rattle.trace_io.specs.declared.words.Task.{Task};
 ghost use Rattle.trace_run.specs.declared.tasks.Ending.TheVariants.{BadLines, Differs, NoDevices};
-ghost use Rattle.trace_io.specs.declared.words.Task.TheVariants.{Capture, Check, Devices, Steps};
+ghost use Rattle.trace_io.specs.declared.words.Task.TheVariants.{Capture, Check, Devices};
 
 use crate::checked::report;
 use crate::descriptor::{describe, device};
+use crate::judged::{entries, left, steps};
 use crate::live::live;
 use crate::picture::drawn;
 use crate::recorded::devices;
@@ -31,7 +32,7 @@ use std::sync::Wait;
 use std::thread::Threads;
 use trace_io::{Fault, Task, read_whole, read_words, write_bytes};
 use trace_picture::Form;
-use trace_run::{Ending, capture_run, print_left, print_steps, run, run_alone};
+use trace_run::{Ending, capture_run, run_alone};
 use trace_scenario::{Lined, Scenario, read_lined, read_scenario};
 
 /// The status of a run that ended early, of a check that found bad lines, and of a capture without devices.
@@ -40,8 +41,11 @@ const FAILED: u8 = 1;
 /// The status of bad words.
 const BAD_WORDS: u8 = 2;
 
+/// The status of a run that wrote something else than its scenario expects.
+const UNEXPECTED: u8 = 3;
+
 /// Runs the program on its words, of which the first is its name, and its input, and answers its status: 0, or 1 where
-/// it ended early, a check found bad lines or a capture has no device that is kept, or 2 for bad words. However a task ends, what it wrote is a beginning of
+/// it ended early, a check found bad lines or a capture has no device that is kept, or 2 for bad words, or 3 where a run wrote something else than its scenario expects. However a task ends, what it wrote is a beginning of
 /// its text. Of a fault that ended it, the message stands on standard error, as far as that takes it; and behind it, or alone, what
 /// handles hadn't finished of a run in threads. The threads of that are those of `rt`.
 pub fn trace<T: Threads + Wait + Sync, R: Read, W: Write, E: Write>(
@@ -52,7 +56,9 @@ pub fn trace<T: Threads + Wait + Sync, R: Read, W: Write, E: Write>(
     out: &mut W,
     err: &mut E,
 ) -> u8
-    ensures status { result ≤ 2 }
+    ensures status { result ≤ 3 }
+    ensures unexpected { result ≡ 3 → (task : Task) × AskFor (words_of words.now) task
+        × IfSome (R.remaining input.old) (λ text. FindsUnexpected task text (W.contents out.old) (W.contents out.new)) }
     ensures done { result ≡ 0 → ((task : Task) × AskFor (words_of words.now) task
         × IfSome (R.remaining input.old) (λ text. TellsRest task text (W.contents out.old) (W.contents out.new) (E.contents err.old) (E.contents err.new)))
         ⊎ (AskForHelp (words_of words.now) × (input.new ≡ input.old)) }
@@ -111,6 +117,10 @@ fn status_of<E: Write>(ended: Result<Ending, Fault>, notes: &[u8], err: &mut E) 
             tell_notes(notes, err);
             FAILED
         }
+        Ok(Ending::Unexpected) => {
+            tell_notes(notes, err);
+            UNEXPECTED
+        }
         Err(fault) => {
             if let Ok(()) = fault.tell(err) {
                 tell_notes(notes, err);
@@ -152,8 +162,8 @@ fn perform<T: Threads + Wait + Sync, R: Read, W: Write>(
 {
     let text = read_whole(alloc, input)?;
     match task {
-        Task::Run => run(alloc, read_scenario(alloc, text.as_slice())?, out),
-        Task::Steps => run_steps(alloc, text.as_slice(), out),
+        Task::Run => entries(alloc, text.as_slice(), out),
+        Task::Steps => steps(alloc, text.as_slice(), out),
         Task::Packets { steps } => packets(alloc, steps, text.as_slice(), out),
         Task::Alone(h) => {
             let Scenario { setup, .. } = read_scenario(alloc, text.as_slice())?;
@@ -161,7 +171,7 @@ fn perform<T: Threads + Wait + Sync, R: Read, W: Write>(
             run_alone(alloc, scenario, setup, h, out)
         }
         Task::Live(rounds) => live(rt, alloc, text.as_slice(), rounds, out, notes),
-        Task::Left => print_left(alloc, read_scenario(alloc, text.as_slice())?, out),
+        Task::Left => left(alloc, text.as_slice(), out),
         Task::Check => report(alloc, text.as_slice(), out),
         Task::Draw { from, to } => drawn(alloc, text.as_slice(), Form::Picture, from, to, out),
         Task::Page { from, to } => drawn(alloc, text.as_slice(), Form::Page, from, to, out),
@@ -172,21 +182,6 @@ fn perform<T: Threads + Wait + Sync, R: Read, W: Write>(
         Task::Device => device(alloc, text.as_slice(), out),
         Task::Describe => describe(alloc, text.as_slice(), out),
     }
-}
-
-/// Prints the entries of a text's scenario, each behind the number and the text of its step's line.
-fn run_steps<W: Write>(alloc: Global, text: &[u8], out: &mut W) -> Result<Ending, Fault>
-    requires { length text.now ≤ longest_input }
-    ensures ends { Performs Steps text.now [] (W.contents out.old) (W.contents out.new) result }
-    ensures silent { IsSilentAtBad text.now (W.contents out.old) (W.contents out.new) }
-    ensures begun { Begins Steps text.now (W.contents out.old) (W.contents out.new) }
-{
-    let Lined {
-        scenario,
-        lines,
-        ..
-    } = read_lined(alloc, text)?;
-    print_steps(alloc, scenario, lines.as_slice(), out)
 }
 
 /// Writes the run of a text's scenario as a capture.

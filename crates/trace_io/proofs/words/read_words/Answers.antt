@@ -129,7 +129,7 @@ returns-then-is_some-6-clause-task c =
     let a = app_of c.in_ok-command.field-0 in (
       without_fault a words c.in_ok-command.ensures c.in_ok-matches.ensures.kinds,
       asks_for (codes "device") Device (λ rows. refl) words c.in_ok-matches.matches (met a words c.in_ok-matches.matches c.in_ok-command.ensures c.in_ok-matches.ensures.matches)
-          (search rules),
+          (search (rules, c.subcommand_matches-10, c.is_some-6)),
     )
 
 pub returns-then-is_some-7-clause-fault : goal.returns-then-is_some-7-clause-fault

@@ -1,5 +1,5 @@
 -- A task over all that the input has.
-use Rattle.trace_io.specs.declared.words.Task.TheVariants.{Capture, Check, Describe, Device, Devices, Live, Steps}
+use Rattle.trace_io.specs.declared.words.Task.TheVariants.{Capture, Check, Describe, Device, Devices, Left, Live, Run, Steps}
 use Rattle.usb_trace.proofs.Begun.{bytes_begun}
 use Rattle.usb_trace.proofs.program.perform.Goals as goal
 
@@ -8,10 +8,20 @@ returns-in-Check-clause-begun g c =
     bytes_begun (g.R.Read.remaining c.args.input.now) c.args.task Check c.as_slice-in-Check.result.now (g.W.Write.contents c.args.out.now) (g.W.Write.contents c.report.new.out)
     c.in-Check.is (rw c.as_slice-in-Check.ensures.value c.in_ok-text.ensures.whole) c.report.ensures.begun
 
+pub returns-in-Run-clause-begun : goal.returns-in-Run-clause-begun
+returns-in-Run-clause-begun g c =
+    bytes_begun (g.R.Read.remaining c.args.input.now) c.args.task Run c.as_slice.result.now (g.W.Write.contents c.args.out.now) (g.W.Write.contents c.entries.new.out)
+    c.in-Run.is (rw c.as_slice.ensures.value c.in_ok-text.ensures.whole) c.entries.ensures.begun
+
+pub returns-in-Left-clause-begun : goal.returns-in-Left-clause-begun
+returns-in-Left-clause-begun g c =
+    bytes_begun (g.R.Read.remaining c.args.input.now) c.args.task Left c.as_slice-in-Left.result.now (g.W.Write.contents c.args.out.now) (g.W.Write.contents c.left.new.out)
+    c.in-Left.is (rw c.as_slice-in-Left.ensures.value c.in_ok-text.ensures.whole) c.left.ensures.begun
+
 pub returns-in-Steps-clause-begun : goal.returns-in-Steps-clause-begun
 returns-in-Steps-clause-begun g c =
-    bytes_begun (g.R.Read.remaining c.args.input.now) c.args.task Steps c.as_slice-in-Steps.result.now (g.W.Write.contents c.args.out.now) (g.W.Write.contents c.run_steps.new.out)
-    c.in-Steps.is (rw c.as_slice-in-Steps.ensures.value c.in_ok-text.ensures.whole) c.run_steps.ensures.begun
+    bytes_begun (g.R.Read.remaining c.args.input.now) c.args.task Steps c.as_slice-in-Steps.result.now (g.W.Write.contents c.args.out.now) (g.W.Write.contents c.steps.new.out)
+    c.in-Steps.is (rw c.as_slice-in-Steps.ensures.value c.in_ok-text.ensures.whole) c.steps.ensures.begun
 
 pub returns-in-Live-clause-begun : goal.returns-in-Live-clause-begun
 returns-in-Live-clause-begun g c =
