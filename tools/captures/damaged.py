@@ -13,7 +13,7 @@ COMMENTS = re.compile(
     r"(no configuration descriptor|its configuration descriptor is refused|a hub|no answers|the fifth device)"
     r"|# device \d was bus \d+ device \d+"
     r"|# ep [0-9a-f]{2}: (\d+ bytes were not recorded; they are 00 here|\d+ packets were too long; their bytes are 00 here"
-    r"|\d+ transfers of more than 262144 bytes are left out|the first 65536 of \d+ answers"
+    r"|\d+ transfers of more than 262144 bytes are left out|\d+ requests of more than 4096 bytes are left out|the first 65536 of \d+ answers"
     r"|\d+ transfers are left out: not a bulk or interrupt endpoint of this configuration)")
 # How long a run may take, in seconds of processor time.
 SECONDS = 10

@@ -95,8 +95,9 @@ class Told:
             total = len(device.raw)
             self.control(line, device.number, bytes((0x80, 6, 0, 2, 0, 0, total & 255, total >> 8)), device.raw)
             self.control(line, device.number, bytes((0, 9, device.value, 0, 0, 0, 0, 0)), second=1)
-        elif words[0] == "script":
-            self.devices[int(words[1])].scripts[int(words[2], 16)] = [it.lower() for it in words[3:]]
+        elif words[0] in ("script", "feed"):
+            script = self.devices[int(words[1])].scripts.setdefault(int(words[2], 16), [])
+            script += ["a" if it.startswith("a") else it.lower() for it in words[3:]]
 
     def control(self, line, device, setup, data=b"", second=0):
         """A control transfer, which ends at once."""
