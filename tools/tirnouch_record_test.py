@@ -25,7 +25,7 @@ PROGRAM = [TESTS / "program.c", TESTS / "processes.c"]
 LINKED = ["-Wl,--no-as-needed", "-L", str(ROOT / "bin"), "-l:libusb-1.0.so.0", "-pthread"]
 TYPES = {1: "interrupt", 2: "control", 3: "bulk"}
 SECONDS = 120
-KINDS = ["waits", "resubmits", "otherwise", "leaves", "drops", "forks", "closes", "two", "isochronous"]
+KINDS = ["waits", "bulk", "resubmits", "otherwise", "leaves", "drops", "forks", "closes", "two", "isochronous"]
 PIECE = 262144
 Ran = subprocess.CompletedProcess[str]
 

@@ -110,6 +110,26 @@ uint8_t configuration_of(libusb_device_handle *handle)
     return value;
 }
 
+static bool has_interrupt_endpoint(const struct libusb_interface_descriptor *it, uint8_t ep)
+{
+    for (int i = 0; i < it->bNumEndpoints; i++)
+        if (it->endpoint[i].bEndpointAddress == ep)
+            return (it->endpoint[i].bmAttributes & LIBUSB_TRANSFER_TYPE_MASK) == LIBUSB_TRANSFER_TYPE_INTERRUPT;
+    return false;
+}
+
+/* Whether a setting of the configuration has an interrupt endpoint of this address. */
+bool is_interrupt_endpoint(libusb_device_handle *handle, uint8_t ep)
+{
+    struct libusb_config_descriptor *found = configuration(handle);
+    bool is_any = false;
+    for (int i = 0; found && i < found->bNumInterfaces; i++)
+        for (int setting = 0; setting < found->interface[i].num_altsetting; setting++)
+            is_any = is_any || has_interrupt_endpoint(&found->interface[i].altsetting[setting], ep);
+    libusb_free_config_descriptor(found);
+    return is_any;
+}
+
 /* The place of a configuration among the device's, by which a host asks for it. */
 static uint8_t index_of(libusb_device_handle *handle, uint8_t value)
 {

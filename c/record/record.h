@@ -85,5 +85,6 @@ bool is_of_call(const struct libusb_transfer *transfer);
 void record_device(libusb_device_handle *handle);
 void record_configuration(libusb_device_handle *handle);
 uint8_t configuration_of(libusb_device_handle *handle);
+bool is_interrupt_endpoint(libusb_device_handle *handle, uint8_t ep);
 
 #endif

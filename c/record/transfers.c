@@ -3,7 +3,8 @@
 
 #include <errno.h>
 
-/* Whose it is, and its first id; false where the device isn't recorded. */
+/* Whose it is, and its first id; false where the device isn't recorded. Of a bulk transfer at an interrupt endpoint the kernel makes an
+ * interrupt one (Linux, drivers/usb/core/devio.c, proc_do_submiturb). */
 bool begin_flight(struct flight *flight, libusb_device_handle *handle, enum mon_type type, uint8_t ep, uint32_t length)
 {
     struct libusb_device_descriptor seen;
@@ -11,6 +12,8 @@ bool begin_flight(struct flight *flight, libusb_device_handle *handle, enum mon_
     if (!is_recording() || !device || libusb_get_device_descriptor(device, &seen) || !is_wanted(seen.idVendor, seen.idProduct))
         return false;
     int packet = type == MON_CONTROL ? 0 : libusb_get_max_packet_size(device, ep);
+    if (type == MON_BULK && is_interrupt_endpoint(handle, ep))
+        type = MON_INTERRUPT;
     *flight = (struct flight){ .id = new_ids(piece_count(length)), .type = type, .endpoint = ep, .length = length,
                                .bus = libusb_get_bus_number(device), .device = libusb_get_device_address(device),
                                .packet = (uint16_t)(packet > 0 ? packet : 0) };

@@ -84,6 +84,22 @@ static int waits(void)
     return end();
 }
 
+/* Bulk transfers at an interrupt endpoint, as many drivers make them: of a call, and one that is submitted. */
+static int asks_in_bulk(void)
+{
+    unsigned char data[8];
+    int moved;
+    begin();
+    if (libusb_bulk_transfer(handle, REPORTS, data, 8, &moved, 1000) || moved != 1)
+        return 31;
+    struct libusb_transfer *transfer = make(REPORTS, 8, on_end, 10);
+    if (libusb_submit_transfer(transfer))
+        return 32;
+    wait_for(1);
+    libusb_free_transfer(transfer);
+    return end();
+}
+
 static void on_again(struct libusb_transfer *transfer)
 {
     ended++;
@@ -227,7 +243,7 @@ static const struct {
     { "waits", waits },         { "resubmits", resubmits },     { "otherwise", ends_otherwise }, { "leaves", leaves },
     { "drops", drops },         { "forks", forks },             { "closes", closes_files },      { "no room", has_no_room },
     { "two", has_two },         { "large", is_large },          { "isochronous", is_isochronous }, { "threads", threads },
-    { "another", is_another },  { "resets", resets },
+    { "another", is_another },  { "resets", resets },         { "bulk", asks_in_bulk },
 };
 
 int main(int count, char **words)
