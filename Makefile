@@ -74,9 +74,9 @@ bin/libtirnouch_core.so: bin/libtirnouch_core.a
 	@$(CC) -shared -Wl,--version-script=c/core.map -Wl,--whole-archive $< -Wl,--no-whole-archive -o $@
 
 c: bin/libtirnouch_core.a bin/libtirnouch_core.so
-	@$(CC) $(C_FLAGS) c/tests/core.c $< -o bin/core_test
-	@bin/core_test | diff c/tests/core.expected -
-	@echo "the core behind C answers as c/tests/core.expected says"
+	@$(CC) $(C_FLAGS) c/tests/core/*.c $< -o bin/core_test
+	@bin/core_test | diff c/tests/core/expected -
+	@echo "the core behind C answers as c/tests/core/expected says"
 
 # libusb's own interface over it: of the library only the headers' names are to be seen.
 USB_OBJECTS = $(patsubst c/usb/%.c,bin/usb/%.o,$(wildcard c/usb/*.c))

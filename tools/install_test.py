@@ -105,13 +105,15 @@ class Trial:
         return self.run(sys.executable, "tools/install", "install", *more)
 
     def build(self, source: pathlib.Path, program: str, *more: str, prefix: pathlib.Path, package: str = "tirnouch-libusb") -> pathlib.Path:
-        """Builds a program outside of the repository, by pkg-config."""
+        """Builds a program, of a file or of a folder's files, outside of the repository, by pkg-config."""
         asked = self.here("pkg-config", "--cflags", "--libs", *(["--static"] if "-static" in more else []), package,
                           PKG_CONFIG_PATH=str(prefix / "lib" / "pkgconfig"))
         self.expect(asked, 0)
-        copied = pathlib.Path(shutil.copy(source, self.folder / f"{program}.c"))
+        copied = pathlib.Path(shutil.copytree(source, self.folder / f"{program}.of") if source.is_dir() else
+                              shutil.copy(source, self.folder / f"{program}.c"))
+        sources = sorted(copied.glob("*.c")) if copied.is_dir() else [copied]
         words = [it.replace("\0", " ") for it in asked.stdout.replace("\\ ", "\0").split()]
-        self.expect(self.here("cc", "-Wall", "-Werror", copied, *words, "-pthread", *more, "-o", program), 0)
+        self.expect(self.here("cc", "-Wall", "-Werror", *sources, *words, "-pthread", *more, "-o", program), 0)
         return self.folder / program
 
     def drive(self, prefix: pathlib.Path, driver: pathlib.Path) -> None:
@@ -216,10 +218,10 @@ def a_static_program_runs(trial: Trial) -> None:
 
 
 def the_core_is_used_alone(trial: Trial) -> None:
-    """c/tests/core.c, whose expected text says where it comes from."""
-    tried = trial.here(trial.build(ROOT / "c" / "tests" / "core.c", "core", prefix=trial.prefix, package="tirnouch-core"))
+    """c/tests/core, whose expected text says where it comes from."""
+    tried = trial.here(trial.build(ROOT / "c" / "tests" / "core", "core", prefix=trial.prefix, package="tirnouch-core"))
     trial.expect(tried, 0)
-    trial.check(tried.stdout == (ROOT / "c" / "tests" / "core.expected").read_text(), f"it printed {tried.stdout[-300:]!r}")
+    trial.check(tried.stdout == (ROOT / "c" / "tests" / "core" / "expected").read_text(), f"it printed {tried.stdout[-300:]!r}")
 
 
 def other_builders_find_it(trial: Trial) -> None:
