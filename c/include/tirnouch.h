@@ -31,7 +31,7 @@ struct tirnouch_options {
 /* The bus begins now, with its devices, and is there until `tirnouch_end`: contexts come and go meanwhile, and the devices go on. Of the
  * variables TIRNOUCH_TRACE, TIRNOUCH_SEED and TIRNOUCH_TIME none steers it. LIBUSB_ERROR_BUSY where there is a bus, LIBUSB_ERROR_INVALID_PARAM
  * for another size, LIBUSB_ERROR_NO_MEM where memory is refused, LIBUSB_ERROR_OTHER where a line isn't taken or the trace can't be written
- * (`tirnouch_error` says why): then there is none. */
+ * (`tirnouch_error` says why): then there is none. The text of `tirnouch_plug` stays for what comes behind it. */
 int tirnouch_begin(const struct tirnouch_options *options);
 
 /* It ends: what never came of what is expected is told, and the trace ends. LIBUSB_ERROR_BUSY while a context is open, so in a callback

@@ -4,7 +4,7 @@
 #include <stdlib.h>
 #include <string.h>
 
-/* The text of the devices, in place of the one that is kept; NULL where memory is refused. */
+/* NULL where memory is refused. */
 static char *copy_of(const struct tirnouch_options *options)
 {
     char *copy = malloc(options->devices_length + 1);
@@ -13,14 +13,36 @@ static char *copy_of(const struct tirnouch_options *options)
     return copy;
 }
 
+/* The text of `tirnouch_plug`, while that of such a bus stands in its place. */
+static struct {
+    bool is_kept;
+    char *text;
+    size_t length;
+    const char *name;
+} plugged;
+
 static void use_text(char *text, size_t length)
 {
     if (!text)
         return;
-    free(process.text);
+    plugged.is_kept = true;
+    plugged.text = process.text;
+    plugged.length = process.text_length;
+    plugged.name = process.text_name;
     process.text = text;
     process.text_length = length;
     process.text_name = "the text of tirnouch_begin";
+}
+
+static void take_back_text(void)
+{
+    if (!plugged.is_kept)
+        return;
+    free(process.text);
+    process.text = plugged.text;
+    process.text_length = plugged.length;
+    process.text_name = plugged.name;
+    plugged.is_kept = false;
 }
 
 /* With the lock, where there is no bus. */
@@ -32,6 +54,8 @@ static int begin_by(const struct tirnouch_options *options)
         r = begin_limit_of(process.bus.turn, options->limit);
     if (r && process.bus.users)
         bus_end();
+    if (r)
+        take_back_text();
     process.has_begun = !r;
     return r;
 }
@@ -62,6 +86,7 @@ int tirnouch_end(void)
     if (!r) {
         process.has_begun = false;
         bus_end();
+        take_back_text();
     }
     unlock();
     return r;

@@ -227,6 +227,27 @@ static void bus_that_isnt_begun(void)
     answer("end", tirnouch_end());
 }
 
+static int begin_plugged(void)
+{
+    struct tirnouch_options options = { .size = sizeof options, .is_virtual = 1 };
+    return tirnouch_begin(&options);
+}
+
+/* Neither a bus with a text of its own nor one that can't begin takes the text of tirnouch_plug away. */
+static void plugged_text_stays(void)
+{
+    say("the text of tirnouch_plug stays");
+    answer("plug", tirnouch_plug(STANDARD "script 0 81 d:07\n", strlen(STANDARD "script 0 81 d:07\n")));
+    answer("begin with another text", begin_with(STANDARD "script 0 81 d:08\n", NULL));
+    answer("end", tirnouch_end());
+    answer("begin with a bad text", begin_with("huh 0\n", NULL));
+    answer("begin with that of plug", begin_plugged());
+    open_on_bus();
+    read_one(handle);
+    close_on_bus();
+    answer("end", tirnouch_end());
+}
+
 int main(void)
 {
     left();
@@ -237,5 +258,6 @@ int main(void)
     replug();
     bus_of_a_test();
     bus_that_isnt_begun();
+    plugged_text_stays();
     return 0;
 }
