@@ -13,7 +13,7 @@ Place = Tuple[int, int]
 DEVICE, CONFIGURATION, STRING = 1, 2, 3
 ENGLISH = 0x0409
 REFUSED = 2
-LEFT_OUT = re.compile(r"# bus (\d+) device (\d+) is left out: (.+)$")
+LEFT_OUT = re.compile(r"# bus (\d+) device (\d+) is left out: (.+) \(first in frame \d+\)$")
 # What helps where a device isn't in the text.
 REMEDIES = {
     "no configuration descriptor": "say which file has its descriptors: --descriptors FILE, a copy of its "

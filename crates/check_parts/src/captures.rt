@@ -44,7 +44,7 @@ fn last_packet(records: &[u8]) -> &[u8] {
 
 /// The answers of the transfer that this packet calls back.
 fn answers(alloc: Global, packet: &[u8]) -> Result<Script> {
-    let event = event_of(alloc, Endianness::Little, EventHeader::Mapped, packet)?;
+    let event = event_of(alloc, Endianness::Little, EventHeader::Mapped, 1, packet)?;
     let transfer = transfer(present(event, "event")?);
     Ok(answers_of(alloc, 8, &transfer)?)
 }

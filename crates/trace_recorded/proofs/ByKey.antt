@@ -14,7 +14,7 @@ use Rattle.trace_recorded.specs.declared.control_lines.ControlLines.{ControlLine
 use Rattle.trace_recorded.specs.declared.request.AnsweredRequest.{AnsweredRequest}
 use Rattle.trace_recorded.specs.Folds.{after}
 use Rattle.trace_recorded.specs.Laws.{LinesHaveTheAnswers, answer_for, line_of}
-use Rattle.trace_recorded.specs.Requests.{control_lines, key_of, with_answered, with_more}
+use Rattle.trace_recorded.specs.Requests.{control_lines, key_of, no_lines, with_answered, with_more}
 use Rattle.trace_recorded.specs.Tables.{value_at, with_value, without}
 
 -- numbers that compare equal are the same
@@ -108,4 +108,4 @@ all_answers key (r ∷ rs) lines =
     ∙ append_assoc (line_of key lines) (answer_for key r) (flat_map (answer_for key) rs))
 
 pub lines_have_the_answers : LinesHaveTheAnswers
-lines_have_the_answers key answered = all_answers key answered (record { firsts = []; answers = [] })
+lines_have_the_answers key answered = all_answers key answered no_lines

@@ -11,14 +11,15 @@ use Rattle.trace_recorded.specs.declared.pcapng.PcapngReading.{PcapngReading}
 use Rattle.trace_recorded.specs.declared.block.Front.{Front}
 use Rattle.trace_recorded.specs.declared.block.Front.TheVariants.{Block, Amid, Unknown}
 use Rattle.trace_recorded.specs.Blocks.{IsWithin}
-use Rattle.trace_recorded.specs.Files.{records_behind, record_size, begins_with_record, packet_of_record, events_in, blocks_behind, front_of, with_front, past_front}
+use Rattle.trace_recorded.specs.Files.{records_behind, next_frame, record_size, begins_with_record, packet_of_record, events_in, blocks_behind, front_of, with_front, past_front}
 
--- with the records of the rest behind these events, all are read
-abbrev pub RecordsAreLeft : Endianness → EventHeader → Recording → List RecordedEvent → List ℕ → Type 0
-RecordsAreLeft order header all events rest = (most : ℕ) × (length rest ≤ most) × (records_behind most order header events rest ≡ all)
+-- with the records of the rest behind these events, the first of this number, all are read
+abbrev pub RecordsAreLeft : Endianness → EventHeader → Recording → ℕ → List RecordedEvent → List ℕ → Type 0
+RecordsAreLeft order header all frame events rest = (most : ℕ) × (length rest ≤ most) × (records_behind most order header frame events rest ≡ all)
 
-pub records_begin : (order : Endianness) (header : EventHeader) (events : List RecordedEvent) (bytes : List ℕ) → RecordsAreLeft order header (records_behind (length bytes) order header events bytes) events bytes
-records_begin order header events bytes = (length bytes, omega arith, refl)
+pub records_begin : (order : Endianness) (header : EventHeader) (frame : ℕ) (events : List RecordedEvent) (bytes : List ℕ)
+    → RecordsAreLeft order header (records_behind (length bytes) order header frame events bytes) frame events bytes
+records_begin order header frame events bytes = (length bytes, omega arith, refl)
 
 -- a record has sixteen bytes at least
 long : (order : Endianness) (rest : List ℕ) → begins_with_record order rest ≡ true → 16 ≤ length rest
@@ -28,36 +29,40 @@ long order rest begins = by_test (nat_le 16 (length rest)) refl
     by_test true is = leb-true 16 (length rest) is
     by_test false is = let wrong : false ≡ true = rw is at begins in cc
 
-next_record : (most : ℕ) (order : Endianness) (header : EventHeader) (events : List RecordedEvent) (rest : List ℕ) → begins_with_record order rest ≡ true
-    → records_behind (suc most) order header events rest ≡ records_behind most order header (events ++ events_in order header (packet_of_record order rest)) (drop (record_size order rest) rest)
+next_record : (most : ℕ) (order : Endianness) (header : EventHeader) (frame : ℕ) (events : List RecordedEvent) (rest : List ℕ) → begins_with_record order rest ≡ true
+    → records_behind (suc most) order header frame events rest
+    ≡ records_behind most order header (next_frame frame) (events ++ events_in order header frame (packet_of_record order rest)) (drop (record_size order rest) rest)
 unfolding records_behind
-next_record most order header events rest begins = rw begins refl
+next_record most order header frame events rest begins = rw begins refl
 
-pub record_more : (order : Endianness) (header : EventHeader) (all : Recording) (events : List RecordedEvent) (rest : List ℕ) → begins_with_record order rest ≡ true → RecordsAreLeft order header all events rest
-    → RecordsAreLeft order header all (events ++ events_in order header (packet_of_record order rest)) (drop (record_size order rest) rest)
-record_more order header all events rest begins left = by_most left.0 left.1 left.2
+pub record_more : (order : Endianness) (header : EventHeader) (all : Recording) (frame : ℕ) (events : List RecordedEvent) (rest : List ℕ) → begins_with_record order rest ≡ true
+    → RecordsAreLeft order header all frame events rest
+    → RecordsAreLeft order header all (next_frame frame) (events ++ events_in order header frame (packet_of_record order rest)) (drop (record_size order rest) rest)
+record_more order header all frame events rest begins left = by_most left.0 left.1 left.2
   where
-    by_most : (most : ℕ) → length rest ≤ most → records_behind most order header events rest ≡ all
-        → RecordsAreLeft order header all (events ++ events_in order header (packet_of_record order rest)) (drop (record_size order rest) rest)
+    by_most : (most : ℕ) → length rest ≤ most → records_behind most order header frame events rest ≡ all
+        → RecordsAreLeft order header all (next_frame frame) (events ++ events_in order header frame (packet_of_record order rest)) (drop (record_size order rest) rest)
     by_most zero few same = absurd (omega (arith, long order rest begins))
-    by_most (suc most) few same = (most, omega (arith, long order rest begins, length-drop (record_size order rest) rest), sym (next_record most order header events rest begins) ∙ same)
+    by_most (suc most) few same = (most, omega (arith, long order rest begins, length-drop (record_size order rest) rest), sym (next_record most order header frame events rest begins) ∙ same)
 
 -- as the loop has it
-pub record_next : (order : Endianness) (header : EventHeader) (all : Recording) (events more : List RecordedEvent) (rest behind : List ℕ) (size : ℕ) → begins_with_record order rest ≡ true → size ≡ record_size order rest
-    → more ≡ events ++ events_in order header (take (size - 16) (drop 16 rest)) → behind ≡ drop size rest → RecordsAreLeft order header all events rest
-    → RecordsAreLeft order header all more behind
-record_next order header all events more rest behind size begins is pushed past left =
-    let next = record_more order header all events rest begins left in
-    let same : more ≡ events ++ events_in order header (packet_of_record order rest) = pushed ∙ ap (λ n. events ++ events_in order header (take (n - 16) (drop 16 rest))) is in
+pub record_next : (order : Endianness) (header : EventHeader) (all : Recording) (frame after : ℕ) (events more : List RecordedEvent) (rest behind : List ℕ) (size : ℕ) → begins_with_record order rest ≡ true
+    → size ≡ record_size order rest → more ≡ events ++ events_in order header frame (take (size - 16) (drop 16 rest)) → after ≡ next_frame frame → behind ≡ drop size rest
+    → RecordsAreLeft order header all frame events rest
+    → RecordsAreLeft order header all after more behind
+record_next order header all frame after events more rest behind size begins is pushed counted past left =
+    let next = record_more order header all frame events rest begins left in
+    let same : more ≡ events ++ events_in order header frame (packet_of_record order rest) = pushed ∙ ap (λ n. events ++ events_in order header frame (take (n - 16) (drop 16 rest))) is in
     let goes : behind ≡ drop (record_size order rest) rest = past ∙ ap (λ n. drop n rest) is in
-    rw (same, goes) next
+    rw (same, goes, counted) next
 
-pub records_end : (order : Endianness) (header : EventHeader) (all : Recording) (events : List RecordedEvent) (rest : List ℕ) → begins_with_record order rest ≡ false → RecordsAreLeft order header all events rest
+pub records_end : (order : Endianness) (header : EventHeader) (all : Recording) (frame : ℕ) (events : List RecordedEvent) (rest : List ℕ) → begins_with_record order rest ≡ false
+    → RecordsAreLeft order header all frame events rest
     → record { events = events; is_cut = not (length rest == 0) } ≡ all
 unfolding records_behind
-records_end order header all events rest ends left = by_most left.0 left.2
+records_end order header all frame events rest ends left = by_most left.0 left.2
   where
-    by_most : (most : ℕ) → records_behind most order header events rest ≡ all → record { events = events; is_cut = not (length rest == 0) } ≡ all
+    by_most : (most : ℕ) → records_behind most order header frame events rest ≡ all → record { events = events; is_cut = not (length rest == 0) } ≡ all
     by_most zero same = same
     by_most (suc most) same = rw ends at same
 

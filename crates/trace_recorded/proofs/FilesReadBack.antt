@@ -1,5 +1,5 @@
 -- A file of events is read back, record by record.
-use Rattle.std.proofs.Common.{◌≡◌, ℕ, zero, suc, ◌+◌, ◌-◌, ◌^◌, ◌<◌, ◌≤◌, ◌==◌, Bool, true, false, List, [], ◌∷◌, ◌++◌, length, map, take, drop, Option, Some, None, Ok, refl, ap, sym, ◌∙◌, append_assoc, append-nil, length-append, arith}
+use Rattle.std.proofs.Common.{◌≡◌, ℕ, zero, suc, ◌+◌, ◌-◌, ◌^◌, ◌<◌, ◌≤◌, ◌==◌, Bool, true, false, List, [], ◌∷◌, ◌++◌, length, take, drop, Option, Some, None, Ok, refl, ap, sym, ◌∙◌, append_assoc, append-nil, length-append, arith}
 use Rattle.std.specs.Prelude.{nat_lt, nat_le, not, ◌&&◌}
 use Rattle.std.specs.List.{AllByRecursion, flat_map}
 use Rattle.std.proofs.lemmas.Bool.{le-leb, le-ltb}
@@ -15,9 +15,10 @@ use Rattle.trace_recorded.specs.declared.event.RecordedEvent.{RecordedEvent}
 use Rattle.trace_recorded.specs.declared.number.Endianness.TheVariants.{Little}
 use Rattle.trace_recorded.specs.declared.recording.Recording.{Recording}
 use Rattle.trace_recorded.specs.declared.recording.FileForm.TheVariants.{Pcap}
-use Rattle.trace_recorded.specs.Events.{event_of, number_at}
-use Rattle.trace_recorded.specs.Files.{begins_with_record, events_in, form_of, packet_of_record, pcap, record_size, recording, recording_in, records_behind}
-use Rattle.trace_recorded.specs.Laws.{FilesAreReadBack, HasRecord, fields_of}
+use Rattle.trace_recorded.specs.Events.{event_of}
+use Rattle.trace_recorded.specs.Packets.{number_at}
+use Rattle.trace_recorded.specs.Files.{begins_with_record, events_in, form_of, next_frame, packet_of_record, pcap, record_size, recording, recording_in, records_behind}
+use Rattle.trace_recorded.specs.Laws.{FilesAreReadBack, HasRecord, fields_of, numbered}
 use Rattle.trace_recorded.proofs.ReadBack.{read_back}
 
 -- how long a record is
@@ -85,37 +86,38 @@ packet_is e more fits =
     ap (take (record_size Little (event_bytes e ++ more) - 16)) (past_header e more)
     ∙ take_at (drop 16 (event_bytes e)) more (record_size Little (event_bytes e ++ more) - 16) (omega (arith, length-drop 16 (event_bytes e), event_long e, record_is e more fits))
 
-event_is : (e : Event) (more : List ℕ) → HasRecord e → events_in Little Mapped (packet_of_record Little (event_bytes e ++ more)) ≡ fields_of e ∷ []
-event_is e more h =
-    let read : event_of Little Mapped (packet_of_record Little (event_bytes e ++ more)) ≡ Some (fields_of e) = ap (event_of Little Mapped) (packet_is e more h.size) ∙ read_back e h.room in
+event_is : (frame : ℕ) (e : Event) (more : List ℕ) → HasRecord e → events_in Little Mapped frame (packet_of_record Little (event_bytes e ++ more)) ≡ fields_of frame e ∷ []
+event_is frame e more h =
+    let read : event_of Little Mapped frame (packet_of_record Little (event_bytes e ++ more)) ≡ Some (fields_of frame e) = ap (event_of Little Mapped frame) (packet_is e more h.size) ∙ read_back frame e h.room in
     rw read refl
 
 -- the records of events, behind those before
-nothing_left : (most : ℕ) (found : List RecordedEvent) → records_behind most Little Mapped found [] ≡ record { events = found; is_cut = false }
+nothing_left : (most frame : ℕ) (found : List RecordedEvent) → records_behind most Little Mapped frame found [] ≡ record { events = found; is_cut = false }
 unfolding records_behind
-nothing_left zero found = refl
-nothing_left (suc most) found = refl
+nothing_left zero frame found = refl
+nothing_left (suc most) frame found = refl
 
-one_record : (most : ℕ) (found : List RecordedEvent) (bytes : List ℕ) → begins_with_record Little bytes ≡ true
-    → records_behind (suc most) Little Mapped found bytes ≡ records_behind most Little Mapped (found ++ events_in Little Mapped (packet_of_record Little bytes)) (drop (record_size Little bytes) bytes)
+one_record : (most frame : ℕ) (found : List RecordedEvent) (bytes : List ℕ) → begins_with_record Little bytes ≡ true
+    → records_behind (suc most) Little Mapped frame found bytes
+    ≡ records_behind most Little Mapped (next_frame frame) (found ++ events_in Little Mapped frame (packet_of_record Little bytes)) (drop (record_size Little bytes) bytes)
 unfolding records_behind
-one_record most found bytes is = rw is refl
+one_record most frame found bytes is = rw is refl
 
-next : (most : ℕ) (found : List RecordedEvent) (e : Event) (more : List ℕ) → HasRecord e
-    → records_behind (suc most) Little Mapped found (event_bytes e ++ more) ≡ records_behind most Little Mapped (found ++ fields_of e ∷ []) more
-next most found e more h =
-    one_record most found (event_bytes e ++ more) (begins e more h.size)
-    ∙ (ap (λ es. records_behind most Little Mapped (found ++ es) (drop (record_size Little (event_bytes e ++ more)) (event_bytes e ++ more))) (event_is e more h)
-    ∙ ap (records_behind most Little Mapped (found ++ fields_of e ∷ [])) (behind e more h.size))
+next : (most frame : ℕ) (found : List RecordedEvent) (e : Event) (more : List ℕ) → HasRecord e
+    → records_behind (suc most) Little Mapped frame found (event_bytes e ++ more) ≡ records_behind most Little Mapped (next_frame frame) (found ++ fields_of frame e ∷ []) more
+next most frame found e more h =
+    one_record most frame found (event_bytes e ++ more) (begins e more h.size)
+    ∙ (ap (λ es. records_behind most Little Mapped (next_frame frame) (found ++ es) (drop (record_size Little (event_bytes e ++ more)) (event_bytes e ++ more))) (event_is frame e more h)
+    ∙ ap (records_behind most Little Mapped (next_frame frame) (found ++ fields_of frame e ∷ [])) (behind e more h.size))
 
-all_read : (events : List Event) (most : ℕ) (found : List RecordedEvent) → AllByRecursion HasRecord events → length (events_bytes events) ≤ most
-    → records_behind most Little Mapped found (events_bytes events) ≡ record { events = found ++ map fields_of events; is_cut = false }
-all_read [] most found h few = nothing_left most found ∙ ap (λ es. record { events = es; is_cut = false }) (sym (append-nil found))
-all_read (e ∷ events) zero found h few = absurd (omega (arith, few, length-append (event_bytes e) (events_bytes events), event_long e))
-all_read (e ∷ events) (suc most) found h few =
-    next most found e (events_bytes events) h.0
-    ∙ (all_read events most (found ++ fields_of e ∷ []) h.1 (omega (arith, few, length-append (event_bytes e) (events_bytes events), event_long e))
-    ∙ ap (λ es. record { events = es; is_cut = false }) (append_assoc found (fields_of e ∷ []) (map fields_of events)))
+all_read : (events : List Event) (most frame : ℕ) (found : List RecordedEvent) → AllByRecursion HasRecord events → length (events_bytes events) ≤ most
+    → records_behind most Little Mapped frame found (events_bytes events) ≡ record { events = found ++ numbered frame events; is_cut = false }
+all_read [] most frame found h few = nothing_left most frame found ∙ ap (λ es. record { events = es; is_cut = false }) (sym (append-nil found))
+all_read (e ∷ events) zero frame found h few = absurd (omega (arith, few, length-append (event_bytes e) (events_bytes events), event_long e))
+all_read (e ∷ events) (suc most) frame found h few =
+    next most frame found e (events_bytes events) h.0
+    ∙ (all_read events most (next_frame frame) (found ++ fields_of frame e ∷ []) h.1 (omega (arith, few, length-append (event_bytes e) (events_bytes events), event_long e))
+    ∙ ap (λ es. record { events = es; is_cut = false }) (append_assoc found (fields_of frame e ∷ []) (numbered (next_frame frame) events)))
 
 -- behind a file's header
 abbrev file : List ℕ → List ℕ
@@ -129,7 +131,7 @@ form_is bytes =
     let long : nat_lt (length (file bytes)) 4 ≡ false = le-ltb (length (file bytes)) 4 (omega (arith, file_long bytes)) in
     rw long refl
 
-records_are : (bytes : List ℕ) → pcap Little (file bytes) ≡ Ok (records_behind (length bytes) Little Mapped [] bytes)
+records_are : (bytes : List ℕ) → pcap Little (file bytes) ≡ Ok (records_behind (length bytes) Little Mapped 1 [] bytes)
 unfolding pcap
 records_are bytes =
     let long : nat_lt (length (file bytes)) 24 ≡ false = le-ltb (length (file bytes)) 24 (omega (arith, file_long bytes)) in
@@ -139,4 +141,4 @@ pub files_read_back : FilesAreReadBack
 unfolding recording
 files_read_back events h =
     ap (λ form. recording_in form (file (events_bytes events))) (form_is (events_bytes events))
-    ∙ (records_are (events_bytes events) ∙ ap Ok (all_read events (length (events_bytes events)) [] h (omega arith)))
+    ∙ (records_are (events_bytes events) ∙ ap Ok (all_read events (length (events_bytes events)) 1 [] h (omega arith)))

@@ -2,6 +2,7 @@
 use Rattle.std.proofs.Common.{◌≡◌, ℕ, suc, ◌+◌, ◌<◌, ◌≤◌, List, [], ◌∷◌, ◌++◌, length, drop, map, get_or, refl, ap, sym, ◌∙◌, append_assoc, append-nil, arith}
 use Rattle.std.specs.List.{flat_map}
 use Rattle.std.proofs.lemmas.List.{at_drop_more, at_drop_all}
+use Rattle.trace_recorded.specs.declared.device.OtherTransfer.{OtherTransfer}
 use Rattle.trace_recorded.specs.Lines.{other_note, other_notes}
 
 pub joined_next : {A B : Type 0} (f : A → List B) (out more all : List B) (xs : List A) (i : ℕ) (x : A) → i < length xs → x ≡ get_or xs i x → more ≡ out ++ f x → out ++ flat_map f (drop i xs) ≡ all
@@ -23,15 +24,15 @@ pub mapped_end : {A B : Type 0} (f : A → B) (out all : List B) (left : List A)
 mapped_end f out all left none so_far = sym (append-nil out) ∙ (ap (λ l. out ++ map f l) (sym none) ∙ so_far)
 
 -- the notes of endpoints below an address
-pub notes_none : (out others : List ℕ) → out ≡ out ++ other_notes others 0
+pub notes_none : (out : List ℕ) (others : List OtherTransfer) → out ≡ out ++ other_notes others 0
 unfolding other_notes
 notes_none out others = sym (append-nil out)
 
-next_note : (others : List ℕ) (ep : ℕ) → other_notes others (suc ep) ≡ other_notes others ep ++ other_note others ep
+next_note : (others : List OtherTransfer) (ep : ℕ) → other_notes others (suc ep) ≡ other_notes others ep ++ other_note others ep
 unfolding other_notes
 next_note others ep = refl
 
-pub notes_more : (begun out more others : List ℕ) (ep : ℕ) → out ≡ begun ++ other_notes others ep → more ≡ out ++ other_note others ep → more ≡ begun ++ other_notes others (ep + 1)
+pub notes_more : (begun out more : List ℕ) (others : List OtherTransfer) (ep : ℕ) → out ≡ begun ++ other_notes others ep → more ≡ out ++ other_note others ep → more ≡ begun ++ other_notes others (ep + 1)
 notes_more begun out more others ep so_far next =
     let one : ep + 1 ≡ suc ep = omega arith in
     next ∙ (ap (λ t. t ++ other_note others ep) so_far

@@ -19,7 +19,8 @@ use Rattle.trace_capture.specs.Event.{bit, errno_number, event_bytes, record_hea
 use Rattle.trace_recorded.specs.declared.event.RecordedEvent.{RecordedEvent}
 use Rattle.trace_recorded.specs.declared.event.EventHeader.TheVariants.{Mapped}
 use Rattle.trace_recorded.specs.declared.number.Endianness.TheVariants.{Little}
-use Rattle.trace_recorded.specs.Events.{event_of, type_of, kind_of, setup_of}
+use Rattle.trace_recorded.specs.Events.{event_of, linux_event, setup_of, type_of}
+use Rattle.trace_recorded.specs.Packets.{kind_of}
 use Rattle.trace_recorded.specs.Laws.{EventsAreReadBack, HasRoom, type_written, fields_of}
 
 -- the lowest byte of a small number
@@ -57,20 +58,22 @@ flags_below : (f : UrbFlags) (inward : Bool) → flags_number f inward < 2 ^ 32
 flags_below f inward = omega (arith, bit_below f.short_not_ok, bit_below f.zero_packet, bit_below inward)
 
 -- equal fields make equal events
-same_event : (a b : RecordedEvent) → a.id ≡ b.id → a.event_type ≡ b.event_type → a.kind ≡ b.kind → a.ep ≡ b.ep → a.device ≡ b.device → a.bus ≡ b.bus → a.status ≡ b.status → a.length ≡ b.length
-    → a.setup ≡ b.setup → a.flags ≡ b.flags → a.bytes ≡ b.bytes → a ≡ b
-same_event a b id type kind ep device bus status long setup flags bytes =
-    ap (λ v. record a { id = v }) id
-    ∙ (ap (λ v. record a { id = b.id; event_type = v }) type
-    ∙ (ap (λ v. record a { id = b.id; event_type = b.event_type; kind = v }) kind
-    ∙ (ap (λ v. record a { id = b.id; event_type = b.event_type; kind = b.kind; ep = v }) ep
-    ∙ (ap (λ v. record a { id = b.id; event_type = b.event_type; kind = b.kind; ep = b.ep; device = v }) device
-    ∙ (ap (λ v. record a { id = b.id; event_type = b.event_type; kind = b.kind; ep = b.ep; device = b.device; bus = v }) bus
-    ∙ (ap (λ v. record a { id = b.id; event_type = b.event_type; kind = b.kind; ep = b.ep; device = b.device; bus = b.bus; status = v }) status
-    ∙ (ap (λ v. record a { id = b.id; event_type = b.event_type; kind = b.kind; ep = b.ep; device = b.device; bus = b.bus; status = b.status; length = v }) long
-    ∙ (ap (λ v. record a { id = b.id; event_type = b.event_type; kind = b.kind; ep = b.ep; device = b.device; bus = b.bus; status = b.status; length = b.length; setup = v }) setup
+same_event : (a b : RecordedEvent) → a.frame ≡ b.frame → a.id ≡ b.id → a.event_type ≡ b.event_type → a.kind ≡ b.kind → a.ep ≡ b.ep → a.device ≡ b.device → a.bus ≡ b.bus → a.status ≡ b.status → a.length ≡ b.length
+    → a.is_counted ≡ b.is_counted → a.setup ≡ b.setup → a.flags ≡ b.flags → a.bytes ≡ b.bytes → a ≡ b
+same_event a b frame id type kind ep device bus status long counted setup flags bytes =
+    ap (λ v. record a { frame = v }) frame
+    ∙ (ap (λ v. record a { frame = b.frame; id = v }) id
+    ∙ (ap (λ v. record a { frame = b.frame; id = b.id; event_type = v }) type
+    ∙ (ap (λ v. record a { frame = b.frame; id = b.id; event_type = b.event_type; kind = v }) kind
+    ∙ (ap (λ v. record a { frame = b.frame; id = b.id; event_type = b.event_type; kind = b.kind; ep = v }) ep
+    ∙ (ap (λ v. record a { frame = b.frame; id = b.id; event_type = b.event_type; kind = b.kind; ep = b.ep; device = v }) device
+    ∙ (ap (λ v. record b { bus = v; status = a.status; length = a.length; is_counted = a.is_counted; setup = a.setup; flags = a.flags; bytes = a.bytes }) bus
+    ∙ (ap (λ v. record b { status = v; length = a.length; is_counted = a.is_counted; setup = a.setup; flags = a.flags; bytes = a.bytes }) status
+    ∙ (ap (λ v. record b { length = v; is_counted = a.is_counted; setup = a.setup; flags = a.flags; bytes = a.bytes }) long
+    ∙ (ap (λ v. record b { is_counted = v; setup = a.setup; flags = a.flags; bytes = a.bytes }) counted
+    ∙ (ap (λ v. record b { setup = v; flags = a.flags; bytes = a.bytes }) setup
     ∙ (ap (λ v. record b { flags = v; bytes = a.bytes }) flags
-    ∙ ap (λ v. record b { bytes = v }) bytes)))))))))
+    ∙ ap (λ v. record b { bytes = v }) bytes)))))))))))
 
 -- the packet of an event with this setup
 abbrev packet : Event → List ℕ
@@ -161,15 +164,15 @@ is_packet e None room = no_setup e room
 is_packet e (Some s) room = with_setup e s room
 
 -- an event is read from its parts
-reads : (e : Event) (bytes : List ℕ) → IsPacket e bytes → event_of Little Mapped bytes ≡ Some (fields_of e)
-unfolding event_of
-reads e bytes p =
+reads : (frame : ℕ) (e : Event) (bytes : List ℕ) → IsPacket e bytes → event_of Little Mapped frame bytes ≡ Some (fields_of frame e)
+unfolding event_of linux_event
+reads frame e bytes p =
     let long : nat_lt (length bytes) 64 ≡ false = le-ltb (length bytes) 64 p.size in
     let letter : type_of (slice_index bytes 8) ≡ Some (type_written e.event_type) = ap type_of p.letter ∙ letter_is e.event_type in
     let number : kind_of (slice_index bytes 9) ≡ Some e.kind = ap kind_of p.kind ∙ number_is e.kind in
     let kept : take (little_number 4 (drop 36 bytes)) (drop 64 bytes) ≡ e.bytes =
     ap (λ n. take n (drop 64 bytes)) p.kept ∙ (ap (take (length e.bytes)) p.behind ∙ take_all (length e.bytes) e.bytes (omega arith)) in
-    rw (long, letter, number) (ap Some (same_event _ (fields_of e) p.id refl refl p.ep p.device p.bus p.status p.count p.setup p.flags kept))
+    rw (long, letter, number) (ap Some (same_event _ (fields_of frame e) refl p.id refl refl p.ep p.device p.bus p.status p.count refl p.setup p.flags kept))
 
 pub read_back : EventsAreReadBack
-read_back e room = reads e (packet e) (is_packet e e.setup room)
+read_back frame e room = reads frame e (packet e) (is_packet e e.setup room)

@@ -2,7 +2,7 @@
 use Rattle.std.specs.Prelude.{ℕ, ◌+◌, ◌≤◌, List, length, ⊤}
 use Rattle.trace_recorded.specs.declared.block.Front.{Front}
 use Rattle.trace_recorded.specs.declared.block.Front.TheVariants.{Block, Amid, Unknown}
-use Rattle.trace_recorded.specs.Events.{number_at}
+use Rattle.trace_recorded.specs.Packets.{number_at}
 use Rattle.trace_recorded.specs.Files.{fields_size}
 
 -- it has room for its type, its two lengths and its fields, and ends within them

@@ -14,11 +14,12 @@ use Rattle.trace_recorded.specs.declared.endpoint.RecordedEndpoint.{RecordedEndp
 use Rattle.trace_recorded.specs.declared.identity.DeviceIdentity.{DeviceIdentity}
 use Rattle.trace_recorded.specs.declared.identity.RecordedString.{RecordedString}
 use Rattle.trace_recorded.specs.declared.note.EndpointNote.TheVariants.{Lost, Requests, TooMany}
+use Rattle.trace_recorded.specs.declared.note.Noted.{Noted}
 use Rattle.trace_recorded.specs.declared.reader.TextReader.{TextReader}
 use Rattle.trace_recorded.specs.declared.reader.TextReader.TheVariants.{Library, Scenario}
 use Rattle.trace_recorded.specs.declared.waits.Wait.{Wait}
 use Rattle.trace_recorded.specs.Lines.{answers_text, endpoint_notes, is_due, note_line, note_text, other_notes, script_line}
-use Rattle.trace_recorded.specs.Requests.{key_of}
+use Rattle.trace_recorded.specs.Requests.{key_of, next_of}
 use Rattle.trace_recorded.specs.Tables.{value_at}
 
 -- the line that says which recorded device it was
@@ -70,21 +71,21 @@ request_words setup = word (setup.request_type ∷ []) ++ (word (setup.request �
 abbrev pub note_head : ControlSetup → List ℕ
 note_head setup = codes "# control" ++ request_words setup
 
-abbrev pub note_rest : ℕ → List ℕ
-note_rest count = codes ": " ++ (note_text (TooMany count) ++ codes "\n")
+abbrev pub note_rest : Noted → List ℕ
+note_rest noted = codes ": " ++ (note_text (TooMany noted) ++ codes "\n")
 
-abbrev pub request_note : ControlSetup → ℕ → List ℕ
-request_note setup count = if is_due (TooMany count) then note_head setup ++ note_rest count else []
+abbrev pub request_note : ControlSetup → Noted → List ℕ
+request_note setup noted = if is_due (TooMany noted) then note_head setup ++ note_rest noted else []
 
--- the line of a request with these answers, as many as a line has
+-- the line of a request with these answers, as many as a line has; the packet of this number has the next
 abbrev pub control_head : ℕ → ControlSetup → List ℕ
 control_head number setup = (codes "control " ++ decimal number) ++ request_words setup
 
-unfoldable pub request_line : ℕ → ControlSetup → List RecordedAnswer → List ℕ
-request_line number setup answers = request_note setup (length answers) ++ (control_head number setup ++ (answers_text (take longest_script answers) ++ codes "\n"))
+unfoldable pub request_line : ℕ → ControlSetup → ℕ → List RecordedAnswer → List ℕ
+request_line number setup next answers = request_note setup (record { count = length answers; frame = next }) ++ (control_head number setup ++ (answers_text (take longest_script answers) ++ codes "\n"))
 
 abbrev pub control_line : ℕ → ControlLines → ControlSetup → List ℕ
-control_line number lines setup = request_line number setup (unwrap_or (value_at (key_of setup) lines.answers) [])
+control_line number lines setup = request_line number setup (next_of setup lines) (unwrap_or (value_at (key_of setup) lines.answers) [])
 
 abbrev pub controls_text : ℕ → ControlLines → List ℕ
 controls_text number lines = flat_map (control_line number lines) lines.firsts

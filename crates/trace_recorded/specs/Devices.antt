@@ -14,6 +14,7 @@ use Rattle.trace_recorded.specs.declared.event.RecordedType.{RecordedType}
 use Rattle.trace_recorded.specs.declared.event.RecordedType.TheVariants.{Callback}
 use Rattle.trace_recorded.specs.declared.controls.Controls.{Controls}
 use Rattle.trace_recorded.specs.declared.endpoint.RecordedEndpoint.{RecordedEndpoint}
+use Rattle.trace_recorded.specs.declared.device.OtherTransfer.{OtherTransfer}
 use Rattle.trace_recorded.specs.declared.device.RecordedDevice.{RecordedDevice}
 use Rattle.trace_recorded.specs.declared.left_out.LeftOut.{LeftOut}
 use Rattle.trace_recorded.specs.declared.reader.TextReader.{TextReader}
@@ -66,11 +67,11 @@ has_script infos event = list_any (λ info. is_scripted info && is_own info even
 abbrev pub is_other : List EndpointInfo → RecordedEvent → Bool
 is_other infos event = is_callback event.event_type && (not (is_same_kind event.kind Control) && not (has_script infos event))
 
--- its endpoint, behind the others
-abbrev pub with_other : List EndpointInfo → RecordedEvent → List ℕ → List ℕ
-with_other infos event others = if is_other infos event then others ++ event.ep ∷ [] else others
+-- its endpoint and its packet, behind the others
+abbrev pub with_other : List EndpointInfo → RecordedEvent → List OtherTransfer → List OtherTransfer
+with_other infos event others = if is_other infos event then others ++ record { ep = event.ep; frame = event.frame } ∷ [] else others
 
-abbrev pub others_of : List EndpointInfo → List RecordedEvent → List ℕ
+abbrev pub others_of : List EndpointInfo → List RecordedEvent → List OtherTransfer
 others_of infos events = after (with_other infos) [] events
 
 abbrev pub has_answers : List RecordedEndpoint → Bool

@@ -1,6 +1,6 @@
 -- What an endpoint of a recorded device answered, from the device's events.
 use Rattle.std.specs.Prelude.{ℕ, ◌+◌, ◌-◌, ◌/◌, ◌%◌, ◌^◌, ◌==◌, min, nat_le, nat_lt, Bool, true, false, not, ◌&&◌, ◌||◌, List, [], ◌++◌, length, take, Option, Some, None, if◌then◌else◌}
-use Rattle.std.specs.Option.{option_map_or, unwrap_or}
+use Rattle.std.specs.Option.{option_map_or}
 use Rattle.usb_model.specs.declared.setup.EndpointInfo.{EndpointInfo}
 use Rattle.usb_model.specs.Limits.{longest_script, most_bytes}
 use Rattle.usb_model.specs.Requests.{is_same_kind}
@@ -13,6 +13,7 @@ use Rattle.trace_recorded.specs.declared.event.RecordedType.TheVariants.{Submiss
 use Rattle.trace_recorded.specs.declared.transfer.RecordedEnd.{RecordedEnd}
 use Rattle.trace_recorded.specs.declared.transfer.RecordedEnd.TheVariants.{Stalled, TooLong, Withdrawn}
 use Rattle.trace_recorded.specs.declared.transfer.RecordedTransfer.{RecordedTransfer}
+use Rattle.trace_recorded.specs.declared.note.Noted.{Noted}
 use Rattle.trace_recorded.specs.declared.submission.RecordedSubmission.{RecordedSubmission}
 use Rattle.trace_recorded.specs.declared.endpoint.RecordedEndpoint.{RecordedEndpoint}
 use Rattle.trace_recorded.specs.Answers.{answers_of, end_of, packets_acknowledged}
@@ -24,6 +25,13 @@ use Rattle.trace_recorded.specs.Written.{recorded_answers}
 -- so many more are counted; a counter stays at the largest number of 64 bits
 abbrev pub counted : ℕ → ℕ → ℕ
 counted count more = min (count + more) (2 ^ 64 - 1)
+
+-- none of something, and so many more in a packet
+abbrev pub no_note : Noted
+no_note = record { count = 0; frame = 0 }
+
+abbrev pub with_noted : ℕ → ℕ → Noted → Noted
+with_noted frame more noted = if more == 0 then noted else record { count = counted noted.count more; frame = if noted.count == 0 then frame else noted.frame }
 
 -- whether a request ends the halt of an endpoint (USB 2.0, 9.4.5): CLEAR_FEATURE of ENDPOINT_HALT at it, SET_INTERFACE of its interface, SET_CONFIGURATION
 abbrev pub clears_halt : EndpointInfo → ControlSetup → Bool
@@ -65,15 +73,25 @@ is_too_long _ = false
 
 -- what is kept of a submission: its length, its flags, its bytes, and how often the halt was ended before
 abbrev pub submitted : RecordedEvent → RecordedEndpoint → RecordedSubmission
-submitted event x = record { length = event.length; flags = event.flags; bytes = event.bytes; clears = x.clears }
+submitted event x = record { length = event.length; is_counted = event.is_counted; flags = event.flags; bytes = event.bytes; clears = x.clears }
+
+-- how many bytes were asked for: where that wasn't recorded as many as moved, and a packet more where too many came; and how many moved: of a write all, where it was done
+abbrev pub asked_at_least : ℕ → RecordedEvent → ℕ
+asked_at_least size event = if is_too_long (end_of event.status) then min (event.length + size) (2 ^ 32 - 1) else event.length
+
+abbrev pub asked_of : ℕ → RecordedSubmission → RecordedEvent → ℕ
+asked_of size s event = if s.is_counted then s.length else asked_at_least size event
+
+abbrev pub moved_of : RecordedSubmission → RecordedEvent → ℕ
+moved_of s event = if event.is_counted then event.length else if event.status == 0 then s.length else 0
 
 -- the transfer of a submission and its callback, with what the one wrote or the other read; bit 6 of the flags asks for an empty packet behind whole ones
 abbrev pub transfer_of : EndpointInfo → RecordedSubmission → RecordedEvent → RecordedTransfer
 transfer_of info s event = record {
   ep = info.address;
-  asked = s.length;
+  asked = asked_of info.packet_size s event;
   zero_packet = s.flags / 64 % 2 == 1;
-  moved = event.length;
+  moved = moved_of s event;
   end = end_of event.status;
   bytes = if is_in info.address then event.bytes else s.bytes;
 }
@@ -93,14 +111,15 @@ bytes_lost transfer = if is_in transfer.ep then transfer.moved - length transfer
 abbrev pub reads_too_long : RecordedTransfer → ℕ
 reads_too_long transfer = if is_in transfer.ep && is_too_long transfer.end then 1 else 0
 
--- a transfer's answers, as many as there is room for; all are counted
-abbrev pub with_answers : ℕ → ℕ → RecordedTransfer → RecordedEndpoint → RecordedEndpoint
-with_answers size clears transfer x = record x {
+-- a transfer's answers, as many as there is room for; all are counted, and the packet is kept that has the first without room
+abbrev pub with_answers : ℕ → ℕ → ℕ → RecordedTransfer → RecordedEndpoint → RecordedEndpoint
+with_answers size clears frame transfer x = record x {
   stalled_at = if is_stalled transfer.end then Some clears else x.stalled_at;
   answers = x.answers ++ take (longest_script - length x.answers) (recorded_answers size transfer);
   count = counted x.count (length (answers_of size transfer));
-  lost = counted x.lost (bytes_lost transfer);
-  too_long = counted x.too_long (reads_too_long transfer);
+  next = if (x.next == 0) && nat_lt (longest_script - length x.answers) (length (answers_of size transfer)) then frame else x.next;
+  lost = with_noted frame (bytes_lost transfer) x.lost;
+  too_long = with_noted frame (reads_too_long transfer) x.too_long;
 }
 
 -- the answers of a read, so many, are to be put behind the others: they wait for the reads that were withdrawn here, and for what others had taken
@@ -116,26 +135,31 @@ with_counts size transfer count x =
     else record x { acknowledged = counted x.acknowledged (packets_acknowledged size transfer) }
 
 -- a transfer's answers in their turn, perhaps none
-abbrev pub with_turn : List TakenCount → ℕ → RecordedTransfer → RecordedEndpoint → RecordedEndpoint
-with_turn taken clears transfer x =
+abbrev pub with_turn : List TakenCount → ℕ → ℕ → RecordedTransfer → RecordedEndpoint → RecordedEndpoint
+with_turn taken clears frame transfer x =
     with_counts x.info.packet_size transfer (length (answers_of x.info.packet_size transfer))
-    (with_answers x.info.packet_size clears transfer (with_places taken (length (answers_of x.info.packet_size transfer)) x))
+    (with_answers x.info.packet_size clears frame transfer (with_places taken (length (answers_of x.info.packet_size transfer)) x))
 
 -- a transfer ended
-unfoldable pub with_transfer : List TakenCount → ℕ → RecordedTransfer → RecordedEndpoint → RecordedEndpoint
-with_transfer taken clears transfer x =
-    if is_too_large transfer then record x { left_out = counted x.left_out 1 }
+unfoldable pub with_transfer : List TakenCount → ℕ → ℕ → RecordedTransfer → RecordedEndpoint → RecordedEndpoint
+with_transfer taken clears frame transfer x =
+    if is_too_large transfer then record x { left_out = with_noted frame 1 x.left_out }
     else if is_behind_stall clears transfer x then x
-    else with_turn taken clears transfer x
+    else with_turn taken clears frame transfer x
 
 -- a transfer ended that was submitted so
 abbrev pub with_callback : List TakenCount → RecordedSubmission → RecordedEvent → RecordedEndpoint → RecordedEndpoint
-with_callback taken s event x = with_transfer taken s.clears (transfer_of x.info s event) x
+with_callback taken s event x = with_transfer taken s.clears event.frame (transfer_of x.info s event) x
 
--- an event of a transfer of this endpoint; of a callback whose submission wasn't recorded the length, the flags and the bytes are its own
+-- the same, where its submission was recorded; else the length, the flags and the bytes are those of its callback, where that has a length
+abbrev pub with_end_of : Option RecordedSubmission → List TakenCount → RecordedEvent → RecordedEndpoint → RecordedEndpoint
+with_end_of (Some s) taken event x = with_callback taken s event x
+with_end_of None taken event x = if event.is_counted then with_callback taken (submitted event x) event x else x
+
+-- an event of a transfer of this endpoint
 abbrev pub with_own_by : RecordedType → List TakenCount → RecordedEvent → RecordedEndpoint → RecordedEndpoint
 with_own_by Submission taken event x = record x { waiting = with_value event.id (submitted event x) x.waiting }
-with_own_by Callback taken event x = with_callback taken (unwrap_or (value_at event.id x.waiting) (submitted event x)) event (record x { waiting = without event.id x.waiting })
+with_own_by Callback taken event x = with_end_of (value_at event.id x.waiting) taken event (record x { waiting = without event.id x.waiting })
 with_own_by SubmissionError taken event x = record x { waiting = without event.id x.waiting }
 
 -- an event of the device, before which so much was taken
@@ -147,4 +171,4 @@ with_event taken event x =
 
 -- nothing happened yet
 abbrev pub no_answers : EndpointInfo → RecordedEndpoint
-no_answers info = record { info = info; waiting = []; clears = 0; stalled_at = None; answers = []; count = 0; acknowledged = 0; withdrawn = 0; waits = no_waits; lost = 0; too_long = 0; left_out = 0 }
+no_answers info = record { info = info; waiting = []; clears = 0; stalled_at = None; answers = []; count = 0; acknowledged = 0; withdrawn = 0; waits = no_waits; next = 0; lost = no_note; too_long = no_note; left_out = no_note }

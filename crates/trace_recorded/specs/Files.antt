@@ -4,7 +4,7 @@ use Rattle.std.specs.Option.{option_to_list, option_and_then, unwrap_or}
 use Rattle.trace_recorded.specs.declared.number.Endianness.{Endianness}
 use Rattle.trace_recorded.specs.declared.number.Endianness.TheVariants.{Little, Big}
 use Rattle.trace_recorded.specs.declared.event.EventHeader.{EventHeader}
-use Rattle.trace_recorded.specs.declared.event.EventHeader.TheVariants.{Mapped, Plain}
+use Rattle.trace_recorded.specs.declared.event.EventHeader.TheVariants.{Mapped, Plain, Windows}
 use Rattle.trace_recorded.specs.declared.event.RecordedEvent.{RecordedEvent}
 use Rattle.trace_recorded.specs.declared.capture_fault.CaptureFault.{CaptureFault}
 use Rattle.trace_recorded.specs.declared.capture_fault.CaptureFault.TheVariants.{NotACapture, HeaderCutShort, LinkType, NoInterface}
@@ -16,7 +16,9 @@ use Rattle.trace_recorded.specs.declared.block.Front.TheVariants.{Block, Amid, U
 use Rattle.trace_recorded.specs.declared.pcapng.PcapngEnd.{PcapngEnd}
 use Rattle.trace_recorded.specs.declared.pcapng.PcapngEnd.TheVariants.{Whole, AmidBlock, UnknownOrder}
 use Rattle.trace_recorded.specs.declared.pcapng.PcapngReading.{PcapngReading}
-use Rattle.trace_recorded.specs.Events.{number_at, event_of}
+use Rattle.trace_recorded.specs.Endpoints.{counted}
+use Rattle.trace_recorded.specs.Events.{event_of}
+use Rattle.trace_recorded.specs.Packets.{number_at}
 
 -- the form of a file, and the order of a pcap file's numbers, by its first four bytes: of pcap two magic numbers, one of microseconds and one of nanoseconds
 abbrev pub form_by : ℕ → Option FileForm
@@ -29,9 +31,9 @@ form_by magic =
 abbrev pub form_of : List ℕ → Option FileForm
 form_of bytes = if nat_lt (length bytes) 4 then None else form_by (number_at Little 0 4 bytes)
 
--- usbmon's two link types, and what stands in front of their packets' data
+-- usbmon's two link types and that of Windows, and what stands in front of their packets' data
 abbrev pub header_of_link : ℕ → Option EventHeader
-header_of_link link = if link == 220 then Some Mapped else if link == 189 then Some Plain else None
+header_of_link link = if link == 220 then Some Mapped else if link == 189 then Some Plain else if link == 249 then Some Windows else None
 
 -- how many bytes a record of a pcap file has: 16, of which the third number says how many of the packet follow
 abbrev pub record_size : Endianness → List ℕ → ℕ
@@ -45,21 +47,25 @@ packet_of_record order bytes = take (record_size order bytes - 16) (drop 16 byte
 abbrev pub begins_with_record : Endianness → List ℕ → Bool
 begins_with_record order bytes = nat_le 16 (length bytes) && nat_le (record_size order bytes) (length bytes)
 
--- the event of a packet, if it is one of usbmon's
-abbrev pub events_in : Endianness → EventHeader → List ℕ → List RecordedEvent
-events_in order header packet = option_to_list (event_of order header packet)
+-- the event of the packet of a number, if it is one of a bus
+abbrev pub events_in : Endianness → EventHeader → ℕ → List ℕ → List RecordedEvent
+events_in order header frame packet = option_to_list (event_of order header frame packet)
 
--- the events of records, at most so many, behind those before them; the file is cut where bytes are left that begin no record
-unfoldable pub records_behind : ℕ → Endianness → EventHeader → List RecordedEvent → List ℕ → Recording
-records_behind zero order header events bytes = record { events = events; is_cut = not (length bytes == 0) }
-records_behind (suc most) order header events bytes =
+-- the number of the packet behind one
+abbrev pub next_frame : ℕ → ℕ
+next_frame frame = counted frame 1
+
+-- the events of records, at most so many, the first with this number, behind those before them; the file is cut where bytes are left that begin no record
+unfoldable pub records_behind : ℕ → Endianness → EventHeader → ℕ → List RecordedEvent → List ℕ → Recording
+records_behind zero order header frame events bytes = record { events = events; is_cut = not (length bytes == 0) }
+records_behind (suc most) order header frame events bytes =
     if begins_with_record order bytes
-    then records_behind most order header (events ++ events_in order header (packet_of_record order bytes)) (drop (record_size order bytes) bytes)
+    then records_behind most order header (next_frame frame) (events ++ events_in order header frame (packet_of_record order bytes)) (drop (record_size order bytes) bytes)
     else record { events = events; is_cut = not (length bytes == 0) }
 
 -- all of them
 abbrev pub records : Endianness → EventHeader → List ℕ → Recording
-records order header bytes = records_behind (length bytes) order header [] bytes
+records order header bytes = records_behind (length bytes) order header 1 [] bytes
 
 -- of these records, by their link type
 abbrev pub pcap_by : Endianness → ℕ → Option EventHeader → List ℕ → Result Recording CaptureFault
@@ -127,10 +133,10 @@ front_of order bytes = if nat_lt (length bytes) 12 then Amid else front_by (bloc
 abbrev pub with_interface : Option EventHeader → PcapngReading → PcapngReading
 with_interface header reading = record reading { headers = reading.headers ++ header ∷ []; has_usbmon = reading.has_usbmon || is_some header }
 
--- a packet more, of the interface of this number: an event of usbmon's, where that is one
+-- a packet more, of the interface of this number: an event of a bus, where that is one; each packet is counted
 abbrev pub with_packet_by : Option (Option EventHeader) → Endianness → List ℕ → PcapngReading → PcapngReading
-with_packet_by (Some (Some header)) order packet reading = record reading { events = reading.events ++ events_in order header packet }
-with_packet_by _ order packet reading = reading
+with_packet_by (Some (Some header)) order packet reading = record reading { events = reading.events ++ events_in order header reading.frame packet; frame = next_frame reading.frame }
+with_packet_by _ order packet reading = record reading { frame = next_frame reading.frame }
 
 abbrev pub with_packet : ℕ → Endianness → List ℕ → PcapngReading → PcapngReading
 with_packet interface order packet reading = with_packet_by (slice_get reading.headers interface) order packet reading
@@ -173,7 +179,7 @@ blocks_behind (suc most) reading bytes =
 
 -- nothing is read yet
 abbrev pub nothing_read : PcapngReading
-nothing_read = record { order = Little; headers = []; has_usbmon = false; events = []; ending = Whole }
+nothing_read = record { order = Little; headers = []; has_usbmon = false; frame = 1; events = []; ending = Whole }
 
 -- a file with this was read
 abbrev pub recording_by : PcapngEnd → Bool → List RecordedEvent → Result Recording CaptureFault

@@ -32,7 +32,7 @@ use Rattle.trace_recorded.specs.declared.event.EventHeader.TheVariants.{Mapped}
 use Rattle.trace_recorded.specs.declared.number.Endianness.TheVariants.{Little}
 use Rattle.trace_recorded.specs.Answers.{answers_of, end_of, last_written, packets_acknowledged, recorded_bytes}
 use Rattle.trace_recorded.specs.Events.{event_of}
-use Rattle.trace_recorded.specs.Files.{recording}
+use Rattle.trace_recorded.specs.Files.{next_frame, recording}
 use Rattle.trace_recorded.specs.Requests.{control_lines, key_of}
 use Rattle.trace_recorded.specs.Tables.{value_at}
 use Rattle.trace_recorded.specs.Written.{recorded_answers, response_of}
@@ -57,8 +57,9 @@ type_written written.Submission = Submission
 type_written written.Callback = Callback
 
 -- what is recorded of an event
-abbrev pub fields_of : Event → RecordedEvent
-fields_of e = record {
+abbrev pub fields_of : ℕ → Event → RecordedEvent
+fields_of frame e = record {
+  frame = frame;
   id = id_number e.id;
   event_type = type_written e.event_type;
   kind = e.kind;
@@ -67,6 +68,7 @@ fields_of e = record {
   bus = 1;
   status = (2 ^ 32 - errno_number e.errno) % 2 ^ 32;
   length = e.length;
+  is_counted = true;
   setup = e.setup;
   flags = flags_number e.flags (is_in e.ep);
   bytes = e.bytes;
@@ -74,16 +76,21 @@ fields_of e = record {
 
 -- what is written of an event is read back: the packet is the record behind its first 16 bytes
 abbrev pub EventsAreReadBack : Type 0
-EventsAreReadBack = (e : Event) → HasRoom e → event_of Little Mapped (drop 16 (event_bytes e)) ≡ Some (fields_of e)
+EventsAreReadBack = (frame : ℕ) (e : Event) → HasRoom e → event_of Little Mapped frame (drop 16 (event_bytes e)) ≡ Some (fields_of frame e)
 
 -- an event whose record has room for its data too
 pub record HasRecord (e : Event) : Type 0 where
   pub room : HasRoom e
   pub size : 64 + length e.bytes < 2 ^ 32
 
--- a file of events is read whole, and gives what is recorded of each
+-- what is recorded of events, of which the first has this number
+abbrev pub numbered : ℕ → List Event → List RecordedEvent
+numbered frame [] = []
+numbered frame (e ∷ events) = fields_of frame e ∷ numbered (next_frame frame) events
+
+-- a file of events is read whole, and gives what is recorded of each, with its number
 abbrev pub FilesAreReadBack : Type 0
-FilesAreReadBack = (events : List Event) → AllByRecursion HasRecord events → recording (file_bytes events) ≡ Ok (record { events = map fields_of events; is_cut = false })
+FilesAreReadBack = (events : List Event) → AllByRecursion HasRecord events → recording (file_bytes events) ≡ Ok (record { events = numbered 1 events; is_cut = false })
 
 -- before a fault whole packets moved: none, or fewer bytes than were asked for
 pub record MovedWhole (size asked moved : ℕ) : Type 0 where

@@ -12,9 +12,11 @@ pub mod Folds
 pub mod Identity
 pub mod Laws
 pub mod Lines
+pub mod Packets
 pub mod Requests
 pub mod Scenario
 pub mod Sessions
 pub mod Tables
 pub mod Waits
+pub mod Windows
 pub mod Written

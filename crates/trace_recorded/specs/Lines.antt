@@ -1,5 +1,5 @@
 -- Lines of the text that is made of a recording: what is left out or unsaid, and scripts.
-use Rattle.std.specs.Prelude.{ℕ, zero, suc, ◌+◌, ◌/◌, ◌%◌, ◌==◌, nat_lt, Bool, true, false, List, [], ◌∷◌, ◌++◌, length, codes, count_by, Result, Ok, Err, if◌then◌else◌}
+use Rattle.std.specs.Prelude.{ℕ, zero, suc, ◌+◌, ◌/◌, ◌%◌, ◌==◌, nat_lt, Bool, true, false, List, [], ◌∷◌, ◌++◌, length, codes, Result, Ok, Err, if◌then◌else◌}
 use Rattle.std.specs.Fmt.{decimal}
 use Rattle.std.specs.List.{flat_map}
 use Rattle.hex.specs.Hex.{encode_lower}
@@ -13,8 +13,12 @@ use Rattle.trace_recorded.specs.declared.answer.WrittenBytes.{WrittenBytes}
 use Rattle.trace_recorded.specs.declared.endpoint.RecordedEndpoint.{RecordedEndpoint}
 use Rattle.trace_recorded.specs.declared.left_out.LeftOut.{LeftOut}
 use Rattle.trace_recorded.specs.declared.left_out.LeftOut.TheVariants.{NoConfiguration, Refused, Hub, NoAnswers, FifthDevice}
+use Rattle.trace_recorded.specs.declared.device.OtherTransfer.{OtherTransfer}
 use Rattle.trace_recorded.specs.declared.note.EndpointNote.{EndpointNote}
 use Rattle.trace_recorded.specs.declared.note.EndpointNote.TheVariants.{Lost, TooLong, TooLarge, Requests, TooMany, Others}
+use Rattle.trace_recorded.specs.declared.note.Noted.{Noted}
+use Rattle.trace_recorded.specs.Endpoints.{no_note, with_noted}
+use Rattle.trace_recorded.specs.Folds.{after}
 use Rattle.trace_recorded.specs.Requests.{most_data}
 
 -- why a device is left out
@@ -25,41 +29,52 @@ left_out_text Hub = codes "a hub"
 left_out_text NoAnswers = codes "no answers"
 left_out_text FifthDevice = codes "the fifth device"
 
--- the line of a device that is left out
-abbrev pub left_out_line : ℕ → LeftOut → List ℕ
-left_out_line key why = codes "# bus " ++ (decimal (key / 256) ++ (codes " device " ++ (decimal (key % 256) ++ (codes " is left out: " ++ (left_out_text why ++ codes "\n")))))
+-- the packet that has the first of something
+abbrev pub first_in : ℕ → List ℕ
+first_in frame = codes " (first in frame " ++ (decimal frame ++ codes ")")
+
+-- the line of a device that is left out, of which the first packet has this number
+abbrev pub left_out_line : ℕ → ℕ → LeftOut → List ℕ
+left_out_line key frame why = codes "# bus " ++ (decimal (key / 256) ++ (codes " device " ++ (decimal (key % 256) ++ (codes " is left out: " ++ (left_out_text why ++ (codes " (first in frame " ++ (decimal frame ++ codes ")\n")))))))
 
 -- what an endpoint's script leaves unsaid
 abbrev pub note_text : EndpointNote → List ℕ
-note_text (Lost n) = decimal n ++ codes " bytes were not recorded; they are 00 here"
-note_text (TooLong n) = decimal n ++ codes " packets were too long; their bytes are 00 here"
-note_text (TooLarge n) = decimal n ++ (codes " transfers of more than " ++ (decimal most_bytes ++ codes " bytes are left out"))
-note_text (Requests n) = decimal n ++ (codes " requests of more than " ++ (decimal most_data ++ codes " bytes are left out"))
-note_text (TooMany n) = codes "the first " ++ (decimal longest_script ++ (codes " of " ++ (decimal n ++ codes " answers")))
-note_text (Others n) = decimal n ++ codes " transfers are left out: not a bulk or interrupt endpoint of this configuration"
+note_text (Lost n) = decimal n.count ++ (codes " bytes were not recorded; they are 00 here" ++ first_in n.frame)
+note_text (TooLong n) = decimal n.count ++ (codes " packets were too long; their bytes are 00 here" ++ first_in n.frame)
+note_text (TooLarge n) = decimal n.count ++ (codes " transfers of more than " ++ (decimal most_bytes ++ (codes " bytes are left out" ++ first_in n.frame)))
+note_text (Requests n) = decimal n.count ++ (codes " requests of more than " ++ (decimal most_data ++ (codes " bytes are left out" ++ first_in n.frame)))
+note_text (TooMany n) = codes "the first " ++ (decimal longest_script ++ (codes " of " ++ (decimal n.count ++ (codes " answers (the next is in frame " ++ (decimal n.frame ++ codes ")")))))
+note_text (Others n) = decimal n.count ++ (codes " transfers are left out: not a bulk or interrupt endpoint of this configuration" ++ first_in n.frame)
 
 -- whether there is something to note
 abbrev pub is_due : EndpointNote → Bool
-is_due (Lost n) = nat_lt 0 n
-is_due (TooLong n) = nat_lt 0 n
-is_due (TooLarge n) = nat_lt 0 n
-is_due (Requests n) = nat_lt 0 n
-is_due (TooMany n) = nat_lt longest_script n
-is_due (Others n) = nat_lt 0 n
+is_due (Lost n) = nat_lt 0 n.count
+is_due (TooLong n) = nat_lt 0 n.count
+is_due (TooLarge n) = nat_lt 0 n.count
+is_due (Requests n) = nat_lt 0 n.count
+is_due (TooMany n) = nat_lt longest_script n.count
+is_due (Others n) = nat_lt 0 n.count
 
 abbrev pub note_line : ℕ → EndpointNote → List ℕ
 note_line ep note = if is_due note then codes "# ep " ++ (hex_byte ep ++ (codes ": " ++ (note_text note ++ codes "\n"))) else []
 
 -- the notes of an endpoint
 abbrev pub endpoint_notes : RecordedEndpoint → List ℕ
-endpoint_notes x = note_line x.info.address (Lost x.lost) ++ (note_line x.info.address (TooLong x.too_long) ++ (note_line x.info.address (TooLarge x.left_out) ++ note_line x.info.address (TooMany x.count)))
+endpoint_notes x = note_line x.info.address (Lost x.lost) ++ (note_line x.info.address (TooLong x.too_long) ++ (note_line x.info.address (TooLarge x.left_out) ++ note_line x.info.address (TooMany (record { count = x.count; frame = x.next }))))
+
+-- the transfers of an endpoint among those without a script: how many, and the packet of the first
+abbrev pub with_other_of : ℕ → OtherTransfer → Noted → Noted
+with_other_of ep other noted = if other.ep == ep then with_noted other.frame 1 noted else noted
+
+abbrev pub noted_of : List OtherTransfer → ℕ → Noted
+noted_of others ep = after (with_other_of ep) no_note others
 
 -- the note of transfers of an endpoint without a script
-abbrev pub other_note : List ℕ → ℕ → List ℕ
-other_note others ep = note_line ep (Others (count_by (λ other. other == ep) others))
+abbrev pub other_note : List OtherTransfer → ℕ → List ℕ
+other_note others ep = note_line ep (Others (noted_of others ep))
 
 -- those of the endpoints below an address
-unfoldable pub other_notes : List ℕ → ℕ → List ℕ
+unfoldable pub other_notes : List OtherTransfer → ℕ → List ℕ
 other_notes others zero = []
 other_notes others (suc ep) = other_notes others ep ++ other_note others ep
 

@@ -1,5 +1,7 @@
 -- The control requests of a recorded device, and what it answered (USB 2.0, 9.3 and 9.4).
 use Rattle.std.specs.Prelude.{ℕ, ◌+◌, ◌-◌, ◌*◌, ◌/◌, ◌==◌, nat_le, nat_lt, Bool, true, false, ◌&&◌, ◌||◌, List, [], ◌∷◌, ◌++◌, length, take, replicate, Option, Some, None, if◌then◌else◌}
+use Rattle.std.specs.Option.{unwrap_or}
+use Rattle.usb_model.specs.Limits.{longest_script}
 use Rattle.usb_model.specs.declared.response.Response.TheVariants.{Data, Ack, Stall, Broken}
 use Rattle.trace_capture.specs.declared.control_setup.ControlSetup.{ControlSetup}
 use Rattle.trace_recorded.specs.declared.answer.RecordedAnswer.{RecordedAnswer}
@@ -14,7 +16,7 @@ use Rattle.trace_recorded.specs.declared.control_lines.ControlLines.{ControlLine
 use Rattle.trace_recorded.specs.declared.transfer.RecordedEnd.{RecordedEnd}
 use Rattle.trace_recorded.specs.declared.transfer.RecordedEnd.TheVariants.{Done, Stalled, Failed}
 use Rattle.trace_recorded.specs.Answers.{end_of}
-use Rattle.trace_recorded.specs.Endpoints.{counted}
+use Rattle.trace_recorded.specs.Endpoints.{no_note, with_noted}
 use Rattle.trace_recorded.specs.Folds.{after}
 use Rattle.trace_recorded.specs.Tables.{value_at, with_value, without}
 use Rattle.trace_recorded.specs.Written.{written_bytes}
@@ -70,34 +72,42 @@ data_lost request event = if reads request.setup then event.length - length even
 abbrev pub with_answer_to : RecordedRequest → Option RecordedAnswer → RecordedEvent → AnsweredRequests → AnsweredRequests
 with_answer_to request None event requests = requests
 with_answer_to request (Some answer) event requests = record requests {
-  answered = requests.answered ++ record { setup = request.setup; answer = answer } ∷ [];
-  lost = counted requests.lost (data_lost request event);
+  answered = requests.answered ++ record { setup = request.setup; answer = answer; frame = event.frame } ∷ [];
+  lost = with_noted event.frame (data_lost request event) requests.lost;
 }
 
 -- a request of a driver's ended
 abbrev pub with_ended : RecordedRequest → RecordedEvent → AnsweredRequests → AnsweredRequests
 with_ended request event requests =
     if is_of_host request.setup then requests
-    else if is_too_large request event then record requests { left_out = counted requests.left_out 1 }
+    else if is_too_large request event then record requests { left_out = with_noted event.frame 1 requests.left_out }
     else with_answer_to request (answer_by (end_of event.status) request event) event requests
 
 abbrev pub no_requests : AnsweredRequests
-no_requests = record { answered = []; lost = 0; left_out = 0 }
+no_requests = record { answered = []; lost = no_note; left_out = no_note }
 
 -- a request's number in a table: its type, its number, its value and its index
 abbrev pub key_of : ControlSetup → ℕ
 key_of setup = ((setup.request_type * 256 + setup.request) * 65536 + setup.value) * 65536 + setup.index
 
+-- the packet of an answer behind so many, where it is the first for which the line has no room; it has room for as many as a script
+abbrev pub with_next : ℕ → ℕ → ℕ → ControlLines → ControlLines
+with_next key frame count lines = if count == longest_script then record lines { next = with_value key frame lines.next } else lines
+
 -- the first answer to such a request, or one more behind those before it
 abbrev pub with_more : AnsweredRequest → Option (List RecordedAnswer) → ControlLines → ControlLines
-with_more request None lines = record { firsts = lines.firsts ++ request.setup ∷ []; answers = with_value (key_of request.setup) (request.answer ∷ []) (without (key_of request.setup) lines.answers) }
-with_more request (Some before) lines = record lines { answers = with_value (key_of request.setup) (before ++ request.answer ∷ []) (without (key_of request.setup) lines.answers) }
+with_more request None lines = record lines { firsts = lines.firsts ++ request.setup ∷ []; answers = with_value (key_of request.setup) (request.answer ∷ []) (without (key_of request.setup) lines.answers) }
+with_more request (Some before) lines = record (with_next (key_of request.setup) request.frame (length before) lines) { answers = with_value (key_of request.setup) (before ++ request.answer ∷ []) (without (key_of request.setup) lines.answers) }
 
 unfoldable pub with_answered : AnsweredRequest → ControlLines → ControlLines
 with_answered request lines = with_more request (value_at (key_of request.setup) lines.answers) lines
 
 abbrev pub no_lines : ControlLines
-no_lines = record { firsts = []; answers = [] }
+no_lines = record { firsts = []; answers = []; next = [] }
+
+-- the packet that has the first answer for which a line has no room; 0 where there is none
+abbrev pub next_of : ControlSetup → ControlLines → ℕ
+next_of setup lines = unwrap_or (value_at (key_of setup) lines.next) 0
 
 -- the answers by request, in the order in which each was first answered
 abbrev pub control_lines : List AnsweredRequest → ControlLines

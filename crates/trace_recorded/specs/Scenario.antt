@@ -1,5 +1,5 @@
 -- The scenario that is made of a capture: what its devices answered.
-use Rattle.std.specs.Prelude.{ℕ, ◌+◌, nat_lt, Bool, List, [], ◌++◌, codes, Result, Ok, Err, if◌then◌else◌}
+use Rattle.std.specs.Prelude.{ℕ, ◌+◌, nat_lt, Bool, List, [], ◌∷◌, ◌++◌, codes, Result, Ok, Err, if◌then◌else◌}
 use Rattle.trace_recorded.specs.declared.capture_fault.CaptureFault.{CaptureFault}
 use Rattle.trace_recorded.specs.declared.device.RecordedDevice.{RecordedDevice}
 use Rattle.trace_recorded.specs.declared.event.RecordedEvent.{RecordedEvent}
@@ -15,21 +15,26 @@ use Rattle.trace_recorded.specs.Folds.{after}
 use Rattle.trace_recorded.specs.DeviceText.{device_text}
 use Rattle.trace_recorded.specs.Lines.{left_out_line}
 
--- a device is left out, for this reason
-abbrev pub with_left_out : ℕ → LeftOut → Listing → Listing
-with_left_out key why listing = record listing { left_out = listing.left_out ++ left_out_line key why }
+-- a device is left out, of which the first packet has this number, for this reason
+abbrev pub with_left_out : ℕ → ℕ → LeftOut → Listing → Listing
+with_left_out key frame why listing = record listing { left_out = listing.left_out ++ left_out_line key frame why }
 
 -- a device is kept, under the next number
 abbrev pub with_kept : ℕ → RecordedDevice → Listing → Listing
 with_kept key device listing = record listing { kept = listing.kept ++ device_text listing.reader listing.count key device; count = listing.count + 1 }
 
 -- a device more: a scenario has four at most
-abbrev pub with_device : ℕ → Result RecordedDevice LeftOut → Listing → Listing
-with_device key (Err why) listing = with_left_out key why listing
-with_device key (Ok device) listing = if nat_lt listing.count 4 then with_kept key device listing else with_left_out key FifthDevice listing
+abbrev pub with_device : ℕ → ℕ → Result RecordedDevice LeftOut → Listing → Listing
+with_device key frame (Err why) listing = with_left_out key frame why listing
+with_device key frame (Ok device) listing = if nat_lt listing.count 4 then with_kept key device listing else with_left_out key frame FifthDevice listing
+
+-- the number of the first packet of events
+abbrev pub first_frame : List RecordedEvent → ℕ
+first_frame [] = 0
+first_frame (event ∷ events) = event.frame
 
 unfoldable pub with_found : ℕ × List RecordedEvent → Listing → Listing
-with_found found listing = with_device found.0 (device_of listing.reader found.1) listing
+with_found found listing = with_device found.0 (first_frame found.1) (device_of listing.reader found.1) listing
 
 abbrev pub no_device : TextReader → Listing
 no_device reader = record { reader = reader; left_out = []; kept = []; count = 0 }

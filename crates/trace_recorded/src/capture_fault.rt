@@ -15,9 +15,9 @@ pub enum CaptureFault {
     NotACapture,
     /// A pcap file ends before its records begin.
     HeaderCutShort,
-    /// A pcap file has this link type, which isn't usbmon's.
+    /// A pcap file has this link type, which is no recorder's of buses.
     LinkType(u32),
-    /// No interface of a pcapng file is usbmon's.
+    /// No interface of a pcapng file is of a recorder of buses.
     NoInterface,
     /// No memory was to be had.
     Memory,

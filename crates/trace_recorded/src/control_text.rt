@@ -5,7 +5,7 @@ ghost use Rattle.trace_recorded.specs.DeviceText.{bytes_of, control_head, contro
 
 use crate::answer::RecordedAnswer;
 use crate::control_lines::ControlLines;
-use crate::note::EndpointNote;
+use crate::note::{EndpointNote, Noted};
 use crate::text::ScenarioText;
 use std::alloc::AllocError;
 use trace_capture::ControlSetup;
@@ -52,24 +52,24 @@ impl ScenarioText {
         self.put_request(setup)
     }
 
-    /// Puts the rest of it behind it: how many answers there are.
-    fn put_note_rest(&mut self, count: usize) -> Result<(), AllocError>
-        ensures { IfOk result (λ _. self.new ≡ self.old ++ note_rest count) }
+    /// Puts the rest of it behind it: how many answers there are, and where the next is.
+    fn put_note_rest(&mut self, noted: Noted) -> Result<(), AllocError>
+        ensures { IfOk result (λ _. self.new ≡ self.old ++ note_rest noted) }
     {
-        let note = EndpointNote::TooMany(count as u64);
+        let note = EndpointNote::TooMany(noted);
         let rest = format!(in self.alloc(); ": {note}\n")?;
         self.put(rest.as_str())
     }
 
     /// Puts the note behind it that a request has more answers than a line has, where it has.
-    fn put_request_note(&mut self, setup: ControlSetup, count: usize) -> Result<(), AllocError>
-        ensures { IfOk result (λ _. self.new ≡ self.old ++ request_note setup count) }
+    fn put_request_note(&mut self, setup: ControlSetup, noted: Noted) -> Result<(), AllocError>
+        ensures { IfOk result (λ _. self.new ≡ self.old ++ request_note setup noted) }
     {
-        if !EndpointNote::TooMany(count as u64).is_due() {
+        if !EndpointNote::TooMany(noted).is_due() {
             return Ok(());
         }
         self.put_note_head(setup)?;
-        self.put_note_rest(count)
+        self.put_note_rest(noted)
     }
 
     /// Puts the beginning of a request's line behind it.
@@ -81,17 +81,19 @@ impl ScenarioText {
         self.put_request(setup)
     }
 
-    /// Puts the line of a request with these answers behind it.
+    /// Puts the line of a request with these answers behind it, for which the packet of this number has the next.
     #[tactic(auto, unfolding(crate::specs::DeviceText::request_line))]
     fn put_request_line(
         &mut self,
         number: u8,
         setup: ControlSetup,
+        next: u64,
         answers: &[RecordedAnswer],
     ) -> Result<(), AllocError>
-        ensures { IfOk result (λ _. self.new ≡ self.old ++ request_line number setup answers.now) }
+        ensures { IfOk result (λ _. self.new ≡ self.old ++ request_line number setup next answers.now) }
     {
-        self.put_request_note(setup, answers.len())?;
+        let count = answers.len() as u64;
+        self.put_request_note(setup, Noted { count, frame: next })?;
         self.put_control_head(number, setup)?;
         self.put_answers(front(answers, LONGEST_SCRIPT))?;
         self.put("\n")
@@ -106,9 +108,10 @@ impl ScenarioText {
     ) -> Result<(), AllocError>
         ensures { IfOk result (λ _. self.new ≡ self.old ++ control_line number lines.now setup) }
     {
+        let next = lines.next_of(setup);
         match lines.answers_of(setup) {
-            Some(answers) => self.put_request_line(number, setup, answers.as_slice()),
-            None => self.put_request_line(number, setup, &[]),
+            Some(answers) => self.put_request_line(number, setup, next, answers.as_slice()),
+            None => self.put_request_line(number, setup, next, &[]),
         }
     }
 

@@ -10,13 +10,14 @@ use crate::event::{RecordedEvent, RecordedType};
 use crate::hub::is_hub;
 use crate::identity::DeviceIdentity;
 use crate::left_out::LeftOut;
+use crate::note::Noted;
 use crate::reader::TextReader;
 use crate::request::AnsweredRequests;
 use crate::session::session_of;
 use crate::table::ByNumber;
 use std::alloc::{AllocError, Global};
 use usb_descriptors::read_config;
-use usb_model::{Bytes, EndpointInfo, Kind, Sequence};
+use usb_model::{Bytes, EndpointInfo, EpAddr, Kind, Sequence};
 
 /// What a device answered.
 #[derive(Drop)]
@@ -28,13 +29,22 @@ pub(crate) struct RecordedDevice {
     /// Its answers to control requests.
     pub(crate) controls: ControlLines,
     /// How many bytes of these weren't recorded.
-    pub(crate) lost: u64,
+    pub(crate) lost: Noted,
     /// How many control requests were too large for an answer.
-    pub(crate) left_out: u64,
+    pub(crate) left_out: Noted,
     /// Its bulk and interrupt endpoints, in the order of the configuration.
     pub(crate) endpoints: Sequence<RecordedEndpoint>,
-    /// The endpoint of each transfer that isn't of these, nor for control, in the order of their callbacks.
-    pub(crate) others: Bytes,
+    /// The transfers that aren't of these, nor for control, in the order of their callbacks.
+    pub(crate) others: Sequence<OtherTransfer>,
+}
+
+/// A transfer of an endpoint without a script.
+#[derive(Clone, Copy)]
+pub(crate) struct OtherTransfer {
+    /// The endpoint.
+    pub(crate) ep: EpAddr,
+    /// The packet of the capture that has its callback.
+    pub(crate) frame: u64,
 }
 
 impl RecordedEvent {
@@ -96,12 +106,12 @@ fn is_other(infos: &[EndpointInfo], event: &RecordedEvent) -> bool
     is_callback && !event.kind.is_same(Kind::Control) && !has_script(infos, event)
 }
 
-/// The endpoint of each of those.
+/// Those among events.
 fn others_of(
     alloc: Global,
     infos: &[EndpointInfo],
     events: &[RecordedEvent],
-) -> Result<Bytes, AllocError>
+) -> Result<Sequence<OtherTransfer>, AllocError>
     ensures { IfOk result (λ others. others ≡ others_of infos.now events.now) }
 {
     let mut others = Sequence::new(alloc);
@@ -111,16 +121,19 @@ fn others_of(
     Ok(others)
 }
 
-/// That of one, behind the others.
+/// One, behind the others.
 fn push_other(
-    others: &mut Bytes,
+    others: &mut Sequence<OtherTransfer>,
     infos: &[EndpointInfo],
     event: &RecordedEvent,
 ) -> Result<(), AllocError>
     ensures { IfOk result (λ _. others.new ≡ with_other infos.now event.now others.old) }
 {
     if is_other(infos, event) {
-        others.push(event.ep.address())?;
+        others.push(OtherTransfer {
+            ep: event.ep,
+            frame: event.frame,
+        })?;
     }
     Ok(())
 }

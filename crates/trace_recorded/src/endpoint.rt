@@ -2,13 +2,14 @@
 
 ghost use Rattle.std.specs.Prelude.{◌≡◌, ◌-◌, ◌<◌, ◌++◌, IfOk, length, take};
 ghost use Rattle.usb_model.specs.Limits.{longest_script};
-ghost use Rattle.trace_recorded.specs.Endpoints.{is_behind_stall, is_own, is_scripted, no_answers, submitted, with_answers, with_callback, with_counts, with_event, with_own_by, with_places, with_transfer, with_turn};
+ghost use Rattle.trace_recorded.specs.Endpoints.{is_behind_stall, is_own, is_scripted, no_answers, submitted, with_answers, with_callback, with_counts, with_end_of, with_event, with_own_by, with_places, with_transfer, with_turn};
 ghost use Rattle.trace_recorded.specs.Written.{recorded_answers};
 
 use crate::answer::RecordedAnswer;
 use crate::answers::{answer_count, recorded_answers};
 use crate::event::{RecordedEvent, RecordedType};
 use crate::halt::submits_end;
+use crate::note::Noted;
 use crate::submission::{RecordedSubmission, copied};
 use crate::table::ByNumber;
 use crate::transfer::RecordedTransfer;
@@ -39,12 +40,14 @@ pub(crate) struct RecordedEndpoint {
     withdrawn: u64,
     /// Which of its answers wait for what.
     pub(crate) waits: Waits,
+    /// The packet of the capture that has the first answer that isn't in its script; 0 where all are.
+    pub(crate) next: u64,
     /// How many bytes that were read weren't recorded.
-    pub(crate) lost: u64,
+    pub(crate) lost: Noted,
     /// How many packets were too long.
-    pub(crate) too_long: u64,
+    pub(crate) too_long: Noted,
     /// How many transfers were too large for a request.
-    pub(crate) left_out: u64,
+    pub(crate) left_out: Noted,
 }
 
 /// Whether an endpoint's answers make a script.
@@ -76,9 +79,10 @@ impl RecordedEndpoint {
             acknowledged: 0,
             withdrawn: 0,
             waits: Waits::new(alloc),
-            lost: 0,
-            too_long: 0,
-            left_out: 0,
+            next: 0,
+            lost: Noted::new(),
+            too_long: Noted::new(),
+            left_out: Noted::new(),
         }
     }
 
@@ -92,6 +96,7 @@ impl RecordedEndpoint {
     {
         Ok(RecordedSubmission {
             length: event.length,
+            is_counted: event.is_counted,
             flags: event.flags,
             bytes: copied(alloc, event.bytes.as_slice())?,
             clears: self.clears,
@@ -136,20 +141,24 @@ impl RecordedEndpoint {
         alloc: Global,
         size: u16,
         clears: u64,
+        frame: u64,
         transfer: &RecordedTransfer,
     ) -> Result<(), AllocError>
         requires { 0 < size }
-        ensures { IfOk result (λ _. self.new ≡ with_answers size clears transfer.now self.old) }
+        ensures { IfOk result (λ _. self.new ≡ with_answers size clears frame transfer.now self.old) }
     {
+        let room = LONGEST_SCRIPT.saturating_sub(self.answers.len());
+        let count = answer_count(size, transfer);
         self.push_answers(alloc, size, transfer)?;
         if transfer.end.is_stalled() {
             self.stalled_at = Some(clears);
         }
-        self.count = self
-            .count
-            .saturating_add(answer_count(size, transfer) as u64);
-        self.lost = self.lost.saturating_add(transfer.bytes_lost());
-        self.too_long = self.too_long.saturating_add(transfer.reads_too_long());
+        if self.next == 0 && count > room {
+            self.next = frame;
+        }
+        self.count = self.count.saturating_add(count as u64);
+        self.lost = self.lost.with(frame, transfer.bytes_lost());
+        self.too_long = self.too_long.with(frame, transfer.reads_too_long());
         Ok(())
     }
 
@@ -189,15 +198,16 @@ impl RecordedEndpoint {
         alloc: Global,
         taken: &[TakenCount],
         clears: u64,
+        frame: u64,
         transfer: &RecordedTransfer,
     ) -> Result<(), AllocError>
         requires { 0 < self.old.info.packet_size }
-        ensures { IfOk result (λ _. self.new ≡ with_turn taken.now clears transfer.now self.old) }
+        ensures { IfOk result (λ _. self.new ≡ with_turn taken.now clears frame transfer.now self.old) }
     {
         let size = self.info.packet_size;
         let count = answer_count(size, transfer);
         self.wait(taken, count)?;
-        self.answer(alloc, size, clears, transfer)?;
+        self.answer(alloc, size, clears, frame, transfer)?;
         self.count_ended(size, transfer, count);
         Ok(())
     }
@@ -209,19 +219,20 @@ impl RecordedEndpoint {
         alloc: Global,
         taken: &[TakenCount],
         clears: u64,
+        frame: u64,
         transfer: &RecordedTransfer,
     ) -> Result<(), AllocError>
         requires { 0 < self.old.info.packet_size }
-        ensures { IfOk result (λ _. self.new ≡ with_transfer taken.now clears transfer.now self.old) }
+        ensures { IfOk result (λ _. self.new ≡ with_transfer taken.now clears frame transfer.now self.old) }
     {
         if transfer.is_too_large() {
-            self.left_out = self.left_out.saturating_add(1);
+            self.left_out = self.left_out.with(frame, 1);
             return Ok(());
         }
         if self.is_behind_stall(clears, transfer) {
             return Ok(());
         }
-        self.answer_in_turn(alloc, taken, clears, transfer)
+        self.answer_in_turn(alloc, taken, clears, frame, transfer)
     }
 
     /// A transfer was called back.
@@ -238,7 +249,28 @@ impl RecordedEndpoint {
         let clears = submitted.clears;
         let info = self.info;
         let transfer = submitted.into_transfer(alloc, &info, event)?;
-        self.end(alloc, taken, clears, &transfer)
+        self.end(alloc, taken, clears, event.frame, &transfer)
+    }
+
+    /// A transfer was called back, of which this submission was recorded, if any.
+    fn call_back_any(
+        &mut self,
+        alloc: Global,
+        taken: &[TakenCount],
+        submitted: Option<RecordedSubmission>,
+        event: &RecordedEvent,
+    ) -> Result<(), AllocError>
+        requires { 0 < self.old.info.packet_size }
+        ensures { IfOk result (λ _. self.new ≡ with_end_of submitted taken.now event.now self.old) }
+    {
+        match submitted {
+            Some(submitted) => self.call_back(alloc, taken, submitted, event),
+            None if event.is_counted => {
+                let submitted = self.submitted(alloc, event)?;
+                self.call_back(alloc, taken, submitted, event)
+            }
+            None => Ok(()),
+        }
     }
 
     /// An event of a transfer of this endpoint.
@@ -257,11 +289,8 @@ impl RecordedEndpoint {
                 self.waiting.put(event.id, submitted)
             }
             RecordedType::Callback => {
-                let submitted = match self.waiting.take(event.id) {
-                    Some(submitted) => submitted,
-                    None => self.submitted(alloc, event)?,
-                };
-                self.call_back(alloc, taken, submitted, event)
+                let submitted = self.waiting.take(event.id);
+                self.call_back_any(alloc, taken, submitted, event)
             }
             RecordedType::SubmissionError => {
                 let _ = self.waiting.take(event.id);

@@ -1,9 +1,11 @@
 //! An event of a bus, read from the bytes of a captured packet.
 
-ghost use Rattle.std.specs.Prelude.{◌≡◌, ◌≤◌, length, IfOk};
-ghost use Rattle.trace_recorded.specs.Events.{data_of, event_of, flags_of, header_size, kind_of, setup_at, setup_of, type_of};
+ghost use Rattle.std.specs.Prelude.{◌≡◌, ◌+◌, ◌≤◌, length, IfOk};
+ghost use Rattle.trace_recorded.specs.Events.{data_of, event_of, flags_of, header_size, linux_event, setup_of, type_of};
+ghost use Rattle.trace_recorded.specs.Packets.{kind_of, setup_at};
 
 use crate::number::{Endianness, byte_at};
+use crate::windows::windows_event;
 use std::alloc::{AllocError, Global};
 use trace_capture::ControlSetup;
 use usb_model::{Bytes, EpAddr, Kind, Sequence};
@@ -15,6 +17,8 @@ pub enum EventHeader {
     Mapped,
     /// 48 bytes, without the transfer flags: LINKTYPE_USB_LINUX, 189.
     Plain,
+    /// 27 bytes, and more of some kinds, of Windows' recorder: LINKTYPE_USBPCAP, 249.
+    Windows,
 }
 
 /// What happened to a transfer (Linux, Documentation/usb/usbmon.rst, "Event Type").
@@ -28,9 +32,12 @@ pub enum RecordedType {
     SubmissionError,
 }
 
-/// One event of a bus as it was recorded (Linux, Documentation/usb/usbmon.rst, "Raw binary format and API"). Its time isn't read.
+/// One event of a bus as it was recorded (Linux, Documentation/usb/usbmon.rst, "Raw binary format and API"; USBPcap, "USBPcap Capture
+/// format"). Its time isn't read.
 #[derive(Debug, Drop)]
 pub struct RecordedEvent {
+    /// Which packet of the capture it is, from 1 on, as Wireshark counts them; it stays at the largest number of 64 bits.
+    pub frame: u64,
     /// The same at a transfer's submission and at its callback.
     pub id: u64,
     /// What happened.
@@ -47,6 +54,8 @@ pub struct RecordedEvent {
     pub status: u32,
     /// At a submission how many bytes it is to move, at a callback how many moved.
     pub length: u32,
+    /// Whether that was recorded. Windows' recorder has it neither of a read's submission nor of a write's callback.
+    pub is_counted: bool,
     /// What a control transfer asks for, where it was recorded.
     pub setup: Option<ControlSetup>,
     /// What is asked for beside the bytes (Linux, include/linux/usb.h, `transfer_flags`); 0 where the header has none.
@@ -63,6 +72,7 @@ impl EventHeader {
         match self {
             EventHeader::Mapped => 64,
             EventHeader::Plain => 48,
+            EventHeader::Windows => 27,
         }
     }
 }
@@ -79,8 +89,8 @@ fn type_of(letter: u8) -> Option<RecordedType>
     }
 }
 
-/// The kind of this number.
-fn kind_of(number: u8) -> Option<Kind>
+/// The kind of this number, which is the same in either recorder.
+pub(crate) fn kind_of(number: u8) -> Option<Kind>
     ensures { result ≡ kind_of number }
 {
     match number {
@@ -93,16 +103,16 @@ fn kind_of(number: u8) -> Option<Kind>
 }
 
 /// What a control transfer asks for: eight bytes in the order of the bus (USB 2.0, 8.1 and 9.3), whatever the capture's is.
-fn setup_at(packet: &[u8]) -> ControlSetup
-    requires { 48 ≤ length packet.now }
-    ensures { result ≡ setup_at packet.now }
+pub(crate) fn setup_at(place: usize, packet: &[u8]) -> ControlSetup
+    requires { place + 8 ≤ length packet.now }
+    ensures { result ≡ setup_at place packet.now }
 {
     ControlSetup {
-        request_type: byte_at(packet, 40),
-        request: byte_at(packet, 41),
-        value: Endianness::Little.u16_at(packet, 42),
-        index: Endianness::Little.u16_at(packet, 44),
-        length: Endianness::Little.u16_at(packet, 46),
+        request_type: byte_at(packet, place),
+        request: byte_at(packet, place + 1),
+        value: Endianness::Little.u16_at(packet, place + 2),
+        index: Endianness::Little.u16_at(packet, place + 4),
+        length: Endianness::Little.u16_at(packet, place + 6),
     }
 }
 
@@ -112,7 +122,7 @@ fn setup_of(kind: Kind, packet: &[u8]) -> Option<ControlSetup>
     ensures { result ≡ setup_of kind packet.now }
 {
     match (kind, byte_at(packet, 14)) {
-        (Kind::Control, 0) => Some(setup_at(packet)),
+        (Kind::Control, 0) => Some(setup_at(40, packet)),
         _ => None,
     }
 }
@@ -124,7 +134,7 @@ fn flags_of(order: Endianness, header: EventHeader, packet: &[u8]) -> u32
 {
     match header {
         EventHeader::Mapped => order.u32_at(packet, 56),
-        EventHeader::Plain => 0,
+        EventHeader::Plain | EventHeader::Windows => 0,
     }
 }
 
@@ -135,7 +145,8 @@ fn data_of(
     header: EventHeader,
     packet: &[u8],
 ) -> Result<Bytes, AllocError>
-    requires { header_size header ≤ length packet.now }
+    requires usbmon { 48 ≤ header_size header }
+    requires long { header_size header ≤ length packet.now }
     ensures { IfOk result (λ bytes. bytes ≡ data_of order header packet.now) }
 {
     let data = &packet[header.size()..];
@@ -145,15 +156,17 @@ fn data_of(
     Ok(Sequence::from_vec(Vec::from_slice(alloc, kept)?))
 }
 
-/// The event of a captured packet's bytes; None where it is too short for its header, or its type or kind isn't known.
-#[tactic(auto, unfolding(crate::specs::Events::event_of))]
-pub fn event_of(
+/// The event of a packet of usbmon's.
+#[tactic(auto, unfolding(crate::specs::Events::linux_event))]
+fn linux_event(
     alloc: Global,
     order: Endianness,
     header: EventHeader,
+    frame: u64,
     packet: &[u8],
 ) -> Result<Option<RecordedEvent>, AllocError>
-    ensures { IfOk result (λ event. event ≡ event_of order header packet.now) }
+    requires { 48 ≤ header_size header }
+    ensures { IfOk result (λ event. event ≡ linux_event order header frame packet.now) }
 {
     if packet.len() < header.size() {
         return Ok(None);
@@ -165,6 +178,7 @@ pub fn event_of(
         return Ok(None);
     };
     Ok(Some(RecordedEvent {
+        frame,
         id: order.u64_at(packet, 0),
         event_type,
         kind,
@@ -173,8 +187,29 @@ pub fn event_of(
         bus: order.u16_at(packet, 12),
         status: order.u32_at(packet, 28),
         length: order.u32_at(packet, 32),
+        is_counted: true,
         setup: setup_of(kind, packet),
         flags: flags_of(order, header, packet),
         bytes: data_of(alloc, order, header, packet)?,
     }))
+}
+
+/// The event of a captured packet's bytes, where it is the packet of this number; None where it is too short for its header, or its type or
+/// kind isn't known.
+#[tactic(auto, unfolding(crate::specs::Events::event_of))]
+pub fn event_of(
+    alloc: Global,
+    order: Endianness,
+    header: EventHeader,
+    frame: u64,
+    packet: &[u8],
+) -> Result<Option<RecordedEvent>, AllocError>
+    ensures { IfOk result (λ event. event ≡ event_of order header frame packet.now) }
+{
+    match header {
+        EventHeader::Windows => windows_event(alloc, frame, packet),
+        EventHeader::Mapped | EventHeader::Plain => linux_event(
+            alloc, order, header, frame, packet,
+        ),
+    }
 }

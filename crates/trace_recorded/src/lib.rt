@@ -1,12 +1,13 @@
-//! What recorded devices answered, read off a capture of Linux's usbmon (Linux, Documentation/usb/usbmon.rst), as the lines of a
-//! text of devices.
+//! What recorded devices answered, read off a capture of Linux's usbmon (Linux, Documentation/usb/usbmon.rst) or of Windows' USBPcap, as the
+//! lines of a text of devices.
 //!
 //! The one promise: the answers that a recorded completion stands for end a request of the same length, and its callback is told the
 //! recorded bytes and the recorded status; and the text of a capture is that of the definition, or the fault is.
 //!
 //! # Files
 //!
-//! - `number.rt`, `event.rt`, specs/Events: an event of a bus, and how it is read from a packet's bytes
+//! - `number.rt`, `event.rt`, `windows.rt`, specs/Packets, Events, Windows: an event of a bus, and how it is read from a packet's bytes, by who
+//!   recorded it
 //! - `recording.rt`, `pcap.rt`, `block.rt`, `pcapng.rt`, specs/Files, Blocks: the events of a file, by its form
 //! - `table.rt`, specs/Tables, Folds: values by number; what a list leads to
 //! - `controls.rt`, specs/Controls: control transfers, each submission with its callback
@@ -31,7 +32,7 @@
 //! - `recorded_scenario`: the text of a capture's devices, and whether there is one, are those of the definition
 //!   (`recorded_scenario`, in specs/Scenario); an error is that of the definition, or want of memory. Nothing is required
 //! - `CaptureFault`: its printed text is that of the definition (`capture_fault_text`)
-//! - `event_of`: the event of a packet's bytes is that of the definition, in either byte order and behind either header
+//! - `event_of`: the event of a packet's bytes is that of the definition, in either byte order and behind each header
 //! - `RecordedEnd::of`: how a transfer ended, by the number of its status
 //! - `answers_of`: the answers of a recorded transfer are those of the definition
 //! - `laws::events`: what `trace_capture` writes of an event is read back
@@ -84,6 +85,7 @@ mod text;
 mod transfer;
 mod wait_text;
 mod waits;
+mod windows;
 
 pub use answers::answers_of;
 pub use capture_fault::CaptureFault;

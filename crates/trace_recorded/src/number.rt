@@ -1,7 +1,7 @@
 //! Numbers in a capture, in either byte order.
 
 ghost use Rattle.std.specs.Prelude.{◌≡◌, ◌+◌, ◌≤◌, ◌<◌, length, slice_index};
-ghost use Rattle.trace_recorded.specs.Events.{number_at};
+ghost use Rattle.trace_recorded.specs.Packets.{number_at};
 
 use byteorder::{BigEndian, ByteOrder, LittleEndian};
 

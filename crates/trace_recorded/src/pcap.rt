@@ -2,7 +2,7 @@
 
 ghost use Rattle.std.specs.Prelude.{◌≡◌, ◌+◌, ◌≤◌, ◌++◌, length, IfErr, IfOk, Ok};
 ghost use Rattle.trace_recorded.specs.Faults.{IsCaptureFault};
-ghost use Rattle.trace_recorded.specs.Files.{begins_with_record, events_in, pcap, record_size, records};
+ghost use Rattle.trace_recorded.specs.Files.{begins_with_record, events_in, next_frame, pcap, record_size, records};
 
 use crate::capture_fault::CaptureFault;
 use crate::event::{EventHeader, RecordedEvent, event_of};
@@ -36,17 +36,25 @@ fn record_size(order: Endianness, bytes: &[u8]) -> usize
     RECORD_HEADER + order.u32_at(bytes, 8) as usize
 }
 
-/// Puts the event of a packet behind others, if it is one of usbmon's.
+/// The number of the packet behind that of a number.
+pub(crate) fn next_frame(frame: u64) -> u64
+    ensures { result ≡ next_frame frame }
+{
+    frame.saturating_add(1)
+}
+
+/// Puts the event of the packet of a number behind others, if it is one of a bus.
 pub(crate) fn push_event(
     alloc: Global,
     events: &mut Sequence<RecordedEvent>,
     order: Endianness,
     header: EventHeader,
+    frame: u64,
     packet: &[u8],
 ) -> Result<(), AllocError>
-    ensures { IfOk result (λ _. events.new ≡ events.old ++ events_in order header packet.now) }
+    ensures { IfOk result (λ _. events.new ≡ events.old ++ events_in order header frame packet.now) }
 {
-    if let Some(event) = event_of(alloc, order, header, packet)? {
+    if let Some(event) = event_of(alloc, order, header, frame, packet)? {
         events.push(event)?;
     }
     Ok(())
@@ -62,6 +70,7 @@ fn records(
     ensures { IfOk result (λ r. r ≡ records order header bytes.now) }
 {
     let mut events = Sequence::new(alloc);
+    let mut frame = 1;
     let mut rest = bytes;
     'records: while begins_with_record(order, rest) {
         let size = record_size(order, rest);
@@ -70,8 +79,10 @@ fn records(
             &mut events,
             order,
             header,
+            frame,
             &rest[RECORD_HEADER..size],
         )?;
+        frame = next_frame(frame);
         rest = past(rest, size);
     }
     let is_cut = !rest.is_empty();

@@ -11,7 +11,7 @@ use crate::block::{
 use crate::capture_fault::CaptureFault;
 use crate::event::{EventHeader, RecordedEvent};
 use crate::number::Endianness;
-use crate::pcap::push_event;
+use crate::pcap::{next_frame, push_event};
 use crate::recording::Recording;
 use std::alloc::{AllocError, Global};
 use usb_model::Sequence;
@@ -32,10 +32,12 @@ pub(crate) enum PcapngEnd {
 pub(crate) struct PcapngReading {
     /// The order of the section's numbers.
     order: Endianness,
-    /// Its interfaces: what stands in front of their packets' data; None where one isn't usbmon's.
+    /// Its interfaces: what stands in front of their packets' data; None where one isn't of a recorder of buses.
     headers: Sequence<Option<EventHeader>>,
-    /// Whether an interface of any section is usbmon's.
+    /// Whether an interface of any section is of a recorder of buses.
     has_usbmon: bool,
+    /// The number of the next packet, from 1 on.
+    frame: u64,
     /// The events, in the order of the file.
     events: Sequence<RecordedEvent>,
     /// How it ended, if it did.
@@ -63,6 +65,7 @@ impl PcapngReading {
             order: Endianness::Little,
             headers: Sequence::new(alloc),
             has_usbmon: false,
+            frame: 1,
             events: Sequence::new(alloc),
             ending: PcapngEnd::Whole,
         }
@@ -89,8 +92,10 @@ impl PcapngReading {
         ensures { IfOk result (λ _. self.new ≡ with_packet interface order packet.now self.old) }
     {
         let header = self.headers.as_slice().get(interface as usize).copied();
+        let frame = self.frame;
+        self.frame = next_frame(frame);
         match header {
-            Some(Some(header)) => push_event(alloc, &mut self.events, order, header, packet),
+            Some(Some(header)) => push_event(alloc, &mut self.events, order, header, frame, packet),
             _ => Ok(()),
         }
     }
@@ -156,6 +161,7 @@ impl PcapngReading {
             order: _,
             headers: _,
             has_usbmon,
+            frame: _,
             events,
             ending,
         } = self;

@@ -48,13 +48,14 @@ impl FileForm {
 }
 
 impl EventHeader {
-    /// That of an interface of this link type; None where it isn't usbmon's.
+    /// That of an interface of this link type; None where it isn't of a recorder of buses.
     pub(crate) fn of_link(link: u32) -> Option<EventHeader>
         ensures { result ≡ header_of_link link }
     {
         match link {
             220 => Some(EventHeader::Mapped),
             189 => Some(EventHeader::Plain),
+            249 => Some(EventHeader::Windows),
             _ => None,
         }
     }

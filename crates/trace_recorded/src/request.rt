@@ -6,6 +6,7 @@ ghost use Rattle.trace_recorded.specs.Requests.{answer_by, data_lost, data_read,
 
 use crate::answer::RecordedAnswer;
 use crate::event::RecordedEvent;
+use crate::note::Noted;
 use crate::packets::written_bytes;
 use crate::transfer::RecordedEnd;
 use std::alloc::{AllocError, Global};
@@ -31,17 +32,19 @@ pub(crate) struct AnsweredRequest {
     pub(crate) setup: ControlSetup,
     /// The answer.
     pub(crate) answer: RecordedAnswer,
+    /// The packet of the capture that has it.
+    pub(crate) frame: u64,
 }
 
-/// The control requests that a driver made. Counters stay at the largest number of 64 bits.
+/// The control requests that a driver made.
 #[derive(Drop)]
 pub(crate) struct AnsweredRequests {
     /// Those that were answered, in the order of their ends.
     pub(crate) answered: Sequence<AnsweredRequest>,
     /// How many bytes that were read weren't recorded.
-    pub(crate) lost: u64,
+    pub(crate) lost: Noted,
     /// How many requests were too large for an answer.
-    pub(crate) left_out: u64,
+    pub(crate) left_out: Noted,
 }
 
 /// Whether a request has this type and this number.
@@ -153,8 +156,8 @@ impl AnsweredRequests {
     {
         AnsweredRequests {
             answered: Sequence::new(alloc),
-            lost: 0,
-            left_out: 0,
+            lost: Noted::new(),
+            left_out: Noted::new(),
         }
     }
 
@@ -170,9 +173,14 @@ impl AnsweredRequests {
         let Some(answer) = answer else {
             return Ok(());
         };
-        self.lost = self.lost.saturating_add(request.data_lost(event));
+        let frame = event.frame;
+        self.lost = self.lost.with(frame, request.data_lost(event));
         let setup = request.setup;
-        self.answered.push(AnsweredRequest { setup, answer })
+        self.answered.push(AnsweredRequest {
+            setup,
+            answer,
+            frame,
+        })
     }
 
     /// A request ended.
@@ -188,7 +196,7 @@ impl AnsweredRequests {
             return Ok(());
         }
         if request.is_too_large(event) {
-            self.left_out = self.left_out.saturating_add(1);
+            self.left_out = self.left_out.with(event.frame, 1);
             return Ok(());
         }
         let answer = request.answer(alloc, event)?;

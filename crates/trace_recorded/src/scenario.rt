@@ -2,7 +2,7 @@
 
 ghost use Rattle.std.specs.Prelude.{◌≡◌, ◌<◌, IfErr, IfOk, Ok};
 ghost use Rattle.trace_recorded.specs.Faults.{IsCaptureFault};
-ghost use Rattle.trace_recorded.specs.Scenario.{cut_line, listing_of, no_device, recorded_scenario, scenario_by, with_device, with_found, with_kept};
+ghost use Rattle.trace_recorded.specs.Scenario.{cut_line, first_frame, listing_of, no_device, recorded_scenario, scenario_by, with_device, with_found, with_kept};
 
 use crate::capture_fault::CaptureFault;
 use crate::device::{RecordedDevice, by_device, device_of};
@@ -39,6 +39,16 @@ pub(crate) struct Listing {
     count: u8,
 }
 
+/// The number of the first packet of events.
+fn first_frame(events: &[RecordedEvent]) -> u64
+    ensures { result ≡ first_frame events.now }
+{
+    match events.first() {
+        Some(event) => event.frame,
+        None => 0,
+    }
+}
+
 impl Listing {
     /// No device yet.
     fn new(alloc: Global, reader: TextReader) -> Listing
@@ -64,13 +74,18 @@ impl Listing {
     }
 
     /// A device more, where it answered.
-    fn put(&mut self, key: u64, device: Result<RecordedDevice, LeftOut>) -> Result<(), AllocError>
-        ensures { IfOk result (λ _. self.new ≡ with_device key device self.old) }
+    fn put(
+        &mut self,
+        key: u64,
+        frame: u64,
+        device: Result<RecordedDevice, LeftOut>,
+    ) -> Result<(), AllocError>
+        ensures { IfOk result (λ _. self.new ≡ with_device key frame device self.old) }
     {
         match device {
-            Err(why) => self.left_out.put_left_out(key, why),
+            Err(why) => self.left_out.put_left_out(key, frame, why),
             Ok(device) if self.count < MOST_DEVICES => self.keep(key, &device),
-            Ok(_) => self.left_out.put_left_out(key, LeftOut::FifthDevice),
+            Ok(_) => self.left_out.put_left_out(key, frame, LeftOut::FifthDevice),
         }
     }
 
@@ -80,7 +95,7 @@ impl Listing {
         ensures { IfOk result (λ _. self.new ≡ with_found (key, events.now) self.old) }
     {
         let device = device_of(alloc, self.reader, events)?;
-        self.put(key, device)
+        self.put(key, first_frame(events), device)
     }
 
     /// The scenario.

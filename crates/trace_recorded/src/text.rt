@@ -3,11 +3,12 @@
 ghost use Rattle.std.specs.Prelude.{◌≡◌, ◌++◌, [], IfOk};
 ghost use Rattle.std.specs.List.{flat_map};
 ghost use Rattle.hex.specs.Hex.{encode_lower};
-ghost use Rattle.trace_recorded.specs.Lines.{endpoint_notes, left_out_line, note_line, other_note, other_notes, script_head, script_line, script_text};
+ghost use Rattle.trace_recorded.specs.Lines.{endpoint_notes, left_out_line, note_line, noted_of, other_note, other_notes, script_head, script_line, script_text, with_other_of};
 
+use crate::device::OtherTransfer;
 use crate::endpoint::RecordedEndpoint;
 use crate::left_out::LeftOut;
-use crate::note::EndpointNote;
+use crate::note::{EndpointNote, Noted};
 use std::alloc::{AllocError, Global};
 use std::marker::Model;
 use usb_model::{Bytes, EpAddr, Sequence};
@@ -25,6 +26,28 @@ impl Model for ScenarioText {
     ghost Value = { List ℕ };
 
     ghost view = { λ t. t.bytes.items };
+}
+
+/// One transfer more, where it is of this endpoint.
+fn with_other_of(ep: EpAddr, other: OtherTransfer, noted: Noted) -> Noted
+    ensures { result ≡ with_other_of ep other noted }
+{
+    if other.ep.address() == ep.address() {
+        noted.with(other.frame, 1)
+    } else {
+        noted
+    }
+}
+
+/// The transfers of an endpoint among those without a script.
+fn noted_of(others: &[OtherTransfer], ep: EpAddr) -> Noted
+    ensures { result ≡ noted_of others.now ep }
+{
+    let mut noted = Noted::new();
+    for other in others {
+        noted = with_other_of(ep, *other, noted);
+    }
+    noted
 }
 
 impl ScenarioText {
@@ -73,12 +96,19 @@ impl ScenarioText {
         self.bytes.extend_from_slice(digits.as_bytes())
     }
 
-    /// Puts the line of a device that is left out behind it.
-    pub(crate) fn put_left_out(&mut self, key: u64, why: LeftOut) -> Result<(), AllocError>
-        ensures { IfOk result (λ _. self.new ≡ self.old ++ left_out_line key why) }
+    /// Puts the line of a device that is left out behind it, of which the first packet has this number.
+    pub(crate) fn put_left_out(
+        &mut self,
+        key: u64,
+        frame: u64,
+        why: LeftOut,
+    ) -> Result<(), AllocError>
+        ensures { IfOk result (λ _. self.new ≡ self.old ++ left_out_line key frame why) }
     {
         let (bus, device) = (key / 256, key % 256);
-        let line = format!(in self.alloc; "# bus {bus} device {device} is left out: {why}\n")?;
+        let line = format!(in self.alloc;
+            "# bus {bus} device {device} is left out: {why} (first in frame {frame})\n"
+        )?;
         self.put(line.as_str())
     }
 
@@ -101,19 +131,25 @@ impl ScenarioText {
         self.put_note(ep, EndpointNote::Lost(endpoint.lost))?;
         self.put_note(ep, EndpointNote::TooLong(endpoint.too_long))?;
         self.put_note(ep, EndpointNote::TooLarge(endpoint.left_out))?;
-        self.put_note(ep, EndpointNote::TooMany(endpoint.count))
+        self.put_note(
+            ep,
+            EndpointNote::TooMany(Noted {
+                count: endpoint.count,
+                frame: endpoint.next,
+            }),
+        )
     }
 
     /// Puts the note of an endpoint without a script behind it.
-    fn put_other(&mut self, others: &[u8], ep: u8) -> Result<(), AllocError>
+    fn put_other(&mut self, others: &[OtherTransfer], ep: u8) -> Result<(), AllocError>
         ensures { IfOk result (λ _. self.new ≡ self.old ++ other_note others.now ep) }
     {
-        let count = others.iter().filter(|other| **other == ep).count();
-        self.put_note(EpAddr::new(ep), EndpointNote::Others(count as u64))
+        let ep = EpAddr::new(ep);
+        self.put_note(ep, EndpointNote::Others(noted_of(others, ep)))
     }
 
     /// Puts those of all endpoints behind it.
-    pub(crate) fn put_others(&mut self, others: &[u8]) -> Result<(), AllocError>
+    pub(crate) fn put_others(&mut self, others: &[OtherTransfer]) -> Result<(), AllocError>
         ensures { IfOk result (λ _. self.new ≡ self.old ++ other_notes others.now 256) }
     {
         for ep in 0..256u16 {

@@ -73,7 +73,7 @@ impl RecordedEnd {
     }
 
     /// Whether a packet was too long.
-    fn is_too_long(self) -> bool
+    pub(crate) fn is_too_long(self) -> bool
         ensures { result ≡ is_too_long self }
     {
         matches!(self, RecordedEnd::TooLong)
