@@ -13,13 +13,13 @@ macro_rules! help_over_file {
     };
 }
 
-/// The text of help with an example's words, and when the status is 0 and when 1.
+/// The text of help with an example's words, when the status is 0 and when 1, and what stands behind that.
 macro_rules! help_text {
-    ($words:literal, $good:literal, $failed:literal) => {
+    ($words:literal, $good:literal, $failed:literal $(, $behind:literal)*) => {
         help_over_file!(
             "Input: a scenario, a line for each device, script and step. Words stand between single spaces.\n",
             "  device D HEX               the next device, 0 to 3, with this configuration descriptor\n",
-            "  script D EP A A ..         what a bulk or interrupt endpoint answers: d:HEX, a, n, s or b\n",
+            "  script D EP A A ..         what a bulk or interrupt endpoint answers: d:HEX, a, a:HEX, n, s or b\n",
             "  feed D EP A A ..           further answers of it, as if they had stood in its script; also amid the steps\n",
             "  open H D                   handle H, 0 to 63, opens a device; so close, claim, release, reset, clear\n",
             "  submit H EP K B ..         a transfer of kind bulk or int, of B bytes, or out with x:HEX; so cancel, expire\n",
@@ -37,6 +37,7 @@ macro_rules! help_text {
             ", 1 ",
             $failed,
             ", 2 for bad words"
+            $(, $behind)*
         )
     };
 }
@@ -52,7 +53,8 @@ pub(crate) const PROGRAM: &str = help_text!(
 pub(crate) const RUN: &str = help_text!(
     "run",
     "where all entries are printed",
-    "where a line is bad, memory is wanting or a stream fails"
+    "where a line is bad, memory is wanting or a stream fails",
+    ", 3 where the run wrote something else than its scripts expect, by a:HEX (with --lenient that is only told)"
 );
 
 /// The help of `alone`.
@@ -73,7 +75,8 @@ pub(crate) const LIVE: &str = help_text!(
 pub(crate) const LEFT: &str = help_text!(
     "left",
     "where all that is left is printed",
-    "where a line is bad, memory is wanting or a stream fails"
+    "where a line is bad, memory is wanting or a stream fails",
+    ", 3 where the run wrote something else than its scripts expect, by a:HEX (with --lenient that is only told)"
 );
 
 /// The help of `check`.
@@ -99,7 +102,7 @@ pub(crate) const CAPTURE: &str = help_text!(
 
 /// The help of `devices`, which reads no scenario.
 pub(crate) const DEVICES: &str = help_over_file!(
-    "Input: a capture of Linux's usbmon, as tcpdump or Wireshark write it: a pcap or pcapng file of link type 220 or 189.\n",
+    "Input: a capture of Linux's usbmon or Windows' USBPcap, as tcpdump or Wireshark write it: a pcap or pcapng file of link type 220, 189 or 249.\n",
     "What is printed is a text of devices, for libusb's own interface: each with its descriptors, its strings, what its endpoints\n",
     "answered, packet by packet, what it answered to control requests, and which answers waited for what. With --scenario it is the\n",
     "beginning of a scenario.";
@@ -130,7 +133,8 @@ pub(crate) const TEST: &str = help_over_file!(
     "test first.txt second.txt";
     "Example:\n",
     "  printf 'open 1 0\\nexpect h1 refused 3\\n' | usbtrace test\n\n",
-    "Status: 0 where all is as expected, 1 where a line differs or is bad, memory is wanting or a stream fails, 2 for bad words"
+    "Status: 0 where all is as expected, 1 where a line differs or is bad, memory is wanting or a stream fails, 2 for bad words, ",
+    "3 where the run wrote something else than its scripts expect, by a:HEX (with --lenient that is only told)"
 );
 
 /// The help of `device`, which reads no scenario.

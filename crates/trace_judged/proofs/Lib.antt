@@ -1,2 +1,4 @@
 mod Judges
 mod Places
+mod Unjudged
+mod Found

@@ -1,5 +1,5 @@
 -- How it is told what a run wrote that isn't as expected.
-use Rattle.std.specs.Prelude.{ℕ, ◌+◌, ◌-◌, ◌==◌, nat_lt, Bool, List, [], ◌∷◌, ◌++◌, codes, length, take, drop, sum_by, if◌then◌else◌}
+use Rattle.std.specs.Prelude.{ℕ, ◌+◌, ◌-◌, ◌==◌, nat_lt, Bool, List, [], ◌∷◌, ◌++◌, codes, length, take, drop, sum_by, Option, Some, None, if◌then◌else◌}
 use Rattle.std.specs.Fmt.{decimal}
 use Rattle.std.specs.List.{flat_map}
 use Rattle.hex.specs.Hex.{encode_lower}
@@ -9,6 +9,7 @@ use Rattle.trace_scenario.specs.declared.expected_packet.ExpectedPacket.{Expecte
 use Rattle.trace_scenario.specs.declared.expected_packet.ExpectedPacket.TheVariants.{Beginning}
 use Rattle.trace_judged.specs.declared.difference.Difference.{Difference}
 use Rattle.trace_judged.specs.declared.missing.Missing.{Missing}
+use Rattle.trace_judged.specs.declared.unexpected.Unexpected.{Unexpected}
 use Rattle.trace_judged.specs.Expected.{bytes_expected}
 
 -- how many bytes are shown before one that differs, and how many behind it
@@ -65,14 +66,20 @@ abbrev pub total_line : ℕ → List ℕ
 total_line total = codes "# what was written isn't what the scenario expects: " ++ (decimal total ++ (codes " difference" ++ (plural_end total ++ codes "\n")))
 
 -- the first packet that differs, if one does
-abbrev pub first_line : List Difference → List ℕ
-first_line [] = []
-first_line (d ∷ ds) = difference_line d
+abbrev pub first_of : List Difference → Option Difference
+first_of [] = None
+first_of (d ∷ ds) = Some d
+
+-- what is told of a run: nothing, where each packet is as expected and none is missing
+abbrev pub unexpected_of : List Difference → List Missing → Option Unexpected
+unexpected_of differences missing =
+    if total_of differences missing == 0 then None
+    else Some (record { first = first_of differences; missing = missing; total = total_of differences missing })
 
 -- the lines: of the first packet that differs, of what never came, and of how many packets that is in all
-abbrev pub report_lines : List Difference → List Missing → List ℕ
-report_lines differences missing = first_line differences ++ (flat_map missing_line missing ++ total_line (total_of differences missing))
+abbrev pub first_line : Option Difference → List ℕ
+first_line None = []
+first_line (Some d) = difference_line d
 
--- the whole: nothing, where each packet is as expected and none is missing
-abbrev pub report_text : List Difference → List Missing → List ℕ
-report_text differences missing = if total_of differences missing == 0 then [] else report_lines differences missing
+abbrev pub unexpected_text : Unexpected → List ℕ
+unexpected_text u = first_line u.first ++ (flat_map missing_line u.missing ++ total_line u.total)

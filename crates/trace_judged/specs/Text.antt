@@ -1,6 +1,7 @@
 -- What is told of the run of a text's scenario.
-use Rattle.std.specs.Prelude.{ℕ, nat_eq, ◌==◌, Bool, List, [], codes, if◌then◌else◌}
-use Rattle.std.specs.List.{list_any, slice_split, starts_with}
+use Rattle.std.specs.Prelude.{ℕ, Bool, List, [], Option}
+use Rattle.std.specs.List.{list_any}
+use Rattle.std.specs.Option.{option_map_or}
 use Rattle.usb_model.specs.declared.plan.Plan.{Plan}
 use Rattle.usb_model.specs.declared.verdict.Rule.{Rule}
 use Rattle.usb_model.specs.Setup.{Setup}
@@ -11,23 +12,29 @@ use Rattle.trace_scenario.specs.declared.scenario.Scenario.{Scenario}
 use Rattle.trace_scenario.specs.Expectations.{expected_of}
 use Rattle.trace_scenario.specs.StepLines.{step_lines}
 use Rattle.trace_judged.specs.Differences.{differences}
-use Rattle.trace_judged.specs.Missing.{all_missing}
-use Rattle.trace_judged.specs.Report.{report_text}
+use Rattle.trace_judged.specs.Missing.{all_missing, is_wanted}
+use Rattle.trace_judged.specs.Report.{unexpected_of, unexpected_text}
+use Rattle.trace_judged.specs.declared.unexpected.Unexpected.{Unexpected}
 
--- whether a text expects anything of a packet: a word begins with `a:` behind a space
-abbrev pub may_expect : List ℕ → Bool
-may_expect text = list_any (λ word. starts_with nat_eq word (codes "a:")) (slice_split (λ b. b == 32) text)
+-- whether lines expect anything of a packet: what may be anything isn't
+abbrev pub line_expects : ExpectedPackets → Bool
+line_expects line = list_any is_wanted line.packets
 
--- the report on a plan's run under these rules, by what is expected of it and the lines of its steps
-abbrev pub plan_report : List ExpectedPackets → Setup → List Plan → List Rule → List (ℕ × List ℕ) → List ℕ
-plan_report expected setup plan rules lines =
-    report_text (differences expected setup plan rules lines)
-    (all_missing expected setup (world_from setup (new_world setup) (expand setup plan rules)))
+abbrev pub expects : List ExpectedPackets → Bool
+expects lines = list_any line_expects lines
 
--- the same of the scenario of a text
-abbrev pub run_report : List ℕ → Scenario → List ℕ
-run_report text s = plan_report (expected_of text) s.setup s.plan s.rules (step_lines text)
+-- what is told of a plan's run under these rules, by what is expected of it and the lines of its steps
+abbrev pub unexpected_in : List ExpectedPackets → Setup → List Plan → List Rule → List (ℕ × List ℕ) → Option Unexpected
+unexpected_in expected setup plan rules lines =
+    unexpected_of (differences expected setup plan rules lines) (all_missing expected setup (world_from setup (new_world setup) (expand setup plan rules)))
 
--- the same of a text's scenario; of one that expects nothing there is none
+-- the same of a text's scenario
+abbrev pub unexpected_by : List ℕ → Scenario → List (ℕ × List ℕ) → Option Unexpected
+unexpected_by text s lines = unexpected_in (expected_of text) s.setup s.plan s.rules lines
+
+-- in lines, each with the number of its line in the text: no byte, where nothing is told
+abbrev pub told_text : Option Unexpected → List ℕ
+told_text unexpected = option_map_or unexpected_text unexpected []
+
 abbrev pub judged_text : List ℕ → Scenario → List ℕ
-judged_text text s = if may_expect text then run_report text s else []
+judged_text text s = told_text (unexpected_by text s (step_lines text))

@@ -1,6 +1,7 @@
 //! What is expected of the packets that an endpoint takes, and where one differs.
 
-ghost use Rattle.std.specs.Prelude.{◌≡◌, ◌++◌, ◌≤◌, IfOk, length};
+ghost use Rattle.std.specs.Prelude.{◌≡◌, ◌++◌, ◌≤◌, IfOk, length, slice_get};
+ghost use Rattle.std.specs.Option.{option_copied};
 ghost use Rattle.trace_judged.specs.Expected.{bytes_expected, differs_at, expected_at, expected_by, in_common, is_expected, packets_of};
 
 use std::alloc::{AllocError, Global};
@@ -45,6 +46,33 @@ pub(crate) fn expected_at<'a>(
         put_packets(&mut packets, expected_by(line, dev, ep))?;
     }
     Ok(packets)
+}
+
+/// The packet of this index, from 0 on; None past the last.
+fn packet_of(packets: &[ExpectedPacket], index: usize) -> Option<&ExpectedPacket>
+    ensures { option_copied result ≡ slice_get packets.now index }
+{
+    packets.get(index)
+}
+
+/// The packet of this index among those that lines expect at an endpoint, from 0 on; None past the last.
+pub(crate) fn packet_at<'a>(
+    lines: &'a [ExpectedPackets],
+    dev: DeviceNo,
+    ep: EpAddr,
+    index: usize,
+) -> Option<&'a ExpectedPacket>
+    ensures { option_copied result ≡ slice_get (expected_at lines.now dev ep) index }
+{
+    let mut left = index;
+    for line in lines {
+        let packets = expected_by(line, dev, ep);
+        if left < packets.len() {
+            return packet_of(packets, left);
+        }
+        left -= packets.len();
+    }
+    None
 }
 
 /// Whether a packet with these bytes is as expected.

@@ -14,7 +14,7 @@ ghost use Rattle.trace_judged.specs.Differences.{difference_by, differences, dif
 ghost use Rattle.trace_judged.specs.Missing.{all_missing};
 
 use crate::difference::{Difference, difference_of, next_index, received_at};
-use crate::expected::expected_at;
+use crate::expected::packet_at;
 use crate::missing::{Missing, all_missing};
 use plain_run::PlanRun;
 use plain_system::System;
@@ -46,12 +46,10 @@ fn difference_at(
     let Some(came) = received_at(system, dev, ep, index) else {
         return Ok(None);
     };
-    let packets = expected_at(alloc, expected, dev, ep)?;
-    let packets = packets.as_slice();
-    if packets.len() <= index {
-        return Ok(None);
+    match packet_at(expected, dev, ep, index) {
+        Some(packet) => difference_of(alloc, line, dev, ep, index, packet, came.as_slice()),
+        None => Ok(None),
     }
-    difference_of(alloc, line, dev, ep, index, packets[index], came.as_slice())
 }
 
 /// Performs a piece that lets a device answer at an endpoint: the packet that this took, where it isn't as expected.

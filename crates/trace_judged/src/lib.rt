@@ -10,7 +10,7 @@
 //! - `difference.rt`, specs/Differences: the packet that a step's device takes, and those of a run that differ
 //! - `missing.rt`, specs/Missing: what never came at an endpoint
 //! - `judged.rt`: a run, and what came of it
-//! - `sentence.rt`, `told.rt`, specs/Report: how it is told
+//! - `unexpected.rt`, `sentence.rt`, `told.rt`, specs/Report: what is told of it, and how
 //! - `text.rt`, specs/Text: of the scenario that a text is
 //!
 //! # Contracts
@@ -19,8 +19,8 @@
 //!   line, endpoint, index, bytes, what was expected, and the first byte that differs or the end of the shorter; and
 //!   what never came is what the last world says (`all_missing`). The plain program makes the run, since between two of
 //!   its steps all that devices took can be looked at
-//! - `report`: its text (`report_text`); no byte where nothing differs and nothing is missing
-//! - `judged_text`: the same of the scenario of a text; no byte where the text has no ` a:`
+//! - `Judged::into_unexpected`, `unexpected_by`: what is told of it (`unexpected_of`); nothing where nothing differs and nothing is missing
+//! - `judged_text`: the lines of the same of the scenario of a text; a run of which nothing is expected isn't made
 #![tactic(auto)]
 
 mod difference;
@@ -30,9 +30,10 @@ mod missing;
 mod sentence;
 mod text;
 mod told;
+mod unexpected;
 
 pub use difference::Difference;
 pub use judged::{Judged, judge};
 pub use missing::Missing;
-pub use text::judged_text;
-pub use told::report;
+pub use text::{judged_text, unexpected_by};
+pub use unexpected::Unexpected;

@@ -4,46 +4,94 @@ ghost use Rattle.std.specs.Prelude.{◌≡◌, IfErr, IfOk, Ok, length, map};
 ghost use Rattle.trace_scenario.specs.Scenario.{scenario_of};
 ghost use Rattle.trace_scenario.specs.TextResults.{IsFaultOf};
 ghost use Rattle.trace_scenario.specs.declared.scenario.Scenario.{Scenario};
-ghost use Rattle.trace_scenario.specs.Expectations.{expected_of};
-ghost use Rattle.trace_scenario.specs.StepLines.{numbered, step_lines};
-ghost use Rattle.trace_judged.specs.Text.{judged_text, may_expect, plan_report, run_report};
+ghost use Rattle.trace_scenario.specs.StepLines.{numbered};
+ghost use Rattle.trace_judged.specs.Missing.{is_wanted};
+ghost use Rattle.trace_judged.specs.Text.{expects, judged_text, line_expects, told_text, unexpected_by, unexpected_in};
 
 use crate::judged::judge;
-use crate::told::report;
+use crate::unexpected::Unexpected;
 use std::alloc::{AllocError, Global};
 use trace_scenario::{
-    ExpectedPackets, Lined, NumberedLine, Scenario, TextFault, into_setups, read_expected,
-    read_lined,
+    ExpectedPacket, ExpectedPackets, Lined, NumberedLine, Scenario, TextFault, into_setups,
+    read_expected, read_lined,
 };
 use usb_model::{Plan, Rule, Setup};
 
-/// Whether a text expects anything of a packet.
-fn may_expect(text: &[u8]) -> bool
-    ensures { result ≡ may_expect text.now }
+/// Whether a packet is expected that isn't any.
+fn is_wanted(packet: &ExpectedPacket) -> bool
+    ensures { result ≡ is_wanted packet.now }
 {
-    text.split(|byte| *byte == b' ')
-        .any(|word| word.starts_with(b"a:"))
+    !matches!(packet, ExpectedPacket::Anything)
 }
 
-/// The report on a run.
-fn plan_report(
+/// Whether a line expects anything of a packet.
+fn line_expects(line: &ExpectedPackets) -> bool
+    ensures { result ≡ line_expects line.now }
+{
+    line.packets
+        .as_slice()
+        .iter()
+        .any(|packet| is_wanted(packet))
+}
+
+/// Whether lines expect anything of a packet.
+fn expects(lines: &[ExpectedPackets]) -> bool
+    ensures { result ≡ expects lines.now }
+{
+    lines.iter().any(|line| line_expects(line))
+}
+
+/// What is told of a plan's run under these rules, by what is expected of it: there is a line for each piece, in order. Where nothing is
+/// expected it isn't run.
+fn unexpected_in(
     alloc: Global,
     expected: &[ExpectedPackets],
     setup: &Setup,
     plan: &[Plan],
     rules: &[Rule],
     lines: &[NumberedLine<'_>],
-) -> Result<Vec<u8>, AllocError>
+) -> Result<Option<Unexpected>, AllocError>
     requires each { length lines.now ≡ length plan.now }
-    ensures { IfOk result (λ told. told.items ≡ plan_report expected.now setup.now plan.now rules.now (map numbered lines.now)) }
+    ensures { IfOk result (λ u. u ≡ unexpected_in expected.now setup.now plan.now rules.now (map numbered lines.now)) }
 {
-    let judged = judge(alloc, expected, setup, plan, rules, lines)?;
-    report(alloc, &judged)
+    if expects(expected) {
+        judge(alloc, expected, setup, plan, rules, lines)?.into_unexpected(alloc)
+    } else {
+        Ok(None)
+    }
 }
 
-/// The report on the run of a scenario that was read with its lines.
-fn run_report(alloc: Global, text: &[u8]) -> Result<Vec<u8>, TextFault>
-    ensures told { IfOk result (λ told. (s : Scenario) × (scenario_of text.now ≡ Ok s) × (told.items ≡ run_report text.now s)) }
+/// What is told of the run of a text's scenario, where its steps' lines have these numbers: nothing where each packet is as expected.
+pub fn unexpected_by(
+    alloc: Global,
+    text: &[u8],
+    scenario: Scenario,
+    lines: &[NumberedLine<'_>],
+) -> Result<Option<Unexpected>, AllocError>
+    requires each { length lines.now ≡ length scenario.plan }
+    ensures { IfOk result (λ u. u ≡ unexpected_by text.now scenario (map numbered lines.now)) }
+{
+    let Scenario { setup, plan, rules } = scenario;
+    let setup = into_setups(alloc, setup)?;
+    let expected = read_expected(alloc, text)?;
+    let (plan, rules) = (plan.as_slice(), rules.as_slice());
+    unexpected_in(alloc, expected.as_slice(), &setup, plan, rules, lines)
+}
+
+/// Its lines; none where there is nothing.
+fn told_text(alloc: Global, unexpected: Option<Unexpected>) -> Result<Vec<u8>, AllocError>
+    ensures { IfOk result (λ told. told.items ≡ told_text unexpected) }
+{
+    match unexpected {
+        Some(unexpected) => unexpected.lines(alloc),
+        None => Ok(Vec::new(alloc)),
+    }
+}
+
+/// What is told of the run of a text's scenario, in lines: no byte where each packet is as expected. A fault where it is no scenario, or
+/// memory is refused.
+pub fn judged_text(alloc: Global, text: &[u8]) -> Result<Vec<u8>, TextFault>
+    ensures told { IfOk result (λ told. (s : Scenario) → scenario_of text.now ≡ Ok s → told.items ≡ judged_text text.now s) }
     ensures fault { IfErr result (λ fault. IsFaultOf fault (scenario_of text.now)) }
 {
     let Lined {
@@ -51,29 +99,11 @@ fn run_report(alloc: Global, text: &[u8]) -> Result<Vec<u8>, TextFault>
         lines,
         ..
     } = read_lined(alloc, text)?;
-    let Scenario { setup, plan, rules } = scenario;
-    let Ok(setup) = into_setups(alloc, setup) else {
+    let Ok(unexpected) = unexpected_by(alloc, text, scenario, lines.as_slice()) else {
         return Err(TextFault::Memory);
     };
-    let Ok(expected) = read_expected(alloc, text) else {
-        return Err(TextFault::Memory);
-    };
-    let (plan, rules, lines) = (plan.as_slice(), rules.as_slice(), lines.as_slice());
-    match plan_report(alloc, expected.as_slice(), &setup, plan, rules, lines) {
+    match told_text(alloc, unexpected) {
         Ok(told) => Ok(told),
         Err(_) => Err(TextFault::Memory),
-    }
-}
-
-/// What is told of the run of a text's scenario: no byte where each packet is as expected, or nothing is expected; then the
-/// text isn't read. A fault where it is no scenario, or memory is refused.
-pub fn judged_text(alloc: Global, text: &[u8]) -> Result<Vec<u8>, TextFault>
-    ensures told { IfOk result (λ told. (s : Scenario) → scenario_of text.now ≡ Ok s → told.items ≡ judged_text text.now s) }
-    ensures fault { IfErr result (λ fault. IsFaultOf fault (scenario_of text.now)) }
-{
-    if may_expect(text) {
-        run_report(alloc, text)
-    } else {
-        Ok(Vec::new(alloc))
     }
 }

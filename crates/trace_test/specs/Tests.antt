@@ -4,6 +4,11 @@ use Rattle.std.specs.Fmt.{decimal}
 use Rattle.trace_io.specs.Faults.{IsOfRun}
 use Rattle.trace_io.specs.declared.fault.Fault.{Fault}
 use Rattle.trace_io.specs.declared.fault.Fault.TheVariants.{Line}
+use Rattle.std.specs.Option.{option_map}
+use Rattle.trace_judged.specs.declared.difference.Difference as packet
+use Rattle.trace_judged.specs.declared.unexpected.Unexpected as told
+use Rattle.trace_judged.specs.Report.{unexpected_text}
+use Rattle.trace_judged.specs.Text.{unexpected_by}
 use Rattle.trace_run.specs.Stepwise.{stepwise_text}
 use Rattle.trace_run.specs.Tasks.{left_lines}
 use Rattle.trace_scenario.specs.Scenario.{scenario_of}
@@ -14,7 +19,7 @@ use Rattle.trace_test.specs.Expanded.{Expansion, Expands, lines_in, origin_of}
 use Rattle.trace_test.specs.Macros.{unrolled}
 use Rattle.trace_test.specs.declared.difference.Difference.{Difference}
 use Rattle.trace_test.specs.declared.difference.Outcome.{Outcome}
-use Rattle.trace_test.specs.declared.difference.Outcome.TheVariants.{Passed, Differs}
+use Rattle.trace_test.specs.declared.difference.Outcome.TheVariants.{Passed, Differs, Unexpected}
 
 -- for each step's line of the scenario, the number of the line that it comes from in what the test stands for without macros, and no text
 abbrev pub origin_lines : Expansion → List (ℕ × List ℕ)
@@ -28,26 +33,36 @@ printed_text e s = stepwise_text s.setup s.plan s.rules (origin_lines e)
 abbrev pub uncompared : Expansion → Scenario → Uncompared
 uncompared e s = record { of = 0; printed = lines_in (printed_text e s); left = lines_in (left_lines s) }
 
--- what came of a test whose first difference is this, if there is one
-abbrev pub outcome_by : Option Difference → Outcome
-outcome_by None = Passed
-outcome_by (Some difference) = Differs difference
+-- what is told of what the run wrote, by the same numbers
+abbrev pub written : Expansion → Scenario → Option told.Unexpected
+written e s = unexpected_by e.text s (origin_lines e)
+
+-- what came of a test whose first difference is this, if there is one, and of which this is told, if something is
+abbrev pub outcome_by : Option Difference → Option told.Unexpected → Outcome
+outcome_by (Some difference) unexpected = Differs difference
+outcome_by None None = Passed
+outcome_by None (Some unexpected) = Unexpected unexpected
 
 -- this came of a test without macros: its lines stand for a scenario, with whose run they were compared
 abbrev pub IsPlainOutcome : List ℕ → Outcome → Type 0
 IsPlainOutcome text outcome =
     (e : Expansion) × (s : Scenario) × Expands text e × (scenario_of e.text ≡ Ok s)
-    × (outcome ≡ outcome_by (difference_from 1 (lines_in text) (uncompared e s)))
+    × (outcome ≡ outcome_by (difference_from 1 (lines_in text) (uncompared e s)) (written e s))
 
 -- a fault of it: a line is bad, by its number, or memory or a stream failed
 abbrev pub IsOfPlainTest : List ℕ → Fault → Type 0
 IsOfPlainTest text (Line at) = (e : Expansion) × Expands text e × ((line : ℕ) × (scenario_of e.text ≡ Err line) × (at ≡ origin_of e line))
 IsOfPlainTest text fault = IsOfRun fault
 
--- a difference, told by the line that its line comes from
+-- a packet that differs, told by the line that its line comes from
+abbrev pub packet_by_origin : Expansion → packet.Difference → packet.Difference
+packet_by_origin u difference = record difference { line = origin_of u difference.line }
+
+-- a difference of either kind
 abbrev pub by_origin : Expansion → Outcome → Outcome
 by_origin u Passed = Passed
 by_origin u (Differs difference) = Differs (record difference { line = origin_of u difference.line })
+by_origin u (Unexpected unexpected) = Unexpected (record unexpected { first = option_map (packet_by_origin u) unexpected.first })
 
 -- a bad line, in the same way
 abbrev pub fault_by_origin : Expansion → Fault → Fault
@@ -68,3 +83,4 @@ abbrev pub outcome_text : Outcome → List ℕ
 outcome_text Passed = codes "passed\n"
 outcome_text (Differs d) =
     codes "line " ++ (decimal d.line ++ (codes " differs\n  wanted " ++ (d.wanted ++ (codes "\n  got    " ++ (d.got ++ codes "\n")))))
+outcome_text (Unexpected unexpected) = unexpected_text unexpected

@@ -1,5 +1,6 @@
 //! Where a test differs.
 
+use trace_judged::Unexpected;
 use usb_model::Bytes;
 
 /// A line that expects something else than there is.
@@ -20,4 +21,6 @@ pub enum Outcome {
     Passed,
     /// This is the first that didn't.
     Differs(Difference),
+    /// Each found it, but the run wrote something else than its scripts expect.
+    Unexpected(Unexpected),
 }

@@ -1,6 +1,7 @@
 //! A test, and what came of it.
 
 ghost use Rattle.std.specs.Prelude.{◌≡◌, ◌++◌, [], IfErr, IfOk, length, map};
+ghost use Rattle.std.specs.Option.{option_map};
 ghost use Rattle.trace_test.specs.declared.difference.Outcome.TheVariants.{Differs};
 ghost use Rattle.trace_io.specs.Faults.{IsOfRun};
 ghost use Rattle.trace_scenario.specs.StepLines.{numbered};
@@ -9,7 +10,7 @@ ghost use Rattle.trace_run.specs.Stepwise.{stepwise_text};
 ghost use Rattle.trace_run.specs.Tasks.{left_lines};
 ghost use Rattle.trace_test.specs.Comparison.{difference_from, texts_of};
 ghost use Rattle.trace_test.specs.Expanded.{lines_in, origin_of};
-ghost use Rattle.trace_test.specs.Tests.{IsOfPlainTest, IsOfTest, IsOutcome, IsPlainOutcome, by_origin, fault_by_origin, outcome_by, outcome_text};
+ghost use Rattle.trace_test.specs.Tests.{IsOfPlainTest, IsOfTest, IsOutcome, IsPlainOutcome, by_origin, fault_by_origin, outcome_by, outcome_text, packet_by_origin};
 
 use crate::difference::{Difference, Outcome};
 use crate::expanded::{Expanded, expand};
@@ -17,6 +18,7 @@ use crate::macros::unroll;
 use crate::unmet::Unmet;
 use std::alloc::{AllocError, Global};
 use trace_io::Fault;
+use trace_judged::{Unexpected, unexpected_by};
 use trace_run::{print_left, print_steps};
 use trace_scenario::{Lined, NumberedLine, Scenario, TextFault, read_lined, read_scenario};
 
@@ -86,15 +88,38 @@ fn difference(
     Ok(None)
 }
 
-/// What came of a test whose run printed and left this.
-fn outcome(alloc: Global, text: &[u8], printed: &[u8], left: &[u8]) -> Result<Outcome, AllocError>
-    ensures { IfOk result (λ o. o ≡ outcome_by (difference_from 1 (lines_in text.now) (record { of = 0; printed = lines_in printed.now; left = lines_in left.now }))) }
+/// What came of a test whose run printed and left this, and of which this is told.
+fn outcome(
+    alloc: Global,
+    text: &[u8],
+    printed: &[u8],
+    left: &[u8],
+    unexpected: Option<Unexpected>,
+) -> Result<Outcome, AllocError>
+    ensures { IfOk result (λ o. o ≡ outcome_by (difference_from 1 (lines_in text.now) (record { of = 0; printed = lines_in printed.now; left = lines_in left.now })) unexpected) }
 {
     let (printed, left) = (lines_in(alloc, printed)?, lines_in(alloc, left)?);
     let mut unmet = Unmet::new(printed.as_slice(), left.as_slice());
-    match difference(alloc, text, &mut unmet)? {
-        None => Ok(Outcome::Passed),
-        Some(difference) => Ok(Outcome::Differs(difference)),
+    match (difference(alloc, text, &mut unmet)?, unexpected) {
+        (Some(difference), _) => Ok(Outcome::Differs(difference)),
+        (None, None) => Ok(Outcome::Passed),
+        (None, Some(unexpected)) => Ok(Outcome::Unexpected(unexpected)),
+    }
+}
+
+/// The first packet that differs, if one does, told by the line that its line comes from.
+fn packet_by_origin(
+    unrolled: &Expanded,
+    first: Option<trace_judged::Difference>,
+) -> Option<trace_judged::Difference>
+    ensures { result ≡ option_map (packet_by_origin unrolled.now) first }
+{
+    match first {
+        Some(first) => Some(trace_judged::Difference {
+            line: unrolled.origin(first.line),
+            ..first
+        }),
+        None => None,
     }
 }
 
@@ -107,6 +132,11 @@ fn by_origin(unrolled: &Expanded, outcome: Outcome) -> Outcome
         Outcome::Differs(difference) => Outcome::Differs(Difference {
             line: unrolled.origin(difference.line),
             ..difference
+        }),
+        Outcome::Unexpected(unexpected) => Outcome::Unexpected(Unexpected {
+            first: packet_by_origin(unrolled, unexpected.first),
+            missing: unexpected.missing,
+            total: unexpected.total,
         }),
     }
 }
@@ -139,10 +169,15 @@ fn judge(alloc: Global, text: &[u8]) -> Result<Outcome, Fault>
     let Ok(again) = read_scenario(alloc, expanded.text.as_slice()) else {
         return Err(Fault::Memory);
     };
+    let Ok(judged) = read_scenario(alloc, expanded.text.as_slice()) else {
+        return Err(Fault::Memory);
+    };
     let origins = origin_lines(alloc, &expanded, lines.as_slice())?;
     let printed = printed(alloc, scenario, origins.as_slice())?;
     let left = left(alloc, again)?;
-    Ok(outcome(alloc, text, printed.as_slice(), left.as_slice())?)
+    let unexpected = unexpected_by(alloc, expanded.text.as_slice(), judged, origins.as_slice())?;
+    let (printed, left) = (printed.as_slice(), left.as_slice());
+    Ok(outcome(alloc, text, printed, left, unexpected)?)
 }
 
 /// Runs a test: what came of it. A fault where a line is bad, by its number in the test, or memory is refused. What a call of a macro
@@ -167,6 +202,7 @@ pub fn report(alloc: Global, outcome: &Outcome) -> Result<Vec<u8>, AllocError>
     match outcome {
         Outcome::Passed => text.extend_from_slice(b"passed\n")?,
         Outcome::Differs(d) => put_difference(alloc, &mut text, d)?,
+        Outcome::Unexpected(unexpected) => text = unexpected.lines(alloc)?,
     }
     Ok(text)
 }

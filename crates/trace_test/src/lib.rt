@@ -1,7 +1,8 @@
 //! Scenarios as tests: lines that say what a step prints, and what is left at the end, compared with the run of the others.
 //!
 //! The one promise: a test is passed where each line that expects something finds it, in the run of the scenario that the other
-//! lines stand for; else the first that doesn't is told, with what was wanted and what was got.
+//! lines stand for, and the run wrote what its scripts expect; else the first that doesn't is told, with what was wanted and what was got,
+//! or what was written.
 //!
 //! # Files
 //!

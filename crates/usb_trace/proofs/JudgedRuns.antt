@@ -13,10 +13,10 @@ use Rattle.trace_io.proofs.Beginnings.{all_of, joined, kept, some_behind, some_o
 use Rattle.trace_judged.specs.Text.{judged_text}
 use Rattle.trace_run.specs.declared.tasks.Ending.{Ending}
 use Rattle.trace_run.specs.declared.tasks.Ending.TheVariants.{Good, BadLines, NoDevices, Differs, Unexpected}
-use Rattle.usb_trace.specs.Program.{BeginsEntries, EndsJudged, IsDone, Performs, run_printed, with_judged}
+use Rattle.usb_trace.specs.Program.{BeginsEntries, EndsJudged, FindsJudged, FindsUnexpected, IsDone, Performs, run_printed, with_judged}
 
 -- a fault of a run ends no task but early
-of_run : (t : Task) (text : List ℕ) (old new : Option (List ℕ)) (fault : Fault) → IsOfRun fault → Performs t text [] old new (Err fault)
+pub of_run : (t : Task) (text : List ℕ) (old new : Option (List ℕ)) (fault : Fault) → IsOfRun fault → Performs t text [] old new (Err fault)
 of_run t text old new (Line line) is = absurd is
 of_run t text old new Memory is = tt
 of_run t text old new InputOutput is = tt
@@ -31,14 +31,15 @@ of_run t text old new (Descriptor fault) is = absurd is
 pub ends_by : (t : Task) (text : List ℕ) (s : Scenario) (printed : List ℕ) (old mid new : Option (List ℕ)) (result : Result Ending Fault)
     → scenario_of text ≡ Ok s → length text ≤ longest_input → run_printed t text s ≡ Some printed
     → (judged_text text s ≡ [] → Appends old new printed → IsDone t text [] old new)
+    → (FindsJudged t text old new → FindsUnexpected t text old new)
     → Appends old mid printed → EndsJudged text s mid new result → Performs t text [] old new result
-ends_by t text s printed old mid new (Ok Good) said short of done put told = done told.0 (stays old mid new printed put told.1)
-ends_by t text s printed old mid new (Ok Unexpected) said short of done put told =
-    ((s, printed, said, short, of, told.0, joined old mid new printed (judged_text text s) (printed ++ judged_text text s) refl put told.1), refl)
-ends_by t text s printed old mid new (Ok BadLines) said short of done put told = absurd told
-ends_by t text s printed old mid new (Ok NoDevices) said short of done put told = absurd told
-ends_by t text s printed old mid new (Ok Differs) said short of done put told = absurd told
-ends_by t text s printed old mid new (Err fault) said short of done put told = of_run t text old new fault told.0
+ends_by t text s printed old mid new (Ok Good) said short of done found put told = done told.0 (stays old mid new printed put told.1)
+ends_by t text s printed old mid new (Ok Unexpected) said short of done found put told =
+    (found (s, printed, said, short, of, told.0, joined old mid new printed (judged_text text s) (printed ++ judged_text text s) refl put told.1), refl)
+ends_by t text s printed old mid new (Ok BadLines) said short of done found put told = absurd told
+ends_by t text s printed old mid new (Ok NoDevices) said short of done found put told = absurd told
+ends_by t text s printed old mid new (Ok Differs) said short of done found put told = absurd told
+ends_by t text s printed old mid new (Err fault) said short of done found put told = of_run t text old new fault told.0
 
 -- a beginning of what is told is written, however that ends
 some_told : (text : List ℕ) (s : Scenario) (mid new : Option (List ℕ)) (result : Result Ending Fault) → EndsJudged text s mid new result → AppendsSome (judged_text text s) mid new

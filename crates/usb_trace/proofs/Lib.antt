@@ -2,3 +2,4 @@ pub mod Reports
 mod Begun
 mod JudgedRuns
 mod Unlived
+mod Outcomes

@@ -17,6 +17,7 @@ use Rattle.trace_explain.specs.Explained.{explained_text}
 use Rattle.trace_explain.specs.declared.telling.Telling.{Telling}
 use Rattle.trace_explain.specs.declared.telling.Telling.TheVariants.{Reasons, Refusals, Packets, StepPackets}
 use Rattle.trace_judged.specs.Text.{judged_text}
+use Rattle.trace_judged.specs.declared.unexpected.Unexpected as judged
 use Rattle.trace_test.specs.Tests.{IsOfTest, IsOutcome, outcome_text}
 use Rattle.trace_test.specs.declared.difference.Difference.{Difference}
 use Rattle.trace_test.specs.declared.difference.Outcome.{Outcome}
@@ -112,25 +113,39 @@ abbrev pub with_judged : (List ℕ → Scenario → List ℕ) → List ℕ → S
 with_judged printed text s = printed text s ++ judged_text text s
 
 -- behind a run it is told what it wrote that isn't as expected: nothing, where it ends well, and else that
+abbrev pub EndsTold : (told : List ℕ) → Option (List ℕ) → Option (List ℕ) → Result Ending Fault → Type 0
+EndsTold told old new (Ok Good) = (told ≡ []) × Keeps old new
+EndsTold told old new (Ok Unexpected) = (told ≢ []) × Appends old new told
+EndsTold told old new (Ok ending) = ⊥
+EndsTold told old new (Err fault) = IsOfRun fault × AppendsSome told old new
+
 abbrev pub EndsJudged : List ℕ → Scenario → Option (List ℕ) → Option (List ℕ) → Result Ending Fault → Type 0
-EndsJudged text s old new (Ok Good) = (judged_text text s ≡ []) × Keeps old new
-EndsJudged text s old new (Ok Unexpected) = (judged_text text s ≢ []) × Appends old new (judged_text text s)
-EndsJudged text s old new (Ok ending) = ⊥
-EndsJudged text s old new (Err fault) = IsOfRun fault × AppendsSome (judged_text text s) old new
-
--- what is done with a run that wrote something else than its scenario expects: what the task prints of it is written, and that behind it
-abbrev pub FindsUnexpected : Task → List ℕ → Option (List ℕ) → Option (List ℕ) → Type 0
-FindsUnexpected t text old new =
-    (s : Scenario) × (printed : List ℕ) × (scenario_of text ≡ Ok s) × (length text ≤ longest_input) × (run_printed t text s ≡ Some printed)
-    × (judged_text text s ≢ []) × Appends old new (printed ++ judged_text text s)
-
--- the text is a capture of the longest length at most, and the text of its devices is written, for who reads it
-abbrev pub WritesRecorded : TextReader → List ℕ → RecordedScenario → Option (List ℕ) → Option (List ℕ) → Type 0
-WritesRecorded reader text r old new = (recorded_scenario reader text ≡ Ok r) × (length text ≤ longest_input) × Appends old new r.text
+EndsJudged text s old new result = EndsTold (judged_text text s) old new result
 
 -- the text is a test of the longest length at most, this came of it, and that is written
 abbrev pub WritesOutcome : List ℕ → Outcome → Option (List ℕ) → Option (List ℕ) → Type 0
 WritesOutcome text outcome old new = IsOutcome text outcome × (length text ≤ longest_input) × Appends old new (outcome_text outcome)
+
+-- what is done with a run that wrote something else than its scenario expects: what the task prints of it is written, and that behind it
+abbrev pub FindsJudged : Task → List ℕ → Option (List ℕ) → Option (List ℕ) → Type 0
+FindsJudged t text old new =
+    (s : Scenario) × (printed : List ℕ) × (scenario_of text ≡ Ok s) × (length text ≤ longest_input) × (run_printed t text s ≡ Some printed)
+    × (judged_text text s ≢ []) × Appends old new (printed ++ judged_text text s)
+
+-- what is done with one of any task: of a test whose lines found what they expect what came of it is written
+abbrev pub FindsUnexpected : Task → List ℕ → Option (List ℕ) → Option (List ℕ) → Type 0
+FindsUnexpected task.Test text old new = (unexpected : judged.Unexpected) × WritesOutcome text (outcome.Unexpected unexpected) old new
+FindsUnexpected t text old new = FindsJudged t text old new
+
+-- how a test ends, by what came of it
+abbrev pub ending_of : Outcome → Ending
+ending_of outcome.Passed = Good
+ending_of (outcome.Differs difference) = Differs
+ending_of (outcome.Unexpected unexpected) = Unexpected
+
+-- the text is a capture of the longest length at most, and the text of its devices is written, for who reads it
+abbrev pub WritesRecorded : TextReader → List ℕ → RecordedScenario → Option (List ℕ) → Option (List ℕ) → Type 0
+WritesRecorded reader text r old new = (recorded_scenario reader text ≡ Ok r) × (length text ≤ longest_input) × Appends old new r.text
 
 -- the text is a file of descriptors of the longest length at most, and the lines of its device are written
 abbrev pub WritesDevice : List ℕ → Option (List ℕ) → Option (List ℕ) → Type 0

@@ -1,11 +1,12 @@
 //! Runs that are judged: what is printed of one, and behind that what it wrote that isn't as its scenario expects.
 
-ghost use Rattle.std.specs.Prelude.{◌≡◌, ◌≤◌, [], Ok, length};
+ghost use Rattle.std.specs.Prelude.{◌≡◌, ◌≤◌, [], IfErr, IfOk, Ok, length};
 ghost use Rattle.trace_io.specs.Input.{longest_input};
 ghost use Rattle.trace_io.specs.declared.words.Task.TheVariants.{Left, Run, Steps};
 ghost use Rattle.trace_scenario.specs.Scenario.{scenario_of};
 ghost use Rattle.trace_scenario.specs.declared.scenario.Scenario.{Scenario};
-ghost use Rattle.usb_trace.specs.Program.{Begins, EndsJudged, IsSilentAtBad, Performs};
+ghost use Rattle.usb_trace.specs.Program.{Begins, EndsTold, IsSilentAtBad, IsUntold, Performs};
+ghost use Rattle.trace_judged.specs.Text.{judged_text};
 
 use crate::told::write_all;
 use std::alloc::Global;
@@ -15,15 +16,23 @@ use trace_judged::judged_text;
 use trace_run::{Ending, print_left, print_steps, run};
 use trace_scenario::{Lined, TextFault, read_lined, read_scenario};
 
-/// Tells behind the run of a text's scenario what it wrote that isn't as expected, if there is any.
-fn tell_judged<W: Write>(alloc: Global, text: &[u8], out: &mut W) -> Result<Ending, Fault>
-    ensures { (s : Scenario) → scenario_of text.now ≡ Ok s → EndsJudged text.now s (W.contents out.old) (W.contents out.new) result }
+/// What is told of a text's scenario behind its run: what it wrote that isn't as expected, if there is any. It is known before anything is
+/// printed, so that want of memory leaves no line.
+fn judged(alloc: Global, text: &[u8]) -> Result<Vec<u8>, Fault>
+    ensures told { IfOk result (λ told. (s : Scenario) → scenario_of text.now ≡ Ok s → told.items ≡ judged_text text.now s) }
+    ensures fault { IfErr result (IsUntold text.now) }
 {
-    let told = match judged_text(alloc, text) {
-        Ok(told) => told,
-        Err(TextFault::Line(line)) => return Err(Fault::Line(line)),
-        Err(TextFault::Memory) => return Err(Fault::Memory),
-    };
+    match judged_text(alloc, text) {
+        Ok(told) => Ok(told),
+        Err(TextFault::Line(line)) => Err(Fault::Line(line)),
+        Err(TextFault::Memory) => Err(Fault::Memory),
+    }
+}
+
+/// Tells it behind the run, if there is any.
+fn tell_judged<W: Write>(told: Vec<u8>, out: &mut W) -> Result<Ending, Fault>
+    ensures { EndsTold told.items (W.contents out.old) (W.contents out.new) result }
+{
     if told.is_empty() {
         return Ok(Ending::Good);
     }
@@ -38,9 +47,10 @@ pub(crate) fn entries<W: Write>(alloc: Global, text: &[u8], out: &mut W) -> Resu
     ensures silent { IsSilentAtBad text.now (W.contents out.old) (W.contents out.new) }
     ensures begun { Begins Run text.now (W.contents out.old) (W.contents out.new) }
 {
+    let told = judged(alloc, text)?;
     let scenario = read_scenario(alloc, text)?;
     run(alloc, scenario, out)?;
-    tell_judged(alloc, text, out)
+    tell_judged(told, out)
 }
 
 /// Prints the entries of a text's scenario, each behind the number and the text of its step's line.
@@ -50,13 +60,14 @@ pub(crate) fn steps<W: Write>(alloc: Global, text: &[u8], out: &mut W) -> Result
     ensures silent { IsSilentAtBad text.now (W.contents out.old) (W.contents out.new) }
     ensures begun { Begins Steps text.now (W.contents out.old) (W.contents out.new) }
 {
+    let told = judged(alloc, text)?;
     let Lined {
         scenario,
         lines,
         ..
     } = read_lined(alloc, text)?;
     print_steps(alloc, scenario, lines.as_slice(), out)?;
-    tell_judged(alloc, text, out)
+    tell_judged(told, out)
 }
 
 /// Prints what the run of a text's scenario leaves behind.
@@ -66,7 +77,8 @@ pub(crate) fn left<W: Write>(alloc: Global, text: &[u8], out: &mut W) -> Result<
     ensures silent { IsSilentAtBad text.now (W.contents out.old) (W.contents out.new) }
     ensures begun { Begins Left text.now (W.contents out.old) (W.contents out.new) }
 {
+    let told = judged(alloc, text)?;
     let scenario = read_scenario(alloc, text)?;
     print_left(alloc, scenario, out)?;
-    tell_judged(alloc, text, out)
+    tell_judged(told, out)
 }

@@ -14,6 +14,8 @@ pub struct CommandLine<'a> {
     pub words: Vec<&'a str>,
     /// The files.
     pub files: Vec<&'a str>,
+    /// Whether it is only told what a run wrote that its scripts don't expect: its status is then as if there were nothing to tell.
+    pub is_lenient: bool,
 }
 
 /// Whether a word names a file: it has a dot or a slash in it, and is no option.
@@ -21,31 +23,58 @@ pub fn names_a_file(word: &str) -> bool {
     !word.starts_with('-') && (word.contains('.') || word.contains('/'))
 }
 
-/// Tells words and files apart. The first word is the program's name, whatever is in it.
+/// Whether words ask for a run that is judged by what its scripts expect.
+fn ask_for_judged(words: &[&str]) -> bool {
+    matches!(words, [_, "run" | "left" | "test", ..])
+}
+
+/// Tells words and files apart, and `--lenient` behind a word for a run that is judged. The first word is the program's name, whatever is
+/// in it.
 pub fn command_line<'a>(alloc: Global, texts: &[&'a str]) -> Result<CommandLine<'a>, AllocError> {
     let (mut words, mut files) = (Vec::new(alloc), Vec::new(alloc));
+    let mut is_lenient = false;
     for text in texts {
         if !words.is_empty() && names_a_file(text) {
             files.push(*text)?;
+        } else if *text == "--lenient" && ask_for_judged(words.as_slice()) {
+            is_lenient = true;
         } else {
             words.push(*text)?;
         }
     }
-    Ok(CommandLine { words, files })
+    Ok(CommandLine {
+        words,
+        files,
+        is_lenient,
+    })
+}
+
+/// Whether a test is passed.
+fn is_passed(outcome: &Outcome, is_lenient: bool) -> bool {
+    match outcome {
+        Outcome::Passed => true,
+        Outcome::Differs(_) => false,
+        Outcome::Unexpected(_) => is_lenient,
+    }
 }
 
 /// Tests what a file has: whether it is passed, and what is told of it.
-fn test_input<R: Read>(alloc: Global, input: &mut R) -> Result<(bool, Vec<u8>), Fault> {
+fn test_input<R: Read>(
+    alloc: Global,
+    is_lenient: bool,
+    input: &mut R,
+) -> Result<(bool, Vec<u8>), Fault> {
     let text = read_whole(alloc, input)?;
     let outcome = test(alloc, text.as_slice())?;
     let told = report(alloc, &outcome)?;
-    Ok((matches!(outcome, Outcome::Passed), told))
+    Ok((is_passed(&outcome, is_lenient), told))
 }
 
 /// Tests a file, and tells what came of it behind its name: whether it is passed.
 fn tell_file<R: Files, W: Write>(
     rt: &R,
     alloc: Global,
+    is_lenient: bool,
     file: &str,
     out: &mut W,
 ) -> io::Result<bool> {
@@ -54,7 +83,7 @@ fn tell_file<R: Files, W: Write>(
         out.write_all(b"it can't be read\n")?;
         return Ok(false);
     };
-    match test_input(alloc, &mut input) {
+    match test_input(alloc, is_lenient, &mut input) {
         Ok((passed, told)) => {
             out.write_all(told.as_slice())?;
             Ok(passed)
@@ -70,12 +99,13 @@ fn tell_file<R: Files, W: Write>(
 pub fn test_files<R: Files, W: Write>(
     rt: &R,
     alloc: Global,
+    is_lenient: bool,
     files: &[&str],
     out: &mut W,
 ) -> io::Result<bool> {
     let (mut passed, mut failed) = (0u64, 0u64);
     for file in files {
-        if tell_file(rt, alloc, file, out)? {
+        if tell_file(rt, alloc, is_lenient, file, out)? {
             passed = passed.saturating_add(1);
         } else {
             failed = failed.saturating_add(1);

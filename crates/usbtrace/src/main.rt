@@ -62,7 +62,14 @@ fn main(rt: HostRuntime) -> ExitCode {
         let _ = eprintln!(rt; "usbtrace: out of memory");
         return ExitCode::FAILURE;
     };
-    let Ok(CommandLine { words, files }) = command_line(alloc, texts.as_slice()) else {
+    let Ok(
+        CommandLine {
+            words,
+            files,
+            is_lenient,
+        },
+    ) = command_line(alloc, texts.as_slice())
+    else {
         let _ = eprintln!(rt; "usbtrace: out of memory");
         return ExitCode::FAILURE;
     };
@@ -72,6 +79,7 @@ fn main(rt: HostRuntime) -> ExitCode {
         alloc,
         words.as_slice(),
         files.as_slice(),
+        is_lenient,
         &mut input,
         &mut out,
         &mut err,

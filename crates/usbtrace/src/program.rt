@@ -41,15 +41,28 @@ fn run_file<T: Threads + Wait + Sync + Files, R: Read, W: Write, E: Write>(
     }
 }
 
+/// The status of a run that wrote something else than its scripts expect.
+const UNEXPECTED: u8 = 3;
+
+/// The status, where what a run wrote is only told.
+fn status_of(status: u8, is_lenient: bool) -> u8 {
+    if is_lenient && status == UNEXPECTED {
+        0
+    } else {
+        status
+    }
+}
+
 /// Tests files.
 fn run_tests<T: Files, W: Write, E: Write>(
     rt: &T,
     alloc: Global,
+    is_lenient: bool,
     files: &[&str],
     out: &mut W,
     err: &mut E,
 ) -> u8 {
-    match test_files(rt, alloc, files, out) {
+    match test_files(rt, alloc, is_lenient, files, out) {
         Ok(true) => 0,
         Ok(false) => FAILED,
         Err(error) => {
@@ -68,6 +81,7 @@ pub fn perform<T: Threads + Wait + Sync + Files, R: Read, W: Write, E: Write>(
     alloc: Global,
     words: &[&str],
     files: &[&str],
+    is_lenient: bool,
     input: &mut R,
     out: &mut W,
     err: &mut E,
@@ -77,9 +91,12 @@ pub fn perform<T: Threads + Wait + Sync + Files, R: Read, W: Write, E: Write>(
             Ok(()) => 0,
             Err(_) => FAILED,
         },
-        (_, []) => trace(rt, alloc, words, input, out, err),
-        ([_, "test"], _) => run_tests(rt, alloc, files, out, err),
-        (_, [file]) => run_file(rt, alloc, words, file, input, out, err),
+        (_, []) => status_of(trace(rt, alloc, words, input, out, err), is_lenient),
+        ([_, "test"], _) => run_tests(rt, alloc, is_lenient, files, out, err),
+        (_, [file]) => status_of(
+            run_file(rt, alloc, words, file, input, out, err),
+            is_lenient,
+        ),
         _ => {
             let _ = err.write_all(b"usbtrace: only `test` takes more than one file\n");
             BAD_WORDS

@@ -1,7 +1,8 @@
 //! Readers and writers over memory that may fail, and runs over them.
 
+use crate::files::command_line;
 use crate::program::perform;
-use std::alloc::Global;
+use std::alloc::{AllocError, Global};
 use std::io;
 use std::io::{ErrorKind, Read, Write};
 use std::rt::Files;
@@ -199,6 +200,11 @@ impl Outcome {
         }
     }
 
+    /// Whether it ended with this status.
+    pub(crate) fn has_status(&self, status: u8) -> bool {
+        self.status == status
+    }
+
     /// Whether the status is 0, and standard error has nothing.
     pub(crate) fn ends_well(&self) -> bool {
         self.status == 0 && self.err.is_empty()
@@ -227,22 +233,36 @@ pub(crate) fn run<X: Threads + Wait + Sync>(
     )
 }
 
-/// Runs the program on words and files, over an input that can't be read.
-pub(crate) fn run_files<X: Threads + Wait + Sync + Files>(
+/// Runs the program on the words of a command line, over an input.
+pub(crate) fn run_line<X: Threads + Wait + Sync + Files>(
     rt: &X,
     alloc: Global,
-    words: &[&str],
-    files: &[&str],
-) -> Outcome {
-    let mut input = Input::failing(b"", 1, ErrorKind::ConnectionReset);
+    texts: &[&str],
+    mut input: Input<'_>,
+) -> Result<Outcome, AllocError> {
+    let line = command_line(alloc, texts)?;
     let mut out = Output::new(alloc, usize::MAX, ErrorKind::BrokenPipe);
     let mut err = Output::new(alloc, usize::MAX, ErrorKind::BrokenPipe);
-    let status = perform(rt, alloc, words, files, &mut input, &mut out, &mut err);
-    Outcome {
+    let (words, files) = (line.words.as_slice(), line.files.as_slice());
+    let lenient = line.is_lenient;
+    let status = perform(
+        rt, alloc, words, files, lenient, &mut input, &mut out, &mut err,
+    );
+    Ok(Outcome {
         status,
         out: out.taken,
         err: err.taken,
-    }
+    })
+}
+
+/// The same over an input that can't be read.
+pub(crate) fn run_files<X: Threads + Wait + Sync + Files>(
+    rt: &X,
+    alloc: Global,
+    texts: &[&str],
+) -> Result<Outcome, AllocError> {
+    let unread = Input::failing(b"", 1, ErrorKind::ConnectionReset);
+    run_line(rt, alloc, texts, unread)
 }
 
 /// Runs the program over these streams.

@@ -1,8 +1,9 @@
 //! The words that the program takes. Of bad ones it is said, in clap's own words, what is wrong with them.
 
-use super::fakes::{Input, run, run_files};
+use super::fakes::{Input, run, run_files, run_line};
 use std::alloc::{AllocError, Global};
 use std::io::ErrorKind;
+use std::rt::Files;
 use std::sync::Wait;
 use std::thread::Threads;
 
@@ -115,6 +116,33 @@ fn first_to_differ<X: Threads + Wait + Sync>(
     if count == 12 { None } else { Some("") }
 }
 
+/// Whether nothing but this is said of a command line, with this status.
+fn only_says<X: Threads + Wait + Sync + Files>(
+    rt: &X,
+    alloc: Global,
+    texts: &[&str],
+    status: u8,
+    err: &str,
+) -> bool {
+    match run_files(rt, alloc, texts) {
+        Ok(outcome) => outcome.only_says(status, err),
+        Err(_) => false,
+    }
+}
+
+/// Whether it is told what a run wrote, with this status.
+fn tells<X: Threads + Wait + Sync + Files>(
+    rt: &X,
+    alloc: Global,
+    texts: &[&str],
+    status: u8,
+) -> bool {
+    match run_line(rt, alloc, texts, Input::new(WRITTEN, 7)) {
+        Ok(outcome) => outcome.has_status(status) && outcome.shows(TOLD),
+        Err(_) => false,
+    }
+}
+
 #[test]
 fn bad_words_are_told_on_standard_error(rt: HostRuntime) {
     assert_eq!(rt; first_to_differ(&rt, rt.alloc(), BAD), None);
@@ -201,8 +229,39 @@ fn help_says_that_files_are_read_and_what_a_macro_is(rt: HostRuntime) {
 fn words_are_judged_before_a_file_is_opened(rt: HostRuntime) {
     let walk =
         "error: unrecognized subcommand 'walk'\n\nUsage: usbtrace <COMMAND>\n\nFor more information, try '--help'.\n";
-    let (none, alloc) = (["there/is/none"], rt.alloc());
-    assert!(rt; run_files(&rt, alloc, &["usbtrace", "walk"], &none).only_says(2, walk));
+    let alloc = rt.alloc();
+    assert!(rt; only_says(&rt, alloc, &["usbtrace", "walk", "there/is/none"], 2, walk));
     let unread = "usbtrace: there/is/none can't be read\n";
-    assert!(rt; run_files(&rt, alloc, &["usbtrace", "run"], &none).only_says(1, unread));
+    assert!(rt; only_says(&rt, alloc, &["usbtrace", "run", "there/is/none"], 1, unread));
+}
+
+/// A write of two bytes, of which the second isn't as expected.
+static WRITTEN: &[u8] = b"\
+device 0 0902300002010080320904000002ff00000007058102080000070502020800000904010001ff0000000705830308000a
+script 0 02 a:0102
+open 1 0
+claim 1 0
+submit 1 02 bulk x:0103
+serve 0 02
+";
+
+/// What is told of it.
+static TOLD: &str = "\
+# line 6: device 0, endpoint 02: packet 1 differs at offset 1: came 01[03] (length 2), expected 01[02] (length 2)
+# what was written isn't what the scenario expects: 1 difference
+";
+
+#[test]
+fn what_a_run_wrote_is_only_told_where_that_is_asked_for(rt: HostRuntime) {
+    let alloc = rt.alloc();
+    assert!(rt; tells(&rt, alloc, &["usbtrace", "run"], 3));
+    assert!(rt; tells(&rt, alloc, &["usbtrace", "run", "--lenient"], 0));
+    assert!(rt; tells(&rt, alloc, &["usbtrace", "run", "--lenient", "--steps"], 0));
+    assert!(rt; tells(&rt, alloc, &["usbtrace", "left", "--lenient"], 0));
+    assert!(rt; tells(&rt, alloc, &["usbtrace", "test"], 3));
+    assert!(rt; tells(&rt, alloc, &["usbtrace", "test", "--lenient"], 0));
+    assert!(rt;
+        !tells(&rt, alloc, &["usbtrace", "check", "--lenient"], 0),
+        "there is no run"
+    );
 }

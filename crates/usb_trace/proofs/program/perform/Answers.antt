@@ -1,5 +1,5 @@
 -- A task over all that the input has.
-use Rattle.trace_io.specs.declared.words.Task.TheVariants.{Capture, Check, Describe, Device, Devices, Left, Live, Run, Steps}
+use Rattle.trace_io.specs.declared.words.Task.TheVariants.{Capture, Check, Describe, Device, Devices, Left, Live, Run, Steps, Test}
 use Rattle.usb_trace.proofs.Begun.{bytes_begun}
 use Rattle.usb_trace.proofs.program.perform.Goals as goal
 
@@ -7,6 +7,11 @@ pub returns-in-Check-clause-begun : goal.returns-in-Check-clause-begun
 returns-in-Check-clause-begun g c =
     bytes_begun (g.R.Read.remaining c.args.input.now) c.args.task Check c.as_slice-in-Check.result.now (g.W.Write.contents c.args.out.now) (g.W.Write.contents c.report.new.out)
     c.in-Check.is (rw c.as_slice-in-Check.ensures.value c.in_ok-text.ensures.whole) c.report.ensures.begun
+
+pub returns-in-Test-clause-begun : goal.returns-in-Test-clause-begun
+returns-in-Test-clause-begun g c =
+    bytes_begun (g.R.Read.remaining c.args.input.now) c.args.task Test c.as_slice-in-Test.result.now (g.W.Write.contents c.args.out.now) (g.W.Write.contents c.run_test.new.out)
+    c.in-Test.is (rw c.as_slice-in-Test.ensures.value c.in_ok-text.ensures.whole) c.run_test.ensures.begun
 
 pub returns-in-Run-clause-begun : goal.returns-in-Run-clause-begun
 returns-in-Run-clause-begun g c =
