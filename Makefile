@@ -81,7 +81,7 @@ c: bin/libtirnouch_core.a bin/libtirnouch_core.so
 # libusb's own interface over it: of the library only the headers' names are to be seen.
 USB_OBJECTS = $(patsubst c/usb/%.c,bin/usb/%.o,$(wildcard c/usb/*.c))
 USB_NAMES = libusb_* tirnouch_plug tirnouch_begin tirnouch_end tirnouch_on_control tirnouch_on_packet tirnouch_on_event tirnouch_ready tirnouch_pull tirnouch_show \
-	tirnouch_replug tirnouch_left tirnouch_report tirnouch_error tirnouch_now tirnouch_advance tirnouch_took tirnouch_requests
+	tirnouch_replug tirnouch_left tirnouch_report tirnouch_error tirnouch_trace tirnouch_now tirnouch_advance tirnouch_took tirnouch_requests
 
 bin/usb/%.o: c/usb/%.c $(wildcard c/usb/*.h) $(wildcard c/include/*.h)
 	@mkdir -p bin/usb

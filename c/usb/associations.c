@@ -76,9 +76,8 @@ int libusb_get_active_interface_association_descriptors(libusb_device *dev,
 {
     if (!iad_array)
         return LIBUSB_ERROR_INVALID_PARAM;
-    if (!is_configured(dev->device))
-        return LIBUSB_ERROR_NOT_FOUND;
-    return read_associations(dev->device, iad_array);
+    int r = check_configured(dev->device, LIBUSB_ERROR_NOT_FOUND);
+    return r ? r : read_associations(dev->device, iad_array);
 }
 
 void libusb_free_interface_association_descriptors(struct libusb_interface_association_descriptor_array *iad_array)

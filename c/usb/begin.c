@@ -4,6 +4,9 @@
 #include <stdlib.h>
 #include <string.h>
 
+/* The size of the options before `keeps_trace` was one of them. */
+#define SIZE_BEFORE offsetof(struct tirnouch_options, keeps_trace)
+
 /* NULL where memory is refused. */
 static char *copy_of(const struct tirnouch_options *options)
 {
@@ -48,27 +51,33 @@ static void take_back_text(void)
 /* With the lock, where there is no bus. */
 static int begin_by(const struct tirnouch_options *options)
 {
-    const struct beginning so = { .trace = options->trace, .seed = options->seed, .is_virtual = options->is_virtual };
+    const struct beginning so = { .trace = options->trace, .keeps_trace = options->keeps_trace, .limit = options->limit,
+                                  .seed = options->seed, .is_virtual = options->is_virtual };
     int r = bus_begin_so(&so);
-    if (!r && options->limit)
-        r = begin_limit_of(process.bus.turn, options->limit);
-    if (r && process.bus.users)
-        bus_end();
     if (r)
         take_back_text();
     process.has_begun = !r;
     return r;
 }
 
-int tirnouch_begin(const struct tirnouch_options *options)
+/* What a program doesn't know that was compiled with the options of before is zeros. False for another size. */
+static bool read_options(struct tirnouch_options *to, const struct tirnouch_options *from)
 {
-    if (!options || options->size != sizeof *options)
-        return LIBUSB_ERROR_INVALID_PARAM;
-    char *text = options->devices ? copy_of(options) : NULL;
-    if (options->devices && !text)
-        return LIBUSB_ERROR_NO_MEM;
-    lock();
-    int r = process.bus.users ? LIBUSB_ERROR_BUSY : 0;
+    if (!from || (from->size != sizeof *from && from->size != SIZE_BEFORE))
+        return false;
+    *to = (struct tirnouch_options){ .size = 0 };
+    memcpy(to, from, from->size);
+    return true;
+}
+
+/* The text becomes the bus's, or is freed. */
+static int begin_with(char *text, const struct tirnouch_options *options)
+{
+    if (!lock_unless_asked()) {
+        free(text);
+        return LIBUSB_ERROR_BUSY;
+    }
+    int r = process.bus.is_there ? LIBUSB_ERROR_BUSY : 0;
     if (!r) {
         use_text(text, options->devices_length);
         r = begin_by(options);
@@ -79,10 +88,23 @@ int tirnouch_begin(const struct tirnouch_options *options)
     return r;
 }
 
+int tirnouch_begin(const struct tirnouch_options *from)
+{
+    struct tirnouch_options options;
+    if (!read_options(&options, from))
+        return LIBUSB_ERROR_INVALID_PARAM;
+    char *text = options.devices ? copy_of(&options) : NULL;
+    if (options.devices && !text)
+        return LIBUSB_ERROR_NO_MEM;
+    return begin_with(text, &options);
+}
+
+/* A callback stands on what ends here. */
 int tirnouch_end(void)
 {
-    lock();
-    int r = !process.has_begun ? LIBUSB_ERROR_NOT_FOUND : process.contexts ? LIBUSB_ERROR_BUSY : 0;
+    if (!lock_unless_asked())
+        return LIBUSB_ERROR_BUSY;
+    int r = !process.has_begun ? LIBUSB_ERROR_NOT_FOUND : callbacks_within ? LIBUSB_ERROR_BUSY : 0;
     if (!r) {
         process.has_begun = false;
         bus_end();

@@ -1,4 +1,5 @@
-/* The bus: it begins with the first context, with the devices of a text and by what the environment says, and ends with the last. */
+/* The bus: it begins with the first context, with the devices of a text and by what the environment says, and ends with the last; or it does
+ * by tirnouch_begin and tirnouch_end, and contexts outlive it (outliving.c). */
 #include "bus.h"
 
 #include <stdio.h>
@@ -6,6 +7,7 @@
 #include <string.h>
 
 struct process process = { .lock = PTHREAD_MUTEX_INITIALIZER };
+_Thread_local int callbacks_within;
 
 /* Virtual time begins here, since 0 is no moment. */
 #define BEGINNING 1000000000u
@@ -44,34 +46,59 @@ static int make_core(const struct desk *desk)
     return r;
 }
 
+/* Of a number nothing is known yet. */
+static void use_absent(int number)
+{
+    process.bus.devices[number] = &process.absent[number];
+    process.absent[number] = (struct device){ .holds = 2, .number = number, .successor = -1 };
+}
+
+static bool has_own_core(int number, const struct desk *desk)
+{
+    return number < desk->count && desk->is_own[number];
+}
+
+/* Whether the core that is shared has it. */
+static bool is_shared(int number, const struct desk *desk)
+{
+    uint8_t none[1];
+    int there = desk->there[number];
+    return there >= 0 && tirnouch_describe(&process.bus.core.slot, (uint8_t)there, LIBUSB_DT_DEVICE, 0, none, 0) > 0;
+}
+
+/* Where the text has one of this number. */
+static int begin_device(int number, const struct desk *desk)
+{
+    if (!has_own_core(number, desk) && !is_shared(number, desk))
+        return 0;
+    struct device *device = malloc(sizeof *device);
+    if (!device)
+        return LIBUSB_ERROR_NO_MEM;
+    *device = (struct device){
+        .holds = 1, .number = number, .port = number, .core = &process.bus.core, .number_there = (uint8_t)desk->there[number],
+        .successor = desk->successors[number],
+    };
+    process.bus.devices[number] = device;
+    return 0;
+}
+
 static int make_device(struct device *device, const struct desk *desk)
 {
-    bool is_own = device->number < desk->count && desk->is_own[device->number];
+    bool is_own = has_own_core(device->number, desk);
     int r = is_own ? begin_own_core(device, desk) : 0;
-    if (r || (!is_own && desk->there[device->number] < 0))
-        return r;
-    r = learn(device);
+    if (!r)
+        r = learn(device);
     if (!r && is_own)
         return learn_expected(device, device->text, device->text_length, desk->name);
     return !r && desk->has_expected ? learn_expected(device, desk->text, desk->length, desk->name) : r;
-}
-
-static void begin_device(int number, const struct desk *desk)
-{
-    int there = number < HUB ? desk->there[number] : 0;
-    process.bus.devices[number] = (struct device){
-        .number = number, .port = number, .core = &process.bus.core, .number_there = (uint8_t)there, .successor = -1,
-    };
-    if (number < HUB)
-        process.bus.devices[number].successor = desk->successors[number];
 }
 
 /* What comes back in another's place isn't there before. */
 static void hide_successors(void)
 {
     for (int i = 0; i < DEVICES; i++)
-        if (process.bus.devices[i].successor >= 0)
-            process.bus.devices[process.bus.devices[i].successor].is_hidden = true;
+        if (process.bus.devices[i]->successor >= 0)
+            process.bus.devices[process.bus.devices[i]->successor]->is_hidden = true;
 }
 
 static int make_devices(const char *text, size_t length, const char *name)
@@ -83,9 +110,10 @@ static int make_devices(const char *text, size_t length, const char *name)
     int r = read_desk(&desk);
     if (!r)
         r = make_core(&desk);
-    for (int i = 0; !r && i <= HUB; i++) {
-        begin_device(i, &desk);
-        r = i < HUB ? make_device(&process.bus.devices[i], &desk) : learn_hub(&process.bus.devices[HUB]);
+    for (int i = 0; !r && i < DEVICES; i++) {
+        r = begin_device(i, &desk);
+        if (!r && process.bus.devices[i] != &process.absent[i])
+            r = make_device(process.bus.devices[i], &desk);
     }
     if (!r)
         hide_successors();
@@ -128,33 +156,49 @@ static int begin_devices(void)
 
 static int begin_trace(const struct beginning *so)
 {
-    if (!so->trace)
+    process.bus.keeps_trace = so->keeps_trace;
+    if (!so->trace && !so->keeps_trace)
         return 0;
-    process.bus.trace = strdup(so->trace);
-    if (!process.bus.trace)
+    process.bus.trace = so->trace ? strdup(so->trace) : NULL;
+    if (so->trace && !process.bus.trace)
         return LIBUSB_ERROR_NO_MEM;
     process.bus.trace_number = so->trace_number;
     process.bus.is_watched = process.bus.is_traced = true;
     return trace_begin(&process.bus.core, NULL) ? 0 : LIBUSB_ERROR_OTHER;
 }
 
+/* Whoever passes time on it sees by `stirs` that it isn't there any more. */
 static void clear_bus(void)
 {
+    uint64_t stirs = process.bus.stirs + 1;
     stop_programs();
-    for (int i = 0; i <= HUB; i++)
-        forget(&process.bus.devices[i]);
+    for (int i = 0; i < DEVICES; i++)
+        forget(process.bus.devices[i]);
     tirnouch_destroy(&process.bus.core.slot);
     trace_end(&process.bus.core);
     free(process.bus.file_text);
     free(process.bus.trace);
-    process.bus = (struct bus){ 0 };
+    process.bus = (struct bus){ .stirs = stirs, .settled = stirs };
 }
 
-/* There is none. */
+/* All but what contexts have of it. */
+static int begin_parts(const struct beginning *so)
+{
+    int r = begin_trace(so);
+    if (!r)
+        r = begin_devices();
+    if (!r && so->limit)
+        r = begin_limit_of(process.bus.turn, so->limit);
+    return r;
+}
+
+/* There is none. Contexts that outlived the one before have its devices. */
 int bus_begin_so(const struct beginning *so)
 {
     process.failure[0] = 0;
-    process.bus.users = 1;
+    process.bus.is_there = true;
+    for (int i = 0; i < DEVICES; i++)
+        use_absent(i);
     process.bus.turn = ++process.buses;
     process.bus.seed = so->seed;
     process.bus.is_watched = so->seed;
@@ -162,11 +206,15 @@ int bus_begin_so(const struct beginning *so)
     process.bus.moment = BEGINNING;
     process.bus.begun = now();
     process.bus.core.trace = -1;
-    int r = begin_trace(so);
+    begin_kept();
+    int r = begin_parts(so);
     if (!r)
-        r = begin_devices();
+        r = give_devices_to_all();
     if (r)
         clear_bus();
+    else
+        tell_arrivals();
+    end_kept_beginning(!r);
     return r;
 }
 
@@ -175,10 +223,8 @@ int bus_begin(void)
 {
     const char *seed = getenv("TIRNOUCH_SEED"), *time = getenv("TIRNOUCH_TIME"), *trace = getenv("TIRNOUCH_TRACE");
     begin_limit();
-    if (process.bus.users) {
-        process.bus.users++;
+    if (process.bus.is_there)
         return 0;
-    }
     struct beginning so = {
         .trace = trace && *trace ? trace : NULL,
         .seed = seed ? strtoull(seed, NULL, 10) : 0,
@@ -192,11 +238,20 @@ int bus_begin(void)
 /* The core's handles are closed in the trace too, so that it blames nobody who tidied up. */
 void bus_end(void)
 {
-    if (--process.bus.users)
-        return;
+    tell_left_open();
+    end_all_flights();
     if (process.bus.is_judged)
         report_differences();
     for (int i = 0; process.bus.is_traced && i < DEVICES; i++)
-        give_back(&process.bus.devices[i]);
+        give_back(process.bus.devices[i]);
+    outlive_bus();
     clear_bus();
+    wake_all();
+}
+
+/* A context ended, or didn't begin. */
+void bus_end_with_last(void)
+{
+    if (process.bus.is_there && !process.has_begun && !process.contexts)
+        bus_end();
 }

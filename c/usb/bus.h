@@ -6,12 +6,15 @@
  *
  * What outlives a call has an owner and a count:
  *
- *   context     `holds`: one while it is open, one for each thread that handles its events or is in a hotplug callback of it; and it
- *               stays while one of its devices is referenced (release_context)
- *   device      `references`: one of its context while that is open, one for each handle, and those of the program
- *   handle      the program's, from libusb_open to libusb_close, which waits for a callback of its that runs elsewhere
- *   core        the bus's, from its first context to its last; a device's own is begun and ended with it, or made where the device is
- *               given its first function while the bus is there
+ *   context     `holds`: one while it is open, one for each thread that handles its events or is in a hotplug callback of it, one for
+ *               each device of a bus that it has, or that is referenced; and it stays while its root hub is referenced (release_context)
+ *   device      as a context has it, `libusb_device`: `references`: one of its context while that is open and the bus is there, one for
+ *               each handle and each notice, and those of the program. As the bus has it, `device`: `holds`: one of the bus, one for each
+ *               `libusb_device`; behind the bus's end its numbers and descriptors are left of it
+ *   handle      the program's, from libusb_open to libusb_close, which waits for a callback of its that runs elsewhere. It may outlive the
+ *               bus, and is lost then
+ *   core        the bus's; a device's own is begun and ended with it, or made where the device is given its first function while the bus
+ *               is there
  *   program     its device's, from its beginning to the bus's end, where it is waited for; in a child of fork it is nobody's
  *   transfer    the program's; in flight, the library's too: freed in flight, it goes when it has ended
  *   hotplug     `holds`: one while it is registered, one for each call of it that runs */
@@ -27,8 +30,8 @@
 #include <stddef.h>
 #include <stdint.h>
 
-/* The devices of a text, by their numbers. Behind them stands the root hub, which isn't in the core. Those that are scripted share one
- * core, which has room for 4; one that computes its answers has its own. */
+/* The devices of a text, by their numbers. Those that are scripted share one core, which has room for 4; one that computes its answers has
+ * its own. The root hub has a number too, but isn't in the core, and is there without a bus. */
 #define DEVICES 16
 #define HUB DEVICES
 #define INTERFACES 32
@@ -49,6 +52,7 @@
 struct core;
 struct device;
 struct judged;
+struct kept_trace;
 struct pipe;
 struct program;
 
@@ -128,11 +132,13 @@ struct core {
     struct core *next;                /* of the devices' own */
     uint32_t fed;                     /* answers that were computed, since this session began */
     unsigned sessions;                /* how many there were before */
-    int trace;                        /* the file of its steps; -1 for none */
+    int trace;                        /* the file of its steps; -1 for none; */
+    struct kept_trace *kept;          /* and their text in memory; NULL for none */
     bool named[NAMES];
 };
 
 struct device {
+    int holds;
     int number;
     int port;                         /* the number of the device in whose place it stands: its own, or that which came back as this one */
     int successor;                    /* the device as which it comes back, where it leaves; -1 for itself */
@@ -178,7 +184,7 @@ struct libusb_device_handle {
     uint32_t claimed;                 /* a bit an interface that it holds */
     uint32_t asked;                   /* of these, those that the program claimed itself */
     bool is_shut;                     /* it takes no transfer: it is being closed, or its device was plugged in anew since; */
-    bool is_lost, detaches;           /* is_lost: the latter. All but a close is answered NO_DEVICE */
+    bool is_lost, detaches;           /* is_lost: the latter, or its bus ended. All but a close is answered NO_DEVICE */
 };
 
 struct hotplug {
@@ -191,7 +197,7 @@ struct hotplug {
     void *user;
 };
 
-/* That a device came, or went. */
+/* That a device came, or went. It has a reference to it. */
 struct notice {
     struct notice *next;
     struct libusb_device *device;
@@ -225,7 +231,8 @@ struct libusb_context {
     pthread_mutex_t waiters;
     pthread_cond_t happened;          /* with `waiters`: a callback returned, or nobody handles events any more */
     struct notice all_notices[DEVICES][2];
-    struct libusb_device devices[DEVICES + 1];
+    struct libusb_device *devices[DEVICES]; /* of the bus that is there; NULL where it has no such device; */
+    struct libusb_device hub;         /* and the root hub, in each bus and without any */
     int hotplug_ids;
     int log_level;                    /* atomic: it is written under `process.lock` */
     bool log_is_fixed;                /* by LIBUSB_DEBUG */
@@ -238,9 +245,9 @@ struct rest {
     bool is_halted;
 };
 
-/* What all contexts share, as programs on one machine share its bus. */
+/* What all contexts share, as programs on one machine share its bus. Without one all is zeros but `stirs` and `settled`. */
 struct bus {
-    int users;
+    bool is_there;
     int in_core;                      /* transfers, or pieces of them, in all cores */
     struct core core;                 /* the one that scripted devices share; */
     struct core *own;                 /* and those that have one device each */
@@ -249,21 +256,23 @@ struct bus {
     size_t text_length;
     char *trace;                      /* the name of the trace's file, the bus's own; NULL for none; */
     unsigned trace_number;            /* and what stands behind it, where it is more than 1 */
+    bool keeps_trace;                 /* in memory */
     unsigned turn;                    /* which bus of the process it is, from 1 on */
     uint64_t seed;                    /* 0 for none */
     bool is_traced, is_watched;       /* is_watched: answers are counted one by one, for the trace or the log */
     struct transfers controls;
     uint64_t again;                   /* when a request is to be asked again; 0 for none */
-    uint64_t stirs, settled;          /* how often there was something to be done; and how often when all was done */
+    uint64_t stirs, settled;          /* how often there was something to be done, in all buses; and how often when all was done */
     uint64_t moment;                  /* of virtual time; */
     uint64_t begun;                   /* when the bus began */
     bool is_virtual;                  /* time passes only where nothing else is to be done */
     bool is_judged;                   /* a text expects something of the driver, of which the end isn't told yet */
     size_t active_count;
     struct pipe *active[DEVICES * ENDPOINTS]; /* where something waits or is in the core */
-    struct libusb_device_handle *handles;
     unsigned handle_count;
-    struct device devices[DEVICES + 1];
+    bool is_ending;                   /* transfers that end stay among those in progress, and leave them in order of submission (outliving.c) */
+    bool is_readied;                  /* a device's function said that some device has something to answer now */
+    struct device *devices[DEVICES];
 };
 
 /* What a context that is begun later has (`libusb_set_option` without a context). */
@@ -276,7 +285,9 @@ struct defaults {
 extern struct process {
     pthread_mutex_t lock;
     struct bus bus;
+    struct device hub, absent[DEVICES]; /* what is there without a bus; and in place of those that a text doesn't have. It has a hold of them */
     struct libusb_context *usual, *fallback, *contexts;
+    struct libusb_device_handle *handles; /* of all buses */
     struct libusb_context nobody;     /* the default context where none is open */
     struct defaults defaults;
     char *text;                       /* of tirnouch_plug, or tirnouch_begin, */
@@ -298,25 +309,52 @@ extern struct process {
     char failure[1024];               /* what was told last of what went wrong with the bus; empty for nothing */
     unsigned traces;                  /* how many were begun by the environment */
     unsigned buses;                   /* how many were begun */
-    bool has_begun;                   /* the bus that is there was begun by tirnouch_begin, which is one of its users */
+    bool has_begun;                   /* the bus that is there was begun by tirnouch_begin, and tirnouch_end ends it */
     bool was_misused;                 /* it was told that the default context isn't the program's */
     bool is_asking;                   /* atomic: a function of a device's is being asked */
     uint8_t nowhere[1];               /* where memory of no bytes lies: nobody reads or writes it */
 } process;
 
-/* A device's function that calls the library would wait for itself: it is told, and the program ends. `lock` is a macro for the name of the
- * call. */
-void refuse_asked(const char *function) __attribute__((cold));
+/* In a device's function this thread has the lock already, and may not wait for it. A call that only reads goes on without it (`lock_to_read`,
+ * whose answer is what `unlock_read` needs); one that can answer is refused (`lock_unless_asked`); and where one can't, that is told, and the
+ * program ends (`lock`). The latter two are macros for the name of the call. */
+bool is_asked_here(void) __attribute__((cold));
+bool refuse_asked(const char *function) __attribute__((cold));
+void end_for_asked(const char *function) __attribute__((cold));
+static inline bool is_asking(void) { return __atomic_load_n(&process.is_asking, __ATOMIC_ACQUIRE); }
 static inline void lock_for(const char *function)
 {
-    if (__atomic_load_n(&process.is_asking, __ATOMIC_ACQUIRE))
-        refuse_asked(function);
+    if (is_asking())
+        end_for_asked(function);
     pthread_mutex_lock(&process.lock);
 }
+static inline bool lock_unless_asked_for(const char *function)
+{
+    if (is_asking() && refuse_asked(function))
+        return false;
+    pthread_mutex_lock(&process.lock);
+    return true;
+}
+static inline bool lock_to_read(void)
+{
+    if (is_asking() && is_asked_here())
+        return false;
+    pthread_mutex_lock(&process.lock);
+    return true;
+}
 #define lock() lock_for(__func__)
+#define lock_unless_asked() lock_unless_asked_for(__func__)
 /* Behind a callback, or a wait: no function of a device's is asked in this thread. */
 static inline void lock_again(void) { pthread_mutex_lock(&process.lock); }
 static inline void unlock(void) { pthread_mutex_unlock(&process.lock); }
+static inline void unlock_read(bool is_locked)
+{
+    if (is_locked)
+        pthread_mutex_unlock(&process.lock);
+}
+
+/* How many of the program's callbacks this thread is in, one within the other. */
+extern _Thread_local int callbacks_within;
 
 static inline struct libusb_transfer *seen(struct transfer *transfer) { return (struct libusb_transfer *)(void *)(transfer + 1); }
 static inline struct transfer *kept(struct libusb_transfer *transfer) { return (struct transfer *)(void *)transfer - 1; }

@@ -7,25 +7,42 @@
 /* How a bus begins: what steers it. */
 struct beginning {
     const char *trace;                /* a file's name; NULL for none */
+    bool keeps_trace;                 /* in memory */
+    unsigned limit;                   /* in milliseconds; 0 for none */
     unsigned trace_number;            /* behind it, where it is more than 1 */
     uint64_t seed;                    /* 0 for none */
     bool is_virtual;
 };
 
-/* bus.c: the bus begins with the first context, or by tirnouch_begin, and ends with the last. */
+/* bus.c: the bus begins with the first context, and ends with the last; or it does by tirnouch_begin and tirnouch_end. */
 int bus_begin(void);
 int bus_begin_so(const struct beginning *so);
 void bus_end(void);
+void bus_end_with_last(void);
+
+/* outliving.c: contexts and handles over the end of a bus, and the beginning of the next */
+int give_devices_to_all(void);
+void tell_arrivals(void);
+void tell_left_open(void);
+void end_all_flights(void);
+void outlive_bus(void);
+void wake_all(void);
+
+/* devices.c */
+int give_devices(struct libusb_context *context);
+void take_devices(struct libusb_context *context);
+bool drop_device(struct libusb_device *device);
 
 /* learn.c: what a device's lines and descriptors say */
 int learn(struct device *device);
 void watch(struct device *device);
 void forget(struct device *device);
+void let_go_of_device(struct device *device);
 bool is_present(const struct device *device);
 bool is_lost(const struct libusb_device_handle *handle);
 
 /* hub.c */
-int learn_hub(struct device *device);
+void learn_hub(void);
 
 /* log.c */
 void note(struct libusb_context *context, enum libusb_log_level level, const char *format, ...) __attribute__((format(printf, 3, 4)));
@@ -54,6 +71,7 @@ int begin_limit_of(unsigned turn, unsigned milliseconds);
 
 /* context.c */
 struct libusb_context *usual_context(void);
+void tell_configurations(struct libusb_context *context);
 void release_context(struct libusb_context *context);
 
 /* core.c: the core's calls, each of which the trace has. A negative answer is libusb's. */
@@ -94,6 +112,8 @@ void take_out(struct device *device);
 
 /* work.c: devices, controller and events */
 bool work_on(bool waits);
+bool work_again(bool waits);
+void work_to_end(void);
 bool serve(struct pipe *pipe, uint32_t most);
 bool feed_all(void);
 void settle_all(void);
@@ -145,9 +165,19 @@ int poll_in_child(struct libusb_context *context);
 void end_polling(struct libusb_context *context);
 
 /* hotplug.c */
+void add_notice(struct libusb_context *context, int device, libusb_hotplug_event event);
 void tell_all(struct device *device, libusb_hotplug_event event);
+void forget_notices(struct libusb_context *context);
 bool call_hotplugs(struct libusb_context *context);
 void end_hotplugs(struct libusb_context *context);
+
+/* kept.c: traces in memory, those of a bus and those of the one before */
+struct kept_trace *keep_trace(const char *ending);
+void keep_text(struct kept_trace *it, const char *text, size_t length);
+void begin_kept(void);
+void end_kept_beginning(bool is_begun);
+typedef void kept_fn(void *to, const char *text, size_t length);
+void each_kept(kept_fn *give, void *to);
 
 /* trace.c: words are put behind each other, and written out when a step is whole */
 bool trace_begin(struct core *core, const struct device *device);

@@ -134,7 +134,8 @@ int libusb_claim_interface(libusb_device_handle *handle, int interface)
 {
     if (interface < 0 || interface >= INTERFACES)
         return LIBUSB_ERROR_INVALID_PARAM;
-    lock();
+    if (!lock_unless_asked())
+        return LIBUSB_ERROR_BUSY;
     shake();
     int r = claim(handle, interface);
     if (!r)
@@ -144,21 +145,31 @@ int libusb_claim_interface(libusb_device_handle *handle, int interface)
     return r;
 }
 
-int libusb_release_interface(libusb_device_handle *handle, int interface)
+/* Where the bus ended the device has nothing to release, and nothing is in flight. */
+static int release(struct libusb_device_handle *handle, int interface)
 {
-    int r = LIBUSB_ERROR_NOT_FOUND;
-    if (interface < 0 || interface >= INTERFACES)
-        return LIBUSB_ERROR_INVALID_PARAM;
-    lock();
-    shake();
-    if (handle->asked >> interface & 1) {
+    uint32_t bit = 1u << interface;
+    if (!(handle->asked & bit))
+        return LIBUSB_ERROR_NOT_FOUND;
+    if (handle->claimed & bit) {
         withdraw(handle, interface, false);
         unclaim(handle, interface);
         if (handle->detaches)
             handle->device->interfaces[interface].is_detached = false;
         stir(handle->context);
-        r = is_lost(handle) ? LIBUSB_ERROR_NO_DEVICE : 0;
     }
+    handle->asked &= ~bit;
+    return is_lost(handle) ? LIBUSB_ERROR_NO_DEVICE : 0;
+}
+
+int libusb_release_interface(libusb_device_handle *handle, int interface)
+{
+    if (interface < 0 || interface >= INTERFACES)
+        return LIBUSB_ERROR_INVALID_PARAM;
+    if (!lock_unless_asked())
+        return LIBUSB_ERROR_BUSY;
+    shake();
+    int r = release(handle, interface);
     note_interface(handle, interface, r, __func__);
     unlock();
     return r;
@@ -189,7 +200,8 @@ int libusb_set_interface_alt_setting(libusb_device_handle *handle, int interface
 {
     if (interface < 0 || interface >= INTERFACES || setting < 0 || setting > UINT8_MAX)
         return LIBUSB_ERROR_INVALID_PARAM;
-    lock();
+    if (!lock_unless_asked())
+        return LIBUSB_ERROR_BUSY;
     int r = set_setting(handle, interface, setting);
     if (is_told(handle->context, r))
         note_call(handle->context, r, __func__, "handle %u, interface %d, setting %d", handle->number, interface, setting);
@@ -201,7 +213,8 @@ int libusb_kernel_driver_active(libusb_device_handle *handle, int interface)
 {
     if (interface < 0 || interface >= INTERFACES)
         return LIBUSB_ERROR_INVALID_PARAM;
-    lock();
+    if (!lock_unless_asked())
+        return LIBUSB_ERROR_BUSY;
     const struct interface *it = &handle->device->interfaces[interface];
     int r = is_lost(handle) ? LIBUSB_ERROR_NO_DEVICE : it->has_driver && !it->is_detached;
     note_interface(handle, interface, r, __func__);
@@ -214,7 +227,8 @@ int libusb_detach_kernel_driver(libusb_device_handle *handle, int interface)
     int r = libusb_kernel_driver_active(handle, interface);
     if (r <= 0)
         return r ? r : LIBUSB_ERROR_NOT_FOUND;
-    lock();
+    if (!lock_unless_asked())
+        return LIBUSB_ERROR_BUSY;
     handle->device->interfaces[interface].is_detached = true;
     note_interface(handle, interface, 0, __func__);
     unlock();
@@ -226,7 +240,8 @@ int libusb_attach_kernel_driver(libusb_device_handle *handle, int interface)
     int r = libusb_kernel_driver_active(handle, interface);
     if (r < 0)
         return r;
-    lock();
+    if (!lock_unless_asked())
+        return LIBUSB_ERROR_BUSY;
     struct interface *it = &handle->device->interfaces[interface];
     if (!it->has_driver)
         r = LIBUSB_ERROR_NOT_FOUND;
@@ -241,7 +256,8 @@ int libusb_attach_kernel_driver(libusb_device_handle *handle, int interface)
 
 int libusb_set_auto_detach_kernel_driver(libusb_device_handle *handle, int enable)
 {
-    lock();
+    if (!lock_unless_asked())
+        return LIBUSB_ERROR_BUSY;
     handle->detaches = enable;
     if (is_told(handle->context, 0))
         note_call(handle->context, 0, __func__, "handle %u, %d", handle->number, enable);

@@ -76,10 +76,10 @@ static void begin_log(struct libusb_context *context)
 }
 
 /* What a program of several configurations may ask for in vain. */
-static void tell_configurations(struct libusb_context *context)
+void tell_configurations(struct libusb_context *context)
 {
     for (int i = 0; i < DEVICES; i++) {
-        const struct device *device = &process.bus.devices[i];
+        const struct device *device = process.bus.devices[i];
         if (device->is_there && device->configurations != 1)
             note(context, LIBUSB_LOG_LEVEL_INFO, "device %d says %u configurations: the one of its text is there", i,
                  device->configurations);
@@ -89,14 +89,19 @@ static void tell_configurations(struct libusb_context *context)
 static int begin(struct libusb_context *context)
 {
     *context = (struct libusb_context){ .is_open = true, .users = 1, .holds = 1, .timer = -1, .poller = -1 };
+    int r = give_devices(context);
+    if (r)
+        return r;
     context->event = eventfd(0, EFD_NONBLOCK | EFD_CLOEXEC);
-    if (context->event < 0)
+    if (context->event < 0) {
+        take_devices(context);
         return LIBUSB_ERROR_OTHER;
+    }
+    learn_hub();
+    context->hub = (struct libusb_device){ .context = context, .device = &process.hub, .references = 1 };
     begin_conditions(context);
     begin_log(context);
     context->is_blind = process.defaults.is_blind;
-    for (int i = 0; i <= HUB; i++)
-        context->devices[i] = (struct libusb_device){ .context = context, .device = &process.bus.devices[i], .references = 1 };
     context->next = process.contexts;
     process.contexts = context;
     return 0;
@@ -150,7 +155,7 @@ static void send_away(struct libusb_context *context)
 
 static void close_handles(struct libusb_context *context)
 {
-    struct libusb_device_handle *handle = process.bus.handles;
+    struct libusb_device_handle *handle = process.handles;
     while (handle) {
         if (handle->context != context) {
             handle = handle->next;
@@ -162,24 +167,34 @@ static void close_handles(struct libusb_context *context)
         unlock();
         libusb_close(handle);
         lock();
-        handle = process.bus.handles;
+        handle = process.handles;
     }
 }
 
-/* Its memory goes with its last hold, and the last reference to one of its devices. */
+/* Its memory goes with its last hold, and the last reference to its root hub. */
 void release_context(struct libusb_context *context)
 {
-    if (context->holds || context == &process.nobody)
+    if (context->holds || context == &process.nobody || __atomic_load_n(&context->hub.references, __ATOMIC_ACQUIRE))
         return;
-    for (int i = 0; i <= HUB; i++)
-        if (__atomic_load_n(&context->devices[i].references, __ATOMIC_ACQUIRE))
-            return;
     end_polling(context);
     close(context->event);
     pthread_cond_destroy(&context->moved);
     pthread_cond_destroy(&context->happened);
     pthread_mutex_destroy(&context->waiters);
     free(context);
+}
+
+/* What it has of devices; the references to them are the program's from then on. */
+static void end_devices(struct libusb_context *context)
+{
+    for (int i = 0; i < DEVICES; i++) {
+        struct libusb_device *it = context->devices[i];
+        context->devices[i] = NULL;
+        if (it && !drop_device(it))
+            note(context, LIBUSB_LOG_LEVEL_WARNING, "device 1.%d is still referenced at libusb_exit", i + 2);
+    }
+    if (!drop_device(&context->hub))
+        note(context, LIBUSB_LOG_LEVEL_WARNING, "device 1.1 is still referenced at libusb_exit");
 }
 
 static void end(struct libusb_context *context)
@@ -190,19 +205,18 @@ static void end(struct libusb_context *context)
     send_away(context);
     leave_list(context);
     end_hotplugs(context);
-    for (int i = 0; i <= HUB; i++)
-        if (__atomic_sub_fetch(&context->devices[i].references, 1, __ATOMIC_ACQ_REL))
-            note(context, LIBUSB_LOG_LEVEL_WARNING, "device 1.%d is still referenced at libusb_exit", i == HUB ? 1 : i + 2);
+    end_devices(context);
     let_go_of(context);
-    bus_end();
+    bus_end_with_last();
 }
 
-/* Where that fails its memory is gone. */
+/* Where that fails its memory is gone, and so is a bus that began for it. */
 static int begin_new(struct libusb_context *context, const struct libusb_init_option options[], int count)
 {
+    bool was_there = process.bus.is_there;
     int r = bus_begin();
-    if (!r && (r = begin(context)))
-        bus_end();
+    if (!r)
+        r = begin(context);
     if (r)
         free(context);
     for (int i = 0; !r && i < count; i++) {
@@ -210,6 +224,8 @@ static int begin_new(struct libusb_context *context, const struct libusb_init_op
         if (r)
             end(context);
     }
+    if (r && !was_there && process.bus.is_there)
+        bus_end();
     return r;
 }
 
@@ -220,8 +236,9 @@ static int init(libusb_context **out, const struct libusb_init_option options[],
     if (out)
         *out = NULL;
     if (!out && process.usual) {
-        process.usual->users++;
-        return 0;
+        int r = bus_begin();
+        process.usual->users += !r;
+        return r;
     }
     pthread_once(&watched, watch_forks);
     struct libusb_context *context = calloc(1, sizeof *context);
@@ -246,7 +263,8 @@ static int init(libusb_context **out, const struct libusb_init_option options[],
 /* libusb 1.0.27's. Where an option is refused there is no context. */
 int libusb_init_context(libusb_context **context, const struct libusb_init_option options[], int count)
 {
-    lock();
+    if (!lock_unless_asked())
+        return LIBUSB_ERROR_BUSY;
     int r = init(context, options, count);
     unlock();
     return r;

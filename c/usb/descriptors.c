@@ -245,12 +245,13 @@ static int read_config(const struct device *device, struct libusb_config_descrip
 
 /* The calls */
 
-bool is_configured(struct device *device)
+int check_configured(const struct device *device, int unset)
 {
-    lock();
-    bool is_one = device->configuration != 0;
+    if (!lock_unless_asked_for("libusb"))
+        return LIBUSB_ERROR_BUSY;
+    int r = device->configuration ? 0 : unset;
     unlock();
-    return is_one;
+    return r;
 }
 
 int libusb_get_config_descriptor(libusb_device *dev, uint8_t config_index, struct libusb_config_descriptor **config)
@@ -262,9 +263,8 @@ int libusb_get_config_descriptor(libusb_device *dev, uint8_t config_index, struc
 
 int libusb_get_active_config_descriptor(libusb_device *dev, struct libusb_config_descriptor **config)
 {
-    if (!is_configured(dev->device))
-        return LIBUSB_ERROR_NOT_FOUND;
-    return read_config(dev->device, config);
+    int r = check_configured(dev->device, LIBUSB_ERROR_NOT_FOUND);
+    return r ? r : read_config(dev->device, config);
 }
 
 int libusb_get_config_descriptor_by_value(libusb_device *dev, uint8_t bConfigurationValue, struct libusb_config_descriptor **config)
@@ -298,8 +298,9 @@ static const uint8_t *find_endpoint(const struct device *device, unsigned char e
 /* Its wMaxPacketSize, and its type in `type`. */
 static int packet_size(libusb_device *dev, unsigned char endpoint, uint8_t *type)
 {
-    if (!has_config(dev->device) || !is_configured(dev->device))
-        return LIBUSB_ERROR_OTHER;
+    int r = has_config(dev->device) ? check_configured(dev->device, LIBUSB_ERROR_OTHER) : LIBUSB_ERROR_OTHER;
+    if (r)
+        return r;
     const uint8_t *found = find_endpoint(dev->device, endpoint);
     if (!found)
         return LIBUSB_ERROR_NOT_FOUND;
@@ -343,8 +344,9 @@ int libusb_get_max_alt_packet_size(libusb_device *dev, int interface_number, int
 {
     struct libusb_config_descriptor *config;
     int size = LIBUSB_ERROR_NOT_FOUND;
-    if (libusb_get_active_config_descriptor(dev, &config) < 0)
-        return LIBUSB_ERROR_OTHER;
+    int r = libusb_get_active_config_descriptor(dev, &config);
+    if (r < 0)
+        return r == LIBUSB_ERROR_BUSY ? r : LIBUSB_ERROR_OTHER;
     const struct libusb_interface_descriptor *setting = setting_at(config, interface_number, alternate_setting);
     for (int i = 0; setting && i < setting->bNumEndpoints; i++) {
         const struct libusb_endpoint_descriptor *it = &setting->endpoint[i];

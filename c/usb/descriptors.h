@@ -6,7 +6,7 @@
 
 /* Whether the bytes begin with a whole configuration descriptor. */
 bool has_config(const struct device *device);
-/* Whether a configuration is set. It takes the lock. */
-bool is_configured(struct device *device);
+/* 0 where a configuration is set; else `unset`. It takes the lock: LIBUSB_ERROR_BUSY in a device's function. */
+int check_configured(const struct device *device, int unset);
 
 #endif

@@ -20,11 +20,59 @@ static ssize_t list_devices(struct libusb_context *context, libusb_device **all)
     ssize_t count = 0;
     if (!context->is_open || context->is_blind)
         return 0;
-    all[count++] = libusb_ref_device(&context->devices[HUB]);
+    all[count++] = libusb_ref_device(&context->hub);
     for (int i = 0; i < DEVICES; i++)
-        if (is_present(&process.bus.devices[i]))
-            all[count++] = libusb_ref_device(&context->devices[i]);
+        if (context->devices[i] && is_present(context->devices[i]->device))
+            all[count++] = libusb_ref_device(context->devices[i]);
     return count;
+}
+
+/* A context has the devices of the bus that is there. Where memory is refused it has none: LIBUSB_ERROR_NO_MEM. */
+int give_devices(struct libusb_context *context)
+{
+    for (int i = 0; process.bus.is_there && i < DEVICES; i++) {
+        struct device *device = process.bus.devices[i];
+        if (!device->is_there)
+            continue;
+        struct libusb_device *it = malloc(sizeof *it);
+        if (!it) {
+            take_devices(context);
+            return LIBUSB_ERROR_NO_MEM;
+        }
+        *it = (struct libusb_device){ .context = context, .device = device, .references = 1 };
+        device->holds++;
+        context->holds++;
+        context->devices[i] = it;
+    }
+    return 0;
+}
+
+/* Its bus ends, or it does: those that are referenced stay. */
+void take_devices(struct libusb_context *context)
+{
+    for (int i = 0; i < DEVICES; i++) {
+        struct libusb_device *it = context->devices[i];
+        context->devices[i] = NULL;
+        if (it)
+            drop_device(it);
+    }
+}
+
+/* One reference less, with the lock, since a context that has ended goes with the last of all references to its devices: of two threads that
+ * drop one each, only the second may free it. Whether it was the last. */
+bool drop_device(struct libusb_device *device)
+{
+    struct libusb_context *context = device->context;
+    if (__atomic_sub_fetch(&device->references, 1, __ATOMIC_ACQ_REL))
+        return false;
+    if (device == &context->hub) {
+        release_context(context);
+        return true;
+    }
+    let_go_of_device(device->device);
+    free(device);
+    let_go_of(context);
+    return true;
 }
 
 ssize_t libusb_get_device_list(libusb_context *context, libusb_device ***list)
@@ -32,7 +80,10 @@ ssize_t libusb_get_device_list(libusb_context *context, libusb_device ***list)
     libusb_device **all = calloc(DEVICES + 2, sizeof *all);
     if (!all)
         return LIBUSB_ERROR_NO_MEM;
-    lock();
+    if (!lock_unless_asked()) {
+        free(all);
+        return LIBUSB_ERROR_BUSY;
+    }
     struct libusb_context *x = context_of(context);
     ssize_t count = list_devices(x, all);
     if (is_told(x, 0))
@@ -55,15 +106,12 @@ libusb_device *libusb_ref_device(libusb_device *device)
     return device;
 }
 
-/* With the lock, since a context that has ended goes with the last of all references to its devices: of two threads that drop one each,
- * only the second may free it. */
 void libusb_unref_device(libusb_device *device)
 {
     if (!device)
         return;
     lock();
-    if (!__atomic_sub_fetch(&device->references, 1, __ATOMIC_ACQ_REL))
-        release_context(device->context);
+    drop_device(device);
     unlock();
 }
 
@@ -96,7 +144,7 @@ int libusb_get_port_path(libusb_context *context, libusb_device *device, uint8_t
 
 libusb_device *libusb_get_parent(libusb_device *device)
 {
-    return is_hub(device) ? NULL : &device->context->devices[HUB];
+    return is_hub(device) ? NULL : &device->context->hub;
 }
 
 uint8_t libusb_get_device_address(libusb_device *device)

@@ -64,8 +64,8 @@ static void tell_missing(void *to, const struct device *device, const struct sen
 static void each_missing_of_all(missing_fn *say, void *to)
 {
     for (int i = 0; i < DEVICES; i++)
-        if (process.bus.devices[i].is_there && !process.bus.devices[i].is_hidden)
-            each_missing(&process.bus.devices[i], say, to);
+        if (process.bus.devices[i]->is_there && !process.bus.devices[i]->is_hidden)
+            each_missing(process.bus.devices[i], say, to);
 }
 
 /* What differed so far, of which the first is told, and what hasn't come: without an end. */

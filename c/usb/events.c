@@ -72,8 +72,10 @@ static void call_back(struct libusb_context *context, struct transfer *transfer)
     if (is_told(context, 0))
         note_call(context, it->actual_length, "callback", "endpoint %02x, status %d, bytes", it->endpoint, (int)it->status);
     unlock();
+    callbacks_within++;
     if (it->callback)
         it->callback(it);
+    callbacks_within--;
     if (flags & LIBUSB_TRANSFER_FREE_TRANSFER)
         libusb_free_transfer(it);
     lock_again();
@@ -234,7 +236,8 @@ int libusb_handle_events_timeout_completed(libusb_context *context, struct timev
 {
     if (!is_wait(wait))
         return LIBUSB_ERROR_INVALID_PARAM;
-    lock();
+    if (!lock_unless_asked())
+        return LIBUSB_ERROR_BUSY;
     struct libusb_context *x = context_of(context);
     if (is_told(x, 0))
         note_call(x, 0, "libusb_handle_events", "at most %ld s %ld us", (long)wait->tv_sec, (long)wait->tv_usec);
@@ -263,7 +266,8 @@ int libusb_handle_events_locked(libusb_context *context, struct timeval *wait)
 {
     if (!is_wait(wait))
         return LIBUSB_ERROR_INVALID_PARAM;
-    lock();
+    if (!lock_unless_asked())
+        return LIBUSB_ERROR_BUSY;
     struct libusb_context *x = context_of(context);
     int r = !x->is_open ? LIBUSB_ERROR_OTHER : LIBUSB_ERROR_BUSY;
     if (x->is_open && !(x->is_calling && is_handler(x)))

@@ -14,8 +14,8 @@ static int open_device(struct libusb_device *device, struct libusb_device_handle
     handle->number = ++process.bus.handle_count;
     handle->of = libusb_ref_device(device);
     handle->device = device->device;
-    handle->next = process.bus.handles;
-    process.bus.handles = handle;
+    handle->next = process.handles;
+    process.handles = handle;
     return 0;
 }
 
@@ -24,7 +24,10 @@ int libusb_open(libusb_device *device, libusb_device_handle **out)
     struct libusb_device_handle *handle = calloc(1, sizeof *handle);
     if (!handle)
         return LIBUSB_ERROR_NO_MEM;
-    lock();
+    if (!lock_unless_asked()) {
+        free(handle);
+        return LIBUSB_ERROR_BUSY;
+    }
     shake();
     int r = open_device(device, handle);
     if (is_told(device->context, r))
@@ -73,7 +76,7 @@ libusb_device *libusb_get_device(libusb_device_handle *handle)
 
 static void leave_handles(struct libusb_device_handle *handle)
 {
-    struct libusb_device_handle **at = &process.bus.handles;
+    struct libusb_device_handle **at = &process.handles;
     while (*at && *at != handle)
         at = &(*at)->next;
     if (*at)
@@ -121,7 +124,8 @@ void libusb_close(libusb_device_handle *handle)
 
 int libusb_get_configuration(libusb_device_handle *handle, int *value)
 {
-    lock();
+    if (!lock_unless_asked())
+        return LIBUSB_ERROR_BUSY;
     int r = is_lost(handle) ? LIBUSB_ERROR_NO_DEVICE : 0;
     if (!r)
         *value = handle->device->configuration;
@@ -148,7 +152,8 @@ int libusb_set_configuration(libusb_device_handle *handle, int value)
 {
     if (value < -1 || value > UINT8_MAX)
         return LIBUSB_ERROR_INVALID_PARAM;
-    lock();
+    if (!lock_unless_asked())
+        return LIBUSB_ERROR_BUSY;
     int r = set_configuration(handle, value);
     if (is_told(handle->context, r))
         note_call(handle->context, r, __func__, "handle %u, value %d", handle->number, value);
@@ -180,7 +185,8 @@ static int clear_halt(struct libusb_device_handle *handle, uint8_t ep)
 
 int libusb_clear_halt(libusb_device_handle *handle, unsigned char ep)
 {
-    lock();
+    if (!lock_unless_asked())
+        return LIBUSB_ERROR_BUSY;
     shake();
     int r = clear_halt(handle, ep);
     if (is_told(handle->context, r))
@@ -218,7 +224,8 @@ static int reset(struct libusb_device_handle *handle)
 
 int libusb_reset_device(libusb_device_handle *handle)
 {
-    lock();
+    if (!lock_unless_asked())
+        return LIBUSB_ERROR_BUSY;
     shake();
     int r = reset(handle);
     note_handle(handle, r, __func__);

@@ -41,8 +41,10 @@ static void finish(struct hotplug *it)
 static void call(struct libusb_context *context, struct hotplug *it, struct libusb_device *device, libusb_hotplug_event event)
 {
     unlock();
+    callbacks_within++;
     int is_over = it->call(context, device, event, it->user);
-    lock();
+    callbacks_within--;
+    lock_again();
     if (is_over)
         finish(it);
 }
@@ -55,30 +57,35 @@ static struct notice *new_notice(struct libusb_context *context, int device, lib
     if (is_further)
         it = malloc(sizeof *it);
     if (it)
-        *it = (struct notice){ .device = &context->devices[device], .event = event, .is_waiting = true, .is_further = is_further };
+        *it = (struct notice){ .device = libusb_ref_device(context->devices[device]), .event = event, .is_waiting = true,
+                               .is_further = is_further };
     return it;
 }
 
-/* Every context is told when it handles events next. */
-void tell_all(struct device *device, libusb_hotplug_event event)
+/* A context is told when it handles events next. */
+void add_notice(struct libusb_context *context, int device, libusb_hotplug_event event)
 {
-    for (struct libusb_context *context = process.contexts; context; context = context->next) {
-        struct notice **at = &context->notices;
-        if (context->is_blind)
-            continue;
-        wake(context);
-        struct notice *it = new_notice(context, device->number, event);
-        if (!it) {
-            note(context, LIBUSB_LOG_LEVEL_ERROR, "device %d came or left, and there is no memory to tell it", device->number);
-            continue;
-        }
-        while (*at)
-            at = &(*at)->next;
-        *at = it;
+    struct notice **at = &context->notices;
+    if (context->is_blind)
+        return;
+    wake(context);
+    struct notice *it = new_notice(context, device, event);
+    if (!it) {
+        note(context, LIBUSB_LOG_LEVEL_ERROR, "device %d came or left, and there is no memory to tell it", device);
+        return;
     }
+    while (*at)
+        at = &(*at)->next;
+    *at = it;
 }
 
-/* The first notice leaves the list. */
+void tell_all(struct device *device, libusb_hotplug_event event)
+{
+    for (struct libusb_context *context = process.contexts; context; context = context->next)
+        add_notice(context, device->number, event);
+}
+
+/* The first notice leaves the list, with its reference. */
 static struct notice take_notice(struct libusb_context *context)
 {
     struct notice *it = context->notices, taken = *it;
@@ -87,6 +94,13 @@ static struct notice take_notice(struct libusb_context *context)
     if (taken.is_further)
         free(it);
     return taken;
+}
+
+/* Nobody is told of them. */
+void forget_notices(struct libusb_context *context)
+{
+    while (context->notices)
+        drop_device(take_notice(context).device);
 }
 
 static bool call_for(struct libusb_context *context, const struct notice *notice)
@@ -114,6 +128,7 @@ bool call_hotplugs(struct libusb_context *context)
     while (context->notices) {
         struct notice notice = take_notice(context);
         any |= call_for(context, &notice);
+        drop_device(notice.device);
     }
     context->is_calling = false;
     if (context->waiting)
@@ -121,15 +136,21 @@ bool call_hotplugs(struct libusb_context *context)
     return any;
 }
 
-/* By whoever registers it: beside this other threads handle events, and the context stays. */
+/* By whoever registers it: beside this other threads handle events, and the context stays. A bus that begins meanwhile is told where events
+ * are handled. */
 static void enumerate(struct libusb_context *context, struct hotplug *it)
 {
+    unsigned turn = process.bus.turn;
     context->holds++;
     it->holds++;
-    for (int i = 0; i <= DEVICES; i++) {
-        struct libusb_device *device = &context->devices[i < 1 ? HUB : i - 1];
-        if (is_present(device->device) && !context->is_blind && is_asked_for(it, device->device, LIBUSB_HOTPLUG_EVENT_DEVICE_ARRIVED))
-            call(context, it, device, LIBUSB_HOTPLUG_EVENT_DEVICE_ARRIVED);
+    for (int i = 0; i <= DEVICES && process.bus.turn == turn; i++) {
+        struct libusb_device *device = i < 1 ? &context->hub : context->devices[i - 1];
+        if (!device || context->is_blind || !is_present(device->device) ||
+            !is_asked_for(it, device->device, LIBUSB_HOTPLUG_EVENT_DEVICE_ARRIVED))
+            continue;
+        libusb_ref_device(device);
+        call(context, it, device, LIBUSB_HOTPLUG_EVENT_DEVICE_ARRIVED);
+        drop_device(device);
     }
     let_go(it);
     let_go_of(context);
@@ -140,8 +161,7 @@ void end_hotplugs(struct libusb_context *context)
 {
     struct hotplug *it = context->hotplugs;
     context->hotplugs = NULL;
-    while (context->notices)
-        take_notice(context);
+    forget_notices(context);
     while (it) {
         struct hotplug *next = it->next;
         it->context = NULL;
@@ -166,7 +186,10 @@ int libusb_hotplug_register_callback(libusb_context *context, int events, int fl
     struct hotplug *it = malloc(sizeof *it);
     if (!it)
         return LIBUSB_ERROR_NO_MEM;
-    lock();
+    if (!lock_unless_asked()) {
+        free(it);
+        return LIBUSB_ERROR_BUSY;
+    }
     struct libusb_context *x = context_of(context);
     if (!x->is_open) {
         unlock();

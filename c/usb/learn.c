@@ -4,6 +4,7 @@
 #include <stdlib.h>
 #include <string.h>
 
+/* Its bus ends: it is gone, and what it was by its descriptors is left of it, as long as somebody holds it. */
 void forget(struct device *device)
 {
     for (unsigned i = 0; i < ENDPOINTS; i++)
@@ -11,10 +12,25 @@ void forget(struct device *device)
     forget_expected(device);
     end_own_core(device);
     free_program(device->program);
-    free(device->config);
     free(device->requests);
     free(device->text);
-    memset(device, 0, sizeof *device);
+    memset(device->pipes, 0, sizeof device->pipes);
+    device->core = NULL;
+    device->program = NULL;
+    device->requests = NULL;
+    device->text = NULL;
+    device->request_count = device->text_length = 0;
+    device->is_gone = true;
+    let_go_of_device(device);
+}
+
+/* A hold of it is given back: the last one ends its memory. */
+void let_go_of_device(struct device *device)
+{
+    if (--device->holds)
+        return;
+    free(device->config);
+    free(device);
 }
 
 bool is_present(const struct device *device)

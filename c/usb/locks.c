@@ -50,14 +50,6 @@ int libusb_event_handler_active(libusb_context *context)
     return r;
 }
 
-static struct libusb_context *opened(libusb_context *context)
-{
-    lock();
-    struct libusb_context *x = context_of(context);
-    unlock();
-    return x;
-}
-
 void libusb_lock_event_waiters(libusb_context *context)
 {
     lock();
@@ -69,14 +61,19 @@ void libusb_lock_event_waiters(libusb_context *context)
 
 void libusb_unlock_event_waiters(libusb_context *context)
 {
-    struct libusb_context *x = opened(context);
+    lock();
+    struct libusb_context *x = context_of(context);
+    unlock();
     pthread_mutex_unlock(&x->waiters);
     __atomic_sub_fetch(&x->lockers, 1, __ATOMIC_SEQ_CST);
 }
 
 int libusb_wait_for_event(libusb_context *context, struct timeval *wait)
 {
-    struct libusb_context *x = opened(context);
+    if (!lock_unless_asked())
+        return LIBUSB_ERROR_BUSY;
+    struct libusb_context *x = context_of(context);
+    unlock();
     if (!wait) {
         pthread_cond_wait(&x->happened, &x->waiters);
         return 0;

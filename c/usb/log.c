@@ -52,12 +52,12 @@ void note_call(struct libusb_context *context, int answer, const char *function,
     give_out(context, level, line, sizeof line);
 }
 
-/* What warnings say of a device needs its answers counted, from now on. */
+/* What warnings say of a device needs its answers counted, from now on. A bus that begins looks at the levels of its contexts. */
 void watch_for(int level)
 {
-    if (level < LIBUSB_LOG_LEVEL_WARNING || process.bus.is_watched)
+    if (level < LIBUSB_LOG_LEVEL_WARNING || process.bus.is_watched || !process.bus.is_there)
         return;
     process.bus.is_watched = true;
     for (int i = 0; i < DEVICES; i++)
-        watch(&process.bus.devices[i]);
+        watch(process.bus.devices[i]);
 }

@@ -72,7 +72,8 @@ int libusb_set_option(libusb_context *context, enum libusb_option option, ...)
     if (option == LIBUSB_OPTION_LOG_CB)
         callback = va_arg(rest, libusb_log_cb);
     va_end(rest);
-    lock();
+    if (!lock_unless_asked())
+        return LIBUSB_ERROR_BUSY;
     int r = set_option(context, option, level, callback);
     unlock();
     return r;

@@ -352,10 +352,10 @@ void stop_programs(void)
 {
     uint64_t until = clock_now() + FAREWELL * (uint64_t)MILLISECOND;
     for (int i = 0; i < DEVICES; i++)
-        if (process.bus.devices[i].program)
-            hang_up(process.bus.devices[i].program);
+        if (process.bus.devices[i]->program)
+            hang_up(process.bus.devices[i]->program);
     for (int i = 0; i < DEVICES; i++) {
-        struct program *it = process.bus.devices[i].program;
+        struct program *it = process.bus.devices[i]->program;
         if (!it || !it->process)
             continue;
         while (!is_over(it) && clock_now() < until)
@@ -367,8 +367,8 @@ void stop_programs(void)
 /* In a child of fork: the programs answer the parent alone. */
 void leave_programs(void)
 {
-    for (int i = 0; i < DEVICES; i++) {
-        struct program *it = process.bus.devices[i].program;
+    for (int i = 0; process.bus.is_there && i < DEVICES; i++) {
+        struct program *it = process.bus.devices[i]->program;
         if (!it)
             continue;
         hang_up(it);

@@ -67,7 +67,8 @@ static inline void tell_waiters(struct libusb_context *context)
  * goes on until something is called back. */
 static inline void work_off(bool waits)
 {
-    if (!turn_only_one() || work_on(waits))
+    process.bus.is_readied = false;
+    if ((!turn_only_one() || work_on(waits)) && (!process.bus.is_readied || work_again(waits)))
         process.bus.settled = process.bus.stirs;
     else
         process.bus.stirs++;

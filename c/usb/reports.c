@@ -1,4 +1,5 @@
-/* What a test asks of a run amid it: what isn't finished and why, what differs from what is expected, what went wrong, and the clock. */
+/* What a test asks of a run amid it: what isn't finished and why, what differs from what is expected, what went wrong, the trace, and the
+ * clock. */
 #include "bus.h"
 
 #include <stdio.h>
@@ -28,6 +29,18 @@ static void put_difference(void *to, const struct device *device, const struct s
     put_line(to, it->text);
 }
 
+static void put_text(void *to, const char *text, size_t length)
+{
+    struct page *page = to;
+    size_t room = page->length < page->room ? page->room - page->length : 0;
+    if (room) {
+        size_t count = length < room ? length : room - 1;
+        memcpy(page->text + page->length, text, count);
+        page->text[page->length + count] = 0;
+    }
+    page->length += length;
+}
+
 static struct page begin_page(char *text, size_t room)
 {
     if (room)
@@ -38,45 +51,55 @@ static struct page begin_page(char *text, size_t room)
 size_t tirnouch_left(char *text, size_t room)
 {
     struct page page = begin_page(text, room);
-    lock();
+    bool is_locked = lock_to_read();
     each_left_of_all(put_left, &page);
-    unlock();
+    unlock_read(is_locked);
     return page.length;
 }
 
 size_t tirnouch_report(char *text, size_t room)
 {
     struct page page = begin_page(text, room);
-    lock();
+    bool is_locked = lock_to_read();
     if (process.bus.is_judged)
         each_difference(put_difference, &page);
-    unlock();
+    unlock_read(is_locked);
     return page.length;
 }
 
 size_t tirnouch_error(char *text, size_t room)
 {
     struct page page = begin_page(text, room);
-    lock();
+    bool is_locked = lock_to_read();
     if (*process.failure)
         put_line(&page, process.failure);
-    unlock();
+    unlock_read(is_locked);
+    return page.length;
+}
+
+size_t tirnouch_trace(char *text, size_t room)
+{
+    struct page page = begin_page(text, room);
+    bool is_locked = lock_to_read();
+    each_kept(put_text, &page);
+    unlock_read(is_locked);
     return page.length;
 }
 
 uint64_t tirnouch_now(void)
 {
-    lock();
-    uint64_t passed = process.bus.users ? now() - process.bus.begun : 0;
-    unlock();
+    bool is_locked = lock_to_read();
+    uint64_t passed = process.bus.is_there ? now() - process.bus.begun : 0;
+    unlock_read(is_locked);
     return passed / MILLISECOND;
 }
 
 /* Whoever sleeps looks again: something may be due. */
 int tirnouch_advance(unsigned milliseconds)
 {
-    lock();
-    bool passes = process.bus.users && process.bus.is_virtual;
+    if (!lock_unless_asked())
+        return LIBUSB_ERROR_BUSY;
+    bool passes = process.bus.is_there && process.bus.is_virtual;
     if (passes) {
         process.bus.moment += (uint64_t)milliseconds * MILLISECOND;
         process.bus.stirs++;

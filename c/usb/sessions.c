@@ -268,7 +268,7 @@ static void end_flight(struct device *device)
 /* Handles of before hold nothing, and are answered NO_DEVICE. */
 static void lose_handles(const struct device *device)
 {
-    for (struct libusb_device_handle *it = process.bus.handles; it; it = it->next) {
+    for (struct libusb_device_handle *it = process.handles; it; it = it->next) {
         if (it->device != device)
             continue;
         it->is_lost = it->is_shut = true;
@@ -322,7 +322,7 @@ static int begin_anew(struct device *device)
 int plug_in(struct device *device)
 {
     bool returns = device->is_gone && device->successor >= 0;
-    struct device *it = returns ? &process.bus.devices[device->successor] : device;
+    struct device *it = returns ? process.bus.devices[device->successor] : device;
     int r = is_present(it) ? LIBUSB_ERROR_NOT_FOUND : it->is_gone ? begin_anew(it) : 0;
     if (r)
         return r;

@@ -10,10 +10,11 @@ static void complete(struct libusb_transfer *transfer)
     __atomic_store_n((int *)transfer->user_data, 1, __ATOMIC_RELEASE);
 }
 
-/* A callback may not wait for another; `function` is what it calls. */
-static bool is_in_callback(struct libusb_context *context, const char *function)
+/* A callback may not wait for another, nor may a device's function; `function` is what it calls. */
+static bool may_not_wait(struct libusb_context *context, const char *function)
 {
-    lock_for(function);
+    if (!lock_unless_asked_for(function))
+        return true;
     bool r = is_handler(context) && context->is_calling;
     unlock();
     return r;
@@ -77,7 +78,7 @@ int libusb_control_transfer(libusb_device_handle *handle, uint8_t type, uint8_t 
 {
     struct libusb_context *context = handle->context;
     int completed = 0;
-    if (is_in_callback(context, __func__))
+    if (may_not_wait(context, __func__))
         return LIBUSB_ERROR_BUSY;
     struct libusb_transfer *transfer = libusb_alloc_transfer(0);
     unsigned char *buffer = malloc(LIBUSB_CONTROL_SETUP_SIZE + length);
@@ -106,7 +107,7 @@ static int move(libusb_device_handle *handle, uint8_t ep, uint8_t type, unsigned
 {
     struct libusb_context *context = handle->context;
     int completed = 0;
-    if (is_in_callback(context, function))
+    if (may_not_wait(context, function))
         return LIBUSB_ERROR_BUSY;
     struct libusb_transfer *transfer = libusb_alloc_transfer(0);
     if (!transfer)

@@ -13,8 +13,11 @@ int tirnouch_plug(const char *text, size_t length)
     if (!copy)
         return LIBUSB_ERROR_NO_MEM;
     memcpy(copy, text, length);
-    lock();
-    bool is_used = process.bus.users;
+    if (!lock_unless_asked()) {
+        free(copy);
+        return LIBUSB_ERROR_BUSY;
+    }
+    bool is_used = process.bus.is_there;
     if (!is_used) {
         free(process.text);
         process.text = copy;
@@ -29,15 +32,16 @@ int tirnouch_plug(const char *text, size_t length)
 
 static struct device *device_of(int number)
 {
-    bool is_one = process.bus.users && number >= 0 && number < DEVICES && process.bus.devices[number].is_there;
-    return is_one ? &process.bus.devices[number] : NULL;
+    bool is_one = process.bus.is_there && number >= 0 && number < DEVICES && process.bus.devices[number]->is_there;
+    return is_one ? process.bus.devices[number] : NULL;
 }
 
 int tirnouch_on_control(int number, tirnouch_control answer, void *user)
 {
     if (number < 0 || number >= DEVICES)
         return LIBUSB_ERROR_NOT_FOUND;
-    lock();
+    if (!lock_unless_asked())
+        return LIBUSB_ERROR_BUSY;
     process.controls[number].answer = answer;
     process.controls[number].user = user;
     unlock();
@@ -49,7 +53,8 @@ int tirnouch_on_packet(int number, uint8_t ep, tirnouch_packet answer, void *use
 {
     if (number < 0 || number >= DEVICES || !(ep & 15) || ep & 0x70)
         return LIBUSB_ERROR_NOT_FOUND;
-    lock();
+    if (!lock_unless_asked())
+        return LIBUSB_ERROR_BUSY;
     struct device *device = device_of(number);
     int r = device && answer ? come_alive(device) : 0;
     if (!r) {
@@ -68,26 +73,30 @@ int tirnouch_on_event(int number, tirnouch_listener listener, void *user)
 {
     if (number < 0 || number >= DEVICES)
         return LIBUSB_ERROR_NOT_FOUND;
-    lock();
+    if (!lock_unless_asked())
+        return LIBUSB_ERROR_BUSY;
     process.listeners[number].tell = listener;
     process.listeners[number].user = user;
     unlock();
     return 0;
 }
 
+/* Within a device's function too: then whoever asks it looks once more at all devices. */
 int tirnouch_ready(int number)
 {
-    lock();
+    bool is_locked = lock_to_read();
     struct device *device = device_of(number);
     if (device)
         ask_at_once(device);
-    unlock();
+    process.bus.is_readied |= device && !is_locked;
+    unlock_read(is_locked);
     return device ? 0 : LIBUSB_ERROR_NOT_FOUND;
 }
 
 int tirnouch_pull(int number)
 {
-    lock();
+    if (!lock_unless_asked())
+        return LIBUSB_ERROR_BUSY;
     struct device *device = device_of(number);
     int r = device && !device->is_hidden ? pull_out(device) : LIBUSB_ERROR_NOT_FOUND;
     unlock();
@@ -96,7 +105,8 @@ int tirnouch_pull(int number)
 
 int tirnouch_show(int number)
 {
-    lock();
+    if (!lock_unless_asked())
+        return LIBUSB_ERROR_BUSY;
     struct device *device = device_of(number);
     int r = device && !is_present(device) ? plug_in(device) : LIBUSB_ERROR_NOT_FOUND;
     unlock();
@@ -106,7 +116,8 @@ int tirnouch_show(int number)
 /* A scripted one has a core of its own from then on: the one that is shared plugs none in again. */
 int tirnouch_replug(int number)
 {
-    lock();
+    if (!lock_unless_asked())
+        return LIBUSB_ERROR_BUSY;
     struct device *device = device_of(number);
     int r = device ? 0 : LIBUSB_ERROR_NOT_FOUND;
     if (!r && is_present(device)) {
@@ -124,23 +135,23 @@ int tirnouch_replug(int number)
 int tirnouch_took(int number, uint8_t ep, size_t index, uint8_t *data, size_t room)
 {
     uint8_t none[1];
-    lock();
+    bool is_locked = lock_to_read();
     const struct device *device = device_of(number);
     uint64_t before = device ? device->pipes[place_of(ep)].took : 0;
     int r = -1;
     if (device && index >= before)
         r = tirnouch_taken(&device->core->slot, device->number_there, ep, index - (size_t)before, room ? data : none, room);
-    unlock();
+    unlock_read(is_locked);
     return r >= 0 ? r : index < before ? NOT_KEPT : -1;
 }
 
 int tirnouch_requests(int number, size_t index, uint8_t out[64])
 {
-    lock();
+    bool is_locked = lock_to_read();
     const struct device *device = device_of(number);
     int count = device ? (int)device->request_count : 0;
     if (device && out && device->requests && index < device->request_count && index < MOST_REQUESTS)
         memcpy(out, device->requests[index], 64);
-    unlock();
+    unlock_read(is_locked);
     return count;
 }

@@ -4,7 +4,7 @@
  * trace that can't be written any more ends with a sentence on standard error, and the run goes on.
  *
  * Each session of a core has a file. The second bus of a process has names that end in .2, and so on; a device's own core has one that ends
- * in .d and the device's number, and its second session .2 behind that. */
+ * in .d and the device's number, and its second session .2 behind that. The same is kept in memory, where that is asked for (kept.c). */
 #include "bus.h"
 
 #include <errno.h>
@@ -22,10 +22,17 @@ static struct {
     char text[8192];
 } out;
 
+static void close_file(struct core *core)
+{
+    if (core->trace >= 0)
+        close(core->trace);
+    core->trace = -1;
+}
+
 static void give_up(void)
 {
     tell_failure("TIRNOUCH_TRACE: the trace can't be written on: %s", strerror(errno));
-    trace_end(out.core);
+    close_file(out.core);
 }
 
 /* What follows is of this core. */
@@ -36,6 +43,8 @@ void trace_to(struct core *core)
 
 void trace_out(void)
 {
+    if (out.core->kept)
+        keep_text(out.core->kept, out.text, out.length);
     for (size_t done = 0; out.core->trace >= 0 && done < out.length;) {
         ssize_t count = write(out.core->trace, out.text + done, out.length - done);
         if (count < 0 && errno != EINTR)
@@ -122,41 +131,43 @@ void trace_devices(struct core *core, const char *text, size_t length)
     trace_out();
 }
 
-static bool open_file(struct core *core, const char *name)
+static bool open_file(struct core *core, const char *ending)
 {
-    core->trace = open(name, O_WRONLY | O_CREAT | O_TRUNC | O_CLOEXEC, 0666);
-    if (core->trace < 0)
-        return false;
-    trace_comment(core, "What the core did. \"usbtrace run\" does it once more.");
-    return true;
-}
-
-/* The file of a session that begins: of a device's own core, or of the one that is shared, where that is NULL. False where no such file can
- * be written, which is told. */
-bool trace_begin(struct core *core, const struct device *device)
-{
-    char numbered[4096], bus[16] = "", own[16] = "", session[16] = "";
-    core->trace = -1;
-    if (!process.bus.is_traced)
-        return true;
+    char numbered[4096], bus[16] = "";
     if (process.bus.trace_number > 1)
         snprintf(bus, sizeof bus, ".%u", process.bus.trace_number);
+    snprintf(numbered, sizeof numbered, "%s%s%s", process.bus.trace, bus, ending);
+    core->trace = open(numbered, O_WRONLY | O_CREAT | O_TRUNC | O_CLOEXEC, 0666);
+    if (core->trace < 0)
+        tell_failure("TIRNOUCH_TRACE: %s can't be written", numbered);
+    return core->trace >= 0;
+}
+
+/* The file of a session that begins, and what is kept of it: of a device's own core, or of the one that is shared, where that is NULL. False
+ * where no such file can be written, which is told. */
+bool trace_begin(struct core *core, const struct device *device)
+{
+    char own[16] = "", session[16] = "", ending[32];
+    core->trace = -1;
+    core->kept = NULL;
+    if (!process.bus.is_traced)
+        return true;
     if (device)
         snprintf(own, sizeof own, ".d%d", device->number);
     if (core->sessions)
         snprintf(session, sizeof session, ".%u", core->sessions + 1);
-    snprintf(numbered, sizeof numbered, "%s%s%s%s", process.bus.trace, bus, own, session);
-    if (open_file(core, numbered))
-        return true;
-    tell_failure("TIRNOUCH_TRACE: %s can't be written", numbered);
-    return false;
+    snprintf(ending, sizeof ending, "%s%s", own, session);
+    if (process.bus.keeps_trace)
+        core->kept = keep_trace(ending);
+    bool is_written = !process.bus.trace || open_file(core, ending);
+    trace_comment(core, "What the core did. \"usbtrace run\" does it once more.");
+    return is_written;
 }
 
 void trace_end(struct core *core)
 {
-    if (core->trace >= 0)
-        close(core->trace);
-    core->trace = -1;
+    close_file(core);
+    core->kept = NULL;
     out.length = 0;
 }
 
@@ -164,8 +175,11 @@ void trace_end(struct core *core)
 void trace_forget(void)
 {
     process.bus.core.trace = -1;
-    for (struct core *core = process.bus.own; core; core = core->next)
+    process.bus.core.kept = NULL;
+    for (struct core *core = process.bus.own; core; core = core->next) {
         core->trace = -1;
+        core->kept = NULL;
+    }
     out.length = 0;
     process.bus.is_traced = false;
 }

@@ -44,11 +44,13 @@ static void put_on(struct transfer *transfer)
 void end_transfer(struct transfer *transfer, enum libusb_transfer_status status, int moved)
 {
     struct libusb_context *context = transfer->context;
-    take_off(transfer);
+    bool stays = process.bus.is_ending && !transfer->is_dropped;
     if (transfer->pipe)
         count_withdrawn(transfer->pipe, status, moved);
     if (transfer->pipe && transfer->pipe->cut == transfer)
         transfer->pipe->cut = NULL;
+    if (!stays)
+        take_off(transfer);
     if (transfer->is_dropped) {
         transfer->stage = AT_REST;
         if (transfer->is_freed)
@@ -58,6 +60,8 @@ void end_transfer(struct transfer *transfer, enum libusb_transfer_status status,
     transfer->stage = ENDED;
     seen(transfer)->status = status;
     seen(transfer)->actual_length = moved;
+    if (stays)
+        return;
     join(&context->ended, transfer);
     wake(context);
 }
@@ -214,7 +218,8 @@ static void note_submission(const struct libusb_transfer *it, int answer)
 /* One whose handle was closed has none any more. */
 int libusb_submit_transfer(struct libusb_transfer *transfer)
 {
-    lock();
+    if (!lock_unless_asked())
+        return LIBUSB_ERROR_BUSY;
     shake();
     const struct libusb_device_handle *handle = transfer->dev_handle;
     int r = handle ? submit(kept(transfer)) : LIBUSB_ERROR_NO_DEVICE;
@@ -228,7 +233,8 @@ int libusb_submit_transfer(struct libusb_transfer *transfer)
 int libusb_cancel_transfer(struct libusb_transfer *transfer)
 {
     struct transfer *it = kept(transfer);
-    lock();
+    if (!lock_unless_asked())
+        return LIBUSB_ERROR_BUSY;
     shake();
     struct libusb_context *context = it->stage == AT_REST ? NULL : it->context;
     if (context && it->stage != ENDED && !it->ask)

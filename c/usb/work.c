@@ -123,6 +123,24 @@ static bool work_once(void)
     return any;
 }
 
+/* A device's function said meanwhile that some device is ready: all are asked once more, but not for ever. */
+bool work_again(bool waits)
+{
+    bool is_done = true;
+    for (int i = 0; i < DEVICES && is_done && process.bus.is_readied; i++) {
+        process.bus.is_readied = false;
+        is_done = work_on(waits);
+    }
+    return is_done;
+}
+
+/* All, also with a seed: what ends needs no dice. */
+void work_to_end(void)
+{
+    while (work_once()) {
+    }
+}
+
 /* Whether all is done; false where dice end it before. */
 bool work_on(bool waits)
 {

@@ -198,7 +198,6 @@ static void bus_of_a_test(void)
     answer("plug", tirnouch_plug("", 0));
     open_on_bus();
     read_one(handle);
-    answer("end with a context", tirnouch_end());
     close_on_bus();
     say("another context: the device goes on");
     open_on_bus();
