@@ -171,6 +171,7 @@ static int begin_trace(const struct beginning *so)
 static void clear_bus(void)
 {
     uint64_t stirs = process.bus.stirs + 1;
+    end_limit_of_bus();
     stop_programs();
     for (int i = 0; i < DEVICES; i++)
         forget(process.bus.devices[i]);

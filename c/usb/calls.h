@@ -68,6 +68,9 @@ void each_left_of_all(left_fn *say, void *to);
 /* limit.c: TIRNOUCH_LIMIT, and the limit of one bus */
 void begin_limit(void);
 int begin_limit_of(unsigned turn, unsigned milliseconds);
+void end_limit_of_bus(void);
+void hold_limit_for_fork(void);
+void go_on_with_limit(void);
 
 /* context.c */
 struct libusb_context *usual_context(void);

@@ -54,6 +54,7 @@ static void begin_in_child(struct libusb_context *context)
 /* The trace is the parent's, and so are its programs; and it is the parent that is told what wasn't written. */
 static void go_on_in_child(void)
 {
+    go_on_with_limit();
     trace_forget();
     leave_programs();
     process.bus.is_judged = false;
@@ -62,8 +63,18 @@ static void go_on_in_child(void)
     unlock();
 }
 
-static void hold_for_fork(void) { lock(); }
-static void go_on_behind_fork(void) { unlock(); }
+static void hold_for_fork(void)
+{
+    lock();
+    hold_limit_for_fork();
+}
+
+static void go_on_behind_fork(void)
+{
+    go_on_with_limit();
+    unlock();
+}
+
 static void watch_forks(void) { pthread_atfork(hold_for_fork, go_on_behind_fork, go_on_in_child); }
 
 static void begin_log(struct libusb_context *context)

@@ -3,6 +3,7 @@
  * tirnouch.h. */
 #include "scene.h"
 
+#include <dirent.h>
 #include <pthread.h>
 #include <stdatomic.h>
 #include <stdio.h>
@@ -181,6 +182,33 @@ static void beside_readers(void)
     context = NULL;
 }
 
+static int threads_of_ours(void)
+{
+    int count = 0;
+    DIR *all = opendir("/proc/self/task");
+    for (struct dirent *it; all && (it = readdir(all));)
+        count += *it->d_name != '.';
+    if (all)
+        closedir(all);
+    return count;
+}
+
+/* The limit of a bus, which has a thread, ends with it. */
+static void limits_end(void)
+{
+    static const char text[] = STANDARD;
+    struct tirnouch_options options = { .size = sizeof options, .devices = text, .devices_length = strlen(text), .limit = 600000 };
+    puts("buses with a limit of ten minutes");
+    int before = threads_of_ours(), after = before + 1;
+    for (int i = 0; i < BUSES; i++)
+        need(!tirnouch_begin(&options) && !tirnouch_end(), "no bus");
+    for (int i = 0; i < 2000 && after > before; i++) {
+        usleep(1000);
+        after = threads_of_ours();
+    }
+    number("threads that are left", after - before);
+}
+
 static void memory_stays(void)
 {
     size_t before = 0;
@@ -215,6 +243,7 @@ int main(void)
     beside_a_handler("a thread that handles events", 0);
     beside_a_handler("the same with time that is virtual", 1);
     beside_readers();
+    limits_end();
     memory_stays();
     return 0;
 }

@@ -234,6 +234,36 @@ static void hotplugs(void)
     end();
 }
 
+static void heard(void *user, enum tirnouch_event event, int number_of)
+{
+    (void)user;
+    calls++;
+    printf("  the device is told of event %d, %d\n", (int)event, number_of);
+}
+
+/* A handle of the bus before is closed amid the next one, whose device 0 has nothing to do with it. */
+static void devices_hear_nothing(void)
+{
+    puts("what a device's function is told");
+    calls = 0;
+    tirnouch_on_event(0, heard, NULL);
+    answer("begin", begin_bus(STANDARD));
+    answer("init", libusb_init(&context));
+    open_first();
+    answer("end", tirnouch_end());
+    answer("begin", begin_bus(STANDARD));
+    answer("release", libusb_release_interface(handle, 0));
+    libusb_close(handle);
+    number("told so far", calls);
+    handle = open_standard(context);
+    answer("claim", libusb_claim_interface(handle, 1));
+    libusb_close(handle);
+    handle = NULL;
+    answer("end", tirnouch_end());
+    tirnouch_on_event(0, NULL, NULL);
+    end();
+}
+
 static int plug(const char *devices)
 {
     return tirnouch_plug(devices, strlen(devices));
@@ -323,6 +353,7 @@ int main(void)
     many_flights();
     orders();
     hotplugs();
+    devices_hear_nothing();
     by_environment();
     warning();
     refused();
