@@ -13,13 +13,13 @@ extern "C" {
 #endif
 
 /* The devices, as a text, in place of the file that TIRNOUCH_DEVICES names. The text is copied. It counts from the next
- * `libusb_init` on that finds no context open: LIBUSB_ERROR_BUSY where one is open, LIBUSB_ERROR_NO_MEM where memory is
+ * `libusb_init` on that finds no bus: LIBUSB_ERROR_BUSY where there is one, LIBUSB_ERROR_NO_MEM where memory is
  * refused. Whether each line is taken is told by that `libusb_init`. */
 int tirnouch_plug(const char *text, size_t length);
 
 /* How a bus begins that a test begins by itself. Zeros are none, and what is pointed to is copied. */
 struct tirnouch_options {
-    size_t size;           /* sizeof (struct tirnouch_options). That of before `keeps_trace` was a field is taken too: its program keeps none */
+    size_t size;           /* sizeof (struct tirnouch_options); or that of before `keeps_trace` was a field, as if it were 0 */
     const char *devices;   /* the text of the devices; NULL for that of tirnouch_plug, or of the file that TIRNOUCH_DEVICES names */
     size_t devices_length;
     const char *trace;     /* the file of the trace, as TIRNOUCH_TRACE */
@@ -29,43 +29,45 @@ struct tirnouch_options {
     int keeps_trace;       /* the trace is kept in memory, for tirnouch_trace; beside the file, where `trace` names one */
 };
 
-/* The bus begins now, with its devices, and is there until `tirnouch_end`: contexts come and go meanwhile, and the devices go on. Contexts
- * that outlived the bus before have its devices, and their hotplug callbacks are told that these arrived when events are handled next. Of the
- * variables TIRNOUCH_TRACE, TIRNOUCH_SEED and TIRNOUCH_TIME none steers it. LIBUSB_ERROR_BUSY where there is a bus, LIBUSB_ERROR_INVALID_PARAM
- * for another size, LIBUSB_ERROR_NO_MEM where memory is refused, LIBUSB_ERROR_OTHER where a line isn't taken or the trace can't be written
- * (`tirnouch_error` says why): then there is none. The text of `tirnouch_plug` stays for what comes behind it. */
+/* The bus begins now, with its devices, and is there until `tirnouch_end`: contexts come and go meanwhile, and the devices go on.
+ * Contexts that outlived the bus before have its devices, and their hotplug callbacks are told that these arrived when events are
+ * handled next. Of the variables TIRNOUCH_TRACE, TIRNOUCH_SEED and TIRNOUCH_TIME none steers it. LIBUSB_ERROR_BUSY where there is a bus,
+ * LIBUSB_ERROR_INVALID_PARAM for another size, LIBUSB_ERROR_NO_MEM where memory is refused, LIBUSB_ERROR_OTHER where a line isn't taken
+ * or the trace can't be written (`tirnouch_error` says why): then there is none. The text of `tirnouch_plug` stays for what comes behind
+ * it. */
 int tirnouch_begin(const struct tirnouch_options *options);
 
 /* The bus ends: what never came of what is expected is told, and the trace ends. Contexts may be open, and threads may handle events.
  *
- * - What is in flight ends with LIBUSB_TRANSFER_NO_DEVICE, as where each device is pulled out. It is called back, once, when its context handles
- *   events next, and so are hotplug callbacks that are registered now: LIBUSB_HOTPLUG_EVENT_DEVICE_LEFT for each device that was there. Whoever
- *   waits in `libusb_handle_events` is woken for it, and returns. Functions of devices aren't told.
- * - A context stays open, till `libusb_exit`. Until the next bus begins, by `tirnouch_begin` or by a `libusb_init`, its list of devices has the
- *   root hub alone, as that of a bus without devices. The root hub is the same `libusb_device` all the time, and never arrives or leaves. A
- *   `libusb_init` that finds no bus begins one by the environment, which is there until the last context ends.
- * - A `libusb_device` of the bus is there until its last reference is dropped, and a handle until it is closed, in any order, behind later buses
- *   too. The device still tells its numbers and descriptors; `libusb_open` of it answers LIBUSB_ERROR_NO_DEVICE, and so does each call on the
- *   handle, but for those that don't of a device that is pulled out: `libusb_reset_device`, and `libusb_release_interface` of one that it didn't
- *   claim, answer LIBUSB_ERROR_NOT_FOUND, and `libusb_set_auto_detach_kernel_driver` 0.
+ * - What is in flight ends with LIBUSB_TRANSFER_NO_DEVICE, as where each device is pulled out. It is called back, once, when its context
+ *   handles events next, and so are hotplug callbacks that are registered now: LIBUSB_HOTPLUG_EVENT_DEVICE_LEFT for each device that was
+ *   there; a context without such callbacks isn't told later. Whoever waits in `libusb_handle_events` is woken for it, and returns.
+ *   Functions of devices aren't told.
+ * - A context stays open, till `libusb_exit`. Until the next bus begins, by `tirnouch_begin` or by a `libusb_init`, its list of devices
+ *   has the root hub alone, as that of a bus without devices. The root hub is the same `libusb_device` all the time, and never arrives
+ *   or leaves. A `libusb_init` that finds no bus begins one by the environment, which is there until the last context ends.
+ * - A `libusb_device` of the bus is there until its last reference is dropped, and a handle until it is closed, in any order, behind
+ *   later buses too. The device still tells its numbers and descriptors; `libusb_open` of it answers LIBUSB_ERROR_NO_DEVICE, and so does
+ *   each call on the handle, but for those that don't of a device that is pulled out: `libusb_reset_device`, and
+ *   `libusb_release_interface` of one that it didn't claim, answer LIBUSB_ERROR_NOT_FOUND, and `libusb_set_auto_detach_kernel_driver` 0.
  * - How many contexts, handles and transfers it left open is a warning in the log.
  *
- * LIBUSB_ERROR_NOT_FOUND where `tirnouch_begin` didn't begin it. LIBUSB_ERROR_BUSY in a callback of libusb's, of a transfer or of hotplug, which
- * stands on what would end; behind the callback it ends. */
+ * LIBUSB_ERROR_NOT_FOUND where `tirnouch_begin` didn't begin it. LIBUSB_ERROR_BUSY in a callback of libusb's, of a transfer or of
+ * hotplug, which stands on what would end; behind the callback it ends. */
 int tirnouch_end(void);
 
-/* A device's functions compute what it answers. They are set for the device of a number, 0 to 15, at any time; NULL in place of one takes it
- * back. Set before the `libusb_init` that begins the bus, or while the bus is there. LIBUSB_ERROR_NOT_FOUND for another number,
+/* A device's functions compute what it answers. They are set for the device of a number, 0 to 15, at any time; NULL in place of one
+ * takes it back. Set before the `libusb_init` that begins the bus, or while the bus is there. LIBUSB_ERROR_NOT_FOUND for another number,
  * LIBUSB_ERROR_NO_MEM where memory is refused: then nothing changed.
  *
  * They are called with the library's lock held. Within such a function, in its thread,
  *
  * - `tirnouch_left`, `_report`, `_error`, `_trace`, `_now`, `_took` and `_requests` answer as anywhere, and so does `tirnouch_ready`;
  * - the other calls of this header answer LIBUSB_ERROR_BUSY, and change nothing;
- * - calls of libusb with a status answer LIBUSB_ERROR_BUSY, and `libusb_open_device_with_vid_pid` NULL. That is told in the log, as other
- *   refusals;
- * - calls of libusb without one that need the lock, as `libusb_close`, end the program by abort, with a sentence that says whose function it
- *   is.
+ * - calls of libusb with a status answer LIBUSB_ERROR_BUSY, and `libusb_open_device_with_vid_pid` NULL. That is told in the log, as
+ *   other refusals;
+ * - calls of libusb without one that need the lock, as `libusb_close`, end the program by abort, with a sentence that says whose
+ *   function it is.
  *
  * Within a callback of libusb's all calls of this header do what they say, but `tirnouch_end`. */
 
@@ -138,10 +140,10 @@ size_t tirnouch_report(char *text, size_t room);
  * written, what a device's program did. A line, as on standard error. Sizes as above; 0 where nothing did. */
 size_t tirnouch_error(char *text, size_t room);
 
-/* The trace of the bus that is there, or of the last one until the next begins, where it was begun with `keeps_trace`: the bytes of the file
- * that `trace` names, or would. Where devices have cores of their own, the traces of their sessions stand behind it, each behind a line
- * `# file ` with the ending of its file's name, as `# file .d0.2`. Where memory is refused it ends there, and `tirnouch_error` says so. Sizes
- * as above; 0 where nothing was kept. */
+/* The trace of the bus that is there, or of the last one until the next begins, where it was begun with `keeps_trace`: the bytes of the
+ * file that `trace` names, or would. Where devices have cores of their own, the traces of their sessions stand behind it, each behind a
+ * line `# file ` with the ending of its file's name, as `# file .d0.2`. Where memory is refused it ends there, and `tirnouch_error` says
+ * so. Sizes as above; 0 where nothing was kept. */
 size_t tirnouch_trace(char *text, size_t room);
 
 /* The milliseconds since the bus began, by the clock of timeouts: 0 where there is none. */

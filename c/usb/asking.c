@@ -1,5 +1,5 @@
-/* A device's function runs with the lock held. A call of the library from within it may not wait for the lock: it reads, is refused, or ends
- * the program, which is told whose function that is. */
+/* A device's function runs with the lock held. A call of the library from within it may not wait for the lock: it reads, is refused, or
+ * ends the program, which is told whose function that is. */
 #include "bus.h"
 
 #include <stdio.h>
@@ -44,8 +44,8 @@ static struct sentence say_whose(void)
     return it;
 }
 
-/* Before the lock is taken, where some function is being asked: whether this thread is in it, so that the call is refused. That is told once,
- * in the first log that is told of refusals. */
+/* Before the lock is taken, where some function is being asked: whether this thread is in it, so that the call is refused. That is told
+ * once, in the first log that is told of refusals. */
 bool refuse_asked(const char *function)
 {
     if (!is_asked_here())

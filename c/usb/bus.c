@@ -1,5 +1,5 @@
-/* The bus: it begins with the first context, with the devices of a text and by what the environment says, and ends with the last; or it does
- * by tirnouch_begin and tirnouch_end, and contexts outlive it (outliving.c). */
+/* The bus: it begins with the first context, with the devices of a text and by what the environment says, and ends with the last; or it
+ * does by tirnouch_begin and tirnouch_end, and contexts outlive it (outliving.c). */
 #include "bus.h"
 
 #include <stdio.h>

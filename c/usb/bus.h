@@ -184,7 +184,7 @@ struct libusb_device_handle {
     uint32_t claimed;                 /* a bit an interface that it holds */
     uint32_t asked;                   /* of these, those that the program claimed itself */
     bool is_shut;                     /* it takes no transfer: it is being closed, or its device was plugged in anew since; */
-    bool is_lost, detaches;           /* is_lost: the latter, or its bus ended. All but a close is answered NO_DEVICE */
+    bool is_lost, detaches;           /* is_lost: the latter. All but a close is answered NO_DEVICE, as where its bus ended */
 };
 
 struct hotplug {
@@ -270,7 +270,7 @@ struct bus {
     size_t active_count;
     struct pipe *active[DEVICES * ENDPOINTS]; /* where something waits or is in the core */
     unsigned handle_count;
-    bool is_ending;                   /* transfers that end stay among those in progress, and leave them in order of submission (outliving.c) */
+    bool is_ending;                   /* transfers that end stay in progress till all have: they leave in order (outliving.c) */
     bool is_readied;                  /* a device's function said that some device has something to answer now */
     struct device *devices[DEVICES];
 };
@@ -285,7 +285,7 @@ struct defaults {
 extern struct process {
     pthread_mutex_t lock;
     struct bus bus;
-    struct device hub, absent[DEVICES]; /* what is there without a bus; and in place of those that a text doesn't have. It has a hold of them */
+    struct device hub, absent[DEVICES]; /* there without a bus; and in place of what a text doesn't have. Held by it */
     struct libusb_context *usual, *fallback, *contexts;
     struct libusb_device_handle *handles; /* of all buses */
     struct libusb_context nobody;     /* the default context where none is open */
@@ -315,9 +315,9 @@ extern struct process {
     uint8_t nowhere[1];               /* where memory of no bytes lies: nobody reads or writes it */
 } process;
 
-/* In a device's function this thread has the lock already, and may not wait for it. A call that only reads goes on without it (`lock_to_read`,
- * whose answer is what `unlock_read` needs); one that can answer is refused (`lock_unless_asked`); and where one can't, that is told, and the
- * program ends (`lock`). The latter two are macros for the name of the call. */
+/* In a device's function this thread has the lock already, and may not wait for it. A call that only reads goes on without it
+ * (`lock_to_read`, whose answer is what `unlock_read` needs); one that can answer is refused (`lock_unless_asked`); and where one can't,
+ * that is told, and the program ends (`lock`). The latter two are macros for the name of the call. */
 bool is_asked_here(void) __attribute__((cold));
 bool refuse_asked(const char *function) __attribute__((cold));
 void end_for_asked(const char *function) __attribute__((cold));

@@ -71,6 +71,7 @@ int begin_limit_of(unsigned turn, unsigned milliseconds);
 void end_limit_of_bus(void);
 void hold_limit_for_fork(void);
 void go_on_with_limit(void);
+void leave_limit(void);
 
 /* context.c */
 struct libusb_context *usual_context(void);

@@ -54,7 +54,7 @@ static void begin_in_child(struct libusb_context *context)
 /* The trace is the parent's, and so are its programs; and it is the parent that is told what wasn't written. */
 static void go_on_in_child(void)
 {
-    go_on_with_limit();
+    leave_limit();
     trace_forget();
     leave_programs();
     process.bus.is_judged = false;

@@ -58,8 +58,8 @@ void take_devices(struct libusb_context *context)
     }
 }
 
-/* One reference less, with the lock, since a context that has ended goes with the last of all references to its devices: of two threads that
- * drop one each, only the second may free it. Whether it was the last. */
+/* One reference less, with the lock, since a context that has ended goes with the last of all references to its devices: of two threads
+ * that drop one each, only the second may free it. Whether it was the last. */
 bool drop_device(struct libusb_device *device)
 {
     struct libusb_context *context = device->context;

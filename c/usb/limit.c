@@ -137,6 +137,14 @@ void end_limit_of_bus(void) { limit_bus(0); }
 void hold_limit_for_fork(void) { pthread_mutex_lock(&limited.lock); }
 void go_on_with_limit(void) { pthread_mutex_unlock(&limited.lock); }
 
+/* Its thread is the parent's, and so is whoever waits there. */
+void leave_limit(void)
+{
+    limited.turn = 0;
+    begin_over();
+    pthread_mutex_unlock(&limited.lock);
+}
+
 /* With the lock. */
 int begin_limit_of(unsigned turn, unsigned milliseconds)
 {

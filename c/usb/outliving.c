@@ -1,6 +1,6 @@
-/* Contexts and handles outlive a bus that tirnouch_end ends. What is in flight ends as where each device is pulled out, and is called back
- * where events are handled next. Till the next bus begins a context has the root hub alone; then it has that bus's devices. Handles are lost,
- * and what they and the program's references need of a device stays with them. */
+/* Contexts and handles outlive a bus that tirnouch_end ends. What is in flight ends as where each device is pulled out, and is called
+ * back where events are handled next. Till the next bus begins a context has the root hub alone; then it has that bus's devices. Handles
+ * are lost, and what they and the program's references need of a device stays with them. */
 #include "bus.h"
 
 /* Where memory is refused no context has devices: LIBUSB_ERROR_NO_MEM. */
@@ -54,8 +54,9 @@ void tell_left_open(void)
             told = context;
     }
     if (told)
-        note(told, LIBUSB_LOG_LEVEL_WARNING, "the bus ends with %d context%s, %d handle%s and %d transfer%s open: transfers end with NO_DEVICE",
-             contexts, plural((uint64_t)contexts), handles, plural((uint64_t)handles), transfers, plural((uint64_t)transfers));
+        note(told, LIBUSB_LOG_LEVEL_WARNING,
+             "the bus ends with %d context%s, %d handle%s and %d transfer%s open: transfers end with NO_DEVICE", contexts,
+             plural((uint64_t)contexts), handles, plural((uint64_t)handles), transfers, plural((uint64_t)transfers));
 }
 
 /* The devices at which something is in flight are pulled out of the core, so that it ends there. */
@@ -69,8 +70,8 @@ static void unplug_in_flight(const struct libusb_context *context)
     }
 }
 
-/* In order of submission, as their core ended them. Where that was refused memory, and so didn't end one, it ends with the bus, and with it what
- * it was lent. */
+/* In order of submission, as their core ended them. One that it didn't end, whatever the reason, ends here, since the core ends with the
+ * bus, and with it what it was lent. */
 static void end_flights(struct libusb_context *context)
 {
     struct transfer *it;
@@ -101,13 +102,12 @@ void end_all_flights(void)
         end_flights(it);
 }
 
-/* What a handle asked for is kept, so that a release is answered as where its device was pulled out. */
+/* Handles hold nothing any more, and are lost, since their devices are gone for good. What they asked for is kept, so that a release is
+ * answered as where the device was pulled out. */
 void outlive_bus(void)
 {
-    for (struct libusb_device_handle *it = process.handles; it; it = it->next) {
-        it->is_lost = it->is_shut = true;
+    for (struct libusb_device_handle *it = process.handles; it; it = it->next)
         it->claimed = 0;
-    }
     for (struct libusb_context *it = process.contexts; it; it = it->next)
         take_devices(it);
 }

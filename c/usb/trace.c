@@ -143,8 +143,8 @@ static bool open_file(struct core *core, const char *ending)
     return core->trace >= 0;
 }
 
-/* The file of a session that begins, and what is kept of it: of a device's own core, or of the one that is shared, where that is NULL. False
- * where no such file can be written, which is told. */
+/* The file of a session that begins, and what is kept of it: of a device's own core, or of the one that is shared, where that is NULL.
+ * False where no such file can be written, which is told. */
 bool trace_begin(struct core *core, const struct device *device)
 {
     char own[16] = "", session[16] = "", ending[32];

@@ -1,6 +1,6 @@
-/* Buses begin and end beside threads: one that handles events of a context that is kept over all of them, and some that read and are told that
- * the device is gone. Each transfer and each device is told of exactly once, and memory doesn't grow. The expected lines are written from
- * tirnouch.h. */
+/* Buses begin and end beside threads: one that handles events of a context that is kept over all of them, and some that read and are
+ * told that the device is gone. Each transfer and each device is told of exactly once, and memory doesn't grow. The expected lines are
+ * written from tirnouch.h. */
 #include "scene.h"
 
 #include <dirent.h>
@@ -138,6 +138,42 @@ static void beside_a_handler(const char *name, int is_virtual)
     context = NULL;
 }
 
+static void *handle_once(void *result)
+{
+    *(int *)result = libusb_handle_events(context);
+    return NULL;
+}
+
+static void returns_at(const char *what, int (*act)(void))
+{
+    pthread_t thread;
+    int result = 1;
+    long long before = clock_now();
+    pthread_create(&thread, NULL, handle_once, &result);
+    while (!libusb_event_handler_active(context))
+        usleep(100);
+    need(!act(), "no act");
+    pthread_join(thread, NULL);
+    printf("  %s: %d, %s\n", what, result, clock_now() - before < 30000 ? "at once" : "behind a minute");
+}
+
+static int begin_virtual(void) { return begin_bus(1, 0); }
+static int begin_real(void) { return begin_bus(0, 0); }
+
+/* Each wait of a minute is by the clock of a bus that isn't there any more. */
+static void waits_end(void)
+{
+    puts("a wait of a minute, as buses begin and end");
+    need(!begin_bus(0, 0) && !libusb_init(&context), "no context");
+    returns_at("the bus ends", tirnouch_end);
+    returns_at("the next begins", begin_virtual);
+    need(!tirnouch_end(), "no end");
+    returns_at("one more begins", begin_real);
+    returns_at("it ends", tirnouch_end);
+    libusb_exit(context);
+    context = NULL;
+}
+
 /* Each reads over a handle of its own; the bus ends anywhere. Any answer is one that libusb's manual has for a device that may be gone. */
 static void *read_on(void *unused)
 {
@@ -222,7 +258,7 @@ static void memory_stays(void)
         submit_all(all);
         need(!tirnouch_pull(0), "no pull");
         need(!tirnouch_end(), "no end");
-        if (i % 2)
+        if (i < WARM)
             work();
         libusb_close(handle);
         libusb_unref_device(device);
@@ -242,6 +278,7 @@ int main(void)
     setvbuf(stdout, NULL, _IOLBF, 0);
     beside_a_handler("a thread that handles events", 0);
     beside_a_handler("the same with time that is virtual", 1);
+    waits_end();
     beside_readers();
     limits_end();
     memory_stays();

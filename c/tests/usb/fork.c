@@ -130,9 +130,42 @@ static void before_the_library(void)
     end();
 }
 
+static int begin_limited(void)
+{
+    static const char text[] = STANDARD;
+    struct tirnouch_options options = { .size = sizeof options, .devices = text, .devices_length = sizeof text - 1, .limit = 600000 };
+    return tirnouch_begin(&options);
+}
+
+/* So that a thread waits. */
+#define MOMENT 100000
+
+/* The thread of a bus's limit is the parent's. The child ends that bus and has others, whose limits end too. */
+static void beside_a_limit(void)
+{
+    puts("a child of a process whose bus has a limit");
+    answer("begin", begin_limited());
+    usleep(MOMENT);
+    fflush(stdout);
+    pid_t child = fork();
+    if (child == 0) {
+        alarm(20);
+        for (int i = 0; i < 5; i++) {
+            answer("the child's end", tirnouch_end());
+            answer("the child's begin", begin_limited());
+            usleep(MOMENT);
+        }
+        fflush(stdout);
+        _exit(0);
+    }
+    wait_for_child(child);
+    answer("end", tirnouch_end());
+}
+
 int main(void)
 {
     both();
+    beside_a_limit();
     before_the_library();
     beside_a_thread();
     return 0;

@@ -1,6 +1,6 @@
-/* Calls within a device's function: those that read answer as anywhere, those that change something and those of libusb with a status are
- * refused, and change nothing. One that has no answer to be refused by ends the program by SIGABRT, with a sentence that says whose function
- * it is and what it called: each such program is a child. The expected lines are written from tirnouch.h. */
+/* Calls within a device's function: those that read answer as anywhere, those that change something and those of libusb with a status
+ * are refused, and change nothing. One that has no answer to be refused by ends the program by SIGABRT, with a sentence that says whose
+ * function it is and what it called: each such program is a child. The expected lines are written from tirnouch.h. */
 #include "scene.h"
 
 #include <signal.h>

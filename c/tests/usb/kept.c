@@ -1,5 +1,5 @@
-/* A trace in memory is that of the file, byte by byte: amid the bus, behind its end, with a device that has a core of its own, and without a
- * file. The expected lines are written from tirnouch.h and docs/C.md. */
+/* A trace in memory is that of the file, byte by byte: amid the bus, behind its end, with a device that has a core of its own, and
+ * without a file. The expected lines are written from tirnouch.h and docs/C.md. */
 #include "scene.h"
 
 #include <stddef.h>
@@ -73,7 +73,8 @@ static char *files(const char *const endings[], int count)
 static void compare(const char *when, const char *const endings[], int count)
 {
     char *kept = memory(), *written = files(endings, count);
-    printf("  %s: %s, %s\n", when, strlen(kept) > 100 ? "a trace" : "hardly a trace", strcmp(kept, written) ? "another than in the files" : "that of the files");
+    printf("  %s: %s, %s\n", when, strlen(kept) > 100 ? "a trace" : "hardly a trace",
+           strcmp(kept, written) ? "another than in the files" : "that of the files");
     free(kept);
     free(written);
 }

@@ -200,7 +200,8 @@ static int told_of(libusb_context *of, libusb_device *device, libusb_hotplug_eve
     (void)of;
     calls++;
     libusb_get_device_descriptor(device, &it);
-    printf("  %s: %04x:%04x %s\n", (const char *)user, it.idVendor, it.idProduct, event == LIBUSB_HOTPLUG_EVENT_DEVICE_ARRIVED ? "arrived" : "left");
+    printf("  %s: %04x:%04x %s\n", (const char *)user, it.idVendor, it.idProduct,
+           event == LIBUSB_HOTPLUG_EVENT_DEVICE_ARRIVED ? "arrived" : "left");
     return 0;
 }
 

@@ -143,6 +143,104 @@ static void life(void)
     is_dry = 0;
 }
 
+static int begin_bus(void)
+{
+    struct tirnouch_options options = { .size = sizeof options, .devices = TEXT, .devices_length = sizeof TEXT - 1, .is_virtual = 1,
+                                        .keeps_trace = 1 };
+    return tirnouch_begin(&options);
+}
+
+static libusb_context *other;
+static int ended, told;
+
+static int init_other(void) { return libusb_init(&other); }
+
+static void count_end(struct libusb_transfer *transfer)
+{
+    if (transfer->status != LIBUSB_TRANSFER_NO_DEVICE)
+        fail("a status", transfer->status);
+    ended++;
+}
+
+static int count_device(libusb_context *of, libusb_device *device, libusb_hotplug_event event, void *user)
+{
+    (void)of, (void)device, (void)event, (void)user;
+    told++;
+    return 0;
+}
+
+static int register_it(void)
+{
+    return libusb_hotplug_register_callback(context, LIBUSB_HOTPLUG_EVENT_DEVICE_ARRIVED | LIBUSB_HOTPLUG_EVENT_DEVICE_LEFT, 0,
+                                            LIBUSB_HOTPLUG_MATCH_ANY, LIBUSB_HOTPLUG_MATCH_ANY, LIBUSB_HOTPLUG_MATCH_ANY, count_device, NULL,
+                                            NULL);
+}
+
+static struct libusb_transfer *flying[2];
+static unsigned char buffers[2][8];
+
+static int submit_both(void)
+{
+    for (int i = 0; i < 2; i++) {
+        if (!flying[i])
+            flying[i] = libusb_alloc_transfer(0);
+        if (!flying[i])
+            return LIBUSB_ERROR_NO_MEM;
+        libusb_fill_bulk_transfer(flying[i], handle, 0x02, buffers[i], 8, count_end, NULL, 0);
+        int result = libusb_submit_transfer(flying[i]);
+        if (result && result != LIBUSB_ERROR_BUSY)
+            return result;
+    }
+    return 0;
+}
+
+/* What is in flight ends once for all, whatever memory is refused; that of the library's own steps isn't asked for twice. */
+static void end_bus(void)
+{
+    step = "end";
+    if (tirnouch_end())
+        fail("no end", 0);
+    is_dry = 0;
+}
+
+/* Two contexts are kept over two buses, one with a handle; device 1 has no script at 02. A device that isn't told of may have come or
+ * gone where memory was refused alone. */
+static void outliving(void)
+{
+    struct timeval none = { 0, 0 };
+    ended = told = 0;
+    again("begin", begin_bus);
+    again("init", init);
+    again("init of another", init_other);
+    again("register", register_it);
+    product = 2;
+    int is_flying = !again("open", open_it) && !again("submit", submit_both);
+    end_bus();
+    for (int i = 0; i < 3; i++)
+        libusb_handle_events_timeout(context, &none);
+    if (is_flying && ended != 2)
+        fail("callbacks", ended);
+    again("begin the next", begin_bus);
+    libusb_handle_events_timeout(context, &none);
+    libusb_close(handle);
+    again("open", open_it);
+    end_bus();
+    libusb_handle_events_timeout(context, &none);
+    if (told != 6 && !(was_refused && told < 6))
+        fail("told of devices", told);
+    step = "exit";
+    libusb_close(handle);
+    libusb_exit(context);
+    libusb_exit(other);
+    for (int i = 0; i < 2; i++) {
+        libusb_free_transfer(flying[i]);
+        flying[i] = NULL;
+    }
+    is_dry = 0;
+}
+
+static void (*lives)(void) = life;
+
 /* Whether an allocation was refused: the run had so many. */
 static int run(long refuse, int more)
 {
@@ -150,7 +248,7 @@ static int run(long refuse, int more)
     refused_one = refuse;
     refuses_more = more;
     was_refused = is_dry = 0;
-    life();
+    lives();
     return was_refused;
 }
 
@@ -174,5 +272,10 @@ int main(void)
         return 1;
     refuse_each("devices that compute: each allocation alone", 0);
     refuse_each("devices that compute: each with those behind it", 1);
+    lives = outliving;
+    if (run(0, 0))
+        return 1;
+    refuse_each("a context that outlives buses: each allocation alone", 0);
+    refuse_each("a context that outlives buses: each with those behind it", 1);
     return 0;
 }
