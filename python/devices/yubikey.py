@@ -1,7 +1,7 @@
 #!/usr/bin/env python3
 """A key that answers challenges, as ykinfo and ykchalresp ask a YubiKey: a HID keyboard with a feature report of 8 bytes.
 
-    yubikey.py [SERIAL [KEY]]    its serial number, and the 20 bytes of slot 2 in hexadecimal digits, which answer by HMAC with SHA-1
+    yubikey.py [NUMBER [KEY]]    its serial number, and the 20 bytes of slot 2 in hexadecimal digits, which answer by HMAC with SHA-1
 
 What is written and read is by Yubico's library ykpers (ykcore.c, ykdef.h): a frame of 70 bytes in pieces of 7, each with its number behind
 it. Slot 1 is empty."""
@@ -10,15 +10,12 @@ from __future__ import annotations
 import hashlib
 import hmac
 import struct
-from typing import Callable, Dict, List
+from typing import Callable, Dict, List, Union
 
-from tirnouch import Device, Interface, Request, control, hid_descriptor, interrupt_in, main
+from tirnouch import AS_TEXT, Answer, Request, interrupt_in, main
+from tirnouch.hid import FEATURE, Hid, keyboard
 
-# HID 1.11, appendix E.6, with a feature report in front of its end: 8 bytes
-REPORT = bytes.fromhex("05010906a101050719e029e71500250175019508810295017508810195057501050819012905910295017503910195067508150025650507"
-                       "1900296581000903750895 08b102c0")
-GET_REPORT, SET_REPORT, FEATURE = 0x01, 0x09, 0x0300
-SIZE, PIECE, PAYLOAD = 8, 7, 64
+SIZE, PIECE = 8, 7
 # A frame: payload, slot, check sum, filler.
 FRAME = struct.Struct("<64sBH3x")
 LAST = FRAME.size // PIECE - 1
@@ -40,18 +37,21 @@ def check_sum(data: bytes) -> int:
     return value
 
 
-class Yubikey(Device):
+class Yubikey(Hid):
     """The key. It types nothing by itself."""
 
     vendor, product, release = 0x1050, 0x0010, 0x0431
-    interfaces = (Interface(0x03, 1, 1, "", hid_descriptor(REPORT)),)
+    # A feature report of 8 bytes stands in front of the end of its collection.
+    report_descriptor = keyboard()[:-1] + bytes.fromhex("0903750895" "08b102c0")
+    boot = "keyboard"
+    any_length = True
     strings = ("Works", "Key that answers")
     speed = "full"
-    keys = interrupt_in(0x81, 8, 10)
+    reports = interrupt_in(0x81, SIZE, 10)
 
-    def __init__(self, serial: str = "1234567", key: str = KEY) -> None:
-        self.serial, self.key = int(serial), bytes.fromhex(key)
-        self.commands: Dict[int, Callable[[bytes], bytes]] = {SERIAL: self.tell_serial, CHALLENGE_2: self.answer_challenge}
+    def __init__(self, number: str = "1234567", key: str = KEY) -> None:
+        self.number, self.key = int(number), bytes.fromhex(key)
+        self.commands: Dict[int, Callable[[bytes], bytes]] = {SERIAL: self.tell_number, CHALLENGE_2: self.answer_challenge}
         self.renew()
 
     def renew(self) -> None:
@@ -60,38 +60,33 @@ class Yubikey(Device):
         self.pieces: List[bytes] = []
 
     def on_reset(self) -> None:
+        super().on_reset()
         self.renew()
 
     def on_plugged(self) -> None:
+        super().on_plugged()
         self.renew()
 
-    @control(0x81, 0x06, 0x2200, 0)
-    def report_descriptor(self, _request: Request) -> bytes:
-        """GET_DESCRIPTOR of the report descriptor (HID 1.11, 7.1.1)."""
-        return REPORT
+    def get_report(self, request: Request) -> Union[bytes, Answer]:
+        """It is asked for its feature report alone."""
+        return super().get_report(request) if request.value == FEATURE << 8 else AS_TEXT
 
-    @control(0x21, 0x0A)
-    def set_idle(self, _request: Request) -> None:
-        """SET_IDLE (HID 1.11, 7.2.4)."""
-
-    @control(0xA1, GET_REPORT, FEATURE, 0)
-    def get_report(self, _request: Request) -> bytes:
-        """A piece of an answer with its number; else the status: version, sequence, which slots are in use (HID 1.11, 7.2.1)."""
+    def feature(self, report_id: int) -> bytes:
+        """A piece of an answer with its number; else the status: version, sequence, which slots are in use."""
         if self.pieces:
             return self.pieces.pop(0)
         return bytes((0, *VERSION, SEQUENCE, SLOT_2_VALID, 0, 0))
 
-    @control(0x21, SET_REPORT, FEATURE, 0)
-    def set_report(self, request: Request) -> None:
-        """A piece of a frame; pieces of zeros needn't be written, and the last one ends it (HID 1.11, 7.2.2). A number behind the last
-        piece's ends what is written or read: 8F is written for that."""
-        if len(request.data) != SIZE or not request.data[-1] & WRITTEN:
+    def on_feature(self, report_id: int, data: bytes) -> None:
+        """A piece of a frame; pieces of zeros needn't be written, and the last one ends it. A number behind the last piece's ends what is
+        written or read: 8F is written for that."""
+        if len(data) != SIZE or not data[-1] & WRITTEN:
             return
-        number = request.data[-1] & ~WRITTEN
+        number = data[-1] & ~WRITTEN
         if number == 0 or number > LAST:
             self.renew()
         if number <= LAST:
-            self.frame[PIECE * number : PIECE * (number + 1)] = request.data[:PIECE]
+            self.frame[PIECE * number : PIECE * (number + 1)] = data[:PIECE]
         if number == LAST:
             self.command(bytes(self.frame))
 
@@ -102,9 +97,9 @@ class Yubikey(Device):
         if found == check_sum(payload) and slot in self.commands:
             self.pieces = in_pieces(self.commands[slot](payload))
 
-    def tell_serial(self, _payload: bytes) -> bytes:
+    def tell_number(self, _payload: bytes) -> bytes:
         """The serial number, the highest byte first."""
-        return self.serial.to_bytes(4, "big")
+        return self.number.to_bytes(4, "big")
 
     def answer_challenge(self, payload: bytes) -> bytes:
         """HMAC with SHA-1 of a challenge, which ends before the bytes that are like its last one."""

@@ -1,0 +1,72 @@
+"""What base classes of devices share (hid.py, serial.py, dfu.py, storage.py, scpi.py): how a class's attributes are judged when it is made,
+and how an endpoint that a class gives anew gets the method of its base's."""
+from __future__ import annotations
+
+from typing import Any, Callable, Optional, Tuple, Type, Union
+
+from tirnouch.answers import Answer
+from tirnouch.endpoints import BULK, INTERRUPT, Endpoint
+
+EXAMPLES = {(BULK, True): "bulk_in(0x81)", (BULK, False): "bulk_out(0x02)", (INTERRUPT, True): "interrupt_in(0x83)",
+            (INTERRUPT, False): "interrupt_out(0x04)"}
+
+
+def says(kind: Union[type, object], name: str) -> str:
+    """The beginning of a sentence about an attribute."""
+    return f"{kind.__name__ if isinstance(kind, type) else type(kind).__name__}: `{name}`"
+
+
+def typed(kind: type, name: str, types: Union[Type[Any], Tuple[Type[Any], ...]], what: str) -> Any:
+    """The attribute of a class. TypeError where it is of another type; `what` says which one stands there."""
+    value = getattr(kind, name)
+    if not isinstance(value, types):
+        raise TypeError(f"{says(kind, name)} is {what}, and not {value!r}")
+    return value
+
+
+def chosen(kind: type, name: str, choices: Tuple[Any, ...]) -> Any:
+    """The attribute of a class. ValueError where it is none of these."""
+    value = getattr(kind, name)
+    if value not in choices:
+        raise ValueError(f"{says(kind, name)} is {' or '.join(map(repr, choices))}, and not {value!r}")
+    return value
+
+
+def gives(kind: type, *names: str) -> bool:
+    """Whether the class itself has one of these attributes, and not a base of it."""
+    return any(name in vars(kind) for name in names)
+
+
+def declared(kind: type, name: str) -> Optional[Endpoint]:
+    """The endpoint of a name, that of a base where the class has but a method of this name; None where there is none."""
+    for base in kind.__mro__:
+        it = vars(base).get(name)
+        if isinstance(it, Endpoint) or (name in vars(base) and not callable(it)):
+            return it if isinstance(it, Endpoint) else None
+    return None
+
+
+def joined(kind: type, name: str, like: int, inward: bool, method: Optional[Callable[..., Any]] = None, is_needed: bool = True) -> None:
+    """The endpoint of a name is of this kind and direction. One without a method gets this one. TypeError or ValueError says what stands
+    there instead; None may stand for an endpoint that isn't needed."""
+    it, example = declared(kind, name), EXAMPLES[like, inward]
+    if it is None:
+        if is_needed or getattr(kind, name, None) is not None:
+            raise TypeError(f"{says(kind, name)} is an endpoint, as {example}, and not {getattr(kind, name)!r}")
+        return
+    if (it.kind, it.is_in) != (like, inward):
+        raise ValueError(f"{says(kind, name)} is an endpoint as {example}, and {EXAMPLES[it.kind, it.is_in].partition('(')[0]} made {it}")
+    if it.method is None and method is not None:
+        it(method)
+
+
+def waits(answer: Any) -> bool:
+    """Whether a method isn't ready for what it was given, so that it is given it again."""
+    return isinstance(answer, Answer) and (answer.word == "n" or answer.word.startswith("later "))
+
+
+def bytes_of(what: str, data: Any) -> bytes:
+    """Bytes. TypeError where they are none."""
+    if not isinstance(data, (bytes, bytearray, memoryview)):
+        raise TypeError(f"{what} is bytes, and not {type(data).__name__}")
+    return bytes(data)
