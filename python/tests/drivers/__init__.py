@@ -38,7 +38,7 @@ def steered(**words: str) -> "dict[str, str]":
     """The environment of a process over the library: time is virtual, unless these words say otherwise."""
     kept = {key: value for key, value in os.environ.items() if not key.startswith(("TIRNOUCH_", "LIBUSB_", "PYTHON"))}
     return {**kept, "TIRNOUCH_LIBRARY": str(PATH), "TIRNOUCH_TIME": "virtual", "LD_LIBRARY_PATH": str(PATH.parent),
-            "PYTHONPATH": str(PYTHON), "PYTHONDONTWRITEBYTECODE": "1", **words}
+            "PYTHONPATH": f"{PYTHON}:{PYTHON / 'devices'}", "PYTHONDONTWRITEBYTECODE": "1", **words}
 
 
 def program_line(number: int, *words: object) -> str:
