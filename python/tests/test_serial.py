@@ -179,7 +179,8 @@ class Classes(unittest.TestCase):
             ({"end": "\t"}, ValueError, r"Wrong: `end` is '\\n' or '\\r' or '\\r\\n', and not '\\t'"),
             ({"end": b"\n"}, TypeError, r'Wrong: `end` is a str, "\\n", "\\r" or "\\r\\n", and not'),
             ({"encoding": "morse"}, ValueError, "Wrong: `encoding` is the name of an encoding, as \"ascii\", and not 'morse'"),
-            ({"encoding": 8}, TypeError, "`encoding` is the name"), ({"written": bulk_out(0x03)}, ValueError, "`written` is an endpoint as bulk_in"),
+            ({"encoding": 8}, TypeError, "`encoding` is the name"),
+            ({"written": bulk_out(0x03)}, ValueError, "`written` is an endpoint as bulk_in"),
             ({"packets": None}, TypeError, r"Wrong: `packets` is an endpoint, as bulk_out\(0x02\), and not None"),
             ({"notifications": bulk_in(0x83)}, ValueError, "`notifications` is an endpoint as interrupt_in")]
         for words, error, sentence in wrong:

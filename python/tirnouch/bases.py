@@ -46,9 +46,18 @@ def declared(kind: type, name: str) -> Optional[Endpoint]:
     return None
 
 
-def joined(kind: type, name: str, like: int, inward: bool, method: Optional[Callable[..., Any]] = None, is_needed: bool = True) -> None:
-    """The endpoint of a name is of this kind and direction. One without a method gets this one. TypeError or ValueError says what stands
-    there instead; None may stand for an endpoint that isn't needed."""
+def passed_to(method: str) -> Callable[[Any, Any], Any]:
+    """What passes a question to the method of a name that the device's class has."""
+
+    def ask(device: Any, word: Any) -> Any:
+        return getattr(device, method)(word)
+
+    return ask
+
+
+def joined(kind: type, name: str, like: int, inward: bool, method: str = "", is_needed: bool = True) -> None:
+    """The endpoint of a name is of this kind and direction. One without a method passes its questions to the method of this name. TypeError
+    or ValueError says what stands there instead; None may stand for an endpoint that isn't needed."""
     it, example = declared(kind, name), EXAMPLES[like, inward]
     if it is None:
         if is_needed or getattr(kind, name, None) is not None:
@@ -56,8 +65,8 @@ def joined(kind: type, name: str, like: int, inward: bool, method: Optional[Call
         return
     if (it.kind, it.is_in) != (like, inward):
         raise ValueError(f"{says(kind, name)} is an endpoint as {example}, and {EXAMPLES[it.kind, it.is_in].partition('(')[0]} made {it}")
-    if it.method is None and method is not None:
-        it(method)
+    if it.method is None and method:
+        it(passed_to(method))
 
 
 def waits(answer: Any) -> bool:

@@ -51,7 +51,7 @@ class Hid(Device):
         typed(cls, "report_descriptor", bytes, "bytes, as keyboard(), mouse() or vendor(input=8) make them")
         chosen(cls, "boot", tuple(BOOT))
         joined(cls, "reports", INTERRUPT, True)
-        joined(cls, "outputs", INTERRUPT, False, Hid._output, is_needed=False)
+        joined(cls, "outputs", INTERRUPT, False, "_output", is_needed=False)
         if cls.report_descriptor and gives(cls, "report_descriptor"):
             try:
                 cls._sizes = sizes(cls.report_descriptor)

@@ -79,7 +79,7 @@ class Serial(Device):
         except LookupError as error:
             raise ValueError(f"{says(cls, 'encoding')} is the name of an encoding, as \"ascii\", and not {cls.encoding!r}") from error
         joined(cls, "written", BULK, True)
-        joined(cls, "packets", BULK, False, Serial._packet)
+        joined(cls, "packets", BULK, False, "_packet")
         joined(cls, "notifications", INTERRUPT, True, is_needed=False)
         super().__init_subclass__(**words)
 
@@ -115,7 +115,7 @@ class Serial(Device):
         parity and by an overrun. RuntimeError where the class has no `notifications`."""
         endpoint = declared(type(self), "notifications")
         if not endpoint:
-            raise RuntimeError(f"{says(self, 'notifications')} is None: where states are told an endpoint stands there, as interrupt_in(0x83)")
+            raise RuntimeError(f"{says(self, 'notifications')} is None: where states are told it is an endpoint, as interrupt_in(0x83)")
         bits = (carrier, ready, is_broken, ring, framing, parity, overrun)
         state = sum(bit for bit, is_set in zip((CARRIER, READY, BROKEN_LINE, RING, FRAMING, PARITY, OVERRUN), bits) if is_set)
         self.send(endpoint, bytes((READ, SERIAL_STATE, 0, 0, 0, 0, 2, 0, state, 0)))

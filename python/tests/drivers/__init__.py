@@ -14,7 +14,7 @@ from tests.libusb import PATH, lacking
 
 HERE = pathlib.Path(__file__).resolve().parent
 PYTHON = HERE.parents[1]
-PACKAGES = {"usb.core": "python3-usb", "hid": "python3-hid"}
+PACKAGES = {"usb.core": "python3-usb", "hid": "python3-hid", "pyvisa_py": "python3-pyvisa-py"}
 SECONDS = 60
 
 
