@@ -1,14 +1,36 @@
-"""What base classes of devices share (hid.py, serial.py, dfu.py, storage.py, scpi.py): how a class's attributes are judged when it is made,
-and how an endpoint that a class gives anew gets the method of its base's."""
+"""What base classes of devices share (hid.py, serial.py, dfu.py, storage.py, scpi.py): that they begin anew, how a class's attributes are
+judged when it is made, and how an endpoint that a class gives anew gets the method of its base's."""
 from __future__ import annotations
 
 from typing import Any, Callable, Optional, Tuple, Type, Union
 
 from tirnouch.answers import Answer
+from tirnouch.device import Device
 from tirnouch.endpoints import BULK, INTERRUPT, Endpoint
 
 EXAMPLES = {(BULK, True): "bulk_in(0x81)", (BULK, False): "bulk_out(0x02)", (INTERRUPT, True): "interrupt_in(0x83)",
             (INTERRUPT, False): "interrupt_out(0x04)"}
+
+
+class Renewed(Device):
+    """A device that is as it was at first when it was reset or plugged in. The bases of a class may be several of these: each one calls
+    what stands behind it."""
+
+    def __new__(cls, *words: Any, **named: Any) -> Any:
+        device: Renewed = super().__new__(cls, *words, **named)
+        device._begin()
+        return device
+
+    def _begin(self) -> None:
+        """As it is at first; before __init__, too."""
+
+    def on_reset(self) -> None:
+        super().on_reset()
+        self._begin()
+
+    def on_plugged(self) -> None:
+        super().on_plugged()
+        self._begin()
 
 
 def says(kind: Union[type, object], name: str) -> str:
@@ -35,6 +57,14 @@ def chosen(kind: type, name: str, choices: Tuple[Any, ...]) -> Any:
 def gives(kind: type, *names: str) -> bool:
     """Whether the class itself has one of these attributes, and not a base of it."""
     return any(name in vars(kind) for name in names)
+
+
+def endpoint_of(device: Device, name: str) -> Endpoint:
+    """The endpoint of a name that a device needs."""
+    it = declared(type(device), name)
+    if it is None:
+        raise TypeError(f"{says(device, name)} is an endpoint, and not {getattr(device, name, None)!r}")
+    return it
 
 
 def declared(kind: type, name: str) -> Optional[Endpoint]:

@@ -12,9 +12,8 @@ from __future__ import annotations
 from typing import Any, ClassVar, Dict, Optional, Tuple, Union
 
 from tirnouch.answers import AS_TEXT, STALL, Answer
-from tirnouch.bases import bytes_of, chosen, declared, gives, joined, says, typed, waits
+from tirnouch.bases import Renewed, bytes_of, chosen, endpoint_of, gives, joined, says, typed, waits
 from tirnouch.descriptors import HID, REPORT, Interface, hid_descriptor, size_of
-from tirnouch.device import Device
 from tirnouch.endpoints import INTERRUPT, Endpoint, Request, control, interrupt_in
 from tirnouch.reports import FEATURE, INPUT, NAMES, OUTPUT, keyboard, mouse, sizes, vendor
 
@@ -28,7 +27,7 @@ READ, WRITE, READ_STANDARD, GET_DESCRIPTOR = 0xA1, 0x21, 0x81, 0x06
 IDLE_UNIT = 4
 
 
-class Hid(Device):
+class Hid(Renewed):
     """A device with one HID interface, number 0. What stands in a report never has the report's id in it: that is a word of its own, and 0
     where the report descriptor has no ids.
 
@@ -36,7 +35,7 @@ class Hid(Device):
     "mouse" for a device that speaks a boot protocol. `outputs = interrupt_out(0x02)` adds an endpoint for output reports, which else come
     by SET_REPORT. A report of another length than the report descriptor says is a stall, unless `any_length` is True.
 
-    An on_reset or on_plugged of a class calls that of this one: idle rates and protocol begin anew there."""
+    An on_reset or on_plugged of a class calls that of this one: reports, idle rates and protocol begin anew there."""
 
     report_descriptor: bytes = b""
     boot: str = ""
@@ -65,10 +64,7 @@ class Hid(Device):
     def __new__(cls, *words: Any, **named: Any) -> Any:
         if not cls.report_descriptor:
             raise TypeError(f"{says(cls, 'report_descriptor')} is missing: bytes, as keyboard(), mouse() or vendor(input=8) make them")
-        device = super().__new__(cls, *words, **named)
-        device._kept = {}
-        device._begin()
-        return device
+        return super().__new__(cls, *words, **named)
 
     # The reports of each kind and id that were sent or written last, and the bytes of one that isn't whole yet.
     _kept: Dict[Tuple[int, int], bytes]
@@ -77,14 +73,8 @@ class Hid(Device):
     is_boot: bool
 
     def _begin(self) -> None:
-        self._part, self._idle, self.is_boot = b"", {}, False
-
-    def on_reset(self) -> None:
-        self._begin()
-
-    def on_plugged(self) -> None:
-        self._kept.clear()
-        self._begin()
+        super()._begin()
+        self._kept, self._part, self._idle, self.is_boot = {}, b"", {}, False
 
     # What a class calls, and what it may do
 
@@ -93,9 +83,7 @@ class Hid(Device):
         another length of it."""
         whole = self._whole(INPUT, report_id, data)
         self._kept[INPUT, report_id] = whole
-        endpoint = declared(type(self), "reports")
-        assert endpoint
-        self.send(endpoint, self._with_id(report_id, whole))
+        self.send(endpoint_of(self, "reports"), self._with_id(report_id, whole))
 
     def on_output(self, report_id: int, data: bytes) -> Optional[Answer]:
         """An output report came. None takes it; STALL refuses it; NAK and later(ms) have it come again."""
@@ -169,9 +157,8 @@ class Hid(Device):
         data = self._part + packet
         has_ids = (OUTPUT, 0) not in self._sizes
         report_id = data[0] if has_ids and data else 0
-        endpoint = declared(type(self), "outputs")
-        assert endpoint
-        if len(data) < self._sizes.get((OUTPUT, report_id), 0) + has_ids and len(packet) == size_of(self, endpoint):
+        most = size_of(self, endpoint_of(self, "outputs"))
+        if len(data) < self._sizes.get((OUTPUT, report_id), 0) + has_ids and len(packet) == most:
             self._part = data
             return None
         answer = self._written(OUTPUT, report_id, data[has_ids:])

@@ -16,9 +16,8 @@ import inspect
 from typing import Any, Callable, ClassVar, Deque, List, Mapping, NamedTuple, Optional, Tuple
 
 from tirnouch.answers import Answer, later
-from tirnouch.bases import chosen, declared, joined, says, typed
+from tirnouch.bases import Renewed, chosen, endpoint_of, joined, says, typed
 from tirnouch.descriptors import size_of
-from tirnouch.device import Device
 from tirnouch.endpoints import BULK, bulk_in, bulk_out
 from tirnouch.messages import HEADER, TAKEN, Error, Unit, answer_of, marks, pattern, taken, units
 
@@ -74,7 +73,7 @@ def command(header: str, takes: int = 0) -> Callable[[Callable[..., Any]], Any]:
     return mark
 
 
-class Scpi(Device):
+class Scpi(Renewed):
     """An instrument. What it is told comes at 02 and ends with `end`, and its answers are read at 81 with `end` behind them; where `end` is
     "" a short packet ends a message.
 
@@ -100,7 +99,6 @@ class Scpi(Device):
     def __new__(cls, *words: Any, **named: Any) -> Any:
         device = super().__new__(cls, *words, **named)
         device.errors = []
-        device._begin()
         return device
 
     errors: List[Error]
@@ -110,14 +108,12 @@ class Scpi(Device):
     _is_waited: bool
 
     def _begin(self) -> None:
+        super()._begin()
         self._came, self._answers, self._is_waited = "", collections.deque(), False
 
-    def on_reset(self) -> None:
-        self._begin()
-
     def on_plugged(self) -> None:
+        super().on_plugged()
         self.errors.clear()
-        self._begin()
 
     # What a class may do, and call
 
@@ -187,9 +183,7 @@ class Scpi(Device):
     def _packet(self, packet: bytes) -> Optional[Answer]:
         """A packet of what it is told."""
         self._came += packet.decode("latin-1")
-        endpoint = declared(type(self), "packets")
-        assert endpoint
-        if not self.end and len(packet) < size_of(self, endpoint):
+        if not self.end and len(packet) < size_of(self, endpoint_of(self, "packets")):
             message, self._came = self._came, ""
             self.do(message)
         while self.end:
@@ -210,12 +204,12 @@ class Scpi(Device):
             return later(wait)
         self._is_waited = False
         self._answers.popleft()
-        endpoint = declared(type(self), "replies")
-        assert endpoint
-        self.send(endpoint, data, zero=True)
+        self.send(endpoint_of(self, "replies"), data, zero=True)
         return None
 
 
+joined(Scpi, "replies", BULK, True, "_reply")
+joined(Scpi, "packets", BULK, False, "_packet")
 # pylint: disable=protected-access
 OWN: List[Tuple[Any, Callable[[Scpi], str]]] = [
     (pattern("*CLS"), Scpi._clear), (pattern("*RST"), Scpi._reset), (pattern("*OPC?"), lambda _device: "1"),

@@ -12,9 +12,8 @@ import codecs
 from typing import Any, NamedTuple, Optional, Union
 
 from tirnouch.answers import STALL, Answer
-from tirnouch.bases import bytes_of, chosen, declared, joined, says, typed
+from tirnouch.bases import Renewed, bytes_of, chosen, declared, endpoint_of, joined, says, typed
 from tirnouch.descriptors import Interface
-from tirnouch.device import Device
 from tirnouch.endpoints import BULK, INTERRUPT, Endpoint, Request, bulk_in, bulk_out, control, interrupt_in
 
 # Requests and a notification (PSTN 1.2, 6.3 and 6.5), and what an abstract control model can do (5.3.2): line coding and state; a break.
@@ -48,7 +47,7 @@ class Coding(NamedTuple):
         return self.rate.to_bytes(4, "little") + bytes((self.stop, self.parity, self.bits))
 
 
-class Serial(Device):
+class Serial(Renewed):
     """A serial port: interface 0 with notifications at 83, interface 1 with bytes at 81 and 02.
 
     What comes is told line by line to `line`, whose answer is written with `end` behind it; a line ends with a line feed, a carriage
@@ -83,30 +82,18 @@ class Serial(Device):
         joined(cls, "notifications", INTERRUPT, True, is_needed=False)
         super().__init_subclass__(**words)
 
-    def __new__(cls, *words: Any, **named: Any) -> Any:
-        device = super().__new__(cls, *words, **named)
-        device._begin()
-        return device
-
     def _begin(self) -> None:
+        super()._begin()
         self.coding, self.dtr, self.rts = Coding(), False, False
         self._line, self._is_return = b"", False
-
-    def on_reset(self) -> None:
-        self._begin()
-
-    def on_plugged(self) -> None:
-        self._begin()
 
     # What a class calls
 
     def write(self, data: Union[str, bytes, bytearray, memoryview]) -> None:
         """Bytes, or text in the device's encoding, are read next; UnicodeEncodeError where it has a letter that isn't of it."""
         found = data.encode(self.encoding) if isinstance(data, str) else bytes_of(f"{self}: what is written", data)
-        endpoint = declared(type(self), "written")
-        assert endpoint
         if found:
-            self.send(endpoint, found, zero=True)
+            self.send(endpoint_of(self, "written"), found, zero=True)
 
     # pylint: disable-next=too-many-arguments
     def notify(self, carrier: bool = False, ready: bool = False, is_broken: bool = False, ring: bool = False, framing: bool = False,
@@ -182,3 +169,6 @@ class Serial(Device):
             answer = self.line(text)
             if answer is not None:
                 self.write(answer + self.end)
+
+
+joined(Serial, "packets", BULK, False, "_packet")

@@ -6,7 +6,7 @@ import struct
 from typing import Optional, Union
 
 from tirnouch.answers import STALL, Answer, later
-from tirnouch.bases import declared
+from tirnouch.bases import endpoint_of
 from tirnouch.descriptors import size_of
 from tirnouch.endpoints import IN, Request, bulk_in, bulk_out, control
 from tirnouch.scpi import Scpi
@@ -43,8 +43,7 @@ class Usbtmc(Scpi):
 
     def _packet(self, packet: bytes) -> Optional[Answer]:
         """A packet of a transfer: its header, and data, which are filled up to a multiple of 4 bytes."""
-        data, endpoint = self._transfer + packet, declared(type(self), "packets")
-        assert endpoint
+        data, endpoint = self._transfer + packet, endpoint_of(self, "packets")
         self._transfer = b""
         if not self._is_header(data):
             return STALL
@@ -91,15 +90,13 @@ class Usbtmc(Scpi):
         count = min(length, len(self._rest)) if at < 0 else at + 1
         part, self._rest = self._rest[:count], self._rest[count:]
         attributes = (0 if self._rest else END) | (BY_CHARACTER if at >= 0 else 0)
-        endpoint = declared(type(self), "replies")
-        assert endpoint
+        endpoint = endpoint_of(self, "replies")
         whole = HEADER.pack(REQUEST, tag, tag ^ 0xFF, len(part), attributes, 0) + part
         self.send(endpoint, whole.ljust((len(whole) + 3) // 4 * 4, b"\0"), zero=True)
         return None
 
     def _halt(self) -> None:
-        endpoint = declared(type(self), "packets")
-        assert endpoint
+        endpoint = endpoint_of(self, "packets")
         self.discard(endpoint)
         self.stall(endpoint)
 
@@ -132,8 +129,7 @@ class Usbtmc(Scpi):
         tag, asked = request.value & 0xFF, self._asked
         if asked and asked[0] != tag:
             return bytes((NOT_IN_PROGRESS, asked[0]))
-        endpoint = declared(type(self), "replies")
-        assert endpoint
+        endpoint = endpoint_of(self, "replies")
         is_there = bool(asked or self.waiting(endpoint))
         self.discard(endpoint)
         self._asked = None
