@@ -1,10 +1,14 @@
-"""A disk's commands over the blocks of a file: those that a host needs to mount a file system. Those for all devices are in clause 6 of
-SCSI Primary Commands 4 (SPC-4), those for disks in clause 5 of SCSI Block Commands 3 (SBC-3), each by its name. What isn't here is
-refused as an invalid operation code."""
+"""A disk's commands over the blocks of a file or of bytes: those that a host needs to mount a file system. Those for all devices are in
+clause 6 of SCSI Primary Commands 4 (SPC-4), those for disks in clause 5 of SCSI Block Commands 3 (SBC-3), each by its name. What isn't here
+is refused as an invalid operation code."""
 from __future__ import annotations
 
+import io
 import os
-from typing import Callable, Dict, NamedTuple, Optional
+from typing import IO, Callable, Dict, NamedTuple, Optional, Tuple, Union
+
+from tirnouch.bases import bytes_of
+from tirnouch.endpoints import whole
 
 # Operation codes
 TEST_UNIT_READY, REQUEST_SENSE, INQUIRY, MODE_SENSE, START_STOP_UNIT, PREVENT_ALLOW = 0x00, 0x03, 0x12, 0x1A, 0x1B, 0x1E
@@ -12,14 +16,19 @@ READ_CAPACITY, READ, WRITE, VERIFY, SYNCHRONIZE_CACHE = 0x25, 0x28, 0x2A, 0x2F, 
 SUPPORTED_PAGES, SERIAL_PAGE = 0x00, 0x80
 CACHING_PAGE, ALL_PAGES = 0x08, 0x3F
 MOST_BLOCKS = 1 << 32
+# Vendor, product and revision in INQUIRY, and the letters that there are for each (SPC-4, 6.4.2).
+NAMES, MOST_NAMES = ("WORKS", "COMPUTED STICK", "1.00"), (8, 16, 4)
+Medium = Union[bytes, str, "os.PathLike[str]"]
 
 
 class Refused(Exception):
-    """A command ends with CHECK CONDITION; sense key, additional sense code and its qualifier say why (SPC-4, 4.5)."""
+    """A command ends with CHECK CONDITION; sense key, additional sense code and its qualifier say why (SPC-4, 4.5), as Refused(0x3, 0x11)
+    for an unrecovered read error."""
 
     def __init__(self, key: int, code: int, qualifier: int = 0) -> None:
+        self.key, self.code = whole("a sense key", key, 0xF), whole("an additional sense code", code, 0xFF)
+        self.qualifier = whole("its qualifier", qualifier, 0xFF)
         super().__init__(f"sense {key:x}/{code:02x}/{qualifier:02x}")
-        self.key, self.code, self.qualifier = key, code, qualifier
 
 
 def invalid_operation() -> Refused:
@@ -42,6 +51,11 @@ def write_protected() -> Refused:
     return Refused(0x7, 0x27)
 
 
+def changed() -> Refused:
+    """UNIT ATTENTION, NOT READY TO READY CHANGE, MEDIUM MAY HAVE CHANGED."""
+    return Refused(0x6, 0x28)
+
+
 def not_present() -> Refused:
     """NOT READY, MEDIUM NOT PRESENT."""
     return Refused(0x2, 0x3A)
@@ -56,15 +70,19 @@ class Transfer(NamedTuple):
 
 
 class Disk:
-    """A disk with the blocks of a file. What is written stands in the file when the command ends."""
+    """A disk with the blocks of a file, by its path, or of bytes, of which it has a copy. What is written stands in the file when the
+    command ends. `names` are vendor, product and revision of INQUIRY."""
 
-    def __init__(self, path: str, block: int = 512, is_protected: bool = False, product: str = "COMPUTED STICK", serial: str = "0") -> None:
-        size = os.stat(path).st_size
+    def __init__(self, medium: Medium, block: int = 512, is_protected: bool = False, names: Tuple[str, str, str] = NAMES,
+                 serial: str = "0") -> None:
+        size, what = (len(medium), "a medium") if isinstance(medium, bytes) else (os.stat(medium).st_size, os.fspath(medium))
         if block <= 0 or block % 512 or size < block or size % block or size // block > MOST_BLOCKS:
-            raise ValueError(f"{path} has {size} bytes: a disk has one or more blocks of {block} bytes, and a block is a multiple of 512")
-        self.file = open(path, "rb" if is_protected else "r+b")  # pylint: disable=consider-using-with
+            raise ValueError(f"{what} has {size} bytes: a disk has one or more blocks of {block} bytes, and a block is a multiple of 512")
+        self.file: IO[bytes] = io.BytesIO(medium) if isinstance(medium, bytes) else open(medium, "rb" if is_protected else "r+b")
         self.block, self.count, self.is_protected = block, size // block, is_protected
-        self.product, self.serial, self.is_loaded = product, serial, True
+        self.names, self.serial, self.is_loaded, self.is_changed = names, serial, True, False
+        self.reads: Callable[[int, int], bytes] = self.blocks
+        self.writes: Callable[[int, bytes], None] = self.put
         self.sense: Optional[Refused] = None
         self.commands: Dict[int, Callable[[bytes], Transfer]] = {
             TEST_UNIT_READY: self.test_unit_ready, REQUEST_SENSE: self.request_sense, INQUIRY: self.inquiry, MODE_SENSE: self.mode_sense,
@@ -77,12 +95,34 @@ class Disk:
         if code not in (REQUEST_SENSE, INQUIRY):
             self.sense = None
         try:
+            if self.is_changed and code not in (REQUEST_SENSE, INQUIRY):
+                self.is_changed = False
+                raise changed()
             if code not in self.commands:
                 raise invalid_operation()
             return self.commands[code](command.ljust(16, b"\0"))
         except Refused as refused:
             self.sense = refused
             raise
+
+    def take(self, transfer: Transfer, data: bytes) -> None:
+        """A command is given the host's data; as above."""
+        try:
+            transfer.take(data)
+        except Refused as refused:
+            self.sense = refused
+            raise
+
+    def blocks(self, at: int, count: int) -> bytes:
+        """Blocks of the medium."""
+        self.file.seek(at * self.block)
+        return self.file.read(count * self.block)
+
+    def put(self, at: int, data: bytes) -> None:
+        """Blocks of the medium are other ones."""
+        self.file.seek(at * self.block)
+        self.file.write(data)
+        self.file.flush()
 
     # SPC-4
 
@@ -108,8 +148,8 @@ class Disk:
             return Transfer((bytes((0, command[2], 0, len(page))) + page)[:length])
         if command[2]:
             raise invalid_field()
-        data = bytes((0x00, 0x80, 0x04, 0x02, 31, 0, 0, 0)) + b"WORKS".ljust(8) + self.product.encode("ascii").ljust(16)[:16] + b"1.00"
-        return Transfer(data[:length])
+        names = b"".join(name.encode("ascii").ljust(most) for name, most in zip(self.names, MOST_NAMES))
+        return Transfer((bytes((0x00, 0x80, 0x04, 0x02, 31, 0, 0, 0)) + names)[:length])
 
     def mode_sense(self, command: bytes) -> Transfer:
         """No block descriptors, and the caching page, which says that a write cache is there (SBC-3)."""
@@ -140,21 +180,17 @@ class Disk:
     def read(self, command: bytes) -> Transfer:
         """Blocks for the host."""
         at, count = self.range(command)
-        self.file.seek(at * self.block)
-        return Transfer(self.file.read(count * self.block))
+        data = bytes_of("what is read of a disk", self.reads(at, count)) if count else b""
+        if len(data) != count * self.block:
+            raise ValueError(f"{count} blocks of {self.block} bytes are read from block {at} on, and {len(data)} bytes were returned")
+        return Transfer(data)
 
     def write(self, command: bytes) -> Transfer:
         """Blocks of the host's, which stand in the file when they are there."""
         at, count = self.range(command)
         if self.is_protected:
             raise write_protected()
-
-        def take(data: bytes) -> None:
-            self.file.seek(at * self.block)
-            self.file.write(data)
-            self.file.flush()
-
-        return Transfer(room=count * self.block, take=take)
+        return Transfer(room=count * self.block, take=lambda data: self.writes(at, data))
 
     def verify(self, command: bytes) -> Transfer:
         """The blocks can be read; those of the host's aren't compared."""
@@ -166,7 +202,7 @@ class Disk:
     def synchronize_cache(self, command: bytes) -> Transfer:
         """What was written is on the machine's own disk."""
         self.range(command)
-        if not self.is_protected:
+        if not self.is_protected and not isinstance(self.file, io.BytesIO):
             os.fsync(self.file.fileno())
         return Transfer()
 
