@@ -7,9 +7,9 @@ import struct
 import unittest
 from typing import Tuple
 
-from card import Card
-from ccid import Reader
 from tests.harness import DEVICES, Host, ProgramHost
+from tirnouch.devices.card import Card
+from tirnouch.devices.ccid import Reader
 
 SELECT = bytes.fromhex("00a4040009f07469726e6f756368")
 PIN = bytes.fromhex("0020000106") + b"123456"

@@ -5,9 +5,9 @@ import pathlib
 import tempfile
 import unittest
 
-from ch341a import Ch341a
 from tests.harness import Host, Stalled
-from w25q80 import W25Q80
+from tirnouch.devices.ch341a import Ch341a
+from tirnouch.devices.w25q80 import W25Q80
 
 SIZE = 1 << 20
 

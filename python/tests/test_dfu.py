@@ -6,8 +6,8 @@ import tempfile
 import unittest
 from typing import Tuple
 
-from dfu import Dfu
 from tests.harness import DEVICES, Host, ProgramHost, Stalled
+from tirnouch.devices.dfu import Dfu
 
 IDLE, DNLOAD_SYNC, DNBUSY, DNLOAD_IDLE, MANIFEST_SYNC, MANIFEST, UPLOAD_IDLE, ERROR = 2, 3, 4, 5, 6, 7, 9, 10
 ERR_ADDRESS, ERR_STALLEDPKT = 8, 15

@@ -203,8 +203,9 @@ class Kinds(Memories):
             ({"firmware": "abc"}, TypeError, "Wrong: `firmware` is bytes, and not 'abc'"),
             ({"can_upload": 1}, TypeError, "Wrong: `can_upload` is True or False, and not 1"),
             ({"transfer": 0}, ValueError, "Wrong: `transfer` is 0x1 to 0x1000, and not 0x0"),
-            ({"writing": -1}, ValueError, "Wrong: `writing` is 0x0 to 0xffffff"), ({"writing": 0.5}, TypeError, "`writing` is a whole number"),
-            ({"size": 0}, ValueError, "Wrong: `size` is 0x1 to"), ({"memory": 5}, TypeError, "Wrong: `memory` is the name of the memory, a str"),
+            ({"writing": -1}, ValueError, "Wrong: `writing` is 0x0 to 0xffffff"),
+            ({"writing": 0.5}, TypeError, "`writing` is a whole number"), ({"size": 0}, ValueError, "Wrong: `size` is 0x1 to"),
+            ({"memory": 5}, TypeError, "Wrong: `memory` is the name of the memory, a str"),
             ({"detach_timeout": 65536}, ValueError, "Wrong: `detach_timeout` is 0x0 to 0xffff"),
             ({"will_detach": "yes"}, TypeError, "Wrong: `will_detach` is True or False, and not 'yes'")]
         for words, error, sentence in wrong:
@@ -283,7 +284,8 @@ class Applications(unittest.TestCase):
         texts = [it.text(number) for number, it in enumerate(devices)]
         self.assertTrue(texts[0].endswith("comes back 0 as 1\n") and texts[1].endswith("comes back 1 as 2\n"))
         self.assertNotIn("comes", texts[2] + Plain().text())
-        for wrong, sentence in (((), "chain takes two or more devices"), ((Plain(),), "two or more"), ((Device(), Memory()), "of Dfu and Runtime"),
+        for wrong, sentence in (((), "chain takes two or more devices"), ((Plain(),), "two or more"),
+                                ((Device(), Memory()), "of Dfu and Runtime"),
                                 ((Plain(), 5), "two or more devices, as chain")):
             with self.assertRaisesRegex(TypeError, sentence):
                 chain(*wrong)  # type: ignore[arg-type]

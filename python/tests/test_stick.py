@@ -8,8 +8,8 @@ import tempfile
 import unittest
 from typing import Tuple
 
-from stick import Stick
 from tests.harness import Host, ProgramHost, Stalled, DEVICES
+from tirnouch.devices.stick import Stick
 
 PASSED, FAILED, PHASE_ERROR = 0, 1, 2
 BLOCKS = 64
@@ -299,4 +299,7 @@ class Programs(Sticks):
         configuration = "0902200001010080320904000002080650000705020200020007058102000200"
         self.assertEqual(host.hello()[:2], [f"device 0 {configuration}", "ids 0 1209 0007 0100"])
         self.assertEqual(host.control(0xA1, 0xFE, 0, 0, 1), b"\0")
+        self.assertEqual(host.end(), (0, ""))
+        host = ProgramHost("-m", "tirnouch.devices.stick", str(self.path), "4096")
+        self.assertEqual(host.hello()[0], f"device 0 {configuration}")
         self.assertEqual(host.end(), (0, ""))

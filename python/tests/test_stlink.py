@@ -4,8 +4,8 @@ from __future__ import annotations
 import struct
 import unittest
 
-from stlink import Stlink
 from tests.harness import DEVICES, Host, ProgramHost
+from tirnouch.devices.stlink import Stlink
 
 DHCSR = 0xE000EDF0
 

@@ -6,7 +6,7 @@ import unittest
 from typing import List
 
 from tests.harness import DEVICES, Host, ProgramHost
-from yubikey import Yubikey, check_sum
+from tirnouch.devices.yubikey import Yubikey, check_sum
 
 SERIAL, CHALLENGE = 0x10, 0x38
 

@@ -13,24 +13,24 @@ EXAMPLES = {(BULK, True): "bulk_in(0x81)", (BULK, False): "bulk_out(0x02)", (INT
 
 
 class Renewed(Device):
-    """A device that is as it was at first when it was reset or plugged in. The bases of a class may be several of these: each one calls
-    what stands behind it."""
+    """A device that is as it was at first when it was reset or plugged in: `begin` says how. A class that has more of that calls
+    super().begin() in its own; one that has on_reset or on_plugged calls super()'s there. So a class may have several of these as bases."""
 
     def __new__(cls, *words: Any, **named: Any) -> Any:
         device: Renewed = super().__new__(cls, *words, **named)
-        device._begin()
+        device.begin()
         return device
 
-    def _begin(self) -> None:
-        """As it is at first; before __init__, too."""
+    def begin(self) -> None:
+        """As it is at first. It is called before __init__, too."""
 
     def on_reset(self) -> None:
         super().on_reset()
-        self._begin()
+        self.begin()
 
     def on_plugged(self) -> None:
         super().on_plugged()
-        self._begin()
+        self.begin()
 
 
 def says(kind: Union[type, object], name: str) -> str:

@@ -89,8 +89,8 @@ class Chained(Renewed):
         whole(says(cls, "detach_timeout"), cls.detach_timeout, 0xFFFF)
         whole(says(cls, "transfer"), cls.transfer, 4096, 1)
 
-    def _begin(self) -> None:
-        super()._begin()
+    def begin(self) -> None:
+        super().begin()
         self._is_leaving = False
 
     def text(self, number: int = 0) -> str:
@@ -136,9 +136,9 @@ class Runtime(Chained):
         super().__init_subclass__(**words)
         cls.controls = [(it._replace(index=cls._interface) if name in OWN else it, name) for it, name in cls.controls]
 
-    def _begin(self) -> None:
+    def begin(self) -> None:
         self.state = State.APP_IDLE
-        super()._begin()
+        super().begin()
 
     def on_reset(self) -> None:
         is_leaving = self.state == State.APP_DETACH
@@ -180,9 +180,7 @@ class Dfu(Chained):
     at once. With `is_strict` a GETSTATUS that comes before so many have passed by the machine's clock is an error.
 
     A device that isn't `is_tolerant` waits for a reset behind the manifestation. With `will_detach` it leaves at DETACH, and at the first
-    request behind a reset that follows a manifestation.
-
-    An on_reset or on_plugged of a class calls that of this one."""
+    request behind a reset that follows a manifestation."""
 
     firmware: bytes = b""
     size: int = 65536
@@ -225,8 +223,8 @@ class Dfu(Chained):
         attributes = sum(bit for is_set, bit in bits if is_set)
         return Interface(CLASS, SUBCLASS, LOADER, cls.memory, functional(attributes, cls.detach_timeout, cls.transfer))
 
-    def _begin(self) -> None:
-        super()._begin()
+    def begin(self) -> None:
+        super().begin()
         self._idle()
         self.is_manifested = False
 

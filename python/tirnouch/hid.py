@@ -33,9 +33,7 @@ class Hid(Renewed):
 
     `report_descriptor` is bytes: what keyboard(), mouse() and vendor() of this module make, or a device's own. `boot` is "keyboard" or
     "mouse" for a device that speaks a boot protocol. `outputs = interrupt_out(0x02)` adds an endpoint for output reports, which else come
-    by SET_REPORT. A report of another length than the report descriptor says is a stall, unless `any_length` is True.
-
-    An on_reset or on_plugged of a class calls that of this one: reports, idle rates and protocol begin anew there."""
+    by SET_REPORT. A report of another length than the report descriptor says is a stall, unless `any_length` is True."""
 
     report_descriptor: bytes = b""
     boot: str = ""
@@ -72,8 +70,8 @@ class Hid(Renewed):
     _idle: Dict[int, int]
     is_boot: bool
 
-    def _begin(self) -> None:
-        super()._begin()
+    def begin(self) -> None:
+        super().begin()
         self._kept, self._part, self._idle, self.is_boot = {}, b"", {}, False
 
     # What a class calls, and what it may do

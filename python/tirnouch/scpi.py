@@ -107,8 +107,12 @@ class Scpi(Renewed):
     _answers: Deque[Tuple[int, bytes]]
     _is_waited: bool
 
-    def _begin(self) -> None:
-        super()._begin()
+    def begin(self) -> None:
+        super().begin()
+        self._forget()
+
+    def _forget(self) -> None:
+        """Nothing came, and nothing is to be read."""
         self._came, self._answers, self._is_waited = "", collections.deque(), False
 
     def on_plugged(self) -> None:

@@ -52,9 +52,7 @@ class Serial(Renewed):
 
     What comes is told line by line to `line`, whose answer is written with `end` behind it; a line ends with a line feed, a carriage
     return, or both. A class that takes bytes gives `received` anew. `encoding` is that of lines; bytes that it has no letter for stand as
-    \\xNN.
-
-    An on_reset or on_plugged of a class calls that of this one: the line's coding and its signals begin anew there."""
+    \\xNN."""
 
     interfaces = (Interface(0x02, 0x02, 0x01, "", FUNCTIONAL), Interface(0x0A, 0, 0))
     device_class = (0x02, 0, 0)
@@ -82,8 +80,8 @@ class Serial(Renewed):
         joined(cls, "notifications", INTERRUPT, True, is_needed=False)
         super().__init_subclass__(**words)
 
-    def _begin(self) -> None:
-        super()._begin()
+    def begin(self) -> None:
+        super().begin()
         self.coding, self.dtr, self.rts = Coding(), False, False
         self._line, self._is_return = b"", False
 

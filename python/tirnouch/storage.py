@@ -35,9 +35,7 @@ class Storage(Renewed):
 
     `medium` has its blocks: bytes, of which each device has a copy, or the path of a file, which is written. None is an empty slot, until
     `insert`. `block` is the bytes of a block, a multiple of 512; `names` are vendor, product and revision of INQUIRY, of at most 8, 16 and
-    4 letters; its serial number is the third of `strings`.
-
-    An on_reset or on_plugged of a class calls that of this one."""
+    4 letters; its serial number is the third of `strings`."""
 
     medium: Optional[Medium] = None
     block: int = 512
@@ -79,8 +77,12 @@ class Storage(Renewed):
             device.eject()
         return device
 
-    def _begin(self) -> None:
-        super()._begin()
+    def begin(self) -> None:
+        super().begin()
+        self._forget()
+
+    def _forget(self) -> None:
+        """Ready for a command."""
         self._is_lost, self._tag, self._wanted, self._transfer, self._taken = False, 0, 0, None, b""
 
     # What a class calls, and what it may do
@@ -114,7 +116,7 @@ class Storage(Renewed):
         """Bulk-Only Mass Storage Reset: the device is ready for a command. Halts stay until they are cleared."""
         self.discard(endpoint_of(self, "replies"))
         self.discard(endpoint_of(self, "packets"))
-        self._begin()
+        self._forget()
 
     @control(0xA1, 0xFE, 0, 0)
     def max_unit(self, _request: Request) -> bytes:

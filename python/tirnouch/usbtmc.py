@@ -37,8 +37,8 @@ class Usbtmc(Scpi):
     _asked: Optional["tuple[int, int, bytes]"]
     _last: int
 
-    def _begin(self) -> None:
-        super()._begin()
+    def _forget(self) -> None:
+        super()._forget()
         self._transfer, self._rest, self._asked, self._last = b"", b"", None, 0
 
     def _packet(self, packet: bytes) -> Optional[Answer]:
@@ -146,7 +146,7 @@ class Usbtmc(Scpi):
         for address in self.endpoints:
             if address & IN:
                 self.discard(address)
-        self._begin()
+        self._forget()
         self._halt()
         return bytes((SUCCESS,))
 
