@@ -7,7 +7,7 @@ from typing import Any, Dict, List, Optional, Tuple, Type
 
 from tests.drivers import drive, lacking_driver
 from tests.harness import Host, Stalled, told
-from tirnouch import NAK, STALL, Answer, bulk_in, bulk_out, interrupt_in
+from tirnouch import NAK, STALL, Answer, Device, bulk_in, bulk_out, interrupt_in
 from tirnouch.serial import Coding, Serial
 
 
@@ -186,6 +186,28 @@ class Classes(unittest.TestCase):
         for words, error, sentence in wrong:
             with self.assertRaisesRegex(error, sentence):
                 type("Wrong", (Serial,), words)
+
+    def test_a_reset_is_for_all_bases_of_a_class(self) -> None:
+        class Counted(Device):
+            resets = 0
+
+            def on_reset(self) -> None:
+                self.resets += 1
+
+            def on_plugged(self) -> None:
+                self.resets += 10
+
+        class Both(Port, Counted):
+            def begin(self) -> None:
+                super().begin()
+                self.is_new = True
+
+        device = Both()
+        self.assertTrue(device.is_new)
+        device.is_new = False
+        for event in ("reset", "plugged"):
+            Host(device).tell(event)
+        self.assertEqual((device.is_new, device.resets), (True, 11))
 
     def test_endpoints_given_anew_do_what_those_before_did(self) -> None:
         class Other(Port):

@@ -65,7 +65,9 @@ class Media(Sticks):
             host = Host64(device)
             self.assertEqual(host.give(ten(0x2A, 3, 1), b"y" * 512), (PASSED, 0, False))
             self.assertEqual(path.read_bytes(), bytes(1536) + b"y" * 512)
-            device.disk.file.close()
+            file = device.disk.file
+            device.insert(bytes(512))
+            self.assertTrue(file.closed)
 
     def test_an_empty_slot(self) -> None:
         """NOT READY, MEDIUM NOT PRESENT; once that was told, a medium that comes is told by UNIT ATTENTION, once."""
