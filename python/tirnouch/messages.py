@@ -2,6 +2,7 @@
 and by IEEE 488.2 (chapter 7 for parameters). Text has a letter for each byte, as latin-1 has them."""
 from __future__ import annotations
 
+import math
 import re
 from typing import Any, Callable, Dict, Iterator, List, NamedTuple, Tuple
 
@@ -59,7 +60,7 @@ def block_end(text: str, at: int) -> int:
     """The place behind a block of definite length (IEEE 488.2, 7.7.6): `#`, how many digits follow, those of its length, and its bytes."""
     begin = at + 2 + int(text[at + 1])
     digits = text[at + 2 : begin]
-    return begin + (int(digits) if digits.isdigit() else 0)
+    return begin + (int(digits) if digits.isdecimal() else 0)
 
 
 def parted(text: str, sign: str) -> List[str]:
@@ -127,6 +128,8 @@ def number_of(text: str) -> float:
             raise Error(-104) from None
     if not NUMBER.fullmatch(text):
         raise Error(-104)
+    if math.isinf(float(text)):
+        raise Error(-222)
     return float(text)
 
 
