@@ -295,6 +295,7 @@ class Drivers(unittest.TestCase):
     @unittest.skipIf(lacking_driver("usb.core"), lacking_driver("usb.core") or "")
     def test_by_pyusb(self) -> None:
         drive("dfu_pyusb.py", "usb.core")
+        drive("dfu_reset_pyusb.py", "usb.core")
 
     @unittest.skipIf(not DFU_UTIL or lacking(), lacking() or "there is no dfu-util: apt-get install dfu-util")
     def test_by_dfu_util(self) -> None:

@@ -2,6 +2,7 @@
 it failed."""
 from __future__ import annotations
 
+import functools
 import os
 import pathlib
 import shlex
@@ -18,6 +19,7 @@ PACKAGES = {"usb.core": "python3-usb", "hid": "python3-hid", "pyvisa_py": "pytho
 SECONDS = 60
 
 
+@functools.lru_cache(maxsize=None)
 def python_with(module: str) -> Optional[str]:
     """A Python that has a module; None where none has."""
     for python in dict.fromkeys((sys.executable, "/usr/bin/python3")):
