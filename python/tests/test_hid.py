@@ -1,12 +1,17 @@
 """HID devices, by sections of HID 1.11; report descriptors by its 6.2.2 and appendix E."""
 from __future__ import annotations
 
+import os
+import threading
+import time
 import unittest
 from typing import Any, Dict, List, Optional, Tuple, Type, Union
+from unittest import mock
 
 from tests.drivers import drive, lacking_driver, program_line
 from tests.harness import DEVICES, Host, Stalled, told
-from tirnouch import NAK, STALL, Answer, Request, interrupt_in, interrupt_out
+from tests.libusb import PATH, Program, lacking
+from tirnouch import NAK, STALL, Answer, Request, interrupt_in, interrupt_out, plug
 from tirnouch.hid import Hid, keyboard, mouse, vendor
 from tirnouch.reports import FEATURE, INPUT, OUTPUT, sizes
 
@@ -279,6 +284,27 @@ class Requests(unittest.TestCase):
                 return b"\x2a"
 
         self.assertEqual(Host(Own()).control(0xA1, 2, 0, 0, 1), b"\x2a")
+
+
+@unittest.skipIf(lacking(), lacking() or "")
+class Threads(unittest.TestCase):
+    """Over the library itself, in real time."""
+
+    def test_a_report_from_another_thread_wakes_the_host(self) -> None:
+        kept = {key: value for key, value in os.environ.items() if not key.startswith(("TIRNOUCH_", "LIBUSB_"))}
+        device = Keys()
+        timer = threading.Timer(0.1, device.report, (b"abcdefgh",))
+        with mock.patch.dict(os.environ, kept, clear=True), plug(device, library=str(PATH)):
+            program = Program()
+            try:
+                self.assertTrue(program.open(device.vendor, device.product))
+                begin = time.monotonic()
+                timer.start()
+                self.assertEqual(program.read(0x81, 8, milliseconds=8000), b"abcdefgh")
+                self.assertLess(time.monotonic() - begin, 4, "it wasn't woken")
+            finally:
+                timer.join()
+                program.end()
 
 
 class Drivers(unittest.TestCase):

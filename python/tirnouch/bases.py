@@ -2,6 +2,7 @@
 judged when it is made, and how an endpoint that a class gives anew gets the method of its base's."""
 from __future__ import annotations
 
+import contextlib
 from typing import Any, Callable, Optional, Tuple, Type, Union
 
 from tirnouch.answers import Answer
@@ -31,6 +32,12 @@ class Renewed(Device):
     def on_plugged(self) -> None:
         super().on_plugged()
         self.begin()
+
+    def _offer(self, name: str, data: bytes, zero: bool = False) -> None:
+        """What is read next at the endpoint of a name. A host that waits for it in another thread is woken."""
+        self.send(endpoint_of(self, name), data, zero)
+        with contextlib.suppress(RuntimeError):     # a method that is asked needn't wake the host, and a program's device can't
+            self.ready()
 
 
 def says(kind: Union[type, object], name: str) -> str:

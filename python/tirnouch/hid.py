@@ -77,11 +77,11 @@ class Hid(Renewed):
     # What a class calls, and what it may do
 
     def report(self, data: Union[bytes, bytearray, memoryview], report_id: int = 0) -> None:
-        """An input report is read next, behind those that were sent before. ValueError where the report descriptor has no such report, or
-        another length of it."""
+        """An input report is read next, behind those that were sent before; from any thread. ValueError where the report descriptor has no
+        such report, or another length of it."""
         whole = self._whole(INPUT, report_id, data)
         self._kept[INPUT, report_id] = whole
-        self.send(endpoint_of(self, "reports"), self._with_id(report_id, whole))
+        self._offer("reports", self._with_id(report_id, whole))
 
     def on_output(self, report_id: int, data: bytes) -> Optional[Answer]:
         """An output report came. None takes it; STALL refuses it; NAK and later(ms) have it come again."""

@@ -12,7 +12,7 @@ import codecs
 from typing import Any, NamedTuple, Optional, Union
 
 from tirnouch.answers import STALL, Answer
-from tirnouch.bases import Renewed, bytes_of, chosen, declared, endpoint_of, joined, says, typed
+from tirnouch.bases import Renewed, bytes_of, chosen, declared, joined, says, typed
 from tirnouch.descriptors import Interface
 from tirnouch.endpoints import BULK, INTERRUPT, Endpoint, Request, bulk_in, bulk_out, control, interrupt_in
 
@@ -88,22 +88,22 @@ class Serial(Renewed):
     # What a class calls
 
     def write(self, data: Union[str, bytes, bytearray, memoryview]) -> None:
-        """Bytes, or text in the device's encoding, are read next; UnicodeEncodeError where it has a letter that isn't of it."""
+        """Bytes, or text in the device's encoding, are read next; from any thread. UnicodeEncodeError where it has a letter that isn't of
+        it."""
         found = data.encode(self.encoding) if isinstance(data, str) else bytes_of(f"{self}: what is written", data)
         if found:
-            self.send(endpoint_of(self, "written"), found, zero=True)
+            self._offer("written", found, zero=True)
 
     # pylint: disable-next=too-many-arguments
     def notify(self, carrier: bool = False, ready: bool = False, is_broken: bool = False, ring: bool = False, framing: bool = False,
                parity: bool = False, overrun: bool = False) -> None:
         """SERIAL_STATE is told (6.5.4): the carrier (DCD), that the other end is ready (DSR), a break, a ring, and errors of framing, of
         parity and by an overrun. RuntimeError where the class has no `notifications`."""
-        endpoint = declared(type(self), "notifications")
-        if not endpoint:
+        if not declared(type(self), "notifications"):
             raise RuntimeError(f"{says(self, 'notifications')} is None: where states are told it is an endpoint, as interrupt_in(0x83)")
         bits = (carrier, ready, is_broken, ring, framing, parity, overrun)
         state = sum(bit for bit, is_set in zip((CARRIER, READY, BROKEN_LINE, RING, FRAMING, PARITY, OVERRUN), bits) if is_set)
-        self.send(endpoint, bytes((READ, SERIAL_STATE, 0, 0, 0, 0, 2, 0, state, 0)))
+        self._offer("notifications", bytes((READ, SERIAL_STATE, 0, 0, 0, 0, 2, 0, state, 0)))
 
     # What a class may do
 

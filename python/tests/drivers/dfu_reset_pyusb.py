@@ -1,4 +1,4 @@
-"""An application that waits for a reset behind DFU_DETACH, by pyusb (DFU 1.1, 5.1 and A.2.2): it leaves at the first request behind that."""
+"""An application that waits for a reset behind DFU_DETACH, by pyusb (DFU 1.1, 5.1, A.2.2): it leaves at the first request behind that."""
 import usb.core
 import usb.util
 
