@@ -11,7 +11,7 @@ from unittest import mock
 from tests.drivers import drive, lacking_driver, program_line
 from tests.harness import DEVICES, Host, Stalled, told
 from tests.libusb import PATH, Program, lacking
-from tirnouch import NAK, STALL, Answer, Request, interrupt_in, interrupt_out, plug
+from tirnouch import NAK, STALL, Answer, Interface, Request, bulk_in, hid_descriptor, interrupt_in, interrupt_out, plug
 from tirnouch.hid import Hid, keyboard, mouse, vendor
 from tirnouch.reports import FEATURE, INPUT, OUTPUT, sizes
 
@@ -108,8 +108,10 @@ class Classes(unittest.TestCase):
         self.assertEqual(type("Mouse", (base,), {"report_descriptor": mouse()})().configuration()[14:17], b"\3\1\2")
 
     def test_a_class_may_say_its_interfaces_itself(self) -> None:
-        kind = self.made(interfaces=((3, 0, 0), (0xFF, 0, 0)))
-        self.assertEqual(kind().configuration()[4], 2)
+        own = Interface(3, 0, 0, "", hid_descriptor(keyboard()))
+        device = self.made(interfaces=(own, (0xFF, 0, 0)), data=bulk_in(0x82, interface=1))()
+        self.assertEqual(device.configuration()[9:].hex(),
+                         "090400000103000000" "092111010001223f00" "07058103400004" "0904010001ff000000" "07058202000200")
 
 
 class Reports(unittest.TestCase):

@@ -81,7 +81,7 @@ class Hosts(unittest.TestCase):
         data = dice.choice(BEGINNINGS) + bytes(dice.randrange(256) for _ in range(dice.choice((0, 0, 1, 7, 11, 16, 64, 500))))
         if kind < 4 or not device.endpoints:
             own = device.controls and dice.random() < 0.8
-            fields: Any = dice.choice(device.controls)[0] if own else Request(*[dice.randrange(256) for _ in range(5)], b"")
+            fields: Any = dice.choice(device.controls)[0] if own else Request(*(dice.randrange(256) for _ in range(5)), data=b"")
             value, index = (dice.choice(VALUES) if it is None else it for it in (fields.value, fields.index))
             inward = fields.type & 0x80
             length = dice.choice((0, 1, 8, 4096)) if inward else len(data)

@@ -12,7 +12,7 @@ from tests.drivers import HERE, drive, lacking_driver, program_line, run
 from tests.harness import DEVICES, Host, Stalled, told
 from tests.libusb import lacking
 from tests.test_dfu import Loader
-from tirnouch import Device, interrupt_in
+from tirnouch import Device, bulk_in, bulk_out, interrupt_in
 from tirnouch.dfu import Dfu, Runtime, State, Status, chain
 from tirnouch.hid import Hid, keyboard
 from tirnouch.scpi import Scpi
@@ -277,6 +277,12 @@ class Applications(unittest.TestCase):
             type("Wrong", (Runtime, Scpi), {})
         with self.assertRaisesRegex(ValueError, "Wrong: `attributes_of_loader` is 0x0 to 0x7"):
             type("Wrong", (Runtime,), {"attributes_of_loader": 8})
+
+    def test_two_classes_that_have_interface_0_are_none(self) -> None:
+        for bases, sentence in (((Serial, Scpi), "interface 0 is Serial's or Scpi's: a class has one of them as a base"),
+                                ((Scpi, Memory), "Scpi's or Dfu's")):
+            with self.assertRaisesRegex(TypeError, sentence):
+                type("Wrong", bases, {"replies": bulk_in(0x85), "packets": bulk_out(0x05)})
 
     def test_a_chain(self) -> None:
         """`comes back D as E` (docs/DEVICES.md), for all but the last."""

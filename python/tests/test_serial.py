@@ -187,6 +187,16 @@ class Classes(unittest.TestCase):
             with self.assertRaisesRegex(error, sentence):
                 type("Wrong", (Serial,), words)
 
+    def test_a_class_with_a_further_interface(self) -> None:
+        class More(Port):
+            interfaces = (*Serial.interfaces, (0xFF, 0, 0))
+            samples = bulk_in(0x84, interface=2)
+
+        self.assertEqual(More().configuration()[-16:].hex(), "0904020001ff000000" "07058402400000")
+        host = Host(More())
+        host.write(0x02, b"a\n", 64)
+        self.assertEqual(host.read(0x81, 64, 64), b"A\r\n")
+
     def test_a_reset_is_for_all_bases_of_a_class(self) -> None:
         class Counted(Device):
             resets = 0

@@ -3,7 +3,7 @@ judged when it is made, and how an endpoint that a class gives anew gets the met
 from __future__ import annotations
 
 import contextlib
-from typing import Any, Callable, Optional, Tuple, Type, Union
+from typing import Any, Callable, ClassVar, Optional, Tuple, Type, Union
 
 from tirnouch.answers import Answer
 from tirnouch.device import Device
@@ -16,6 +16,15 @@ EXAMPLES = {(BULK, True): "bulk_in(0x81)", (BULK, False): "bulk_out(0x02)", (INT
 class Renewed(Device):
     """A device that is as it was at first when it was reset or plugged in: `begin` says how. A class that has more of that calls
     super().begin() in its own; one that has on_reset or on_plugged calls super()'s there. So a class may have several of these as bases."""
+
+    # What a base class of devices has: interface 0 is its own.
+    _has_first_interface: ClassVar[bool] = False
+
+    def __init_subclass__(cls, **words: Any) -> None:
+        owners = [it.__name__ for it in cls.__mro__ if vars(it).get("_has_first_interface")]
+        if len(owners) > 1:
+            raise TypeError(f"{cls.__name__}: interface 0 is {owners[0]}'s or {owners[1]}'s: a class has one of them as a base")
+        super().__init_subclass__(**words)
 
     def __new__(cls, *words: Any, **named: Any) -> Any:
         device: Renewed = super().__new__(cls, *words, **named)

@@ -193,6 +193,7 @@ class Dfu(Chained):
     manifesting: int = 50
     device_class = (CLASS, SUBCLASS, LOADER)
 
+    _has_first_interface = True
     state: State
     status: Status
     is_manifested: bool

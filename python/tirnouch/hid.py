@@ -42,6 +42,7 @@ class Hid(Renewed):
     reports = interrupt_in(0x81)
     outputs: Optional[Endpoint] = None
 
+    _has_first_interface = True
     _sizes: ClassVar[Dict[Tuple[int, int], int]] = {}
 
     def __init_subclass__(cls, **words: Any) -> None:

@@ -86,6 +86,7 @@ class Scpi(Renewed):
     replies = bulk_in(0x81)
     packets = bulk_out(0x02)
 
+    _has_first_interface = True
     commands: ClassVar[List[Command]] = []
     _texts: ClassVar[List[Tuple[Any, str, str]]] = []
 

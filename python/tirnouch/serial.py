@@ -9,7 +9,7 @@ A driver reaches it by its endpoints: the system has no port of it, as /dev/ttyA
 from __future__ import annotations
 
 import codecs
-from typing import Any, NamedTuple, Optional, Union
+from typing import Any, NamedTuple, Optional, Sequence, Tuple, Union
 
 from tirnouch.answers import STALL, Answer
 from tirnouch.bases import Renewed, bytes_of, chosen, declared, joined, says, typed
@@ -54,7 +54,7 @@ class Serial(Renewed):
     return, or both. A class that takes bytes gives `received` anew. `encoding` is that of lines; bytes that it has no letter for stand as
     \\xNN."""
 
-    interfaces = (Interface(0x02, 0x02, 0x01, "", FUNCTIONAL), Interface(0x0A, 0, 0))
+    interfaces: Sequence[Tuple[Any, ...]] = (Interface(0x02, 0x02, 0x01, "", FUNCTIONAL), Interface(0x0A, 0, 0))
     device_class = (0x02, 0, 0)
     end: str = "\r\n"
     encoding: str = "ascii"
@@ -62,6 +62,7 @@ class Serial(Renewed):
     packets = bulk_out(0x02, interface=1)
     notifications: Optional[Endpoint] = interrupt_in(0x83, 16, interface=0)
 
+    _has_first_interface = True
     coding: Coding
     dtr: bool
     rts: bool

@@ -12,7 +12,7 @@ from __future__ import annotations
 
 import os
 import struct
-from typing import Any, Optional, Tuple
+from typing import Any, Optional, Sequence, Tuple
 
 from tirnouch.answers import STALL, Answer
 from tirnouch.bases import Renewed, endpoint_of, joined, says, typed
@@ -41,11 +41,12 @@ class Storage(Renewed):
     block: int = 512
     is_protected: bool = False
     names: Tuple[str, str, str] = NAMES
-    interfaces = ((0x08, 0x06, 0x50),)
-    strings = ("Works", "Computed Stick", SERIAL)
+    interfaces: Sequence[Tuple[Any, ...]] = ((0x08, 0x06, 0x50),)
+    strings: Sequence[str] = ("Works", "Computed Stick", SERIAL)
     replies = bulk_in(0x81)
     packets = bulk_out(0x02)
 
+    _has_first_interface = True
     disk: Disk
     _is_asked: bool
     # Behind a command that isn't valid; the tag and the length of the last one; what of the host's data came, and what is done with them.

@@ -3,7 +3,7 @@ header."""
 from __future__ import annotations
 
 import struct
-from typing import Optional, Union
+from typing import Any, Optional, Sequence, Tuple, Union
 
 from tirnouch.answers import STALL, Answer, later
 from tirnouch.bases import endpoint_of
@@ -27,7 +27,7 @@ class Usbtmc(Scpi):
     """An instrument whose messages come by USBTMC: no `end` is needed, as a header says where a message ends. A transfer whose header isn't
     one, or that is shorter than its header says, halts the endpoint, and nothing of it is done (3.2.2)."""
 
-    interfaces = ((0xFE, 0x03, 0x01),)
+    interfaces: Sequence[Tuple[Any, ...]] = ((0xFE, 0x03, 0x01),)
     replies = bulk_in(0x81)
     packets = bulk_out(0x02)
 
