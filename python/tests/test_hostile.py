@@ -9,7 +9,7 @@ from typing import Any, List, Type
 from tests.harness import Host, told
 from tirnouch import Device, interrupt_out
 from tirnouch.dfu import Dfu, Runtime
-from tirnouch.endpoints import Request
+from tirnouch.endpoints import Fields
 from tirnouch.hid import Hid, keyboard, vendor
 from tirnouch.scpi import Scpi, command
 from tirnouch.serial import Serial
@@ -81,7 +81,7 @@ class Hosts(unittest.TestCase):
         data = dice.choice(BEGINNINGS) + bytes(dice.randrange(256) for _ in range(dice.choice((0, 0, 1, 7, 11, 16, 64, 500))))
         if kind < 4 or not device.endpoints:
             own = device.controls and dice.random() < 0.8
-            fields: Any = dice.choice(device.controls)[0] if own else Request(*(dice.randrange(256) for _ in range(5)), data=b"")
+            fields: Any = dice.choice(device.controls)[0] if own else Fields(*(dice.randrange(256) for _ in range(4)))
             value, index = (dice.choice(VALUES) if it is None else it for it in (fields.value, fields.index))
             inward = fields.type & 0x80
             length = dice.choice((0, 1, 8, 4096)) if inward else len(data)
