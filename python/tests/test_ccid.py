@@ -200,6 +200,12 @@ class Readers(unittest.TestCase):
         self.host.control(0x21, 1, 0x0100, 0)
         self.assertEqual(self.ask(0x65)[0], 0x81)
 
+    def test_a_reset_forgets_half_a_message(self) -> None:
+        for event in ("reset", "plugged"):
+            self.host.write(0x02, struct.pack("<BIBB", 0x6F, 200, 0, 1) + bytes(57), 64)
+            self.host.tell(event)
+            self.assertEqual(self.ask(0x65), (0x81, 1, 0, 0, b""))
+
     def test_a_clock_frequency_isnt_told(self) -> None:
         """5.3: a reader that finds its clock by itself needn't have GET_CLOCK_FREQUENCIES: the descriptors answer, by a stall."""
         self.assertEqual(self.host.ask("control a102000000000400"), "t")

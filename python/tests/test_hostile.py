@@ -16,7 +16,7 @@ from tirnouch.serial import Serial
 from tirnouch.storage import Storage
 from tirnouch.usbtmc import Usbtmc
 
-ROUNDS = 4000
+ROUNDS = 2500
 # What begins like something that a class knows.
 BEGINNINGS = (b"", b"USBC" + bytes(10) + b"\x0a", b"*IDN?\n", b"VOLT #15", b"VOLT 1e999,", b"'\n", b"\x01\x01\xfe\x00",
               b"\x02\x07\xf8\x00\x10\x00\x00\x00\x02\x0a\x00\x00", b"USBC" + bytes(5) + b"\2\0\0\x80\0\x0a\x28\0\0\0\0",

@@ -195,7 +195,8 @@ class Parameters(Supplies):
         """-109 missing, -108 not allowed, -104 data type, -222 out of range."""
         for text, number in (("VOLT", -109), ("VOLT 1,", -109), ("VOLT 1,2,3", -108), ("VOLT x", -104), ("VOLT 1 2", -104),
                              ("VOLT #HG", -104), ("VOLT 31", -222), ("VOLT 1e999", -222), ("VOLT 1,1e999", -222),
-                             ("ROUT:NAME 'a", -104), ("ROUT:NAME a,maybe", -104), ("DATA abc", -104), ("CURR? 1", -108),
+                             ("ROUT:NAME 'a", -104), ("ROUT:NAME a,maybe", -104), ("DATA abc", -104), ("DATA #2\xb96", -104),
+                             ("DATA #1", -104), ("CURR? 1", -108),
                              ("*OPC? 1", -108), ("DATA #15ab", -104)):
             self.device.errors.clear()
             self.device.do(text)

@@ -107,6 +107,18 @@ class Media(Sticks):
         self.assertEqual(self.host.fetch(bytes((0x12, 0, 0, 0, 36, 0)), 36)[0][8:], b"ACME    STICK           2.5 ")
 
 
+class Resets(Sticks):
+    def test_a_reset_of_the_transport_forgets_a_command(self) -> None:
+        """BOT 1.0, 3.1 and 6.4: it is ready for the next one, with its data unread or half written."""
+        self.host.write(0x02, self.host.wrapper(ten(0x28, 1, 1), 512, True))
+        self.host.control(0x21, 0xFF, 0, 0)
+        self.assertEqual(self.host.fetch(ten(0x25), 8), (bytes.fromhex("0000000300000200"), PASSED, 0))
+        self.host.write(0x02, self.host.wrapper(ten(0x2A, 1, 1), 512, False))
+        self.host.write(0x02, b"x" * 64)
+        self.host.control(0x21, 0xFF, 0, 0)
+        self.assertEqual(self.host.fetch(ten(0x28, 1, 1), 512), (b"\1" * 512, PASSED, 0))
+
+
 class Faults(Sticks):
     def test_blocks_that_cant_be_read(self) -> None:
         self.device.fault = Refused(0x3, 0x11, 1)

@@ -7,7 +7,7 @@ import re
 from typing import Any, Callable, Dict, Iterator, List, NamedTuple, Tuple
 
 QUOTES = "\"'"
-BLOCK = re.compile(r"#([1-9])(\d*)")
+BLOCK = re.compile(r"#([1-9])")
 # A node that may be left out with its colon behind it, as "[SOURce:]VOLTage" has it.
 FIRST = re.compile(r"\[(\w+#?):\]")
 NODE = re.compile(r"(\[?):?([A-Z]+)([a-z]*)(\d*)(#?)(\]?)")
@@ -155,9 +155,10 @@ def text_of(text: str) -> str:
 def bytes_of_block(text: str) -> bytes:
     """The bytes of a block (7.7.6)."""
     block = BLOCK.match(text)
-    if not block or block_end(text, 0) != len(text):
+    begin = 2 + int(block[1]) if block else 0
+    if not text[2:begin].isdecimal() or block_end(text, 0) != len(text):
         raise Error(-104)
-    return text[2 + int(block[1]) :].encode("latin-1")
+    return text[begin:].encode("latin-1")
 
 
 TAKEN: Dict[str, Callable[[str], Any]] = {"int": whole_of, "float": number_of, "bool": truth_of, "str": text_of, "bytes": bytes_of_block}
