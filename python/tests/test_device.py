@@ -95,32 +95,32 @@ class Answers(unittest.TestCase):
         self.device.answer = AS_TEXT
         self.assertEqual(self.host.ask("control c001000000000800"), "t")
         with told() as errors:
-            self.assertEqual(self.host.ask("out 02 61"), "b")
+            self.assertEqual(self.host.ask("out 02 61"), "s")
         self.assertIn("Echo.taken returned AS_TEXT", errors.getvalue())
 
-    def test_answers_of_a_wrong_type_are_told_and_broken(self) -> None:
+    def test_answers_of_a_wrong_type_are_told_and_stall(self) -> None:
         for answer, question, sentence in ((b"abc", "out 02 61", "Echo.taken returned b'abc': return None"),
                                            (5, "in 83 4", "Echo.computed returned 5: return bytes"), ("abc", "in 83 4", "return bytes"),
                                            (-1, "out 02 61", "return None"), ([1], "control c001000000000800", "return bytes"),
                                            (b"x", "control 4002070000000000", "return None")):
             self.device.answer = answer
             with told() as errors:
-                self.assertEqual(self.host.ask(question), "b")
+                self.assertEqual(self.host.ask(question), "s")
             self.assertIn(sentence, errors.getvalue())
 
     def test_a_request_that_reads_is_answered_by_bytes(self) -> None:
         self.device.read = lambda request: None  # type: ignore[method-assign]
         with told() as errors:
-            self.assertEqual(self.host.ask("control c001000000000800"), "b")
+            self.assertEqual(self.host.ask("control c001000000000800"), "s")
         self.assertIn("Echo.read returned None: return bytes", errors.getvalue())
 
-    def test_an_exception_is_told_with_its_traceback_and_broken(self) -> None:
+    def test_an_exception_is_told_with_its_traceback_and_a_stall(self) -> None:
         def fail(_packet: bytes) -> None:
             raise KeyError("a bug of the device")
 
         self.device.taken = fail  # type: ignore[assignment, method-assign]
         with told() as errors:
-            self.assertEqual(self.host.ask("out 02 61"), "b")
+            self.assertEqual(self.host.ask("out 02 61"), "s")
         for text in ("Traceback", "in fail", "KeyError: 'a bug of the device'", "Echo: an exception at `out 02 61`"):
             self.assertIn(text, errors.getvalue())
         del self.device.taken
@@ -274,7 +274,7 @@ class Waits(unittest.TestCase):
         device._wake = lambda: woken.append(threading.get_ident())
         device.taken = lambda packet: device.ready()  # type: ignore[assignment, method-assign]
         with told() as errors:
-            self.assertEqual(Host(device).ask("out 02 61"), "b")
+            self.assertEqual(Host(device).ask("out 02 61"), "s")
         self.assertIn("ready() is called from another thread", errors.getvalue())
         device.ready()
         self.assertEqual(len(woken), 1)

@@ -9,7 +9,7 @@ from typing import Any, List, Optional
 from unittest import mock
 
 from tests.harness import told
-from tests.libusb import IO, NO_DEVICE, OTHER, PATH, PIPE, TIMEOUT, Program, lacking, logged
+from tests.libusb import NO_DEVICE, OTHER, PATH, PIPE, TIMEOUT, Program, lacking, logged
 from tirnouch import GONE, STALL, Bus, Device, Request, bulk_in, bulk_out, control, later, plug
 
 VENDOR, PRODUCT = 0x1209, 0x0021
@@ -128,10 +128,11 @@ class Answers(Plugged):
         self.assertEqual(self.program.read(0x81), b"ba")
         self.assertEqual(self.device.events, [("cleared", 0x81)])
 
-    def test_an_exception_is_an_error_of_the_transfer(self) -> None:
+    def test_an_exception_is_a_stall_of_the_transfer(self) -> None:
         with told() as errors:
-            self.assertEqual(self.program.write(0x02, b"bug"), IO)
+            self.assertEqual(self.program.write(0x02, b"bug"), PIPE)
         self.assertIn("ValueError: a bug of the device", errors.getvalue())
+        self.assertEqual(self.program.clear_halt(0x02), 0)
         self.assertEqual(self.program.write(0x02, b"a"), 1)
 
     def test_a_wait(self) -> None:
@@ -171,7 +172,7 @@ class Events(Plugged):
     def test_a_device_is_pulled_out(self) -> None:
         self.bus.pull(self.device)
         self.assertEqual(self.program.write(0x02, b"a"), NO_DEVICE)
-        with self.assertRaisesRegex(RuntimeError, "Thing: pull: it is gone"):
+        with self.assertRaisesRegex(RuntimeError, "device 0, Thing: pull: it is gone"):
             self.bus.pull(self.device)
 
     def test_a_device_is_plugged_in_anew(self) -> None:
@@ -208,13 +209,15 @@ class Events(Plugged):
         self.assertEqual(len(refused), 4)
 
     def test_a_device_that_is_there_isnt_shown(self) -> None:
-        with self.assertRaisesRegex(RuntimeError, "Thing: show: there is none to do that with"):
+        with self.assertRaisesRegex(RuntimeError, "device 0, Thing: show: there is none to do that with"):
             self.bus.show(self.device)
 
     def test_a_method_that_is_asked_doesnt_call_the_library(self) -> None:
         with told() as errors:
-            self.assertEqual(self.program.write(0x02, b"pull"), IO)
-        self.assertIn("pull isn't called from a method that is asked: return GONE there", errors.getvalue())
+            self.assertEqual(self.program.write(0x02, b"pull"), PIPE)
+        self.assertIn("pull isn't called from a method that is asked", errors.getvalue())
+        self.assertIn("return GONE there", errors.getvalue())
+        self.assertEqual(self.program.clear_halt(0x02), 0)
         self.assertEqual(self.program.write(0x02, b"a"), 1)
 
 

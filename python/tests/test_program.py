@@ -11,7 +11,7 @@ import unittest
 from unittest import mock
 
 from tests.harness import DEVICES, PYTHON
-from tests.libusb import IO, NO_DEVICE, PATH, PIPE, TIMEOUT, Program, lacking, logged
+from tests.libusb import NO_DEVICE, PATH, PIPE, TIMEOUT, Program, lacking, logged
 
 # A device with the ids 1209:0022, which writes down what it is told.
 SOURCE = """
@@ -96,9 +96,10 @@ class Programs(unittest.TestCase):
         self.assertEqual(program.read(0x83, milliseconds=20), TIMEOUT)
         self.assertEqual(program.read(0x83), b"at last")
 
-    def test_an_exception_is_an_error_of_the_transfer(self) -> None:
+    def test_an_exception_is_a_stall_of_the_transfer(self) -> None:
         program = self.plug_thing()
-        self.assertEqual(program.write(0x02, b"bug"), IO)
+        self.assertEqual(program.write(0x02, b"bug"), PIPE)
+        self.assertEqual(program.clear_halt(0x02), 0)
         self.assertIn("ValueError: a bug of the device\nThing: an exception at `out 02 627567`", self.errors.read_text())
         self.assertEqual(program.write(0x02, b"ab"), 2)
         self.assertEqual(program.read(0x81), b"ba")

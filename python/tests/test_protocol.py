@@ -119,7 +119,7 @@ class Programs(unittest.TestCase):
     def test_an_exception_goes_to_standard_error_and_the_program_goes_on(self) -> None:
         host = self.start("bug")
         host.hello()
-        self.assertEqual([host.ask("out 02 61"), host.ask("out 02 61")], ["b", "b"])
+        self.assertEqual([host.ask("out 02 61"), host.ask("out 02 61")], ["s", "s"])
         _, errors = host.end()
         self.assertEqual(errors.count("ValueError: a bug"), 2)
 

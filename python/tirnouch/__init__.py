@@ -1,27 +1,34 @@
 """USB devices in Python, for programs that use libusb over Tirnouch's libusb-1.0.so.0 (docs/PYTHON.md).
 
-    class Echo(Device):
-        replies = bulk_in(0x81)                  # what is read here was sent by self.send
+    import tirnouch as t
 
-        @bulk_out(0x02)
-        def taken(self, packet: bytes) -> None:  # a packet of the host's
-            self.send(0x81, packet[::-1])
+    class Echo(t.Device):
+        ids, serial = (0x1209, 0x0020), "E1"
+        config = t.config(t.bulk_out(0x02), t.bulk_in(0x81))
 
-        @control(0xC0, 0x01)
-        def version(self, request: Request) -> bytes:
-            return b"1.0"
+        def out_02(self, packet):                # a packet of the host's
+            self.send(0x81, packet[::-1])        # what is read at 81 behind it
 
-    if __name__ == "__main__":
-        main(Echo)
+        def control(self, setup, data):          # a request
+            return b"1.0" if setup.type == 0xC0 else t.DEFAULT
 
-device.py has the class of devices, endpoints.py the decorators of its methods, answers.py what a method may return, descriptors.py what
-a device says of itself, questions.py what it is asked; protocol.py makes a program of it, inprocess.py plugs it into this process."""
-from tirnouch.answers import AS_TEXT, BROKEN, GONE, NAK, STALL, Answer, later
+    with t.bus(Echo()) as bus: ..                # or a test that is marked by @pytest.mark.tirnouch(Echo)
+
+device.py has the class of devices, configurations.py its descriptors as an expression, endpoints.py the decorators that say the same of
+methods, answers.py what a method may return, faults.py what a test makes fail, descriptors.py what a device says of itself, questions.py
+what it is asked; inprocess.py plugs it into this process, protocol.py makes a program of it. buses.py has the bus, ports.py its devices,
+sources.py those of a text or a recording; plugin.py is pytest's."""
+from tirnouch.answers import ACK, AS_TEXT, BROKEN, DEFAULT, GONE, NAK, SILENT, STALL, UNPLUG, After, Answer, after, later
+from tirnouch.configurations import config, interface
 from tirnouch.descriptors import Interface, hid_descriptor
 from tirnouch.device import Device
 from tirnouch.endpoints import Request, bulk_in, bulk_out, control, interrupt_in, interrupt_out
-from tirnouch.inprocess import Bus, plug
+from tirnouch.library import LibraryError
+from tirnouch.limits import LimitOver
+from tirnouch.sources import SourceError, becomes, file, recorded, text
+from tirnouch.buses import Bus, Differs, bus, plug
 from tirnouch.protocol import main
 
-__all__ = ["AS_TEXT", "BROKEN", "GONE", "NAK", "STALL", "Answer", "Bus", "Device", "Interface", "Request", "bulk_in", "bulk_out", "control",
-           "hid_descriptor", "interrupt_in", "interrupt_out", "later", "main", "plug"]
+__all__ = ["ACK", "AS_TEXT", "BROKEN", "DEFAULT", "GONE", "NAK", "SILENT", "STALL", "UNPLUG", "After", "Answer", "Bus", "Device", "Differs",
+           "Interface", "LibraryError", "LimitOver", "Request", "SourceError", "after", "becomes", "bulk_in", "bulk_out", "bus", "config",
+           "control", "file", "hid_descriptor", "interface", "interrupt_in", "interrupt_out", "later", "main", "plug", "recorded", "text"]

@@ -19,20 +19,23 @@ PLAIN = re.compile(r"(?!u:)[!-~]+( [!-~]+)*")
 
 
 class Interface(NamedTuple):
-    """An interface: its class, subclass and protocol, its name, and the descriptors that stand behind its own."""
+    """An interface: its class, subclass and protocol, its name, and the descriptors that stand behind its own. With a setting but 0 it is a
+    further one of the interface before it, with these endpoints: a descriptor alone, which no program can choose where it has endpoints."""
 
     kind: int
     subclass: int
     protocol: int
     name: str = ""
     functional: bytes = b""
+    setting: int = 0
+    endpoints: Tuple[Endpoint, ...] = ()
 
 
 def interfaces_of(device: Device) -> list[Interface]:
     """The interfaces, of which a plain tuple of three numbers is one, too."""
     found = []
     for it in device.interfaces:
-        if not isinstance(it, tuple) or not 3 <= len(it) <= 5:
+        if not isinstance(it, tuple) or not (3 <= len(it) <= 5 or isinstance(it, Interface)):
             raise TypeError(f"{device}: an interface is (class, subclass, protocol) or an Interface, and not {it!r}")
         made = Interface(*it)
         for what, value in zip(("class", "subclass", "protocol"), made):
@@ -69,13 +72,24 @@ def endpoint_bytes(device: Device, endpoint: Endpoint) -> bytes:
     return bytes((7, ENDPOINT, endpoint.address, endpoint.kind, *size, endpoint.interval))
 
 
+def strings_of(device: Device) -> Sequence[str]:
+    """Those of `strings`, of which the first three may have been given by their names: by the class, or as a str by the device."""
+    names = ("manufacturer", "product_name", "serial")
+    said = [(vars(device).get(name), getattr(type(device), name, None)) for name in names]
+    own = [mine if isinstance(mine, str) else all_ if isinstance(all_, str) else None for mine, all_ in said]
+    if isinstance(device.strings, str) or own == [None, None, None]:
+        return device.strings
+    first = [*device.strings, "", "", ""][: max(3, len(device.strings))]
+    return [*(given if given is not None else it for it, given in zip(first, own)), *first[3:]]
+
+
 def named(device: Device) -> Iterator[Tuple[int, str]]:
     """The string descriptors: those of `strings`, from 1 on, and behind them, from 4 on, the names of interfaces."""
     if isinstance(device.strings, str):
         raise TypeError(f"{device}: `strings` is a tuple, as (\"Works\", \"Echo\", \"S1\"), and not a str")
     names = [it.name for it in interfaces_of(device) if it.name]
-    first = max(4, len(device.strings) + 1)
-    for number, text in [*enumerate(device.strings, 1), *enumerate(names, first)]:
+    strings = strings_of(device)
+    for number, text in [*enumerate(strings, 1), *enumerate(names, max(4, len(strings) + 1))]:
         if not isinstance(text, str):
             raise TypeError(f"{device}: string {number} is a str, and not {text!r}")
         if len(text.encode("utf-16-le")) > 2 * MOST_UNITS:
@@ -90,15 +104,17 @@ def configuration(device: Device) -> bytes:
     lost = [str(it) for it in device.endpoints.values() if it.interface >= len(interfaces)]
     if lost:
         raise ValueError(f"{device}: endpoint {', '.join(lost)} is of an interface that `interfaces` doesn't have")
-    body, name = b"", max(4, len(device.strings) + 1)
-    for number, it in enumerate(interfaces):
-        own = endpoints_of(device, number)
-        body += bytes((9, INTERFACE, number, 0, len(own), it.kind, it.subclass, it.protocol, name if it.name else 0)) + it.functional
+    body, name, number = b"", max(4, len(strings_of(device)) + 1), -1
+    for place, it in enumerate(interfaces):
+        number += not it.setting
+        own = it.endpoints if it.setting else endpoints_of(device, place)
+        text = name if it.name else 0
+        body += bytes((9, INTERFACE, number, it.setting, len(own), it.kind, it.subclass, it.protocol, text)) + it.functional
         body += b"".join(endpoint_bytes(device, endpoint) for endpoint in own)
         name += bool(it.name)
     attributes = whole(f"{device}: `attributes`", device.attributes, 0xFF)
     power = whole(f"{device}: `milliamperes`", device.milliamperes, 500) // 2
-    return bytes((9, CONFIGURATION, *(9 + len(body)).to_bytes(2, "little"), len(interfaces), 1, 0, attributes, power)) + body
+    return bytes((9, CONFIGURATION, *(9 + len(body)).to_bytes(2, "little"), number + 1, 1, 0, attributes, power)) + body
 
 
 def text_word(text: str) -> str:

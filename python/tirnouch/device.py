@@ -3,32 +3,52 @@ from __future__ import annotations
 
 import collections
 import threading
-from typing import Any, Callable, ClassVar, Deque, Dict, List, Optional, Sequence, Tuple, Union
+from typing import Any, Callable, ClassVar, Deque, Dict, List, NamedTuple, Optional, Sequence, Set, Tuple, Union
 
-from tirnouch import descriptors
+from tirnouch import configurations, descriptors
 from tirnouch.answers import STALL, Answer
-from tirnouch.endpoints import Endpoint, Fields
+from tirnouch.configurations import Configuration
+from tirnouch.endpoints import ANY, Endpoint, Fields
+from tirnouch.faults import Faults
 
-# Whether this thread answers a question of the library's: the library waits for it then, and may not be called.
+# Whether this thread answers a question of the library's, of which device, and which one: the library waits for it then, and may not be
+# called.
 ASKED = threading.local()
 
 
+class Waiting(NamedTuple):
+    """An answer that is given later: to which question, at which moment in milliseconds where there is a clock, and what it is."""
+
+    question: Any
+    due: Optional[int]
+    answer: Union[bytes, Answer, None]
+
+
 class Device:
-    """A device. Decorators mark its endpoints and the methods that answer (endpoints.py).
+    """A device. `config` declares its endpoints, which the methods in_81 and out_02 answer, by address, and `control` its requests; or
+    decorators mark its endpoints and the methods that answer (endpoints.py).
 
-    A method of an OUT endpoint is given a packet, and returns None where the packet is taken. A method of an IN endpoint is given the bytes
-    that the host takes at most, and returns bytes, or None where there are none yet; it is asked where nothing that was sent is left. Each
-    may return STALL, NAK, BROKEN, GONE or later(ms) instead (answers.py). An exception is told on standard error with its traceback, and is
-    BROKEN: the host's transfer ends with an error, and the device goes on."""
+    A method of an OUT endpoint is given a packet, and returns None or ACK where the packet is taken. A method of an IN endpoint is given the
+    bytes that the host takes at most, and returns bytes, or None or NAK where there are none yet; it is asked where nothing that was sent is
+    left. Each may return STALL, BROKEN, GONE, SILENT, later(ms) or after(ms, answer) instead (answers.py). An exception fails the test; a
+    device without one has it on standard error with its traceback. It is a stall: the host's transfer ends so, and the device goes on."""
 
+    # Vendor, product and release in one: (0x1209, 0x0001) or (0x1209, 0x0001, 0x0100)
+    ids: ClassVar[Optional[Tuple[int, ...]]] = None
     vendor: int = 0x1209
     product: int = 0x0001
     release: int = 0x0100
     device_class: Tuple[int, int, int] = (0, 0, 0)
     # (class, subclass, protocol) of each interface, or an Interface
     interfaces: Sequence[Tuple[Any, ...]] = ((0xFF, 0, 0),)
+    # Its endpoints and interfaces, by tirnouch.config
+    config: ClassVar[Optional[Configuration]] = None
     # Manufacturer, product and serial number, and what else is asked for by its number; "" is none
     strings: Sequence[str] = ()
+    # The first three of them by their names
+    manufacturer: Optional[str] = None
+    product_name: Optional[str] = None
+    serial: Optional[str] = None
     speed: str = "high"
     # bmAttributes, and what it draws (USB 2.0, 9.6.3)
     attributes: int = 0x80
@@ -41,17 +61,27 @@ class Device:
 
     def __init_subclass__(cls, **words: Any) -> None:
         super().__init_subclass__(**words)
+        configurations.take(cls)
         cls.endpoints, cls.controls = found_endpoints(cls), found_controls(cls)
+        configurations.check(cls)
 
     def __new__(cls, *_words: Any, **_named: Any) -> Any:
         """What the base class keeps is made here, so that a class's own __init__ needn't call this one's."""
         device = super().__new__(cls)
         device._queues = collections.defaultdict(collections.deque)
-        device._wake = None
+        device._wake = device._watcher = device._clock = None
+        device._silent, device._waiting, device._faults = set(), {}, Faults()
         return device
 
+    # What is to be read, or stalls; endpoints that say nothing any more; answers that are given later; faults that a test makes
     _queues: Dict[int, Deque[Union[bytes, Answer]]]
+    _silent: Set[int]
+    _waiting: Dict[Any, Waiting]
+    _faults: Faults
+    # What the bus gives a device that is in this process: another thread wakes it up, an exception is told, the clock
     _wake: Optional[Callable[[], None]]
+    _watcher: Optional[Callable[[Device, str, Exception], None]]
+    _clock: Optional[Callable[[], int]]
 
     def __str__(self) -> str:
         return type(self).__name__
@@ -122,6 +152,11 @@ class Device:
         """Its lines of a text of devices."""
         return descriptors.text(self, number)
 
+    def _method(self, endpoint: Endpoint) -> Any:
+        """The method that answers an endpoint's packets; None where there is none."""
+        method = getattr(self, endpoint.name, None)
+        return None if isinstance(method, Endpoint) else method
+
     def _endpoint(self, endpoint: Union[int, Endpoint]) -> Endpoint:
         address = endpoint.address if isinstance(endpoint, Endpoint) else endpoint
         if not isinstance(address, int):
@@ -133,8 +168,10 @@ class Device:
 
 
 def found_endpoints(kind: type) -> Dict[int, Endpoint]:
-    """The endpoints of a class and its bases. A name that a class gives anew is the new endpoint, or a new method of the one before."""
-    names: Dict[str, Endpoint] = {}
+    """The endpoints of a class and its bases. A name that a class gives anew is the new endpoint, or a new method of the one before. Those
+    that `config` declares have the names of the methods that answer them."""
+    config = getattr(kind, "config", None)
+    names: Dict[str, Endpoint] = {it.name: it for it in config.endpoints} if config else {}
     for base in reversed(kind.__mro__):
         for name, it in vars(base).items():
             if isinstance(it, Endpoint):
@@ -155,4 +192,5 @@ def found_controls(kind: type) -> List[Tuple[Fields, str]]:
     for base in kind.__mro__:
         for name, it in vars(base).items():
             found += [(fields, name) for fields in getattr(it, "requests", ())]
-    return found
+    method = getattr(kind, "control", None)
+    return [*found, (ANY, "control")] if callable(method) and not hasattr(method, "requests") else found

@@ -1,6 +1,7 @@
 """The endpoints of a class of devices, and its methods that answer requests: attributes, or decorators of methods."""
 from __future__ import annotations
 
+import copy
 from typing import Any, Callable, NamedTuple, Optional
 
 BULK, INTERRUPT = 2, 3
@@ -54,6 +55,12 @@ class Endpoint:
         """Whether the host reads here."""
         return bool(self.address & IN)
 
+    def of(self, interface: int) -> Endpoint:
+        """The same of an interface, with the name of the method that answers it where a configuration declares it: in_81, out_02."""
+        own = copy.copy(self)
+        own.interface, own.name = interface, f"{'in' if self.is_in else 'out'}_{self.address:02x}"
+        return own
+
 
 def whole(what: str, value: Any, most: int, least: int = 0) -> int:
     """A whole number of this range. ValueError or TypeError says which one stands there instead."""
@@ -105,14 +112,18 @@ def interrupt_out(address: int, size: Optional[int] = None, interval: int = 4, i
 class Fields(NamedTuple):
     """The fields of the requests that a method answers; None stands for any value."""
 
-    type: int
-    request: int
+    type: Optional[int]
+    request: Optional[int]
     value: Optional[int]
     index: Optional[int]  # type: ignore[assignment]
 
     def fit(self, request: Request) -> bool:
         """Whether a request has them."""
         return all(want is None or want == got for want, got in zip(self, request))
+
+
+# A method of the name `control` answers what no decorated one does; it is given the request, and its data once more.
+ANY = Fields(None, None, None, None)
 
 
 def control(kind: int, request: int = -1, value: Optional[int] = None, index: Optional[int] = None) -> Callable[[Callable[..., Any]], Any]:

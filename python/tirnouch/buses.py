@@ -1,0 +1,304 @@
+"""A bus in this process: its devices, what a test asks of it, and what is wrong behind it."""
+from __future__ import annotations
+
+import itertools
+import traceback
+from typing import Any, Dict, Iterator, List, NamedTuple, Optional, Union
+
+from tirnouch import contexts
+from tirnouch.device import Device
+from tirnouch.inprocess import Plugged
+from tirnouch.library import BUSY, LibraryError, load, sentence
+from tirnouch.limits import Limit, LimitOver, milliseconds_of
+from tirnouch.ports import Port
+from tirnouch.sources import Becomes, PathLike, Text
+
+# How many devices a bus has (tirnouch.h).
+MOST_DEVICES = 16
+MOST_SEED = (1 << 64) - 1
+TIMES = ("real", "virtual")
+Entry = Union[Device, Text, Becomes]
+
+
+class Fault(NamedTuple):
+    """An exception in a device's method."""
+
+    device: Device
+    what: str
+    error: Exception
+
+    def __str__(self) -> str:
+        return f"{self.device}: an exception at `{self.what}`, which was answered by a stall"
+
+
+class Differs(AssertionError):
+    """What the program wrote differs from what a recording or a text expects."""
+
+
+def entry_of(it: Any) -> Entry:
+    """What a bus takes as devices."""
+    if isinstance(it, type) and issubclass(it, Device):
+        return it()
+    if isinstance(it, (Device, Text, Becomes)):
+        return it
+    hint = ": a file's name goes into file(..)" if isinstance(it, str) else ""
+    raise TypeError(f"a bus takes devices: a Device or a class of it, text(..), file(..), recorded(..) or becomes(..), and not {it!r}{hint}")
+
+
+class Places:
+    """The devices of a bus, by their numbers; its text; and from which numbers on what they write isn't judged."""
+
+    def __init__(self, entries: List[Entry]) -> None:
+        self.devices: List[Optional[Device]] = []
+        self.described: List[str] = []
+        self.successors: Dict[int, int] = {}
+        self.lenient: List[int] = []
+        self.text = ""
+        for it in entries:
+            self.add(it)
+        found = [it for it in self.devices if it is not None]
+        if len(set(map(id, found))) != len(found):
+            raise ValueError("a bus takes each device once")
+        if len(self.devices) > MOST_DEVICES:
+            raise ValueError(f"a bus takes at most {MOST_DEVICES} devices, and not {len(self.devices)}")
+
+    def add(self, entry: Entry) -> None:
+        """The devices of an entry have the next numbers."""
+        first = len(self.devices)
+        if isinstance(entry, Text):
+            self.text += entry.text(first)
+            self.devices += [None] * entry.count
+            self.described += [f"of {entry.name}"] * entry.count
+            self.lenient += range(first, first + entry.count) if entry.lenient else []
+            return
+        for number, it in enumerate(entry.devices if isinstance(entry, Becomes) else [entry], first):
+            self.text += it.text(number)
+            self.devices.append(it)
+            self.described.append(str(it))
+        if isinstance(entry, Becomes):
+            self.text += f"comes back {first} as {first + 1}\n"
+            self.successors[first] = first + 1
+
+    def is_lenient(self, line: str) -> bool:
+        """Whether a difference is of a device whose program may write what it wants."""
+        return any(line.startswith((f"device {number},", f"device {number} ")) for number in self.lenient)
+
+
+class Bus:
+    """A bus of this process. It is there until `close`, or the end of `with`; a process has one at a time."""
+
+    def __init__(self, entries: List[Entry], library: Optional[PathLike], seed: int = 0, watches: bool = True) -> None:
+        self.places = Places(entries)
+        self.library = load(library)
+        self.seed, self.faults, self.limit, self.is_open = seed, [], None, False
+        self.is_begun = False
+        self.plugged: List[Plugged] = []
+        self.ports = [Port(self.library, number, device, self.places.described[number]) for number, device in enumerate(self.places.devices)]
+        for number, other in self.places.successors.items():
+            self.ports[number].successor = self.ports[other]
+        try:
+            for number, device in enumerate(self.places.devices):
+                if device is not None:
+                    self._answer(number, device, watches)
+        except BaseException:
+            self._take_back()
+            raise
+
+    seed: int
+    faults: List[Fault]
+    limit: Optional[Limit]
+
+    def _answer(self, number: int, device: Device, watches: bool) -> None:
+        if device._wake is not None:
+            raise ValueError(f"{device} is in a bus already: that one is closed first")
+        self.plugged.append(Plugged(self.library, number, device))
+        device._faults.begin(number, self.seed)
+        if watches:
+            device._watcher = lambda it, what, error: self.faults.append(Fault(it, what, error))
+
+    def _take_back(self) -> None:
+        for it in self.plugged:
+            it.take_back()
+        self.plugged = []
+
+    # Its beginning and its end
+
+    def begin(self, time: str, trace: Optional[PathLike], limit: Optional[int]) -> None:
+        """It begins now. LibraryError where there is another one, or a line isn't taken."""
+        words = (self.places.text.encode("utf-8"), self.seed, str(trace) if trace else None, time == "virtual")
+        status = self.library.begin(*words)
+        if status == BUSY and OPEN:
+            raise LibraryError("there is a bus already, which another test or another `with` began: it ends first, since a process has one")
+        if status == BUSY:
+            contexts.close_contexts()
+            status = self.library.begin(*words)
+        if status == BUSY:
+            raise LibraryError("a context of libusb is open, which was opened before the bus began: close it, or open it behind that")
+        if status:
+            raise LibraryError(self.library.error() or sentence(status))
+        self.is_begun = self.is_open = True
+        OPEN.append(self)
+        contexts.introduce(self.library)
+        self.limit = Limit(self, limit) if limit else None
+
+    def end(self) -> None:
+        """It ends. LibraryError where contexts are open that aren't closed by themselves: it is there still then."""
+        if self.limit:
+            self.limit.stop()
+        if self.is_begun and self.is_open:
+            status = self.library.call("end")
+            if status == BUSY:
+                contexts.close_contexts()
+                status = self.library.call("end")
+            if status == BUSY:
+                raise LibraryError("a context of libusb is open still: those of usb1 are the test's own, and are closed by it, as by `with`")
+            OPEN.remove(self)
+        self.is_open = False
+
+    def close(self) -> None:
+        """It ends, and the devices' methods are called no more. Of a bus that `plug` made: where no context of libusb is open, the bus of
+        the next one is empty until devices are plugged in again; else its devices are there until the last one is closed, and answer
+        nothing."""
+        self.end()
+        if self.plugged and not self.is_begun:
+            self.library.plug(b"")
+        self._take_back()
+
+    def __enter__(self) -> Bus:
+        return self
+
+    def __exit__(self, _kind: Any, error: Optional[BaseException], _trace: Any) -> None:
+        verdict = self.verdict() if self.is_begun else None
+        self.close()
+        if verdict is not None and error is None:
+            raise verdict
+        if error is not None and self.faults:
+            because(error, self.faults[0].error)
+
+    def verdict(self) -> Optional[BaseException]:
+        """What is wrong so far, as an exception: the limit is over, a device's method failed, something else was written than is expected.
+        None where nothing is."""
+        if self.limit and self.limit.told:
+            return LimitOver(self.limit.told)
+        if self.faults:
+            return self.faults[0].error
+        differences = [it for it in self.report() if not self.places.is_lenient(it)]
+        return Differs("\n".join(["what was written isn't what the devices expect:", *differences])) if differences else None
+
+    # Its devices
+
+    def __getitem__(self, number: int) -> Port:
+        return self.ports[number]
+
+    def __len__(self) -> int:
+        return len(self.ports)
+
+    def __iter__(self) -> Iterator[Port]:
+        return iter(self.ports)
+
+    def _port(self, device: Device) -> Port:
+        found = next((it for it in self.ports if it.device is device), None)
+        if found is None or not self.plugged:
+            raise ValueError(f"{device} isn't plugged in here: it is none of the devices of this bus")
+        return found
+
+    def pull(self, device: Device) -> None:
+        """Pulls a device out: what is in flight ends with LIBUSB_TRANSFER_NO_DEVICE."""
+        self._port(device).call("pull", "pull")
+
+    def show(self, device: Device) -> None:
+        """Plugs a device in: one that was pulled out, or one that has the line ("hidden",)."""
+        self._port(device).call("show", "show")
+
+    def replug(self, device: Device) -> None:
+        """Pulls a device out, where it is there, and plugs it in again: handles of before are answered LIBUSB_ERROR_NO_DEVICE."""
+        self._port(device).replug()
+
+    def took(self, endpoint: int, index: int = 0, device: int = 0) -> bytes:
+        """The packet of this index, from 0 on, that a device took at an endpoint since it was plugged in. IndexError past the last."""
+        return self.library.took(device, endpoint, index)
+
+    # What a test asks
+
+    def left(self) -> List[str]:
+        """What isn't finished and why, a sentence for each transfer; empty where nothing is in flight."""
+        return self.library.lines("left")
+
+    def report(self) -> List[str]:
+        """What differs so far from what lines of a device expect: the first difference, and what hasn't come."""
+        return self.library.lines("report")
+
+    def error(self) -> str:
+        """What went wrong last with the bus, as a device's line that isn't taken, and why; "" where nothing did."""
+        return self.library.error()
+
+    def now(self) -> int:
+        """The milliseconds since the bus began, by the clock of timeouts; 0 where there is none."""
+        return self.library.call("now")
+
+    def advance(self, milliseconds: int) -> None:
+        """So many milliseconds of virtual time pass. RuntimeError where time is real, or there is no bus."""
+        if not 0 <= milliseconds < 1 << 32:
+            raise ValueError(f"advance takes milliseconds from 0 to {(1 << 32) - 1}, and not {milliseconds}")
+        if self.library.call("advance", milliseconds):
+            raise RuntimeError("time is real here, or there is no bus: time=\"virtual\", or TIRNOUCH_TIME=virtual, makes it pass where nothing "
+                               "else is to be done")
+
+
+# The bus that was begun and hasn't ended.
+OPEN: List[Bus] = []
+
+
+def because(error: BaseException, cause: BaseException) -> None:
+    """Behind an error stands what caused it: whoever prints the one prints the other."""
+    seen = {id(error)}
+    while error.__cause__ or error.__context__:
+        error = error.__cause__ or error.__context__ or error
+        if id(error) in seen or error is cause:
+            return
+        seen.add(id(error))
+    if error is not cause:
+        error.__cause__ = cause
+
+
+def bus(*devices: Any, seed: int = 0, time: str = "real", trace: Optional[PathLike] = None, limit: Any = None,
+        library: Optional[PathLike] = None) -> Bus:
+    """A bus with these devices, numbered 0, 1, ..: objects or classes of Device, text(..), file(..), recorded(..), becomes(..). It begins
+    now, and ends behind `with`, or by `close`. `seed`, from 1 on, makes devices and controller go ahead by dice; 0 is none. With the time
+    "virtual" it passes where nothing else is to be done, and then at once. `trace` is a file for its steps. `limit`, as "10s", pulls all
+    devices out when it is over, and raises LimitOver. `library` is the path of Tirnouch's libusb-1.0.so.0."""
+    if isinstance(seed, bool) or not isinstance(seed, int) or not 0 <= seed <= MOST_SEED:
+        raise ValueError(f"a seed is a whole number, 0 for none, to {MOST_SEED}, and not {seed!r}")
+    if time not in TIMES:
+        raise ValueError(f"time is \"real\" or \"virtual\", and not {time!r}")
+    made = Bus([entry_of(it) for it in devices], library, seed)
+    try:
+        made.begin(time, trace, milliseconds_of(limit))
+    except BaseException:
+        made._take_back()
+        raise
+    return made
+
+
+def plug(*devices: Device, library: Optional[PathLike] = None) -> Bus:
+    """Plugs devices into this process, with the numbers 0, 1, ..: they are there when the next context of libusb opens, which the variables
+    of docs/C.md steer. An exception in a device's method is told on standard error. `library` is the path of Tirnouch's libusb-1.0.so.0."""
+    for it in devices:
+        if not isinstance(it, Device):
+            hint = f": plug({it.__name__}())" if isinstance(it, type) else ""
+            raise TypeError(f"plug takes devices, and not {it!r}{hint}")
+    made = Bus(list(devices), library, watches=False)
+    if made.library.plug(made.places.text.encode("ascii")):
+        made._take_back()
+        raise RuntimeError("a context of libusb is open: close it before devices are plugged in")
+    return made
+
+
+def told(faults: List[Fault]) -> Iterator[str]:
+    """The tracebacks of devices' exceptions, in lines."""
+    for it in faults:
+        yield str(it)
+        yield from itertools.chain.from_iterable(part.rstrip("\n").split("\n") for part in
+                                                 traceback.format_exception(type(it.error), it.error, it.error.__traceback__))
+
+
