@@ -1,7 +1,6 @@
 """A bus in this process: its devices, what a test asks of it, and what is wrong behind it."""
 from __future__ import annotations
 
-import itertools
 import traceback
 from typing import Any, Dict, Iterator, List, NamedTuple, Optional, Union
 
@@ -26,6 +25,7 @@ class Fault(NamedTuple):
     device: Device
     what: str
     error: Exception
+    traceback: str
 
     def __str__(self) -> str:
         return f"{self.device}: an exception at `{self.what}`, which was answered by a stall"
@@ -37,12 +37,14 @@ class Differs(AssertionError):
 
 def entry_of(it: Any) -> Entry:
     """What a bus takes as devices."""
-    if isinstance(it, type) and issubclass(it, Device):
-        return it()
+    given = it
+    if callable(it) and not isinstance(it, Device):
+        it = it()
     if isinstance(it, (Device, Text, Becomes)):
         return it
+    it = given
     hint = ": a file's name goes into file(..)" if isinstance(it, str) else ""
-    raise TypeError(f"a bus takes devices: a Device or a class of it, text(..), file(..), recorded(..) or becomes(..), and not {it!r}{hint}")
+    raise TypeError(f"a bus takes devices: a class of Device, an object of one or a function that makes one, text(..), file(..), recorded(..) or becomes(..), and not {it!r}{hint}")
 
 
 class Places:
@@ -114,7 +116,12 @@ class Bus:
         self.plugged.append(Plugged(self.library, number, device))
         device._faults.begin(number, self.seed)
         if watches:
-            device._watcher = lambda it, what, error: self.faults.append(Fault(it, what, error))
+            device._watcher = self._watch
+
+    def _watch(self, device: Device, what: str, error: Exception) -> None:
+        error = error.with_traceback(own_part(error))
+        text = "".join(traceback.format_exception(type(error), error, error.__traceback__))
+        self.faults.append(Fault(device, what, error, text))
 
     def _take_back(self) -> None:
         for it in self.plugged:
@@ -245,6 +252,14 @@ class Bus:
                                "else is to be done")
 
 
+def own_part(error: BaseException) -> Any:
+    """The traceback of an exception from where it is of the device's, without what asked it."""
+    part = error.__traceback__
+    while part and part.tb_next and part.tb_frame.f_globals.get("__name__", "").startswith("tirnouch."):
+        part = part.tb_next
+    return part
+
+
 # The bus that was begun and hasn't ended.
 OPEN: List[Bus] = []
 
@@ -292,13 +307,3 @@ def plug(*devices: Device, library: Optional[PathLike] = None) -> Bus:
         made._take_back()
         raise RuntimeError("a context of libusb is open: close it before devices are plugged in")
     return made
-
-
-def told(faults: List[Fault]) -> Iterator[str]:
-    """The tracebacks of devices' exceptions, in lines."""
-    for it in faults:
-        yield str(it)
-        yield from itertools.chain.from_iterable(part.rstrip("\n").split("\n") for part in
-                                                 traceback.format_exception(type(it.error), it.error, it.error.__traceback__))
-
-

@@ -143,8 +143,8 @@ def check_endpoints(kind: Any, name: str) -> None:
 
 def check_methods(kind: Any, name: str) -> None:
     """Each method whose name is an endpoint's answers one that is there."""
-    has = ", ".join(it.name for it in sorted(kind.endpoints.values(), key=lambda it: int(it.address)))
-    for base in kind.__mro__:
-        for method in vars(base):
-            if METHOD.fullmatch(method) and method not in {it.name for it in kind.endpoints.values()}:
-                raise ValueError(f"{name}: the method {method} answers no endpoint: those of `config` are answered by {has or 'no method'}")
+    has = [it.name for it in sorted(kind.endpoints.values(), key=lambda it: int(it.address))]
+    for method in dict.fromkeys(method for base in kind.__mro__ for method in vars(base) if METHOD.fullmatch(method)):
+        if method not in has and callable(getattr(kind, method)):
+            raise ValueError(f"{name}: the method {method} answers no endpoint: those that are there are answered by "
+                             f"{', '.join(has) or 'no method'}")

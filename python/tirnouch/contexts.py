@@ -7,22 +7,31 @@ import gc
 import importlib
 import importlib.util
 import sys
-from typing import Any, List
+from typing import Any, Dict
 
 from tirnouch.library import Library
 
-INTRODUCED: List[str] = []
+# What was looked for, and whether it is there.
+FOUND: Dict[str, bool] = {}
+
+
+def has(module: str) -> bool:
+    """Whether a module can be imported."""
+    if module not in FOUND:
+        parent = module.rpartition(".")[0]
+        FOUND[module] = (not parent or has(parent)) and importlib.util.find_spec(module) is not None
+    return FOUND[module]
 
 
 def introduce(library: Library) -> None:
-    """pyusb and usb1 are told of the library, once; hidapi and others ask the system's loader, which has it by its name."""
-    if library.path in INTRODUCED:
-        return
-    INTRODUCED.append(library.path)
-    if importlib.util.find_spec("usb") and importlib.util.find_spec("usb.backend"):
+    """pyusb and usb1 are told of the library, where a bus is there; hidapi and others ask the system's loader, which has it by its name."""
+    if has("usb.backend.libusb1"):
         importlib.import_module("usb.backend.libusb1").get_backend(find_library=lambda _name: library.path)
-    if importlib.util.find_spec("usb1"):
-        importlib.import_module("usb1").loadLibrary(library.c)
+    if has("usb1"):
+        usb1: Any = importlib.import_module("usb1")
+        if getattr(usb1, "_tirnouch", None) is not library:
+            usb1.loadLibrary(library.c)
+            usb1._tirnouch = library
 
 
 def dispose_devices() -> None:
@@ -44,4 +53,3 @@ def close_contexts() -> None:
     hidapi = ctypes.util.find_library("hidapi-libusb") if "hid" in sys.modules else None
     if hidapi:
         ctypes.CDLL(hidapi).hid_exit()
-    INTRODUCED.clear()

@@ -2,6 +2,7 @@
 from __future__ import annotations
 
 import collections
+import sys
 import threading
 from typing import Any, Callable, ClassVar, Deque, Dict, List, NamedTuple, Optional, Sequence, Set, Tuple, Union
 
@@ -65,8 +66,10 @@ class Device:
         cls.endpoints, cls.controls = found_endpoints(cls), found_controls(cls)
         configurations.check(cls)
 
-    def __new__(cls, *_words: Any, **_named: Any) -> Any:
+    def __new__(cls, *words: Any, **_named: Any) -> Any:
         """What the base class keeps is made here, so that a class's own __init__ needn't call this one's."""
+        if "pytestmark" in vars(cls) and len(words) == 1 and callable(words[0]):
+            return marked(cls, words[0])
         device = super().__new__(cls)
         device._queues = collections.defaultdict(collections.deque)
         device._wake = device._watcher = device._clock = None
@@ -165,6 +168,17 @@ class Device:
             has = ", ".join(str(it) for _, it in sorted(self.endpoints.items())) or "none"
             raise ValueError(f"{self} has no endpoint {address:02x}; it has {has}")
         return self.endpoints[address]
+
+
+def marked(kind: Any, test: Callable[..., Any]) -> Callable[..., Any]:
+    """A test that is marked by @pytest.mark.tirnouch(Meter), where pytest takes the class, which stands there alone, for what is marked."""
+    *others, mark = kind.pytestmark
+    if others:
+        kind.pytestmark = others
+    else:
+        del kind.pytestmark
+    decorator: Any = getattr(sys.modules["pytest"].mark, mark.name)
+    return decorator.with_args(kind)(test)  # type: ignore[no-any-return]
 
 
 def found_endpoints(kind: type) -> Dict[int, Endpoint]:

@@ -14,6 +14,7 @@ from tirnouch.answers import STALL, Answer
 from tirnouch.device import Device
 from tirnouch.endpoints import IN
 from tirnouch.library import Library
+from tirnouch.limits import LimitOver
 
 # What there is room for where a packet is read (tirnouch.h).
 MOST_PACKET = 2048
@@ -30,6 +31,8 @@ def told(call: Callable[..., int], *words: Any) -> int:
         return call(*words)
     except KeyboardInterrupt:
         _thread.interrupt_main()
+        return STALL.number
+    except LimitOver:
         return STALL.number
     except BaseException:  # pylint: disable=broad-except
         traceback.print_exc()

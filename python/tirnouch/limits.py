@@ -56,10 +56,14 @@ class Limit:
         with self.lock:
             self.over.set()
         if self.previous is not None:
+            signal.pthread_sigmask(signal.SIG_BLOCK, {signal.SIGALRM})
+            signal.sigtimedwait({signal.SIGALRM}, 0)    # an interrupt that comes too late
             signal.signal(signal.SIGALRM, self.previous)
+            signal.pthread_sigmask(signal.SIG_UNBLOCK, {signal.SIGALRM})
             self.previous = None
 
     def _interrupted(self, _number: int, _frame: Any) -> None:
+        __tracebackhide__ = True
         if self.told and not self.over.is_set():
             raise LimitOver(self.told)
 
@@ -68,16 +72,17 @@ class Limit:
             return
         left: List[str] = []
         has_lock = in_time(lambda: left.extend(self.bus.left()))
-        what = "in flight: " + "; ".join(left) if left else "nothing is in flight: the test waits for something else"
+        what = "the devices were pulled out; " + ("in flight: " + "; ".join(left) if left else "nothing was in flight: the test waited for "
+                                                   "something else")
         if not has_lock:
             what = "a device's method, or another call of the library, doesn't return"
         with self.lock:
             if self.over.is_set():
                 return
-            self.told = f"the limit of {self.milliseconds} ms is over, and the devices were pulled out; {what}"
-        if has_lock:
-            in_time(self._pull)
-        if not self.over.wait(GRACE):
+            self.told = f"the limit of {self.milliseconds} ms is over; {what}"
+        while True:
+            if in_time(self._pull) and self.over.wait(GRACE):
+                return
             self._interrupt()
 
     def _pull(self) -> None:
@@ -88,9 +93,10 @@ class Limit:
         with self.lock:
             if self.over.is_set():
                 return
-            ctypes.pythonapi.PyThreadState_SetAsyncExc(ctypes.c_ulong(self.thread), ctypes.py_object(LimitOver))
             if self.previous is not None:
                 signal.pthread_kill(self.thread, signal.SIGALRM)
+            else:
+                ctypes.pythonapi.PyThreadState_SetAsyncExc(ctypes.c_ulong(self.thread), ctypes.py_object(LimitOver))
 
 
 def in_time(call: Callable[[], None]) -> bool:
@@ -103,5 +109,3 @@ def in_time(call: Callable[[], None]) -> bool:
 
     threading.Thread(target=work, name="tirnouch-limit-call", daemon=True).start()
     return done.wait(PATIENCE)
-
-
