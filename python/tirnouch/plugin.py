@@ -16,7 +16,7 @@ import pytest
 from tirnouch import buses, failures
 from tirnouch.buses import Bus, because
 from tirnouch.library import LibraryError, load
-from tirnouch.limits import LimitOver, milliseconds_of
+from tirnouch.limits import LimitOver
 
 WORDS = ("seeds", "seed", "time", "limit", "library")
 FORM = ("@pytest.mark.tirnouch(Meter, seeds=range(1, 101), time=\"virtual\", limit=\"10s\"): devices, and seeds=, seed=, time=, limit= or "
@@ -90,11 +90,9 @@ def bus(request: pytest.FixtureRequest, tirnouch_seed: int) -> Iterator[Bus]:
     devices, words = marked(request.node)
     run = failures.Run(request.node, tirnouch_seed, traces(request.config))
     request.node.stash[RUN] = run
-    run.bus = buses.bus(*devices, seed=tirnouch_seed, time=words.get("time", "real"), trace=run.trace, library=words.get("library"))
+    run.bus = buses.bus(*devices, seed=tirnouch_seed, time=words.get("time", "real"), trace=run.trace, limit=words.get("limit"),
+                        library=words.get("library"))
     try:
-        limit = milliseconds_of(words.get("limit"))
-        if limit:
-            run.bus.limit = buses.Limit(run.bus, limit)
         yield run.bus
     finally:
         run.end()

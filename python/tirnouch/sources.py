@@ -63,7 +63,7 @@ class Text:
         elif words[:2] == ["comes", "back"] and len(words) == 5 and words[2].isdigit() and words[4].isdigit():
             words[2], words[4] = str(int(words[2]) + first), str(int(words[4]) + first)
         if words[0] == "program" and self.folder and len(words) > 2:
-            words[2:] = ["cd", shlex.quote(str(self.folder)), "&&", *words[2:]]
+            words[2:] = ["sh", "-c", shlex.quote(f"cd {shlex.quote(str(self.folder))} && exec {' '.join(words[2:])}")]
         return " ".join(words)
 
     def at(self, endpoint: int, index: int, device: int = 0) -> TextFault:
@@ -132,7 +132,7 @@ class Becomes:
     def __init__(self, first: Any, then: Any) -> None:
         self.devices: List[Device] = []
         for given in (first, then):
-            it = given() if isinstance(given, type) and issubclass(given, Device) else given
+            it: Any = given() if isinstance(given, type) else given
             self.devices.append(it)
             if not isinstance(it, Device):
                 raise TypeError(f"becomes takes two devices, as becomes(Loader(), Meter()), and not {it!r}; a text says it by a line "

@@ -1,21 +1,7 @@
-"""Tests of the plugin, by pytest's own pytester: each runs pytest over files of its own, in this process.
-
-pyusb is imported here, so that all of these runs share one."""
-import importlib.util
-import pathlib
-import sys
+"""Tests of the plugin, by pytest's own pytester: each runs pytest over files of its own, in this process."""
 from typing import Any, Callable, List
 
 import pytest
-
-PYTHON = pathlib.Path(__file__).resolve().parents[2]
-if str(PYTHON) not in sys.path:
-    sys.path.insert(0, str(PYTHON))
-if importlib.util.find_spec("usb"):
-    import usb.backend.libusb1  # noqa: F401
-    import usb.core  # noqa: F401
-
-pytest_plugins = ["pytester"]
 
 # A meter, and a driver for it by pyusb: it asks with one byte, and is answered by its double.
 FILES = {"driver": """

@@ -1,14 +1,16 @@
 """Several processes of pytest-xdist: each has a bus of its own."""
+import pathlib
 from typing import Any
 
 import pytest
+
+import tirnouch
 
 pytest.importorskip("xdist")
 
 
 def test_four_processes(run: Any, monkeypatch: pytest.MonkeyPatch) -> None:
-    from conftest import PYTHON
-    monkeypatch.setenv("PYTHONPATH", str(PYTHON))
+    monkeypatch.setenv("PYTHONPATH", str(pathlib.Path(tirnouch.__file__).parent.parent))
     result = run("""
         @pytest.mark.tirnouch(Meter, seeds=range(1, 41), time="virtual")
         def test_asks(bus, tirnouch_seed):
