@@ -95,7 +95,7 @@ class Faults:
         return None
 
     def requests(self, fields: Fields) -> int:
-        """How many requests of these fields were answered."""
+        """How many requests of these fields were answered, by a fault or otherwise."""
         return sum(count for key, count in self.asked.items() if all(want is None or want == got for want, got in zip(fields, key)))
 
     def count_request(self, request: Request) -> None:

@@ -154,7 +154,7 @@ def ask_request(device: Device, request: Request) -> Moved:
     answer = fault or (waiting.answer if waiting else answer_of(device, request))
     if isinstance(answer, After):
         return waits(device, "control", request, answer)
-    if answer is not NAK and not (isinstance(answer, Answer) and answer.word.startswith("later")) and not fault:
+    if answer is not NAK and not (isinstance(answer, Answer) and answer.word.startswith("later")):
         device._faults.count_request(request)
     if answer is SILENT:
         return later(MOST_MILLISECONDS)
