@@ -236,3 +236,26 @@ def test_many_buses_of_one_device_keep_nothing() -> None:
         with t.bus(device):
             assert len(inprocess.FREE) == free - 1
     assert len(inprocess.FREE) == free
+
+
+class Modem(t.Device):
+    """Interface 0 has a further setting without endpoints, interface 1 one with."""
+
+    ids = (0x1209, 0x0006)
+    config = t.config(t.interface(t.bulk_in(0x81), class_=2, name="line"), t.interface(setting=1), t.interface(class_=10),
+                      t.interface(t.bulk_in(0x82), class_=10, setting=1))
+
+    def in_81(self, _room: int) -> bytes:
+        return b"line"
+
+
+@pytest.mark.tirnouch(Modem)
+def test_settings_are_those_of_the_library(bus: t.Bus, program: Program) -> None:
+    """docs/DEVICES.md, what doesn't fit: a setting that has endpoints, other than 0, is LIBUSB_ERROR_NOT_SUPPORTED."""
+    assert program.open(0x1209, 0x0006)
+    assert program.call("claim_interface", program.handle, 1) == 0
+    assert program.call("set_interface_alt_setting", program.handle, 0, 1) == 0
+    assert program.call("set_interface_alt_setting", program.handle, 0, 0) == 0
+    assert program.call("set_interface_alt_setting", program.handle, 1, 1) == -12
+    assert program.read(0x81) == b"line"
+    assert program.control(0x80, 6, 0x0304, 0x0409, 64) == b"\x0a\x03" + "line".encode("utf-16-le")
