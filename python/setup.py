@@ -49,4 +49,5 @@ class WithLibrary(Distribution):
         return True
 
 
-setup(distclass=WithLibrary, version=(ROOT / "VERSION").read_text().strip(), cmdclass={"build_py": BuildWithLibrary, "bdist_wheel": WheelOfPlatform})
+setup(distclass=WithLibrary, version=(ROOT / "VERSION").read_text().strip(),
+      cmdclass={"build_py": BuildWithLibrary, "bdist_wheel": WheelOfPlatform})

@@ -38,8 +38,8 @@ def build(python: str, out: pathlib.Path) -> pathlib.Path:
     out.mkdir(parents=True, exist_ok=True)
     for before in out.glob("tirnouch-*.whl"):
         before.unlink()
-    words = [python, "-m", "pip", "wheel", "--no-build-isolation", "--no-deps", "--no-index", "--disable-pip-version-check", "-q", "-w", str(out),
-             str(PACKAGE)]
+    words = [python, "-m", "pip", "wheel", "--no-build-isolation", "--no-deps", "--no-index", "--disable-pip-version-check", "-q", "-w",
+             str(out), str(PACKAGE)]
     try:
         ran = subprocess.run(words, capture_output=True, text=True, timeout=SECONDS, check=False)
     finally:

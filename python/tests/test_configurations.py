@@ -90,7 +90,8 @@ class Descriptors(unittest.TestCase):
         class Modem(Device):
             ids = (0x1209, 0x0006, 0x0203)
             manufacturer, product_name = "Works", "Modem"
-            config = config(interface(interrupt_in(0x83, 8, 10), class_=2, subclass=2, protocol=1, name="line", functional=b"\x05\x24\x00\x10\x01"),
+            config = config(interface(interrupt_in(0x83, 8, 10), class_=2, subclass=2, protocol=1, name="line",
+                                      functional=b"\x05\x24\x00\x10\x01"),
                             interface(class_=10), interface(bulk_out(0x02, 64), bulk_in(0x81, 64), class_=10, setting=1),
                             attributes=0xC0, milliamperes=200)
 
@@ -105,7 +106,8 @@ class Descriptors(unittest.TestCase):
         """Each sentence names the class, the field, and what can be there."""
         one = bulk_in(0x81)
         for attributes, error, sentence in (
-                ({"ids": 5}, TypeError, r"`ids` is \(vendor, product\)"), ({"ids": (1, 0x10000)}, ValueError, "`ids`: the product is 0x0 to 0xffff"),
+                ({"ids": 5}, TypeError, r"`ids` is \(vendor, product\)"),
+                ({"ids": (1, 0x10000)}, ValueError, "`ids`: the product is 0x0 to 0xffff"),
                 ({"serial": 7}, TypeError, "`serial` is a str"), ({"serial": "x" * 127}, ValueError, "`serial` has at most 126 units"),
                 ({"config": one}, TypeError, "`config` is what tirnouch.config makes"),
                 ({"config": config(one), "speed": "super"}, ValueError, "`speed` is \"low\", \"full\" or \"high\", and not 'super'"),
@@ -117,7 +119,7 @@ class Descriptors(unittest.TestCase):
                 ({"config": config(interface(one), interface(subclass=-1))}, ValueError, "interface 1: `subclass`"),
                 ({"config": config(interface(name=1))}, TypeError, "interface 0: `name` is a str"),  # type: ignore[arg-type]
                 ({"config": config(interface(functional="05"))}, TypeError, "interface 0: `functional` is bytes"),  # type: ignore[arg-type]
-                ({"config": config(interface(functional=b"\x05\x24"))}, ValueError, "descriptor at byte 0 says that it has 5 bytes, and 2 are"),
+                ({"config": config(interface(functional=b"\x05\x24"))}, ValueError, "at byte 0 says that it has 5 bytes, and 2 are"),
                 ({"config": config(interface(setting=1))}, ValueError, "interface 0: settings are 0, 1, .."),
                 ({"config": config(interface(), interface(setting=2))}, ValueError, "setting 2 stands behind 0"),
                 ({"config": config(*[interface()] * 33)}, ValueError, "at most 32 interfaces, and not 33"),

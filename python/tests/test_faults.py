@@ -97,7 +97,7 @@ class Packets(Asked):
         for call, error, sentence in ((lambda: self.port.at(0x81, 1).fail(STALL), ValueError, "has had 2 packets .* packet 1 is past"),
                                       (lambda: self.port.at(0x83, 1), ValueError, "no endpoint 83; it has 02, 81"),
                                       (lambda: self.port.at(0x81, -1), ValueError, "the packet's index"),
-                                      (lambda: self.port.at(0x81, 2).fail(NAK), TypeError, "a fault is STALL, BROKEN, SILENT or UNPLUG, and not NAK"),
+                                      (lambda: self.port.at(0x81, 2).fail(NAK), TypeError, "BROKEN, SILENT or UNPLUG, and not NAK"),
                                       (lambda: self.port.at(0x81, 2).delay(-1), ValueError, "milliseconds"),
                                       (lambda: self.port.rate(0x81, 1.5), ValueError, "from 0 to 1"),
                                       (lambda: self.port.rate(0x81, True), ValueError, "from 0 to 1")):
@@ -212,7 +212,8 @@ class Later(Asked):
         self.assertEqual(self.read(1), ["d:62"])
 
     def test_what_after_takes(self) -> None:
-        for words, error in (((30, "a"), TypeError), ((30, NAK), TypeError), ((30, later(5)), TypeError), ((-1, b""), ValueError), ((1.5, b""), TypeError)):
+        for words, error in (((30, "a"), TypeError), ((30, NAK), TypeError), ((30, later(5)), TypeError), ((-1, b""), ValueError),
+                             ((1.5, b""), TypeError)):
             with self.assertRaises(error):
                 after(*words)  # type: ignore[arg-type]
         self.device.answers = [after(30, None)]

@@ -30,6 +30,7 @@ from tirnouch.buses import Bus, Differs, bus, plug
 from tirnouch.programs import Completed, run
 from tirnouch.protocol import main
 
-__all__ = ["ACK", "AS_TEXT", "BROKEN", "DEFAULT", "GONE", "NAK", "SILENT", "STALL", "UNPLUG", "After", "Answer", "Bus", "Completed", "Device", "Differs",
-           "Interface", "LibraryError", "LimitOver", "Request", "SourceError", "after", "becomes", "bulk_in", "bulk_out", "bus", "config",
-           "control", "file", "hid_descriptor", "interface", "interrupt_in", "interrupt_out", "later", "main", "plug", "recorded", "run", "text"]
+__all__ = ["ACK", "AS_TEXT", "BROKEN", "DEFAULT", "GONE", "NAK", "SILENT", "STALL", "UNPLUG", "After", "Answer", "Bus", "Completed",
+           "Device", "Differs", "Interface", "LibraryError", "LimitOver", "Request", "SourceError", "after", "becomes", "bulk_in",
+           "bulk_out", "bus", "config", "control", "file", "hid_descriptor", "interface", "interrupt_in", "interrupt_out", "later",
+           "main", "plug", "recorded", "run", "text"]

@@ -12,10 +12,10 @@ from tirnouch import Device, LibraryError, SourceError, file, recorded
 from tirnouch.programs import begun
 
 USAGE = "python3 -m tirnouch serve DEVICES .. [--seed N] [--virtual] [--limit TIME] [--trace FILE] [--library FILE] -- PROGRAM .."
-TEXT = """Runs a program that uses libusb 1.0, unchanged, over devices. DEVICES are files: meter.py, which has one class of tirnouch.Device, or
-meter.py:Meter for one of several; a capture, .pcap or .pcapng; or else a text of devices. The status is the program's; 3 where that is 0 and
-it wrote something else than is expected, 1 where it is 0 and a device's method raised an exception, 124 where the limit ended it, 2 where
-these words are wrong, 126 or 127 where there is no such program, or no library."""
+TEXT = """Runs a program that uses libusb 1.0, unchanged, over devices. DEVICES are files: meter.py, which has one class of
+tirnouch.Device, or meter.py:Meter for one of several; a capture, .pcap or .pcapng; or else a text of devices. The status is the
+program's; 3 where that is 0 and it wrote something else than is expected, 1 where it is 0 and a device's method raised an exception, 124
+where the limit ended it, 2 where these words are wrong, 126 or 127 where there is no such program, or no library."""
 WRONG, DIFFERS, FAILED, NOT_RUN, NOT_THERE = 2, 3, 1, 126, 127
 CAPTURES = (".pcap", ".pcapng")
 
@@ -51,8 +51,8 @@ def serve(asked: argparse.Namespace, program: Sequence[str]) -> int:
     """The status."""
     try:
         devices = [device_of(it) for it in asked.devices]
-        with begun(program, devices, asked.seed, "virtual" if asked.virtual else "real", asked.limit, asked.trace, None, None, asked.library,
-                   None, False) as it:
+        time = "virtual" if asked.virtual else "real"
+        with begun(program, devices, asked.seed, time, asked.limit, asked.trace, None, None, asked.library, None, False) as it:
             before = signal.signal(signal.SIGINT, signal.SIG_IGN)   # the terminal interrupts the program, too
             it.communicate()
             signal.signal(signal.SIGINT, before)

@@ -44,7 +44,8 @@ def entry_of(it: Any) -> Entry:
         return it
     it = given
     hint = ": a file's name goes into file(..)" if isinstance(it, str) else ""
-    raise TypeError(f"a bus takes devices: a class of Device, an object of one or a function that makes one, text(..), file(..), recorded(..) or becomes(..), and not {it!r}{hint}")
+    raise TypeError("a bus takes devices: a class of Device, an object of one or a function that makes one, text(..), file(..), "
+                    f"recorded(..) or becomes(..), and not {it!r}{hint}")
 
 
 class Places:
@@ -95,7 +96,7 @@ class Bus:
         self.seed, self.faults, self.limit, self.is_open = seed, [], None, False
         self.is_begun = False
         self.plugged: List[Plugged] = []
-        self.ports = [Port(self.library, number, device, self.places.described[number]) for number, device in enumerate(self.places.devices)]
+        self.ports = [Port(self.library, number, *it) for number, it in enumerate(zip(self.places.devices, self.places.described))]
         for number, other in self.places.successors.items():
             self.ports[number].successor = self.ports[other]
         try:
@@ -158,7 +159,7 @@ class Bus:
                 contexts.close_contexts()
                 status = self.library.call("end")
             if status == BUSY:
-                raise LibraryError("a context of libusb is open still: those of usb1 are the test's own, and are closed by it, as by `with`")
+                raise LibraryError("a context of libusb is open still: those of usb1 are the test's own, which closes them, as by `with`")
             OPEN.remove(self)
         self.is_open = False
 
@@ -248,8 +249,8 @@ class Bus:
         if not 0 <= milliseconds < 1 << 32:
             raise ValueError(f"advance takes milliseconds from 0 to {(1 << 32) - 1}, and not {milliseconds}")
         if self.library.call("advance", milliseconds):
-            raise RuntimeError("time is real here, or there is no bus: time=\"virtual\", or TIRNOUCH_TIME=virtual, makes it pass where nothing "
-                               "else is to be done")
+            raise RuntimeError("time is real here, or there is no bus: time=\"virtual\", or TIRNOUCH_TIME=virtual, makes it pass where "
+                               "nothing else is to be done")
 
 
 def own_part(error: BaseException) -> Any:

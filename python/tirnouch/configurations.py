@@ -46,7 +46,7 @@ def config(*parts: Union[Endpoint, Part], attributes: int = 0x80, milliamperes: 
     if wrong is not None:
         raise TypeError(f"config takes endpoints, as bulk_in(0x81), or interfaces, as interface(bulk_in(0x81)), and not {wrong!r}")
     if alone and others:
-        raise TypeError("config takes endpoints, which are one interface's, or interfaces, and not both: put the endpoints into an interface")
+        raise TypeError("config takes endpoints, which are one interface's, or interfaces, and not both: put the endpoints into one")
     found = others if others else [interface(*alone)]
     interfaces: List[Interface] = []
     endpoints: List[Endpoint] = []
@@ -124,8 +124,8 @@ def check_functional(where: str, raw: bytes) -> None:
     at = 0
     while at < len(raw):
         if raw[at] < 2 or at + raw[at] > len(raw):
-            raise ValueError(f"{where}: `functional`: the descriptor at byte {at} says that it has {raw[at]} bytes, and {len(raw) - at} are "
-                             "there: its first byte is its length")
+            raise ValueError(f"{where}: `functional`: the descriptor at byte {at} says that it has {raw[at]} bytes, and {len(raw) - at} "
+                             "are there: its first byte is its length")
         at += raw[at]
 
 

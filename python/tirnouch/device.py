@@ -29,10 +29,11 @@ class Device:
     """A device. `config` declares its endpoints, which the methods in_81 and out_02 answer, by address, and `control` its requests; or
     decorators mark its endpoints and the methods that answer (endpoints.py).
 
-    A method of an OUT endpoint is given a packet, and returns None or ACK where the packet is taken. A method of an IN endpoint is given the
-    bytes that the host takes at most, and returns bytes, or None or NAK where there are none yet; it is asked where nothing that was sent is
-    left. Each may return STALL, BROKEN, GONE, SILENT, later(ms) or after(ms, answer) instead (answers.py). An exception fails the test; a
-    device without one has it on standard error with its traceback. It is a stall: the host's transfer ends so, and the device goes on."""
+    A method of an OUT endpoint is given a packet, and returns None or ACK where the packet is taken. A method of an IN endpoint is given
+    the bytes that the host takes at most, and returns bytes, or None or NAK where there are none yet; it is asked where nothing that was
+    sent is left. Each may return STALL, BROKEN, GONE, SILENT, later(ms) or after(ms, answer) instead (answers.py). An exception fails the
+    test; where there is none, it is told on standard error with its traceback. It is a stall: the host's transfer ends so, and the device
+    goes on."""
 
     # Vendor, product and release in one: (0x1209, 0x0001) or (0x1209, 0x0001, 0x0100)
     ids: ClassVar[Optional[Tuple[int, ...]]] = None

@@ -15,7 +15,7 @@ from tirnouch.sources import USBTRACE, place_of
 # So many steps are shown, and so many are drawn; of the seeds of a test so many are drawn in a process.
 SHOWN, DRAWN, MOST_DRAWN = 12, 2000, 2
 SECONDS = 60
-SEED = re.compile(r"seed=[0-9]+")
+SEED = re.compile(r"(?<=[\[-])seed[0-9]+(?=[]-])")
 Record = Dict[str, Any]
 DRAWN_OF: Dict[str, int] = {}
 
@@ -106,7 +106,7 @@ class Run:
 
     def record(self) -> Record:
         """What the summary is told of it, in words that go between processes."""
-        return {"of": SEED.sub("seed=*", self.item.nodeid), "seed": self.seed, "steps": self.steps, "again": self.again(),
+        return {"of": SEED.sub("seed*", self.item.nodeid), "seed": self.seed, "steps": self.steps, "again": self.again(),
                 "trace": str(self.longest or "")}
 
 

@@ -1,5 +1,5 @@
-"""Faults of a device that computes: in the place of a packet, or of a request, something fails. What the device would have sent stays, and is
-sent behind the fault; what the host wrote there never reaches the device."""
+"""Faults of a device that computes: in the place of a packet, or of a request, something fails. What the device would have sent stays, and
+is sent behind the fault; what the host wrote there never reaches the device."""
 from __future__ import annotations
 
 import collections
@@ -70,8 +70,8 @@ class Faults:
     def add_packet(self, address: int, fault: Fault) -> None:
         """A fault of an endpoint. ValueError where its packet is past."""
         if fault.index is not None and fault.index < self.moved[address]:
-            raise ValueError(f"endpoint {address:02x} has had {self.moved[address]} packets since it was plugged in: packet {fault.index} is "
-                             "past")
+            raise ValueError(f"endpoint {address:02x} has had {self.moved[address]} packets since it was plugged in: packet {fault.index} "
+                             "is past")
         self.of_packets[address].append(fault)
 
     def dice(self, address: int) -> random.Random:

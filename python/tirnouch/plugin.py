@@ -8,6 +8,7 @@ then. `-p no:tirnouch.plugin` leaves that out."""
 from __future__ import annotations
 
 import contextlib
+import os
 import pathlib
 from typing import Any, Dict, Generator, Iterator, List, NamedTuple, Optional, Tuple
 
@@ -51,8 +52,8 @@ def pytest_addoption(parser: pytest.Parser) -> None:
 
 def pytest_configure(config: pytest.Config) -> None:
     """The marker is known, and the library is loaded; where there is none, the fixture says so."""
-    config.addinivalue_line("markers", "tirnouch(*devices, seeds=, seed=, time=, limit=): the devices of the fixture bus: classes or objects of "
-                                       "tirnouch.Device, text(..), file(..), recorded(..), becomes(..)")
+    config.addinivalue_line("markers", "tirnouch(*devices, seeds=, seed=, time=, limit=): the devices of the fixture bus: classes or "
+                                       "objects of tirnouch.Device, text(..), file(..), recorded(..), becomes(..)")
     failures.DRAWN_OF.clear()
     seed = config.getoption("--tirnouch-seed")
     if seed is not None and not 0 <= seed <= buses.MOST_SEED:
@@ -74,7 +75,7 @@ def pytest_generate_tests(metafunc: pytest.Metafunc) -> None:
         raise pytest.UsageError(f"{metafunc.definition.nodeid}: seeds are whole numbers, as range(1, 101), and not "
                                 f"{repr(wrong) if seeds else 'none at all'}")
     chosen = metafunc.config.getoption("--tirnouch-seed")
-    metafunc.parametrize("tirnouch_seed", seeds if chosen is None else [chosen], ids=lambda seed: f"seed={seed}")
+    metafunc.parametrize("tirnouch_seed", seeds if chosen is None else [chosen], ids=lambda seed: f"seed{seed}")
 
 
 @pytest.fixture
@@ -85,9 +86,12 @@ def tirnouch_seed(request: pytest.FixtureRequest) -> int:
 
 
 @pytest.fixture
-def bus(request: pytest.FixtureRequest, tirnouch_seed: int) -> Iterator[Bus]:
-    """The bus of the marker's devices, by their numbers bus[0], bus[1], ..; without devices it is an empty one."""
+def bus(request: pytest.FixtureRequest, tirnouch_seed: int, monkeypatch: pytest.MonkeyPatch) -> Iterator[Bus]:
+    """The bus of the marker's devices, by their numbers bus[0], bus[1], ..; without devices it is an empty one. The library tells on
+    standard error why a transfer doesn't end, unless LIBUSB_DEBUG says how much it tells."""
     devices, words = marked(request.node)
+    if "LIBUSB_DEBUG" not in os.environ:
+        monkeypatch.setenv("LIBUSB_DEBUG", "2")
     run = failures.Run(request.node, tirnouch_seed, traces(request.config))
     request.node.stash[RUN] = run
     run.bus = buses.bus(*devices, seed=tirnouch_seed, time=words.get("time", "real"), trace=run.trace, limit=words.get("limit"),

@@ -91,8 +91,8 @@ class Port:
         return self.library.took(self.number, endpoint, index)
 
     def requests(self) -> List[bytes]:
-        """The requests that it was sent since it was plugged in, the first 4,096: 8 bytes of setup, and at most 56 of what was written, with
-        zeros behind them."""
+        """The requests that it was sent since it was plugged in, the first 4,096: 8 bytes of setup, and at most 56 of what was written,
+        with zeros behind them."""
         return self.library.requests(self.number)
 
 

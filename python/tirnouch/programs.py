@@ -1,7 +1,7 @@
 """Programs of other processes, unchanged, over devices of this one: `run`, and `python -m tirnouch serve`.
 
-A device of this process is a `program` line of the text that the program's library reads (docs/DEVICES.md): relay.py passes its questions on
-to a socket, where a thread answers them."""
+A device of this process is a `program` line of the text that the program's library reads (docs/DEVICES.md): relay.py passes its questions
+on to a socket, where a thread answers them."""
 from __future__ import annotations
 
 import contextlib
@@ -134,13 +134,14 @@ def environment_of(library: str, served: Served, seed: int, time: str, trace: Op
     return {**here, **steering, "LD_LIBRARY_PATH": path}
 
 
-def run(words: Words, devices: Sequence[Any] = (), *, seed: int = 0, time: str = "real", limit: Any = None, trace: Optional[PathLike] = None,
-        input: Union[str, bytes, None] = None, cwd: Optional[PathLike] = None, env: Optional[Mapping[str, str]] = None,
-        library: Optional[PathLike] = None) -> Completed:
-    """Runs a program that uses libusb 1.0, unchanged, over these devices, which are those that `bus` takes; a Device answers in this process,
-    so its attributes tell a test what became of it. `seed`, `time` and `trace` are those of `bus`. `limit`, as "10s", ends a run that hangs,
-    with status 124: its errors say what was in flight. `input` is its standard input, `env` its variables in place of this process's own.
-    FileNotFoundError or PermissionError where there is no such program. An exception of a device's method is raised behind the run."""
+def run(words: Words, devices: Sequence[Any] = (), *, seed: int = 0, time: str = "real", limit: Any = None,
+        trace: Optional[PathLike] = None, input: Union[str, bytes, None] = None, cwd: Optional[PathLike] = None,
+        env: Optional[Mapping[str, str]] = None, library: Optional[PathLike] = None) -> Completed:
+    """Runs a program that uses libusb 1.0, unchanged, over these devices, which are those that `bus` takes; a Device answers in this
+    process, so its attributes tell a test what became of it. `seed`, `time` and `trace` are those of `bus`. `limit`, as "10s", ends a run
+    that hangs, with status 124: its errors say what was in flight. `input` is its standard input, `env` its variables in place of this
+    process's own. FileNotFoundError or PermissionError where there is no such program. An exception of a device's method is raised behind
+    the run."""
     if isinstance(words, (str, bytes)) or not words:
         raise TypeError(f"run takes the words of a command, as [\"lsusb\", \"-v\"], and not {words!r}")
     data = input.encode() if isinstance(input, str) else input

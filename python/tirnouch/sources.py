@@ -93,7 +93,8 @@ class TextFault(NamedTuple):
         words = self.source.lines[at].split(" ")
         packets = [place for place, word in enumerate(words[3:]) if word[0] in "da"]
         if self.packet >= len(packets):
-            raise SourceError(f"{name}: the script of device {number}, {address}, has {len(packets)} packets, and none of index {self.packet}")
+            raise SourceError(f"{name}: the script of device {number}, {address}, has {len(packets)} packets, and none of index "
+                              f"{self.packet}")
         return self.placed(kind, at, words, packets[self.packet])
 
     def placed(self, kind: Answer, at: int, words: List[str], place: int) -> Text:
@@ -167,9 +168,9 @@ MADE: Dict[Tuple[Any, ...], List[str]] = {}
 
 def recorded(path: PathLike, device: Optional[str] = None, umockdev: Optional[PathLike] = None, descriptors: Optional[PathLike] = None,
              lenient: bool = False) -> Text:
-    """The devices of a capture, pcap or pcapng (docs/CAPTURES.md): they answer as they were recorded, and expect what was written then; what
-    differs fails the test, unless it is `lenient`. `device` is the one device that is meant, as "1209:0002"; `umockdev` or `descriptors` is
-    a file that has what the capture lacks of it. SourceError says what is missing."""
+    """The devices of a capture, pcap or pcapng (docs/CAPTURES.md): they answer as they were recorded, and expect what was written then;
+    what differs fails the test, unless it is `lenient`. `device` is the one device that is meant, as "1209:0002"; `umockdev` or
+    `descriptors` is a file that has what the capture lacks of it. SourceError says what is missing."""
     if umockdev is not None and descriptors is not None:
         raise SourceError("recorded: `umockdev` and `descriptors`: say one of them")
     if device is not None and not IDS.fullmatch(device):

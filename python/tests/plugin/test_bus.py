@@ -208,12 +208,13 @@ def test_what_a_bus_refuses_leaves_none() -> None:
     device = Meter()
     wrong = Meter()
     wrong.lines = [("speed", "fast")]
-    for words, named, error, sentence in (((5,), {}, TypeError, "a bus takes devices"), ((device, device), {}, ValueError, "each device once"),
-                                          (tuple(Meter() for _ in range(17)), {}, ValueError, "at most 16 devices"),
-                                          ((), {"seed": -1}, ValueError, "a seed is"), ((), {"time": "slow"}, ValueError, "time is"),
-                                          ((), {"limit": "x"}, ValueError, "a limit is"), ((), {"limit": 0}, ValueError, "a limit is"),
-                                          ((wrong,), {}, t.LibraryError, "\"fast\""), ((), {"library": "libc.so.6"}, t.LibraryError, "isn't Tirnouch's"),
-                                          ((device,), {"trace": "/nowhere/trace"}, t.LibraryError, "/nowhere/trace")):
+    refused: Any = (((5,), {}, TypeError, "a bus takes devices"), ((device, device), {}, ValueError, "each device once"),
+                    (tuple(Meter() for _ in range(17)), {}, ValueError, "at most 16 devices"), ((), {"seed": -1}, ValueError, "a seed is"),
+                    ((), {"time": "slow"}, ValueError, "time is"), ((), {"limit": "x"}, ValueError, "a limit is"),
+                    ((), {"limit": 0}, ValueError, "a limit is"), ((wrong,), {}, t.LibraryError, "\"fast\""),
+                    ((), {"library": "libc.so.6"}, t.LibraryError, "isn't Tirnouch's"),
+                    ((device,), {"trace": "/nowhere/trace"}, t.LibraryError, "/nowhere/trace"))
+    for words, named, error, sentence in refused:
         with pytest.raises(error, match=sentence):
             t.bus(*words, **named)
     with t.bus(device) as bus:

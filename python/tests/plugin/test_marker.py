@@ -69,7 +69,7 @@ def test_a_seed_is_an_item(run: Any) -> None:
     run(source).assert_outcomes(passed=5)
     result = run(source, "--tirnouch-seed", "3", "-v")
     result.assert_outcomes(passed=1)
-    result.stdout.fnmatch_lines(["*test_asks[[]seed=3[]] PASSED*"])
+    result.stdout.fnmatch_lines(["*test_asks[[]seed3[]] PASSED*"])
 
 
 def test_one_seed_of_a_test(run: Any) -> None:
@@ -83,7 +83,8 @@ def test_one_seed_of_a_test(run: Any) -> None:
 
 
 def test_words_that_are_wrong_are_told(run: Any) -> None:
-    for mark, sentence in (("Meter, seds=range(3)", "*has no word seds; its form is*"), ("Meter, seeds=[]", "*seeds are whole numbers*none at all*"),
+    for mark, sentence in (("Meter, seds=range(3)", "*has no word seds; its form is*"),
+                           ("Meter, seeds=[]", "*seeds are whole numbers*none at all*"),
                            ("Meter, seeds=['a']", "*seeds are whole numbers*'a'*"), ("Meter, seeds=[1], seed=1", "*say one of them*"),
                            ("Meter, time='fast'", "*time is \"real\" or \"virtual\", and not 'fast'*"),
                            ("Meter, limit='soon'", "*a limit is \"500ms\", \"10s\" or \"2m\"*'soon'*"),

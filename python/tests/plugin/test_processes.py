@@ -18,5 +18,5 @@ def test_four_processes(run: Any, monkeypatch: pytest.MonkeyPatch) -> None:
             assert tirnouch_seed != 17
         """, "-n", "4")
     result.assert_outcomes(passed=39, failed=1)
-    result.stdout.fnmatch_lines(["seed 17", "play it again: python3 -m pytest 'test_it.py::test_asks[[]seed=17[]]'", "*= tirnouch =*",
-                                 "test_it.py::test_asks[[]seed=[*][]]: 1 seed fails: 17"])
+    result.stdout.fnmatch_lines(["seed 17", "play it again: python3 -m pytest 'test_it.py::test_asks[[]seed17[]]'", "*= tirnouch =*",
+                                 "test_it.py::test_asks[[]seed[*][]]: 1 seed fails: 17"])

@@ -163,10 +163,13 @@ def test_serve(tmp_path: pathlib.Path, words: List[str]) -> None:
 
 
 def test_what_serve_refuses(tmp_path: pathlib.Path) -> None:
-    for given, status, sentence in ((("meter.py",), 2, "which program? Put it behind --"), (("two.py", "--", "true"), 2, "two.py has 2 devices: "
-                                     "say which, as two.py:Meter"), (("two.py:None", "--", "true"), 2, "has no device None; it has Meter, Other"),
-                                    (("none.py", "--", "true"), 2, "there is no file none.py"), (("none.txt", "--", "true"), 127, "none.txt"),
-                                    (("meter.py", "--", "/nowhere/x"), 127, "/nowhere/x"), (("meter.py", "--limit", "x", "--", "true"), 2, "a limit is"),
+    for given, status, sentence in ((("meter.py",), 2, "which program? Put it behind --"),
+                                    (("two.py", "--", "true"), 2, "two.py has 2 devices: say which, as two.py:Meter"),
+                                    (("two.py:None", "--", "true"), 2, "has no device None; it has Meter, Other"),
+                                    (("none.py", "--", "true"), 2, "there is no file none.py"),
+                                    (("none.txt", "--", "true"), 127, "none.txt"),
+                                    (("meter.py", "--", "/nowhere/x"), 127, "/nowhere/x"),
+                                    (("meter.py", "--limit", "x", "--", "true"), 2, "a limit is"),
                                     (("meter.py", "--library", "/nowhere/x", "--", "true"), 127, "/nowhere/x isn't there")):
         ran = serve(tmp_path, *given)
         assert (ran.returncode, sentence in ran.stderr) == (status, True), (given, ran)
