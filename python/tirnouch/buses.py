@@ -116,6 +116,7 @@ class Bus:
             raise ValueError(f"{device} is in a bus already: that one is closed first")
         self.plugged.append(Plugged(self.library, number, device))
         device._faults.begin(number, self.seed)
+        device._clock = self.library.clock()
         if watches:
             device._watcher = self._watch
 
@@ -154,6 +155,7 @@ class Bus:
         if self.limit:
             self.limit.stop()
         if self.is_begun and self.is_open:
+            contexts.dispose_devices()
             status = self.library.call("end")
             if status == BUSY:
                 contexts.close_contexts()

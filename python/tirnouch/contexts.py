@@ -35,47 +35,71 @@ def introduce(library: Library) -> None:
             usb1._tirnouch = library
 
 
-# The handles that pyusb has opened, as far as they are there still, and the backends of which that is known.
-HANDLES: "weakref.WeakSet[Any]" = weakref.WeakSet()
+# The handles that pyusb has opened and not closed, and the backends of which that is known.
+OPENED: Dict[int, Any] = {}
 WATCHED: "weakref.WeakSet[Any]" = weakref.WeakSet()
 
 
 def watch(backend: Any) -> None:
-    """Whether a device is open is known without a look at all objects."""
+    """Which handles are open is known without a look at all objects."""
     if backend is None or backend in WATCHED:
         return
-    opened = backend.open_device
+    opened, closed = backend.open_device, backend.close_device
 
     def open_device(device: Any) -> Any:
         handle = opened(device)
-        HANDLES.add(handle)
+        OPENED[id(handle)] = handle
         return handle
 
-    backend.open_device = open_device
+    def close_device(handle: Any) -> Any:
+        OPENED.pop(id(handle), None)
+        return closed(handle)
+
+    backend.open_device, backend.close_device = open_device, close_device
     WATCHED.add(backend)
 
 
-def dispose_devices(backend: Any) -> None:
-    """Closes pyusb's devices: those of a test that failed live on in its traceback, and may not be closed behind their context."""
-    core: Any = sys.modules.get("usb.core")
-    if backend in WATCHED:
-        if HANDLES:
+def close_lost(backend: Any) -> None:
+    """Closes the handles of devices that the collector took: pyusb leaves these open, as its finalizers find the device gone."""
+    for key in list(OPENED):
+        handle = OPENED.pop(key)
+        if sys.getrefcount(handle) > 2:         # a device has it still
+            OPENED[key] = handle
+        else:
+            backend.close_device(handle)
+
+
+def pyusb() -> Any:
+    """pyusb's module with its backend, where that is loaded; else None."""
+    module: Any = sys.modules.get("usb.backend.libusb1")
+    return module if module and module._lib_object else None
+
+
+def dispose_devices() -> None:
+    """Closes pyusb's devices that are open still: those of a test that failed live on in its traceback, and others in what the collector
+    hasn't seen yet."""
+    module, core = pyusb(), sys.modules.get("usb.core")
+    if not module or not core:
+        return
+    if module._lib_object in WATCHED:
+        if OPENED:
             gc.collect(1)       # of what the test alone had
-        if not HANDLES:
+            close_lost(module._lib_object)
+        if not OPENED:
             return
-    for it in gc.get_objects() if core else []:
-        if type(it) is core.Device:
-            core.util.dispose_resources(it)
+    kind: Any = getattr(core, "Device")
+    for it in gc.get_objects():
+        if type(it) is kind:
+            importlib.import_module("usb.util").dispose_resources(it)
 
 
 def close_contexts() -> None:
     """Closes the contexts that pyusb and hidapi keep for the whole process. A library whose buses end while contexts are open needs it
     not."""
-    module: Any = sys.modules.get("usb.backend.libusb1")
-    backend = module._lib_object if module else None
-    if backend:
-        dispose_devices(backend)
-        backend.finalize()
+    dispose_devices()
+    module = pyusb()
+    if module:
+        module._lib_object.finalize()
         module._lib_object = None
     hidapi = ctypes.util.find_library("hidapi-libusb") if "hid" in sys.modules else None
     if hidapi:

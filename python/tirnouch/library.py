@@ -6,7 +6,7 @@ from __future__ import annotations
 import ctypes
 import os
 import pathlib
-from typing import Any, Dict, List, Optional, Union
+from typing import Any, Callable, Dict, List, Optional, Union
 
 from tirnouch.device import ASKED
 
@@ -89,6 +89,10 @@ class Library:
     def error(self) -> str:
         """What went wrong last; "" where nothing did."""
         return "".join(self.lines("error"))
+
+    def clock(self) -> Optional[Callable[[], int]]:
+        """The clock of timeouts for devices that are asked; None of a library that answers no calls within a device's function."""
+        return (lambda: int(self.c.tirnouch_now())) if hasattr(self.c, "tirnouch_trace") else None
 
     def begin(self, text: bytes, seed: int, trace: Optional[str], is_virtual: bool) -> int:
         """The bus begins: the status."""

@@ -56,12 +56,12 @@ def test_a_test_within_its_limit_passes(run: Any) -> None:
     """Also where it ends a moment before, and where another one's time is over behind it."""
     result = run("""
         @pytest.mark.parametrize("turn", range(20))
-        @pytest.mark.tirnouch(Meter, limit="60ms")
+        @pytest.mark.tirnouch(Meter, limit="2s")
         def test_in_time(bus, turn):
             assert driver.ask(21) == 42
 
         def test_later():
-            time.sleep(0.2)
+            time.sleep(2.2)
         """)
     result.assert_outcomes(passed=21)
 
