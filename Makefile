@@ -111,11 +111,18 @@ c-try:
 c-test: c c-usb
 	@tools/progress.py timed c-test -- tools/c_test.py
 
-# Devices in Python: their own tests, and the tests of c/example. What can't run here is skipped, and told.
-.PHONY: python-try
+# Devices in Python: their own tests, and the tests of c/example. What can't run here is skipped, and told. `make python` builds the package
+# as a wheel, of what stands in bin/; `make python-test` tries it, and all that docs/PYTHON.md has, over what stands there.
+.PHONY: python python-try python-test
 python-try: c-try
 	@tools/device_test.py
 	@tools/python_test.py
+
+python:
+	@tools/python_wheel.py
+
+python-test:
+	@tools/python_test.py all
 
 # gcc's analyzer and cppcheck over the C code; what they find is explained in c/findings.txt.
 .PHONY: c-lint

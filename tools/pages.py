@@ -104,7 +104,7 @@ def device_faults() -> Iterator[str]:
 
 def example_faults() -> Iterator[str]:
     """Tests in docs/PYTHON.md and code in docs/RATTLE.md that aren't those of the examples."""
-    sources = [*EXAMPLE.rglob("test_*.py"), *(ROOT / "python" / "devices").glob("*.py")]
+    sources = [*EXAMPLE.rglob("*.py"), *(ROOT / "python" / "devices").glob("*.py")]
     tests = [[line for line in it.read_text().splitlines() if line] for it in sources]
     for block in blocks((DOCS / "PYTHON.md").read_text()):
         lines = [line for line in block if line]

@@ -1,17 +1,23 @@
 #!/usr/bin/env python3
 """Runs the Python tests of c/example, as README.md and docs/PYTHON.md run them, over bin/libusb-1.0.so.0.
 
-    tools/python_test.py    the test beside devices.txt under tools/tirnouch-run; the same over a meter that answers otherwise, which has to
-                            fail; the tests of c/example/python
+    tools/python_test.py        the test beside devices.txt under tools/tirnouch-run; the same over a meter that answers otherwise, which has
+                                to fail; the tests of c/example/python
+    tools/python_test.py all    these; the tests of python/tests; the tests of c/example/python over the wheel alone, in a fresh environment;
+                                mypy and ruff over python/
 
-It needs a Python that has pytest and pyusb; usb1 and hid are optional. Missing modules are skipped and reported, and the status is 0; it is
-1 where a test differs."""
+It needs a Python that has pytest and pyusb; all else is optional. What is missing is skipped and reported, and the status is 0; it is 1 where
+a test differs."""
 import os
 import pathlib
+import shutil
 import subprocess
 import sys
 import tempfile
+import time
 from typing import Iterator, Optional, Sequence
+
+import python_wheel
 
 ROOT = pathlib.Path(__file__).resolve().parent.parent
 EXAMPLE = ROOT / "c" / "example"
@@ -19,9 +25,10 @@ LIBRARY = ROOT / "bin" / "libusb-1.0.so.0"
 RUN = ROOT / "tools" / "tirnouch-run"
 # A module, and the package of Debian that has it.
 MODULES = {"pytest": "python3-pytest", "usb.core": "python3-usb"}
-OPTIONAL = {"usb1": "python3-libusb1", "hid": "python3-hid"}
+OPTIONAL = {"usb1": "python3-libusb1", "hid": "python3-hid", "xdist": "python3-pytest-xdist"}
+CHECKERS = {"mypy": ["mypy", "--config-file", "pyproject.toml"], "ruff": ["ruff", "check", "."]}
 STEERING = ("TIRNOUCH_", "LIBUSB_DEBUG", "PYTEST_")
-SECONDS = 120
+SECONDS = 170
 # What pytest's manual says of its exit codes: all passed; some failed.
 PASSED, FAILED = 0, 1
 
@@ -40,18 +47,27 @@ def find_python() -> Optional[str]:
     return next((it for it in dict.fromkeys((sys.executable, "/usr/bin/python3")) if has(it, list(MODULES))), None)
 
 
-def run(words: Sequence[object], folder: pathlib.Path) -> "subprocess.CompletedProcess[str]":
-    """Runs a command in a folder, without what steers the library from outside."""
-    environment = {key: value for key, value in os.environ.items() if not key.startswith(STEERING)}
+def run(words: Sequence[object], folder: pathlib.Path, is_alone: bool = False) -> "subprocess.CompletedProcess[str]":
+    """Runs a command in a folder, without what steers the library from outside; alone it doesn't see this repository's package."""
+    environment = {key: value for key, value in os.environ.items() if not key.startswith(STEERING) and key != "PYTHONPATH"}
     environment["PYTHONDONTWRITEBYTECODE"] = "1"
-    environment["PYTHONPATH"] = os.pathsep.join(filter(None, [str(ROOT / "python"), os.environ.get("PYTHONPATH", "")]))
+    if not is_alone:
+        environment["PYTHONPATH"] = os.pathsep.join(filter(None, [str(ROOT / "python"), os.environ.get("PYTHONPATH", "")]))
     done = [str(word) for word in words]
-    return subprocess.run(done, cwd=folder, env=environment, capture_output=True, text=True, timeout=SECONDS, check=False)
+    try:
+        return subprocess.run(done, cwd=folder, env=environment, capture_output=True, text=True, timeout=SECONDS, check=False)
+    except subprocess.TimeoutExpired as error:
+        return subprocess.CompletedProcess(done, -1, "", f"it didn't end within {SECONDS} seconds: {error}")
 
 
 def pytest(python: str) -> list[str]:
     """The words that run pytest and leave nothing behind."""
-    return [python, "-m", "pytest", "-q", "-p", "no:cacheprovider"]
+    return [python, "-m", "pytest", "-q", "-rs", "-p", "no:cacheprovider"]
+
+
+def in_processes(python: str) -> list[str]:
+    """The words for as many processes as there are processors, where pytest-xdist is there."""
+    return ["-n", str(min(4, len(os.sched_getaffinity(0))))] if has(python, ["xdist"]) else []
 
 
 def judge(name: str, ran: "subprocess.CompletedProcess[str]", status: int) -> Iterator[str]:
@@ -71,9 +87,52 @@ def faults(python: str) -> Iterator[str]:
     yield from judge("c/example/python", run(pytest(python), EXAMPLE / "python"), PASSED)
 
 
+def package_faults(python: str) -> Iterator[str]:
+    """What is wrong with the tests of the package, and what its checkers say."""
+    ran = run([*pytest(python), *in_processes(python), "tests"], ROOT / "python")
+    yield from judge("python/tests", ran, PASSED)
+    for line in ran.stdout.splitlines():
+        if line.startswith("SKIPPED"):
+            print(f"skipped: {line.partition('] ')[2]}")
+    for name, words in CHECKERS.items():
+        if shutil.which(name):
+            more = ["--python-executable", python] if name == "mypy" else []
+            yield from judge(name, run([*words, *more], ROOT / "python"), 0)
+        else:
+            print(f"skipped: there is no {name}")
+
+
+def wheel_faults(python: str) -> Iterator[str]:
+    """What is wrong with the wheel alone: its library runs the examples in an environment that has nothing else of this repository."""
+    builder = python_wheel.builder()
+    if not builder or not has(python, ["venv", "ensurepip"]):
+        print(f"skipped: no Python here has what builds a wheel (apt-get install {python_wheel.PACKAGES} python3-venv)")
+        return
+    with tempfile.TemporaryDirectory() as name:
+        folder = pathlib.Path(name)
+        try:
+            wheel = python_wheel.build(builder, folder / "wheel")
+        except RuntimeError as error:
+            yield f"the wheel can't be built: {error}"
+            return
+        shutil.copytree(EXAMPLE, folder / "example", ignore=shutil.ignore_patterns("__pycache__"))
+        for words in ([python, "-m", "venv", "--system-site-packages", folder / "venv"],
+                      [folder / "venv/bin/python", "-m", "pip", "install", "-q", "--no-index", "--no-deps", "--disable-pip-version-check", wheel]):
+            found = list(judge("the wheel's environment", run(words, folder, True), 0))
+            if found:
+                yield from found
+                return
+        alone = str(folder / "venv/bin/python")
+        (folder / "example/python/conftest.py").unlink()
+        yield from judge("the wheel alone", run([*pytest(alone), *in_processes(python)], folder / "example/python", True), PASSED)
+        where = run([alone, "-c", "from tirnouch.library import load\nprint(load().path)"], folder, True)
+        if not where.stdout.startswith(str(folder / "venv")):
+            yield f"the wheel takes another library: {where.stdout}{where.stderr}"
+
+
 def main(words: Sequence[str]) -> int:
     """The status."""
-    if words:
+    if list(words) not in ([], ["all"]):
         print(__doc__)
         return 2
     if not LIBRARY.is_file():
@@ -86,8 +145,10 @@ def main(words: Sequence[str]) -> int:
     for module, package in OPTIONAL.items():
         if not has(python, [module]):
             print(f"skipped: {python} lacks {module} (apt-get install {package})")
-    found = list(faults(python))
-    print("".join(f"{it}\n" for it in found) or "the Python tests are as expected\n", end="")
+    found, began = [], time.monotonic()
+    for part in (faults, package_faults, wheel_faults) if words else (faults,):
+        found += part(python)
+    print("".join(f"{it}\n" for it in found) or f"the Python tests are as expected, in {time.monotonic() - began:.0f} seconds\n", end="")
     return 1 if found else 0
 
 

@@ -1,55 +1,22 @@
-"""Tests of the driver in meter.py. What pyusb raises is by its usb/core.py and usb/backend/libusb1.py."""
-import errno
+import pytest, tirnouch as t, driver
 
-import pytest
-import usb.core
+class Meter(t.Device):
+    ids, serial = (0x1209, 0x4d31), "PM-1"
+    config = t.config(t.bulk_out(0x02, 64), t.bulk_in(0x81, 64), t.interrupt_in(0x83, 8))
+    def out_02(self, packet):
+        if sum(packet[:-1]) & 255 != packet[-1]: return t.STALL
+        self.asked = packet; return t.ACK
+    def in_81(self, room):
+        if not self.asked: return t.NAK
+        answer = bytes([0x10, *self.asked[1:3], 1]) + (230).to_bytes(4, "little"); self.asked = None
+        return t.after(30, answer + bytes([sum(answer) & 255]))     # milliseconds of virtual time
+    def control(self, setup, data): return b"PM-1" if setup.request == 1 else t.DEFAULT
 
-from meter import Meter
-
-# Bulk endpoints 81 (IN) and 02 (OUT), packets of 64 bytes.
-METER = """\
-device 0 0902200001010080320904000002ff0000000705810240000007050202400000
-ids 0 1209 0002
-"""
-
-
-def test_reads_a_number(bus) -> None:
-    bus.plug(METER + "script 0 02 a\nscript 0 81 d:2a00000000000000\nafter 0 81 0 02 1\n")
-    assert Meter().reading() == 42
-    assert bus.took(0x02) == b"\x10"
-
-
-def test_reads_on_after_a_stall(bus) -> None:
-    bus.plug(METER + "script 0 02 a a\nscript 0 81 s d:0700000000000000\n")
-    meter = Meter()
-    with pytest.raises(usb.core.USBError) as stalled:
-        meter.reading()
-    assert stalled.value.errno == errno.EPIPE
-    meter.device.clear_halt(0x81)
-    assert meter.reading() == 7
-
-
-def test_an_hour_passes_at_once(bus) -> None:
-    bus.plug(METER + "script 0 02 a\n", virtual=True)
-    with pytest.raises(usb.core.USBTimeoutError):
-        Meter(timeout=3_600_000).reading()
-
-
-def test_pulled_out_behind_a_reading(bus) -> None:
-    bus.plug(METER + "script 0 02 a a\nscript 0 81 d:0100000000000000\nleaves 0 81 1\n")
-    meter = Meter()
-    assert meter.reading() == 1
-    with pytest.raises(usb.core.USBError) as gone:
-        meter.reading()
-    assert gone.value.errno == errno.ENODEV
-
-
-def test_there_is_no_meter(bus) -> None:
-    with pytest.raises(LookupError):
-        Meter()
-
-
-@pytest.mark.parametrize("seed", range(1, 21))
-def test_reads_in_any_order_of_steps(bus, seed: int) -> None:
-    bus.plug(METER + "script 0 02 n a\nscript 0 81 n d:0100000000000000\nafter 0 81 0 02 1\n", seed=seed)
-    assert Meter().reading() == 1
+@pytest.mark.parametrize("fault", [t.STALL, t.BROKEN, t.SILENT, t.UNPLUG])
+@pytest.mark.tirnouch(Meter, seeds=range(1, 201), time="virtual", limit="10s")
+def test_goes_on_behind_a_fault(bus, fault):
+    m = driver.open(); bus[0].at(0x81, 1).fail(fault)
+    assert m.read(3) == [230]
+    with pytest.raises(driver.Error): m.read(4)
+    bus[0].replug(); assert driver.open().read(3) == [230]
+    assert bus.left() == []
