@@ -21,7 +21,7 @@ class BuildWithLibrary(build_py):
 
     def run(self) -> None:
         super().run()
-        if self.editable_mode:
+        if getattr(self, "editable_mode", False):
             return
         if not LIBRARY.is_file():
             raise SystemExit(f"there is no {LIBRARY}, which goes into the package: build it by `make c-try`, or `make c-usb`")

@@ -1,6 +1,7 @@
 """A bus in this process: its devices, what a test asks of it, and what is wrong behind it."""
 from __future__ import annotations
 
+import gc
 import traceback
 from typing import Any, Dict, Iterator, List, NamedTuple, Optional, Union
 
@@ -74,7 +75,7 @@ class Places:
             self.described += [f"of {entry.name}"] * entry.count
             self.lenient += range(first, first + entry.count) if entry.lenient else []
             return
-        for number, it in enumerate(entry.devices if isinstance(entry, Becomes) else [entry], first):
+        for number, it in enumerate(entry.devices() if isinstance(entry, Becomes) else [entry], first):
             self.text += it.text(number)
             self.devices.append(it)
             self.described.append(str(it))
@@ -91,6 +92,7 @@ class Bus:
     """A bus of this process. It is there until `close`, or the end of `with`; a process has one at a time."""
 
     def __init__(self, entries: List[Entry], library: Optional[PathLike], seed: int = 0, watches: bool = True) -> None:
+        end_stale()
         self.places = Places(entries)
         self.library = load(library)
         self.seed, self.faults, self.limit, self.is_open = seed, [], None, False
@@ -115,6 +117,7 @@ class Bus:
         if device._wake is not None:
             raise ValueError(f"{device} is in a bus already: that one is closed first")
         self.plugged.append(Plugged(self.library, number, device))
+        device._renew()
         device._faults.begin(number, self.seed)
         device._clock = self.library.clock()
         if watches:
@@ -161,6 +164,7 @@ class Bus:
                 contexts.close_contexts()
                 status = self.library.call("end")
             if status == BUSY:
+                STALE.append(self)
                 raise LibraryError("a context of libusb is open still: those of usb1 are the test's own, which closes them, as by `with`")
             OPEN.remove(self)
         self.is_open = False
@@ -180,7 +184,7 @@ class Bus:
     def __exit__(self, _kind: Any, error: Optional[BaseException], _trace: Any) -> None:
         verdict = self.verdict() if self.is_begun else None
         self.close()
-        if verdict is not None and error is None:
+        if verdict is not None and (error is None or isinstance(verdict, LimitOver)):
             raise verdict
         if error is not None and self.faults:
             because(error, self.faults[0].error)
@@ -263,8 +267,16 @@ def own_part(error: BaseException) -> Any:
     return part
 
 
-# The bus that was begun and hasn't ended.
+# The bus that was begun and hasn't ended; and that is to end, since a context was open when it should.
 OPEN: List[Bus] = []
+STALE: List[Bus] = []
+
+
+def end_stale() -> None:
+    """Ends the bus that a context kept from its end, where that is closed by now."""
+    if STALE:
+        gc.collect()
+        STALE.pop().close()
 
 
 def because(error: BaseException, cause: BaseException) -> None:

@@ -156,6 +156,11 @@ class Device:
         """Its lines of a text of devices."""
         return descriptors.text(self, number)
 
+    def _renew(self) -> None:
+        """Nothing is silent or to be answered later any more."""
+        self._silent.clear()
+        self._waiting.clear()
+
     def _method(self, endpoint: Endpoint) -> Any:
         """The method that answers an endpoint's packets; None where there is none."""
         method = getattr(self, endpoint.name, None)

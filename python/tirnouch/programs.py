@@ -94,6 +94,7 @@ class Served:
                 connection, _ = listener.accept()
             except OSError:
                 return
+            device._renew()
             device._faults.renew()
             with connection, connection.makefile("rb") as asked, connection.makefile("wb") as answers:
                 with contextlib.suppress(OSError):
@@ -169,9 +170,12 @@ class Begun:
             return self.process.communicate()
 
     def end(self) -> None:
-        """Ends it, with what it has started."""
+        """Ends it; with what it has started, where it has a process group of its own."""
         with contextlib.suppress(ProcessLookupError, PermissionError):
-            os.killpg(self.process.pid, signal.SIGKILL)
+            if os.getpgid(self.process.pid) == self.process.pid:
+                os.killpg(self.process.pid, signal.SIGKILL)
+            else:
+                self.process.kill()
 
     def status(self) -> int:
         """Its status."""
@@ -206,7 +210,7 @@ def begun(words: Words, devices: Sequence[Any], seed: int, time: str, limit: Any
         try:
             yield it
         except BaseException:
-            process.kill() if output is None else it.end()
+            it.end()
             raise
         finally:
             process.wait()

@@ -167,8 +167,7 @@ def tell(device: Device, word: str, number: int) -> None:
     """What happened to the device."""
     if word in RENEWING:
         device._queues.clear()
-        device._silent.clear()
-        device._waiting.clear()
+        device._renew()
     if word == "plugged":
         device._faults.renew()
     getattr(device, f"on_{word}")(*(number,) if word in NUMBERED else ())

@@ -131,13 +131,15 @@ class Becomes:
     """Two devices, of which the second one stands at the port of the first one when that has left."""
 
     def __init__(self, first: Any, then: Any) -> None:
-        self.devices: List[Device] = []
-        for given in (first, then):
-            it: Any = given() if isinstance(given, type) else given
-            self.devices.append(it)
-            if not isinstance(it, Device):
-                raise TypeError(f"becomes takes two devices, as becomes(Loader(), Meter()), and not {it!r}; a text says it by a line "
+        self.given = (first, then)
+        for it in self.given:
+            if not isinstance(it, Device) and not (isinstance(it, type) and issubclass(it, Device)):
+                raise TypeError(f"becomes takes two devices, as becomes(Loader, Meter), and not {it!r}; a text says it by a line "
                                 "`comes back 0 as 1`")
+
+    def devices(self) -> List[Device]:
+        """The devices: of a class a new one for each bus."""
+        return [it() if isinstance(it, type) else it for it in self.given]
 
 
 def becomes(first: Any, then: Any) -> Becomes:

@@ -140,7 +140,7 @@ def test_a_loader_comes_back_as_a_meter(bus: t.Bus, program: Program) -> None:
     assert ask(program, 1) == b"\x02"
 
 
-@pytest.mark.tirnouch(lambda: t.becomes(Loader(), Meter()))
+@pytest.mark.tirnouch(t.becomes(Loader, Meter))
 def test_a_test_makes_the_loader_come_back(bus: t.Bus, program: Program) -> None:
     with pytest.raises(ValueError, match=r"doesn't come back as Loader: .* becomes\(Loader\(\), Loader\(\)\)"):
         bus[0].replug(Loader())
@@ -162,6 +162,46 @@ def test_what_devices_were_sent(bus: t.Bus, program: Program) -> None:
     program.open(0x1209, 0x4D31)
     program.control(0x40, 5, 6, 7, b"ab")
     assert bus[0].requests()[-1][:10] == bytes.fromhex("4005060007000200") + b"ab"
+
+
+def test_each_bus_has_a_loader_of_its_own() -> None:
+    source = t.becomes(Loader, Meter())
+    with t.bus(source) as bus:
+        first = [it.device for it in bus]
+    with t.bus(source) as bus:
+        second = [it.device for it in bus]
+    assert (first[0] is second[0], first[1] is second[1]) == (False, True)
+
+
+def test_what_was_silent_or_late_in_a_bus_isnt_in_the_next() -> None:
+    device = Meter()
+    for kind in (t.SILENT, t.STALL):
+        with t.bus(device, time="virtual") as bus:
+            program = Program()
+            try:
+                assert program.open(0x1209, 0x4D31)
+                assert ask(program, 1) == b"\x02"
+                bus[0].at(0x81, 1).fail(kind)
+                assert ask(program, 1) in (TIMEOUT, PIPE)
+                device.asked = None
+            finally:
+                program.end()
+        device.discard(0x81)
+
+
+def test_a_limit_is_over_in_a_with() -> None:
+    """Also where the program was told of the devices' end, and raises an error of its own."""
+    for error in (None, ValueError("no device")):
+        with pytest.raises(t.LimitOver, match="the limit of 100 ms is over; .*the transfer of 64 bytes at 81 is in flight"):
+            with t.bus(Meter, limit="100ms"):
+                program = Program()
+                try:
+                    assert program.open(0x1209, 0x4D31)
+                    assert program.read(0x81, 64, 0) == NO_DEVICE
+                    if error:
+                        raise error
+                finally:
+                    program.end()
 
 
 def test_a_bus_without_pytests_fixture() -> None:
