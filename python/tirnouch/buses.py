@@ -91,6 +91,9 @@ class Places:
 class Bus:
     """A bus of this process. It is there until `close`, or the end of `with`; a process has one at a time."""
 
+    faults: List[Fault]
+    limit: Optional[Limit]
+
     def __init__(self, entries: List[Entry], library: Optional[PathLike], seed: int = 0, watches: bool = True) -> None:
         end_stale()
         self.places = Places(entries)
@@ -108,10 +111,6 @@ class Bus:
         except BaseException:
             self._take_back()
             raise
-
-    seed: int
-    faults: List[Fault]
-    limit: Optional[Limit]
 
     def _answer(self, number: int, device: Device, watches: bool) -> None:
         if device._wake is not None:

@@ -8,7 +8,7 @@ import importlib
 import importlib.util
 import sys
 import weakref
-from typing import Any, Dict
+from typing import Any, Dict, Tuple
 
 from tirnouch.library import Library
 
@@ -35,8 +35,8 @@ def introduce(library: Library) -> None:
             usb1._tirnouch = library
 
 
-# The handles that pyusb has opened and not closed, and the backends of which that is known.
-OPENED: Dict[int, Any] = {}
+# The handles that pyusb has opened and not closed, with their backends, and the backends of which that is known.
+OPENED: Dict[int, Tuple[Any, Any]] = {}
 WATCHED: "weakref.WeakSet[Any]" = weakref.WeakSet()
 
 
@@ -48,7 +48,7 @@ def watch(backend: Any) -> None:
 
     def open_device(device: Any) -> Any:
         handle = opened(device)
-        OPENED[id(handle)] = handle
+        OPENED[id(handle)] = backend, handle
         return handle
 
     def close_device(handle: Any) -> Any:
@@ -59,46 +59,36 @@ def watch(backend: Any) -> None:
     WATCHED.add(backend)
 
 
-def close_lost(backend: Any) -> None:
+def close_lost() -> None:
     """Closes the handles of devices that the collector took: pyusb leaves these open, as its finalizers find the device gone."""
     for key in list(OPENED):
-        handle = OPENED.pop(key)
+        backend, handle = OPENED.pop(key)
         if sys.getrefcount(handle) > 2:         # a device has it still
-            OPENED[key] = handle
+            OPENED[key] = backend, handle
         else:
             backend.close_device(handle)
-
-
-def pyusb() -> Any:
-    """pyusb's module with its backend, where that is loaded; else None."""
-    module: Any = sys.modules.get("usb.backend.libusb1")
-    return module if module and module._lib_object else None
 
 
 def dispose_devices() -> None:
     """Closes pyusb's devices that are open still: those of a test that failed live on in its traceback, and others in what the collector
     hasn't seen yet."""
-    module, core = pyusb(), sys.modules.get("usb.core")
-    if not module or not core:
+    if OPENED:
+        gc.collect(1)       # of what the test alone had
+        close_lost()
+    if not OPENED:
         return
-    if module._lib_object in WATCHED:
-        if OPENED:
-            gc.collect(1)       # of what the test alone had
-            close_lost(module._lib_object)
-        if not OPENED:
-            return
-    kind: Any = getattr(core, "Device")
+    kind: Any = getattr(importlib.import_module("usb.core"), "Device")
     for it in gc.get_objects():
         if type(it) is kind:
             importlib.import_module("usb.util").dispose_resources(it)
 
 
 def close_contexts() -> None:
-    """Closes the contexts that pyusb and hidapi keep for the whole process. A library whose buses end while contexts are open needs it
-    not."""
+    """Closes the contexts that pyusb and hidapi keep for the whole process, by a name that pyusb has for itself. A library whose buses end
+    while contexts are open needs it not."""
     dispose_devices()
-    module = pyusb()
-    if module:
+    module: Any = sys.modules.get("usb.backend.libusb1")
+    if module and module._lib_object:
         module._lib_object.finalize()
         module._lib_object = None
     hidapi = ctypes.util.find_library("hidapi-libusb") if "hid" in sys.modules else None

@@ -30,8 +30,7 @@ class Run:
         for it in folder.glob("trace*"):
             it.unlink()
         self.bus: Optional[Bus] = None
-        self.kept: Optional[pathlib.Path] = None
-        self.longest: Optional[pathlib.Path] = None
+        self.last: Optional[pathlib.Path] = None
         self.text = ""
         self.steps = 0
         self.ended: List[str] = []
@@ -73,28 +72,29 @@ class Run:
         lines = [f"seed {self.seed}" if self.seed else "no seed", f"play it again: {self.again()}"]
         lines += [line for it in self.bus.faults for line in (str(it), *it.traceback.splitlines())]
         lines += self.ended or (self.sentences() if self.bus.is_open else [])
-        self.kept = self.keep(item)
-        traces = sorted(self.kept.glob("trace*"), key=lambda it: it.stat().st_size) if self.kept else []
-        if traces:
-            steps, last = steps_of(traces[-1])
-            self.steps, self.longest = steps, traces[-1]
-            lines += [f"its last steps, of {steps}:", *(f"    {it}" for it in last)]
-            lines += [f"its trace: {it}" for it in reversed(traces)]
-            lines.append(self.picture(traces[-1]))
+        try:
+            lines += self.traced(self.keep(item))
+        except OSError as error:
+            lines.append(f"its trace can't be kept: {error}")
         self.text = "\n".join(lines)
         return self.text
 
-    def keep(self, item: Any) -> Optional[pathlib.Path]:
-        """The trace goes into the folder of the test."""
-        found = list(self.folder.glob("trace*"))
-        if not found:
-            return None
+    def traced(self, traces: List[pathlib.Path]) -> List[str]:
+        """What is told of its traces, of which the last one was written on last."""
+        if not traces:
+            return []
+        counted = [steps_of(it) for it in traces]
+        self.steps, self.last = sum(steps for steps, _ in counted), traces[-1]
+        return [f"its last steps, of {self.steps}:", *(f"    {it}" for it in counted[-1][1]),
+                *(f"its trace: {it}" for it in reversed(traces)), self.picture(traces[-1])]
+
+    def keep(self, item: Any) -> List[pathlib.Path]:
+        """The traces go into the folder of the test, in the order in which they were written on last."""
+        found = sorted(self.folder.glob("trace*"), key=lambda it: it.stat().st_mtime_ns)
         own = item.funcargs.get("tmp_path") if hasattr(item, "funcargs") else None
         folder = pathlib.Path(own) if own else self.folder / self.name
         folder.mkdir(exist_ok=True)
-        for it in found:
-            shutil.copyfile(it, folder / it.name)
-        return folder
+        return [pathlib.Path(shutil.copyfile(it, folder / it.name)) for it in found]
 
     def picture(self, trace: pathlib.Path) -> str:
         """The picture of a trace, or why there is none."""
@@ -107,7 +107,7 @@ class Run:
     def record(self) -> Record:
         """What the summary is told of it, in words that go between processes."""
         return {"of": SEED.sub("seed*", self.item.nodeid), "seed": self.seed, "steps": self.steps, "again": self.again(),
-                "trace": str(self.longest or "")}
+                "trace": str(self.last or "")}
 
 
 def steps_of(trace: pathlib.Path) -> Tuple[int, List[str]]:

@@ -85,14 +85,21 @@ def tirnouch_seed(request: pytest.FixtureRequest) -> int:
     return int(marked(request.node).words.get("seed", 0) if chosen is None else chosen)
 
 
+@pytest.fixture(scope="session")
+def tirnouch_traces(tmp_path_factory: pytest.TempPathFactory) -> pathlib.Path:
+    """The folder of the traces of this process: the last test's, and those of tests that failed."""
+    return tmp_path_factory.mktemp("tirnouch")
+
+
 @pytest.fixture
-def bus(request: pytest.FixtureRequest, tirnouch_seed: int, monkeypatch: pytest.MonkeyPatch) -> Iterator[Bus]:
+def bus(request: pytest.FixtureRequest, tirnouch_seed: int, tirnouch_traces: pathlib.Path,
+        monkeypatch: pytest.MonkeyPatch) -> Iterator[Bus]:
     """The bus of the marker's devices, by their numbers bus[0], bus[1], ..; without devices it is an empty one. The library tells on
     standard error why a transfer doesn't end, unless LIBUSB_DEBUG says how much it tells."""
     devices, words = marked(request.node)
     if "LIBUSB_DEBUG" not in os.environ:
         monkeypatch.setenv("LIBUSB_DEBUG", "2")
-    run = failures.Run(request.node, tirnouch_seed, traces(request.config))
+    run = failures.Run(request.node, tirnouch_seed, tirnouch_traces)
     request.node.stash[RUN] = run
     run.bus = buses.bus(*devices, seed=tirnouch_seed, time=words.get("time", "real"), trace=run.trace, limit=words.get("limit"),
                         library=words.get("library"))
@@ -103,15 +110,6 @@ def bus(request: pytest.FixtureRequest, tirnouch_seed: int, monkeypatch: pytest.
 
 
 RUN = pytest.StashKey[failures.Run]()
-FOLDER = pytest.StashKey[pathlib.Path]()
-
-
-def traces(config: pytest.Config) -> pathlib.Path:
-    """The folder of the traces of this process."""
-    if FOLDER not in config.stash:
-        factory: Any = getattr(config, "_tmp_path_factory")
-        config.stash[FOLDER] = factory.mktemp("tirnouch")
-    return config.stash[FOLDER]
 
 
 @pytest.hookimpl(hookwrapper=True)

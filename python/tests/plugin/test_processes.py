@@ -1,5 +1,6 @@
 """Several processes of pytest-xdist: each has a bus of its own."""
 import pathlib
+import re
 from typing import Any
 
 import pytest
@@ -22,7 +23,7 @@ def test_four_processes(run: Any, monkeypatch: pytest.MonkeyPatch) -> None:
                                  "test_it.py::test_asks[[]seed[*][]]: 1 seed fails: 17"])
 
 
-def test_what_pyusb_left_open_is_closed(run: Any) -> None:
+def test_what_pyusb_left_open_is_closed(run: Any, capfd: Any) -> None:
     """Devices in cycles that the collector took, in a traceback, and in a variable: the library warns of none that it had to close."""
     pytest.importorskip("usb.core")
     result = run("""
@@ -31,7 +32,7 @@ def test_what_pyusb_left_open_is_closed(run: Any) -> None:
 
         @pytest.mark.parametrize("turn", range(4))
         @pytest.mark.tirnouch(Meter, time="virtual")
-        def test_leaves_it(bus, turn, capfd):
+        def test_leaves_it(bus, turn):
             meter = usb.core.find(idVendor=0x1209, idProduct=0x4d31)
             meter.write(0x02, b"a")
             cycle = [meter]
@@ -41,7 +42,8 @@ def test_what_pyusb_left_open_is_closed(run: Any) -> None:
             assert turn != 2
         """, "-s")
     result.assert_outcomes(passed=3, failed=1)
-    assert "left some devices open" not in "".join([*result.outlines, *result.errlines])
+    told = capfd.readouterr().err
+    assert not re.search(r"left some devices open|ends with .*[1-9][0-9]* handles? and", told), told
 
 
 @pytest.mark.parametrize("package", ["usb1", "hid"])
