@@ -1,13 +1,13 @@
 #!/usr/bin/env python3
 """Runs the Python tests of c/example, as README.md and docs/PYTHON.md run them, over bin/libusb-1.0.so.0.
 
-    tools/python_test.py        the test beside devices.txt under tools/tirnouch-run; the same over a meter that answers otherwise, which has
-                                to fail; the tests of c/example/python
-    tools/python_test.py all    these; the tests of python/tests; the tests of c/example/python over the wheel alone, in a fresh environment;
-                                mypy and ruff over python/
+    tools/python_test.py        the test beside devices.txt under tools/tirnouch-run; the same over a meter that answers otherwise, which
+                                has to fail; the tests of c/example/python
+    tools/python_test.py all    these; the tests of python/tests; the tests of c/example/python over the wheel alone, in a fresh
+                                environment; mypy and ruff over python/
 
-It needs a Python that has pytest and pyusb; all else is optional. What is missing is skipped and reported, and the status is 0; it is 1 where
-a test differs."""
+It needs a Python that has pytest and pyusb; all else is optional. What is missing is skipped and reported, and the status is 0; it is 1
+where a test differs."""
 import os
 import pathlib
 import shutil
@@ -28,7 +28,7 @@ MODULES = {"pytest": "python3-pytest", "usb.core": "python3-usb"}
 OPTIONAL = {"usb1": "python3-libusb1", "hid": "python3-hid", "xdist": "python3-pytest-xdist"}
 CHECKERS = {"mypy": ["mypy", "--config-file", "pyproject.toml"], "ruff": ["ruff", "check", "."]}
 STEERING = ("TIRNOUCH_", "LIBUSB_DEBUG", "PYTEST_")
-SECONDS = 170
+SECONDS = 300
 # What pytest's manual says of its exit codes: all passed; some failed.
 PASSED, FAILED = 0, 1
 
@@ -116,8 +116,8 @@ def wheel_faults(python: str) -> Iterator[str]:
             yield f"the wheel can't be built: {error}"
             return
         shutil.copytree(EXAMPLE, folder / "example", ignore=shutil.ignore_patterns("__pycache__"))
-        for words in ([python, "-m", "venv", "--system-site-packages", folder / "venv"],
-                      [folder / "venv/bin/python", "-m", "pip", "install", "-q", "--no-index", "--no-deps", "--disable-pip-version-check", wheel]):
+        install = ["-m", "pip", "install", "-q", "--no-index", "--no-deps", "--disable-pip-version-check", wheel]
+        for words in ([python, "-m", "venv", "--system-site-packages", folder / "venv"], [folder / "venv/bin/python", *install]):
             found = list(judge("the wheel's environment", run(words, folder, True), 0))
             if found:
                 yield from found
@@ -145,7 +145,8 @@ def main(words: Sequence[str]) -> int:
     for module, package in OPTIONAL.items():
         if not has(python, [module]):
             print(f"skipped: {python} lacks {module} (apt-get install {package})")
-    found, began = [], time.monotonic()
+    found: list[str] = []
+    began = time.monotonic()
     for part in (faults, package_faults, wheel_faults) if words else (faults,):
         found += part(python)
     print("".join(f"{it}\n" for it in found) or f"the Python tests are as expected, in {time.monotonic() - began:.0f} seconds\n", end="")

@@ -6,7 +6,7 @@ import ctypes
 import os
 import pathlib
 import tempfile
-from typing import Any, Callable, Iterator, Optional, Tuple
+from typing import Any, Callable, Iterator, List, Optional, Tuple
 
 # The names of libusb's errors (libusb.h).
 IO, NO_DEVICE, TIMEOUT, PIPE, OTHER = -1, -4, -7, -9, -99
@@ -28,7 +28,7 @@ def logged() -> Iterator[Callable[[], str]]:
     with tempfile.TemporaryFile() as file:
         kept = os.dup(2)
         os.dup2(file.fileno(), 2)
-        said = []
+        said: List[str] = []
         try:
             yield lambda: said[0]
         finally:

@@ -105,7 +105,7 @@ class Descriptors(unittest.TestCase):
     def test_what_cant_be_is_refused_when_the_class_is_made(self) -> None:
         """Each sentence names the class, the field, and what can be there."""
         one = bulk_in(0x81)
-        for attributes, error, sentence in (
+        refused: Any = (
                 ({"ids": 5}, TypeError, r"`ids` is \(vendor, product\)"),
                 ({"ids": (1, 0x10000)}, ValueError, "`ids`: the product is 0x0 to 0xffff"),
                 ({"serial": 7}, TypeError, "`serial` is a str"), ({"serial": "x" * 127}, ValueError, "`serial` has at most 126 units"),
@@ -125,7 +125,8 @@ class Descriptors(unittest.TestCase):
                 ({"config": config(*[interface()] * 33)}, ValueError, "at most 32 interfaces, and not 33"),
                 ({"config": config(interface(one), interface(bulk_in(0x81)))}, ValueError, "config has endpoint 81 twice"),
                 ({"config": config(one), "in_82": lambda self, room: b""}, ValueError, "the method in_82 answers no endpoint: .* by in_81"),
-                ({"config": config(bulk_in(0x8A)), "in_8A": lambda self, room: b""}, ValueError, "in_8A answers no endpoint: .* in_8a")):
+                ({"config": config(bulk_in(0x8A)), "in_8A": lambda self, room: b""}, ValueError, "in_8A answers no endpoint: .* in_8a"))
+        for attributes, error, sentence in refused:
             with self.assertRaisesRegex(error, f"Thing: .*{sentence}"):
                 type("Thing", (Device,), attributes)
 

@@ -94,20 +94,22 @@ class Packets(Asked):
 
     def test_what_cant_be(self) -> None:
         self.read(2)
-        for call, error, sentence in ((lambda: self.port.at(0x81, 1).fail(STALL), ValueError, "has had 2 packets .* packet 1 is past"),
-                                      (lambda: self.port.at(0x83, 1), ValueError, "no endpoint 83; it has 02, 81"),
-                                      (lambda: self.port.at(0x81, -1), ValueError, "the packet's index"),
-                                      (lambda: self.port.at(0x81, 2).fail(NAK), TypeError, "BROKEN, SILENT or UNPLUG, and not NAK"),
-                                      (lambda: self.port.at(0x81, 2).delay(-1), ValueError, "milliseconds"),
-                                      (lambda: self.port.rate(0x81, 1.5), ValueError, "from 0 to 1"),
-                                      (lambda: self.port.rate(0x81, True), ValueError, "from 0 to 1")):
+        refused: Any = ((lambda: self.port.at(0x81, 1).fail(STALL), ValueError, "has had 2 packets .* packet 1 is past"),
+                        (lambda: self.port.at(0x83, 1), ValueError, "no endpoint 83; it has 02, 81"),
+                        (lambda: self.port.at(0x81, -1), ValueError, "the packet's index"),
+                        (lambda: self.port.at(0x81, 2).fail(NAK), TypeError, "BROKEN, SILENT or UNPLUG, and not NAK"),
+                        (lambda: self.port.at(0x81, 2).delay(-1), ValueError, "milliseconds"),
+                        (lambda: self.port.rate(0x81, 1.5), ValueError, "from 0 to 1"),
+                        (lambda: self.port.rate(0x81, True), ValueError, "from 0 to 1"))
+        for call, error, sentence in refused:
             with self.assertRaisesRegex(error, sentence):
                 call()
         self.assertEqual(self.read(2), ["d:02", "d:03"])
 
     def test_a_text_has_no_faults_of_its_port(self) -> None:
         port = Port(mock.Mock(), 1, None, "of x.txt")
-        for call in (lambda: port.at(0x81, 0), lambda: port.rate(0x81, 0.5), lambda: port.at_control(0xC0, 1)):
+        calls: List[Any] = [lambda: port.at(0x81, 0), lambda: port.rate(0x81, 0.5), lambda: port.at_control(0xC0, 1)]
+        for call in calls:
             with self.assertRaisesRegex(TypeError, r"device 1, of x.txt, .* text\(..\).at\(0x81, 1\).fail\(STALL\)"):
                 call()
 

@@ -55,8 +55,10 @@ ids 0 1209 0005
 
 @pytest.fixture
 def run(pytester: Any) -> Callable[..., Any]:
-    """Runs pytest over a test file, with these words."""
+    """Runs pytest over a test file, with these words, in a folder with driver.py, meter.py, it.txt and keyboard.txt."""
     pytester.makepyfile(**FILES)
+    pytester.path.joinpath("it.txt").write_text(TEXT)
+    pytester.path.joinpath("keyboard.txt").write_text(KEYBOARD)
 
     def call(source: str, *words: str) -> Any:
         header = "import time, pytest, tirnouch as t, driver\nfrom meter import Meter\n"

@@ -127,7 +127,7 @@ def test_it_is_unplugged_and_plugged_in(bus: t.Bus, program: Program) -> None:
     assert ask(program, 1) == b"\x02"
     with pytest.raises(RuntimeError, match="device 0, Meter: plug: there is none to do that with"):
         bus[0].plug()
-    assert bus[0].device is not None and bus[0].device.plugged == 1
+    assert isinstance(bus[0].device, Meter) and bus[0].device.plugged == 1
 
 
 @pytest.mark.tirnouch(t.becomes(Loader, Meter))

@@ -148,10 +148,3 @@ def test_a_driver_that_writes_something_else_fails_by_the_text(run: Any) -> None
     result.assert_outcomes(passed=2, failed=2)
     result.stdout.fnmatch_lines(["*device 0, endpoint 02: packet 1 differs at offset 0: came [[]16[]] (length 1), expected [[]15[]] *",
                                  "*device 0, endpoint 02: 1 expected packet never came; the first is packet 1: expected 15 (length 1)"])
-
-
-@pytest.fixture(autouse=True)
-def text(pytester: Any) -> None:
-    """The text of a meter, in the file it.txt."""
-    from conftest import TEXT
-    pytester.path.joinpath("it.txt").write_text(TEXT)

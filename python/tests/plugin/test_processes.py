@@ -97,10 +97,3 @@ def test_a_context_that_is_left_open_is_told_and_harms_no_other_test(run: Any) -
     outcomes = result.parseoutcomes()
     assert outcomes.get("passed") == 2
     assert outcomes.get("errors", 0) <= 1
-
-
-@pytest.fixture(autouse=True)
-def keyboard(pytester: Any) -> None:
-    """The text of a keyboard, in the file keyboard.txt."""
-    from conftest import KEYBOARD
-    pytester.path.joinpath("keyboard.txt").write_text(KEYBOARD)

@@ -126,10 +126,11 @@ def test_a_firmware_loader(words: List[str]) -> None:
 
 
 def test_what_run_refuses(words: List[str]) -> None:
-    for given, named, error, sentence in (("lsusb", {}, TypeError, "the words of a command"), ([], {}, TypeError, "the words of a command"),
-                                          (words, {"seed": -1}, ValueError, "a seed"), (words, {"time": "x"}, ValueError, "time is"),
-                                          (words, {"devices": [5]}, TypeError, "a bus takes devices"),
-                                          (["/nowhere/driver"], {}, FileNotFoundError, "/nowhere/driver")):
+    refused: Any = (("lsusb", {}, TypeError, "the words of a command"), ([], {}, TypeError, "the words of a command"),
+                    (words, {"seed": -1}, ValueError, "a seed"), (words, {"time": "x"}, ValueError, "time is"),
+                    (words, {"devices": [5]}, TypeError, "a bus takes devices"),
+                    (["/nowhere/driver"], {}, FileNotFoundError, "/nowhere/driver"))
+    for given, named, error, sentence in refused:
         with pytest.raises(error, match=sentence):
             t.run(given, **named)
     device = Echo()

@@ -1,6 +1,7 @@
 """Devices of a text, a file and a recording in one bus with a class: docs/DEVICES.md has the lines, docs/CAPTURES.md the captures."""
 from __future__ import annotations
 
+import importlib
 import pathlib
 import sys
 from typing import Any, Iterator, List
@@ -111,10 +112,11 @@ def test_a_fault_is_placed_into_the_script(program: Any, kind: Any, expected: Li
 
 def test_faults_that_cant_be_placed() -> None:
     source = t.text(TEXT)
-    for call, sentence in ((lambda: source.at(0x81, 3).fail(t.STALL), "has 3 packets, and none of index 3"),
-                           (lambda: source.at(0x83, 0).fail(t.STALL), "device 0 has no script of 83"),
-                           (lambda: source.at(0x81, 0, 1).fail(t.STALL), "device 1 has no script of 81"),
-                           (lambda: source.at(0x81, 0).fail(t.UNPLUG).at(0x81, 1).fail(t.UNPLUG), "leaves already")):
+    refused: Any = ((lambda: source.at(0x81, 3).fail(t.STALL), "has 3 packets, and none of index 3"),
+                    (lambda: source.at(0x83, 0).fail(t.STALL), "device 0 has no script of 83"),
+                    (lambda: source.at(0x81, 0, 1).fail(t.STALL), "device 1 has no script of 81"),
+                    (lambda: source.at(0x81, 0).fail(t.UNPLUG).at(0x81, 1).fail(t.UNPLUG), "leaves already"))
+    for call, sentence in refused:
         with pytest.raises(t.SourceError, match=sentence):
             call()
     with pytest.raises(TypeError, match="a fault is"):
@@ -135,14 +137,15 @@ def test_a_file_and_its_program(program: Any, tmp_path: pathlib.Path) -> None:
 
 def test_what_isnt_a_source(tmp_path: pathlib.Path) -> None:
     (tmp_path / "x.pcap").write_bytes(b"\xd4\xc3\xb2\xa1")
-    for call, error, sentence in ((lambda: t.text(5), TypeError, "as a str"),  # type: ignore[arg-type]
-                                  (lambda: t.text("# nothing\n"), t.SourceError, "the text has no device"),
-                                  (lambda: t.file(tmp_path / "none.txt"), OSError, "none.txt"),
-                                  (lambda: t.file(tmp_path / "x.pcap"), t.SourceError, r"recorded\("),
-                                  (lambda: t.recorded(tmp_path / "none.pcap"), t.SourceError, "there is no file .*none.pcap"),
-                                  (lambda: t.recorded(tmp_path / "x.pcap", device="meter"), t.SourceError, "as \"1209:0002\""),
-                                  (lambda: t.recorded(tmp_path / "x.pcap", umockdev="a", descriptors="b"), t.SourceError, "say one of"),
-                                  (lambda: t.becomes(Echo, 5), TypeError, "becomes takes two devices")):
+    refused: Any = ((lambda: t.text(5), TypeError, "as a str"),  # type: ignore[arg-type]
+                    (lambda: t.text("# nothing\n"), t.SourceError, "the text has no device"),
+                    (lambda: t.file(tmp_path / "none.txt"), OSError, "none.txt"),
+                    (lambda: t.file(tmp_path / "x.pcap"), t.SourceError, r"recorded\("),
+                    (lambda: t.recorded(tmp_path / "none.pcap"), t.SourceError, "there is no file .*none.pcap"),
+                    (lambda: t.recorded(tmp_path / "x.pcap", device="meter"), t.SourceError, "as \"1209:0002\""),
+                    (lambda: t.recorded(tmp_path / "x.pcap", umockdev="a", descriptors="b"), t.SourceError, "say one of"),
+                    (lambda: t.becomes(Echo, 5), TypeError, "becomes takes two devices"))
+    for call, error, sentence in refused:
         with pytest.raises(error, match=sentence):
             call()
     with pytest.raises(t.LibraryError, match="line 1"):
@@ -156,18 +159,19 @@ def capture(tmp_path: pathlib.Path) -> pathlib.Path:
         pytest.skip("there is no bin/usbtrace: build it by `make run`")
     sys.path.insert(0, str(place_of(RUNS)))
     try:
-        from capture import Event, descriptor_read, pcap  # type: ignore[import-not-found]
+        capture_of: Any = importlib.import_module("capture")
     finally:
         sys.path.pop(0)
     device = bytes.fromhex("120100020000004009120200000100000001")
     configuration = bytes.fromhex("0902200001010080320904000002ff0000000705810240000007050202400000")
-    written = Event(1, "S", 3, 0x02, 5, 1, 0, 0, -115, 1, None, 0, b"\x10")
-    read = Event(2, "S", 3, 0x81, 5, 1, 0, 2, -115, 64, None, 0x200, b"")
-    events = [*descriptor_read((1, 5), 0, 0x0100, 0, device), *descriptor_read((1, 5), 1, 0x0200, 0, configuration), written,
+    written = capture_of.Event(1, "S", 3, 0x02, 5, 1, 0, 0, -115, 1, None, 0, b"\x10")
+    read = capture_of.Event(2, "S", 3, 0x81, 5, 1, 0, 2, -115, 64, None, 0x200, b"")
+    events = [*capture_of.descriptor_read((1, 5), 0, 0x0100, 0, device), *capture_of.descriptor_read((1, 5), 1, 0x0200, 0, configuration),
+              written,
               written._replace(kind="C", status=0, data=b"", microseconds=1), read,
               read._replace(kind="C", status=0, length=1, data=b"\x2a", microseconds=3)]
     path = tmp_path / "meter.pcap"
-    path.write_bytes(pcap(events))
+    path.write_bytes(capture_of.pcap(events))
     return path
 
 
