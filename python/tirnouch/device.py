@@ -12,9 +12,10 @@ from tirnouch.configurations import Configuration
 from tirnouch.endpoints import ANY, Endpoint, Fields
 from tirnouch.faults import Faults
 
-# Whether this thread answers a question of the library's, of which device, and which one: the library waits for it then, and may not be
-# called.
+# Whether this thread answers a question of the library's: the library waits for it then, and may not be called. And which question each
+# thread answers.
 ASKED = threading.local()
+ASKING: Dict[int, str] = {}
 
 
 class Waiting(NamedTuple):

@@ -12,6 +12,8 @@ import threading
 from typing import TYPE_CHECKING, Any, Callable, List, Optional
 
 
+from tirnouch.device import ASKING
+
 if TYPE_CHECKING:
     from tirnouch.buses import Bus
 
@@ -75,7 +77,8 @@ class Limit:
         what = "the devices were pulled out; " + ("in flight: " + "; ".join(left) if left else "nothing was in flight: the test waited for "
                                                    "something else")
         if not has_lock:
-            what = "a device's method, or another call of the library, doesn't return"
+            asked = "; ".join(list(ASKING.values()))
+            what = f"a method doesn't return: {asked}" if asked else "a call of the library doesn't return"
         with self.lock:
             if self.over.is_set():
                 return

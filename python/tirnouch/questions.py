@@ -3,11 +3,12 @@ to whoever watches the device, else on standard error, and is a stall."""
 from __future__ import annotations
 
 import sys
+import threading
 import traceback
 from typing import Any, Callable, Optional, TypeVar, Union
 
 from tirnouch.answers import ACK, AS_TEXT, BROKEN, MOST_MILLISECONDS, NAK, SILENT, STALL, After, Answer, later
-from tirnouch.device import ASKED, Device, Waiting
+from tirnouch.device import ASKED, ASKING, Device, Waiting
 from tirnouch.endpoints import ANY, IN, Request
 
 Read = Union[bytes, Answer]
@@ -23,7 +24,7 @@ RENEWING = ("reset", "plugged")
 
 def guarded(device: Device, what: str, ask: Callable[..., Kind], *words: Any) -> Union[Kind, Answer]:
     """The answer to a question; STALL where there is an exception, which is told."""
-    ASKED.is_asked, ASKED.device, ASKED.what = True, device, what
+    ASKED.is_asked, ASKING[threading.get_ident()] = True, f"{device} at `{what}`"
     try:
         return ask(device, *words)
     except Exception as error:  # pylint: disable=broad-except
@@ -35,6 +36,7 @@ def guarded(device: Device, what: str, ask: Callable[..., Kind], *words: Any) ->
         return STALL
     finally:
         ASKED.is_asked = False
+        ASKING.pop(threading.get_ident(), None)
 
 
 def judged(device: Device, method: str, answer: Any, inward: bool, is_request: bool = False) -> Union[Moved, After]:

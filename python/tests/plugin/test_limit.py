@@ -49,7 +49,7 @@ def test_a_device_that_doesnt_return(run: Any) -> None:
             assert driver.ask(21) == 42
         """)
     result.assert_outcomes(passed=1, failed=1)
-    result.stdout.fnmatch_lines(["E*a device's method, or another call of the library, doesn't return*"])
+    result.stdout.fnmatch_lines(["E*the limit of 200 ms is over; a method doesn't return: Loops at `in 81 64`"])
 
 
 def test_a_test_within_its_limit_passes(run: Any) -> None:
