@@ -30,7 +30,7 @@ SECONDS = 40
 # Programs that try what libusb has no part in, or leaves undefined.
 LEFT_OUT = {
     **{name: "its devices compute their answers" for name in ("living", "sessions", "endless", "programs", "inside", "together", "scarce")},
-    **{name: "its buses begin and end by Tirnouch's calls" for name in ("buses", "kept", "outlive", "within")},
+    **{name: "its buses begin and end by Tirnouch's calls" for name in ("bare", "buses", "kept", "outlive", "within")},
     "expects": "what it expects of a driver is Tirnouch's",
     "environment": "its variables are Tirnouch's",
     "fork": "libusb says nothing of a child of fork",

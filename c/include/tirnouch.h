@@ -31,8 +31,9 @@ struct tirnouch_options {
 
 /* The bus begins now, with its devices, and is there until `tirnouch_end`: contexts come and go meanwhile, and the devices go on.
  * Contexts that outlived the bus before have its devices, and their hotplug callbacks are told that these arrived when events are
- * handled next. Of the variables TIRNOUCH_TRACE, TIRNOUCH_SEED and TIRNOUCH_TIME none steers it. LIBUSB_ERROR_BUSY where there is a bus,
- * LIBUSB_ERROR_INVALID_PARAM for another size, LIBUSB_ERROR_NO_MEM where memory is refused, LIBUSB_ERROR_OTHER where a line isn't taken
+ * handled next. Of the variables TIRNOUCH_TRACE, TIRNOUCH_SEED and TIRNOUCH_TIME none steers it. A bus of the environment that has no
+ * devices makes room for it, also while contexts are open. LIBUSB_ERROR_BUSY where there is another bus, or within a callback where there is
+ * one, LIBUSB_ERROR_INVALID_PARAM for another size, LIBUSB_ERROR_NO_MEM where memory is refused, LIBUSB_ERROR_OTHER where a line isn't taken
  * or the trace can't be written (`tirnouch_error` says why): then there is none. The text of `tirnouch_plug` stays for what comes behind
  * it. */
 int tirnouch_begin(const struct tirnouch_options *options);
@@ -50,7 +51,7 @@ int tirnouch_begin(const struct tirnouch_options *options);
  *   later buses too. The device still tells its numbers and descriptors; `libusb_open` of it answers LIBUSB_ERROR_NO_DEVICE, and so does
  *   each call on the handle, but for those that don't of a device that is pulled out: `libusb_reset_device`, and
  *   `libusb_release_interface` of one that it didn't claim, answer LIBUSB_ERROR_NOT_FOUND, and `libusb_set_auto_detach_kernel_driver` 0.
- * - How many contexts, handles and transfers it left open is a warning in the log.
+ * - How many contexts, handles and transfers it left open is told in the log: as a warning, where it is more than contexts.
  *
  * LIBUSB_ERROR_NOT_FOUND where `tirnouch_begin` didn't begin it. LIBUSB_ERROR_BUSY in a callback of libusb's, of a transfer or of
  * hotplug, which stands on what would end; behind the callback it ends. */

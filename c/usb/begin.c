@@ -70,6 +70,15 @@ static bool read_options(struct tirnouch_options *to, const struct tirnouch_opti
     return true;
 }
 
+/* The environment's bus has no devices: with its end nothing is lost, and the contexts that are open have the next one's. */
+static bool is_bare(void)
+{
+    for (int i = 0; i < DEVICES; i++)
+        if (process.bus.devices[i]->is_there)
+            return false;
+    return !process.has_begun && !callbacks_within;
+}
+
 /* The text becomes the bus's, or is freed. */
 static int begin_with(char *text, const struct tirnouch_options *options)
 {
@@ -77,8 +86,10 @@ static int begin_with(char *text, const struct tirnouch_options *options)
         free(text);
         return LIBUSB_ERROR_BUSY;
     }
-    int r = process.bus.is_there ? LIBUSB_ERROR_BUSY : 0;
+    int r = process.bus.is_there && !is_bare() ? LIBUSB_ERROR_BUSY : 0;
     if (!r) {
+        if (process.bus.is_there)
+            bus_end();
         use_text(text, options->devices_length);
         r = begin_by(options);
     } else {

@@ -41,7 +41,7 @@ static int count_handles(void)
     return count;
 }
 
-/* What is left as the bus ends, in the first log that is told of warnings. */
+/* What is left as the bus ends, in the first log that is told of it. A context alone is no warning: packages keep theirs for the process. */
 void tell_left_open(void)
 {
     int contexts = 0, transfers = 0, handles = count_handles();
@@ -50,11 +50,13 @@ void tell_left_open(void)
         contexts++;
         for (const struct transfer *it = context->flying.first; it; it = it->next)
             transfers++;
-        if (!told && context->log_level >= LIBUSB_LOG_LEVEL_WARNING)
-            told = context;
     }
+    enum libusb_log_level level = handles || transfers ? LIBUSB_LOG_LEVEL_WARNING : LIBUSB_LOG_LEVEL_INFO;
+    for (struct libusb_context *context = process.contexts; context && !told; context = context->next)
+        if (context->log_level >= (int)level)
+            told = context;
     if (told)
-        note(told, LIBUSB_LOG_LEVEL_WARNING,
+        note(told, level,
              "the bus ends with %d context%s, %d handle%s and %d transfer%s open: transfers end with NO_DEVICE", contexts,
              plural((uint64_t)contexts), handles, plural((uint64_t)handles), transfers, plural((uint64_t)transfers));
 }
