@@ -5,7 +5,7 @@
     tshark      the worked rows' captures: what tshark shows is what the printed run comes to, and so are the bytes
     random      the same of random scenarios
     umockdev    libusb itself, over umockdev that replays captures: its callbacks are told what `usbtrace run` prints
-    round       `devices` over captures of runs, in six forms: it has the answers that the callbacks used
+    round       `devices` over captures of runs, in each form of file: it has the answers that the callbacks used
     damaged     `devices` over captures that are cut, or of which bytes are changed
     large       `devices` over captures as long as may be
 

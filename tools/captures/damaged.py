@@ -7,14 +7,16 @@ from scenes import random_scenario
 
 # What may stand on standard error, and the comments of a text.
 REFUSALS = re.compile(rb"usbtrace: the capture is refused: (not a capture|a file header cut short|link type \d+|no usbmon interface)\n")
+FIRST = r" \(first in frame [1-9]\d*\)"
 COMMENTS = re.compile(
     r"# the capture ends amid a record"
     r"|# bus \d+ device \d+ is left out: "
-    r"(no configuration descriptor|its configuration descriptor is refused|a hub|no answers|the fifth device)"
+    rf"(no configuration descriptor|its configuration descriptor is refused|a hub|no answers|the fifth device){FIRST}"
     r"|# device \d was bus \d+ device \d+"
     r"|# ep [0-9a-f]{2}: (\d+ bytes were not recorded; they are 00 here|\d+ packets were too long; their bytes are 00 here"
-    r"|\d+ transfers of more than 262144 bytes are left out|\d+ requests of more than 4096 bytes are left out|the first 65536 of \d+ answers"
-    r"|\d+ transfers are left out: not a bulk or interrupt endpoint of this configuration)")
+    r"|\d+ transfers of more than 262144 bytes are left out|\d+ requests of more than 4096 bytes are left out"
+    rf"|\d+ transfers are left out: not a bulk or interrupt endpoint of this configuration){FIRST}"
+    r"|# ep [0-9a-f]{2}: the first 65536 of \d+ answers \(the next is in frame [1-9]\d*\)")
 # How long a run may take, in seconds of processor time.
 SECONDS = 10
 # How many times a capture is damaged.

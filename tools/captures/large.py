@@ -3,7 +3,7 @@
 A build with checks takes many times as long as a proved one, so it is given captures of an eighth of that."""
 import struct
 
-from forms import block
+from forms import LOCAL_BLOCK, block
 from told import BULK, CONTROL, FILE_HEADER, IN_PROGRESS, Event, record
 
 LONGEST = 67_108_864
@@ -56,36 +56,42 @@ def filled(path, most, first, pieces):
     return count
 
 
-def text_of(answers, answer):
-    """The text of a device with so many answers."""
-    note = f"# ep 81: the first {MOST_ANSWERS} of {answers} answers\n" if answers > MOST_ANSWERS else ""
+def text_of(answers, answer, behind):
+    """The text of a device with so many answers, of which the frame of this number has the first that a script has no room for."""
+    note = f"# ep 81: the first {MOST_ANSWERS} of {answers} answers (the next is in frame {behind})\n" if answers > MOST_ANSWERS else ""
     script = " ".join([answer] * min(answers, MOST_ANSWERS))
     return f"# device 0 was bus 1 device 1\n{note}device 0 {CONFIG.hex()}\nscript 0 81 {script}\n"
+
+
+def end_of_read(number, frames=2):
+    """The frame of a read's end: the configuration has two frames before the reads, and each read so many. Reads are counted from 1 on."""
+    return 2 + frames * number
 
 
 def of_one_endpoint(path, most):
     """Reads of 8 bytes, one behind the other."""
     count = filled(path, most, HEAD, numbered(read_of(8, bytes(8))))
-    return f"{count:,} reads of 8 bytes", 0, text_of(count, "d:" + "00" * 8)
+    return f"{count:,} reads of 8 bytes", 0, text_of(count, "d:" + "00" * 8, end_of_read(MOST_ANSWERS + 1))
 
 
 def of_long_reads(path, most):
     """Reads of 262,144 bytes, each of 4,096 packets."""
     count = filled(path, most, HEAD, numbered(read_of(262_144, bytes(262_144))))
-    return f"{count:,} reads of 262,144 bytes", 0, text_of(count * 4096, "d:" + "00" * 64)
+    return f"{count:,} reads of 262,144 bytes", 0, text_of(count * 4096, "d:" + "00" * 64, end_of_read(MOST_ANSWERS // 4096 + 1))
 
 
 def of_empty_packets(path, most):
     """Reads of no bytes: the most answers that a file can have."""
     count = filled(path, most, HEAD, numbered(read_of(0, b"")[1:]))
-    return f"{count:,} ends of empty reads", 0, text_of(count, "d:")
+    return f"{count:,} ends of empty reads", 0, text_of(count, "d:", end_of_read(MOST_ANSWERS + 1, 1))
 
 
 def of_many_devices(path, most):
     """As many devices as fit, each with a read; the first four are kept."""
     records = control() + read_of(8, bytes(8))
     count = filled(path, most, FILE_HEADER, (of_device(records, 1 + it // 127, 1 + it % 127) for it in range(LONGEST)))
-    left_out = [f"# bus {1 + it // 127} device {1 + it % 127} is left out: the fifth device\n" for it in range(4, count)]
+    left_out = [f"# bus {1 + it // 127} device {1 + it % 127} is left out: the fifth device (first in frame {len(records) * it + 1})\n"
+                for it in range(4, count)]
     kept = [f"# device {it} was bus 1 device {it + 1}\ndevice {it} {CONFIG.hex()}\nscript {it} 81 d:{'00' * 8}\n" for it in range(4)]
     return f"{count:,} devices", 0, "".join(left_out + kept)
 
@@ -93,12 +99,12 @@ def of_many_devices(path, most):
 def of_transfers_in_flight(path, most):
     """Submissions of which none ends."""
     count = filled(path, most, HEAD, numbered(read_of(8, b"")[:1]))
-    return f"{count:,} reads that don't end", 1, "# bus 1 device 1 is left out: no answers\n"
+    return f"{count:,} reads that don't end", 1, "# bus 1 device 1 is left out: no answers (first in frame 1)\n"
 
 
 def of_blocks(path, most):
     """A pcapng file of the shortest blocks."""
-    empty = block("<", 0x0BAD, b"") * 1000
+    empty = block("<", LOCAL_BLOCK, b"") * 1000
     first = block("<", 0x0A0D0D0A, struct.pack("<IHHq", 0x1A2B3C4D, 1, 0, -1)) + block("<", 1, struct.pack("<HHI", 220, 0, 0))
     count = filled(path, most, first, (empty for _ in range(LONGEST)))
     return f"{1000 * count:,} blocks without a packet", 1, ""

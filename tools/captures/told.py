@@ -18,8 +18,8 @@ FILE_HEADER = struct.pack("<IHHiIII", 0xA1B2C3D4, 2, 4, 0, 0, SNAP_LENGTH, 220)
 # `kind`, `ep` and so on as usbmon numbers them; `setup` is 8 bytes or None.
 Event = collections.namedtuple("Event", "id type kind ep device line status length data setup flags")
 Request = collections.namedtuple("Request", "ep kind length data flags")
-# A callback: what was printed of it, its request, and the answers that it used, but for naks.
-Callback = collections.namedtuple("Callback", "id device status actual data request answers")
+# A callback: what was printed of it, its request, the answers that it used, but for naks, and its event's number among all, from 1 on.
+Callback = collections.namedtuple("Callback", "id device status actual data request answers number")
 
 
 def is_in(ep):
@@ -173,7 +173,8 @@ class Told:
         request, device = self.requests[h, n], self.opened[h]
         number = STATUSES.get(status, SHORT if self.codes.get((h, n)) in WELL else BROKEN)
         self.events.append(Event(id_of(h, n), "C", request.kind, request.ep, device, line, number, actual, data, None, request.flags))
-        self.callbacks.append(Callback(id_of(h, n), device, status, actual, data, request, self.shares.pop((h, n), [])))
+        answers = self.shares.pop((h, n), [])
+        self.callbacks.append(Callback(id_of(h, n), device, status, actual, data, request, answers, len(self.events)))
 
     def capture(self):
         """The bytes of the capture."""
