@@ -2,9 +2,11 @@
 """Tries tools/tirnouch-run on captures: tools/capture_run_test.py. The run of a program is recorded (tools/tirnouch-record), and made once
 more against what was recorded; and captures lack something, or aren't captures.
 
-The program is that of c/tests/record, over bin/libusb-1.0.so.0; bin/usbtrace makes the texts of devices."""
+The program is that of c/tests/record, over bin/libusb-1.0.so.0; bin/usbtrace makes the texts of devices. Where the library isn't built,
+the texts alone are tried of what Windows recorded."""
 import os
 import pathlib
+import struct
 import subprocess
 import sys
 import tempfile
@@ -15,6 +17,7 @@ ROOT = pathlib.Path(__file__).resolve().parent.parent
 TESTS = ROOT / "c" / "tests" / "record"
 DEVICES = TESTS / "devices.txt"
 RUN, RECORD = ROOT / "tools" / "tirnouch-run", ROOT / "tools" / "tirnouch-record"
+LIBRARY, USBTRACE = ROOT / "bin" / "libusb-1.0.so.0", ROOT / "bin" / "usbtrace"
 FLAGS = ["gcc", "-std=c11", "-O2", "-D_GNU_SOURCE", "-I", str(ROOT / "c" / "include"), "-Wl,--no-as-needed", "-pthread"]
 SECONDS = 120
 # Of devices.txt: device 0's configuration, its device descriptor (USB 2.0, 9.6.1), and another device's.
@@ -32,7 +35,8 @@ H: descriptors={(DEVICE + CONFIG).upper()}
 """
 sys.path[:0] = [str(ROOT / "tools" / "runs"), str(ROOT / "tools" / "captures")]
 sys.dont_write_bytecode = True
-from capture import Event, events_of, pcap  # noqa: E402
+from capture import events_of, pcap  # noqa: E402
+from event import Event  # noqa: E402
 from forms import FORMS  # noqa: E402
 
 Ran = subprocess.CompletedProcess[str]
@@ -74,6 +78,14 @@ class Trial:
         self.expect(self.run("run.pcap", "--text", "kept.txt", "--lenient", *words, "--", "true"), 0)
         file = self.folder / "kept.txt"
         return file.read_text().splitlines() if file.is_file() else []
+
+    def made_text(self, capture: bytes, *words: str) -> List[str]:
+        """The same of windows.pcapng, made without the library."""
+        (self.folder / "windows.pcapng").write_bytes(capture)
+        ran = subprocess.run([sys.executable, "-B", ROOT / "tools" / "runs", "text", "windows.pcapng", "made.txt", USBTRACE, *words],
+                             cwd=self.folder, capture_output=True, text=True, timeout=SECONDS, check=False)
+        file = self.folder / "made.txt"
+        return file.read_text().splitlines() if ran.returncode == 0 else ran.stderr.splitlines()
 
     def keep_events(self, keeps: Callable[[Event], bool]) -> None:
         self.capture.write_bytes(pcap(it for it in events_of(self.capture.read_bytes()) if keeps(it)))
@@ -208,19 +220,98 @@ def wrong_files_are_refused(trial: Trial) -> None:
     trial.expect(trial.go(), 2, "run.pcap has no device: record the run of a program that opens one")
 
 
+def windows(ep: int, transfer: int, irp: int, data: bytes = b"", *, status: int = 0, function: int = 9, is_end: bool = False,
+            stage: bytes = b"") -> bytes:
+    """A packet of bus 1 device 2, by USBPcap's description of its format: the header, a control transfer's stage behind it, the data."""
+    size = 27 + len(stage)
+    return struct.pack("<HQIHBHHBBI", size, irp, status, function, int(is_end), 1, 2, ep, transfer, len(data)) + stage + data
+
+
+def windows_pcapng(*packets: bytes) -> bytes:
+    """A file of these packets, of link type 249 (pcapng: a section, an interface, packets)."""
+    def block(kind: int, body: bytes) -> bytes:
+        size = 12 + len(body) + -len(body) % 4
+        return struct.pack("<II", kind, size) + body + bytes(-len(body) % 4) + struct.pack("<I", size)
+    blocks = [block(6, struct.pack("<IIIII", 0, 0, 0, len(it), len(it)) + it) for it in packets]
+    return block(0x0A0D0D0A, struct.pack("<IHHq", 0x1A2B3C4D, 1, 0, -1)) + block(1, struct.pack("<HHI", 249, 0, 0)) + b"".join(blocks)
+
+
+def windows_descriptor(value: int, raw: bytes) -> List[bytes]:
+    """A descriptor as `USBPcapCMD --inject-descriptors` writes it: its request, and the end of that with the bytes."""
+    setup = struct.pack("<BBHHH", 0x80, 6, value, 0, len(raw))
+    return [windows(0x80, 2, 0, setup, function=0x0B, stage=b"\0"), windows(0x80, 2, 0, raw, function=0x0B, is_end=True, stage=b"\3")]
+
+
+# Reads of 8 bytes that got 8, 2, a stall and one too many; a halt that was ended (URB function 1e) before the last, which stands behind a
+# packet of no transfer (ABORT_PIPE, 02); and a write of 3 bytes. A status is that of Windows: STALL_PID, BABBLE_DETECTED.
+RECORDED_BY_WINDOWS = [
+    windows(0x81, 3, 0xA0), windows(0x81, 3, 0xA0, bytes(range(1, 9)), is_end=True),
+    windows(0x81, 3, 0xB0), windows(0x81, 3, 0xB0, b"\x09\x10", is_end=True),
+    windows(0x81, 3, 0xA0), windows(0x81, 3, 0xA0, status=0xC0000004, is_end=True),
+    windows(0x81, 0xFE, 0xC0, function=0x1E), windows(0x81, 0xFE, 0xC0, function=0x1E, is_end=True),
+    windows(0x81, 3, 0xA0), windows(0x81, 0xFE, 0xC0, function=0x02),
+    windows(0x81, 3, 0xA0, status=0xC0000012, is_end=True),
+    windows(0x02, 3, 0xD0, b"\x01\x02\x03"), windows(0x02, 3, 0xD0, is_end=True)]
+# What DEVICES.md and CAPTURES.md say of them: the packet that was too long has one byte more than the endpoint's packets.
+OF_WINDOWS = [f"device 0 {CONFIG}", "script 0 81 d:0102030405060708 d:0910 s d:000000000000000000", "script 0 02 a:010203"]
+TOO_LONG = "# ep 81: 1 packets were too long; their bytes are 00 here (first in frame {})"
+
+
+def windows_captures_are_read(trial: Trial) -> None:
+    """With the descriptors, and without them: a file has them then, and comments name the same packets."""
+    (trial.folder / "mine.umockdev").write_text(UMOCKDEV)
+    injected = [*windows_descriptor(0x100, bytes.fromhex(DEVICE)), *windows_descriptor(0x200, bytes.fromhex(CONFIG))]
+    whole, alone = windows_pcapng(*injected, *RECORDED_BY_WINDOWS), windows_pcapng(*RECORDED_BY_WINDOWS)
+    holds(trial, trial.made_text(whole), *OF_WINDOWS, f"descriptor 0 {DEVICE}", TOO_LONG.format(15))
+    holds(trial, trial.made_text(whole, "--device", "1209:0001"), *OF_WINDOWS, TOO_LONG.format(15))
+    holds(trial, trial.made_text(alone, "--device", "1209:0001", "--umockdev", "mine.umockdev"), *OF_WINDOWS, TOO_LONG.format(11),
+          "# the configuration is from mine.umockdev: the capture has none", "speed 0 full")
+    holds(trial, trial.made_text(alone), "tirnouch-run: windows.pcapng: bus 1 device 2 is left out: no configuration descriptor")
+
+
+def what_windows_does_not_record_is_nothing(trial: Trial) -> None:
+    """The end of a write without its beginning, a write at fault, of which no byte is known to have moved, and a read that doesn't end. The
+    end of a read says all by itself. The same by either way."""
+    packets = [
+        windows(0x02, 3, 0xE0, is_end=True), windows(0x81, 3, 0xE1, b"\x07", is_end=True),
+        windows(0x02, 3, 0xE2, bytes(24)), windows(0x02, 3, 0xE2, status=0xC0000011, is_end=True),
+        windows(0x81, 3, 0xE3), windows(0x81, 3, 0xE3, bytes(16), is_end=True), windows(0x81, 3, 0xE4)]
+    capture = windows_pcapng(*windows_descriptor(0x100, bytes.fromhex(DEVICE)), *windows_descriptor(0x200, bytes.fromhex(CONFIG)), *packets)
+    for words in ((), ("--device", "1209:0001")):
+        lines = [it for it in trial.made_text(capture, *words) if it.startswith("script ")]
+        wanted = ["script 0 81 d:07 d:0000000000000000 d:0000000000000000", "script 0 02 b"]
+        trial.check(lines == wanted, f"{words}: the text has {lines}")
+
+
+def windows_captures_are_run(trial: Trial) -> None:
+    (trial.folder / "mine.umockdev").write_text(UMOCKDEV)
+    # The program doesn't write.
+    (trial.folder / "windows.pcapng").write_bytes(windows_pcapng(*RECORDED_BY_WINDOWS[:-2]))
+    words = ("--device", "1209:0001", "--umockdev", "mine.umockdev", "--limit", "20s")
+    trial.expect(trial.run("windows.pcapng", *words, "--trace", "run.trace", "--", str(trial.program), "resubmits"), 0)
+    # What each callback got (tools/replay.py), without its number.
+    called = [it.split()[3:] for it in (trial.folder / "run.trace").read_text().splitlines() if it.startswith("# called ")]
+    wanted = ["ep 81 COMPLETED 8 0102030405060708", "ep 81 COMPLETED 2 0910", "ep 81 STALL 0 -", "ep 81 OVERFLOW 0 -"]
+    trial.check([" ".join(it) for it in called] == wanted, f"the callbacks got {called}")
+
+
+# Those that need the library, and those that need usbtrace alone.
+TEXT_TRIALS: List[Callable[[Trial], None]] = [windows_captures_are_read, what_windows_does_not_record_is_nothing]
 TRIALS: List[Callable[[Trial], None]] = [
     a_recorded_run_is_made_again, a_reset_does_not_begin_it_anew, seeds_say_how_to_run_again, another_run_differs, other_forms_are_read,
     what_it_lacks_is_told, descriptors_complete_it, a_device_folder_completes_it, umockdev_completes_it, what_is_there_stays,
-    one_device_is_chosen, wrong_files_are_refused,
+    one_device_is_chosen, wrong_files_are_refused, windows_captures_are_run, *TEXT_TRIALS,
 ]
 
 
-def attempts(folder: pathlib.Path) -> Iterator[Trial]:
-    """Each trial, behind it."""
+def attempts(folder: pathlib.Path, trials: List[Callable[[Trial], None]]) -> Iterator[Trial]:
+    """Each trial, behind it. The program is there where the library is."""
     program, recorded = folder / "program", folder / "recorded.pcap"
-    sources = [TESTS / "program.c", TESTS / "processes.c"]
-    subprocess.run([*FLAGS, *sources, "-L", ROOT / "bin", "-l:libusb-1.0.so.0", "-o", program], check=True)
-    subprocess.run([RUN, DEVICES, "--", RECORD, "-o", recorded, "--", program, "resubmits"], capture_output=True, check=True)
+    recorded.write_bytes(b"")
+    if LIBRARY.is_file():
+        sources = [TESTS / "program.c", TESTS / "processes.c"]
+        subprocess.run([*FLAGS, *sources, "-L", ROOT / "bin", "-l:libusb-1.0.so.0", "-o", program], check=True)
+        subprocess.run([RUN, DEVICES, "--", RECORD, "-o", recorded, "--", program, "resubmits"], capture_output=True, check=True)
 
     def attempt(trial_of: Callable[[Trial], None]) -> Trial:
         trial = Trial(program, recorded.read_bytes(), pathlib.Path(tempfile.mkdtemp(dir=folder)))
@@ -231,16 +322,19 @@ def attempts(folder: pathlib.Path) -> Iterator[Trial]:
         return trial
 
     with ThreadPoolExecutor(os.cpu_count()) as pool:
-        yield from pool.map(attempt, TRIALS)
+        yield from pool.map(attempt, trials)
 
 
 def main() -> int:
-    if not (ROOT / "bin" / "usbtrace").is_file():
+    if not USBTRACE.is_file():
         print("skipped: captures that are run: there is no bin/usbtrace (make run builds one)")
         return 0
+    if not LIBRARY.is_file():
+        print("skipped: captures that are run: there is no bin/libusb-1.0.so.0 (make c-try builds one); their texts are tried")
+    kinds = TRIALS if LIBRARY.is_file() else TEXT_TRIALS
     with tempfile.TemporaryDirectory(prefix="capture-run-test-") as folder:
-        trials = list(attempts(pathlib.Path(folder)))
-    for name, trial in zip((it.__name__.replace("_", " ") for it in TRIALS), trials):
+        trials = list(attempts(pathlib.Path(folder), kinds))
+    for name, trial in zip((it.__name__.replace("_", " ") for it in kinds), trials):
         print("".join(f"skipped: {it}\n" for it in trial.skipped), end="")
         print("".join(f"{name}: {it}\n" for it in trial.faults), end="")
     failed = sum(bool(it.faults) for it in trials)

@@ -5,19 +5,24 @@ import re
 import subprocess
 from typing import Dict, List, NamedTuple, Optional, Sequence, Tuple
 
-from capture import CONTROL, Event, descriptor_read, events_of, pcap
+from capture import descriptor_read, events_of, pcap
 from described import Described, Unusable, from_descriptors, from_umockdev, ids_of
+from event import CONTROL, Event
 from program import tell
+from usbpcap import with_lengths
 
 Place = Tuple[int, int]
 DEVICE, CONFIGURATION, STRING = 1, 2, 3
 ENGLISH = 0x0409
 REFUSED = 2
+# Comments name packets of the capture.
+FRAME = re.compile(r"(#.* \((?:first|the next is) in frame )(\d+)\)")
 LEFT_OUT = re.compile(r"# bus (\d+) device (\d+) is left out: (.+) \(first in frame \d+\)$")
 # What helps where a device isn't in the text.
 REMEDIES = {
     "no configuration descriptor": "say which file has its descriptors: --descriptors FILE, a copy of its "
-                                   "/sys/bus/usb/devices/*/descriptors; or --umockdev FILE, of umockdev-record",
+                                   "/sys/bus/usb/devices/*/descriptors; or --umockdev FILE, of umockdev-record. On Windows, USBPcapCMD "
+                                   "with --inject-descriptors records them",
     "its configuration descriptor is refused": "FORMATS.md has the rules that it breaks",
     "no answers": "nothing moved at its bulk and interrupt endpoints while it was recorded: record the program's run from its beginning",
     "the fifth device": "say which device the program uses: --device VENDOR:PRODUCT",
@@ -66,6 +71,12 @@ def named(place: Place) -> str:
     return f"bus {place[0]} device {place[1]}"
 
 
+def in_capture(line: str, events: Sequence[Event]) -> str:
+    """A line about a capture of these events, as one about the capture that they come from."""
+    found = FRAME.fullmatch(line)
+    return f"{found[1]}{events[int(found[2]) - 1].frame})" if found and events else line
+
+
 class Text:
     """The text of a capture: its device, where one was asked for, and what a file says beside the capture."""
 
@@ -85,7 +96,7 @@ class Text:
         elif self.asked.descriptors:
             self.described = from_descriptors(self.asked.descriptors)
         if self.described or self.asked.device:
-            self.events = list(events_of(self.data))
+            self.events = with_lengths(events_of(self.data))
             self.seen = seen_in(self.events)
             self.place = self.chosen()
 
@@ -104,8 +115,8 @@ class Text:
         there = ", ".join(f"{named(place)}{f' ({seen.ids()})' if seen.ids() else ''}" for place, seen in sorted(self.seen.items()))
         raise Unusable(f"{self.name} has no device {wanted}; it has {there or 'none'}")
 
-    def missing(self) -> List[Event]:
-        """What the file says and the capture doesn't, as if a host had asked for it."""
+    def missing(self, first: Event) -> List[Event]:
+        """What the file says and the capture doesn't, as if a host had asked for it before the device's first event."""
         if not (self.described and self.place):
             return []
         it, seen, file = self.described, self.seen[self.place], self.described.file
@@ -118,19 +129,19 @@ class Text:
                   if (STRING, number) not in seen.descriptors]
         self.notes = [f"# {what} is from {file}: the capture has none" for what, *_ in added]
         return [event for at, (_, value, language, raw) in enumerate(added)
-                for event in descriptor_read(self.place, at, value, language, raw)]
+                for event in descriptor_read(first, at, value, language, raw)]
 
-    def input(self) -> bytes:
-        """What usbtrace reads: the capture itself where nothing is to be put in or left out."""
-        if not self.place:
-            return self.data
+    def of_device(self) -> List[Event]:
+        """The events of the one device, with what is put in."""
         kept = [it for it in self.events if it.place() == self.place]
-        return pcap([*self.missing(), *kept])
+        return [*self.missing(kept[0]), *kept] if kept else []
 
     def lines(self, usbtrace: str) -> List[str]:
-        """The text's lines, with where they come from; a refusal where no device is left."""
-        ran = subprocess.run([usbtrace, "devices"], input=self.input(), capture_output=True, check=False)
-        text = ran.stdout.decode("ascii", "replace").splitlines()
+        """The text's lines, with where they come from; a refusal where no device is left. usbtrace reads the capture itself where nothing
+        is to be put in or left out; else another, and comments name the packets of the capture all the same."""
+        events = self.of_device()
+        ran = subprocess.run([usbtrace, "devices"], input=pcap(events) if events else self.data, capture_output=True, check=False)
+        text = [in_capture(line, events) for line in ran.stdout.decode("ascii", "replace").splitlines()]
         if ran.returncode:
             raise Unusable(*self.refusals(text, ran.stderr.decode(errors="replace").strip()))
         return [f"# made by tirnouch-run of {self.name}", *(out for line in text for out in self.completed(line))]
