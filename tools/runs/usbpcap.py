@@ -15,8 +15,8 @@ STATUSES = {
     0: 0, 0x80000900: -121, 0xC0000009: -121, 0xC0000004: -32, 0xC0000030: -32, 0xC0000008: -75, 0xC0000012: -75, 0xC0010000: -2,
     **dict.fromkeys((0xC0000001, 0xC0000002, 0xC0000003, 0xC0000005, 0xC0000006, 0xC0000007, 0xC0000011), -71)}
 GONE, TOO_LONG = -108, -75
-# A length that isn't recorded, and how long a packet may be (USB 2.0, 5.7.3).
-UNKNOWN, LONGEST_PACKET = -1, 1024
+# A length that isn't recorded, the largest that one may be, and how long a packet may be (USB 2.0, 5.7.3).
+UNKNOWN, MOST, LONGEST_PACKET = -1, 0xFFFFFFFF, 1024
 
 
 def event_of(packet: bytes, frame: int) -> Optional[Event]:
@@ -26,7 +26,7 @@ def event_of(packet: bytes, frame: int) -> Optional[Event]:
     size, number, windows, function, info, bus, device, ep, type_, length = struct.unpack_from(FIELDS, packet)
     kind, data = "C" if info & 1 else "S", packet[size:size + length]
     status = STATUSES.get(windows, GONE) if kind == "C" else IN_PROGRESS
-    it = Event(number, kind, type_, ep, device, bus, 0, 0, status, length, None, 0, data, frame)
+    it = Event(number, kind, type_, ep, device & 0xFF, bus, 0, 0, status, length, None, 0, data, frame)
     if function == RESET_PIPE:
         setup = bytes([2, 1, 0, 0, ep, 0, 0, 0]) if kind == "S" else None
         return it._replace(type=CONTROL, ep=0, length=0, setup=setup, data=b"")
@@ -56,7 +56,8 @@ def with_lengths(events: Iterable[Event]) -> List[Event]:
         elif key in sent:
             at = sent.pop(key)
             if found[at].length == UNKNOWN:
-                found[at] = found[at]._replace(length=it.length + (LONGEST_PACKET if it.status == TOO_LONG else 0))
+                room = LONGEST_PACKET if it.status == TOO_LONG else 0
+                found[at] = found[at]._replace(length=min(it.length + room, MOST))
             if it.length == UNKNOWN:
                 it = it._replace(length=found[at].length if it.status == 0 else 0)
         if it.kind == "S" or it.length != UNKNOWN:
