@@ -228,12 +228,14 @@ def windows(ep: int, transfer: int, irp: int, data: bytes = b"", *, status: int 
 
 
 def windows_pcapng(*packets: bytes) -> bytes:
-    """A file of these packets, of link type 249 (pcapng: a section, an interface, packets)."""
+    """A file of these packets, of link type 249, behind a packet of another interface (pcapng: a section, interfaces, packets)."""
     def block(kind: int, body: bytes) -> bytes:
         size = 12 + len(body) + -len(body) % 4
         return struct.pack("<II", kind, size) + body + bytes(-len(body) % 4) + struct.pack("<I", size)
-    blocks = [block(6, struct.pack("<IIIII", 0, 0, 0, len(it), len(it)) + it) for it in packets]
-    return block(0x0A0D0D0A, struct.pack("<IHHq", 0x1A2B3C4D, 1, 0, -1)) + block(1, struct.pack("<HHI", 249, 0, 0)) + b"".join(blocks)
+    interfaces = [block(1, struct.pack("<HHI", link, 0, 0)) for link in (249, 1)]
+    placed = [(1, packets[0]), *((0, it) for it in packets)]
+    blocks = [block(6, struct.pack("<IIIII", which, 0, 0, len(it), len(it)) + it) for which, it in placed]
+    return b"".join([block(0x0A0D0D0A, struct.pack("<IHHq", 0x1A2B3C4D, 1, 0, -1)), *interfaces, *blocks])
 
 
 def windows_descriptor(value: int, raw: bytes) -> List[bytes]:
@@ -257,30 +259,53 @@ OF_WINDOWS = [f"device 0 {CONFIG}", "script 0 81 d:0102030405060708 d:0910 s d:0
 TOO_LONG = "# ep 81: 1 packets were too long; their bytes are 00 here (first in frame {})"
 
 
+WITH_DESCRIPTORS = [*windows_descriptor(0x100, bytes.fromhex(DEVICE)), *windows_descriptor(0x200, bytes.fromhex(CONFIG))]
+
+
 def windows_captures_are_read(trial: Trial) -> None:
     """With the descriptors, and without them: a file has them then, and comments name the same packets."""
     (trial.folder / "mine.umockdev").write_text(UMOCKDEV)
-    injected = [*windows_descriptor(0x100, bytes.fromhex(DEVICE)), *windows_descriptor(0x200, bytes.fromhex(CONFIG))]
-    whole, alone = windows_pcapng(*injected, *RECORDED_BY_WINDOWS), windows_pcapng(*RECORDED_BY_WINDOWS)
-    holds(trial, trial.made_text(whole), *OF_WINDOWS, f"descriptor 0 {DEVICE}", TOO_LONG.format(15))
-    holds(trial, trial.made_text(whole, "--device", "1209:0001"), *OF_WINDOWS, TOO_LONG.format(15))
-    holds(trial, trial.made_text(alone, "--device", "1209:0001", "--umockdev", "mine.umockdev"), *OF_WINDOWS, TOO_LONG.format(11),
+    whole, alone = windows_pcapng(*WITH_DESCRIPTORS, *RECORDED_BY_WINDOWS), windows_pcapng(*RECORDED_BY_WINDOWS)
+    holds(trial, trial.made_text(whole), *OF_WINDOWS, f"descriptor 0 {DEVICE}", TOO_LONG.format(16))
+    holds(trial, trial.made_text(whole, "--device", "1209:0001"), *OF_WINDOWS, TOO_LONG.format(16))
+    holds(trial, trial.made_text(alone, "--device", "1209:0001", "--umockdev", "mine.umockdev"), *OF_WINDOWS, TOO_LONG.format(12),
           "# the configuration is from mine.umockdev: the capture has none", "speed 0 full")
     holds(trial, trial.made_text(alone), "tirnouch-run: windows.pcapng: bus 1 device 2 is left out: no configuration descriptor")
 
 
+def are_told(trial: Trial, packets: List[bytes], wanted: List[str]) -> None:
+    """The lines of scripts and requests, of the capture as it is and of what is written anew."""
+    for words in ((), ("--device", "1209:0001")):
+        text = trial.made_text(windows_pcapng(*WITH_DESCRIPTORS, *packets), *words)
+        lines = [it for it in text if it.startswith(("script ", "control "))]
+        trial.check(lines == wanted, f"{words}: the text has {lines}")
+
+
 def what_windows_does_not_record_is_nothing(trial: Trial) -> None:
     """The end of a write without its beginning, a write at fault, of which no byte is known to have moved, and a read that doesn't end. The
-    end of a read says all by itself. The same by either way."""
-    packets = [
+    end of a read says all by itself; two packets that fill it have none behind them."""
+    are_told(trial, [
         windows(0x02, 3, 0xE0, is_end=True), windows(0x81, 3, 0xE1, b"\x07", is_end=True),
         windows(0x02, 3, 0xE2, bytes(24)), windows(0x02, 3, 0xE2, status=0xC0000011, is_end=True),
-        windows(0x81, 3, 0xE3), windows(0x81, 3, 0xE3, bytes(16), is_end=True), windows(0x81, 3, 0xE4)]
-    capture = windows_pcapng(*windows_descriptor(0x100, bytes.fromhex(DEVICE)), *windows_descriptor(0x200, bytes.fromhex(CONFIG)), *packets)
-    for words in ((), ("--device", "1209:0001")):
-        lines = [it for it in trial.made_text(capture, *words) if it.startswith("script ")]
-        wanted = ["script 0 81 d:07 d:0000000000000000 d:0000000000000000", "script 0 02 b"]
-        trial.check(lines == wanted, f"{words}: the text has {lines}")
+        windows(0x81, 3, 0xE3), windows(0x81, 3, 0xE3, bytes(16), is_end=True), windows(0x81, 3, 0xE4),
+    ], ["script 0 81 d:07 d:0000000000000000 d:0000000000000000", "script 0 02 b"])
+
+
+def requests_on_windows_are_read(trial: Trial) -> None:
+    """A halt is ended between two stalls, STALL_PID and ENDPOINT_HALTED; another read ended by the first halt. A vendor's request has what it
+    writes behind its setup data, and a second stage, which says nothing; another reads."""
+    write, read = bytes((0x40, 6, 0, 0, 0, 0, 2, 0)), bytes((0xC0, 5, 2, 1, 3, 0, 8, 0))
+    are_told(trial, [
+        windows(0x81, 3, 0xA0), windows(0x81, 3, 0xA1), windows(0x81, 3, 0xA0, status=0xC0000004, is_end=True),
+        windows(0x81, 3, 0xA1, status=0xC0000030, is_end=True),
+        windows(0x81, 0xFE, 0xC0, function=0x1E), windows(0x81, 0xFE, 0xC0, function=0x1E, is_end=True),
+        windows(0x81, 3, 0xA0), windows(0x81, 3, 0xA0, status=0xC0000030, is_end=True),
+        windows(0x00, 2, 0xB0, write + b"\x01\x02", function=0x17, stage=b"\0"),
+        windows(0x00, 2, 0xB0, bytes(8), function=0x17, stage=b"\1"),
+        windows(0x00, 2, 0xB0, function=0x17, is_end=True, stage=b"\3"),
+        windows(0x80, 2, 0xB1, read, function=0x17, stage=b"\0"),
+        windows(0x80, 2, 0xB1, b"\x0a\x0b", function=0x17, is_end=True, stage=b"\3"),
+    ], ["script 0 81 s s", "control 0 40 06 0000 0000 a:0102", "control 0 c0 05 0102 0003 d:0a0b"])
 
 
 def windows_captures_are_run(trial: Trial) -> None:
@@ -296,7 +321,9 @@ def windows_captures_are_run(trial: Trial) -> None:
 
 
 # Those that need the library, and those that need usbtrace alone.
-TEXT_TRIALS: List[Callable[[Trial], None]] = [windows_captures_are_read, what_windows_does_not_record_is_nothing]
+TEXT_TRIALS: List[Callable[[Trial], None]] = [
+    windows_captures_are_read, what_windows_does_not_record_is_nothing, requests_on_windows_are_read,
+]
 TRIALS: List[Callable[[Trial], None]] = [
     a_recorded_run_is_made_again, a_reset_does_not_begin_it_anew, seeds_say_how_to_run_again, another_run_differs, other_forms_are_read,
     what_it_lacks_is_told, descriptors_complete_it, a_device_folder_completes_it, umockdev_completes_it, what_is_there_stays,
