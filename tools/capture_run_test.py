@@ -292,8 +292,8 @@ def what_windows_does_not_record_is_nothing(trial: Trial) -> None:
 
 
 def requests_on_windows_are_read(trial: Trial) -> None:
-    """A halt is ended between two stalls, STALL_PID and ENDPOINT_HALTED; another read ended by the first halt. A vendor's request has what it
-    writes behind its setup data, and a second stage, which says nothing; another reads."""
+    """A halt is ended between two stalls, STALL_PID and ENDPOINT_HALTED; another read ended by the first one. A request of the vendor's has
+    what it writes behind its setup data, and a second stage, which says nothing; another reads."""
     write, read = bytes((0x40, 6, 0, 0, 0, 0, 2, 0)), bytes((0xC0, 5, 2, 1, 3, 0, 8, 0))
     are_told(trial, [
         windows(0x81, 3, 0xA0), windows(0x81, 3, 0xA1), windows(0x81, 3, 0xA0, status=0xC0000004, is_end=True),

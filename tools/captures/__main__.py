@@ -13,7 +13,8 @@ Each part prints a line of counts; what is wrong stands before it, and the statu
 isn't there, the parts that need it are left out: that is told, and the status is 1 too.
 
 The modules, from below: machine (programs that are run); told (the events and answers of a run, from what `run --steps` prints);
-scenes (rows and random scenarios); forms (a capture in other forms); shown, replayed, round, damaged, large (the parts)."""
+scenes (rows and random scenarios); windows (a packet as Windows' recorder writes it); forms (a capture in other forms); shown, replayed,
+round, damaged, large (the parts)."""
 import argparse
 import collections
 import pathlib
