@@ -3,7 +3,7 @@
 A build with checks takes many times as long as a proved one, so it is given captures of an eighth of that."""
 import struct
 
-from forms import LOCAL_BLOCK, block
+from forms import FORMS, LOCAL_BLOCK, block
 from told import BULK, CONTROL, FILE_HEADER, IN_PROGRESS, Event, record
 
 LONGEST = 67_108_864
@@ -32,9 +32,9 @@ def read_of(asked, data):
 HEAD = FILE_HEADER + b"".join(control())
 
 
-def numbered(records):
-    """These records again and again, each time with the next id."""
-    pieces = [(it[:16], it[24:]) for it in records]
+def numbered(records, at=16):
+    """These records again and again, each time with the next id, which has this place in each."""
+    pieces = [(it[:at], it[at + 8 :]) for it in records]
     for number in range(2, LONGEST):
         yield b"".join(head + struct.pack("<Q", number) + rest for head, rest in pieces)
 
@@ -72,6 +72,15 @@ def of_one_endpoint(path, most):
     """Reads of 8 bytes, one behind the other."""
     count = filled(path, most, HEAD, numbered(read_of(8, bytes(8))))
     return f"{count:,} reads of 8 bytes", 0, text_of(count, "d:" + "00" * 8, end_of_read(MOST_ANSWERS + 1))
+
+
+def of_windows(path, most):
+    """The same reads as Windows' recorder writes them: the id stands behind the length of the header."""
+    written = FORMS["pcap of Windows"]
+    both = written(FILE_HEADER + b"".join(read_of(8, bytes(8))))[len(FILE_HEADER) :]
+    sent = 16 + int.from_bytes(both[8:12], "little")
+    count = filled(path, most, written(HEAD), numbered([both[:sent], both[sent:]], 18))
+    return f"{count:,} reads of 8 bytes on Windows", 0, text_of(count, "d:" + "00" * 8, end_of_read(MOST_ANSWERS + 1))
 
 
 def of_long_reads(path, most):
@@ -118,7 +127,7 @@ def too_long(path, most):
     return "a byte too many", 1, None
 
 
-MADE = (of_one_endpoint, of_long_reads, of_empty_packets, of_many_devices, of_transfers_in_flight, of_blocks, too_long)
+MADE = (of_one_endpoint, of_windows, of_long_reads, of_empty_packets, of_many_devices, of_transfers_in_flight, of_blocks, too_long)
 
 
 def large(machine, asked, count):
