@@ -1,12 +1,11 @@
 #!/usr/bin/env python3
 """A modem (CDC ACM): it answers each line, and tells that there is a carrier when the host is ready."""
-from tirnouch import main
-from tirnouch.serial import Serial
+import tirnouch as t
 
 
-class Modem(Serial):
-    product = 0x0032
-    strings = ("Works", "Modem")
+class Modem(t.Serial):
+    ids = (0x1209, 0x0032)
+    manufacturer, product_name = "Works", "Modem"
 
     def line(self, text: str) -> str:
         return "OK" if text.startswith("AT") else "ERROR"
@@ -16,4 +15,4 @@ class Modem(Serial):
 
 
 if __name__ == "__main__":
-    main(Modem)
+    t.main(Modem)

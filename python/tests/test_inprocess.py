@@ -3,13 +3,15 @@ from __future__ import annotations
 
 import ctypes
 import os
+import pathlib
+import tempfile
 import threading
 import unittest
 from typing import Any, List, Optional
 from unittest import mock
 
 from tests.harness import told
-from tests.libusb import NO_DEVICE, OTHER, PATH, PIPE, TIMEOUT, Program, lacking, logged
+from tests.libusb import NO_DEVICE, PATH, PIPE, TIMEOUT, Program, lacking
 from tirnouch import GONE, STALL, Bus, Device, Request, bulk_in, bulk_out, control, later, plug
 
 VENDOR, PRODUCT = 0x1209, 0x0021
@@ -203,10 +205,10 @@ class Events(Plugged):
                 refused.append(str(error))
             return b"x"
 
-        for call in (self.bus.left, self.bus.report, self.bus.now, lambda: self.bus.advance(1)):
+        for call in (self.bus.left, self.bus.report, self.bus.now, lambda: self.bus.advance(1), self.bus.close):
             with mock.patch.object(Thing, "told", lambda _thing, _request, call=call: answer(call)):
                 self.assertEqual(self.program.control(0xC0, 1, 0, 0, 8), b"x")
-        self.assertEqual(len(refused), 4)
+        self.assertEqual([it.split()[0] for it in refused], ["advance", "end"])
 
     def test_a_device_that_is_there_isnt_shown(self) -> None:
         with self.assertRaisesRegex(RuntimeError, "device 0, Thing: show: there is none to do that with"):
@@ -251,7 +253,7 @@ class Plugs(unittest.TestCase):
                     self.assertTrue(program.open(VENDOR, product))
                     program.write(0x02, data)
                     self.assertEqual(program.read(0x81), data[::-1])
-                with self.assertRaisesRegex(RuntimeError, "a context of libusb is open"):
+                with self.assertRaisesRegex(RuntimeError, "there is a bus already"):
                     plug(Thing(), library=str(PATH))
             finally:
                 program.end()
@@ -283,14 +285,23 @@ class Plugs(unittest.TestCase):
                 plug(Thing(), library=path)
 
     def test_why_a_device_isnt_taken(self) -> None:
-        """The bus begins with the first context: that one is refused, and the bus says which line it is about."""
+        """It is free for another bus then."""
         thing = Thing()
         thing.lines = [("speed", "fast")]
-        with plug(thing, library=str(PATH)) as bus, logged() as log:
-            context = ctypes.c_void_p()
-            self.assertEqual(ctypes.CDLL(str(PATH)).libusb_init(ctypes.byref(context)), OTHER)
-            self.assertIn('"fast"', bus.error())
-        self.assertIn('"fast"', log())
+        for _ in range(2):
+            with self.assertRaisesRegex(RuntimeError, '"fast"'):
+                plug(thing, library=str(PATH))
+
+    def test_the_variables_steer_it(self) -> None:
+        with tempfile.TemporaryDirectory() as folder:
+            steering = {"TIRNOUCH_TIME": "virtual", "TIRNOUCH_SEED": "7", "TIRNOUCH_TRACE": f"{folder}/trace"}
+            with mock.patch.dict(os.environ, steering), plug(Thing(), library=str(PATH)) as bus:
+                bus.advance(70)
+                self.assertEqual((bus.now(), bus.seed), (70, 7))
+            self.assertTrue(pathlib.Path(folder, "trace").is_file())
+        for said in ("x", "-1", str(1 << 64)):
+            with mock.patch.dict(os.environ, {"TIRNOUCH_SEED": said}), self.assertRaisesRegex(ValueError, "TIRNOUCH_SEED is a whole number"):
+                plug(Thing(), library=str(PATH))
 
     def test_a_device_that_isnt_plugged_in(self) -> None:
         with plug(Thing(), library=str(PATH)) as bus:
@@ -307,8 +318,8 @@ class Plugs(unittest.TestCase):
             device.events.clear()
             bus.close()
             bus.close()
-            self.assertEqual(program.read(0x81, milliseconds=20), TIMEOUT)
-            program.close()
+            self.assertEqual(program.read(0x81, milliseconds=20), NO_DEVICE)
+            self.assertFalse(program.open(VENDOR, PRODUCT))
             self.assertEqual(device.events, [])
         finally:
             program.end()

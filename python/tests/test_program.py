@@ -1,7 +1,6 @@
 """Devices that are programs in Python, started and asked by the library itself: their lines of a text, answers, events, and their end."""
 from __future__ import annotations
 
-import ctypes
 import os
 import pathlib
 import shlex
@@ -10,8 +9,9 @@ import tempfile
 import unittest
 from unittest import mock
 
+import tirnouch
 from tests.harness import DEVICES, PYTHON
-from tests.libusb import NO_DEVICE, PATH, PIPE, TIMEOUT, Program, lacking, logged
+from tests.libusb import NO_DEVICE, PIPE, TIMEOUT, Program, lacking, logged
 
 # A device with the ids 1209:0022, which writes down what it is told.
 SOURCE = """
@@ -63,11 +63,9 @@ class Programs(unittest.TestCase):
     def plug(self, *words: object) -> Program:
         """A program of the host's over the device whose program has these words."""
         command = ["env", f"PYTHONPATH={PYTHON}", "PYTHONDONTWRITEBYTECODE=1", sys.executable, *words]
-        text = f"program 0 {shlex.join(map(str, command))} 2>{shlex.quote(str(self.errors))}\n".encode()
-        library = ctypes.CDLL(str(PATH))
-        self.assertEqual(library.tirnouch_plug(text, ctypes.c_size_t(len(text))), 0)
+        bus = tirnouch.bus(tirnouch.text(f"program 0 {shlex.join(map(str, command))} 2>{shlex.quote(str(self.errors))}\n"))
+        self.addCleanup(bus.close)
         program = Program()
-        self.addCleanup(library.tirnouch_plug, b"", ctypes.c_size_t(0))
         self.addCleanup(program.end)
         return program
 

@@ -1,14 +1,15 @@
 """A bus in this process: its devices, what a test asks of it, and what is wrong behind it."""
 from __future__ import annotations
 
-import gc
+import atexit
+import os
 import traceback
 from typing import Any, Dict, Iterator, List, NamedTuple, Optional, Union
 
 from tirnouch import contexts
 from tirnouch.device import Device
 from tirnouch.inprocess import Plugged
-from tirnouch.library import BUSY, LibraryError, load, sentence
+from tirnouch.library import BUSY, LibraryError, Trace, load, sentence
 from tirnouch.limits import Limit, LimitOver, milliseconds_of
 from tirnouch.ports import Port
 from tirnouch.sources import Becomes, PathLike, Text
@@ -18,6 +19,10 @@ MOST_DEVICES = 16
 MOST_SEED = (1 << 64) - 1
 TIMES = ("real", "virtual")
 Entry = Union[Device, Text, Becomes]
+# Why a bus doesn't begin.
+ANOTHER = "there is a bus already, which another test or another `with` began: it ends first, since a process has one"
+OF_CONTEXTS = ("there is a bus already, which a context of libusb began with the devices that TIRNOUCH_DEVICES names, or this is within a "
+               "callback of libusb's: close that context, or begin behind the callback")
 
 
 class Fault(NamedTuple):
@@ -75,13 +80,15 @@ class Places:
             self.described += [f"of {entry.name}"] * entry.count
             self.lenient += range(first, first + entry.count) if entry.lenient else []
             return
-        for number, it in enumerate(entry.devices() if isinstance(entry, Becomes) else [entry], first):
+        devices = entry.devices() if isinstance(entry, Becomes) else [entry]
+        for number, it in enumerate(devices, first):
             self.text += it.text(number)
             self.devices.append(it)
             self.described.append(str(it))
-        if isinstance(entry, Becomes):
-            self.text += f"comes back {first} as {first + 1}\n"
-            self.successors[first] = first + 1
+        for number in range(first, first + len(devices) - 1):
+            line = f"comes back {number} as {number + 1}\n"
+            self.text += "" if line in self.text else line      # one of dfu.chain says it itself
+            self.successors[number] = number + 1
 
     def is_lenient(self, line: str) -> bool:
         """Whether a difference is of a device whose program may write what it wants."""
@@ -95,11 +102,9 @@ class Bus:
     limit: Optional[Limit]
 
     def __init__(self, entries: List[Entry], library: Optional[PathLike], seed: int = 0, watches: bool = True) -> None:
-        end_stale()
         self.places = Places(entries)
         self.library = load(library)
-        self.seed, self.faults, self.limit, self.is_open = seed, [], None, False
-        self.is_begun = False
+        self.seed, self.judges, self.faults, self.limit, self.is_open = seed, watches, [], None, False
         self.plugged: List[Plugged] = []
         self.ports = [Port(self.library, number, *it) for number, it in enumerate(zip(self.places.devices, self.places.described))]
         for number, other in self.places.successors.items():
@@ -118,7 +123,7 @@ class Bus:
         self.plugged.append(Plugged(self.library, number, device))
         device._renew()
         device._faults.begin(number, self.seed)
-        device._clock = self.library.clock()
+        device._clock = self.library.clock
         if watches:
             device._watcher = self._watch
 
@@ -134,54 +139,41 @@ class Bus:
 
     # Its beginning and its end
 
-    def begin(self, time: str, trace: Optional[PathLike], limit: Optional[int]) -> None:
+    def begin(self, time: str, trace: Trace, limit: Optional[int]) -> None:
         """It begins now. LibraryError where there is another one, or a line isn't taken."""
-        words = (self.places.text.encode("utf-8"), self.seed, str(trace) if trace else None, time == "virtual")
-        status = self.library.begin(*words)
-        if status == BUSY and OPEN:
-            raise LibraryError("there is a bus already, which another test or another `with` began: it ends first, since a process has one")
+        status = self.library.begin(self.places.text.encode("utf-8"), self.seed, trace, time == "virtual")
         if status == BUSY:
-            contexts.close_contexts()
-            status = self.library.begin(*words)
-        if status == BUSY:
-            raise LibraryError("a context of libusb is open, which was opened before the bus began: close it, or open it behind that")
+            raise LibraryError(ANOTHER if OPEN else OF_CONTEXTS)
         if status:
             raise LibraryError(self.library.error() or sentence(status))
-        self.is_begun = self.is_open = True
+        self.is_open = True
         OPEN.append(self)
         contexts.introduce(self.library)
         self.limit = Limit(self, limit) if limit else None
 
     def end(self) -> None:
-        """It ends. LibraryError where contexts are open that aren't closed by themselves: it is there still then."""
+        """It ends; contexts may be open. LibraryError within a callback of libusb's: it goes on then, and its limit begins anew."""
         if self.limit:
             self.limit.stop()
-        if self.is_begun and self.is_open:
+        if self.is_open:
             contexts.dispose_devices()
-            status = self.library.call("end")
-            if status == BUSY:
-                contexts.close_contexts()
-                status = self.library.call("end")
-            if status == BUSY:
-                STALE.append(self)
-                raise LibraryError("a context of libusb is open still: those of usb1 are the test's own, which closes them, as by `with`")
+            if self.library.call("end") == BUSY:
+                self.limit = Limit(self, self.limit.milliseconds) if self.limit else None
+                raise LibraryError("a bus isn't ended within a callback of libusb's, of a transfer or of hotplug: end it behind that")
             OPEN.remove(self)
+            atexit.unregister(self.close)
         self.is_open = False
 
     def close(self) -> None:
-        """It ends, and the devices' methods are called no more. Of a bus that `plug` made: where no context of libusb is open, the bus of
-        the next one is empty until devices are plugged in again; else its devices are there until the last one is closed, and answer
-        nothing."""
+        """It ends, and the devices' methods are called no more. Contexts that are open have no devices then."""
         self.end()
-        if self.plugged and not self.is_begun:
-            self.library.plug(b"")
         self._take_back()
 
     def __enter__(self) -> Bus:
         return self
 
     def __exit__(self, _kind: Any, error: Optional[BaseException], _trace: Any) -> None:
-        verdict = self.verdict() if self.is_begun else None
+        verdict = self.verdict() if self.judges else None
         self.close()
         if verdict is not None and (error is None or isinstance(verdict, LimitOver)):
             raise verdict
@@ -241,6 +233,10 @@ class Bus:
         """What differs so far from what lines of a device expect: the first difference, and what hasn't come."""
         return self.library.lines("report")
 
+    def trace(self) -> List[str]:
+        """The steps so far, the lines of docs/FORMATS.md, of a bus that began with `trace=True`; there are none else."""
+        return self.library.lines("trace")
+
     def error(self) -> str:
         """What went wrong last with the bus, as a device's line that isn't taken, and why; "" where nothing did."""
         return self.library.error()
@@ -266,16 +262,8 @@ def own_part(error: BaseException) -> Any:
     return part
 
 
-# The bus that was begun and hasn't ended; and that is to end, since a context was open when it should.
+# The bus that was begun and hasn't ended.
 OPEN: List[Bus] = []
-STALE: List[Bus] = []
-
-
-def end_stale() -> None:
-    """Ends the bus that a context kept from its end, where that is closed by now."""
-    if STALE:
-        gc.collect()
-        STALE.pop().close()
 
 
 def because(error: BaseException, cause: BaseException) -> None:
@@ -290,19 +278,23 @@ def because(error: BaseException, cause: BaseException) -> None:
         error.__cause__ = cause
 
 
-def bus(*devices: Any, seed: int = 0, time: str = "real", trace: Optional[PathLike] = None, limit: Any = None,
+def bus(*devices: Any, seed: int = 0, time: str = "real", trace: Trace = None, limit: Any = None,
         library: Optional[PathLike] = None) -> Bus:
     """A bus with these devices, numbered 0, 1, ..: objects or classes of Device, text(..), file(..), recorded(..), becomes(..). It begins
     now, and ends behind `with`, or by `close`. `seed`, from 1 on, makes devices and controller go ahead by dice; 0 is none. With the time
-    "virtual" it passes where nothing else is to be done, and then at once. `trace` is a file for its steps. `limit`, as "10s", pulls all
-    devices out when it is over, and raises LimitOver. `library` is the path of Tirnouch's libusb-1.0.so.0."""
+    "virtual" it passes where nothing else is to be done, and then at once. `trace` is a file for its steps; True keeps them for
+    `trace()`. `limit`, as "10s", pulls all devices out when it is over, and raises LimitOver. `library` is the path of Tirnouch's libusb-1.0.so.0."""
     if isinstance(seed, bool) or not isinstance(seed, int) or not 0 <= seed <= MOST_SEED:
         raise ValueError(f"a seed is a whole number, 0 for none, to {MOST_SEED}, and not {seed!r}")
     if time not in TIMES:
         raise ValueError(f"time is \"real\" or \"virtual\", and not {time!r}")
-    made = Bus([entry_of(it) for it in devices], library, seed)
+    return begun(Bus([entry_of(it) for it in devices], library, seed), time, trace, milliseconds_of(limit))
+
+
+def begun(made: Bus, time: str, trace: Trace, limit: Optional[int]) -> Bus:
+    """A bus that begins; where it can't, its devices are free for another."""
     try:
-        made.begin(time, trace, milliseconds_of(limit))
+        made.begin(time, trace, limit)
     except BaseException:
         made._take_back()
         raise
@@ -310,14 +302,17 @@ def bus(*devices: Any, seed: int = 0, time: str = "real", trace: Optional[PathLi
 
 
 def plug(*devices: Device, library: Optional[PathLike] = None) -> Bus:
-    """Plugs devices into this process, with the numbers 0, 1, ..: they are there when the next context of libusb opens, which the variables
-    of docs/C.md steer. An exception in a device's method is told on standard error. `library` is the path of Tirnouch's libusb-1.0.so.0."""
+    """Plugs devices into this process, with the numbers 0, 1, ..: a bus begins with them, which the variables of docs/C.md steer, till it is
+    closed, or the process ends. Nothing is raised behind it: an exception in a device's method is told on standard error. `library` is the
+    path of Tirnouch's libusb-1.0.so.0."""
     for it in devices:
         if not isinstance(it, Device):
             hint = f": plug({it.__name__}())" if isinstance(it, type) else ""
             raise TypeError(f"plug takes devices, and not {it!r}{hint}")
-    made = Bus(list(devices), library, watches=False)
-    if made.library.plug(made.places.text.encode("ascii")):
-        made._take_back()
-        raise RuntimeError("a context of libusb is open: close it before devices are plugged in")
+    said = os.environ.get("TIRNOUCH_SEED") or "0"
+    if not said.isdecimal() or int(said) > MOST_SEED:
+        raise ValueError(f"TIRNOUCH_SEED is a whole number, 0 for none, to {MOST_SEED}, and not {said!r}")
+    time = "virtual" if os.environ.get("TIRNOUCH_TIME") == "virtual" else "real"
+    made = begun(Bus(list(devices), library, int(said), watches=False), time, os.environ.get("TIRNOUCH_TRACE") or None, None)
+    atexit.register(made.close)
     return made

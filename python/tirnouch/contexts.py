@@ -1,8 +1,7 @@
-"""The contexts of libusb that packages of Python keep for the whole process, and how they find the library."""
+"""How packages of Python find the library, and the handles that pyusb leaves open. The contexts that packages keep for the whole process
+outlive a bus, and have the devices of the next one."""
 from __future__ import annotations
 
-import ctypes
-import ctypes.util
 import gc
 import importlib
 import importlib.util
@@ -81,16 +80,3 @@ def dispose_devices() -> None:
     for it in gc.get_objects():
         if type(it) is kind:
             importlib.import_module("usb.util").dispose_resources(it)
-
-
-def close_contexts() -> None:
-    """Closes the contexts that pyusb and hidapi keep for the whole process, by a name that pyusb has for itself. A library whose buses end
-    while contexts are open needs it not."""
-    dispose_devices()
-    module: Any = sys.modules.get("usb.backend.libusb1")
-    if module and module._lib_object:
-        module._lib_object.finalize()
-        module._lib_object = None
-    hidapi = ctypes.util.find_library("hidapi-libusb") if "hid" in sys.modules else None
-    if hidapi:
-        ctypes.CDLL(hidapi).hid_exit()

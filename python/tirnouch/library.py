@@ -6,7 +6,7 @@ from __future__ import annotations
 import ctypes
 import os
 import pathlib
-from typing import Any, Callable, Dict, List, Optional, Union
+from typing import Any, Dict, List, Union
 
 from tirnouch.device import ASKED
 
@@ -22,13 +22,17 @@ SENTENCES = {-2: "its options aren't taken", -4: "it is gone", -5: "there is non
 # How many bytes of text there is room for at first, and of a packet.
 ROOM, MOST_TAKEN = 4096, 4096
 REQUEST = 64
+# The functions that answer within a device's method, too.
+READING = ("left", "report", "error", "trace", "now", "took", "requests")
+# The file of a trace; True keeps it in memory.
+Trace = Union[str, "os.PathLike[str]", bool, None]
 
 
 class Options(ctypes.Structure):
     """struct tirnouch_options"""
 
     _fields_ = [("size", ctypes.c_size_t), ("devices", ctypes.c_char_p), ("devices_length", ctypes.c_size_t), ("trace", ctypes.c_char_p),
-                ("seed", ctypes.c_uint64), ("limit", ctypes.c_uint), ("is_virtual", ctypes.c_int)]
+                ("seed", ctypes.c_uint64), ("limit", ctypes.c_uint), ("is_virtual", ctypes.c_int), ("keeps_trace", ctypes.c_int)]
 
 
 class LibraryError(RuntimeError):
@@ -50,7 +54,8 @@ def sentence(status: int) -> str:
 
 
 class Library:
-    """The functions of tirnouch.h. They aren't called from a method that is asked: the library waits for its answer."""
+    """The functions of tirnouch.h. Those that change something aren't called from a method that is asked: the library waits for its
+    answer."""
 
     def __init__(self, path: str) -> None:
         self.path = path
@@ -59,9 +64,10 @@ class Library:
         except OSError as error:
             raise LibraryError(f"{path} isn't there ({error}): name Tirnouch's {NAME} by `library` or {VARIABLE}; in its repository "
                                "`make c-try` builds it") from error
-        if not hasattr(self.c, "tirnouch_begin"):
-            raise LibraryError(f"{path} isn't Tirnouch's library, or an older one: name its {NAME} by `library` or {VARIABLE}")
-        for name in ("left", "report", "error"):
+        if not hasattr(self.c, "tirnouch_trace"):
+            raise LibraryError(f"{path} isn't Tirnouch's library, or an older one: name its {NAME} by `library` or {VARIABLE}; in its "
+                               "repository `make c-try` builds it")
+        for name in ("left", "report", "error", "trace"):
             getattr(self.c, f"tirnouch_{name}").restype = ctypes.c_size_t
         self.c.tirnouch_now.restype = ctypes.c_uint64
 
@@ -71,7 +77,7 @@ class Library:
 
     def free(self, name: str) -> Any:
         """A function, where none of its calls waits for this thread's answer."""
-        if getattr(ASKED, "is_asked", False):
+        if name not in READING and getattr(ASKED, "is_asked", False):
             raise RuntimeError(f"{name} isn't called from a method that is asked: the library waits for its answer"
                                + (": return GONE there to be pulled out" if name in ("pull", "replug") else ""))
         return getattr(self.c, f"tirnouch_{name}")
@@ -90,18 +96,15 @@ class Library:
         """What went wrong last; "" where nothing did."""
         return "".join(self.lines("error"))
 
-    def clock(self) -> Optional[Callable[[], int]]:
-        """The clock of timeouts for devices that are asked; None of a library that answers no calls within a device's function."""
-        return (lambda: int(self.c.tirnouch_now())) if hasattr(self.c, "tirnouch_trace") else None
+    def clock(self) -> int:
+        """The clock of timeouts, in milliseconds, which a device's method may ask for, too."""
+        return int(self.c.tirnouch_now())
 
-    def begin(self, text: bytes, seed: int, trace: Optional[str], is_virtual: bool) -> int:
+    def begin(self, text: bytes, seed: int, trace: Trace, is_virtual: bool) -> int:
         """The bus begins: the status."""
-        options = Options(ctypes.sizeof(Options), text, len(text), os.fsencode(trace) if trace else None, seed, 0, int(is_virtual))
+        file = None if isinstance(trace, bool) or trace is None else os.fsencode(trace)
+        options = Options(ctypes.sizeof(Options), text, len(text), file, seed, 0, int(is_virtual), int(trace is True))
         return self.call("begin", ctypes.byref(options))
-
-    def plug(self, text: bytes) -> int:
-        """The text of the buses that contexts begin: the status."""
-        return self.call("plug", text, ctypes.c_size_t(len(text)))
 
     def took(self, device: int, endpoint: int, index: int) -> bytes:
         """A packet that a device took. IndexError past the last."""

@@ -109,7 +109,7 @@ def fill(device: Device, address: int, room: int) -> Optional[Answer]:
     method = device._method(endpoint)
     answer = method(room) if method else None
     if answer is None:
-        return NAK
+        return None if device._queues[address] else NAK     # the method may have sent something
     answer = judged(device, endpoint.name, answer, True)
     if isinstance(answer, Answer):
         return said(device, address, answer)

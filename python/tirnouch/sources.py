@@ -128,23 +128,24 @@ class TextFault(NamedTuple):
 
 
 class Becomes:
-    """Two devices, of which the second one stands at the port of the first one when that has left."""
+    """Devices, of which each stands at the port of the one before when that has left."""
 
-    def __init__(self, first: Any, then: Any) -> None:
-        self.given = (first, then)
-        for it in self.given:
-            if not isinstance(it, Device) and not (isinstance(it, type) and issubclass(it, Device)):
-                raise TypeError(f"becomes takes two devices, as becomes(Loader, Meter), and not {it!r}; a text says it by a line "
-                                "`comes back 0 as 1`")
+    def __init__(self, *devices: Any) -> None:
+        self.given = devices
+        wrong = [it for it in devices if not isinstance(it, Device) and not (isinstance(it, type) and issubclass(it, Device))]
+        if wrong or len(devices) < 2:
+            raise TypeError(f"becomes takes two devices or more, as becomes(Loader, Meter), and not {wrong[0] if wrong else devices!r}; a "
+                            "text says it by a line `comes back 0 as 1`")
 
     def devices(self) -> List[Device]:
         """The devices: of a class a new one for each bus."""
         return [it() if isinstance(it, type) else it for it in self.given]
 
 
-def becomes(first: Any, then: Any) -> Becomes:
-    """A firmware loader: where `first` leaves (GONE, or `replug`), it comes back as `then`, which has the next number in the bus."""
-    return Becomes(first, then)
+def becomes(*devices: Any) -> Becomes:
+    """A firmware loader: where the first device leaves (GONE, or `replug`), it comes back as the second one, and that as the third, where
+    there is one. They have the next numbers in the bus."""
+    return Becomes(*devices)
 
 
 def text(lines: str, lenient: bool = False) -> Text:

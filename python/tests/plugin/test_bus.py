@@ -1,6 +1,7 @@
 """Buses of a test's own, over the library itself: what libusb's manual says of each error is what a driver is told."""
 from __future__ import annotations
 
+import pathlib
 from typing import Any, Iterator, List
 
 import pytest
@@ -83,6 +84,22 @@ def test_time_passes_by_itself_and_by_a_call(bus: t.Bus, program: Program) -> No
     assert bus.now() == 460
     bus.advance(40)
     assert bus.now() == 500
+
+
+class Sender(t.Device):
+    """Its method sends what is read, and returns nothing."""
+
+    ids = (0x1209, 0x4D31)
+    config = t.config(t.bulk_in(0x81, 64))
+
+    def in_81(self, _room: int) -> None:
+        self.send(0x81, b"sent")
+
+
+@pytest.mark.tirnouch(Sender, time="virtual")
+def test_what_an_asked_method_sends_is_read_at_once(bus: t.Bus, program: Program) -> None:
+    assert program.open(0x1209, 0x4D31)
+    assert (program.read(0x81, 64, 1000), bus.now()) == (b"sent", 0)
 
 
 @pytest.mark.tirnouch(Meter, time="virtual")
@@ -218,6 +235,36 @@ def test_a_bus_without_pytests_fixture() -> None:
         assert not program.open(0x1209, 0x4D31)
     finally:
         program.end()
+
+
+def test_a_trace_in_memory_is_that_of_the_file(tmp_path: pathlib.Path) -> None:
+    """The lines that docs/FORMATS.md has for a device and a read. A device's methods may ask for it, too."""
+    class Asking(Meter):
+        seen = 0
+
+        def in_81(self, room: int) -> Any:
+            self.seen = len(bus.trace())
+            assert bus.now() == 0 and bus.left()
+            with pytest.raises(RuntimeError, match="advance isn't called from a method"):
+                bus.advance(1)
+            return b"\x08"
+
+    found = []
+    for trace in (True, tmp_path / "trace"):
+        device = Asking()
+        with t.bus(device, trace=trace, time="virtual") as bus:
+            program = Program()
+            try:
+                assert program.open(0x1209, 0x4D31)
+                assert program.read(0x81, 64, 1000) == b"\x08"
+            finally:
+                program.end()
+        found.append(bus.trace())
+        assert (device.seen > 0) == (trace is True)
+    assert any(it.startswith("submit ") and " 81 bulk 64 " in it for it in found[0])
+    assert found[1] == []
+    files = sorted(tmp_path.glob("trace*"))
+    assert [it for it in found[0] if not it.startswith("# file ")] == [line for it in files for line in it.read_text().splitlines()]
 
 
 def test_behind_with_an_exception_of_a_device_is_raised() -> None:

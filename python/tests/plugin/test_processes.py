@@ -1,6 +1,9 @@
 """Several processes of pytest-xdist: each has a bus of its own."""
+import os
 import pathlib
 import re
+import subprocess
+import sys
 from typing import Any
 
 import pytest
@@ -77,23 +80,105 @@ def test_each_package_finds_the_devices_of_each_test(run: Any, package: str) -> 
     result.assert_outcomes(passed=4)
 
 
-def test_a_context_that_is_left_open_is_told_and_harms_no_other_test(run: Any) -> None:
-    """An error of that test, where the library refuses to end its bus while a context is open."""
-    usb1 = pytest.importorskip("usb1")
-    assert usb1
+def test_a_context_that_is_left_open_has_the_devices_of_the_next_test(run: Any) -> None:
+    """By tirnouch.h, `tirnouch_begin` and `tirnouch_end`."""
+    pytest.importorskip("usb1")
     result = run("""
         import usb1
+        CONTEXTS = []
+
+        def is_there(context):
+            return context.getByVendorIDAndProductID(0x1209, 0x4d31) is not None
 
         @pytest.mark.tirnouch(Meter)
         def test_leaves_it(bus):
-            context = usb1.USBContext()
-            context.open()
-            context.itself = context
+            CONTEXTS.append(usb1.USBContext().open())
+            assert is_there(CONTEXTS[0])
+
+        def test_without_a_device(bus):
+            assert not is_there(CONTEXTS[0])
 
         @pytest.mark.tirnouch(Meter)
         def test_another(bus):
             assert driver.ask(21) == 42
+            assert is_there(CONTEXTS[0])
+
+        def test_without_a_bus():
+            assert not is_there(CONTEXTS[0])
+            CONTEXTS[0].close()
         """)
-    outcomes = result.parseoutcomes()
-    assert outcomes.get("passed") == 2
-    assert outcomes.get("errors", 0) <= 1
+    result.assert_outcomes(passed=4)
+
+
+def test_a_context_that_is_open_before_a_test(run: Any) -> None:
+    """A bus that has no devices makes room."""
+    pytest.importorskip("usb1")
+    result = run("""
+        import usb1
+        CONTEXT = usb1.USBContext().open()
+
+        @pytest.mark.tirnouch(Meter)
+        def test_takes_its_place(bus):
+            assert CONTEXT.getByVendorIDAndProductID(0x1209, 0x4d31)
+            CONTEXT.close()
+
+        def test_by_plug():
+            with t.plug(Meter()), usb1.USBContext() as context:
+                with pytest.raises(t.LibraryError, match="another `with` began"):
+                    t.bus(Meter())
+                assert context.getByVendorIDAndProductID(0x1209, 0x4d31)
+
+        @pytest.mark.tirnouch(Meter)
+        def test_goes_on(bus):
+            assert driver.ask(21) == 42
+        """)
+    result.assert_outcomes(passed=3)
+
+
+def test_the_devices_of_the_environment_stay(run: Any, tmp_path: pathlib.Path) -> None:
+    """One process, whose context has the devices of TIRNOUCH_DEVICES: a bus of a test is refused until that is closed."""
+    pytest.importorskip("usb1")
+    source = tmp_path / "it.py"
+    source.write_text("import tirnouch as t, usb1\nfrom tirnouch.library import load\nusb1.loadLibrary(load().c)\n"
+                      "with usb1.USBContext() as context:\n    assert context.getByVendorIDAndProductID(0x1209, 0x0005)\n    try:\n"
+                      "        t.bus()\n    except t.LibraryError as error:\n        print(error)\nwith t.bus():\n    print('a bus')\n")
+    run("def test_nothing(): pass")
+    environment = {**os.environ, "TIRNOUCH_DEVICES": "keyboard.txt", "PYTHONPATH": str(pathlib.Path(tirnouch.__file__).parent.parent)}
+    ran = subprocess.run([sys.executable, source], env=environment, capture_output=True, text=True, timeout=60, check=False)
+    assert (ran.returncode, ran.stderr) == (0, "")
+    told, begun = ran.stdout.splitlines()
+    assert "which a context of libusb began with the devices that TIRNOUCH_DEVICES names" in told
+    assert begun == "a bus"
+
+
+def test_a_bus_isnt_ended_within_a_callback(run: Any) -> None:
+    pytest.importorskip("usb1")
+    result = run("""
+        import usb1
+
+        def test_ends_it():
+            said = []
+            with t.bus(Meter, limit="300ms") as bus, usb1.USBContext() as context:
+                handle = context.openByVendorIDAndProductID(0x1209, 0x4d31)
+                handle.claimInterface(0)
+
+                def end(transfer):
+                    try:
+                        bus.close()
+                    except t.LibraryError as error:
+                        said.append(str(error))
+
+                write = handle.getTransfer()
+                write.setBulk(0x02, b"a", end)
+                write.submit()
+                while write.isSubmitted():
+                    context.handleEvents()
+                assert said and "isn't ended within a callback" in said[0]
+                assert handle.bulkRead(0x81, 64) == bytes([2 * ord("a")])
+                with pytest.raises(usb1.USBErrorNoDevice):  # by the limit, which goes on
+                    handle.bulkRead(0x81, 64)
+                assert bus.limit.told
+                handle.close()
+                bus.limit.told = ""
+        """)
+    result.assert_outcomes(passed=1)

@@ -144,7 +144,7 @@ def test_what_isnt_a_source(tmp_path: pathlib.Path) -> None:
                     (lambda: t.recorded(tmp_path / "none.pcap"), t.SourceError, "there is no file .*none.pcap"),
                     (lambda: t.recorded(tmp_path / "x.pcap", device="meter"), t.SourceError, "as \"1209:0002\""),
                     (lambda: t.recorded(tmp_path / "x.pcap", umockdev="a", descriptors="b"), t.SourceError, "say one of"),
-                    (lambda: t.becomes(Echo, 5), TypeError, "becomes takes two devices"))
+                    (lambda: t.becomes(Echo, 5), TypeError, "becomes takes two devices or more, .* not 5"))
     for call, error, sentence in refused:
         with pytest.raises(error, match=sentence):
             call()
