@@ -1,5 +1,5 @@
 """Devices of base classes by pyusb: an instrument; and an application that takes firmware by a loader, by DFU 1.1: DFU_DETACH is request 0,
-DNLOAD 1, GETSTATUS 3, and a status has its state at offset 4: dfuDNBUSY is 4, dfuDNLOAD-IDLE 5 (3 and 6.1.2)."""
+DNLOAD 1, GETSTATUS 3, and a status has its state at offset 4: dfuDNBUSY is 4, dfuDNLOAD-IDLE 5, dfuMANIFEST 7, dfuIDLE 2 (3, 6.1.2)."""
 import pytest
 import tirnouch as t
 import usb.core
@@ -35,16 +35,16 @@ def test_a_supply_is_set(bus):
     assert bus.now() == 50
 
 
-class Application(t.Scpi, t.dfu.Runtime):
-    ids = (0x1209, 0x0037)
-
-
 class Loader(t.Dfu):
     ids = (0x1209, 0x0033)
     will_detach = True
 
     def manifested(self, firmware):
         return t.dfu.Status.ERR_FIRMWARE if b"2" not in firmware else None
+
+
+class Application(t.Scpi, t.dfu.Runtime):
+    ids = (0x1209, 0x0037)
 
 
 class Updated(Application):
@@ -59,9 +59,11 @@ def test_an_application_is_updated(bus):
         application.ctrl_transfer(0x21, DETACH, 1000, 1)
     loader = usb.core.find(idVendor=0x1209, idProduct=0x0033)
     states = []
+    for block, data in enumerate([b"version 2", b""]):
+        loader.ctrl_transfer(0x21, DNLOAD, block, 0, data)
+        states += [loader.ctrl_transfer(0xA1, GETSTATUS, 0, 0, 6)[4] for _ in range(2)]
+    assert states == [4, 5, 7, 2]
+    loader.reset()
     with pytest.raises(usb.core.USBError):
-        for block, data in enumerate([b"version 2", b""]):
-            loader.ctrl_transfer(0x21, DNLOAD, block, 0, data)
-            states += [loader.ctrl_transfer(0xA1, GETSTATUS, 0, 0, 6)[4] for _ in range(2)]
-    assert states == [4, 5]
+        loader.ctrl_transfer(0xA1, GETSTATUS, 0, 0, 6)
     assert usb.core.find(idVendor=0x1209, idProduct=0x0037).bcdDevice == 0x0200
