@@ -29,6 +29,8 @@ OPTIONAL = {"usb1": "python3-libusb1", "hid": "python3-hid", "xdist": "python3-p
 CHECKERS = {"mypy": ["mypy", "--config-file", "pyproject.toml"], "ruff": ["ruff", "check", "."]}
 STEERING = ("TIRNOUCH_", "LIBUSB_DEBUG", "PYTEST_")
 SECONDS = 300
+# A program that ends with 0 where the stick of tirnouch.devices is there.
+FIND = "import sys, usb.core\nsys.exit(usb.core.find(idVendor=0x1209, idProduct=0x0007) is None)"
 # What pytest's manual says of its exit codes: all passed; some failed.
 PASSED, FAILED = 0, 1
 
@@ -128,6 +130,9 @@ def wheel_faults(python: str) -> Iterator[str]:
         where = run([alone, "-c", "from tirnouch.library import load\nprint(load().path)"], folder, True)
         if not where.stdout.startswith(str(folder / "venv")):
             yield f"the wheel takes another library: {where.stdout}{where.stderr}"
+        (folder / "disk.img").write_bytes(bytes(512 * 64))
+        serve = [alone, "-m", "tirnouch", "serve", "tirnouch.devices.stick disk.img", "--", alone, "-c", FIND]
+        yield from judge("the wheel's tirnouch.devices", run(serve, folder, True), 0)
 
 
 def main(words: Sequence[str]) -> int:

@@ -163,11 +163,28 @@ def test_serve(tmp_path: pathlib.Path, words: List[str]) -> None:
     assert "status 3 in place of 0" in ran.stderr
 
 
+def test_serve_takes_modules_and_words(tmp_path: pathlib.Path) -> None:
+    """A stick of 64 blocks: READ CAPACITY (10) tells the last one, and the bytes of a block (SCSI Block Commands 3, 5.15)."""
+    pytest.importorskip("usb.core")
+    (tmp_path / "my disk.img").write_bytes(bytes(512 * 64))
+    (tmp_path / "read.py").write_text("import struct, usb.core\n"
+                                      "stick = usb.core.find(idVendor=0x1209, idProduct=0x0007)\n"
+                                      "stick.write(2, struct.pack('<4sIIBBB16s', b'USBC', 1, 8, 0x80, 0, 10, bytes([0x25])))\n"
+                                      "print(*struct.unpack('>II', bytes(stick.read(0x81, 8))))\n")
+    for word in ("tirnouch.devices.stick 'my disk.img'", "tirnouch.devices.stick:Stick 'my disk.img' 512"):
+        ran = serve(tmp_path, word, "--", sys.executable, "read.py")
+        assert (ran.returncode, ran.stdout, ran.stderr) == (0, "63 512\n", "")
+
+
 def test_what_serve_refuses(tmp_path: pathlib.Path) -> None:
     for given, status, sentence in ((("meter.py",), 2, "which program? Put it behind --"),
                                     (("two.py", "--", "true"), 2, "two.py has 2 devices: say which, as two.py:Meter"),
                                     (("two.py:None", "--", "true"), 2, "has no device None; it has Meter, Other"),
                                     (("none.py", "--", "true"), 2, "there is no file none.py"),
+                                    (("meter.py 5", "--", "true"), 2, "the words of Meter stand behind it, in quotes"),
+                                    (("tirnouch.devices.stick", "--", "true"), 2, "as \"tirnouch.devices.stick WORD\": missing"),
+                                    (("tirnouch.devices.none", "--", "true"), 127, "tirnouch.devices.none"),
+                                    (("tirnouch.answers", "--", "true"), 2, "tirnouch.answers has no device"),
                                     (("none.txt", "--", "true"), 127, "none.txt"),
                                     (("meter.py", "--", "/nowhere/x"), 127, "/nowhere/x"),
                                     (("meter.py", "--limit", "x", "--", "true"), 2, "a limit is"),
