@@ -78,6 +78,23 @@ class Methods(unittest.TestCase):
         self.assertEqual(sorted(Meter.endpoints), [0x02, 0x81, 0x83])
 
 
+    def test_a_method_of_no_endpoint(self) -> None:
+        """A base may have one for its subclasses: what is made of a class is judged where there is no `config`."""
+        class Base(Device):
+            def in_81(self, room: int) -> bytes:
+                return bytes((room,))
+
+        class Whole(Base):
+            config = config(bulk_in(0x81))
+
+        self.assertEqual(Host(Whole()).ask("in 81 7"), "d:07")
+        with self.assertRaisesRegex(ValueError, "Base: the method in_81 answers no endpoint: those that are there are answered by no method"):
+            Base()
+        for name in ("in_82", "in_0x81", "out_1"):
+            with self.assertRaisesRegex(ValueError, f"A: the method {name} answers no endpoint: .* answered by in_81"):
+                type("A", (Whole,), {name: lambda _self, _room: b""})
+
+
 class Descriptors(unittest.TestCase):
     def test_one_interface(self) -> None:
         """Tables 9-10, 9-12 and 9-13; and the lines of docs/DEVICES.md."""

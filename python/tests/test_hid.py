@@ -8,6 +8,7 @@ import unittest
 from typing import Any, Dict, List, Optional, Tuple, Type, Union
 from unittest import mock
 
+import tirnouch
 from tests.drivers import drive, lacking_driver, program_line
 from tests.harness import DEVICES, Host, Stalled, told
 from tests.libusb import PATH, Program, lacking
@@ -88,6 +89,11 @@ class Classes(unittest.TestCase):
     def made(self, **words: Any) -> Any:
         """A class with these attributes."""
         return type("Wrong", (Hid,), {"report_descriptor": keyboard(), **words})
+
+    def test_a_configuration_of_its_own_is_refused(self) -> None:
+        for base in (Hid, tirnouch.Serial, tirnouch.Dfu):
+            with self.assertRaisesRegex(TypeError, f"A: {base.__name__} has endpoints of its own, so `config` isn't said with it"):
+                type("A", (base,), {"config": tirnouch.config(interrupt_in(0x84))})
 
     def test_what_is_refused_where_a_class_is_made(self) -> None:
         wrong: List[Tuple[Dict[str, Any], Type[Exception], str]] = [

@@ -6,6 +6,7 @@ import contextlib
 import importlib
 import importlib.util
 import inspect
+import os
 import pathlib
 import shlex
 import signal
@@ -15,13 +16,16 @@ from typing import Any, List, NoReturn, Optional, Sequence
 
 from tirnouch import Device, LibraryError, SourceError, file, recorded
 from tirnouch.programs import begun
+from tirnouch.sources import USBTRACE, place_of
 
-USAGE = "python3 -m tirnouch serve DEVICES .. [--seed N] [--virtual] [--limit TIME] [--trace FILE] [--library FILE] -- PROGRAM .."
+USAGE = """python3 -m tirnouch serve DEVICES .. [--seed N] [--virtual] [--limit TIME] [--trace FILE] [--library FILE] -- PROGRAM ..
+       python3 -m tirnouch usbtrace WORD .."""
 TEXT = """Runs a program that uses libusb 1.0, unchanged, over devices. DEVICES are files: meter.py, which has one class of
 tirnouch.Device, or meter.py:Meter for one of several, or a module in its place, as tirnouch.devices.stlink; a capture, .pcap or .pcapng; or
 else a text of devices. The words of a class stand behind its name, in quotes: "tirnouch.devices.stick disk.img". The status is the
 program's; 3 where that is 0 and it wrote something else than is expected, 1 where it is 0 and a device's method raised an exception, 124
-where the limit ended it, 2 where these words are wrong, 126 or 127 where there is no such program, or no library."""
+where the limit ended it, 2 where these words are wrong, 126 or 127 where there is no such program, or no library. The other form is usbtrace,
+as `usbtrace explain < trace`."""
 WRONG, DIFFERS, FAILED, NOT_RUN, NOT_THERE = 2, 3, 1, 126, 127
 CAPTURES = (".pcap", ".pcapng")
 
@@ -102,8 +106,18 @@ def serve(asked: argparse.Namespace, program: Sequence[str]) -> int:
     return 128 - status if status < 0 else status or (DIFFERS if report else FAILED if faults else 0)
 
 
+def usbtrace(words: Sequence[str]) -> NoReturn:
+    """The program of traces, that of the wheel or of the repository, in the place of this one."""
+    program = place_of(USBTRACE)
+    if program is None:
+        stop(NOT_THERE, f"there is no {USBTRACE[-1]}: build it by `make run`; a wheel that is built behind that has it")
+    os.execv(program, [str(program), *words])
+
+
 def main(words: List[str]) -> int:
     """The status."""
+    if words[:1] == ["usbtrace"]:
+        usbtrace(words[1:])
     parser = argparse.ArgumentParser(prog="python3 -m tirnouch", usage=USAGE, description=TEXT)
     parser.add_argument("command", choices=["serve"])
     parser.add_argument("devices", nargs="+")

@@ -24,6 +24,9 @@ class Renewed(Device):
         owners = [it.__name__ for it in cls.__mro__ if vars(it).get("_has_first_interface")]
         if len(owners) > 1:
             raise TypeError(f"{cls.__name__}: interface 0 is {owners[0]}'s or {owners[1]}'s: a class has one of them as a base")
+        if owners and vars(cls).get("config") is not None:
+            raise TypeError(f"{cls.__name__}: {owners[0]} has endpoints of its own, so `config` isn't said with it: further ones are "
+                            "attributes, as more = bulk_in(0x84)")
         super().__init_subclass__(**words)
 
     def __new__(cls, *words: Any, **named: Any) -> Any:

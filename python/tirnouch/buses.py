@@ -3,8 +3,9 @@ from __future__ import annotations
 
 import atexit
 import os
+import re
 import traceback
-from typing import Any, Dict, Iterator, List, NamedTuple, Optional, Union
+from typing import Any, Dict, Iterator, List, NamedTuple, Optional, Tuple, Union
 
 from tirnouch import contexts
 from tirnouch.device import Device
@@ -19,6 +20,7 @@ MOST_DEVICES = 16
 MOST_SEED = (1 << 64) - 1
 TIMES = ("real", "virtual")
 Entry = Union[Device, Text, Becomes]
+LINE = re.compile("the text of tirnouch_begin, line ([0-9]+)")
 # Why a bus doesn't begin.
 ANOTHER = "there is a bus already, which another test or another `with` began: it ends first, since a process has one"
 OF_CONTEXTS = ("there is a bus already, which a context of libusb began with the devices that TIRNOUCH_DEVICES names, or this is within a "
@@ -43,6 +45,7 @@ class Differs(AssertionError):
 
 def entry_of(it: Any) -> Entry:
     """What a bus takes as devices."""
+    __tracebackhide__ = True
     given = it
     if callable(it) and not isinstance(it, Device):
         it = it()
@@ -63,6 +66,7 @@ class Places:
         self.successors: Dict[int, int] = {}
         self.lenient: List[int] = []
         self.text = ""
+        self.begins: List[Tuple[int, str]] = []     # behind which line of the text each entry's begin, and what it is called
         for it in entries:
             self.add(it)
         found = [it for it in self.devices if it is not None]
@@ -74,6 +78,7 @@ class Places:
     def add(self, entry: Entry) -> None:
         """The devices of an entry have the next numbers."""
         first = len(self.devices)
+        self.begins.append((self.text.count("\n"), entry.name if isinstance(entry, Text) else f"the text of device {first}"))
         if isinstance(entry, Text):
             self.text += entry.text(first)
             self.devices += [None] * entry.count
@@ -89,6 +94,14 @@ class Places:
             line = f"comes back {number} as {number + 1}\n"
             self.text += "" if line in self.text else line      # one of dfu.chain says it itself
             self.successors[number] = number + 1
+
+    def placed(self, sentence: str) -> str:
+        """A sentence about a line of the whole text, as one about a line of the entry that has it."""
+        found = LINE.match(sentence)
+        if not found:
+            return sentence
+        begins, name = max(it for it in self.begins if it[0] < int(found[1]))
+        return f"{name}, line {int(found[1]) - begins}{sentence[found.end():]}"
 
     def is_lenient(self, line: str) -> bool:
         """Whether a difference is of a device whose program may write what it wants."""
@@ -141,11 +154,12 @@ class Bus:
 
     def begin(self, time: str, trace: Trace, limit: Optional[int]) -> None:
         """It begins now. LibraryError where there is another one, or a line isn't taken."""
+        __tracebackhide__ = True
         status = self.library.begin(self.places.text.encode("utf-8"), self.seed, trace, time == "virtual")
         if status == BUSY:
             raise LibraryError(ANOTHER if OPEN else OF_CONTEXTS)
         if status:
-            raise LibraryError(self.library.error() or sentence(status))
+            raise LibraryError(self.places.placed(self.library.error()) or sentence(status))
         self.is_open = True
         OPEN.append(self)
         contexts.introduce(self.library)
@@ -283,7 +297,9 @@ def bus(*devices: Any, seed: int = 0, time: str = "real", trace: Trace = None, l
     """A bus with these devices, numbered 0, 1, ..: objects or classes of Device, text(..), file(..), recorded(..), becomes(..). It begins
     now, and ends behind `with`, or by `close`. `seed`, from 1 on, makes devices and controller go ahead by dice; 0 is none. With the time
     "virtual" it passes where nothing else is to be done, and then at once. `trace` is a file for its steps; True keeps them for
-    `trace()`. `limit`, as "10s", pulls all devices out when it is over, and raises LimitOver. `library` is the path of Tirnouch's libusb-1.0.so.0."""
+    `trace()`. `limit`, as "10s", pulls all devices out when it is over, and raises LimitOver. `library` is the path of Tirnouch's
+    libusb-1.0.so.0."""
+    __tracebackhide__ = True
     if isinstance(seed, bool) or not isinstance(seed, int) or not 0 <= seed <= MOST_SEED:
         raise ValueError(f"a seed is a whole number, 0 for none, to {MOST_SEED}, and not {seed!r}")
     if time not in TIMES:
@@ -293,6 +309,7 @@ def bus(*devices: Any, seed: int = 0, time: str = "real", trace: Trace = None, l
 
 def begun(made: Bus, time: str, trace: Trace, limit: Optional[int]) -> Bus:
     """A bus that begins; where it can't, its devices are free for another."""
+    __tracebackhide__ = True
     try:
         made.begin(time, trace, limit)
     except BaseException:

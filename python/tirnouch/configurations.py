@@ -10,7 +10,7 @@ from tirnouch.descriptors import SIZES, Interface
 from tirnouch.endpoints import Endpoint, whole
 
 MOST_INTERFACES, MOST_SETTING, MOST_POWER = 32, 255, 500
-METHOD = re.compile(r"(in|out)_([0-9a-fA-F]{1,2})")
+METHOD = re.compile(r"(in|out)_(0x)?([0-9a-fA-F]{1,2})")
 
 
 class Part(NamedTuple):

@@ -72,6 +72,7 @@ class Device:
         """What the base class keeps is made here, so that a class's own __init__ needn't call this one's."""
         if "pytestmark" in vars(cls) and len(words) == 1 and callable(words[0]):
             return marked(cls, words[0])
+        configurations.check_methods(cls, cls.__name__)
         device = super().__new__(cls)
         device._queues = collections.defaultdict(collections.deque)
         device._wake = device._watcher = device._clock = None
@@ -168,6 +169,7 @@ class Device:
         return None if isinstance(method, Endpoint) else method
 
     def _endpoint(self, endpoint: Union[int, Endpoint]) -> Endpoint:
+        __tracebackhide__ = True
         address = endpoint.address if isinstance(endpoint, Endpoint) else endpoint
         if not isinstance(address, int):
             raise TypeError(f"{self}: an endpoint is its address, as 0x81, and not {endpoint!r}")

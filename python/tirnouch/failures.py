@@ -2,11 +2,13 @@
 where the trace and its picture are."""
 from __future__ import annotations
 
+import os
 import pathlib
 import re
 import shlex
 import shutil
 import subprocess
+import sys
 from typing import Any, Dict, List, Optional, Tuple
 
 from tirnouch.buses import Bus
@@ -15,6 +17,8 @@ from tirnouch.sources import USBTRACE, place_of
 # So many steps are shown, and so many are drawn; of the seeds of a test so many are drawn in a process.
 SHOWN, DRAWN, MOST_DRAWN = 12, 2000, 2
 SECONDS = 60
+# The Python of this run, as it is called: that of an environment by its path.
+PYTHON = "python3" if os.path.basename(sys.executable) == "python3" and shutil.which("python3") == sys.executable else sys.executable
 SEED = re.compile(r"(?<=[\[-])seed[0-9]+(?=[]-])")
 Record = Dict[str, Any]
 DRAWN_OF: Dict[str, int] = {}
@@ -62,7 +66,7 @@ class Run:
         """The words that play it again."""
         name = self.item.nodeid
         more = f" --tirnouch-seed {self.seed}" if self.seed and not SEED.search(name) else ""
-        return f"python3 -m pytest {shlex.quote(name)}{more}"
+        return f"{PYTHON} -m pytest {shlex.quote(name)}{more}"
 
     def section(self, item: Any) -> str:
         """The section of its report."""
@@ -70,6 +74,7 @@ class Run:
         if self.text:
             return self.text
         lines = [f"seed {self.seed}" if self.seed else "no seed", f"play it again: {self.again()}"]
+        lines += [f"fault: device {it.number}, {it.described}: {line}" for it in self.bus for line in it.fell()]
         lines += [line for it in self.bus.faults for line in (str(it), *it.traceback.splitlines())]
         lines += self.ended or (self.sentences() if self.bus.is_open else [])
         try:
@@ -101,7 +106,7 @@ class Run:
         of = SEED.sub("", self.item.nodeid)
         DRAWN_OF[of] = DRAWN_OF.get(of, 0) + 1
         if self.seed and DRAWN_OF[of] > MOST_DRAWN:
-            return f"draw it: usbtrace draw --html < {trace} > {trace}.html"
+            return f"draw it: {PYTHON} -m tirnouch usbtrace draw --html < {trace} > {trace}.html"
         return draw(trace)
 
     def record(self) -> Record:

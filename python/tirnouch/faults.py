@@ -4,13 +4,15 @@ from __future__ import annotations
 
 import collections
 import random
-from typing import Counter, Dict, List, NamedTuple, Optional, Tuple, Union
+from typing import Counter, Deque, Dict, List, NamedTuple, Optional, Tuple, Union
 
 from tirnouch.answers import BROKEN, GONE, SILENT, STALL, Answer, later
 from tirnouch.endpoints import Fields, Request, whole
 
 KINDS = (STALL, BROKEN, SILENT, GONE)
 MOST_PACKETS = (1 << 32) - 1
+# So many faults that happened are kept.
+MOST_TOLD = 10
 Key = Tuple[int, int, int, int]
 
 
@@ -54,12 +56,15 @@ class Faults:
         self.of_requests: List[OfRequests] = []
         self.moved: Counter[int] = collections.Counter()
         self.asked: Counter[Key] = collections.Counter()
+        # What happened, the last ones
+        self.fell: Deque[str] = collections.deque(maxlen=MOST_TOLD)
 
     def begin(self, number: int, seed: int) -> None:
         """The device is of a bus: its number there, and the run's seed. Nothing is to happen."""
         self.seed, self.number = seed, number
         self.of_packets.clear()
         self.of_requests.clear()
+        self.fell.clear()
         self.renew()
 
     def renew(self) -> None:
@@ -80,8 +85,11 @@ class Faults:
 
     def at_packet(self, address: int) -> Optional[Answer]:
         """What happens in the place of a packet that is to move now; None where it moves."""
-        faults = self.of_packets.get(address)
-        return next((it.answer for it in faults if it.falls(self.moved[address])), None) if faults else None
+        faults, index = self.of_packets.get(address), self.moved[address]
+        answer = next((it.answer for it in faults if it.falls(index)), None) if faults else None
+        if answer:
+            self.fell.append(f"packet {index} at {address:02x}: {answer}")
+        return answer
 
     def count_packet(self, address: int) -> None:
         """A packet moved."""
@@ -90,7 +98,9 @@ class Faults:
     def at_request(self, request: Request) -> Optional[Answer]:
         """What happens in the place of a request."""
         for fields, fault in self.of_requests:
-            if fields.fit(request) and fault.falls(self.requests(fields)):
+            index = self.requests(fields)
+            if fields.fit(request) and fault.falls(index):
+                self.fell.append(f"request {request.type:02x} {request.request:02x}, {index} of its kind: {fault.answer}")
                 return fault.answer
         return None
 

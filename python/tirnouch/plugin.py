@@ -96,6 +96,7 @@ def bus(request: pytest.FixtureRequest, tirnouch_seed: int, tirnouch_traces: pat
         monkeypatch: pytest.MonkeyPatch) -> Iterator[Bus]:
     """The bus of the marker's devices, by their numbers bus[0], bus[1], ..; without devices it is an empty one. The library tells on
     standard error why a transfer doesn't end, unless LIBUSB_DEBUG says how much it tells."""
+    __tracebackhide__ = True
     devices, words = marked(request.node)
     if "LIBUSB_DEBUG" not in os.environ:
         monkeypatch.setenv("LIBUSB_DEBUG", "2")

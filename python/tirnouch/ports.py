@@ -57,6 +57,10 @@ class Port:
 
     # It fails
 
+    def fell(self) -> List[str]:
+        """Which faults happened since the bus began, the last ones, a sentence each."""
+        return list(self.device._faults.fell) if self.device else []
+
     def at(self, endpoint: Union[int, Endpoint], index: int) -> Packet:
         """The packet of this index at an endpoint, counted from 0 since the device was plugged in: `.fail(kind)`, `.delay(ms)`. ValueError
         where it is past, or the device has no such endpoint."""

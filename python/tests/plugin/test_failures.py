@@ -1,6 +1,9 @@
 """What fails a test, and what its report says: by the rules of docs/PYTHON.md."""
+import os
 import pathlib
 import re
+import shutil
+import sys
 from typing import Any, List
 
 import pytest
@@ -63,7 +66,10 @@ def test_the_section_of_a_failing_test(run: Any) -> None:
         """)
     result.assert_outcomes(failed=1)
     lines = section(result)
-    assert lines[:2] == ["seed 4", "play it again: python3 -m pytest test_it.py::test_asks --tirnouch-seed 4"]
+    assert lines[0] == "seed 4"
+    python, again = lines[1].partition("play it again: ")[2].split(" ", 1)
+    assert again == "-m pytest test_it.py::test_asks --tirnouch-seed 4"
+    assert os.path.samefile(str(shutil.which(python)), sys.executable)
     # The answer, as the trace of the device's core has it (docs/DEVICES.md)
     assert "    feed 0 81 d:2a" in lines
     trace = next(pathlib.Path(it.partition(": ")[2]) for it in lines if it.startswith("its trace: "))
@@ -72,6 +78,20 @@ def test_the_section_of_a_failing_test(run: Any) -> None:
     if place_of(USBTRACE):
         page = next(pathlib.Path(it.partition(": ")[2]) for it in lines if it.startswith("its picture: "))
         assert page.read_text().startswith("<!DOCTYPE html>")
+
+
+def test_the_section_tells_which_faults_happened(run: Any) -> None:
+    result = run("""
+        @pytest.mark.tirnouch(Meter, time="virtual")
+        def test_asks(bus):
+            bus[0].at(0x81, 1).fail(t.STALL)
+            bus[0].at(0x81, 7).fail(t.BROKEN)
+            bus[0].at_control(0x80, 8, n=0).delay(20)
+            assert driver.ask(21) == 42
+            driver.ask(21)
+        """)
+    result.assert_outcomes(failed=1)
+    assert [it for it in section(result) if it.startswith("fault: ")] == ["fault: device 0, Meter: packet 1 at 81: STALL"]
 
 
 def test_the_words_that_play_it_again_do(run: Any) -> None:
@@ -86,7 +106,7 @@ def test_the_summary_names_the_seed_of_the_fewest_steps(run: Any) -> None:
     result = run(WRONG)
     result.assert_outcomes(passed=3, failed=2)
     result.stdout.fnmatch_lines(["*= tirnouch =*", "test_it.py::test_asks[[]seed[*][]]: 2 seeds fail: 3, 5",
-                                 "*the fewest steps, *, has seed 3: python3 -m pytest 'test_it.py::test_asks[[]seed3[]]'"])
+                                 "*the fewest steps, *, has seed 3: * -m pytest 'test_it.py::test_asks[[]seed3[]]'"])
 
 
 def test_a_passing_test_has_no_section(run: Any) -> None:

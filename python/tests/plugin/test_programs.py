@@ -12,6 +12,7 @@ from typing import Any, List
 import pytest
 
 import tirnouch as t
+from tirnouch.sources import USBTRACE, place_of
 
 PYTHON = pathlib.Path(t.__file__).resolve().parent.parent
 # A driver by ctypes: it sends each word, and prints what is read; its status is 1 where a call fails.
@@ -174,6 +175,19 @@ def test_serve_takes_modules_and_words(tmp_path: pathlib.Path) -> None:
     for word in ("tirnouch.devices.stick 'my disk.img'", "tirnouch.devices.stick:Stick 'my disk.img' 512"):
         ran = serve(tmp_path, word, "--", sys.executable, "read.py")
         assert (ran.returncode, ran.stdout, ran.stderr) == (0, "63 512\n", "")
+
+
+@pytest.mark.skipif(not place_of(USBTRACE), reason="there is no bin/usbtrace: build it by `make run`")
+def test_usbtrace_explains_a_trace(tmp_path: pathlib.Path) -> None:
+    """A scenario's line comes back (docs/FORMATS.md); behind its number, with what it prints; the status is usbtrace's."""
+    words = [sys.executable, "-m", "tirnouch", "usbtrace"]
+    environment = {**os.environ, "PYTHONPATH": str(PYTHON)}
+    device = "device 0 0902190001010080320904000001ff00000007058102080000\n"
+    ran = subprocess.run([*words, "explain"], input=device + "open 1 0\n", env=environment, capture_output=True, text=True, timeout=60,
+                         check=False)
+    assert (ran.returncode, ran.stdout) == (0, "2 open 1 0 | h1 done\n")
+    ran = subprocess.run([*words, "nothing"], env=environment, capture_output=True, text=True, timeout=60, check=False)
+    assert ran.returncode != 0
 
 
 def test_what_serve_refuses(tmp_path: pathlib.Path) -> None:

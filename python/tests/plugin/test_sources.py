@@ -148,8 +148,11 @@ def test_what_isnt_a_source(tmp_path: pathlib.Path) -> None:
     for call, error, sentence in refused:
         with pytest.raises(error, match=sentence):
             call()
-    with pytest.raises(t.LibraryError, match="line 1"):
-        t.bus(t.text("device 0 0902\n"))
+    (tmp_path / "wrong.txt").write_text("# a comment\ndevice 0 0902\n")
+    with pytest.raises(t.LibraryError, match="^the text, line 1, word 3"):
+        t.bus(Echo, t.text("device 0 0902\n"))
+    with pytest.raises(t.LibraryError, match="^.*/wrong.txt, line 2, word 3"):
+        t.bus(Echo, Echo, t.file(tmp_path / "wrong.txt"))
 
 
 @pytest.fixture
