@@ -88,7 +88,7 @@ class Methods(unittest.TestCase):
             config = config(bulk_in(0x81))
 
         self.assertEqual(Host(Whole()).ask("in 81 7"), "d:07")
-        with self.assertRaisesRegex(ValueError, "Base: the method in_81 answers no endpoint: those that are there are answered by no method"):
+        with self.assertRaisesRegex(ValueError, "Base: the method in_81 answers no endpoint: .* answered by no method"):
             Base()
         for name in ("in_82", "in_0x81", "out_1"):
             with self.assertRaisesRegex(ValueError, f"A: the method {name} answers no endpoint: .* answered by in_81"):

@@ -300,8 +300,9 @@ class Plugs(unittest.TestCase):
                 self.assertEqual((bus.now(), bus.seed), (70, 7))
             self.assertTrue(pathlib.Path(folder, "trace").is_file())
         for said in ("x", "-1", str(1 << 64)):
-            with mock.patch.dict(os.environ, {"TIRNOUCH_SEED": said}), self.assertRaisesRegex(ValueError, "TIRNOUCH_SEED is a whole number"):
-                plug(Thing(), library=str(PATH))
+            with mock.patch.dict(os.environ, {"TIRNOUCH_SEED": said}):
+                with self.assertRaisesRegex(ValueError, "TIRNOUCH_SEED is a whole number"):
+                    plug(Thing(), library=str(PATH))
 
     def test_a_device_that_isnt_plugged_in(self) -> None:
         with plug(Thing(), library=str(PATH)) as bus:

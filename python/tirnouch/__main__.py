@@ -24,8 +24,8 @@ TEXT = """Runs a program that uses libusb 1.0, unchanged, over devices. DEVICES 
 tirnouch.Device, or meter.py:Meter for one of several, or a module in its place, as tirnouch.devices.stlink; a capture, .pcap or .pcapng; or
 else a text of devices. The words of a class stand behind its name, in quotes: "tirnouch.devices.stick disk.img". The status is the
 program's; 3 where that is 0 and it wrote something else than is expected, 1 where it is 0 and a device's method raised an exception, 124
-where the limit ended it, 2 where these words are wrong, 126 or 127 where there is no such program, or no library. The other form is usbtrace,
-as `usbtrace explain < trace`."""
+where the limit ended it, 2 where these words are wrong, 126 or 127 where there is no such program, or no library. The other form is
+usbtrace, as `usbtrace explain < trace`."""
 WRONG, DIFFERS, FAILED, NOT_RUN, NOT_THERE = 2, 3, 1, 126, 127
 CAPTURES = (".pcap", ".pcapng")
 

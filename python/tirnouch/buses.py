@@ -207,6 +207,9 @@ class Bus:
     # Its devices
 
     def __getitem__(self, number: int) -> Port:
+        __tracebackhide__ = True
+        if isinstance(number, int) and not -len(self.ports) <= number < len(self.ports):
+            raise IndexError(f"the bus has no device {number}: {', '.join(map(repr, self.ports)) or 'it is empty'}")
         return self.ports[number]
 
     def __len__(self) -> int:
@@ -319,9 +322,9 @@ def begun(made: Bus, time: str, trace: Trace, limit: Optional[int]) -> Bus:
 
 
 def plug(*devices: Device, library: Optional[PathLike] = None) -> Bus:
-    """Plugs devices into this process, with the numbers 0, 1, ..: a bus begins with them, which the variables of docs/C.md steer, till it is
-    closed, or the process ends. Nothing is raised behind it: an exception in a device's method is told on standard error. `library` is the
-    path of Tirnouch's libusb-1.0.so.0."""
+    """Plugs devices into this process, with the numbers 0, 1, ..: a bus begins with them, which the variables TIRNOUCH_SEED, TIRNOUCH_TIME
+    and TIRNOUCH_TRACE steer, till it is closed, or the process ends. Nothing is raised behind it: an exception in a device's method is told
+    on standard error. `library` is the path of Tirnouch's libusb-1.0.so.0."""
     for it in devices:
         if not isinstance(it, Device):
             hint = f": plug({it.__name__}())" if isinstance(it, type) else ""

@@ -306,6 +306,8 @@ def test_what_a_bus_refuses_leaves_none() -> None:
             t.bus(*words, **named)
     with t.bus(device) as bus:
         assert len(bus) == 1
+        with pytest.raises(IndexError, match="the bus has no device 1: <device 0: Meter>"):
+            bus[1].unplug()
         with pytest.raises(t.LibraryError, match="there is a bus already"):
             t.bus(Meter())
         with pytest.raises(ValueError, match="Meter is in a bus already"):
