@@ -4,13 +4,15 @@ from __future__ import annotations
 import ctypes
 import os
 import pathlib
+import subprocess
+import sys
 import tempfile
 import threading
 import unittest
 from typing import Any, List, Optional
 from unittest import mock
 
-from tests.harness import told
+from tests.harness import PYTHON, told
 from tests.libusb import NO_DEVICE, PATH, PIPE, TIMEOUT, Program, lacking
 from tirnouch import GONE, STALL, Bus, Device, Request, bulk_in, bulk_out, control, later, plug
 
@@ -303,6 +305,12 @@ class Plugs(unittest.TestCase):
             with mock.patch.dict(os.environ, {"TIRNOUCH_SEED": said}):
                 with self.assertRaisesRegex(ValueError, "TIRNOUCH_SEED is a whole number"):
                     plug(Thing(), library=str(PATH))
+
+    def test_it_ends_with_the_process(self) -> None:
+        code = "import tirnouch as t\nbus = t.plug(t.Device())\nend = bus.end\nbus.end = lambda: print('ended', end())\n"
+        ran = subprocess.run([sys.executable, "-c", code], env={**os.environ, "PYTHONPATH": str(PYTHON), "TIRNOUCH_LIBRARY": str(PATH)},
+                             capture_output=True, text=True, timeout=60, check=False)
+        self.assertEqual((ran.returncode, ran.stdout, ran.stderr), (0, "ended None\n", ""))
 
     def test_a_device_that_isnt_plugged_in(self) -> None:
         with plug(Thing(), library=str(PATH)) as bus:

@@ -176,7 +176,7 @@ def test_a_bus_isnt_ended_within_a_callback(run: Any) -> None:
                 assert said and "isn't ended within a callback" in said[0]
                 assert handle.bulkRead(0x81, 64) == bytes([2 * ord("a")])
                 with pytest.raises(usb1.USBErrorNoDevice):  # by the limit, which goes on
-                    handle.bulkRead(0x81, 64)
+                    handle.bulkRead(0x81, 64, 5000)
                 assert bus.limit.told
                 handle.close()
                 bus.limit.told = ""
