@@ -53,7 +53,7 @@ class Updated(Application):
 
 @pytest.mark.tirnouch(t.becomes(Application, Loader, Updated), time="virtual")
 def test_an_application_is_updated(bus):
-    application = usb.core.find(idVendor=0x1209, idProduct=0x0037)
+    application, = usb.core.find(find_all=True, idVendor=0x1209)
     assert application.bcdDevice == 0x0100
     with pytest.raises(usb.core.USBError):
         application.ctrl_transfer(0x21, DETACH, 1000, 1)

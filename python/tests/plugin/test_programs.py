@@ -165,16 +165,18 @@ def test_serve(tmp_path: pathlib.Path, words: List[str]) -> None:
 
 
 def test_serve_takes_modules_and_words(tmp_path: pathlib.Path) -> None:
-    """A stick of 64 blocks: READ CAPACITY (10) tells the last one, and the bytes of a block (SCSI Block Commands 3, 5.15)."""
+    """A stick of 64 blocks, or of 32 that are twice as large: READ CAPACITY (10) tells the last one, and the bytes of a block (SCSI Block
+    Commands 3, 5.15)."""
     pytest.importorskip("usb.core")
     (tmp_path / "my disk.img").write_bytes(bytes(512 * 64))
     (tmp_path / "read.py").write_text("import struct, usb.core\n"
                                       "stick = usb.core.find(idVendor=0x1209, idProduct=0x0007)\n"
                                       "stick.write(2, struct.pack('<4sIIBBB16s', b'USBC', 1, 8, 0x80, 0, 10, bytes([0x25])))\n"
                                       "print(*struct.unpack('>II', bytes(stick.read(0x81, 8))))\n")
-    for word in ("tirnouch.devices.stick 'my disk.img'", "tirnouch.devices.stick:Stick 'my disk.img' 512"):
+    for word, told in (("tirnouch.devices.stick 'my disk.img'", "63 512\n"),
+                       ("tirnouch.devices.stick:Stick 'my disk.img' 1024", "31 1024\n")):
         ran = serve(tmp_path, word, "--", sys.executable, "read.py")
-        assert (ran.returncode, ran.stdout, ran.stderr) == (0, "63 512\n", "")
+        assert (ran.returncode, ran.stdout, ran.stderr) == (0, told, "")
 
 
 @pytest.mark.skipif(not place_of(USBTRACE), reason="there is no bin/usbtrace: build it by `make run`")
