@@ -329,6 +329,34 @@ static void warning(void)
     end();
 }
 
+/* Contexts alone are no warning: who asks for information is told of them, and of no more. */
+static void information(void)
+{
+    libusb_context *other;
+    puts("contexts alone are information");
+    answer("plug", plug(""));
+    answer("init", libusb_init(&context));
+    answer("init", libusb_init(&other));
+    libusb_set_option(context, LIBUSB_OPTION_LOG_LEVEL, LIBUSB_LOG_LEVEL_INFO);
+    libusb_set_option(other, LIBUSB_OPTION_LOG_LEVEL, LIBUSB_LOG_LEVEL_WARNING);
+    hear_errors();
+    answer("begin, in place of a bus without devices", begin_bus(STANDARD));
+    show_errors();
+    hear_errors();
+    answer("end", tirnouch_end());
+    show_errors();
+    libusb_exit(other);
+    hear_errors();
+    answer("begin", begin_bus(STANDARD));
+    answer("end", tirnouch_end());
+    show_errors();
+    end();
+    hear_errors();
+    answer("begin without a context", begin_bus(STANDARD));
+    answer("end", tirnouch_end());
+    show_errors();
+}
+
 /* A bus that isn't begun changes nothing for a kept context. */
 static void refused(void)
 {
@@ -357,6 +385,7 @@ int main(void)
     devices_hear_nothing();
     by_environment();
     warning();
+    information();
     refused();
     return 0;
 }
