@@ -113,7 +113,16 @@ static void one_bus(int round, int is_virtual)
         libusb_close(handle);
 }
 
-static void beside_a_handler(const char *name, int is_virtual)
+/* The environment's bus begins with another context, where it isn't there yet. It has no devices, and makes room. */
+static void one_bus_for_a_bare_one(int round, int is_virtual)
+{
+    libusb_context *other;
+    need(!libusb_init(&other), "no other context");
+    one_bus(round, is_virtual);
+    libusb_exit(other);
+}
+
+static void beside_a_handler(const char *name, int is_virtual, void (*bus)(int round, int is_virtual))
 {
     pthread_t thread;
     puts(name);
@@ -123,7 +132,7 @@ static void beside_a_handler(const char *name, int is_virtual)
                                      LIBUSB_HOTPLUG_MATCH_ANY, LIBUSB_HOTPLUG_MATCH_ANY, count_device, NULL, NULL);
     pthread_create(&thread, NULL, handle_events, context);
     for (int i = 0; i < BUSES; i++)
-        one_bus(i, is_virtual);
+        bus(i, is_virtual);
     await(&left_behind, BUSES);
     is_over = 1;
     libusb_interrupt_event_handler(context);
@@ -163,6 +172,7 @@ static int begin_real(void) { return begin_bus(0, 0); }
 /* Each wait of a minute is by the clock of a bus that isn't there any more. */
 static void waits_end(void)
 {
+    libusb_context *other;
     puts("a wait of a minute, as buses begin and end");
     need(!begin_bus(0, 0) && !libusb_init(&context), "no context");
     returns_at("the bus ends", tirnouch_end);
@@ -170,6 +180,10 @@ static void waits_end(void)
     need(!tirnouch_end(), "no end");
     returns_at("one more begins", begin_real);
     returns_at("it ends", tirnouch_end);
+    need(!libusb_init(&other), "no other context");
+    returns_at("one takes the place of the environment's", begin_virtual);
+    need(!tirnouch_end(), "no end");
+    libusb_exit(other);
     libusb_exit(context);
     context = NULL;
 }
@@ -276,8 +290,10 @@ static void memory_stays(void)
 int main(void)
 {
     setvbuf(stdout, NULL, _IOLBF, 0);
-    beside_a_handler("a thread that handles events", 0);
-    beside_a_handler("the same with time that is virtual", 1);
+    tirnouch_plug("", 0);
+    beside_a_handler("a thread that handles events", 0, one_bus);
+    beside_a_handler("the same with time that is virtual", 1, one_bus);
+    beside_a_handler("the same where buses take the place of the environment's", 0, one_bus_for_a_bare_one);
     waits_end();
     beside_readers();
     limits_end();
