@@ -239,6 +239,32 @@ static void outliving(void)
     is_dry = 0;
 }
 
+static int plug_nothing(void) { return tirnouch_plug("", 0); }
+
+/* Contexts are open over the environment's bus, which has no devices, as a test's takes its place. Where that isn't begun there is none. */
+static void in_place(void)
+{
+    struct timeval none = { 0, 0 };
+    told = 0;
+    again("plug", plug_nothing);
+    again("init", init);
+    again("init of another", init_other);
+    again("register", register_it);
+    again("begin in its place", begin_bus);
+    libusb_handle_events_timeout(context, &none);
+    product = 1;
+    again("open", open_it);
+    libusb_close(handle);
+    end_bus();
+    libusb_handle_events_timeout(context, &none);
+    if (told != 4 && !(was_refused && told < 4))
+        fail("told of devices", told);
+    step = "exit";
+    libusb_exit(context);
+    libusb_exit(other);
+    is_dry = 0;
+}
+
 static void (*lives)(void) = life;
 
 /* Whether an allocation was refused: the run had so many. */
@@ -277,5 +303,10 @@ int main(void)
         return 1;
     refuse_each("a context that outlives buses: each allocation alone", 0);
     refuse_each("a context that outlives buses: each with those behind it", 1);
+    lives = in_place;
+    if (run(0, 0))
+        return 1;
+    refuse_each("a bus in the place of one without devices: each allocation alone", 0);
+    refuse_each("a bus in the place of one without devices: each with those behind it", 1);
     return 0;
 }
