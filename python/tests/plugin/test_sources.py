@@ -167,9 +167,9 @@ def capture(tmp_path: pathlib.Path) -> pathlib.Path:
         sys.path.pop(0)
     device = bytes.fromhex("120100020000004009120200000100000001")
     configuration = bytes.fromhex("0902200001010080320904000002ff0000000705810240000007050202400000")
-    written = capture_of.Event(1, "S", 3, 0x02, 5, 1, 0, 0, -115, 1, None, 0, b"\x10")
-    read = capture_of.Event(2, "S", 3, 0x81, 5, 1, 0, 2, -115, 64, None, 0x200, b"")
-    events = [*capture_of.descriptor_read((1, 5), 0, 0x0100, 0, device), *capture_of.descriptor_read((1, 5), 1, 0x0200, 0, configuration),
+    written = capture_of.Event(1, "S", 3, 0x02, 5, 1, 0, 0, -115, 1, None, 0, b"\x10", 1)
+    read = capture_of.Event(2, "S", 3, 0x81, 5, 1, 0, 2, -115, 64, None, 0x200, b"", 3)
+    events = [*capture_of.descriptor_read(written, 0, 0x0100, 0, device), *capture_of.descriptor_read(written, 1, 0x0200, 0, configuration),
               written,
               written._replace(kind="C", status=0, data=b"", microseconds=1), read,
               read._replace(kind="C", status=0, length=1, data=b"\x2a", microseconds=3)]
