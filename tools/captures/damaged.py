@@ -6,7 +6,7 @@ from forms import FORMS
 from scenes import random_scenario
 
 # What may stand on standard error, and the comments of a text.
-REFUSALS = re.compile(rb"usbtrace: the capture is refused: (not a capture|a file header cut short|link type \d+|no usbmon interface)\n")
+REFUSALS = re.compile(rb"usbtrace: the capture is refused: (not a capture|a file header cut short|link type \d+|no interface of usbmon or USBPcap)\n")
 FIRST = r" \(first in frame [1-9]\d*\)"
 COMMENTS = re.compile(
     r"# the capture ends amid a record"

@@ -39,7 +39,7 @@ same : (k x : ℕ) → is_eq (nat_cmp k x) ≡ true → k ≡ x
 same k x e = eqb-true k x (sym (compared k x) ∙ e)
 
 -- the value that was put
-put_here : {V : Type 0} (k : ℕ) (v : V) (es : List (ℕ × V)) → value_at k (with_value k v es) ≡ Some v
+pub put_here : {V : Type 0} (k : ℕ) (v : V) (es : List (ℕ × V)) → value_at k (with_value k v es) ≡ Some v
 put_here k v [] = ap (λ b. cond b (Some v) None) (itself k)
 put_here k v (e ∷ es) = by_order (put_here k v es) (nat_cmp k e.0) refl
   where
@@ -49,7 +49,7 @@ put_here k v (e ∷ es) = by_order (put_here k v es) (nat_cmp k e.0) refl
     by_order ih Greater h = ap (λ o. cond (is_eq o) (Some e.1) (value_at k (with_value k v es))) h ∙ ih
 
 -- those of other numbers stay
-put_apart : {V : Type 0} (q k : ℕ) (v : V) (es : List (ℕ × V)) → (q == k) ≡ false → value_at q (with_value k v es) ≡ value_at q es
+pub put_apart : {V : Type 0} (q k : ℕ) (v : V) (es : List (ℕ × V)) → (q == k) ≡ false → value_at q (with_value k v es) ≡ value_at q es
 put_apart q k v [] n = ap (λ b. cond b (Some v) None) (other q k n)
 put_apart q k v (e ∷ es) n = by_order (put_apart q k v es n) (nat_cmp k e.0) refl
   where
@@ -61,7 +61,7 @@ put_apart q k v (e ∷ es) n = by_order (put_apart q k v es n) (nat_cmp k e.0) r
         ap (λ b. cond b (Some v) (value_at q es)) past ∙ sym (ap (λ b. cond b (Some e.1) (value_at q es)) past)
     by_order ih Greater h = ap (λ l. cond (is_eq (nat_cmp q e.0)) (Some e.1) l) ih
 
-taken_apart : {V : Type 0} (q k : ℕ) (es : List (ℕ × V)) → (q == k) ≡ false → value_at q (without k es) ≡ value_at q es
+pub taken_apart : {V : Type 0} (q k : ℕ) (es : List (ℕ × V)) → (q == k) ≡ false → value_at q (without k es) ≡ value_at q es
 taken_apart q k [] n = refl
 taken_apart q k (e ∷ es) n = by_test (taken_apart q k es n) (is_eq (nat_cmp k e.0)) refl
   where

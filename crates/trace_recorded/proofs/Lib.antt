@@ -12,3 +12,4 @@ mod Hubs
 mod FilesReadBack
 mod Expected
 mod ByKey
+mod AnswersWait

@@ -9,7 +9,7 @@ abbrev pub capture_fault_text : CaptureFault → List ℕ
 capture_fault_text NotACapture = codes "not a capture"
 capture_fault_text HeaderCutShort = codes "a file header cut short"
 capture_fault_text (LinkType link) = codes "link type " ++ decimal link
-capture_fault_text NoInterface = codes "no usbmon interface"
+capture_fault_text NoInterface = codes "no interface of usbmon or USBPcap"
 capture_fault_text Memory = codes "out of memory"
 
 -- the fault is that of the definition, or of memory

@@ -17,6 +17,7 @@ pub mod Requests
 pub mod Scenario
 pub mod Sessions
 pub mod Tables
+pub mod WaitLaws
 pub mod Waits
 pub mod Windows
 pub mod Written

@@ -21,7 +21,7 @@ error_of status =
     if status == 0 then 0
     else if is_one_of (0x80000900 ∷ 0xc0000009 ∷ []) status then 121
     else if is_one_of (0xc0000004 ∷ 0xc0000030 ∷ []) status then 32
-    else if is_one_of (0xc0000001 ∷ 0xc0000002 ∷ 0xc0000003 ∷ 0xc0000005 ∷ 0xc0000006 ∷ 0xc0000007 ∷ 0xc0000011 ∷ []) status then 71
+    else if is_one_of (0xc0000001 ∷ 0xc0000002 ∷ 0xc0000003 ∷ 0xc0000005 ∷ 0xc0000006 ∷ 0xc0000007 ∷ 0xc0000011 ∷ 0xc0000014 ∷ []) status then 71
     else if is_one_of (0xc0000008 ∷ 0xc0000012 ∷ []) status then 75
     else if is_one_of (0xc0010000 ∷ []) status then 2
     else 108
@@ -85,6 +85,10 @@ windows_control frame packet = windows_control_by (direction_of (slice_index pac
 abbrev pub reset_setup : ℕ → ControlSetup
 reset_setup ep = record { request_type = 2; request = 1; value = 0; index = ep; length = 0 }
 
+-- whether a function ends a halt so: URB_FUNCTION_SYNC_RESET_PIPE_AND_CLEAR_STALL, and URB_FUNCTION_SYNC_CLEAR_STALL
+abbrev pub clears_stall : ℕ → Bool
+clears_stall function = is_one_of (0x1e ∷ 0x31 ∷ []) function
+
 abbrev pub setup_of_reset : RecordedType → ℕ → Option ControlSetup
 setup_of_reset Submission ep = Some (reset_setup ep)
 setup_of_reset _ ep = None
@@ -102,5 +106,5 @@ windows_by (Some kind) frame packet = Some (windows_transfer frame kind packet)
 unfoldable pub windows_event : ℕ → List ℕ → Option RecordedEvent
 windows_event frame packet =
     if nat_lt (length packet) 27 then None
-    else if number_at Little 14 2 packet == 0x1e then Some (resets_pipe frame packet)
+    else if clears_stall (number_at Little 14 2 packet) then Some (resets_pipe frame packet)
     else windows_by (kind_of (slice_index packet 22)) frame packet

@@ -32,7 +32,7 @@ impl fmt::Display for CaptureFault {
             CaptureFault::NotACapture => f.write_str("not a capture"),
             CaptureFault::HeaderCutShort => f.write_str("a file header cut short"),
             CaptureFault::LinkType(link) => write!(f, "link type {link}"),
-            CaptureFault::NoInterface => f.write_str("no usbmon interface"),
+            CaptureFault::NoInterface => f.write_str("no interface of usbmon or USBPcap"),
             CaptureFault::Memory => f.write_str("out of memory"),
         }
     }

@@ -1,6 +1,7 @@
 //! Laws over the definitions, as functions that do nothing.
 
 ghost use Rattle.trace_recorded.specs.Laws.{AnswersAreThose, EventsAreReadBack, FilesAreReadBack, LinesHaveTheAnswers, PacketsAreWritten, ReadsAreToldAgain, WritesAreToldAgain};
+ghost use Rattle.trace_recorded.specs.WaitLaws.{AnswersWait};
 
 /// What a capture says of an event is read back from it.
 pub fn events()
@@ -35,4 +36,10 @@ pub fn packets()
 /// The k-th request of a type, number, value and index gets the k-th recorded answer to such a request.
 pub fn requests()
     ensures { LinesHaveTheAnswers }
+{}
+
+/// An answer waits until what had been taken when it came is taken, and what those before it wait for, and no longer: so it is with the
+/// answers of each endpoint, over all events of its device.
+pub fn waits()
+    ensures { AnswersWait }
 {}

@@ -19,7 +19,7 @@
 //! - `answer.rt`, specs/Written: the same, each with what was written for it
 //! - `submission.rt`, `halt.rt`, `endpoint.rt`, specs/Endpoints: what is kept of a submission; requests that end a halt; what an
 //!   endpoint answered, and what of that is noted
-//! - `waits.rt`, specs/Waits: which answers of an endpoint wait for what
+//! - `waits.rt`, specs/Waits, WaitLaws: which answers of an endpoint wait for what
 //! - `session.rt`, specs/Sessions: all endpoints of a device, over its events in order
 //! - `hub.rt`, `device.rt`, `left_out.rt`, specs/Devices: the devices of a recording, and which are left out
 //! - `note.rt`, `text.rt`, `answer_text.rt`, specs/Lines: notes and scripts
@@ -42,6 +42,8 @@
 //! - `laws::answers`, `laws::packets`: the answers that are told with what was written are these; and of a write that was
 //!   recorded to its end the packets are the first of those that a request for the same bytes sends
 //! - `laws::requests`: the line of a control request has the answers to such requests, in the order of their ends
+//! - `laws::waits`: an answer may come where what had been taken when it came is taken, and what those before it wait for, and no sooner: so it
+//!   is with the answers of each endpoint, over all events of its device
 //!
 //! Where a transfer was withdrawn, or its device was gone, its answers are those of the whole packets that moved, and end nothing.
 //! A transfer of more bytes than a request may have is left out, and so is one that ended behind a stall. Of an endpoint's answers

@@ -1,7 +1,7 @@
 //! An event of a bus as Windows' recorder writes it (USBPcap, "USBPcap Capture format"), with the lowest byte of each number first.
 
 ghost use Rattle.std.specs.Prelude.{◌≡◌, ◌≤◌, length, IfOk};
-ghost use Rattle.trace_recorded.specs.Windows.{direction_of, error_of, is_told, resets_pipe, reset_setup, windows_callback, windows_control, windows_data, windows_event, windows_head, windows_status, windows_submission, windows_transfer};
+ghost use Rattle.trace_recorded.specs.Windows.{clears_stall, direction_of, error_of, is_told, resets_pipe, reset_setup, windows_callback, windows_control, windows_data, windows_event, windows_head, windows_status, windows_submission, windows_transfer};
 
 use crate::configuration::byte_or_zero;
 use crate::event::{RecordedEvent, RecordedType, kind_of, setup_at};
@@ -15,8 +15,13 @@ use usb_model::{EpAddr, Kind, Sequence};
 /// How many bytes each packet has in front of its data at least.
 const HEADER: usize = 27;
 
-/// URB_FUNCTION_SYNC_RESET_PIPE_AND_CLEAR_STALL (Windows, usb.h).
-const RESET_PIPE: u16 = 0x1e;
+/// Whether a function of Windows ends the halt of an endpoint: URB_FUNCTION_SYNC_RESET_PIPE_AND_CLEAR_STALL and
+/// URB_FUNCTION_SYNC_CLEAR_STALL (Windows, usb.h).
+fn clears_stall(function: u16) -> bool
+    ensures { result ≡ clears_stall function }
+{
+    matches!(function, 0x1e | 0x31)
+}
 
 /// Whether it goes to the device or comes from it, by the lowest bit of its flags.
 fn direction_of(info: u8) -> RecordedType
@@ -43,7 +48,8 @@ fn error_of(status: u32) -> u32
         | 0xc000_0005
         | 0xc000_0006
         | 0xc000_0007
-        | 0xc000_0011 => 71,
+        | 0xc000_0011
+        | 0xc000_0014 => 71,
         0xc000_0008 | 0xc000_0012 => 75,
         0xc001_0000 => 2,
         _ => 108,
@@ -208,7 +214,7 @@ pub(crate) fn windows_event(
     if packet.len() < HEADER {
         return Ok(None);
     }
-    if Endianness::Little.u16_at(packet, 14) == RESET_PIPE {
+    if clears_stall(Endianness::Little.u16_at(packet, 14)) {
         return Ok(Some(resets_pipe(alloc, frame, packet)));
     }
     match kind_of(byte_at(packet, 22)) {
