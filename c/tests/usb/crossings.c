@@ -194,19 +194,22 @@ static void *read_and_wait(void *user)
 {
     unsigned char data[8];
     int moved = 0;
-    (void)user;
+    atomic_store((atomic_int *)user, 1);
     answer("read", libusb_bulk_transfer(handle, 0x81, data, sizeof data, &moved, 0));
     return NULL;
 }
 
-/* Its read has no time limit: the close ends it. */
+/* Its read has no time limit: the close ends it. The thread has begun before that: else it would read by a handle that is closed. */
 static void close_amid_wait(void)
 {
     pthread_t thread;
+    atomic_int is_reading = 0;
     begin("closed while another thread waits for a read", "");
-    if (pthread_create(&thread, NULL, read_and_wait, NULL))
+    if (pthread_create(&thread, NULL, read_and_wait, &is_reading))
         exit(1);
-    usleep(50000);
+    while (!atomic_load(&is_reading))
+        usleep(1000);
+    usleep(200000);
     libusb_close(handle);
     pthread_join(thread, NULL);
     handle = NULL;
