@@ -160,7 +160,7 @@ def an_older_installation_leaves_nothing(trial: Trial) -> None:
         listed.write("file share/tirnouch/older/old.py\nfolder share/tirnouch/older\n")
     before = files_of(prefix)
     trial.expect(trial.install("--prefix", str(prefix)), 0)
-    trial.check(files_of(prefix) == [it for it in before if not it.endswith("old.py")], "the files aren't those of one installation")
+    trial.check(files_of(prefix) == [it for it in before if not it.endswith("/old.py")], "the files aren't those of one installation")
     trial.check(not old.parent.exists(), "a folder of the older one is left")
     trial.expect(trial.run(sys.executable, "tools/install", "uninstall", "--prefix", str(prefix)), 0)
     trial.check(not prefix.exists(), f"uninstall left {files_of(prefix)}")

@@ -1,7 +1,7 @@
 /* What Tirnouch has beside libusb's own functions: devices are plugged in and pulled out, and a test sees what they took.
  *
  * The environment steers a run too: TIRNOUCH_DEVICES, TIRNOUCH_TRACE, TIRNOUCH_SEED, TIRNOUCH_TIME, TIRNOUCH_LIMIT,
- * TIRNOUCH_PROGRAMS and TIRNOUCH_PATIENCE (docs/C.md). */
+ * TIRNOUCH_PROGRAMS, TIRNOUCH_PATIENCE and TIRNOUCH_BUSES (docs/C.md). */
 #ifndef TIRNOUCH_H
 #define TIRNOUCH_H
 

@@ -183,9 +183,12 @@ int32_t tirnouch_describe(struct tirnouch_slot *slot, uint8_t dev, uint8_t kind,
 /* What the text says of a device in numbers. `what`: 0 its speed in `kind` (libusb's `libusb_speed`), in
  * `status` 1 where it isn't there yet, in `amount` 1 where it begins anew with each claim, and in `n` 1 where a
  * reset doesn't begin it anew; 1 the interface in `n` for which the system has a driver; 2 answers that wait:
- * those of `ep` from place `amount` on, until `n` packets were taken at the endpoint in `status`, or, where
- * that is `ep`, until `n` transfers ended there without an answer; 3 when it is pulled out: behind `amount`
- * answers of `ep`. Of several that of index `i`, from 0 on; NotFound past the last. */
+ * those of `ep` from place `amount` on, where `kind` is 0 until `n` packets were taken at the endpoint in
+ * `status`, or, where that is `ep`, until `n` transfers ended there without an answer, or, where it is 0, until
+ * `n` requests were made; where `kind` is 1 until `n` requests were made whose setup packets begin with the six
+ * lowest bytes of `payload`, the lowest first, but that the type is any where bit 0 of `status` is set, the
+ * number where bit 1 is, the value where bit 2 is, and the index where bit 3 is; 3 when it is pulled out:
+ * behind `amount` answers of `ep`. Of several that of index `i`, from 0 on; NotFound past the last. */
 int32_t tirnouch_tell(struct tirnouch_slot *slot, uint8_t dev, uint8_t what, size_t i,
     struct tirnouch_told *told);
 

@@ -11,6 +11,20 @@ _Thread_local int callbacks_within;
 
 /* Virtual time begins here, since 0 is no moment. */
 #define BEGINNING 1000000000u
+
+/* Where the devices of the text are, by their numbers there. */
+static void trace_numbers(const struct desk *desk)
+{
+    for (int i = 0; i < desk->count; i++) {
+        if (desk->there[i] < 0)
+            trace_comment(&process.bus.core, "device %d has a core of its own", i);
+        else if (desk->there[i] != i)
+            trace_comment(&process.bus.core, "device %d is device %d here", i, desk->there[i]);
+        if (desk->successors[i] >= 0)
+            trace_comment(&process.bus.core, "device %d comes back as device %d", i, desk->successors[i]);
+    }
+}
+
 /* The core of those that are scripted, of which the trace has the devices. */
 static int make_shared(const struct desk *desk, const char *text, size_t length)
 {
@@ -20,11 +34,10 @@ static int make_shared(const struct desk *desk, const char *text, size_t length)
         complain(text, length, desk->text, desk->name, desk->name, 0);
         return LIBUSB_ERROR_OTHER;
     }
-    for (int i = 0; !r && i < desk->count; i++)
-        if (desk->there[i] >= 0 && desk->there[i] != i)
-            trace_comment(&process.bus.core, "device %d is device %d here", i, desk->there[i]);
-    if (!r)
+    if (!r) {
+        trace_numbers(desk);
         trace_devices(&process.bus.core, text, length);
+    }
     return r;
 }
 
@@ -142,14 +155,28 @@ static char *read_file(const char *name, size_t *length)
     return text;
 }
 
+/* A process that begins several buses may have a text for each: that of the second has a name that ends in .2, and so on, up to as many as
+ * TIRNOUCH_BUSES says. */
+static const char *name_of_turn(const char *name, char *room, size_t size)
+{
+    const char *buses = getenv("TIRNOUCH_BUSES");
+    unsigned long most = buses ? strtoul(buses, NULL, 10) : 1, turn = process.bus.turn < most ? process.bus.turn : most;
+    if (turn < 2)
+        return name;
+    snprintf(room, size, "%s.%lu", name, turn);
+    return room;
+}
+
 static int begin_devices(void)
 {
     const char *name = getenv("TIRNOUCH_DEVICES");
+    char numbered[4096];
     size_t length = 0;
     if (process.text)
         return make_devices(process.text, process.text_length, process.text_name);
     if (!name || !*name)
         return make_devices("", 0, "");
+    name = name_of_turn(name, numbered, sizeof numbered);
     process.bus.file_text = read_file(name, &length);
     return process.bus.file_text ? make_devices(process.bus.file_text, length, name) : LIBUSB_ERROR_OTHER;
 }

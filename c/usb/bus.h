@@ -118,11 +118,25 @@ struct interface {
     uint8_t setting;
 };
 
+/* Requests of which the first six bytes of the setup packet (USB 2.0, 9.3: type, number, value, index), the first byte lowest, are these
+ * where the mask has them. */
+struct meant {
+    uint64_t mask, bytes;
+};
+
+/* And how many of these a device was asked. */
+struct tally {
+    struct meant meant;
+    uint64_t came;
+};
+
 /* The answers of an endpoint from this place on wait until `count` packets were taken at `other`, or control requests where that is 0, or
- * transfers ended without an answer where it is the endpoint itself, for IN. */
+ * transfers ended without an answer where it is the endpoint itself, for IN; or until so many of the requests that are meant came. */
 struct gate {
     uint32_t place;
     uint8_t other;
+    bool is_of_requests;
+    struct meant meant;
     uint64_t count;
 };
 
@@ -161,6 +175,8 @@ struct device {
     uint32_t leaves_behind;
     uint8_t (*requests)[64];
     size_t request_count;
+    struct tally *tallies;            /* of requests for which its answers wait, by mask and bytes; NULL for none */
+    size_t tally_count;
     struct program *program;          /* what is asked in place of functions; NULL for none */
     char *text;                       /* its lines, where it has a core of its own, */
     size_t text_length;

@@ -104,6 +104,13 @@ const struct gate *gate_before(struct pipe *pipe);
 uint64_t came_at(const struct device *device, uint8_t ep);
 void count_withdrawn(struct pipe *pipe, enum libusb_transfer_status status, int moved);
 
+/* tallies.c: how often a device was asked for what its answers wait for */
+int learn_tallies(struct device *device);
+struct meant meant_by(const struct tirnouch_told *told);
+void tally_request(struct device *device, const uint8_t *setup);
+uint64_t tallied(const struct device *device, struct meant meant);
+void tally_anew(struct device *device);
+
 /* lines.c: from the endpoints' queues into the core, and out of it */
 int submit_piece(struct transfer *transfer);
 void queue_up(struct transfer *transfer);

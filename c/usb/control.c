@@ -7,9 +7,8 @@
 #include <string.h>
 
 #define SETUP 8
-/* The most bytes of a request behind its setup packet, as Linux has it; and how many of them the trace shows. */
+/* The most bytes of a request behind its setup packet, as Linux has it. */
 #define MOST_DATA 4096
-#define MOST_SHOWN 64
 
 /* The interface or the endpoint that a request is to must be held. */
 static int hold(struct libusb_device_handle *handle, const uint8_t *setup)
@@ -122,8 +121,10 @@ static int answer_of(struct transfer *transfer)
 {
     uint8_t *setup = seen(transfer)->buffer;
     int length = (int)two_bytes(setup + 6);
-    if (!transfer->naks)
+    if (!transfer->naks) {
         keep_request(transfer->handle->device, setup, length);
+        tally_request(transfer->handle->device, setup);
+    }
     if (transfer->later > now()) {
         look_again(transfer->later);
         return TIRNOUCH_NOT_READY;
@@ -131,18 +132,27 @@ static int answer_of(struct transfer *transfer)
     return ask(transfer, setup, setup + SETUP, length);
 }
 
-/* Control requests are in no ring, so the trace has them as comments: of which device, the setup packet, and what came of it. */
+/* Control requests are in no ring, so the trace has them as comments: of which device, the setup packet, what came of it, and the bytes
+ * that were read, or all that was written, however much of it moved. */
 static void trace_request(const struct device *device, const uint8_t *setup, int answer)
 {
-    char bytes[2 * MOST_SHOWN + 1] = "";
-    for (int i = 0; i < answer && i < MOST_SHOWN; i++)
-        snprintf(bytes + 2 * i, 3, "%02x", setup[SETUP + i]);
-    if (answer < 0)
-        trace_comment(device->core, "request %d %02x %02x %04x %04x %u %s", device->number, setup[0], setup[1], two_bytes(setup + 2),
-                      two_bytes(setup + 4), two_bytes(setup + 6), answer == TIRNOUCH_STALL ? "STALL" : "ERROR");
-    else
-        trace_comment(device->core, "request %d %02x %02x %04x %04x %u COMPLETED %d %s%s", device->number, setup[0], setup[1],
-                      two_bytes(setup + 2), two_bytes(setup + 4), two_bytes(setup + 6), answer, bytes, answer > MOST_SHOWN ? ".." : "");
+    int length = (int)two_bytes(setup + 6), shown = setup[0] & LIBUSB_ENDPOINT_IN ? answer : length;
+    char line[64];
+    snprintf(line, sizeof line, "# request %d %02x %02x %04x %04x %d ", device->number, setup[0], setup[1], two_bytes(setup + 2),
+             two_bytes(setup + 4), length);
+    trace_to(device->core);
+    trace_text(line);
+    if (answer < 0) {
+        trace_text(answer == TIRNOUCH_STALL ? "STALL" : "ERROR");
+    } else {
+        trace_text("COMPLETED ");
+        trace_number((uint64_t)answer);
+        trace_text(" ");
+        if (shown)
+            trace_hex(setup + SETUP, shown);
+    }
+    trace_text("\n");
+    trace_out();
 }
 
 static void end_request(struct transfer *transfer, int answer)

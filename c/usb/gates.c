@@ -1,5 +1,6 @@
 /* Answers that wait (`after` in a device's text): an endpoint's, from some place on, until so many packets were taken at another, or so
- * many control requests came, or so many of its own transfers ended without an answer. An endpoint's stand in order of place, and what was reached stays reached: so it looks at each once. */
+ * many control requests came, all or those that are meant, or so many of its own transfers ended without an answer. An endpoint's stand in
+ * order of place, and what was reached stays reached: so it looks at each once. */
 #include "bus.h"
 
 #include <stdlib.h>
@@ -31,7 +32,11 @@ int learn_gates(struct device *device)
 {
     struct tirnouch_told told = { 0 };
     for (size_t i = 0; !tirnouch_tell(&device->core->slot, device->number_there, 2, i, &told); i++) {
-        struct gate gate = { .place = told.amount, .other = told.status, .count = told.n };
+        struct gate gate = { .place = told.amount, .is_of_requests = told.kind, .count = told.n };
+        if (gate.is_of_requests)
+            gate.meant = meant_by(&told);
+        else
+            gate.other = told.status;
         int r = add_gate(&device->pipes[place_of(told.ep)], gate);
         if (r)
             return r;
@@ -40,12 +45,14 @@ int learn_gates(struct device *device)
     for (unsigned i = 0; i < ENDPOINTS; i++)
         if (device->pipes[i].gate_count)
             qsort(device->pipes[i].gates, device->pipes[i].gate_count, sizeof(struct gate), by_place);
-    return 0;
+    return learn_tallies(device);
 }
 
 static bool is_reached(const struct device *device, const struct gate *gate)
 {
     uint8_t none[1];
+    if (gate->is_of_requests)
+        return tallied(device, gate->meant) >= gate->count;
     if (gate->other & LIBUSB_ENDPOINT_IN)
         return device->pipes[place_of(gate->other)].withdrawn >= gate->count;
     uint64_t before = gate->other ? device->pipes[place_of(gate->other)].took : 0;

@@ -13,13 +13,15 @@ void forget(struct device *device)
     end_own_core(device);
     free_program(device->program);
     free(device->requests);
+    free(device->tallies);
     free(device->text);
     memset(device->pipes, 0, sizeof device->pipes);
     device->core = NULL;
     device->program = NULL;
     device->requests = NULL;
+    device->tallies = NULL;
     device->text = NULL;
-    device->request_count = device->text_length = 0;
+    device->request_count = device->tally_count = device->text_length = 0;
     device->is_gone = true;
     let_go_of_device(device);
 }

@@ -229,6 +229,7 @@ void take_out(struct device *device)
 {
     struct tirnouch_told told;
     struct transfer *transfer;
+    trace_comment(device->core, "device %d goes on in another session: what is in flight is taken out", device->number_there);
     for (struct libusb_context *context = process.contexts; context; context = context->next)
         for (struct transfer *it = context->flying.first; it; it = it->next)
             if (it->stage == IN_CORE && it->pipe->device == device && !it->ask)

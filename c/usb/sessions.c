@@ -295,6 +295,7 @@ static void forget_state(struct device *device)
     free(device->requests);
     device->requests = NULL;
     device->request_count = 0;
+    tally_anew(device);
     device->configuration = device->config[5];
     device->is_awaking = device->is_gone = false;
 }

@@ -114,7 +114,38 @@ void trace_comment(struct core *core, const char *format, ...)
     trace_out();
 }
 
-/* The lines of a text of devices that a scenario has too. */
+/* Whether a scenario has such a line too. */
+static bool is_of_scenario(const struct line *line)
+{
+    return begins(line, "device ") || begins(line, "script ");
+}
+
+/* Whether a line says what its device is, beside its descriptors: not how it answers, which the steps show. */
+static bool is_of_identity(const struct line *line)
+{
+    static const char *const words[] = { "string ", "speed ", "driver ", "hidden ", "lasts ", "leaves " };
+    for (size_t i = 0; i < sizeof words / sizeof *words; i++)
+        if (begins(line, words[i]))
+            return true;
+    return false;
+}
+
+/* The device descriptor that a `device` line and those behind it make. */
+static void trace_descriptor(struct core *core, const struct line *line)
+{
+    uint8_t bytes[LIBUSB_DT_DEVICE_SIZE];
+    int number = device_of_line(line);
+    int length = number < 0 ? 0 : tirnouch_describe(&core->slot, (uint8_t)number, LIBUSB_DT_DEVICE, 0, bytes, sizeof bytes);
+    if (length != sizeof bytes)
+        return;
+    trace_text("# descriptor ");
+    trace_number((uint64_t)number);
+    trace_text(" ");
+    trace_hex(bytes, length);
+    trace_text("\n");
+}
+
+/* The lines of a text of devices that a scenario has too; and what else it says of who they are, in its own words, as comments. */
 void trace_devices(struct core *core, const char *text, size_t length)
 {
     struct line line = { .number = 0 };
@@ -123,10 +154,15 @@ void trace_devices(struct core *core, const char *text, size_t length)
         return;
     trace_to(core);
     while (next_line(text, length, &at, &line)) {
-        if (!begins(&line, "device ") && !begins(&line, "script "))
+        bool is_comment = is_of_identity(&line);
+        if (!is_comment && !is_of_scenario(&line))
             continue;
+        if (is_comment)
+            put("# ", 2);
         put(line.at, line.length);
         put("\n", 1);
+        if (begins(&line, "device "))
+            trace_descriptor(core, &line);
     }
     trace_out();
 }

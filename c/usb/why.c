@@ -22,8 +22,32 @@ static void say_which(struct sentence *it, struct transfer *transfer)
         append(it, "a request");
 }
 
+/* A field of requests that are meant, at a bit of their setup packet. */
+static void say_field(struct sentence *it, struct meant meant, unsigned at, int digits)
+{
+    unsigned mask = digits == 2 ? 0xff : 0xffff;
+    if (meant.mask >> at & mask)
+        append(it, " %0*x", digits, (unsigned)(meant.bytes >> at) & mask);
+    else
+        append(it, " *");
+}
+
+static void say_gate_of_requests(struct sentence *it, const struct pipe *pipe, const struct gate *gate)
+{
+    append(it, "%02x waits for request %" PRIu64 " of", pipe->ep, gate->count);
+    say_field(it, gate->meant, 0, 2);
+    say_field(it, gate->meant, 8, 2);
+    say_field(it, gate->meant, 16, 4);
+    say_field(it, gate->meant, 32, 4);
+    append(it, ", %" PRIu64 " came", tallied(pipe->device, gate->meant));
+}
+
 static void say_gate(struct sentence *it, const struct pipe *pipe, const struct gate *gate)
 {
+    if (gate->is_of_requests) {
+        say_gate_of_requests(it, pipe, gate);
+        return;
+    }
     uint64_t came = came_at(pipe->device, gate->other);
     if (gate->other & LIBUSB_ENDPOINT_IN)
         append(it, "%02x waits until %" PRIu64 " transfer%s ended there without an answer, %" PRIu64 " did", pipe->ep, gate->count,

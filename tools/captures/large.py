@@ -60,7 +60,7 @@ def text_of(answers, answer, behind):
     """The text of a device with so many answers, of which the frame of this number has the first that a script has no room for."""
     note = f"# ep 81: the first {MOST_ANSWERS} of {answers} answers (the next is in frame {behind})\n" if answers > MOST_ANSWERS else ""
     script = " ".join([answer] * min(answers, MOST_ANSWERS))
-    return f"# device 0 was bus 1 device 1\n{note}device 0 {CONFIG.hex()}\nscript 0 81 {script}\n"
+    return f"# device 0 was bus 1 device 1\n{note}device 0 {CONFIG.hex()}\nlasts 0\nscript 0 81 {script}\n"
 
 
 def end_of_read(number, frames=2):
@@ -101,7 +101,7 @@ def of_many_devices(path, most):
     count = filled(path, most, FILE_HEADER, (of_device(records, 1 + it // 127, 1 + it % 127) for it in range(LONGEST)))
     left_out = [f"# bus {1 + it // 127} device {1 + it % 127} is left out: the fifth device (first in frame {len(records) * it + 1})\n"
                 for it in range(4, count)]
-    kept = [f"# device {it} was bus 1 device {it + 1}\ndevice {it} {CONFIG.hex()}\nscript {it} 81 d:{'00' * 8}\n" for it in range(4)]
+    kept = [f"# device {it} was bus 1 device {it + 1}\ndevice {it} {CONFIG.hex()}\nlasts {it}\nscript {it} 81 d:{'00' * 8}\n" for it in range(4)]
     return f"{count:,} devices", 0, "".join(left_out + kept)
 
 

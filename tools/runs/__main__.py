@@ -1,9 +1,10 @@
 """The part of tools/tirnouch-run and tools/tirnouch-record that watches programs: a limit, many seeds, a recording; that makes a text of
-devices of a capture; and that tells the library's version.
+devices of a capture or a trace; and that tells the library's version.
 
     python3 tools/runs version LIBRARY FILE
     python3 tools/runs record FILE LIBRARY [--device VENDOR:PRODUCT] [--no-strings] -- PROGRAM ..
     python3 tools/runs text CAPTURE TEXT USBTRACE [--umockdev FILE] [--descriptors FILE] [--device VENDOR:PRODUCT]
+    python3 tools/runs repeat TRACE TEXT USBTRACE [--device VENDOR:PRODUCT]
     python3 tools/runs judge DEVICES [--lenient] [--remove FILE] -- PROGRAM ..
     python3 tools/runs limit TIME MILLISECONDS [--judge DEVICES] [--remove FILE] -- PROGRAM ..
     python3 tools/runs seeds FIRST LAST [--jobs N] [--keep-going] [--limit TIME MILLISECONDS] [--virtual] [--no-programs] [--lenient] \
@@ -11,11 +12,13 @@ devices of a capture; and that tells the library's version.
 
 tools/tirnouch-run or tools/tirnouch-record has checked the words, and tirnouch-run has set the environment of the program. They know where
 the parts stand, in the repository and where they are installed: the library, the FILE with the version, and usbtrace, with the REMEDY where
-that is missing. A FILE to --remove is the text that was made of a capture.
+that is missing. A FILE to --remove is the text that was made of a capture or a trace; `repeat` prints for how
+many buses there are texts, FILE.2 and so on.
 
 The modules, from below: program (a process group, and its end); traces (the files of a run's steps); judged (whether a run wrote what is
 expected); limit (a run that is watched, and ended when its time is over); seeds (many runs); shown (what is told of them). Of captures:
-capture (its events), recorded (a run that makes one), described (what a device is, by other files), text (what is made of one)."""
+capture (its events), recorded (a run that makes one), text (what is made of one). Of traces: retold (what moved in a run), repeated (the
+text that is made of that)."""
 import argparse
 import ctypes
 import pathlib
@@ -27,6 +30,7 @@ from typing import List, NoReturn, Sequence
 from limit import remove, run_judged, run_with_limit
 from program import end_by, tell
 from recorded import run_recorded
+from repeated import write_repeated
 from seeds import Seeds
 from shown import report
 from text import write_text
@@ -120,6 +124,11 @@ def arguments(words: Sequence[str]) -> argparse.Namespace:
     text.add_argument("--umockdev", type=pathlib.Path)
     text.add_argument("--descriptors", type=pathlib.Path)
     text.add_argument("--device")
+    repeat = kinds.add_parser("repeat")
+    repeat.add_argument("trace", type=pathlib.Path)
+    repeat.add_argument("text", type=pathlib.Path)
+    repeat.add_argument("usbtrace")
+    repeat.add_argument("--device")
     return parser.parse_args(words)
 
 
@@ -136,6 +145,8 @@ def main(words: List[str]) -> int:
         run_with_limit(asked, program)
     if asked.kind == "text":
         return write_text(asked)
+    if asked.kind == "repeat":
+        return write_repeated(asked)
     try:
         return run_seeds(asked, program)
     finally:

@@ -1,13 +1,13 @@
 """An event of a bus, as usbmon has it (Linux's usbmon.rst)."""
-from typing import NamedTuple, Optional, Tuple
+from typing import NamedTuple, Optional
 
 CONTROL = 2
 IN_PROGRESS = -115
 
 
 class Event(NamedTuple):
-    """An event of the bus. `setup` is that of a request's submission, else None. `frame` is the number of its packet in the capture, where
-    packets are counted from 1 on."""
+    """An event of the bus. `setup` is that of a request's submission, else None. `frame` is the number of the line of a trace that it is
+    told by, from 1 on; 0 where it is read from a capture."""
 
     id: int
     kind: str
@@ -22,7 +22,4 @@ class Event(NamedTuple):
     setup: Optional[bytes]
     flags: int
     data: bytes
-    frame: int
-
-    def place(self) -> Tuple[int, int]:
-        return self.bus, self.device
+    frame: int = 0

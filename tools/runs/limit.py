@@ -13,7 +13,7 @@ from typing import Dict, NoReturn, Optional, Sequence
 
 from judged import Judgement
 from program import GRACE, OVER, SLACK, become, end_by, program_environment, signal_group, tell
-from traces import last_lines, traces_of
+from traces import last_lines, numbered, traces_of
 
 LAST_LINES = 10
 # A run without a limit ends before this many seconds.
@@ -137,9 +137,9 @@ def judged_status(judgement: Judgement, devices: Optional[str], program: str, st
 
 
 def remove(file: Optional[pathlib.Path]) -> None:
-    """Removes the text that was made for this run alone, if one was."""
-    if file:
-        file.unlink(missing_ok=True)
+    """Removes the text that was made for this run alone, if one was, and those of further buses."""
+    for path in numbered(str(file), 0) if file else ():
+        path.unlink(missing_ok=True)
 
 
 def run_judged(asked: argparse.Namespace, words: Sequence[str]) -> NoReturn:

@@ -30,6 +30,9 @@ void complaints(void)
     complain(DEVICE "script 0 02 d:00\n");
     complain(DEVICE "control 0 40 01 * 0000\n");
     complain(DEVICE "after 0 81 1 02 1\nscript 0 81 n\n");
+    complain(DEVICE "after 0 81 0 40 01 0001 1\nscript 0 81 n\n");
+    complain(DEVICE "after 0 81 0 40 01 1 * 1\nscript 0 81 n\n");
+    complain(DEVICE "after 0 81 1 40 01 * * 1\nscript 0 81 n\n");
     complain(DEVICE "speed 0 full\nspeed 0 full\n");
     complain(DEVICE "driver 0 1\n");
     say("complain with little room", tirnouch_complain((const uint8_t *)"open 1 0\n", 9, sentence, 6, &told));

@@ -47,6 +47,8 @@ static void descriptions(void)
     tell("driver 0", tirnouch_tell(&slot, 0, 1, 0, &told));
     tell("driver 1", tirnouch_tell(&slot, 0, 1, 1, &told));
     tell("gate 0", tirnouch_tell(&slot, 0, 2, 0, &told));
+    tell("gate 1", tirnouch_tell(&slot, 0, 2, 1, &told));
+    tell("gate 2", tirnouch_tell(&slot, 0, 2, 2, &told));
 }
 
 void requests(void)

@@ -17,6 +17,7 @@ static const char desk[] =
     "control 0 c0 01 * 0000 d:01 d:0203\n"
     "control 0 40 02 0005 0000 a s\n"
     "after 0 81 2 02 1\n"
+    "after 0 81 3 c0 01 * 0a0b 7\n"
     "speed 0 full\n"
     "driver 0 0\n";
 

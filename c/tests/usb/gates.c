@@ -1,4 +1,5 @@
-/* Answers that wait for packets elsewhere: thousands of them take no more each than one (the text's `after`). */
+/* Answers that wait for packets elsewhere, for transfers that ended, or for requests: thousands of them take no more each than one (the text's
+ * `after`). */
 #include "scene.h"
 
 #include <stdio.h>
@@ -109,6 +110,46 @@ static void those_that_got_one_do_not_count(void)
     end();
 }
 
+/* A request to the device, whose answer is that of the text; a read that waited for it may have its own within the call. */
+static void request(uint8_t type, uint8_t number, uint16_t value, uint16_t index)
+{
+    unsigned char data[4];
+    int length = type & LIBUSB_ENDPOINT_IN ? 4 : 0;
+    printf("  request %02x %02x %04x %04x\n", type, number, value, index);
+    int r = libusb_control_transfer(handle, type, number, value, index, data, (uint16_t)length, 100);
+    if (r != length)
+        printf("  its answer: %d\n", r);
+}
+
+/* Answers that wait for requests: those with other fields don't count. */
+static void behind_requests(void)
+{
+    struct libusb_transfer *reads[3];
+    begin("answers behind requests",
+          "control 0 40 * * * a\ncontrol 0 c0 * * * d:01020304\nscript 0 81 d:01 d:02 d:03\n"
+          "after 0 81 0 40 01 0007 0002 1\nafter 0 81 1 40 01 0007 0002 2\nafter 0 81 2 c0 * * 0005 2\n");
+    for (int i = 0; i < 3; i++)
+        reads[i] = submit(i, 0x81, 8);
+    request(0x40, 1, 7, 3);
+    request(0x40, 1, 8, 2);
+    request(0x40, 2, 7, 2);
+    request(0xc0, 1, 7, 2);
+    work();
+    say(calls ? "one is early" : "they wait");
+    request(0x40, 1, 7, 2);
+    work();
+    say(calls == 1 ? "the second waits" : "not one answer");
+    request(0x40, 1, 7, 2);
+    request(0xc0, 9, 1, 5);
+    work();
+    say(calls == 2 ? "the third waits" : "not two answers");
+    request(0xc0, 8, 2, 5);
+    work();
+    for (int i = 0; i < 3; i++)
+        discard(reads[i]);
+    end();
+}
+
 static void many_and_few(void)
 {
     long long few = exchange(FEW), many = exchange(MANY);
@@ -120,6 +161,7 @@ int main(void)
     too_early();
     behind_those_that_ended();
     those_that_got_one_do_not_count();
+    behind_requests();
     many_and_few();
     return 0;
 }

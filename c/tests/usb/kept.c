@@ -171,6 +171,48 @@ static void until_the_next(void)
     free(after);
 }
 
+/* The device descriptor is written from USB 2.0, 9.6.1: class 02 01 00, vendor 04a9, product 31c0, release 0100, and the second string. */
+#define DESCRIPTOR "1201000202010040a904c031000100020001"
+#define WRITTEN 70
+#define MOVED 3
+
+static int take_some(void *user, const uint8_t setup[8], uint8_t *data, int length)
+{
+    (void)user, (void)data, (void)length;
+    return setup[1] == 3 ? MOVED : TIRNOUCH_AS_TEXT;
+}
+
+/* A request of more bytes than a line of a screen has. */
+static void write_request(uint8_t request)
+{
+    unsigned char data[WRITTEN];
+    char line[300] = "";
+    for (int i = 0; i < WRITTEN; i++)
+        data[i] = (unsigned char)(i + request);
+    int r = libusb_control_transfer(handle, 0x40, request, 1, 2, data, WRITTEN, 0);
+    answer("request", r);
+    int length = snprintf(line, sizeof line, "# request 0 40 %02x 0001 0002 %d COMPLETED %d ", request, WRITTEN, r);
+    for (int i = 0; i < WRITTEN; i++)
+        length += snprintf(line + length, sizeof line - (size_t)length, "%02x", data[i]);
+    has(line);
+}
+
+static void who_it_is(void)
+{
+    puts("what it says of its devices, and all bytes of a request");
+    tirnouch_on_control(0, take_some, NULL);
+    answer("begin", begin_so(DEVICES "class 0 02 01 00\nstring 0 2 A meter\nspeed 0 full\ndriver 0 1\nlasts 0\n"
+                             "control 0 40 * * * a\n", NULL, 1));
+    move_some();
+    write_request(2);
+    write_request(3);
+    has("\ndevice 0 " STANDARD_CONFIG "\n# descriptor 0 " DESCRIPTOR "\n");
+    has("\n# string 0 2 A meter\n# speed 0 full\n# driver 0 1\n# lasts 0\n");
+    end();
+    answer("end", tirnouch_end());
+    tirnouch_on_control(0, NULL, NULL);
+}
+
 /* The memory of these options ends where they ended before. */
 static void options_of_before(void)
 {
@@ -196,6 +238,7 @@ int main(void)
     beside_the_file();
     with_own_cores();
     until_the_next();
+    who_it_is();
     options_of_before();
     for (int i = 0; i < 3; i++) {
         char name[100];

@@ -50,6 +50,15 @@ static void behind_packets(void)
     end();
 }
 
+static void behind_requests(void)
+{
+    begin_log("an answer that waits for requests", "control 0 40 * * * a\nscript 0 81 d:01\nafter 0 81 0 40 01 * 0203 2\n", LIBUSB_LOG_LEVEL_WARNING);
+    answer("request", libusb_control_transfer(handle, 0x40, 1, 7, 0x203, NULL, 0, 40));
+    answer("request", libusb_control_transfer(handle, 0x40, 1, 7, 0x204, NULL, 0, 40));
+    read_in_vain(0x81, 8);
+    end();
+}
+
 static void not_ready(void)
 {
     begin_log("a device that isn't ready", "script 0 81 n n n n n n n n n n n n n n n n n n n n n n n n n n n n\n", LIBUSB_LOG_LEVEL_WARNING);
@@ -155,6 +164,7 @@ int main(void)
 {
     at_the_end();
     behind_packets();
+    behind_requests();
     not_ready();
     cancelled();
     left();

@@ -1,11 +1,14 @@
 -- What a text says of a device beside its answers.
-use Rattle.std.specs.Prelude.{◌≡◌, ℕ, ℤ, pos, negsuc, ◌==◌, Bool, List, length, slice_get, Option, Some, None, if◌then◌else◌}
-use Rattle.std.specs.Option.{option_and_then, option_map}
+use Rattle.std.specs.Prelude.{◌≡◌, ℕ, ◌+◌, ◌*◌, ◌^◌, ℤ, pos, negsuc, ◌==◌, Bool, List, length, slice_get, Option, Some, None, is_none, if◌then◌else◌}
+use Rattle.std.specs.Option.{option_and_then, option_map, unwrap_or}
 use Rattle.usb_desk.specs.declared.answer.ControlAnswer.{ControlAnswer}
 use Rattle.usb_desk.specs.declared.answer.ControlAnswer.TheVariants as answer
 use Rattle.usb_desk.specs.declared.device.DeskDevice.{DeskDevice}
+use Rattle.usb_desk.specs.declared.statement.Awaited.{Awaited}
+use Rattle.usb_desk.specs.declared.statement.Awaited.TheVariants as awaited
 use Rattle.usb_desk.specs.declared.statement.Departure.{Departure}
 use Rattle.usb_desk.specs.declared.statement.Gate.{Gate}
+use Rattle.usb_desk.specs.declared.statement.Pattern.{Pattern}
 use Rattle.usb_desk.specs.declared.word.Speed.{Speed}
 use Rattle.usb_desk.specs.declared.word.Speed.TheVariants.{Full, High, Low}
 use Rattle.usb_desk.specs.Control.{string_at}
@@ -52,8 +55,21 @@ device_told speed hidden anew lasts = record (of_kind 255 speed) { status = bit 
 abbrev pub driver_told : ℕ → Told
 driver_told interface = record (of_kind 255 0) { n = interface }
 
+-- which fields of requests may be any, a bit each: type, number, value and index
+abbrev pub any_fields : Pattern → ℕ
+any_fields p = bit (is_none p.kind) + 2 * bit (is_none p.request) + 4 * bit (is_none p.value) + 8 * bit (is_none p.index)
+
+-- these as the first six bytes of a setup packet have them (USB 2.0, 9.3), the first byte lowest; 0 for any
+abbrev pub setup_number : Pattern → ℕ
+setup_number p = unwrap_or p.kind 0 + 2 ^ 8 * unwrap_or p.request 0 + 2 ^ 16 * unwrap_or p.value 0 + 2 ^ 32 * unwrap_or p.index 0
+
+-- answers that wait, and for what
+abbrev pub awaited_told : Awaited → Told → Told
+awaited_told (awaited.At other) told = record told { status = other }
+awaited_told (awaited.Requests pattern) told = record told { kind = 1; status = any_fields pattern; payload = setup_number pattern }
+
 abbrev pub gate_told : Gate → Told
-gate_told g = record (of_kind 255 0) { ep = g.ep; status = g.other; amount = g.place; n = g.packets }
+gate_told g = awaited_told g.awaited (record (of_kind 255 0) { ep = g.ep; amount = g.place; n = g.count })
 
 abbrev pub departure_told : Departure → Told
 departure_told d = record (of_kind 255 0) { ep = d.ep; amount = d.answers }

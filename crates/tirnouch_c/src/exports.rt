@@ -685,9 +685,11 @@ pub extern "C" fn tirnouch_describe(
 
 /// What the text says of a device in numbers. `what`: 0 its speed in `kind` (libusb 1.0, `libusb_speed`), in `status` 1 where it
 /// isn't there yet, in `amount` 1 where it begins anew with each claim, and in `n` 1 where a reset doesn't begin it anew; 1 the interface in
-/// `n` for which the system has a driver; 2 answers that wait: those of `ep` from place `amount` on, until `n` packets were taken at the
-/// endpoint in `status`, or, where that is `ep`, until `n` transfers ended there without an answer; 3 when it is pulled out: behind `amount`
-/// answers of `ep`. Of several that of index `i`, from 0 on; NotFound past the last.
+/// `n` for which the system has a driver; 2 answers that wait: those of `ep` from place `amount` on, where `kind` is 0 until `n` packets were
+/// taken at the endpoint in `status`, or, where that is `ep`, until `n` transfers ended there without an answer, or, where it is 0, until `n`
+/// requests were made; where `kind` is 1 until `n` requests were made whose setup packets begin with the six lowest bytes of `payload`, the
+/// lowest first, but that the type is any where bit 0 of `status` is set, the number where bit 1 is, the value where bit 2 is, and the index where
+/// bit 3 is; 3 when it is pulled out: behind `amount` answers of `ep`. Of several that of index `i`, from 0 on; NotFound past the last.
 #[unsafe(no_mangle)]
 pub extern "C" fn tirnouch_tell(
     alloc: Global,

@@ -2,14 +2,14 @@
 
 ghost use Rattle.std.specs.Prelude.{◌≡◌, ◌<◌};
 ghost use Rattle.tirnouch_c.specs.Complaints.{complaint_told, place_number};
-ghost use Rattle.tirnouch_c.specs.Descriptions.{departure_told, device_told, driver_told, gate_told};
+ghost use Rattle.tirnouch_c.specs.Descriptions.{any_fields, awaited_told, departure_told, device_told, driver_told, gate_told, setup_number};
 ghost use Rattle.tirnouch_c.specs.Requests.{ended_told, needs_told};
 ghost use Rattle.tirnouch_c.specs.Reads.{look_told, pending_told};
 ghost use Rattle.tirnouch_c.specs.Results.{told_taken};
 ghost use Rattle.tirnouch_c.specs.Told.{bit, code_of, line_told, of_kind, reply_told, status_number, told_of};
 
 use usb_core::{Offer, Pending, Taken};
-use usb_desk::{Complaint, Departure, Gate, Needs};
+use usb_desk::{Awaited, Complaint, Departure, Gate, Needs, Pattern};
 use usb_model::{Entry, EpAddr, Reply, Status};
 
 /// What a call told, in numbers.
@@ -57,6 +57,26 @@ pub fn code_of(reply: &Reply) -> i32
         Reply::Refused(refused) => refused.libusb_number(),
         _ => 0,
     }
+}
+
+/// Which fields of requests may be any: bit 0 the type, 1 the number, 2 the value, 3 the index.
+fn any_fields(pattern: Pattern) -> u8
+    ensures { result ≡ any_fields pattern }
+{
+    u8::from(pattern.kind.is_none())
+        + 2 * u8::from(pattern.request.is_none())
+        + 4 * u8::from(pattern.value.is_none())
+        + 8 * u8::from(pattern.index.is_none())
+}
+
+/// The fields of requests as the first six bytes of a setup packet have them (USB 2.0, 9.3), the first byte lowest; 0 for any.
+fn setup_number(pattern: Pattern) -> u64
+    ensures { result ≡ setup_number pattern }
+{
+    u64::from(pattern.kind.unwrap_or(0))
+        + 0x100 * u64::from(pattern.request.unwrap_or(0))
+        + 0x1_0000 * u64::from(pattern.value.unwrap_or(0))
+        + 0x1_0000_0000 * u64::from(pattern.index.unwrap_or(0))
 }
 
 /// The word that a reason is about, from 0 on; 255 for the whole line.
@@ -269,12 +289,30 @@ impl Told {
     pub fn gate(gate: &Gate) -> Told
         ensures { result ≡ gate_told gate.now }
     {
-        Told {
+        let told = Told {
             ep: gate.ep.address(),
-            status: gate.other.address(),
             amount: gate.place,
-            n: u64::from(gate.packets),
+            n: u64::from(gate.count),
             ..Told::of_kind(255, 0)
+        };
+        told.awaiting(gate.awaited)
+    }
+
+    /// And for what.
+    fn awaiting(self, awaited: Awaited) -> Told
+        ensures { result ≡ awaited_told awaited self }
+    {
+        match awaited {
+            Awaited::At(other) => Told {
+                status: other.address(),
+                ..self
+            },
+            Awaited::Requests(pattern) => Told {
+                kind: 1,
+                status: any_fields(pattern),
+                payload: setup_number(pattern),
+                ..self
+            },
         }
     }
 

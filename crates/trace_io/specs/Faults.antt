@@ -36,6 +36,11 @@ fault_of_kind OutOfMemory = Memory
 fault_of_kind BrokenPipe = Closed
 fault_of_kind _ = InputOutput
 
+-- how a sentence begins that says why a capture isn't read
+abbrev pub refusal_head : CaptureFault → List ℕ
+refusal_head (capture.NoDevice ids) = codes "the capture has "
+refusal_head fault = codes "the capture is refused: "
+
 -- a fault in words
 abbrev pub fault_text : Fault → List ℕ
 fault_text (Line line) = codes "line " ++ decimal line ++ codes " refused"
@@ -45,7 +50,7 @@ fault_text Closed = codes "nobody reads the output any more"
 fault_text TooLong = codes "the input is longer than 67108864 bytes\nusbtrace: input or output failed"
 fault_text (Rounds rounds) = codes "more than " ++ decimal rounds ++ codes " callbacks are called: --rounds sets how many may be"
 fault_text (Wide steps) = decimal steps ++ codes " steps are too many for a picture, which has 2000: choose some by --from and --to"
-fault_text (Capture fault) = codes "the capture is refused: " ++ capture_fault_text fault
+fault_text (Capture fault) = refusal_head fault ++ capture_fault_text fault
 fault_text (Descriptor fault) = descriptor_fault_text fault
 
 -- whether nobody reads the output any more

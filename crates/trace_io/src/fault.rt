@@ -3,7 +3,7 @@
 ghost use Rattle.std.specs.Prelude.{◌≡◌, OnOk, Some};
 ghost use Rattle.std.specs.Io.KnownBytes.{Appends};
 ghost use Rattle.std.specs.IoError.{error_kind};
-ghost use Rattle.trace_io.specs.Faults.{fault_of_capture, fault_of_descriptor, fault_of_kind, fault_of_text, fault_text, is_closed, message_of, sentence_of};
+ghost use Rattle.trace_io.specs.Faults.{fault_of_capture, fault_of_descriptor, fault_of_kind, fault_of_text, fault_text, is_closed, message_of, refusal_head, sentence_of};
 ghost use Rattle.trace_io.specs.Output.{AppendsSome};
 ghost use Rattle.trace_io.specs.declared.fault.Fault.TheVariants as Fault;
 
@@ -43,6 +43,16 @@ pub enum Fault {
     Descriptor(DescriptorFault),
 }
 
+/// How a sentence begins that says why a capture isn't read.
+fn refusal_head(fault: CaptureFault) -> &'static str
+    ensures { result.now ≡ refusal_head fault }
+{
+    match fault {
+        CaptureFault::NoDevice(_) => "the capture has ",
+        _ => "the capture is refused: ",
+    }
+}
+
 /// The fault in words. They are written here, and not by the derive, whose text no contract knows.
 impl fmt::Display for Fault {
     ghost output = { λ fault. Some (fault_text fault) };
@@ -64,7 +74,10 @@ impl fmt::Display for Fault {
                 f,
                 "{steps} steps are too many for a picture, which has 2000: choose some by --from and --to"
             ),
-            Fault::Capture(fault) => write!(f, "the capture is refused: {fault}"),
+            Fault::Capture(fault) => {
+                let head = refusal_head(*fault);
+                write!(f, "{head}{fault}")
+            }
             Fault::Descriptor(fault) => write!(f, "{fault}"),
         }
     }

@@ -105,12 +105,17 @@ pub(crate) const DEVICES: &str = help_over_file!(
     "Input: a capture of Linux's usbmon or Windows' USBPcap, as tcpdump or Wireshark write it: a pcap or pcapng file of link type 220, 189 or 249.\n",
     "What is printed is a text of devices, for libusb's own interface: each with its descriptors, its strings, what its endpoints\n",
     "answered, packet by packet, what it answered to control requests, and which answers waited for what. With --scenario it is the\n",
-    "beginning of a scenario.";
+    "beginning of a scenario.\n\n",
+    "More options, each with a word behind it, print one device alone:\n",
+    "  --device VENDOR:PRODUCT    this one, by four hexadecimal digits each\n",
+    "  --descriptors FILE         what the capture lacks is from Linux's file `descriptors` of the device, or a copy, in bytes or as hexadecimal text\n",
+    "  --umockdev FILE            it is from a file of umockdev-record";
     "devices recorded.pcap";
     "Example:\n",
     "  usbtrace devices < recorded.pcap > devices.txt\n",
-    "  usbtrace devices --scenario < recorded.pcap > scenario.txt\n\n",
-    "Status: 0 where a device was found, 1 where none was, the input is no such capture, memory is wanting or a stream fails, ",
+    "  usbtrace devices --scenario < recorded.pcap > scenario.txt\n",
+    "  usbtrace devices --descriptors /sys/bus/usb/devices/1-1/descriptors < recorded.pcap > devices.txt\n\n",
+    "Status: 0 where a device was found, 1 where none was, the input or the file is none of these, memory is wanting or a stream fails, ",
     "2 for bad words"
 );
 

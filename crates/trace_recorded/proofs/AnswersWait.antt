@@ -13,6 +13,7 @@ use Rattle.trace_recorded.specs.declared.event.RecordedType.{RecordedType}
 use Rattle.trace_recorded.specs.declared.event.RecordedType.TheVariants.{Submission, Callback, SubmissionError}
 use Rattle.trace_recorded.specs.declared.submission.RecordedSubmission.{RecordedSubmission}
 use Rattle.trace_recorded.specs.declared.transfer.RecordedTransfer.{RecordedTransfer}
+use Rattle.trace_recorded.specs.declared.waits.Source.TheVariants as source
 use Rattle.trace_recorded.specs.declared.waits.TakenCount.{TakenCount}
 use Rattle.trace_recorded.specs.declared.waits.Wait.{Wait}
 use Rattle.trace_recorded.specs.declared.waits.Waits.{Waits}
@@ -21,7 +22,7 @@ use Rattle.trace_recorded.specs.Endpoints.{counted, ends_halt_by, is_behind_stal
 use Rattle.trace_recorded.specs.Folds.{after}
 use Rattle.trace_recorded.specs.Tables.{value_at, with_value, without}
 use Rattle.trace_recorded.specs.WaitLaws.{AnswersWait, AreReached, AreTold, IsTold, MayCome, WaitsFor}
-use Rattle.trace_recorded.specs.Waits.{told_of, with_wait, with_waits}
+use Rattle.trace_recorded.specs.Waits.{source_number, told_at, told_of, with_wait, with_waits}
 use Rattle.trace_recorded.proofs.ByKey.{put_apart, put_here, taken_apart}
 
 -- what holds of all in joined lists
@@ -40,43 +41,46 @@ back P (x ∷ xs) ys all = back P xs ys all.1
 -- what one more wait is for
 record Waited (place : ℕ) (t : TakenCount) (waits behind : Waits) : Type 0 where
   pub told : AreTold place behind
-  pub reached : (took : ℕ → ℕ) → MayCome behind.lines place took → MayCome waits.lines place took × (t.count ≤ took t.ep)
-  pub comes : (took : ℕ → ℕ) → MayCome waits.lines place took → t.count ≤ took t.ep → MayCome behind.lines place took
+  pub reached : (took : ℕ → ℕ) → MayCome behind.lines place took → MayCome waits.lines place took × (t.count ≤ took (source_number t.source))
+  pub comes : (took : ℕ → ℕ) → MayCome waits.lines place took → t.count ≤ took (source_number t.source) → MayCome behind.lines place took
 
 one_wait : (place : ℕ) (t : TakenCount) (waits : Waits) → AreTold place waits → Waited place t waits (with_wait place t waits)
 unfolding with_wait
-one_wait place t waits told = by_test (nat_lt (told_of t.ep waits) t.count) refl
+one_wait place t waits told = by_test (nat_lt (told_of t.source waits) t.count) refl
   where
     line : Wait
-    line = record { place = place; other = t.ep; count = t.count }
+    line = record { place = place; source = t.source; count = t.count }
+
+    own : ℕ
+    own = source_number t.source
 
     more : Waits
-    more = record { told = with_value t.ep t.count (without t.ep waits.told); lines = waits.lines ++ line ∷ [] }
+    more = record { told = with_value own t.count (without own waits.told); lines = waits.lines ++ line ∷ [] }
 
     is_reached : (took : ℕ → ℕ) → Wait → Type 0
-    is_reached took w = w.place ≤ place → w.count ≤ took w.other
+    is_reached took w = w.place ≤ place → w.count ≤ took (source_number w.source)
 
-    of_more : (took : ℕ → ℕ) → MayCome more.lines place took → t.count ≤ took t.ep
+    of_more : (took : ℕ → ℕ) → MayCome more.lines place took → t.count ≤ took own
     of_more took may = (back (is_reached took) waits.lines (line ∷ []) may).0 (omega arith)
 
-    told_more : (took : ℕ → ℕ) (ep : ℕ) → MayCome more.lines place took → (b : Bool) → (ep == t.ep) ≡ b → told_of ep more ≤ took ep
-    told_more took ep may true is =
-        let same : ep ≡ t.ep = eqb-true ep t.ep is in
-        let here : told_of t.ep more ≡ t.count = ap (λ (v : Option ℕ). unwrap_or v 0) (put_here t.ep t.count (without t.ep waits.told)) in
-        subst (λ (q : ℕ). told_of q more ≤ took q) (sym same) (omega (arith, here, of_more took may))
-    told_more took ep may false is =
-        let apart : told_of ep more ≡ told_of ep waits = ap (λ (v : Option ℕ). unwrap_or v 0) (put_apart ep t.ep t.count (without t.ep waits.told) is ∙ taken_apart ep t.ep waits.told is) in
-        omega (arith, apart, told took (front (is_reached took) waits.lines (line ∷ []) may) ep)
+    told_more : (took : ℕ → ℕ) (number : ℕ) → MayCome more.lines place took → (b : Bool) → (number == own) ≡ b → told_at number more ≤ took number
+    told_more took number may true is =
+        let same : number ≡ own = eqb-true number own is in
+        let here : told_at own more ≡ t.count = ap (λ (v : Option ℕ). unwrap_or v 0) (put_here own t.count (without own waits.told)) in
+        subst (λ (q : ℕ). told_at q more ≤ took q) (sym same) (omega (arith, here, of_more took may))
+    told_more took number may false is =
+        let apart : told_at number more ≡ told_at number waits = ap (λ (v : Option ℕ). unwrap_or v 0) (put_apart number own t.count (without own waits.told) is ∙ taken_apart number own waits.told is) in
+        omega (arith, apart, told took (front (is_reached took) waits.lines (line ∷ []) may) number)
 
-    by_test : (b : Bool) → nat_lt (told_of t.ep waits) t.count ≡ b → Waited place t waits (if b then more else waits)
+    by_test : (b : Bool) → nat_lt (told_of t.source waits) t.count ≡ b → Waited place t waits (if b then more else waits)
     by_test true is = record {
-      told = λ took may ep. told_more took ep may (ep == t.ep) refl;
+      told = λ took may number. told_more took number may (number == own) refl;
       reached = λ took may. (front (is_reached took) waits.lines (line ∷ []) may, of_more took may);
       comes = λ took may is. joined (is_reached took) waits.lines (line ∷ []) may ((λ le. is), tt);
     }
     by_test false is = record {
       told = told;
-      reached = λ took may. (may, omega (arith, ltb-false (told_of t.ep waits) t.count is, told took may t.ep));
+      reached = λ took may. (may, omega (arith, ltb-false (told_of t.source waits) t.count is, told took may own));
       comes = λ took may is. may;
     }
 
@@ -114,15 +118,15 @@ sooner [] place later took le may = tt
 sooner (w ∷ ws) place later took le may = ((λ within. may.0 (omega (arith, le, within))), sooner ws place later took le may.1)
 
 stays_later : (place later : ℕ) (waits : Waits) → place ≤ later → AreTold place waits → AreTold later waits
-stays_later place later waits le told = λ took may ep. told took (sooner waits.lines place later took le may) ep
+stays_later place later waits le told = λ took may number. told took (sooner waits.lines place later took le may) number
 
 -- over an event
 at_places : (taken : List TakenCount) (count : ℕ) (x : RecordedEndpoint) → IsTold x → IsTold (with_places taken count x)
 at_places taken count x h = by_test (not (is_in x.info.address) || ((count == 0) || nat_le longest_script x.count))
   where
-    by_test : (b : Bool) → IsTold (if b then x else record x { waits = with_waits x.count (record { ep = x.info.address; count = x.withdrawn }) taken x.waits })
+    by_test : (b : Bool) → IsTold (if b then x else record x { waits = with_waits x.count (record { source = source.Endpoint x.info.address; count = x.withdrawn }) taken x.waits })
     by_test true = h
-    by_test false = record { counted = h.counted; told = (waits_for x.count (record { ep = x.info.address; count = x.withdrawn }) taken x.waits h.told).told }
+    by_test false = record { counted = h.counted; told = (waits_for x.count (record { source = source.Endpoint x.info.address; count = x.withdrawn }) taken x.waits h.told).told }
 
 at_answers : (size clears frame : ℕ) (t : RecordedTransfer) (x : RecordedEndpoint) → IsTold x → IsTold (with_answers size clears frame t x)
 at_answers size clears frame t x h =
@@ -176,7 +180,7 @@ at_event taken event x h = by_test (ends_halt_by event.event_type x.info event.s
 
 pub answers_wait : AnswersWait
 answers_wait = record {
-  first = λ info. record { counted = omega arith; told = λ took may ep. omega arith };
+  first = λ info. record { counted = omega arith; told = λ took may number. omega arith };
   next = at_event;
   waits = λ own taken x h. waits_for x.count own taken x.waits h.told;
 }

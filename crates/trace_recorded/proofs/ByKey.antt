@@ -14,7 +14,8 @@ use Rattle.trace_recorded.specs.declared.control_lines.ControlLines.{ControlLine
 use Rattle.trace_recorded.specs.declared.request.AnsweredRequest.{AnsweredRequest}
 use Rattle.trace_recorded.specs.Folds.{after}
 use Rattle.trace_recorded.specs.Laws.{LinesHaveTheAnswers, answer_for, line_of}
-use Rattle.trace_recorded.specs.Requests.{control_lines, key_of, no_lines, with_answered, with_more}
+use Rattle.trace_recorded.specs.Keys.{key_of}
+use Rattle.trace_recorded.specs.Requests.{control_lines, no_lines, with_answered, with_more}
 use Rattle.trace_recorded.specs.Tables.{value_at, with_value, without}
 
 -- numbers that compare equal are the same

@@ -23,6 +23,14 @@ mapped_next f out more all x left rest is next so_far =
 pub mapped_end : {A B : Type 0} (f : A → B) (out all : List B) (left : List A) → left ≡ [] → out ++ map f left ≡ all → out ≡ all
 mapped_end f out all left none so_far = sym (append-nil out) ∙ (ap (λ l. out ++ map f l) (sym none) ∙ so_far)
 
+-- the same of a loop that puts something behind for each value, taken out of a list of which some are left
+pub poured_next : {A B : Type 0} (f : A → List B) (out more all : List B) (x : A) (left rest : List A) → left ≡ x ∷ rest → more ≡ out ++ f x → out ++ flat_map f left ≡ all → more ++ flat_map f rest ≡ all
+poured_next f out more all x left rest is next so_far =
+    ap (λ b. b ++ flat_map f rest) next ∙ (append_assoc out (f x) (flat_map f rest) ∙ (ap (λ l. out ++ flat_map f l) (sym is) ∙ so_far))
+
+pub poured_end : {A B : Type 0} (f : A → List B) (out all : List B) (left : List A) → left ≡ [] → out ++ flat_map f left ≡ all → out ≡ all
+poured_end f out all left none so_far = sym (append-nil out) ∙ (ap (λ l. out ++ flat_map f l) (sym none) ∙ so_far)
+
 -- the notes of endpoints below an address
 pub notes_none : (out : List ℕ) (others : List OtherTransfer) → out ≡ out ++ other_notes others 0
 unfolding other_notes

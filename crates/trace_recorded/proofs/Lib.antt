@@ -13,3 +13,5 @@ mod FilesReadBack
 mod Expected
 mod ByKey
 mod AnswersWait
+mod Unsaid
+mod DescribedRead

@@ -17,9 +17,12 @@ use Rattle.trace_recorded.specs.declared.note.EndpointNote.TheVariants.{Lost, Re
 use Rattle.trace_recorded.specs.declared.note.Noted.{Noted}
 use Rattle.trace_recorded.specs.declared.reader.TextReader.{TextReader}
 use Rattle.trace_recorded.specs.declared.reader.TextReader.TheVariants.{Library, Scenario}
+use Rattle.trace_recorded.specs.declared.waits.Source.{Source}
+use Rattle.trace_recorded.specs.declared.waits.Source.TheVariants as source
 use Rattle.trace_recorded.specs.declared.waits.Wait.{Wait}
 use Rattle.trace_recorded.specs.Lines.{answers_text, endpoint_notes, is_due, note_line, note_text, other_notes, script_line}
-use Rattle.trace_recorded.specs.Requests.{key_of, next_of}
+use Rattle.trace_recorded.specs.Keys.{key_of}
+use Rattle.trace_recorded.specs.Requests.{next_of}
 use Rattle.trace_recorded.specs.Tables.{value_at}
 
 -- the line that says which recorded device it was
@@ -36,6 +39,10 @@ device_head number = codes "device " ++ (decimal number ++ codes " ")
 
 abbrev pub device_line : ℕ → List ℕ → List ℕ
 device_line number descriptor = device_head number ++ hex_line descriptor
+
+-- the line that says that a reset doesn't begin its scripts anew: what it answered behind one stands in them too
+abbrev pub lasts_line : ℕ → List ℕ
+lasts_line number = codes "lasts " ++ (decimal number ++ codes "\n")
 
 -- the line of its device descriptor, where that was read
 abbrev pub descriptor_head : ℕ → List ℕ
@@ -97,8 +104,16 @@ scripts_text number device = flat_map (script_line number) device.endpoints
 abbrev pub wait_head : ℕ → ℕ → List ℕ
 wait_head number ep = codes "after " ++ (decimal number ++ (codes " " ++ hex_byte ep))
 
+abbrev pub decimal_word : ℕ → List ℕ
+decimal_word number = codes " " ++ decimal number
+
+-- what is counted: an endpoint, or a request
+abbrev pub source_words : Source → List ℕ
+source_words (source.Endpoint ep) = codes " " ++ hex_byte ep
+source_words (source.Requests setup) = request_words setup
+
 abbrev pub wait_rest : Wait → List ℕ
-wait_rest wait = codes " " ++ (decimal wait.place ++ (codes " " ++ (hex_byte wait.other ++ (codes " " ++ (decimal wait.count ++ codes "\n")))))
+wait_rest wait = decimal_word wait.place ++ (source_words wait.source ++ (decimal_word wait.count ++ codes "\n"))
 
 abbrev pub wait_line : ℕ → ℕ → Wait → List ℕ
 wait_line number ep wait = wait_head number ep ++ wait_rest wait
@@ -117,10 +132,14 @@ request_notes Scenario device = []
 abbrev pub notes_text : TextReader → RecordedDevice → List ℕ
 notes_text reader device = flat_map endpoint_notes device.endpoints ++ (request_notes reader device ++ other_notes device.others 256)
 
+-- what it answered: at its endpoints and to requests, and which answers wait
+abbrev pub told_text : ℕ → RecordedDevice → List ℕ
+told_text number device = scripts_text number device ++ (controls_text number device.controls ++ waits_text number device.endpoints)
+
 -- the lines of a device: a scenario has its configuration and its scripts alone
 abbrev pub lines_text : TextReader → ℕ → RecordedDevice → List ℕ
 lines_text Library number device =
-    device_line number device.descriptor ++ (identity_text number device.identity ++ (scripts_text number device ++ (controls_text number device.controls ++ waits_text number device.endpoints)))
+    device_line number device.descriptor ++ (lasts_line number ++ (identity_text number device.identity ++ told_text number device))
 lines_text Scenario number device = device_line number device.descriptor ++ scripts_text number device
 
 -- a device that is kept, under its number

@@ -18,6 +18,7 @@ use Rattle.trace_recorded.specs.declared.submission.RecordedSubmission.{Recorded
 use Rattle.trace_recorded.specs.declared.endpoint.RecordedEndpoint.{RecordedEndpoint}
 use Rattle.trace_recorded.specs.Answers.{answers_of, end_of, packets_acknowledged}
 use Rattle.trace_recorded.specs.Tables.{value_at, with_value, without}
+use Rattle.trace_recorded.specs.declared.waits.Source.TheVariants as source
 use Rattle.trace_recorded.specs.declared.waits.TakenCount.{TakenCount}
 use Rattle.trace_recorded.specs.Waits.{no_waits, with_waits}
 use Rattle.trace_recorded.specs.Written.{recorded_answers}
@@ -126,7 +127,7 @@ with_answers size clears frame transfer x = record x {
 abbrev pub with_places : List TakenCount → ℕ → RecordedEndpoint → RecordedEndpoint
 with_places taken count x =
     if not (is_in x.info.address) || ((count == 0) || nat_le longest_script x.count) then x
-    else record x { waits = with_waits x.count (record { ep = x.info.address; count = x.withdrawn }) taken x.waits }
+    else record x { waits = with_waits x.count (record { source = source.Endpoint x.info.address; count = x.withdrawn }) taken x.waits }
 
 -- the packets that were taken, or that a read without an answer was withdrawn
 abbrev pub with_counts : ℕ → RecordedTransfer → ℕ → RecordedEndpoint → RecordedEndpoint

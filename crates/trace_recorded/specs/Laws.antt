@@ -33,7 +33,8 @@ use Rattle.trace_recorded.specs.declared.number.Endianness.TheVariants.{Little}
 use Rattle.trace_recorded.specs.Answers.{answers_of, end_of, last_written, packets_acknowledged, recorded_bytes}
 use Rattle.trace_recorded.specs.Events.{event_of}
 use Rattle.trace_recorded.specs.Files.{next_frame, recording}
-use Rattle.trace_recorded.specs.Requests.{control_lines, key_of}
+use Rattle.trace_recorded.specs.Keys.{key_of}
+use Rattle.trace_recorded.specs.Requests.{control_lines}
 use Rattle.trace_recorded.specs.Tables.{value_at}
 use Rattle.trace_recorded.specs.Written.{recorded_answers, response_of}
 

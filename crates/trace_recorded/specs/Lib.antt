@@ -1,7 +1,12 @@
 pub mod Answers
 pub mod Blocks
+pub mod Choices
 pub mod Configurations
 pub mod Controls
+pub mod Described
+pub mod DescribedFiles
+pub mod DescribedLaws
+pub mod DescribedText
 pub mod DeviceText
 pub mod Devices
 pub mod Endpoints
@@ -10,6 +15,7 @@ pub mod Faults
 pub mod Files
 pub mod Folds
 pub mod Identity
+pub mod Keys
 pub mod Laws
 pub mod Lines
 pub mod Packets

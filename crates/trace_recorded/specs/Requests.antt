@@ -18,6 +18,7 @@ use Rattle.trace_recorded.specs.declared.transfer.RecordedEnd.TheVariants.{Done,
 use Rattle.trace_recorded.specs.Answers.{end_of}
 use Rattle.trace_recorded.specs.Endpoints.{no_note, with_noted}
 use Rattle.trace_recorded.specs.Folds.{after}
+use Rattle.trace_recorded.specs.Keys.{key_of}
 use Rattle.trace_recorded.specs.Tables.{value_at, with_value, without}
 use Rattle.trace_recorded.specs.Written.{written_bytes}
 
@@ -85,10 +86,6 @@ with_ended request event requests =
 
 abbrev pub no_requests : AnsweredRequests
 no_requests = record { answered = []; lost = no_note; left_out = no_note }
-
--- a request's number in a table: its type, its number, its value and its index
-abbrev pub key_of : ControlSetup → ℕ
-key_of setup = ((setup.request_type * 256 + setup.request) * 65536 + setup.value) * 65536 + setup.index
 
 -- the packet of an answer behind so many, where it is the first for which the line has no room; it has room for as many as a script
 abbrev pub with_next : ℕ → ℕ → ℕ → ControlLines → ControlLines

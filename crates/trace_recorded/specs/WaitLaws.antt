@@ -8,19 +8,19 @@ use Rattle.trace_recorded.specs.declared.waits.TakenCount.{TakenCount}
 use Rattle.trace_recorded.specs.declared.waits.Wait.{Wait}
 use Rattle.trace_recorded.specs.declared.waits.Waits.{Waits}
 use Rattle.trace_recorded.specs.Endpoints.{no_answers, with_event}
-use Rattle.trace_recorded.specs.Waits.{told_of, with_waits}
+use Rattle.trace_recorded.specs.Waits.{source_number, told_at, with_waits}
 
--- an answer at a place may come where so much was taken at each endpoint: each line of a place up to it is reached
+-- an answer at a place may come where so much was taken of each thing that is counted, by its number: each line of a place up to it is reached
 abbrev pub MayCome : List Wait → ℕ → (ℕ → ℕ) → Type 0
-MayCome lines place took = AllByRecursion (λ (w : Wait). w.place ≤ place → w.count ≤ took w.other) lines
+MayCome lines place took = AllByRecursion (λ (w : Wait). w.place ≤ place → w.count ≤ took (source_number w.source)) lines
 
 -- these counts are reached
 abbrev pub AreReached : List TakenCount → (ℕ → ℕ) → Type 0
-AreReached taken took = AllByRecursion (λ (t : TakenCount). t.count ≤ took t.ep) taken
+AreReached taken took = AllByRecursion (λ (t : TakenCount). t.count ≤ took (source_number t.source)) taken
 
 -- what answers up to a place were told to wait for is reached where one there may come
 abbrev pub AreTold : ℕ → Waits → Type 0
-AreTold place waits = (took : ℕ → ℕ) → MayCome waits.lines place took → (ep : ℕ) → told_of ep waits ≤ took ep
+AreTold place waits = (took : ℕ → ℕ) → MayCome waits.lines place took → (number : ℕ) → told_at number waits ≤ took number
 
 -- an answer that came when so much had been taken may come where that is reached, and what those before it wait for, and no sooner
 pub record WaitsFor (place : ℕ) (own : TakenCount) (taken : List TakenCount) (waits : Waits) : Type 0 where

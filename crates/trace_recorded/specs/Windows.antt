@@ -3,6 +3,7 @@ use Rattle.std.specs.Prelude.{ℕ, ◌-◌, ◌%◌, ◌^◌, ◌==◌, nat_le, 
 use Rattle.usb_model.specs.declared.request.Kind.{Kind}
 use Rattle.usb_model.specs.declared.request.Kind.TheVariants.{Control}
 use Rattle.usb_model.specs.Setup.{is_in}
+use Rattle.trace_capture.specs.Control.{clear_halt}
 use Rattle.trace_capture.specs.declared.control_setup.ControlSetup.{ControlSetup}
 use Rattle.trace_recorded.specs.declared.number.Endianness.TheVariants.{Little}
 use Rattle.trace_recorded.specs.declared.event.RecordedType.{RecordedType}
@@ -81,16 +82,12 @@ windows_control_by _ frame packet =
 abbrev pub windows_control : ℕ → List ℕ → Option RecordedEvent
 windows_control frame packet = windows_control_by (direction_of (slice_index packet 16)) frame packet
 
--- CLEAR_FEATURE of ENDPOINT_HALT at an endpoint (USB 2.0, 9.4.1), which Windows has a function for, and no setup data
-abbrev pub reset_setup : ℕ → ControlSetup
-reset_setup ep = record { request_type = 2; request = 1; value = 0; index = ep; length = 0 }
-
--- whether a function ends a halt so: URB_FUNCTION_SYNC_RESET_PIPE_AND_CLEAR_STALL, and URB_FUNCTION_SYNC_CLEAR_STALL
+-- whether a function ends the halt of an endpoint, as CLEAR_FEATURE of ENDPOINT_HALT does (USB 2.0, 9.4.1), without setup data: URB_FUNCTION_SYNC_RESET_PIPE_AND_CLEAR_STALL, and URB_FUNCTION_SYNC_CLEAR_STALL
 abbrev pub clears_stall : ℕ → Bool
 clears_stall function = is_one_of (0x1e ∷ 0x31 ∷ []) function
 
 abbrev pub setup_of_reset : RecordedType → ℕ → Option ControlSetup
-setup_of_reset Submission ep = Some (reset_setup ep)
+setup_of_reset Submission ep = Some (clear_halt ep)
 setup_of_reset _ ep = None
 
 abbrev pub resets_pipe : ℕ → List ℕ → RecordedEvent

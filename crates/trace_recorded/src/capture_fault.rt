@@ -4,6 +4,7 @@ ghost use Rattle.std.specs.Prelude.{◌≡◌, Some};
 ghost use Rattle.trace_recorded.specs.Faults.{capture_fault_text};
 ghost use Rattle.trace_recorded.specs.declared.capture_fault.CaptureFault.TheVariants as CaptureFault;
 
+use crate::described::DeviceIds;
 use std::alloc::AllocError;
 use std::fmt;
 use thiserror::Error;
@@ -19,6 +20,8 @@ pub enum CaptureFault {
     LinkType(u32),
     /// No interface of a pcapng file is of a recorder of buses.
     NoInterface,
+    /// No device of the capture is the one that is meant: it has these ids.
+    NoDevice(DeviceIds),
     /// No memory was to be had.
     Memory,
 }
@@ -33,6 +36,7 @@ impl fmt::Display for CaptureFault {
             CaptureFault::HeaderCutShort => f.write_str("a file header cut short"),
             CaptureFault::LinkType(link) => write!(f, "link type {link}"),
             CaptureFault::NoInterface => f.write_str("no interface of usbmon or USBPcap"),
+            CaptureFault::NoDevice(ids) => write!(f, "no device {ids}"),
             CaptureFault::Memory => f.write_str("out of memory"),
         }
     }

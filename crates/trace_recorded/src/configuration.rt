@@ -1,6 +1,6 @@
 //! The configuration that a recorded device was used in.
 
-ghost use Rattle.std.specs.Prelude.{◌≡◌, ◌++◌, ◌∷◌, [], IfOk, slice_index, take};
+ghost use Rattle.std.specs.Prelude.{◌≡◌, ◌==◌, ◌++◌, ◌∷◌, [], IfOk, length, slice_index, take};
 ghost use Rattle.std.specs.List.{find};
 ghost use Rattle.std.specs.Option.{option_copied};
 ghost use Rattle.trace_capture.specs.Control.{configuration_value, total_length};
@@ -30,14 +30,14 @@ pub(crate) fn byte_or_zero(bytes: &[u8], place: usize) -> u8
 }
 
 /// How many bytes a configuration has with all its descriptors, as it says itself (USB 2.0, 9.6.3).
-fn total_length(bytes: &[u8]) -> usize
+pub(crate) fn total_length(bytes: &[u8]) -> usize
     ensures { result ≡ total_length bytes.now }
 {
     usize::from(byte_or_zero(bytes, 2)) + 256 * usize::from(byte_or_zero(bytes, 3))
 }
 
 /// Whether bytes are a whole configuration.
-fn is_complete(bytes: &[u8]) -> bool
+pub(crate) fn is_complete(bytes: &[u8]) -> bool
     ensures { result ≡ is_complete bytes.now }
 {
     bytes.len() >= 9 && total_length(bytes) >= 9 && total_length(bytes) <= bytes.len()
@@ -84,6 +84,13 @@ impl Configurations {
             found: Sequence::new(alloc),
             configured: None,
         }
+    }
+
+    /// Whether no configuration descriptor was read.
+    pub(crate) fn has_none(&self) -> bool
+        ensures { result ≡ (length self.now.found == 0) }
+    {
+        self.found.is_empty()
     }
 
     /// A request succeeded, with these bytes.

@@ -2,10 +2,12 @@
 
 ghost use Rattle.std.specs.Prelude.{◌≡◌, IfOk};
 ghost use Rattle.std.specs.Option.{option_copied};
-ghost use Rattle.trace_recorded.specs.Requests.{control_lines, key_of, next_of, no_lines, with_answered, with_next};
+ghost use Rattle.trace_recorded.specs.Keys.{key_of};
+ghost use Rattle.trace_recorded.specs.Requests.{control_lines, next_of, no_lines, with_answered, with_next};
 ghost use Rattle.trace_recorded.specs.Tables.{value_at};
 
 use crate::answer::RecordedAnswer;
+use crate::key::key_of;
 use crate::request::AnsweredRequest;
 use crate::table::ByNumber;
 use std::alloc::{AllocError, Global};
@@ -22,15 +24,6 @@ pub(crate) struct ControlLines {
     answers: ByNumber<Sequence<RecordedAnswer>>,
     /// The packet of the capture that has the first answer for which a line has no room, by the line's number.
     next: ByNumber<u64>,
-}
-
-/// A request's number in a table.
-fn key_of(setup: ControlSetup) -> u64
-    ensures { result ≡ key_of setup }
-{
-    let (kind, request) = (u64::from(setup.request_type), u64::from(setup.request));
-    let (value, index) = (u64::from(setup.value), u64::from(setup.index));
-    ((kind * 256 + request) * 65536 + value) * 65536 + index
 }
 
 impl ControlLines {

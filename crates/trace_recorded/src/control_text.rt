@@ -35,7 +35,7 @@ impl ScenarioText {
     }
 
     /// Puts the words of a request behind it.
-    fn put_request(&mut self, setup: ControlSetup) -> Result<(), AllocError>
+    pub(crate) fn put_request(&mut self, setup: ControlSetup) -> Result<(), AllocError>
         ensures { IfOk result (λ _. self.new ≡ self.old ++ request_words setup) }
     {
         self.put_word(&[setup.request_type])?;

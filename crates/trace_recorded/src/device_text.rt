@@ -2,7 +2,7 @@
 
 ghost use Rattle.std.specs.Prelude.{◌≡◌, ◌++◌, IfOk};
 ghost use Rattle.std.specs.List.{flat_map};
-ghost use Rattle.trace_recorded.specs.DeviceText.{descriptor_head, descriptor_line, device_head, device_line, device_text, hex_line, identity_text, lines_text, notes_text, origin_line, request_notes, string_head, string_line};
+ghost use Rattle.trace_recorded.specs.DeviceText.{descriptor_head, descriptor_line, device_head, device_line, device_text, hex_line, identity_text, lasts_line, lines_text, notes_text, origin_line, request_notes, string_head, string_line, told_text};
 
 use crate::device::RecordedDevice;
 use crate::identity::{DeviceIdentity, RecordedString};
@@ -94,6 +94,14 @@ impl ScenarioText {
         Ok(())
     }
 
+    /// Puts the line behind it that says that a reset doesn't begin a device's scripts anew.
+    fn put_lasts(&mut self, number: u8) -> Result<(), AllocError>
+        ensures { IfOk result (λ _. self.new ≡ self.old ++ lasts_line number) }
+    {
+        let line = format!(in self.alloc(); "lasts {number}\n")?;
+        self.put(line.as_str())
+    }
+
     /// Puts behind it who a device says that it is.
     fn put_identity(&mut self, number: u8, identity: &DeviceIdentity) -> Result<(), AllocError>
         ensures { IfOk result (λ _. self.new ≡ self.old ++ identity_text number identity.now) }
@@ -129,6 +137,15 @@ impl ScenarioText {
         self.put_others(device.others.as_slice())
     }
 
+    /// Puts behind it what a device answered, and which answers wait.
+    fn put_told(&mut self, number: u8, device: &RecordedDevice) -> Result<(), AllocError>
+        ensures { IfOk result (λ _. self.new ≡ self.old ++ told_text number device.now) }
+    {
+        self.put_scripts(number, device.endpoints.as_slice())?;
+        self.put_controls(number, &device.controls)?;
+        self.put_waits(number, device.endpoints.as_slice())
+    }
+
     /// Puts the lines of a device behind it.
     fn put_lines(
         &mut self,
@@ -141,10 +158,9 @@ impl ScenarioText {
         self.put_configuration(number, device.descriptor.as_slice())?;
         match reader {
             TextReader::Library => {
+                self.put_lasts(number)?;
                 self.put_identity(number, &device.identity)?;
-                self.put_scripts(number, device.endpoints.as_slice())?;
-                self.put_controls(number, &device.controls)?;
-                self.put_waits(number, device.endpoints.as_slice())
+                self.put_told(number, device)
             }
             TextReader::Scenario => self.put_scripts(number, device.endpoints.as_slice()),
         }

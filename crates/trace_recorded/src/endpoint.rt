@@ -13,7 +13,7 @@ use crate::note::Noted;
 use crate::submission::{RecordedSubmission, copied};
 use crate::table::ByNumber;
 use crate::transfer::RecordedTransfer;
-use crate::waits::{TakenCount, Waits};
+use crate::waits::{Source, TakenCount, Waits};
 use std::alloc::{AllocError, Global};
 use std::mem;
 use usb_model::limits::LONGEST_SCRIPT;
@@ -169,9 +169,9 @@ impl RecordedEndpoint {
         if !self.info.address.is_in() || count == 0 || self.count >= LONGEST_SCRIPT as u64 {
             return Ok(());
         }
-        let (ep, place) = (self.info.address, self.count);
+        let place = self.count;
         let own = TakenCount {
-            ep,
+            source: Source::Endpoint(self.info.address),
             count: self.withdrawn,
         };
         self.waits.put_all(place, own, taken)

@@ -52,7 +52,7 @@ fn reads_string(setup: ControlSetup) -> bool
 }
 
 /// Whether bytes begin with a whole device descriptor.
-fn is_device_descriptor(bytes: &[u8]) -> bool
+pub(crate) fn is_device_descriptor(bytes: &[u8]) -> bool
     ensures { result ≡ is_device_descriptor bytes.now }
 {
     bytes.len() >= DEVICE_SIZE && byte_or_zero(bytes, 0) == 18 && byte_or_zero(bytes, 1) == DEVICE
@@ -90,7 +90,7 @@ impl DeviceIdentity {
     }
 
     /// Whether the string of an index was read.
-    fn has_string(&self, index: u8) -> bool
+    pub(crate) fn has_string(&self, index: u8) -> bool
         ensures { result ≡ has_string index self.now }
     {
         self.strings

@@ -1,5 +1,6 @@
 //! Laws over the definitions, as functions that do nothing.
 
+ghost use Rattle.trace_recorded.specs.DescribedLaws.{EventsStay, NothingMissing, NothingSaidIsPutIn};
 ghost use Rattle.trace_recorded.specs.Laws.{AnswersAreThose, EventsAreReadBack, FilesAreReadBack, LinesHaveTheAnswers, PacketsAreWritten, ReadsAreToldAgain, WritesAreToldAgain};
 ghost use Rattle.trace_recorded.specs.WaitLaws.{AnswersWait};
 
@@ -42,4 +43,16 @@ pub fn requests()
 /// answers of each endpoint, over all events of its device.
 pub fn waits()
     ensures { AnswersWait }
+{}
+
+/// Of what a file says of a device nothing is put in front of its events that they say themselves: a device descriptor, any configuration, a
+/// string of the same index.
+pub fn unsaid()
+    ensures { NothingSaidIsPutIn }
+{}
+
+/// A device's events stay as they are, behind what is put in; and where nothing is missing they are all.
+pub fn events_stay()
+    ensures stay { EventsStay }
+    ensures same { NothingMissing }
 {}

@@ -25,12 +25,21 @@
 //! - `note.rt`, `text.rt`, `answer_text.rt`, specs/Lines: notes and scripts
 //! - `reader.rt`, `control_text.rt`, `wait_text.rt`, `device_text.rt`, specs/DeviceText: the lines of a device, for who reads them
 //! - `scenario.rt`, `capture_fault.rt`, specs/Scenario, Faults: the whole, or why there is none
-//! - `laws.rt`, specs/Laws, proofs/: what is written is read back; what the answers come to, by the definitions of the model
+//! - `described.rt`, `described_file.rt`, `umockdev.rt`, `described_fault.rt`, specs/DescribedFiles: a device as a file describes it
+//! - `choice.rt`, specs/Choices: which device of a capture is meant
+//! - `completed.rt`, specs/Described: what a file says of a device and its events don't, as events in front of these
+//! - `described_text.rt`, `one_device.rt`, specs/DescribedText: the lines of one device, with what is from the file
+//! - `laws.rt`, specs/Laws, DescribedLaws, proofs/: what is written is read back; what the answers come to, by the definitions of the model
 //!
 //! # Contracts
 //!
 //! - `recorded_scenario`: the text of a capture's devices, and whether there is one, are those of the definition
 //!   (`recorded_scenario`, in specs/Scenario); an error is that of the definition, or want of memory. Nothing is required
+//! - `described_scenario`: the text of the one device that is meant, and of what a file says of it where the capture says nothing, is that of
+//!   the definition (`described_scenario`, in specs/DescribedText); an error is that of the definition, or want of memory
+//! - `described_by_descriptors`: a file's device descriptor, its configurations and the speed are those of the definition (`Describes`, in
+//!   specs/DescribedFiles), and so is an error. Of strings, and of a file of umockdev-record, no contract says what is read
+//! - `laws::unsaid`, `laws::events_stay`: nothing is put in front of a device's events that they say themselves, and these stay as they are
 //! - `CaptureFault`: its printed text is that of the definition (`capture_fault_text`)
 //! - `event_of`: the event of a packet's bytes is that of the definition, in either byte order and behind each header
 //! - `RecordedEnd::of`: how a transfer ended, by the number of its status
@@ -58,10 +67,16 @@ mod answer_text;
 mod answers;
 mod block;
 mod capture_fault;
+mod choice;
+mod completed;
 mod configuration;
 mod control_lines;
 mod control_text;
 mod controls;
+mod described;
+mod described_fault;
+mod described_file;
+mod described_text;
 mod device;
 mod device_text;
 mod endpoint;
@@ -69,10 +84,12 @@ mod event;
 mod halt;
 mod hub;
 mod identity;
+mod key;
 pub mod laws;
 mod left_out;
 mod note;
 mod number;
+mod one_device;
 mod packets;
 mod pcap;
 mod pcapng;
@@ -85,14 +102,21 @@ mod submission;
 mod table;
 mod text;
 mod transfer;
+mod umockdev;
 mod wait_text;
 mod waits;
 mod windows;
 
 pub use answers::answers_of;
 pub use capture_fault::CaptureFault;
+pub use choice::DeviceChoice;
+pub use described::{DescribedDevice, DeviceIds, DevicePlace, DeviceSpeed};
+pub use described_fault::DescribedFault;
+pub use described_file::{DeviceTexts, described_by_descriptors};
 pub use event::{EventHeader, RecordedEvent, RecordedType, event_of};
 pub use number::Endianness;
+pub use one_device::described_scenario;
 pub use reader::TextReader;
 pub use scenario::{RecordedScenario, recorded_scenario};
 pub use transfer::{RecordedEnd, RecordedTransfer};
+pub use umockdev::described_by_umockdev;

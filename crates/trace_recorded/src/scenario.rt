@@ -30,17 +30,17 @@ pub struct RecordedScenario {
 #[derive(Drop)]
 pub(crate) struct Listing {
     /// Who reads them.
-    reader: TextReader,
+    pub(crate) reader: TextReader,
     /// Those of the devices that are left out.
-    left_out: ScenarioText,
+    pub(crate) left_out: ScenarioText,
     /// Those of the devices that are kept.
-    kept: ScenarioText,
+    pub(crate) kept: ScenarioText,
     /// How many are kept.
-    count: u8,
+    pub(crate) count: u8,
 }
 
 /// The number of the first packet of events.
-fn first_frame(events: &[RecordedEvent]) -> u64
+pub(crate) fn first_frame(events: &[RecordedEvent]) -> u64
     ensures { result ≡ first_frame events.now }
 {
     match events.first() {
@@ -51,7 +51,7 @@ fn first_frame(events: &[RecordedEvent]) -> u64
 
 impl Listing {
     /// No device yet.
-    fn new(alloc: Global, reader: TextReader) -> Listing
+    pub(crate) fn new(alloc: Global, reader: TextReader) -> Listing
         ensures { result ≡ no_device reader }
     {
         Listing {
@@ -91,7 +91,12 @@ impl Listing {
 
     /// A device more, by its events.
     #[tactic(auto, unfolding(crate::specs::Scenario::with_found))]
-    fn read(&mut self, alloc: Global, key: u64, events: &[RecordedEvent]) -> Result<(), AllocError>
+    pub(crate) fn read(
+        &mut self,
+        alloc: Global,
+        key: u64,
+        events: &[RecordedEvent],
+    ) -> Result<(), AllocError>
         ensures { IfOk result (λ _. self.new ≡ with_found (key, events.now) self.old) }
     {
         let device = device_of(alloc, self.reader, events)?;
@@ -99,7 +104,11 @@ impl Listing {
     }
 
     /// The scenario.
-    fn into_scenario(self, alloc: Global, is_cut: bool) -> Result<RecordedScenario, AllocError>
+    pub(crate) fn into_scenario(
+        self,
+        alloc: Global,
+        is_cut: bool,
+    ) -> Result<RecordedScenario, AllocError>
         ensures { IfOk result (λ scenario. scenario ≡ scenario_by is_cut self) }
     {
         let Listing {

@@ -4,26 +4,28 @@ ghost use Rattle.std.specs.Prelude.{◌≡◌, ◌++◌, [], IfOk, map};
 ghost use Rattle.std.specs.List.{flat_map};
 ghost use Rattle.trace_recorded.specs.Endpoints.{with_event};
 ghost use Rattle.trace_recorded.specs.Folds.{after};
-ghost use Rattle.trace_recorded.specs.Sessions.{is_special, no_session, session_of, submits_special, taken_of, takes, with_endpoint, with_session_event};
+ghost use Rattle.trace_recorded.specs.Sessions.{asked, is_special, last_taken, no_session, session_of, special_request, taken_of, takes, with_endpoint, with_request, with_session_event};
 
 use crate::endpoint::{RecordedEndpoint, is_scripted};
 use crate::event::{RecordedEvent, RecordedType};
-use crate::waits::TakenCount;
+use crate::key::key_of;
+use crate::table::ByNumber;
+use crate::waits::{Source, TakenCount};
 use std::alloc::{AllocError, Global};
 use std::mem;
 use trace_capture::ControlSetup;
-use usb_model::{EndpointInfo, EpAddr, Sequence};
-
-/// The default control endpoint.
-const CONTROL: u8 = 0;
+use usb_model::{EndpointInfo, Sequence};
 
 /// What the endpoints of a device answered, as far as its events were read.
 #[derive(Drop)]
 pub(crate) struct RecordedSession {
     /// Its bulk and interrupt endpoints, in the order of the configuration.
     pub(crate) endpoints: Sequence<RecordedEndpoint>,
-    /// How many control requests were submitted that aren't standard ones; it stays at the largest number of 64 bits.
-    requests: u64,
+    /// How many control requests were submitted that aren't standard ones, by the number of a request; a count stays at the largest number
+    /// of 64 bits.
+    requests: ByNumber<u64>,
+    /// The last one of these.
+    last: Option<ControlSetup>,
 }
 
 /// Whether a request isn't a standard one.
@@ -33,13 +35,13 @@ fn is_special(setup: ControlSetup) -> bool
     setup.request_type / 32 % 4 != 0
 }
 
-/// Whether an event is the submission of such a request.
-fn submits_special(event: &RecordedEvent) -> bool
-    ensures { result ≡ submits_special event.now.event_type event.now.setup }
+/// Such a request, where an event is its submission.
+fn special_request(event: &RecordedEvent) -> Option<ControlSetup>
+    ensures { result ≡ special_request event.now.event_type event.now.setup }
 {
     match (event.event_type, event.setup) {
-        (RecordedType::Submission, Some(setup)) => is_special(setup),
-        _ => false,
+        (RecordedType::Submission, Some(setup)) if is_special(setup) => Some(setup),
+        _ => None,
     }
 }
 
@@ -54,8 +56,9 @@ fn push_taken(
     if ep.is_in() {
         return Ok(());
     }
+    let source = Source::Endpoint(ep);
     let count = endpoint.acknowledged;
-    taken.push(TakenCount { ep, count })
+    taken.push(TakenCount { source, count })
 }
 
 /// What endpoints took.
@@ -123,8 +126,22 @@ impl RecordedSession {
     {
         Ok(RecordedSession {
             endpoints: endpoints_of(alloc, infos)?,
-            requests: 0,
+            requests: ByNumber::new(alloc),
+            last: None,
         })
+    }
+
+    /// Puts behind others the last request, by how many like it there were, if there was one.
+    fn push_last(&self, taken: &mut Sequence<TakenCount>) -> Result<(), AllocError>
+        ensures { IfOk result (λ _. taken.new ≡ taken.old ++ last_taken self.now) }
+    {
+        match self.last {
+            Some(setup) => taken.push(TakenCount {
+                source: Source::Requests(setup),
+                count: self.asked(setup),
+            }),
+            None => Ok(()),
+        }
     }
 
     /// What was taken so far.
@@ -132,11 +149,30 @@ impl RecordedSession {
         ensures { IfOk result (λ taken. taken ≡ taken_of self.now) }
     {
         let mut taken = taken_by(alloc, self.endpoints.as_slice())?;
-        taken.push(TakenCount {
-            ep: EpAddr::new(CONTROL),
-            count: self.requests,
-        })?;
+        self.push_last(&mut taken)?;
         Ok(taken)
+    }
+
+    /// How many requests like this were submitted.
+    fn asked(&self, setup: ControlSetup) -> u64
+        ensures { result ≡ asked setup self.now }
+    {
+        match self.requests.get(key_of(setup)) {
+            Some(count) => *count,
+            None => 0,
+        }
+    }
+
+    /// A request was submitted that isn't a standard one.
+    fn count_request(&mut self, setup: ControlSetup) -> Result<(), AllocError>
+        ensures { IfOk result (λ _. self.new ≡ with_request setup self.old) }
+    {
+        let key = key_of(setup);
+        let count = self.asked(setup).saturating_add(1);
+        let _ = self.requests.take(key);
+        self.requests.put(key, count)?;
+        self.last = Some(setup);
+        Ok(())
     }
 
     /// An event more.
@@ -148,10 +184,10 @@ impl RecordedSession {
         let mut endpoints = mem::replace(&mut self.endpoints, Sequence::new(alloc)).into_vec();
         read_all(alloc, &mut endpoints, taken.as_slice(), event)?;
         self.endpoints = Sequence::from_vec(endpoints);
-        if submits_special(event) {
-            self.requests = self.requests.saturating_add(1);
+        match special_request(event) {
+            Some(setup) => self.count_request(setup),
+            None => Ok(()),
         }
-        Ok(())
     }
 }
 

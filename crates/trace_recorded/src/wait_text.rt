@@ -2,11 +2,11 @@
 
 ghost use Rattle.std.specs.Prelude.{◌≡◌, ◌++◌, IfOk};
 ghost use Rattle.std.specs.List.{flat_map};
-ghost use Rattle.trace_recorded.specs.DeviceText.{wait_head, wait_line, wait_lines, wait_rest, waits_text};
+ghost use Rattle.trace_recorded.specs.DeviceText.{decimal_word, source_words, wait_head, wait_line, wait_lines, wait_rest, waits_text};
 
 use crate::endpoint::RecordedEndpoint;
 use crate::text::ScenarioText;
-use crate::waits::Wait;
+use crate::waits::{Source, Wait};
 use std::alloc::AllocError;
 use usb_model::EpAddr;
 
@@ -19,13 +19,35 @@ impl ScenarioText {
         self.put(head.as_str())
     }
 
+    /// Puts a number behind it as a decimal word.
+    fn put_decimal(&mut self, number: u64) -> Result<(), AllocError>
+        ensures { IfOk result (λ _. self.new ≡ self.old ++ decimal_word number) }
+    {
+        let word = format!(in self.alloc(); " {number}")?;
+        self.put(word.as_str())
+    }
+
+    /// Puts the words behind it that say what is counted.
+    fn put_counted(&mut self, source: Source) -> Result<(), AllocError>
+        ensures { IfOk result (λ _. self.new ≡ self.old ++ source_words source) }
+    {
+        match source {
+            Source::Endpoint(ep) => {
+                let word = format!(in self.alloc(); " {ep}")?;
+                self.put(word.as_str())
+            }
+            Source::Requests(setup) => self.put_request(setup),
+        }
+    }
+
     /// Puts the rest of it behind it: from which place on, and for what.
     fn put_wait_rest(&mut self, wait: Wait) -> Result<(), AllocError>
         ensures { IfOk result (λ _. self.new ≡ self.old ++ wait_rest wait) }
     {
-        let (place, other, count) = (wait.place, wait.other, wait.count);
-        let rest = format!(in self.alloc(); " {place} {other} {count}\n")?;
-        self.put(rest.as_str())
+        self.put_decimal(wait.place)?;
+        self.put_counted(wait.source)?;
+        self.put_decimal(wait.count)?;
+        self.put("\n")
     }
 
     /// Puts the line of a wait behind it.

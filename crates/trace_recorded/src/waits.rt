@@ -2,28 +2,51 @@
 
 ghost use Rattle.std.specs.Prelude.{◌≡◌, IfOk};
 ghost use Rattle.trace_recorded.specs.Folds.{after};
-ghost use Rattle.trace_recorded.specs.Waits.{no_waits, told_of, with_wait, with_waits};
+ghost use Rattle.trace_recorded.specs.Waits.{no_waits, source_number, told_of, with_wait, with_waits};
 
+use crate::key::key_of;
 use crate::table::ByNumber;
 use std::alloc::{AllocError, Global};
+use trace_capture::ControlSetup;
 use usb_model::{EpAddr, Sequence};
 
-/// How much was taken at an endpoint: packets at one for OUT, control requests at 00; at one for IN, reads that were withdrawn.
+/// What is counted of what a device took.
+#[derive(Clone, Copy)]
+pub(crate) enum Source {
+    /// Packets at an endpoint for OUT; at one for IN, reads that were withdrawn.
+    Endpoint(EpAddr),
+    /// Control requests of this one's type, number, value and index.
+    Requests(ControlSetup),
+}
+
+impl Source {
+    /// Its number in a table.
+    fn number(self) -> u64
+        ensures { result ≡ source_number self }
+    {
+        match self {
+            Source::Endpoint(ep) => u64::from(ep.address()),
+            Source::Requests(setup) => 256 + key_of(setup),
+        }
+    }
+}
+
+/// How much was taken of something.
 #[derive(Clone, Copy)]
 pub(crate) struct TakenCount {
-    /// The endpoint.
-    pub(crate) ep: EpAddr,
+    /// Of what.
+    pub(crate) source: Source,
     /// How much.
     pub(crate) count: u64,
 }
 
-/// The answers from a place on wait until so much was taken at another endpoint.
+/// The answers from a place on wait until so much was taken of something.
 #[derive(Clone, Copy)]
 pub(crate) struct Wait {
     /// The place, counted from 0.
     pub(crate) place: u64,
-    /// The endpoint, or 00 for control requests.
-    pub(crate) other: EpAddr,
+    /// Of what.
+    pub(crate) source: Source,
     /// How much.
     pub(crate) count: u64,
 }
@@ -31,7 +54,7 @@ pub(crate) struct Wait {
 /// Which answers of an endpoint wait for what.
 #[derive(Drop)]
 pub(crate) struct Waits {
-    /// For how much its answers wait so far, by the other endpoint's address.
+    /// For how much its answers wait so far, by the number of what is counted.
     told: ByNumber<u64>,
     /// The waits, by rising place.
     pub(crate) lines: Sequence<Wait>,
@@ -48,11 +71,11 @@ impl Waits {
         }
     }
 
-    /// For how much at another endpoint its answers wait so far.
-    fn told_of(&self, ep: EpAddr) -> u64
-        ensures { result ≡ told_of ep self.now }
+    /// For how much of something its answers wait so far.
+    fn told_of(&self, source: Source) -> u64
+        ensures { result ≡ told_of source self.now }
     {
-        match self.told.get(u64::from(ep.address())) {
+        match self.told.get(source.number()) {
             Some(count) => *count,
             None => 0,
         }
@@ -63,15 +86,15 @@ impl Waits {
     fn put(&mut self, place: u64, taken: TakenCount) -> Result<(), AllocError>
         ensures { IfOk result (λ _. self.new ≡ with_wait place taken self.old) }
     {
-        if self.told_of(taken.ep) >= taken.count {
+        if self.told_of(taken.source) >= taken.count {
             return Ok(());
         }
-        let key = u64::from(taken.ep.address());
+        let key = taken.source.number();
         let _ = self.told.take(key);
         self.told.put(key, taken.count)?;
         self.lines.push(Wait {
             place,
-            other: taken.ep,
+            source: taken.source,
             count: taken.count,
         })
     }
@@ -86,7 +109,7 @@ impl Waits {
         Ok(())
     }
 
-    /// They wait for what was taken at their own endpoint, and at the others.
+    /// They wait for what was taken at their own endpoint, and elsewhere.
     pub(crate) fn put_all(
         &mut self,
         place: u64,

@@ -1,7 +1,7 @@
 //! An event of a bus as Windows' recorder writes it (USBPcap, "USBPcap Capture format"), with the lowest byte of each number first.
 
 ghost use Rattle.std.specs.Prelude.{◌≡◌, ◌≤◌, length, IfOk};
-ghost use Rattle.trace_recorded.specs.Windows.{clears_stall, direction_of, error_of, is_told, resets_pipe, reset_setup, windows_callback, windows_control, windows_data, windows_event, windows_head, windows_status, windows_submission, windows_transfer};
+ghost use Rattle.trace_recorded.specs.Windows.{clears_stall, direction_of, error_of, is_told, resets_pipe, windows_callback, windows_control, windows_data, windows_event, windows_head, windows_status, windows_submission, windows_transfer};
 
 use crate::configuration::byte_or_zero;
 use crate::event::{RecordedEvent, RecordedType, kind_of, setup_at};
@@ -177,19 +177,6 @@ fn windows_control(
     }
 }
 
-/// CLEAR_FEATURE of ENDPOINT_HALT at an endpoint (USB 2.0, 9.4.1).
-fn reset_setup(ep: EpAddr) -> ControlSetup
-    ensures { result ≡ reset_setup ep }
-{
-    ControlSetup {
-        request_type: 2,
-        request: 1,
-        value: 0,
-        index: u16::from(ep.address()),
-        length: 0,
-    }
-}
-
 /// A packet of the request that ends a halt, which Windows has no setup data for.
 fn resets_pipe(alloc: Global, frame: u64, packet: &[u8]) -> RecordedEvent
     requires { 27 ≤ length packet.now }
@@ -197,7 +184,7 @@ fn resets_pipe(alloc: Global, frame: u64, packet: &[u8]) -> RecordedEvent
 {
     let mut event = windows_head(alloc, frame, packet);
     if matches!(event.event_type, RecordedType::Submission) {
-        event.setup = Some(reset_setup(event.ep));
+        event.setup = Some(ControlSetup::clear_halt(event.ep));
     }
     event
 }

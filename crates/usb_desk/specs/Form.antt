@@ -9,22 +9,28 @@ use Rattle.usb_desk.specs.declared.wanted.Wanted.{Wanted}
 use Rattle.usb_desk.specs.declared.wanted.Wanted.TheVariants as wanted
 use Rattle.usb_desk.specs.Word.{any_of}
 
--- what stands behind the first word, as far as each place has its own
-unfoldable pub form : Topic → List Wanted
-form topic.Device = wanted.Device ∷ wanted.Bytes ∷ []
-form topic.Script = wanted.Device ∷ wanted.Address ∷ []
-form topic.Ids = wanted.Device ∷ wanted.Word ∷ wanted.Word ∷ wanted.Word ∷ []
-form topic.Class = wanted.Device ∷ wanted.Byte ∷ wanted.Byte ∷ wanted.Byte ∷ []
-form topic.Descriptor = wanted.Device ∷ wanted.Whole ∷ []
-form topic.Text = wanted.Device ∷ wanted.Index ∷ []
-form topic.Speed = wanted.Device ∷ wanted.Speed ∷ []
-form topic.Control = wanted.Device ∷ wanted.AnyByte ∷ wanted.AnyByte ∷ wanted.AnyWord ∷ wanted.AnyWord ∷ []
-form topic.After = wanted.Device ∷ wanted.Address ∷ wanted.Number ∷ wanted.Address ∷ wanted.Number ∷ []
-form topic.Leaves = wanted.Device ∷ wanted.Address ∷ wanted.Number ∷ []
-form topic.Hidden = wanted.Device ∷ []
-form topic.Anew = wanted.Device ∷ []
-form topic.Lasts = wanted.Device ∷ []
-form topic.Driver = wanted.Device ∷ wanted.Interface ∷ []
+-- in a line of nine words answers wait for requests
+abbrev pub gate_form : ℕ → List Wanted
+gate_form count =
+    if count == 9 then wanted.Device ∷ wanted.Address ∷ wanted.Number ∷ wanted.AnyByte ∷ wanted.AnyByte ∷ wanted.AnyWord ∷ wanted.AnyWord ∷ wanted.Number ∷ []
+    else wanted.Device ∷ wanted.Address ∷ wanted.Number ∷ wanted.Address ∷ wanted.Number ∷ []
+
+-- what stands behind the first word, as far as each place has its own, in a line of so many words
+unfoldable pub form : Topic → ℕ → List Wanted
+form topic.Device count = wanted.Device ∷ wanted.Bytes ∷ []
+form topic.Script count = wanted.Device ∷ wanted.Address ∷ []
+form topic.Ids count = wanted.Device ∷ wanted.Word ∷ wanted.Word ∷ wanted.Word ∷ []
+form topic.Class count = wanted.Device ∷ wanted.Byte ∷ wanted.Byte ∷ wanted.Byte ∷ []
+form topic.Descriptor count = wanted.Device ∷ wanted.Whole ∷ []
+form topic.Text count = wanted.Device ∷ wanted.Index ∷ []
+form topic.Speed count = wanted.Device ∷ wanted.Speed ∷ []
+form topic.Control count = wanted.Device ∷ wanted.AnyByte ∷ wanted.AnyByte ∷ wanted.AnyWord ∷ wanted.AnyWord ∷ []
+form topic.After count = gate_form count
+form topic.Leaves count = wanted.Device ∷ wanted.Address ∷ wanted.Number ∷ []
+form topic.Hidden count = wanted.Device ∷ []
+form topic.Anew count = wanted.Device ∷ []
+form topic.Lasts count = wanted.Device ∷ []
+form topic.Driver count = wanted.Device ∷ wanted.Interface ∷ []
 
 -- how many words a line has, the first word among them; how many answers stands with them
 unfoldable pub has_count : Topic → ℕ → Bool
@@ -36,7 +42,7 @@ has_count topic.Descriptor count = count == 3
 has_count topic.Text count = nat_le 4 count
 has_count topic.Speed count = count == 3
 has_count topic.Control count = nat_le 6 count
-has_count topic.After count = count == 6
+has_count topic.After count = (count == 6) || (count == 9)
 has_count topic.Leaves count = count == 4
 has_count topic.Hidden count = count == 2
 has_count topic.Anew count = count == 2
@@ -65,7 +71,7 @@ answer_in topic words = None
 abbrev pub wanted_at : Topic → List (List ℕ) → ℕ → Option Wanted
 wanted_at topic words at =
     if at == 0 then None
-    else if nat_le at (length (form topic)) then slice_get (form topic) (at - 1)
+    else if nat_le at (length (form topic (length words))) then slice_get (form topic (length words)) (at - 1)
     else answer_in topic words
 
 -- the form, as a person reads it
@@ -78,7 +84,7 @@ form_text topic.Descriptor = codes "descriptor D HEX"
 form_text topic.Text = codes "string D I TEXT"
 form_text topic.Speed = codes "speed D SPEED"
 form_text topic.Control = codes "control D TYPE REQUEST VALUE INDEX A A .."
-form_text topic.After = codes "after D EP K OTHER N"
+form_text topic.After = codes "after D EP K OTHER N` or `after D EP K TYPE REQUEST VALUE INDEX N"
 form_text topic.Leaves = codes "leaves D EP N"
 form_text topic.Hidden = codes "hidden D"
 form_text topic.Anew = codes "anew D"

@@ -36,7 +36,7 @@ has_room d ep = is_free (endpoint_id ep) d.scripts
 abbrev pub has_interface : DeviceSetup → ℕ → Bool
 has_interface d i = list_any (λ k. k == i) d.config.interfaces
 
--- whether a line's two addresses, its words at 2 and 4, are one
+-- whether the two addresses of a line of six words, those at 2 and 4, are one
 abbrev pub names_one : List (List ℕ) → Bool
 names_one words = option_map_or (λ ep. option_map_or (λ other. other == ep) (address_of (word_at words 4)) false) (address_of (word_at words 2)) false
 
@@ -49,7 +49,7 @@ FitsPlace fault.NoEndpoint devices words = at_endpoint has_endpoint devices word
 FitsPlace fault.SecondScript devices words = (topic_in words ≡ Some topic.Script) × (at_endpoint has_room devices words 2 ≡ Some false)
 FitsPlace (fault.NoAnswer count) devices words =
     (topic_in words ≡ Some topic.After) × (at_endpoint answer_count devices words 2 ≡ Some (Some count)) × (option_map (λ k. nat_lt k count) (u32_of (word_at words 3)) ≡ Some false)
-FitsPlace fault.NotOut devices words = (topic_in words ≡ Some topic.After) × (at_endpoint takes_packets devices words 4 ≡ Some false) × (names_one words ≡ false)
+FitsPlace fault.NotOut devices words = (topic_in words ≡ Some topic.After) × (length words ≡ 6) × (at_endpoint takes_packets devices words 4 ≡ Some false) × (names_one words ≡ false)
 FitsPlace (fault.FewAnswers count) devices words =
     (topic_in words ≡ Some topic.Leaves) × (at_endpoint answer_count devices words 2 ≡ Some (Some count)) × (option_map (λ n. nat_le n count) (u32_of (word_at words 3)) ≡ Some false)
 FitsPlace (fault.TooFast speed) devices words =

@@ -13,6 +13,8 @@ use Rattle.usb_desk.specs.declared.line.DeskLine.TheVariants as line
 use Rattle.usb_desk.specs.declared.sense.Saying.{Saying}
 use Rattle.usb_desk.specs.declared.sense.Subject.{Subject}
 use Rattle.usb_desk.specs.declared.sense.Subject.TheVariants as subject
+use Rattle.usb_desk.specs.declared.statement.Awaited.{Awaited}
+use Rattle.usb_desk.specs.declared.statement.Awaited.TheVariants as awaited
 use Rattle.usb_desk.specs.declared.statement.Departure.{Departure}
 use Rattle.usb_desk.specs.declared.statement.Gate.{Gate}
 use Rattle.usb_desk.specs.declared.statement.Statement.{Statement}
@@ -34,9 +36,13 @@ has_place d g = option_map_or (nat_lt g.place) (answer_count d g.ep) false
 abbrev pub takes_packets : DeviceSetup → ℕ → Bool
 takes_packets d ep = (ep == 0) || (takes_script d.config ep && not (is_in ep))
 
--- or until transfers ended without an answer at the endpoint itself
+-- or until transfers ended without an answer at the endpoint itself, or until any requests were made
+abbrev pub can_wait_for : DeviceSetup → ℕ → Awaited → Bool
+can_wait_for d ep (awaited.At other) = (other == ep) || takes_packets d other
+can_wait_for d ep (awaited.Requests pattern) = true
+
 abbrev pub can_wait : DeviceSetup → Gate → Bool
-can_wait d g = (g.other == g.ep) || takes_packets d g.other
+can_wait d g = can_wait_for d g.ep g.awaited
 
 -- a device is pulled out behind as many answers as the endpoint has at most
 abbrev pub has_answers : DeviceSetup → Departure → Bool

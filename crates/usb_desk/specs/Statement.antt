@@ -4,6 +4,8 @@ use Rattle.std.specs.Option.{option_map, option_and_then}
 use Rattle.std.specs.Result.{result_ok}
 use Rattle.hex.specs.Hex.{decode_sized}
 use Rattle.trace_scenario.specs.Number.{address_of, u8_of, u32_of}
+use Rattle.usb_desk.specs.declared.statement.Awaited.{Awaited}
+use Rattle.usb_desk.specs.declared.statement.Awaited.TheVariants as awaited
 use Rattle.usb_desk.specs.declared.statement.Pattern.{Pattern}
 use Rattle.usb_desk.specs.declared.statement.Statement.{Statement}
 use Rattle.usb_desk.specs.declared.statement.Statement.TheVariants as says
@@ -58,10 +60,15 @@ control_of (kind ∷ request ∷ value ∷ index ∷ words) =
     option_and_then (λ (p : Pattern). option_map (λ xs. says.Control (record { pattern = p; answers = xs; asked = 0 })) (answers_of p.kind words)) (pattern_of kind request value index)
 control_of _ = None
 
--- answers that wait
+-- the answers of an endpoint from a place on wait for so many of something
+abbrev pub gate_with : (ep place : List ℕ) → Option Awaited → (count : List ℕ) → Option Statement
+gate_with ep place awaited count =
+    option_and_then (λ a. option_and_then (λ e. option_and_then (λ k. option_map (λ n. says.After (record { ep = e; place = k; awaited = a; count = n })) (u32_of count)) (u32_of place)) (address_of ep)) awaited
+
+-- answers that wait: for packets or transfers at an endpoint, or for requests
 unfoldable pub gate_of : List (List ℕ) → Option Statement
-gate_of (ep ∷ place ∷ other ∷ packets ∷ []) =
-    option_and_then (λ e. option_and_then (λ k. option_and_then (λ o. option_map (λ n. says.After (record { ep = e; place = k; other = o; packets = n })) (u32_of packets)) (address_of other)) (u32_of place)) (address_of ep)
+gate_of (ep ∷ place ∷ other ∷ count ∷ []) = gate_with ep place (option_map awaited.At (address_of other)) count
+gate_of (ep ∷ place ∷ kind ∷ request ∷ value ∷ index ∷ count ∷ []) = gate_with ep place (option_map awaited.Requests (pattern_of kind request value index)) count
 gate_of _ = None
 
 -- when it is pulled out

@@ -40,6 +40,17 @@ const AFTER: &[Wanted] = &[
     Wanted::Number,
 ];
 
+const AFTER_REQUESTS: &[Wanted] = &[
+    Wanted::Device,
+    Wanted::Address,
+    Wanted::Number,
+    Wanted::AnyByte,
+    Wanted::AnyByte,
+    Wanted::AnyWord,
+    Wanted::AnyWord,
+    Wanted::Number,
+];
+
 const LEAVES: &[Wanted] = &[Wanted::Device, Wanted::Address, Wanted::Number];
 
 const BARE: &[Wanted] = &[Wanted::Device];
@@ -79,10 +90,10 @@ fn of_request(kind: Option<u8>) -> Wanted
 }
 
 impl Topic {
-    /// What stands behind the first word, as far as each place has its own.
+    /// What stands behind the first word, as far as each place has its own, in a line of so many words.
     #[tactic(auto, unfolding(crate::specs::Form::form))]
-    fn form(self) -> &'static [Wanted]
-        ensures { result.now ≡ form self }
+    fn form(self, count: usize) -> &'static [Wanted]
+        ensures { result.now ≡ form self count }
     {
         match self {
             Topic::Device => DEVICE,
@@ -93,6 +104,7 @@ impl Topic {
             Topic::Text => TEXT,
             Topic::Speed => SPEED,
             Topic::Control => CONTROL,
+            Topic::After if count == 9 => AFTER_REQUESTS,
             Topic::After => AFTER,
             Topic::Leaves => LEAVES,
             Topic::Hidden | Topic::Anew | Topic::Lasts => BARE,
@@ -111,7 +123,7 @@ impl Topic {
             Topic::Leaves => count == 4,
             Topic::Ids => count == 4 || count == 5,
             Topic::Class => count == 5,
-            Topic::After => count == 6,
+            Topic::After => count == 6 || count == 9,
             Topic::Script => count >= 3,
             Topic::Text => count >= 4,
             Topic::Control => count >= 6,
@@ -140,7 +152,7 @@ impl Topic {
     pub(crate) fn wanted_at(self, words: &[&str], at: usize) -> Option<Wanted>
         ensures { result ≡ wanted_at self (words_of words.now) at }
     {
-        let form = self.form();
+        let form = self.form(words.len());
         if at == 0 {
             return None;
         }
@@ -167,7 +179,7 @@ impl Topic {
             Topic::Text => "string D I TEXT",
             Topic::Speed => "speed D SPEED",
             Topic::Control => "control D TYPE REQUEST VALUE INDEX A A ..",
-            Topic::After => "after D EP K OTHER N",
+            Topic::After => "after D EP K OTHER N` or `after D EP K TYPE REQUEST VALUE INDEX N",
             Topic::Leaves => "leaves D EP N",
             Topic::Hidden => "hidden D",
             Topic::Anew => "anew D",

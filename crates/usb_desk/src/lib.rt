@@ -65,7 +65,7 @@ pub use packet::{Needs, SetupPacket};
 pub use place_fault::PlaceFault;
 pub use reason::Reason;
 pub use sense::{Saying, Subject};
-pub use statement::{Class, Control, Departure, Gate, Ids, Pattern, Statement, Text};
+pub use statement::{Awaited, Class, Control, Departure, Gate, Ids, Pattern, Statement, Text};
 pub use topic::Topic;
 pub use wanted::Wanted;
 pub use word::Speed;

@@ -225,11 +225,14 @@ fn names_one(words: &[&str]) -> bool
     }
 }
 
-/// That no packets are taken at the other endpoint, which isn't the endpoint itself.
+/// That no packets are taken at the other endpoint of a line that has one, which isn't the endpoint itself.
 fn not_out(devices: &[ScriptedDevice], words: &[&str]) -> Option<PlaceFault>
     requires { topic_in (words_of words.now) ≡ Some topic.After }
     ensures { IfSome result (λ fault. FitsPlace fault devices.now (words_of words.now)) }
 {
+    if words.len() != 6 {
+        return None;
+    }
     match (device_in(devices, words), address(word_at(words, 4))) {
         (Some(device), Ok(ep)) if !takes_packets(device, ep) && !names_one(words) => Some(
             PlaceFault::NotOut,

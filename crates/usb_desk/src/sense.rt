@@ -11,7 +11,7 @@ ghost use Rattle.usb_desk.specs.Sense.{answer_count, applies, applies_to, can_wa
 
 use crate::draft::says_nothing;
 use crate::line::DeskLine;
-use crate::statement::{Departure, Gate, Statement};
+use crate::statement::{Awaited, Departure, Gate, Statement};
 use crate::word::Speed;
 use std::alloc::Global;
 use std::marker::Model;
@@ -209,12 +209,15 @@ pub(crate) fn takes_packets(device: &ScriptedDevice, ep: EpAddr) -> bool
     ep.address() == 0 || (takes_script(&device.config, ep) && !ep.is_in())
 }
 
-/// Whether answers can wait for what comes there: for packets that are taken; or, at their own endpoint, for transfers that end without an
-/// answer.
+/// Whether answers can wait for this: for packets that are taken somewhere; at their own endpoint for transfers that end without an answer; for
+/// any requests.
 pub(crate) fn can_wait(device: &ScriptedDevice, gate: &Gate) -> bool
     ensures { result ≡ can_wait device.now gate.now }
 {
-    gate.other == gate.ep || takes_packets(device, gate.other)
+    match gate.awaited {
+        Awaited::At(other) => other == gate.ep || takes_packets(device, other),
+        Awaited::Requests(_) => true,
+    }
 }
 
 /// Whether the endpoint has as many answers.

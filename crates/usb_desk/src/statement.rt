@@ -1,10 +1,10 @@
 //! What a line says of a device that stands before it: a function for each first word, over the words behind the device.
 
 ghost use Rattle.std.specs.Result.{result_ok};
-ghost use Rattle.std.specs.Prelude.{◌≡◌};
+ghost use Rattle.std.specs.Prelude.{◌≡◌, Some};
 ghost use Rattle.trace_scenario.specs.LineResults.{ReadsAs};
 ghost use Rattle.trace_scenario.specs.Words.{words_of};
-ghost use Rattle.usb_desk.specs.Statement.{anew_of, class_of, control_of, descriptor_of, driver_of, gate_of, hidden_of, ids_of, lasts_of, leaves_of, pattern_of, release_of, speed_line_of, string_line_of, whole_of};
+ghost use Rattle.usb_desk.specs.Statement.{anew_of, class_of, control_of, descriptor_of, driver_of, gate_of, gate_with, hidden_of, ids_of, lasts_of, leaves_of, pattern_of, release_of, speed_line_of, string_line_of, whole_of};
 
 use crate::answer::{ControlAnswer, answers};
 use crate::text::string_descriptor;
@@ -69,17 +69,27 @@ pub struct Control {
     pub asked: u32,
 }
 
-/// Answers that wait until packets were taken elsewhere, or transfers ended without an answer.
+/// What answers wait for.
+#[derive(Clone, Copy)]
+pub enum Awaited {
+    /// Packets that are taken at this endpoint; at 00 control requests, whichever they are; at the endpoint of the answers itself transfers
+    /// that end there without one.
+    At(EpAddr),
+    /// Control requests that this means.
+    Requests(Pattern),
+}
+
+/// Answers that wait for what is to happen elsewhere.
 #[derive(Clone, Copy)]
 pub struct Gate {
     /// Whose answers wait.
     pub ep: EpAddr,
     /// From which of them on, counted from 0.
     pub place: u32,
-    /// Where packets are to be taken; 00 for control requests, and the same endpoint for transfers that end there without an answer.
-    pub other: EpAddr,
-    /// How many.
-    pub packets: u32,
+    /// For what.
+    pub awaited: Awaited,
+    /// How many of that.
+    pub count: u32,
 }
 
 /// When a device is pulled out.
@@ -237,20 +247,39 @@ pub(crate) fn control_line(alloc: Global, words: &[&str]) -> Result<Statement, L
     }))
 }
 
-/// Answers that wait.
+/// The answers of an endpoint from a place on wait for so many of this.
+fn gate_statement(
+    ep: &str,
+    place: &str,
+    awaited: Awaited,
+    count: &str,
+) -> Result<Statement, Expected>
+    ensures { result_ok result ≡ gate_with ep.now place.now (Some awaited) count.now }
+{
+    Ok(Statement::After(Gate {
+        ep: address(ep)?,
+        place: decimal_u32(place).ok_or(Expected::Number)?,
+        awaited,
+        count: decimal_u32(count).ok_or(Expected::Number)?,
+    }))
+}
+
+/// Answers that wait: for packets or transfers at an endpoint, or for requests.
 #[tactic(auto, unfolding(crate::specs::Statement::gate_of))]
 pub(crate) fn gate_line(words: &[&str]) -> Result<Statement, LineFault>
     ensures { ReadsAs result (gate_of (words_of words.now)) }
 {
-    let [ep, place, other, packets] = words else {
-        return Err(LineFault::Bad(Problem::FirstWord));
-    };
-    Ok(Statement::After(Gate {
-        ep: address(ep)?,
-        place: decimal_u32(place).ok_or(Expected::Number)?,
-        other: address(other)?,
-        packets: decimal_u32(packets).ok_or(Expected::Number)?,
-    }))
+    match words {
+        [ep, place, other, count] => {
+            let awaited = Awaited::At(address(other)?);
+            Ok(gate_statement(ep, place, awaited, count)?)
+        }
+        [ep, place, kind, request, value, index, count] => {
+            let awaited = Awaited::Requests(pattern_in(kind, request, value, index)?);
+            Ok(gate_statement(ep, place, awaited, count)?)
+        }
+        _ => Err(LineFault::Bad(Problem::FirstWord)),
+    }
 }
 
 /// When a device is pulled out.

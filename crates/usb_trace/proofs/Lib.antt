@@ -3,3 +3,4 @@ mod Begun
 mod JudgedRuns
 mod Unlived
 mod Outcomes
+mod OneDevice

@@ -294,6 +294,7 @@ capture_refused reader text capture.NotACapture old new is kept = (reader, refl,
 capture_refused reader text capture.HeaderCutShort old new is kept = (reader, refl, kept, is)
 capture_refused reader text (capture.LinkType number) old new is kept = (reader, refl, kept, is)
 capture_refused reader text capture.NoInterface old new is kept = (reader, refl, kept, is)
+capture_refused reader text (capture.NoDevice ids) old new is kept = (reader, refl, kept, is)
 capture_refused reader text capture.Memory old new is kept = tt
 
 -- where a line is bad nothing is written but by a task that reads something else, or tells its bad lines

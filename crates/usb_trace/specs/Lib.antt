@@ -1,3 +1,4 @@
+pub mod Described
 pub mod Lived
 pub mod Program
 pub use Rattle.trace_io.specs.CommandLine

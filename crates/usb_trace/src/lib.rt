@@ -14,6 +14,7 @@
 //!   its reasons or its packets, as a test, and as a picture or a page
 //! - `judged.rt`: a run, and behind it what it wrote that isn't as expected
 //! - `recorded.rt`, `descriptor.rt`: the scenario of a capture; a device's lines and table
+//! - `described.rt`, specs/Described: one device of a capture, and what a file says of it
 //!
 //! # Contracts
 //!
@@ -49,6 +50,9 @@
 //!   text: of the lines of the run, of those of the handle, of what callbacks were told in such a run, of what is left,
 //!   of the check's report, of the run's capture, of the run with its reasons, of what came of a test, of a capture's
 //!   scenario, or of a device's lines; and nothing where a capture or a device is refused
+//! - `described_devices`, status 0: the input is a capture, and what was written is the text of the one device that is meant, with what a
+//!   file says of it where the capture says nothing (`described_scenario` of `trace_recorded`), and nothing is on standard error; status 1:
+//!   that device is left out, or the message of the fault that ended it is begun. A capture that is refused is never printed of
 //! - within `usb_trace`: `run`, `run --steps`, `alone` and `capture` print each line or record as the core comes to it,
 //!   and keep no entry. A run that finds no memory prints the lines of a beginning of its entries (`PrintsTo`), or the
 //!   file of a beginning of its events (`PrintsFile`), unless printing fails too. The fault that ended a task is the
@@ -64,6 +68,7 @@
 #![tactic(auto)]
 
 mod checked;
+mod described;
 mod descriptor;
 mod judged;
 mod live;
@@ -74,4 +79,5 @@ mod recorded;
 mod tested;
 mod told;
 
+pub use described::described_devices;
 pub use program::trace;

@@ -102,7 +102,7 @@ fn answer<W: Write, E: Write>(error: &Error, out: &mut W, err: &mut E) -> u8
 }
 
 /// The status of a task that ended so. A fault is told, and the notes behind it, or alone where there is none.
-fn status_of<E: Write>(ended: Result<Ending, Fault>, notes: &[u8], err: &mut E) -> u8
+pub(crate) fn status_of<E: Write>(ended: Result<Ending, Fault>, notes: &[u8], err: &mut E) -> u8
     ensures status { result ≡ status_of ended }
     ensures noted { OnOk ended (AppendsSome notes.now (E.contents err.old) (E.contents err.new)) }
     ensures quiet { OnOk ended (notes.now ≡ [] → Keeps (E.contents err.old) (E.contents err.new)) }

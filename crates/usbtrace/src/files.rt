@@ -1,5 +1,6 @@
 //! Files that are named in the place of standard input, and tests of many files.
 
+use crate::device_options::DeviceOptions;
 use std::alloc::{AllocError, Global};
 use std::io::{Read, Write};
 use std::rt::Files;
@@ -16,6 +17,8 @@ pub struct CommandLine<'a> {
     pub files: Vec<&'a str>,
     /// Whether it is only told what a run wrote that its scripts don't expect: its status is then as if there were nothing to tell.
     pub is_lenient: bool,
+    /// Which device of a capture is meant, and which file says what that lacks.
+    pub devices: DeviceOptions<'a>,
 }
 
 /// Whether a word names a file: it has a dot or a slash in it, and is no option.
@@ -28,13 +31,24 @@ fn ask_for_judged(words: &[&str]) -> bool {
     matches!(words, [_, "run" | "left" | "test", ..])
 }
 
-/// Tells words and files apart, and `--lenient` behind a word for a run that is judged. The first word is the program's name, whatever is
-/// in it.
+/// Whether they ask for the devices of a capture.
+fn ask_for_devices(words: &[&str]) -> bool {
+    matches!(words, [_, "devices", ..])
+}
+
+/// Tells words and files apart, `--lenient` behind a word for a run that is judged, and the options of `devices` with the words behind them.
+/// The first word is the program's name, whatever is in it.
 pub fn command_line<'a>(alloc: Global, texts: &[&'a str]) -> Result<CommandLine<'a>, AllocError> {
     let (mut words, mut files) = (Vec::new(alloc), Vec::new(alloc));
     let mut is_lenient = false;
+    let mut devices = DeviceOptions::new();
+    let mut option = None;
     for text in texts {
-        if !words.is_empty() && names_a_file(text) {
+        if let Some(before) = option.take() {
+            devices.put(before, Some(*text));
+        } else if DeviceOptions::is_option(text) && ask_for_devices(words.as_slice()) {
+            option = Some(*text);
+        } else if !words.is_empty() && names_a_file(text) {
             files.push(*text)?;
         } else if *text == "--lenient" && ask_for_judged(words.as_slice()) {
             is_lenient = true;
@@ -42,10 +56,14 @@ pub fn command_line<'a>(alloc: Global, texts: &[&'a str]) -> Result<CommandLine<
             words.push(*text)?;
         }
     }
+    if let Some(before) = option {
+        devices.put(before, None);
+    }
     Ok(CommandLine {
         words,
         files,
         is_lenient,
+        devices,
     })
 }
 

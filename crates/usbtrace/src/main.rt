@@ -4,6 +4,7 @@
 //!
 //! - `main.rt`: the process's words and streams
 //! - `program.rt`: what the words ask for, over standard input or files
+//! - `device_options.rt`: the options of `devices` by which one device is meant, and a file that describes it
 //! - `files.rt`: files that are named in the place of standard input, and tests of many files
 //! - `tests.rt`: whole runs of `trace`: long ones, and lines of every form; streams that fail, and what crosses
 //!   crates
@@ -12,12 +13,13 @@
 ghost use Rattle.std.specs.Prelude.{◌≡◌, ℕ, List, map, IfOk, string_bytes};
 ghost use denote.Ref.{Bor};
 
-use crate::files::{CommandLine, command_line};
+use crate::files::command_line;
 use crate::program::perform;
 use std::alloc::{AllocError, Global};
 use std::process::ExitCode;
 use std::{env, io};
 
+mod device_options;
 mod files;
 mod program;
 #[cfg(test)]
@@ -62,27 +64,11 @@ fn main(rt: HostRuntime) -> ExitCode {
         let _ = eprintln!(rt; "usbtrace: out of memory");
         return ExitCode::FAILURE;
     };
-    let Ok(
-        CommandLine {
-            words,
-            files,
-            is_lenient,
-        },
-    ) = command_line(alloc, texts.as_slice())
-    else {
+    let Ok(line) = command_line(alloc, texts.as_slice()) else {
         let _ = eprintln!(rt; "usbtrace: out of memory");
         return ExitCode::FAILURE;
     };
     let (mut input, mut out, mut err) = (rt.stdin(), rt.stdout(), rt.stderr());
-    let status = perform(
-        &rt,
-        alloc,
-        words.as_slice(),
-        files.as_slice(),
-        is_lenient,
-        &mut input,
-        &mut out,
-        &mut err,
-    );
+    let status = perform(&rt, alloc, &line, &mut input, &mut out, &mut err);
     ExitCode::from(status)
 }

@@ -1,14 +1,16 @@
 //! What the words ask for, over standard input or files.
 
-use crate::files::test_files;
+use crate::device_options::DeviceOptions;
+use crate::files::{CommandLine, test_files};
 use std::alloc::Global;
 use std::fs;
 use std::io::{ErrorKind, Read, Write};
 use std::rt::Files;
 use std::sync::Wait;
 use std::thread::Threads;
-use trace_io::read_words;
-use usb_trace::trace;
+use trace_io::{Task, read_words};
+use trace_recorded::{DeviceChoice, TextReader};
+use usb_trace::{described_devices, trace};
 
 /// The status of a run that ended early.
 const FAILED: u8 = 1;
@@ -75,31 +77,92 @@ fn run_tests<T: Files, W: Write, E: Write>(
     }
 }
 
-/// Does what the words ask for, and answers the status. Where they name no file, standard input is read.
-pub fn perform<T: Threads + Wait + Sync + Files, R: Read, W: Write, E: Write>(
+/// Prints the one device of a capture that is meant. Where a file is named, the capture is read from there.
+fn run_described<T: Files, R: Read, W: Write, E: Write>(
     rt: &T,
     alloc: Global,
-    words: &[&str],
+    reader: TextReader,
+    choice: &DeviceChoice,
     files: &[&str],
-    is_lenient: bool,
     input: &mut R,
     out: &mut W,
     err: &mut E,
 ) -> u8 {
+    match files {
+        [] => described_devices(alloc, reader, choice, input, out, err),
+        [file] => match fs::open(rt, *file) {
+            Ok(mut capture) => described_devices(alloc, reader, choice, &mut capture, out, err),
+            Err(_) => {
+                let _ = write!(err, "usbtrace: {file} can't be read\n");
+                FAILED
+            }
+        },
+        _ => refuse_files(err),
+    }
+}
+
+/// Says that there are too many files.
+fn refuse_files<E: Write>(err: &mut E) -> u8 {
+    let _ = err.write_all(b"usbtrace: only `test` takes more than one file\n");
+    BAD_WORDS
+}
+
+/// Does what the words ask for, of one device; None where they ask for something else.
+fn perform_described<T: Files, R: Read, W: Write, E: Write>(
+    rt: &T,
+    alloc: Global,
+    line: &CommandLine<'_>,
+    input: &mut R,
+    out: &mut W,
+    err: &mut E,
+) -> Option<u8> {
+    let devices: DeviceOptions<'_> = line.devices;
+    if !devices.is_any() {
+        return None;
+    }
+    let Ok(Task::Devices(reader)) = read_words(alloc, line.words.as_slice()) else {
+        return None;
+    };
+    match devices.tell_choice(rt, alloc, err) {
+        Ok(Some(choice)) => Some(run_described(
+            rt,
+            alloc,
+            reader,
+            &choice,
+            line.files.as_slice(),
+            input,
+            out,
+            err,
+        )),
+        Ok(None) => None,
+        Err(status) => Some(status),
+    }
+}
+
+/// Does what the words ask for, and answers the status. Where they name no file, standard input is read.
+pub fn perform<T: Threads + Wait + Sync + Files, R: Read, W: Write, E: Write>(
+    rt: &T,
+    alloc: Global,
+    line: &CommandLine<'_>,
+    input: &mut R,
+    out: &mut W,
+    err: &mut E,
+) -> u8 {
+    if let Some(status) = perform_described(rt, alloc, line, input, out, err) {
+        return status;
+    }
+    let (words, files) = (line.words.as_slice(), line.files.as_slice());
     match (words, files) {
         ([_, "--version" | "-V"], []) => match out.write_all(VERSION) {
             Ok(()) => 0,
             Err(_) => FAILED,
         },
-        (_, []) => status_of(trace(rt, alloc, words, input, out, err), is_lenient),
-        ([_, "test"], _) => run_tests(rt, alloc, is_lenient, files, out, err),
+        (_, []) => status_of(trace(rt, alloc, words, input, out, err), line.is_lenient),
+        ([_, "test"], _) => run_tests(rt, alloc, line.is_lenient, files, out, err),
         (_, [file]) => status_of(
             run_file(rt, alloc, words, file, input, out, err),
-            is_lenient,
+            line.is_lenient,
         ),
-        _ => {
-            let _ = err.write_all(b"usbtrace: only `test` takes more than one file\n");
-            BAD_WORDS
-        }
+        _ => refuse_files(err),
     }
 }

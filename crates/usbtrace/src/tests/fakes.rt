@@ -243,11 +243,7 @@ pub(crate) fn run_line<X: Threads + Wait + Sync + Files>(
     let line = command_line(alloc, texts)?;
     let mut out = Output::new(alloc, usize::MAX, ErrorKind::BrokenPipe);
     let mut err = Output::new(alloc, usize::MAX, ErrorKind::BrokenPipe);
-    let (words, files) = (line.words.as_slice(), line.files.as_slice());
-    let lenient = line.is_lenient;
-    let status = perform(
-        rt, alloc, words, files, lenient, &mut input, &mut out, &mut err,
-    );
+    let status = perform(rt, alloc, &line, &mut input, &mut out, &mut err);
     Ok(Outcome {
         status,
         out: out.taken,

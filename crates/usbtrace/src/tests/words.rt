@@ -204,7 +204,9 @@ fn the_help_of_each_subcommand_has_its_example(rt: HostRuntime) {
     let devices = [
         "\nInput: a capture ",
         "\n  usbtrace devices < recorded.pcap > devices.txt\n",
-        "\n  usbtrace devices --scenario < recorded.pcap > scenario.txt\n\nStatus: 0 ",
+        "\n  usbtrace devices --scenario < recorded.pcap > scenario.txt\n",
+        "\n  --umockdev FILE            it is from a file of umockdev-record\n",
+        " < recorded.pcap > devices.txt\n\nStatus: 0 ",
     ];
     assert!(rt;
         shows(

@@ -1,0 +1,371 @@
+/* What tools/trace_run_test.py runs: small drivers, each of another kind, that print what they read. The first word says which; a second
+ * word, "changed", flips a bit of the first byte that is written. */
+#include <libusb.h>
+
+#include <pthread.h>
+#include <stdio.h>
+#include <stdlib.h>
+#include <string.h>
+
+#define FROM_DEVICE 0x81
+#define TO_DEVICE 0x02
+#define VENDOR_IN 0xc0
+#define VENDOR_OUT 0x40
+#define SECOND 1000
+#define SOON 50
+#define ROUNDS 8
+
+static libusb_device_handle *handle;
+static int flips;
+
+static void begin(uint16_t product)
+{
+    if (libusb_init(NULL))
+        exit(10);
+    handle = libusb_open_device_with_vid_pid(NULL, 0x1209, product);
+    if (!handle || libusb_claim_interface(handle, 0))
+        exit(11);
+}
+
+static int end(void)
+{
+    libusb_close(handle);
+    libusb_exit(NULL);
+    return 0;
+}
+
+static void show(const char *what, int result, const unsigned char *data, int length)
+{
+    printf("%s: ", what);
+    if (result < 0)
+        printf("%s", libusb_error_name(result));
+    for (int i = 0; i < length; i++)
+        printf("%02x", data[i]);
+    printf("\n");
+}
+
+static void flip(unsigned char *data)
+{
+    *data ^= (unsigned char)flips;
+    flips = 0;
+}
+
+static void ask(uint8_t request, int length)
+{
+    unsigned char data[4096];
+    int r = libusb_control_transfer(handle, VENDOR_IN, request, 0, 0, data, (uint16_t)length, SECOND);
+    show("asked", r, data, r > 0 ? r : 0);
+}
+
+static void tell(uint8_t request, int length)
+{
+    unsigned char data[4096];
+    for (int i = 0; i < length; i++)
+        data[i] = (unsigned char)(request + i);
+    if (length)
+        flip(data);
+    int r = libusb_control_transfer(handle, VENDOR_OUT, request, 7, 1, data, (uint16_t)length, SECOND);
+    printf("told: %d\n", r);
+}
+
+static void take(int length)
+{
+    unsigned char data[8192];
+    int moved = 0, r = libusb_bulk_transfer(handle, FROM_DEVICE, data, length, &moved, SECOND);
+    show("read", r, data, moved);
+}
+
+static void put(unsigned char first, int length)
+{
+    unsigned char data[64];
+    memset(data, first, sizeof data);
+    flip(data);
+    int moved = 0, r = libusb_bulk_transfer(handle, TO_DEVICE, data, length, &moved, SOON);
+    printf("written: %s, %d\n", r ? libusb_error_name(r) : "all", moved);
+}
+
+/* Requests of more bytes than a line of a terminal has, in both directions; stalls; and one that is answered in another way each time. */
+static int requests(void)
+{
+    begin(0x0001);
+    ask(1, 300);
+    ask(1, 300);
+    tell(2, 200);
+    tell(2, 4096);
+    ask(3, 8);
+    tell(4, 0);
+    ask(5, 8);
+    ask(5, 8);
+    return end();
+}
+
+static void show_string(uint8_t index)
+{
+    char text[128];
+    int r = libusb_get_string_descriptor_ascii(handle, index, (unsigned char *)text, sizeof text);
+    printf("string %d: %s\n", index, r < 0 ? libusb_error_name(r) : text);
+}
+
+/* What a device is. */
+static int tells(void)
+{
+    struct libusb_device_descriptor it;
+    begin(0x0001);
+    libusb_device *device = libusb_get_device(handle);
+    libusb_get_device_descriptor(device, &it);
+    printf("%04x:%04x %04x, class %02x %02x %02x, strings %d %d %d\n", it.idVendor, it.idProduct, it.bcdDevice, it.bDeviceClass,
+           it.bDeviceSubClass, it.bDeviceProtocol, it.iManufacturer, it.iProduct, it.iSerialNumber);
+    printf("speed %d, driver %d %d\n", libusb_get_device_speed(device), libusb_kernel_driver_active(handle, 0),
+           libusb_kernel_driver_active(handle, 1));
+    for (uint8_t i = 1; i < 6; i++)
+        show_string(i);
+    put(9, 1);
+    return end();
+}
+
+/* A hub's descriptor (USB 2.0, 11.24.2.5). */
+static void show_hub(void)
+{
+    unsigned char data[9];
+    libusb_device_handle *hub = libusb_open_device_with_vid_pid(NULL, 0x1209, 0x0001);
+    int r = hub ? libusb_control_transfer(hub, 0xa0, LIBUSB_REQUEST_GET_DESCRIPTOR, 0x2900, 0, data, sizeof data, SECOND) : -1;
+    show("hub", r, data, r > 0 ? r : 0);
+    if (hub)
+        libusb_close(hub);
+}
+
+/* All devices, in a context of its own; and none is opened but the last one. */
+static int lists(void)
+{
+    libusb_device **list;
+    struct libusb_device_descriptor it;
+    if (libusb_init(NULL))
+        return 10;
+    ssize_t count = libusb_get_device_list(NULL, &list);
+    for (ssize_t i = 0; i < count; i++)
+        if (!libusb_get_device_descriptor(list[i], &it) && libusb_get_parent(list[i]))
+            printf("%04x:%04x at %d\n", it.idVendor, it.idProduct, libusb_get_device_address(list[i]));
+    libusb_free_device_list(list, 1);
+    libusb_exit(NULL);
+    begin(0x0003);
+    show_hub();
+    put(3, 2);
+    take(8);
+    return end();
+}
+
+static void LIBUSB_CALL on_end(struct libusb_transfer *transfer)
+{
+    *(int *)transfer->user_data = 1;
+}
+
+/* A read that is in flight while a request is made for it. */
+static int waits(void)
+{
+    unsigned char data[8];
+    int ended;
+    begin(0x0001);
+    struct libusb_transfer *transfer = libusb_alloc_transfer(0);
+    for (uint8_t i = 0; transfer && i < 3; i++) {
+        ended = 0;
+        libusb_fill_bulk_transfer(transfer, handle, FROM_DEVICE, data, sizeof data, on_end, &ended, SECOND);
+        if (libusb_submit_transfer(transfer))
+            return 12;
+        libusb_handle_events_timeout_completed(NULL, &(struct timeval){ 0, 0 }, &ended);
+        printf("%s\n", ended ? "too soon" : "it waits");
+        tell((uint8_t)(5 + i), i);
+        while (!ended)
+            libusb_handle_events_completed(NULL, &ended);
+        show("event", transfer->status == LIBUSB_TRANSFER_COMPLETED ? 0 : LIBUSB_ERROR_OTHER, data, transfer->actual_length);
+    }
+    libusb_free_transfer(transfer);
+    return end();
+}
+
+static unsigned char got[ROUNDS];
+static int failures;
+
+static void *reads(void *unused)
+{
+    int moved;
+    for (int i = 0; i < ROUNDS; i++)
+        if (libusb_bulk_transfer(handle, FROM_DEVICE, got + i, 1, &moved, 10 * SECOND))
+            __atomic_add_fetch(&failures, 1, __ATOMIC_RELAXED);
+    return unused;
+}
+
+static void *writes(void *unused)
+{
+    int moved;
+    for (unsigned char i = 0; i < ROUNDS; i++) {
+        unsigned char byte = i;
+        flip(&byte);
+        if (libusb_bulk_transfer(handle, TO_DEVICE, &byte, 1, &moved, 10 * SECOND))
+            __atomic_add_fetch(&failures, 1, __ATOMIC_RELAXED);
+    }
+    return unused;
+}
+
+static void *requests_some(void *unused)
+{
+    unsigned char data[1];
+    for (unsigned char i = 0; i < ROUNDS; i++)
+        if (libusb_control_transfer(handle, VENDOR_IN, 1, i, 0, data, 1, 10 * SECOND) != 1 || data[0] != 0x11 * i)
+            __atomic_add_fetch(&failures, 1, __ATOMIC_RELAXED);
+    return unused;
+}
+
+/* Three threads, of which one reads, one writes, and one makes requests. */
+static int threads(void)
+{
+    static void *(*const all[])(void *) = { reads, writes, requests_some };
+    pthread_t running[3];
+    begin(0x0001);
+    for (int i = 0; i < 3; i++)
+        if (pthread_create(&running[i], NULL, all[i], NULL))
+            return 13;
+    for (int i = 0; i < 3; i++)
+        pthread_join(running[i], NULL);
+    show("read", 0, got, ROUNDS);
+    printf("failures: %d\n", failures);
+    return end();
+}
+
+static void poll(void)
+{
+    unsigned char data[8];
+    int moved = 0, r = libusb_bulk_transfer(handle, FROM_DEVICE, data, sizeof data, &moved, SOON);
+    show("polled", r, data, moved);
+}
+
+/* A halt, reads that nobody answers, and a write that isn't taken at the end. */
+static int stalls(void)
+{
+    begin(0x0001);
+    put(1, 3);
+    take(8);
+    take(8);
+    libusb_clear_halt(handle, FROM_DEVICE);
+    poll();
+    poll();
+    poll();
+    put(2, 3);
+    return end();
+}
+
+static int resets(void)
+{
+    begin(0x0001);
+    put(1, 1);
+    take(4);
+    take(4);
+    printf("reset: %d\n", libusb_reset_device(handle));
+    put(1, 1);
+    take(4);
+    return end();
+}
+
+/* A device that leaves, and one that comes in its place. */
+static int returns(void)
+{
+    begin(0x0001);
+    put(4, 2);
+    take(4);
+    take(4);
+    libusb_close(handle);
+    libusb_exit(NULL);
+    return 0;
+}
+
+static int loader(void)
+{
+    begin(0x0001);
+    libusb_device_handle *second = libusb_open_device_with_vid_pid(NULL, 0x1209, 0x0002);
+    printf("the second is %s\n", second ? "there" : "not there");
+    if (second)
+        libusb_close(second);
+    put(4, 2);
+    take(4);
+    libusb_close(handle);
+    handle = libusb_open_device_with_vid_pid(NULL, 0x1209, 0x0002);
+    if (!handle || libusb_claim_interface(handle, 0))
+        return 14;
+    put(5, 2);
+    take(4);
+    return end();
+}
+
+/* More than a transfer of the core has. */
+static int large(void)
+{
+    enum { LENGTH = 300000 };
+    unsigned char *data = malloc(LENGTH);
+    int moved = 0;
+    begin(0x0001);
+    for (int i = 0; data && i < LENGTH; i++)
+        data[i] = (unsigned char)(i % 251);
+    flip(data);
+    int r = libusb_bulk_transfer(handle, TO_DEVICE, data, LENGTH, &moved, 10 * SECOND);
+    printf("written: %d, %d\n", r, moved);
+    r = libusb_bulk_transfer(handle, FROM_DEVICE, data, LENGTH, &moved, 10 * SECOND);
+    printf("read: %d, %d, last %02x\n", r, moved, data[moved - 1]);
+    free(data);
+    return end();
+}
+
+/* Of a device that computes. */
+static int counts(void)
+{
+    begin(0x0001);
+    for (int i = 0; i < ROUNDS; i++) {
+        int moved;
+        unsigned char byte = (unsigned char)(i + 1);
+        flip(&byte);
+        if (libusb_bulk_transfer(handle, TO_DEVICE, &byte, 1, &moved, SECOND) ||
+            libusb_bulk_transfer(handle, FROM_DEVICE, got + i, 1, &moved, SECOND))
+            return 15;
+    }
+    show("read", 0, got, ROUNDS);
+    ask(1, 300);
+    return end();
+}
+
+/* Two buses, which do the same; or the second another thing. */
+static int twice(void)
+{
+    begin(0x0001);
+    put(1, 1);
+    end();
+    begin(0x0001);
+    put(1, 1);
+    return end();
+}
+
+static int otherwise(void)
+{
+    begin(0x0001);
+    put(1, 1);
+    end();
+    begin(0x0001);
+    put(1, 1);
+    take(4);
+    return end();
+}
+
+int main(int count, char **words)
+{
+    static const struct {
+        const char *name;
+        int (*run)(void);
+    } kinds[] = {
+        { "requests", requests }, { "tells", tells }, { "lists", lists }, { "waits", waits }, { "threads", threads }, { "stalls", stalls },
+        { "resets", resets }, { "returns", returns }, { "loader", loader }, { "large", large }, { "counts", counts },
+        { "twice", twice }, { "otherwise", otherwise },
+    };
+    setvbuf(stdout, NULL, _IOLBF, 0);
+    flips = count > 2 && !strcmp(words[2], "changed");
+    for (size_t i = 0; count > 1 && i < sizeof kinds / sizeof *kinds; i++)
+        if (!strcmp(words[1], kinds[i].name))
+            return kinds[i].run();
+    return 20;
+}
