@@ -18,17 +18,17 @@ class Changes(unittest.TestCase):
     """What is to be tried for files that differ."""
 
     def test_a_crate_is_proved_with_all_that_stand_on_it(self) -> None:
-        it = changed.trials(["crates/usb_desk/src/sense.rt"])
-        self.assertEqual(it.changed, ["usb_desk"])
-        self.assertEqual(it.proved, ["usb_desk", "tirnouch_c"])
-        self.assertEqual(it.wrong_bodies, ["usb_desk"])
+        it = changed.trials(["crates/usb_devicetext/src/sense.rt"])
+        self.assertEqual(it.changed, ["usb_devicetext"])
+        self.assertEqual(it.proved, ["usb_devicetext", "tirnouch_c"])
+        self.assertEqual(it.wrong_bodies, ["usb_devicetext"])
         self.assertEqual(it.rows, [])
         self.assertIn("texts", it.scenes)
 
     def test_the_lowest_crate_comes_first(self) -> None:
         it = changed.trials(["crates/usb_trb/src/lib.rt", "crates/usb_model/src/lib.rt"])
         for below, above in [("usb_trb", "usb_segment"), ("usb_segment", "usb_tring"), ("usb_tring", "usb_xhc"), ("usb_model", "usb_steps"),
-                             ("usb_steps", "usb_core"), ("usb_core", "usb_library"), ("usb_desk", "tirnouch_c"), ("usb_trace", "usbtrace")]:
+                             ("usb_steps", "usb_core"), ("usb_core", "usb_library"), ("usb_devicetext", "tirnouch_c"), ("trace_main", "usbtrace")]:
             self.assertLess(it.proved.index(below), it.proved.index(above), f"{below} stands below {above}")
 
     def test_rows_of_the_words_that_a_crate_has(self) -> None:
@@ -51,8 +51,8 @@ class Changes(unittest.TestCase):
         self.assertEqual(changed.trials(["c/tests/usb/scene.h"]).scenes, every)
 
     def test_a_wrong_body_proves_nothing(self) -> None:
-        it = changed.trials(["tools/wrong_bodies/usb_desk/a_gate_is_dropped.edit"])
-        self.assertEqual((it.proved, it.wrong_bodies), ([], ["usb_desk"]))
+        it = changed.trials(["tools/wrong_bodies/usb_devicetext/a_gate_is_dropped.edit"])
+        self.assertEqual((it.proved, it.wrong_bodies), ([], ["usb_devicetext"]))
 
     def test_tools_and_python(self) -> None:
         self.assertEqual(changed.trials(["tools/runs/limit.py", "python/tirnouch/bus.py"]).tests, ["tools/python_test.py", changed.TESTS["tools/runs"]])
@@ -62,10 +62,10 @@ class Changes(unittest.TestCase):
         self.assertEqual(changed.lines(changed.trials([])), ["nothing that is tried differs"])
 
     def test_what_is_printed(self) -> None:
-        told = changed.lines(changed.trials(["crates/usb_desk/src/sense.rt"]))
-        self.assertRegex(told[0], r"^prove 2 crates, some \d+ processor minutes; these differ: usb_desk$")
-        self.assertEqual(told[1], "    rt ci usb_desk tirnouch_c")
-        self.assertIn("    tools/wrong_bodies.py try usb_desk", told)
+        told = changed.lines(changed.trials(["crates/usb_devicetext/src/sense.rt"]))
+        self.assertRegex(told[0], r"^prove 2 crates, some \d+ processor minutes; these differ: usb_devicetext$")
+        self.assertEqual(told[1], "    rt ci usb_devicetext tirnouch_c")
+        self.assertIn("    tools/wrong_bodies.py try usb_devicetext", told)
         self.assertIn("    make c-test", told)
 
     def test_each_crate_that_has_words_is_there(self) -> None:

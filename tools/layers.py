@@ -90,7 +90,7 @@ def page():
     ]
     placed = {}
     for crate in uses:
-        role = "usb_" if crate == "usb_trace" else next(it for it, _ in ROLES if crate.startswith(it))
+        role = "usb_" if crate == "trace_main" else next(it for it, _ in ROLES if crate.startswith(it))
         placed.setdefault(role, []).append(crate)
     for role, title in ROLES:
         lines += [f"## {title}", ""]

@@ -8,7 +8,7 @@ DOC = ROOT / "doc"
 # The crates that have a page, by what they are for; and what their names match. A crate is of the first that fits.
 ROLES = [
     ("What a driver's author calls", "tirnouch"),
-    ("The program usbtrace, and its parts", "usbtrace|usb_trace|trace_.*"),
+    ("The program usbtrace, and its parts", "usbtrace|trace_main|trace_.*"),
     ("The crates of the library", "usb_.*"),
     ("The plain program, which runs the definitions", "plain_.*"),
     ("Examples, to be copied", "example_.*"),

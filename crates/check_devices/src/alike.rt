@@ -4,7 +4,7 @@ ghost use Rattle.std.specs.Prelude.{◌≡◌, ◌≢◌, false, length, map};
 ghost use Rattle.std.specs.List.{AllByRecursion, count_by};
 ghost use Rattle.usb_model.specs.declared.verdict.Rule.TheVariants.{Free};
 ghost use Rattle.usb_model.specs.World.Plans.{is_submission, verdict_of};
-ghost use Rattle.usb_purge.specs.PlanRuns.{is_verdict};
+ghost use Rattle.usb_plans.specs.PlanRuns.{is_verdict};
 
 use crate::stand::both_kinds;
 use crate::told::{are_told, lines_of};
@@ -13,7 +13,7 @@ use example_devices::Reader;
 use std::alloc::Global;
 use usb_callback::{Callback, Repeat, StoredCallback};
 use usb_model::{Name, Plan, Returned, Rule, StatusSet, Step, Verdict};
-use usb_purge::{Comparison, alone, drive_alone};
+use usb_plans::{Comparison, alone, drive_alone};
 
 /// What handle 1 is told of its reads, by the rules: both fill their room; the first callback submits once more, the
 /// second ends.

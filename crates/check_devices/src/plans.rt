@@ -3,7 +3,7 @@
 ghost use Rattle.std.specs.Prelude.{◌≡◌, false, length};
 ghost use Rattle.std.specs.List.{AllByRecursion, count_by};
 ghost use Rattle.usb_model.specs.World.Plans.{is_submission};
-ghost use Rattle.usb_purge.specs.PlanRuns.{is_verdict};
+ghost use Rattle.usb_plans.specs.PlanRuns.{is_verdict};
 
 use crate::kinds::EitherDevice;
 use crate::stand::both_kinds;
@@ -16,7 +16,7 @@ use std::sync::atomic::{AtomicU64, Ordering};
 use usb_callback::{Callback, Once, Repeat, StoredCallback};
 use usb_core::{Setup, Stopped};
 use usb_model::{Bytes, Entry, Plan, Returned, Rule, Sequence, Step, Verdict};
-use usb_purge::drive;
+use usb_plans::drive;
 
 /// What is told of a read whose callback is called once, by the rules: it fills the room, and the callback ends.
 const CALLED_ONCE: &str = "h1 done\nh1 done\nh1 number 0\nh1 ended 0 code 1\nh1 finished 0\n\

@@ -7,7 +7,7 @@ use std::alloc::Global;
 use usb_core::run;
 use usb_journal::Place;
 use usb_model::{Entry, Name, Reply, Sequence, Step};
-use usb_purge::alone;
+use usb_plans::alone;
 
 /// Whether two entries print the same.
 fn is_same(alloc: Global, one: &Entry, other: &Entry) -> Result<bool> {

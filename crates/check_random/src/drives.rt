@@ -6,7 +6,7 @@ ghost use Rattle.std.proofs.Props.{props};
 ghost use Rattle.std.specs.List.{AllByRecursion, count_by};
 ghost use Rattle.usb_model.specs.declared.verdict.Rule.TheVariants.{Free};
 ghost use Rattle.usb_model.specs.World.Plans.{is_submission};
-ghost use Rattle.usb_purge.specs.PlanRuns.{is_verdict};
+ghost use Rattle.usb_plans.specs.PlanRuns.{is_verdict};
 
 use crate::dice::Dice;
 use crate::steps::busy;
@@ -19,7 +19,7 @@ use trace_io::print;
 use usb_callback::{Callback, Ruled};
 use usb_core::Stopped;
 use usb_model::{Entry, Name, Plan, Rule, Sequence, StatusSet, Step};
-use usb_purge::{Comparison, drive, drive_alone};
+use usb_plans::{Comparison, drive, drive_alone};
 
 /// How many pieces the plan has.
 const PIECES: u64 = 200;

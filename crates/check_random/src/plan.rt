@@ -15,7 +15,7 @@ use usb_model::{
     Body, DeviceNo, EpAddr, Flags, Kind, Name, Plan, Request, Returned, Rule, StatusSet, Step,
     Verdict,
 };
-use usb_purge::drive;
+use usb_plans::drive;
 
 /// What is told of it, by the rules: three short packets, of which the second is read by the transfer that the first
 /// callback submits once more; and nothing returns twice.

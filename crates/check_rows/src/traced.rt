@@ -5,7 +5,7 @@ use crate::row::Row;
 use std::alloc::{AllocError, Global};
 use std::sync::Wait;
 use std::thread::Threads;
-use usb_trace::trace;
+use trace_main::trace;
 
 /// What the program answered and wrote.
 #[derive(Drop)]

@@ -12,7 +12,7 @@ use std::thread::Threads;
 use usb_core::run;
 use usb_journal::Place;
 use usb_model::{Entry, Name, Reply, Sequence, Step};
-use usb_purge::alone;
+use usb_plans::alone;
 
 /// How many handles there are, each with a thread, a caller and an interface of its own.
 const HANDLES: u8 = 8;

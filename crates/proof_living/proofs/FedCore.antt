@@ -13,11 +13,11 @@ use Rattle.usb_model.specs.Endpoint.Packets.{IsOpenAt, open_with, outcome}
 use Rattle.usb_model.specs.World.{World, Claims, new_world, holder, is_its, machine_of, world_from}
 use Rattle.proof_lemmas.proofs.Lists.Pieces.{same_name}
 use Rattle.usb_design.specs.Kept.{KeptEndpoint}
-use Rattle.proof_design.specs.Lively.{IsFine, IsLively}
-use Rattle.proof_design.specs.ShownEndpoint.{ShowsDevice, ShowsEnd}
-use Rattle.proof_design.specs.Shows.{Core, Shows, At, AllHeld, errands, events, tellings, at}
-use Rattle.proof_design.proofs.Lives.{sound_at}
-use Rattle.proof_design.proofs.Tells.{first_open}
+use Rattle.refine_world.specs.Lively.{IsFine, IsLively}
+use Rattle.refine_world.specs.ShownEndpoint.{ShowsDevice, ShowsEnd}
+use Rattle.refine_world.specs.Shows.{Core, Shows, At, AllHeld, errands, events, tellings, at}
+use Rattle.refine_world.proofs.Lives.{sound_at}
+use Rattle.refine_world.proofs.Tells.{first_open}
 use Rattle.proof_living.specs.Living.{More, GoesOn, world_with, with_more}
 use Rattle.proof_living.specs.Wanting.{IsOpen, wanting_none}
 use Rattle.proof_living.specs.FedCore.{kept_with, core_with, ShowsFed}

@@ -4,8 +4,8 @@ use Rattle.usb_model.specs.declared.response.Response.{Response}
 use Rattle.usb_model.specs.Setup.{Setup}
 use Rattle.usb_model.specs.World.{World}
 use Rattle.usb_design.specs.Kept.{KeptEndpoint}
-use Rattle.proof_design.specs.Lively.{IsFine}
-use Rattle.proof_design.specs.Shows.{Core, Shows}
+use Rattle.refine_world.specs.Lively.{IsFine}
+use Rattle.refine_world.specs.Shows.{Core, Shows}
 use Rattle.proof_living.specs.Living.{More, GoesOn, world_with}
 
 abbrev pub kept_with : List Response → KeptEndpoint → KeptEndpoint

@@ -1,10 +1,10 @@
 -- A request that was answered.
 use Rattle.std.proofs.Common.{◌≡◌, ℕ, ℤ, pos, List, Option, Some, refl, sym, ap, ◌∙◌, subst}
 use Rattle.std.specs.Prelude.{slice_get}
-use Rattle.usb_desk.specs.declared.answer.ControlAnswer.{ControlAnswer}
-use Rattle.usb_desk.specs.declared.device.DeskDevice.{DeskDevice}
-use Rattle.usb_desk.specs.declared.packet.SetupPacket.{SetupPacket}
-use Rattle.usb_desk.specs.Control.{has_answer, reply_of}
+use Rattle.usb_devicetext.specs.declared.answer.ControlAnswer.{ControlAnswer}
+use Rattle.usb_devicetext.specs.declared.device.DeskDevice.{DeskDevice}
+use Rattle.usb_devicetext.specs.declared.packet.SetupPacket.{SetupPacket}
+use Rattle.usb_devicetext.specs.Control.{has_answer, reply_of}
 use Rattle.tirnouch_c.specs.declared.session.Session.{Session}
 use Rattle.tirnouch_c.specs.declared.told.Told.{Told}
 use Rattle.tirnouch_c.specs.Buffers.{filled, taken_count}

@@ -1,7 +1,7 @@
 -- Packets in a row, as the core serves them at once.
 use Rattle.std.proofs.Common.{◌≡◌, ℕ, zero, suc, ◌+◌, ◌<◌, ◌≤◌, Bool, true, Option, Some, None, List, [], ◌∷◌, ◌++◌, refl, sym, ap, ◌∙◌, subst, arith}
 use Rattle.std.specs.Prelude.{max, replicate}
-use Rattle.proof_core.specs.Steps.{TurnsInRow}
+use Rattle.refine_core.specs.Steps.{TurnsInRow}
 use Rattle.usb_core.specs.Public.{Burst, ShowsWorld, StillCarries, Whole, burst_entries, whole_entries}
 use Rattle.usb_model.specs.declared.entry.Entry.{Entry}
 use Rattle.usb_model.specs.declared.step.Step.TheVariants.{Serve}

@@ -1,7 +1,7 @@
 -- What is wrong with a text of devices, as C is told it.
 use Rattle.std.specs.Prelude.{◌≡◌, ℕ, ℤ, pos, negsuc, List, is_some, length, min, Option, Some, None}
-use Rattle.usb_desk.specs.declared.complaint.Complaint.{Complaint}
-use Rattle.usb_desk.specs.Reason.{Complains, reason_place, reason_text}
+use Rattle.usb_devicetext.specs.declared.complaint.Complaint.{Complaint}
+use Rattle.usb_devicetext.specs.Reason.{Complains, reason_place, reason_text}
 use Rattle.tirnouch_c.specs.declared.told.Told.{Told}
 use Rattle.tirnouch_c.specs.Buffers.{answer_of, filled}
 use Rattle.tirnouch_c.specs.Told.{bit, line_told}

@@ -1,17 +1,17 @@
 -- What a text says of a device beside its answers.
 use Rattle.std.specs.Prelude.{◌≡◌, ℕ, ◌+◌, ◌*◌, ◌^◌, ℤ, pos, negsuc, ◌==◌, Bool, List, length, slice_get, Option, Some, None, is_none, if◌then◌else◌}
 use Rattle.std.specs.Option.{option_and_then, option_map, unwrap_or}
-use Rattle.usb_desk.specs.declared.answer.ControlAnswer.{ControlAnswer}
-use Rattle.usb_desk.specs.declared.answer.ControlAnswer.TheVariants as answer
-use Rattle.usb_desk.specs.declared.device.DeskDevice.{DeskDevice}
-use Rattle.usb_desk.specs.declared.statement.Awaited.{Awaited}
-use Rattle.usb_desk.specs.declared.statement.Awaited.TheVariants as awaited
-use Rattle.usb_desk.specs.declared.statement.Departure.{Departure}
-use Rattle.usb_desk.specs.declared.statement.Gate.{Gate}
-use Rattle.usb_desk.specs.declared.statement.Pattern.{Pattern}
-use Rattle.usb_desk.specs.declared.word.Speed.{Speed}
-use Rattle.usb_desk.specs.declared.word.Speed.TheVariants.{Full, High, Low}
-use Rattle.usb_desk.specs.Control.{string_at}
+use Rattle.usb_devicetext.specs.declared.answer.ControlAnswer.{ControlAnswer}
+use Rattle.usb_devicetext.specs.declared.answer.ControlAnswer.TheVariants as answer
+use Rattle.usb_devicetext.specs.declared.device.DeskDevice.{DeskDevice}
+use Rattle.usb_devicetext.specs.declared.statement.Awaited.{Awaited}
+use Rattle.usb_devicetext.specs.declared.statement.Awaited.TheVariants as awaited
+use Rattle.usb_devicetext.specs.declared.statement.Departure.{Departure}
+use Rattle.usb_devicetext.specs.declared.statement.Gate.{Gate}
+use Rattle.usb_devicetext.specs.declared.statement.Pattern.{Pattern}
+use Rattle.usb_devicetext.specs.declared.word.Speed.{Speed}
+use Rattle.usb_devicetext.specs.declared.word.Speed.TheVariants.{Full, High, Low}
+use Rattle.usb_devicetext.specs.Control.{string_at}
 use Rattle.tirnouch_c.specs.declared.session.Session.{Session}
 use Rattle.tirnouch_c.specs.declared.told.Told.{Told}
 use Rattle.tirnouch_c.specs.Buffers.{answer_of, filled}

@@ -1,7 +1,7 @@
 -- What the exports say that make and free sessions, and that take numbers of any kind.
 use Rattle.std.specs.Prelude.{◌≡◌, ℕ, ℤ, pos, negsuc, ◌==◌, nat_lt, not, List, Option, Some, None, Err, if◌then◌else◌}
 use Rattle.std.specs.Option.{option_map}
-use Rattle.usb_desk.specs.Desk.{desk_of}
+use Rattle.usb_devicetext.specs.Desk.{desk_of}
 use Rattle.usb_lent.specs.declared.lent.LentMemory.{LentMemory}
 use Rattle.tirnouch_c.specs.declared.session.Session.{Session}
 use Rattle.tirnouch_c.specs.declared.told.Told.{Told}

@@ -1,13 +1,13 @@
 -- Requests on a device's default control endpoint.
 use Rattle.std.specs.Prelude.{◌≡◌, ℕ, ℤ, pos, List, [], length, slice_get, slice_set, take, min, Option, Some, None}
 use Rattle.std.specs.Option.{option_map_or}
-use Rattle.usb_desk.specs.declared.answer.ControlAnswer.{ControlAnswer}
-use Rattle.usb_desk.specs.declared.answer.ControlAnswer.TheVariants as answer
-use Rattle.usb_desk.specs.declared.device.DeskDevice.{DeskDevice}
-use Rattle.usb_desk.specs.declared.packet.Needs.{Needs}
-use Rattle.usb_desk.specs.declared.packet.Needs.TheVariants as needs
-use Rattle.usb_desk.specs.declared.packet.SetupPacket.{SetupPacket}
-use Rattle.usb_desk.specs.Control.{asked_once_more, has_answer, reply_of}
+use Rattle.usb_devicetext.specs.declared.answer.ControlAnswer.{ControlAnswer}
+use Rattle.usb_devicetext.specs.declared.answer.ControlAnswer.TheVariants as answer
+use Rattle.usb_devicetext.specs.declared.device.DeskDevice.{DeskDevice}
+use Rattle.usb_devicetext.specs.declared.packet.Needs.{Needs}
+use Rattle.usb_devicetext.specs.declared.packet.Needs.TheVariants as needs
+use Rattle.usb_devicetext.specs.declared.packet.SetupPacket.{SetupPacket}
+use Rattle.usb_devicetext.specs.Control.{asked_once_more, has_answer, reply_of}
 use Rattle.tirnouch_c.specs.declared.session.Session.{Session}
 use Rattle.tirnouch_c.specs.declared.told.Told.{Told}
 use Rattle.tirnouch_c.specs.Buffers.{filled, taken_count}

@@ -1,8 +1,8 @@
 -- A session that is made of a text.
 use Rattle.std.specs.Prelude.{◌≡◌, ℕ, List, None, Ok}
 use Rattle.usb_core.specs.Public.{Carries, Kept, ShowsWorld}
-use Rattle.usb_desk.specs.declared.desk.Desk.{Desk}
-use Rattle.usb_desk.specs.Desk.{desk_of}
+use Rattle.usb_devicetext.specs.declared.desk.Desk.{Desk}
+use Rattle.usb_devicetext.specs.Desk.{desk_of}
 use Rattle.trace_scenario.specs.TextResults.{IsFaultOf}
 use Rattle.trace_scenario.specs.declared.text_fault.TextFault.{TextFault}
 use Rattle.usb_model.specs.World.{new_world}

@@ -1,13 +1,13 @@
 //! What is wrong with a text of devices.
 
 ghost use Rattle.std.specs.Prelude.{◌≡◌, Some};
-ghost use Rattle.usb_desk.specs.Reason.{Complains, reason_text};
+ghost use Rattle.usb_devicetext.specs.Reason.{Complains, reason_text};
 ghost use Rattle.tirnouch_c.specs.Complaints.{TellsComplaint, TellsWrong};
 
 use crate::results::{answer_of, fill};
 use crate::told::Told;
 use std::alloc::Global;
-use usb_desk::Complaint;
+use usb_devicetext::Complaint;
 
 /// Want of memory (libusb 1.0, `LIBUSB_ERROR_NO_MEM`).
 const NO_MEM: i32 = -11;
@@ -16,7 +16,7 @@ const NO_MEM: i32 = -11;
 pub fn complain(alloc: Global, text: &[u8], buffer: &mut [u8], told: &mut Told) -> i32
     ensures { TellsWrong text.now result told.old told.new buffer.old buffer.new }
 {
-    match usb_desk::complain(alloc, text) {
+    match usb_devicetext::complain(alloc, text) {
         Err(_) => NO_MEM,
         Ok(None) => 0,
         Ok(Some(complaint)) => tell(alloc, &complaint, text, buffer, told),

@@ -2,13 +2,13 @@
 
 ghost use Rattle.std.specs.Prelude.{◌≡◌};
 ghost use Rattle.std.specs.Option.{option_copied};
-ghost use Rattle.usb_desk.specs.Control.{shown_answer};
+ghost use Rattle.usb_devicetext.specs.Control.{shown_answer};
 ghost use Rattle.tirnouch_c.specs.Descriptions.{Describes, Tells, bytes_in, description, fact, speed_number};
 
 use crate::results::{answer_of, fill};
 use crate::session::Session;
 use crate::told::Told;
-use usb_desk::{ControlReply, DeskDevice, Speed};
+use usb_devicetext::{ControlReply, DeskDevice, Speed};
 
 /// libusb's number of what isn't there (libusb 1.0, `libusb_error`).
 const NOT_FOUND: i32 = -5;

@@ -4,7 +4,7 @@ ghost use Rattle.std.specs.Prelude.{◌≡◌, IfErr, IfOk, IfSome, false, pos};
 ghost use Rattle.usb_model.specs.Buffer.{no_memory};
 ghost use Rattle.usb_core.specs.Public.{takes_memory};
 ghost use Rattle.tirnouch_c.specs.Lent.{Lends};
-ghost use Rattle.usb_desk.specs.Packet.{needs_of, packet_of};
+ghost use Rattle.usb_devicetext.specs.Packet.{needs_of, packet_of};
 ghost use Rattle.tirnouch_c.specs.Complaints.{TellsWrong};
 ghost use Rattle.tirnouch_c.specs.Calls.{Calls, InSlot, ReadsSlot, step_of};
 ghost use Rattle.tirnouch_c.specs.Exports.{Creates, Destroys, LooksBy, PendsBy, ServesBy, SettlesBy, TakenBy, WorksBy, after, device_by};
@@ -25,7 +25,7 @@ use crate::{
 };
 use std::alloc::Global;
 use trace_scenario::TextFault;
-use usb_desk::SetupPacket;
+use usb_devicetext::SetupPacket;
 use usb_lent::LentMemory;
 use usb_model::{Buffer, DeviceNo, EpAddr, Name, Step};
 

@@ -41,7 +41,7 @@
 //!   that a device is to answer next, by the world, its bytes, and whether the device is asked (`TellsNext`)
 //! - `laws::fed_sessions`: of a session of a text, by any calls in a row each of whose packets had an answer, in the text or fed: the
 //!   session shows the world where their steps lead over the scripts as they are at the end, and what was told is what is told over these
-//! - `tirnouch_request`: what `usb_desk` says that the device answers; `tirnouch_needs`: what a host has to hold for that; `tirnouch_describe`, `tirnouch_tell`: what it has of the text
+//! - `tirnouch_request`: what `usb_devicetext` says that the device answers; `tirnouch_needs`: what a host has to hold for that; `tirnouch_describe`, `tirnouch_tell`: what it has of the text
 //! - `tirnouch_complain`: of a text that isn't taken the number of the line, and a sentence whose reason fits that (`TellsWrong`)
 //!
 //! It doesn't say: what C does with a slot between two calls, nor that two calls don't overlap; nor at which address the memory stands

@@ -1,7 +1,7 @@
 //! Requests on a device's default control endpoint.
 
 ghost use Rattle.std.specs.Prelude.{◌≡◌, ◌<◌, ◌^◌, length};
-ghost use Rattle.usb_desk.specs.Control.{shown_answer};
+ghost use Rattle.usb_devicetext.specs.Control.{shown_answer};
 ghost use Rattle.tirnouch_c.specs.Requests.{Asks, answer_told, with_asked, control_bytes};
 
 use crate::results::fill;
@@ -9,7 +9,7 @@ use crate::session::Session;
 use crate::told::Told;
 use std::alloc::Global;
 use std::mem;
-use usb_desk::{ControlReply, DeskDevice, SetupPacket};
+use usb_devicetext::{ControlReply, DeskDevice, SetupPacket};
 use usb_model::Sequence;
 
 /// libusb's number of a number out of range (libusb 1.0, `libusb_error`).

@@ -10,8 +10,8 @@ ghost use Rattle.tirnouch_c.specs.Sessions.{IsMade, IsUnmade};
 use std::alloc::{AllocError, Global};
 use trace_scenario::{ScriptedDevice, TextFault};
 use usb_core::{Core, Setup, Taken};
-use usb_desk::{Desk, DeskDevice, read_desk};
 use usb_device::TableDevice;
+use usb_devicetext::{Desk, DeskDevice, read_desk};
 use usb_model::Sequence;
 
 /// A core with scripted devices; with each transfer C keeps a number.

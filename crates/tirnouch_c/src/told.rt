@@ -9,7 +9,7 @@ ghost use Rattle.tirnouch_c.specs.Results.{told_taken};
 ghost use Rattle.tirnouch_c.specs.Told.{bit, code_of, line_told, of_kind, reply_told, status_number, told_of};
 
 use usb_core::{Offer, Pending, Taken};
-use usb_desk::{Awaited, Complaint, Departure, Gate, Needs, Pattern};
+use usb_devicetext::{Awaited, Complaint, Departure, Gate, Needs, Pattern};
 use usb_model::{Entry, EpAddr, Reply, Status};
 
 /// What a call told, in numbers.

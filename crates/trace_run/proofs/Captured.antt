@@ -19,11 +19,11 @@ use Rattle.usb_model.specs.Setup.{Setup}
 use Rattle.usb_model.specs.World.{World, turn}
 use Rattle.usb_model.specs.World.Journal.{Place, journal_from, run_from}
 use Rattle.usb_model.specs.World.Plans.{Stage, first_stage, is_submission, needs_stop, return_steps, returning, stage_after, steps_of, verdict_by}
-use Rattle.usb_purge.specs.Drives.{TakesNext}
-use Rattle.usb_purge.specs.PlanRuns.{Performs, PlanState, ShowsStage, StandsFor, is_verdict}
-use Rattle.usb_purge.proofs.Plans.{AreFixed, IsFixedStage, fixed_after, fixed_once, stands_only}
-use Rattle.usb_purge.proofs.Reached.{piece_rules}
-use Rattle.usb_purge.proofs.TakenCallbacks.{Takes, has_one, takes}
+use Rattle.usb_plans.specs.Drives.{TakesNext}
+use Rattle.usb_plans.specs.PlanRuns.{Performs, PlanState, ShowsStage, StandsFor, is_verdict}
+use Rattle.usb_plans.proofs.Plans.{AreFixed, IsFixedStage, fixed_after, fixed_once, stands_only}
+use Rattle.usb_plans.proofs.Reached.{piece_rules}
+use Rattle.usb_plans.proofs.TakenCallbacks.{Takes, has_one, takes}
 use Rattle.trace_capture.specs.declared.event.Event.{Event}
 use Rattle.trace_capture.specs.Control.{device_events}
 use Rattle.trace_capture.specs.Event.{event_bytes, events_bytes, file_bytes, file_header}

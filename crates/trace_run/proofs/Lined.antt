@@ -16,12 +16,12 @@ use Rattle.usb_model.specs.declared.verdict.Rule.{Rule}
 use Rattle.usb_model.specs.Setup.{Setup}
 use Rattle.usb_model.specs.World.Journal.{run_from}
 use Rattle.usb_model.specs.World.Plans.{Stage, first_stage, is_submission, stage_after, steps_of}
-use Rattle.usb_purge.specs.Drives.{TakesNext}
-use Rattle.usb_purge.specs.PlanRuns.{Performs, PlanState, ShowsStage, StandsFor, is_verdict}
-use Rattle.usb_purge.proofs.Plans.{AreFixed, IsFixedStage, fixed_after, fixed_once, stands_only}
-use Rattle.usb_purge.proofs.Reached as reached
-use Rattle.usb_purge.proofs.Reached.{piece_rules}
-use Rattle.usb_purge.proofs.TakenCallbacks.{Takes, has_one, takes}
+use Rattle.usb_plans.specs.Drives.{TakesNext}
+use Rattle.usb_plans.specs.PlanRuns.{Performs, PlanState, ShowsStage, StandsFor, is_verdict}
+use Rattle.usb_plans.proofs.Plans.{AreFixed, IsFixedStage, fixed_after, fixed_once, stands_only}
+use Rattle.usb_plans.proofs.Reached as reached
+use Rattle.usb_plans.proofs.Reached.{piece_rules}
+use Rattle.usb_plans.proofs.TakenCallbacks.{Takes, has_one, takes}
 use Rattle.trace_io.specs.declared.fault.Fault.{Fault}
 use Rattle.trace_io.specs.Output.{AppendsAllBut, AppendsSome}
 use Rattle.trace_io.proofs.Beginnings.{gathered_further, kept, some_behind, some_further, some_of_front, whole}

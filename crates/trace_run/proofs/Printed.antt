@@ -12,14 +12,14 @@ use Rattle.usb_model.specs.Setup.{Setup}
 use Rattle.usb_model.specs.Text.{lines_text}
 use Rattle.usb_model.specs.World.Journal.{IsBeginning}
 use Rattle.usb_model.specs.World.Plans.{first_stage, is_submission}
-use Rattle.usb_purge.specs.Alone.{AreLeft, StartsBoth, TwinState, alone_of, shared_of}
-use Rattle.usb_purge.specs.Drives.{TakesNext}
-use Rattle.usb_purge.specs.PlanRuns.{Performs, PlanState, ShowsStage, entries_of, is_verdict, of_option}
-use Rattle.usb_purge.specs.declared.plan_run.Performed.{Performed}
-use Rattle.usb_purge.proofs.BothRuns as both
-use Rattle.usb_purge.proofs.BothRuns.{AreBeside}
-use Rattle.usb_purge.proofs.Reached as reached
-use Rattle.usb_purge.proofs.Reached.{Reached}
+use Rattle.usb_plans.specs.Alone.{AreLeft, StartsBoth, TwinState, alone_of, shared_of}
+use Rattle.usb_plans.specs.Drives.{TakesNext}
+use Rattle.usb_plans.specs.PlanRuns.{Performs, PlanState, ShowsStage, entries_of, is_verdict, of_option}
+use Rattle.usb_plans.specs.declared.plan_run.Performed.{Performed}
+use Rattle.usb_plans.proofs.BothRuns as both
+use Rattle.usb_plans.proofs.BothRuns.{AreBeside}
+use Rattle.usb_plans.proofs.Reached as reached
+use Rattle.usb_plans.proofs.Reached.{Reached}
 use Rattle.trace_io.specs.Output.{line_text, AppendsAllBut, AppendsSome}
 use Rattle.trace_io.proofs.Beginnings.{gathered_further, kept, some_behind, some_further, some_of_front, whole}
 use Rattle.trace_io.proofs.Printed.{lines_begun}

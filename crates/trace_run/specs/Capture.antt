@@ -17,7 +17,7 @@ use Rattle.trace_capture.specs.Control.{device_events}
 use Rattle.trace_capture.specs.Event.{events_bytes, file_bytes}
 use Rattle.trace_capture.specs.Events.{DeviceLine, Recording, entry_after, entry_events, run_events}
 use Rattle.trace_scenario.specs.declared.described.DescribedDevice.{DescribedDevice}
-use Rattle.usb_purge.specs.PlanRuns.{Performs, PlanState}
+use Rattle.usb_plans.specs.PlanRuns.{Performs, PlanState}
 use Rattle.trace_io.specs.Output.{AppendsAllBut, AppendsSome}
 use Rattle.trace_run.specs.Printed.{BeginsMade, PrintsMade, StartsPlan}
 use Rattle.trace_run.specs.declared.lines.Reach.{Reach}

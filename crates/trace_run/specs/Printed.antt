@@ -12,9 +12,9 @@ use Rattle.usb_model.specs.Setup.{Setup}
 use Rattle.usb_model.specs.World.{new_world, world_from}
 use Rattle.usb_model.specs.World.Journal.{IsBeginning, own, world_run}
 use Rattle.usb_model.specs.World.Plans.{Stage, expand, first_stage, is_submission}
-use Rattle.usb_purge.specs.Alone.{AdvancesBoth, StartsBoth, TwinState, alone_of}
-use Rattle.usb_purge.specs.PlanRuns.{Performs, PlanState, ShowsStage, is_verdict}
-use Rattle.usb_purge.specs.declared.twins.TwinPiece.{TwinPiece}
+use Rattle.usb_plans.specs.Alone.{AdvancesBoth, StartsBoth, TwinState, alone_of}
+use Rattle.usb_plans.specs.PlanRuns.{Performs, PlanState, ShowsStage, is_verdict}
+use Rattle.usb_plans.specs.declared.twins.TwinPiece.{TwinPiece}
 use Rattle.trace_io.specs.Output.{AppendsAllBut, AppendsSome}
 use Rattle.trace_run.specs.declared.lines.Reach.{Reach}
 use Rattle.trace_run.specs.declared.lines.Reach.TheVariants.{End, NoMemory}

@@ -7,7 +7,7 @@ use Rattle.usb_model.specs.declared.verdict.Rule.{Rule}
 use Rattle.usb_model.specs.Setup.{Setup}
 use Rattle.usb_model.specs.World.Journal.{run_from}
 use Rattle.usb_model.specs.World.Plans.{Stage, first_stage, stage_after, steps_of}
-use Rattle.usb_purge.specs.PlanRuns.{PlanState}
+use Rattle.usb_plans.specs.PlanRuns.{PlanState}
 use Rattle.trace_io.specs.Output.{AppendsSome, behind_line}
 use Rattle.trace_run.specs.Printed.{PrintsText, StartsPlan}
 use Rattle.trace_run.specs.declared.lines.Reach.{Reach}

@@ -6,7 +6,7 @@ ghost use Rattle.std.specs.Vec.Iter.{into_iter_items};
 ghost use Rattle.usb_model.specs.declared.verdict.Rule.TheVariants.{Free};
 ghost use Rattle.usb_model.specs.World.Plans.{is_submission};
 ghost use Rattle.usb_core.specs.Public.{setup_of};
-ghost use Rattle.usb_purge.specs.PlanRuns.{entries_of, is_verdict};
+ghost use Rattle.usb_plans.specs.PlanRuns.{entries_of, is_verdict};
 ghost use Rattle.trace_capture.specs.Control.{device_events};
 ghost use Rattle.trace_capture.specs.Event.{events_bytes, file_bytes};
 ghost use Rattle.trace_capture.specs.Events.{device_after, devices_after, entry_after, entry_events};
@@ -26,7 +26,7 @@ use trace_scenario::{DescribedDevice, NumberedLine};
 use usb_callback::Callback;
 use usb_device::Device;
 use usb_model::{Entry, Plan, Sequence, Step, Verdict};
-use usb_purge::{Performed, PlanRun, next_callback};
+use usb_plans::{Performed, PlanRun, next_callback};
 
 /// Puts the records of a device's line behind the bytes.
 fn add_device(

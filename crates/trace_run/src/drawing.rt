@@ -4,7 +4,7 @@ ghost use Rattle.std.specs.Prelude.{◌≡◌, false, length};
 ghost use Rattle.std.specs.List.{AllByRecursion, count_by};
 ghost use Rattle.std.specs.Vec.Iter.{into_iter_items};
 ghost use Rattle.usb_model.specs.World.Plans.{is_submission};
-ghost use Rattle.usb_purge.specs.PlanRuns.{is_verdict};
+ghost use Rattle.usb_plans.specs.PlanRuns.{is_verdict};
 ghost use Rattle.trace_run.specs.Printed.{IsNew};
 
 use std::alloc::{AllocError, Global};
@@ -15,7 +15,7 @@ use usb_callback::Callback;
 use usb_core::Setup;
 use usb_device::Device;
 use usb_model::{Plan, Reply, Step, Verdict};
-use usb_purge::{Performed, PlanRun, copy_of, next_callback};
+use usb_plans::{Performed, PlanRun, copy_of, next_callback};
 
 /// Tells a drawing which endpoints the devices have.
 pub fn tell_endpoints(drawing: &mut Drawing, devices: &[ScriptedDevice]) -> Result<(), AllocError> {

@@ -8,7 +8,7 @@ ghost use Rattle.usb_model.specs.declared.verdict.Rule.TheVariants.{Free};
 ghost use Rattle.usb_model.specs.World.{new_world, world_from};
 ghost use Rattle.usb_model.specs.World.Plans.{expand, is_submission};
 ghost use Rattle.usb_core.specs.Public.{ShowsWorld, setup_of};
-ghost use Rattle.usb_purge.specs.PlanRuns.{Performs, is_verdict};
+ghost use Rattle.usb_plans.specs.PlanRuns.{Performs, is_verdict};
 ghost use Rattle.trace_run.specs.Printed.{CanStart, EndsFrom};
 
 use crate::lines::Parts;
@@ -18,7 +18,7 @@ use usb_callback::Callback;
 use usb_core::Core;
 use usb_device::Device;
 use usb_model::{Plan, Sequence};
-use usb_purge::{PlanRun, next_callback};
+use usb_plans::{PlanRun, next_callback};
 
 /// Performs a piece of a plan. An error where memory is refused.
 fn perform_piece<C: Callback, D: Device>(

@@ -8,8 +8,8 @@ ghost use Rattle.usb_model.specs.declared.verdict.Rule.TheVariants.{Free};
 ghost use Rattle.usb_model.specs.Text.{lines_text};
 ghost use Rattle.usb_model.specs.World.Plans.{is_submission};
 ghost use Rattle.usb_core.specs.Public.{setup_of};
-ghost use Rattle.usb_purge.specs.Alone.{AreLeft, Begins, CanStartBoth};
-ghost use Rattle.usb_purge.specs.PlanRuns.{entries_of, is_verdict};
+ghost use Rattle.usb_plans.specs.Alone.{AreLeft, Begins, CanStartBoth};
+ghost use Rattle.usb_plans.specs.PlanRuns.{entries_of, is_verdict};
 ghost use Rattle.trace_io.specs.Faults.{IsOfRun};
 ghost use Rattle.trace_io.specs.Output.{AppendsAllBut, AppendsSome};
 ghost use Rattle.trace_run.specs.Printed.{BeginsFrom, BeginsOwn, BeginsOwnPiece, BeginsPiece, CanStart, PrintsFrom, PrintsOwn, PrintsOwnPiece, PrintsPiece, PrintsTo, own_entries, plan_entries};
@@ -22,7 +22,7 @@ use usb_callback::Callback;
 use usb_core::Setup;
 use usb_device::Device;
 use usb_model::{Name, Plan, Sequence};
-use usb_purge::{Performed, PlanRun, Twins, next_callback};
+use usb_plans::{Performed, PlanRun, Twins, next_callback};
 
 /// How far a run comes.
 #[derive(Clone, Copy, PartialEq, Eq, Debug)]

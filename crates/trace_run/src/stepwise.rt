@@ -6,7 +6,7 @@ ghost use Rattle.std.specs.Vec.Iter.{into_iter_items};
 ghost use Rattle.usb_model.specs.declared.verdict.Rule.TheVariants.{Free};
 ghost use Rattle.usb_model.specs.World.Plans.{is_submission};
 ghost use Rattle.usb_core.specs.Public.{setup_of};
-ghost use Rattle.usb_purge.specs.PlanRuns.{entries_of, is_verdict};
+ghost use Rattle.usb_plans.specs.PlanRuns.{entries_of, is_verdict};
 ghost use Rattle.trace_io.specs.Faults.{IsOfRun};
 ghost use Rattle.trace_io.specs.Output.{AppendsSome};
 ghost use Rattle.trace_scenario.specs.StepLines.{numbered};
@@ -22,7 +22,7 @@ use trace_scenario::NumberedLine;
 use usb_callback::Callback;
 use usb_device::Device;
 use usb_model::{Plan, Sequence};
-use usb_purge::{Performed, PlanRun, next_callback};
+use usb_plans::{Performed, PlanRun, next_callback};
 
 /// The entries of a piece, each behind the piece's line.
 #[tactic(auto, unfolding(crate::specs::Stepwise::piece_text))]

@@ -4,9 +4,9 @@ use Rattle.usb_model.specs.declared.response.Response.{Response}
 use Rattle.usb_model.specs.Setup.{endpoint_id}
 use Rattle.proof_living.specs.Fed.{fed, fed_at}
 use Rattle.proof_living.specs.Living.{world_with}
-use Rattle.proof_core.specs.Feeds.{FeedsWorld, may_be_fed_at, state_fed}
-use Rattle.proof_core.specs.State.{IsState, State}
-use Rattle.proof_core.proofs.Feeds.{feeds}
+use Rattle.refine_core.specs.Feeds.{FeedsWorld, may_be_fed_at, state_fed}
+use Rattle.refine_core.specs.State.{IsState, State}
+use Rattle.refine_core.proofs.Feeds.{feeds}
 
 pub fed_world : {P X Y : Type 0} (old new : State P) (dev ep : ℕ) (a : Response) (r : Result X Y) → OnOk r (new ≡ state_fed dev ep a old) → OnOk r (may_be_fed_at dev ep a old ≡ true) → OnOk r (FeedsWorld old dev ep a new)
 fed_world old new dev ep a (Ok x) is may = subst (FeedsWorld old dev ep a) (sym is) (feeds old dev ep a may)

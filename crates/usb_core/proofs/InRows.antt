@@ -6,13 +6,13 @@ use Rattle.usb_model.specs.declared.step.Step.TheVariants.{Answer, Take}
 use Rattle.usb_model.specs.declared.verdict.Verdict.TheVariants.{Stop}
 use Rattle.usb_model.specs.Setup.{Setup}
 use Rattle.usb_model.specs.World.{World, world_from}
-use Rattle.proof_design.specs.Shows.{Core, Shows}
-use Rattle.proof_core.specs.Calls.{called_entry}
-use Rattle.proof_core.specs.Handles.{says}
-use Rattle.proof_core.specs.State.{IsState, Keeps, ShowsWorld, State}
-use Rattle.proof_core.specs.Steps.{core_behind}
-use Rattle.proof_core.proofs.Rows.{runs, shows_behind, steps_run}
-use Rattle.proof_core.proofs.Turns.{shows_again, turns}
+use Rattle.refine_world.specs.Shows.{Core, Shows}
+use Rattle.refine_core.specs.Calls.{called_entry}
+use Rattle.refine_core.specs.Handles.{says}
+use Rattle.refine_core.specs.State.{IsState, Keeps, ShowsWorld, State}
+use Rattle.refine_core.specs.Steps.{core_behind}
+use Rattle.refine_core.proofs.Rows.{runs, shows_behind, steps_run}
+use Rattle.refine_core.proofs.Turns.{shows_again, turns}
 use Rattle.usb_steps.specs.declared.results.Taken.{Taken}
 use Rattle.usb_steps.specs.Drains.{drained_steps}
 use Rattle.usb_steps.specs.Results.{TakesDone}

@@ -4,8 +4,8 @@ use Rattle.usb_model.specs.declared.entry.Entry.{Entry}
 use Rattle.usb_model.specs.declared.step.Step.{Step}
 use Rattle.usb_model.specs.Numbers.{takes_payload}
 use Rattle.usb_steps.specs.declared.submission.Unaccepted.{Unaccepted}
-use Rattle.proof_core.specs.Payloads.{Carries, CarriesMore, Kept, StillCarries}
-use Rattle.proof_core.specs.State.{State}
+use Rattle.refine_core.specs.Payloads.{Carries, CarriesMore, Kept, StillCarries}
+use Rattle.refine_core.specs.State.{State}
 use Rattle.usb_core.specs.Steps.{answered, kept_after, kept_by, turned_down}
 use Rattle.usb_core.proofs.Turns.{turned_down_err, turned_down_ok}
 

@@ -5,7 +5,7 @@ use Rattle.usb_model.specs.declared.step.Step.{Step}
 use Rattle.usb_model.specs.declared.step.Step.TheVariants.{Answer, Cancel, Claim, ClearHalt, Close, Command, Deliver, Expire, Open, Release, Reset, Serve, Submit, Take, Unplug}
 use Rattle.usb_model.specs.declared.verdict.Verdict.{Verdict}
 use Rattle.usb_model.specs.Numbers.{takes_payload}
-use Rattle.proof_core.specs.State.{State}
+use Rattle.refine_core.specs.State.{State}
 use Rattle.usb_core.specs.Steps.{handed_out}
 
 -- a step takes no payload, and hands nothing out

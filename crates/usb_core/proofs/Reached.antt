@@ -10,9 +10,9 @@ use Rattle.proof_lemmas.proofs.Handles.Runs.{run_ends, step_further}
 use Rattle.proof_invariants.proofs.Bound.AskedEnds.{asked_ends}
 use Rattle.proof_invariants.proofs.Cut.Runs.{cuts_at}
 use Rattle.proof_invariants.proofs.Places.Runs.{keeps_places}
-use Rattle.proof_core.specs.State.{ShowsWorld, State}
-use Rattle.proof_core.specs.Steps.{TurnsWorld}
-use Rattle.proof_design.specs.Lively.{IsFine}
+use Rattle.refine_core.specs.State.{ShowsWorld, State}
+use Rattle.refine_core.specs.Steps.{TurnsWorld}
+use Rattle.refine_world.specs.Lively.{IsFine}
 use Rattle.usb_core.specs.Runs.{IsLawfulRun, ObeysLaws}
 use Rattle.usb_core.specs.Steps.{Advances}
 use Rattle.usb_core.proofs.CallsBack.{calls_back_in_order, calls_back_once}

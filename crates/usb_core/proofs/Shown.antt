@@ -11,17 +11,17 @@ use Rattle.usb_model.specs.Setup.{Setup, endpoints_of, interface_of}
 use Rattle.usb_model.specs.World.{World}
 use Rattle.usb_device.specs.Pipe.{pipe_at}
 use Rattle.usb_xhc.specs.Slots.{DeviceSlot}
-use Rattle.proof_controller.specs.Endpoint.{IsPipe}
+use Rattle.refine_rings.specs.Endpoint.{IsPipe}
 use Rattle.usb_steps.specs.declared.pending.Pending.{Pending}
 use Rattle.usb_steps.specs.Pending.{IsPending, does_something}
 use Rattle.usb_steps.specs.Homes.{can_expire, expires_now}
 use Rattle.usb_steps.specs.Packets.{taken_in}
-use Rattle.proof_design.specs.Calls.{KeptHome, ask_core, device_of, kept_home, step_core}
-use Rattle.proof_design.specs.Shows.{Core, Shows}
-use Rattle.proof_design.proofs.Calls.Whole.{whole_steps}
-use Rattle.proof_controller.proofs.Ids.{has_device}
-use Rattle.proof_controller.proofs.Lookups.{get_within}
-use Rattle.proof_core.specs.State.{Keeps, ShowsWorld, State}
+use Rattle.refine_world.specs.Calls.{KeptHome, ask_core, device_of, kept_home, step_core}
+use Rattle.refine_world.specs.Shows.{Core, Shows}
+use Rattle.refine_world.proofs.Calls.Whole.{whole_steps}
+use Rattle.refine_rings.proofs.Ids.{has_device}
+use Rattle.refine_rings.proofs.Lookups.{get_within}
+use Rattle.refine_core.specs.State.{Keeps, ShowsWorld, State}
 use Rattle.usb_core.specs.Reads.{IsLeft, is_done, would_expire}
 
 -- how many bytes the first result has

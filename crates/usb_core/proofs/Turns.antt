@@ -6,10 +6,10 @@ use Rattle.usb_model.specs.declared.refused.Refused.TheVariants.{Busy, HeldElsew
 use Rattle.usb_model.specs.declared.reply.Reply.TheVariants.{Number, Refused as IsRefused}
 use Rattle.usb_model.specs.declared.step.Step.{Step}
 use Rattle.usb_steps.specs.declared.submission.Unaccepted.{Unaccepted}
-use Rattle.proof_core.specs.Calls.{Stays}
-use Rattle.proof_core.specs.State.{IsState, State}
-use Rattle.proof_core.specs.Steps.{DoesCoreStep, TurnsWorld}
-use Rattle.proof_core.proofs.Turns.{shows_again, turns}
+use Rattle.refine_core.specs.Calls.{Stays}
+use Rattle.refine_core.specs.State.{IsState, State}
+use Rattle.refine_core.specs.Steps.{DoesCoreStep, TurnsWorld}
+use Rattle.refine_core.proofs.Turns.{shows_again, turns}
 use Rattle.usb_core.specs.Steps.{answered, turned_down}
 
 module _ {P : Type 0} where

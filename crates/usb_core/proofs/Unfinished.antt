@@ -13,11 +13,11 @@ use Rattle.usb_transfer.specs.declared.transfer.Transfer.{Transfer as InFlight}
 use Rattle.usb_xhc.specs.Context.{Context}
 use Rattle.usb_xhc.specs.Slots.{DeviceSlot}
 use Rattle.usb_steps.specs.Inventory.{answers_in, halted_in, is_halted_state, stalled_in}
-use Rattle.proof_design.specs.ShownEndpoint.{AllKept, IsKept}
-use Rattle.proof_core.specs.State.{AllItems, IsItem, ShowsWorld, State, result_of}
-use Rattle.proof_core.specs.Works.{context_in}
-use Rattle.proof_core.proofs.HeldEnds.{bare_state, items, ring_state, shows_end, slot}
-use Rattle.proof_core.proofs.Inventory.{result_shown}
+use Rattle.refine_world.specs.ShownEndpoint.{AllKept, IsKept}
+use Rattle.refine_core.specs.State.{AllItems, IsItem, ShowsWorld, State, result_of}
+use Rattle.refine_core.specs.Works.{context_in}
+use Rattle.refine_core.proofs.HeldEnds.{bare_state, items, ring_state, shows_end, slot}
+use Rattle.refine_core.proofs.Inventory.{result_shown}
 use Rattle.usb_core.specs.Inventory.{halted, number_in, waiting_result}
 
 module _ {P : Type 0} where

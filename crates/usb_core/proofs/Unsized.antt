@@ -37,9 +37,9 @@ use Rattle.proof_invariants.proofs.Machines.Deeds.{IsDone, IsWork, asks_it, clea
 use Rattle.proof_invariants.proofs.Machines.Done.{is_done}
 use Rattle.proof_invariants.proofs.Machines.Idle.{at_device_of}
 use Rattle.proof_invariants.proofs.Machines.Well.{first_news, first_order, fit_at}
-use Rattle.proof_design.specs.Lively.{IsFine, IsSized}
-use Rattle.proof_design.proofs.Lives.{IsSound, sound_at, sound_turn}
-use Rattle.proof_design.proofs.Sizes.{asked_sized, ordered_sized, submits_supported, told_sized}
+use Rattle.refine_world.specs.Lively.{IsFine, IsSized}
+use Rattle.refine_world.proofs.Lives.{IsSound, sound_at, sound_turn}
+use Rattle.refine_world.proofs.Sizes.{asked_sized, ordered_sized, submits_supported, told_sized}
 use Rattle.usb_core.specs.Runs.{IsCutAt}
 
 -- nothing was accepted but that a halt ends, nothing came of it, and all answers of the script are left

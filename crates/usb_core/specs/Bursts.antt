@@ -3,10 +3,10 @@ use Rattle.std.specs.Prelude.{◌≡◌, [], ◌∷◌, Option, Some, None}
 use Rattle.usb_model.specs.declared.reply.Reply.TheVariants.{Done}
 use Rattle.usb_model.specs.declared.step.Step.TheVariants.{Answer, Take}
 use Rattle.usb_model.specs.declared.verdict.Verdict.TheVariants.{Stop}
-use Rattle.proof_core.specs.Calls.{called_entry}
-use Rattle.proof_core.specs.Handles.{says}
-use Rattle.proof_core.specs.State.{State}
-use Rattle.proof_core.specs.Steps.{TurnsInRow, TurnsWorld}
+use Rattle.refine_core.specs.Calls.{called_entry}
+use Rattle.refine_core.specs.Handles.{says}
+use Rattle.refine_core.specs.State.{State}
+use Rattle.refine_core.specs.Steps.{TurnsInRow, TurnsWorld}
 use Rattle.usb_steps.specs.declared.results.Taken.{Taken}
 
 -- a result goes out to its callback, which ends: a Take, and an Answer with Stop, which is done; where none waits a Take is idle, and nothing changed

@@ -1,17 +1,17 @@
 -- The words of the core that contracts of other crates cite: they take them from here.
 
 -- the definitions' setup of these devices
-pub use Rattle.proof_core.specs.Made.{setup_of}
+pub use Rattle.refine_core.specs.Made.{setup_of}
 -- what a core keeps, and the world that it shows
-pub use Rattle.proof_core.specs.State.{State, ShowsWorld, result_of}
+pub use Rattle.refine_core.specs.State.{State, ShowsWorld, result_of}
 -- a call is a turn of the world; one that ends a callback, or is refused
-pub use Rattle.proof_core.specs.Steps.{TurnsInRow, TurnsWorld}
-pub use Rattle.proof_core.specs.Calls.{Stays, called_entry}
+pub use Rattle.refine_core.specs.Steps.{TurnsInRow, TurnsWorld}
+pub use Rattle.refine_core.specs.Calls.{Stays, called_entry}
 pub use Rattle.usb_steps.specs.declared.submission.Unaccepted.{Unaccepted}
 -- the steps that take memory
 pub use Rattle.usb_steps.specs.Calls.{takes_memory}
 -- what callers keep with their transfers: it stays, one more joins, one goes out
-pub use Rattle.proof_core.specs.Payloads.{Kept, Carries, StillCarries, CarriesMore}
+pub use Rattle.refine_core.specs.Payloads.{Kept, Carries, StillCarries, CarriesMore}
 pub use Rattle.usb_steps.specs.Results.{CarriesOut}
 pub use Rattle.usb_steps.specs.declared.results.Taken.{Taken}
 -- what is to be done next
@@ -28,5 +28,5 @@ pub use Rattle.usb_core.specs.declared.inventory.WaitingResult.{WaitingResult}
 pub use Rattle.usb_core.specs.Inventory.{waiting_result, number_in, halted}
 pub use Rattle.usb_steps.specs.declared.events.Delivered.{Delivered}
 -- a device is fed: the world of the longer scripts is shown where it stands; the packet that is next, or that there is none
-pub use Rattle.proof_core.specs.Feeds.{FeedsWorld, may_be_fed_at}
-pub use Rattle.proof_core.specs.Offers.{HasNone, IsNext}
+pub use Rattle.refine_core.specs.Feeds.{FeedsWorld, may_be_fed_at}
+pub use Rattle.refine_core.specs.Offers.{HasNone, IsNext}

@@ -9,9 +9,9 @@ use Rattle.usb_model.specs.declared.step.Step.{Step}
 use Rattle.usb_model.specs.declared.step.Step.TheVariants.{Take}
 use Rattle.usb_model.specs.Numbers.{takes_payload}
 use Rattle.usb_steps.specs.declared.submission.Unaccepted.{Unaccepted}
-use Rattle.proof_core.specs.Payloads.{Kept, kept_with}
-use Rattle.proof_core.specs.State.{State}
-use Rattle.proof_core.specs.Steps.{TurnsWorld}
+use Rattle.refine_core.specs.Payloads.{Kept, kept_with}
+use Rattle.refine_core.specs.State.{State}
+use Rattle.refine_core.specs.Steps.{TurnsWorld}
 use Rattle.usb_core.specs.declared.step.NoMemory.{NoMemory}
 use Rattle.usb_core.specs.declared.step.Stepped.{Stepped}
 

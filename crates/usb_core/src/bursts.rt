@@ -6,9 +6,9 @@ ghost use Rattle.std.specs.Prelude.{◌≡◌, ◌+◌, ◌≤◌, ◌<◌, leng
 ghost use Rattle.usb_model.specs.declared.step.Step.TheVariants.{Serve};
 ghost use Rattle.usb_model.specs.Setup.{Setup as ModelSetup};
 ghost use Rattle.usb_model.specs.World.{World, world_from};
-ghost use Rattle.proof_core.specs.Payloads.{Carries, Kept, StillCarries};
-ghost use Rattle.proof_core.specs.State.{ShowsWorld};
-ghost use Rattle.proof_core.specs.Steps.{TurnsInRow};
+ghost use Rattle.refine_core.specs.Payloads.{Carries, Kept, StillCarries};
+ghost use Rattle.refine_core.specs.State.{ShowsWorld};
+ghost use Rattle.refine_core.specs.Steps.{TurnsInRow};
 ghost use Rattle.usb_steps.specs.Bursts.{Differs, burst_entries};
 ghost use Rattle.usb_steps.specs.Drains.{drained_steps};
 ghost use Rattle.usb_steps.specs.Results.{CarriesOut};

@@ -7,11 +7,11 @@ ghost use Rattle.usb_model.specs.declared.step.Step.TheVariants.{Answer, Deliver
 ghost use Rattle.usb_model.specs.declared.verdict.Verdict.TheVariants.{Again, AgainWith, Stop};
 ghost use Rattle.usb_model.specs.World.{new_world};
 ghost use Rattle.usb_transfer.specs.Tds.{memory_left};
-ghost use Rattle.proof_core.specs.Calls.{Stays, called_entry};
-ghost use Rattle.proof_core.specs.Payloads.{Carries, CarriesMore, Kept, StillCarries};
-ghost use Rattle.proof_core.specs.Made.{setup_of};
-ghost use Rattle.proof_core.specs.State.{ShowsWorld};
-ghost use Rattle.proof_core.specs.Steps.{TurnsWorld};
+ghost use Rattle.refine_core.specs.Calls.{Stays, called_entry};
+ghost use Rattle.refine_core.specs.Payloads.{Carries, CarriesMore, Kept, StillCarries};
+ghost use Rattle.refine_core.specs.Made.{setup_of};
+ghost use Rattle.refine_core.specs.State.{ShowsWorld};
+ghost use Rattle.refine_core.specs.Steps.{TurnsWorld};
 ghost use Rattle.usb_steps.specs.Calls.{takes_memory};
 ghost use Rattle.usb_steps.specs.Results.{CarriesOut};
 
@@ -36,7 +36,7 @@ pub struct Core<P, D: Device> {
 }
 
 impl<P, D: Device> Model for Core<P, D> {
-    ghost use Rattle.proof_core.specs.State.{IsState, State};
+    ghost use Rattle.refine_core.specs.State.{IsState, State};
 
     ghost Value = { State P };
 

@@ -4,10 +4,10 @@ ghost use Rattle.std.specs.Prelude.{◌≡◌, ◌<◌, None, true, IfErr, IfSom
 ghost use Rattle.usb_model.specs.Setup.{Setup as ModelSetup};
 ghost use Rattle.usb_model.specs.World.{World};
 ghost use Rattle.usb_model.specs.declared.refused.Refused.TheVariants.{InvalidParam, NoMem};
-ghost use Rattle.proof_core.specs.Feeds.{FeedsWorld, may_be_fed_at};
-ghost use Rattle.proof_core.specs.Offers.{HasNone, IsNext};
-ghost use Rattle.proof_core.specs.Payloads.{StillCarries};
-ghost use Rattle.proof_core.specs.State.{ShowsWorld};
+ghost use Rattle.refine_core.specs.Feeds.{FeedsWorld, may_be_fed_at};
+ghost use Rattle.refine_core.specs.Offers.{HasNone, IsNext};
+ghost use Rattle.refine_core.specs.Payloads.{StillCarries};
+ghost use Rattle.refine_core.specs.State.{ShowsWorld};
 
 use crate::calls::Core;
 use usb_device::{Feed, Scripted};
@@ -30,7 +30,7 @@ impl<P, D: Scripted> Core<P, D> {
 impl<P, D: Feed> Core<P, D> {
     /// One more answer behind the script of a device's endpoint, held or not, as if it had stood there from the beginning: whatever
     /// was served before, the core then shows the world of these longer scripts where it stands (`FeedsWorld`), and no step is made.
-    /// InvalidParam where the endpoint can't have it (laws `feeds_feedable`, `feeds_only_feedable` of proof_core): there is none, the
+    /// InvalidParam where the endpoint can't have it (laws `feeds_feedable`, `feeds_only_feedable` of refine_core): there is none, the
     /// answer is of the other direction, its packet is longer than `LARGEST_PACKET`, or the script has `LONGEST_SCRIPT` answers.
     /// Else NoMem where memory is refused. Then nothing changed.
     pub fn feed(&mut self, dev: DeviceNo, ep: EpAddr, answer: Response) -> Result<(), Refused>

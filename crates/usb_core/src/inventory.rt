@@ -6,9 +6,9 @@ ghost use Rattle.usb_model.specs.declared.step.Step.TheVariants.{Deliver};
 ghost use Rattle.usb_model.specs.Machine.Calls.{callback_of};
 ghost use Rattle.usb_model.specs.Setup.{Setup as ModelSetup};
 ghost use Rattle.usb_model.specs.World.{World, holder};
-ghost use Rattle.proof_core.specs.Payloads.{StillCarries};
-ghost use Rattle.proof_core.specs.State.{ShowsWorld};
-ghost use Rattle.proof_core.specs.Steps.{TurnsWorld};
+ghost use Rattle.refine_core.specs.Payloads.{StillCarries};
+ghost use Rattle.refine_core.specs.State.{ShowsWorld};
+ghost use Rattle.refine_core.specs.Steps.{TurnsWorld};
 ghost use Rattle.usb_core.specs.Inventory.{halted, number_in, waiting_result};
 
 use crate::calls::Core;

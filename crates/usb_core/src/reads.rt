@@ -5,8 +5,8 @@ ghost use Rattle.std.specs.Option.{option_copied, option_map_or};
 ghost use Rattle.usb_model.specs.declared.step.Step.TheVariants.{Command, Deliver, Take};
 ghost use Rattle.usb_model.specs.Setup.{Setup as ModelSetup, interface_of};
 ghost use Rattle.usb_model.specs.World.{World};
-ghost use Rattle.proof_core.specs.Made.{setup_of};
-ghost use Rattle.proof_core.specs.State.{ShowsWorld};
+ghost use Rattle.refine_core.specs.Made.{setup_of};
+ghost use Rattle.refine_core.specs.State.{ShowsWorld};
 ghost use Rattle.usb_steps.specs.Pending.{IsPending, does_something, serves};
 ghost use Rattle.usb_core.specs.Reads.{IsLeft, would_expire};
 

@@ -2,7 +2,7 @@
 
 ghost use Rattle.std.specs.Prelude.{◌≡◌, ◌<◌, ◌⊎◌, [], IfErr, IfOk, OnErr, length, take};
 ghost use Rattle.usb_model.specs.World.Journal.{IsBeginning, world_run};
-ghost use Rattle.proof_core.specs.Made.{setup_of};
+ghost use Rattle.refine_core.specs.Made.{setup_of};
 ghost use Rattle.usb_core.specs.Runs.{IsLawfulRun, ObeysLaws};
 ghost use Rattle.usb_core.specs.Steps.{Advances};
 

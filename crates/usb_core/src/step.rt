@@ -3,9 +3,9 @@
 ghost use Rattle.std.specs.Prelude.{◌≡◌, true, IfErr, IfOk, None, OnErr, Some, is_some, option_map};
 ghost use Rattle.usb_model.specs.declared.step.Step.TheVariants.{Answer, Take};
 ghost use Rattle.usb_model.specs.Numbers.{takes_payload};
-ghost use Rattle.proof_core.specs.Calls.{Stays};
-ghost use Rattle.proof_core.specs.Payloads.{Carries, Kept, StillCarries};
-ghost use Rattle.proof_core.specs.Steps.{TurnsWorld};
+ghost use Rattle.refine_core.specs.Calls.{Stays};
+ghost use Rattle.refine_core.specs.Payloads.{Carries, Kept, StillCarries};
+ghost use Rattle.refine_core.specs.Steps.{TurnsWorld};
 ghost use Rattle.usb_steps.specs.Calls.{takes_memory};
 ghost use Rattle.usb_core.specs.Steps.{GoesOut, answered, first_payload, handed_out, kept_after, left_over};
 

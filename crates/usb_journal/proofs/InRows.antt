@@ -9,7 +9,7 @@ use Rattle.usb_model.specs.declared.step.Step.TheVariants.{Deliver}
 use Rattle.usb_model.specs.Setup.{Setup}
 use Rattle.usb_model.specs.World.{World, new_world, turn, world_from}
 use Rattle.usb_model.specs.World.Journal.{journal, journal_from, run_from, world_run}
-use Rattle.proof_core.specs.Steps.{TurnsInRow}
+use Rattle.refine_core.specs.Steps.{TurnsInRow}
 use Rattle.usb_core.specs.Public.{ShowsWorld, State, StillCarries, TurnsWorld, takes_memory}
 use Rattle.usb_receipts.specs.Rule.{BeginsWith}
 use Rattle.usb_journal.specs.declared.place.Place.{Place}

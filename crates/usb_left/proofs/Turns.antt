@@ -30,7 +30,7 @@ use Rattle.usb_model.specs.World.{World, machine_of, new_world, turn, turn_by, t
 use Rattle.usb_model.specs.World.Shared.{first_name, past_first, pieces_of, tagged}
 use Rattle.usb_left.specs.Gathered.{event_of, event_told, first_of, order_of, order_told}
 use Rattle.usb_left.specs.Left.{event_left}
-use Rattle.proof_design.proofs.Links.{machine_parts, turn_works}
+use Rattle.refine_world.proofs.Links.{machine_parts, turn_works}
 use Rattle.proof_invariants.proofs.Places.Runs.{kept_at}
 use Rattle.proof_lemmas.proofs.Lists.Pieces.{same_name}
 

@@ -37,19 +37,19 @@ use Rattle.proof_lemmas.proofs.Shares.Next.{next_there}
 use Rattle.proof_lemmas.proofs.Shares.OpenShares.{open_at, open_whole}
 use Rattle.usb_design.specs.Kept.{is_extra}
 use Rattle.usb_design.specs.Packets.{Packet, gave, packet_by}
-use Rattle.proof_design.specs.Kept.{outcome_now}
-use Rattle.proof_design.specs.Lively.{IsSized}
-use Rattle.proof_design.proofs.Links.{known}
-use Rattle.proof_design.proofs.Packets.{NextIs, next_is}
-use Rattle.proof_design.proofs.Tells.{first_open}
+use Rattle.refine_world.specs.Kept.{outcome_now}
+use Rattle.refine_world.specs.Lively.{IsSized}
+use Rattle.refine_world.proofs.Links.{known}
+use Rattle.refine_world.proofs.Packets.{NextIs, next_is}
+use Rattle.refine_world.proofs.Tells.{first_open}
 use Rattle.proof_living.specs.Living.{GoesOn, More, is_empty, is_running, is_wanting, with_more, world_with}
 use Rattle.proof_living.proofs.Effects.{size_same}
 use Rattle.proof_living.proofs.Worlds.{holder_same}
-use Rattle.proof_core.specs.Offers.{IsNext, bytes_next, room_next}
-use Rattle.proof_core.proofs.Offers.{length_drop, take_min}
-use Rattle.proof_core.specs.State.{ShowsWorld, State}
-use Rattle.proof_controller.specs.Made.{IsRead}
-use Rattle.proof_controller.proofs.Ids.{id-lt}
+use Rattle.refine_core.specs.Offers.{IsNext, bytes_next, room_next}
+use Rattle.refine_core.proofs.Offers.{length_drop, take_min}
+use Rattle.refine_core.specs.State.{ShowsWorld, State}
+use Rattle.refine_rings.specs.Made.{IsRead}
+use Rattle.refine_rings.proofs.Ids.{id-lt}
 use Rattle.proof_living.specs.Fed.{fed_at, has_script}
 use Rattle.proof_living.proofs.Fed.{fed_goes_on}
 use Rattle.usb_living.specs.Offered.{FeedingGoesOn, FitsTheRoomItIsTold, GoesOnWith, TakesWhatItIsTold, answered, tells_babble}

@@ -14,7 +14,7 @@ use Rattle.proof_living.proofs.Worlds.{new_same}
 use Rattle.proof_living.proofs.Runs.{journal_same, world_same}
 use Rattle.proof_living.proofs.Feeding.{goes_none, goes_twice, world_none, world_twice}
 use Rattle.proof_living.proofs.NoWants.{stays_within}
-use Rattle.proof_core.specs.State.{ShowsWorld, State}
+use Rattle.refine_core.specs.State.{ShowsWorld, State}
 use Rattle.usb_living.specs.Rows.{Deed, Does, Fed, HasAnswers, Leads, Made, RowsAreAsIfKnown, entries_in, more_in, more_of, setup_behind, setup_in, steps_in, steps_of, world_behind}
 
 -- one call leaves scripts that go on

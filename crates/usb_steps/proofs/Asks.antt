@@ -5,15 +5,15 @@ use Rattle.usb_model.specs.declared.item.Ask.{Ask}
 use Rattle.usb_model.specs.declared.refused.Refused.TheVariants.{NotFound}
 use Rattle.usb_model.specs.declared.reply.Reply.TheVariants.{Done, Refused}
 use Rattle.usb_model.specs.Setup.{Setup}
-use Rattle.proof_design.specs.Shows.{Core}
-use Rattle.proof_core.specs.State.{IsState, Keeps, State}
-use Rattle.proof_core.specs.Steps.{AskedAt, AsksToEnd, CanAsk, IsHome}
-use Rattle.proof_core.proofs.Askable.{askable_is, asked_once, can_ask, its_live}
-use Rattle.proof_core.proofs.Asks.{asked_before, asks_now, none_to_ask}
-use Rattle.proof_core.proofs.Held.{held_interface}
+use Rattle.refine_world.specs.Shows.{Core}
+use Rattle.refine_core.specs.State.{IsState, Keeps, State}
+use Rattle.refine_core.specs.Steps.{AskedAt, AsksToEnd, CanAsk, IsHome}
+use Rattle.refine_core.proofs.Askable.{askable_is, asked_once, can_ask, its_live}
+use Rattle.refine_core.proofs.Asks.{asked_before, asks_now, none_to_ask}
+use Rattle.refine_core.proofs.Held.{held_interface}
 use Rattle.std.specs.Option.{unwrap_or}
 use Rattle.usb_model.specs.Setup.{endpoints_of}
-use Rattle.proof_design.specs.Calls.{kept_home}
+use Rattle.refine_world.specs.Calls.{kept_home}
 use Rattle.usb_steps.specs.Homes.{HomeIs, can_expire, expires_now, is_askable}
 use Rattle.usb_steps.specs.declared.ask.Home.{Home}
 

@@ -13,13 +13,13 @@ use Rattle.usb_model.specs.Setup.{Setup}
 use Rattle.usb_model.specs.World.{World}
 use Rattle.usb_tables.specs.Caller.{Kept as Caller, is_one_of}
 use Rattle.usb_tables.specs.Callers.{SameCallbacks, SameCounts, SameNumbers, SameResults, callback_at, callbacks_at, is_there}
-use Rattle.proof_design.specs.Shows.{Core, Shows}
-use Rattle.proof_core.specs.Handles.{says}
-use Rattle.proof_core.specs.State.{Keeps, State}
-use Rattle.proof_core.specs.Steps.{DoesCoreStep}
-use Rattle.proof_core.specs.Submissions.{Admits}
-use Rattle.proof_core.proofs.Again.{again_none, again_refused}
-use Rattle.proof_core.proofs.Stops.{Ended}
+use Rattle.refine_world.specs.Shows.{Core, Shows}
+use Rattle.refine_core.specs.Handles.{says}
+use Rattle.refine_core.specs.State.{Keeps, State}
+use Rattle.refine_core.specs.Steps.{DoesCoreStep}
+use Rattle.refine_core.specs.Submissions.{Admits}
+use Rattle.refine_core.proofs.Again.{again_none, again_refused}
+use Rattle.refine_core.proofs.Stops.{Ended}
 use Rattle.usb_steps.specs.Submissions.{AgainAt, AgainIs}
 use Rattle.usb_steps.specs.declared.submission.Place.{Place}
 

@@ -8,8 +8,8 @@ use Rattle.usb_model.specs.Machine.Calls.{callback_of}
 use Rattle.usb_model.specs.Setup.{Setup}
 use Rattle.usb_model.specs.World.{World}
 use Rattle.usb_tables.specs.Callers.{IsOut, callback_at}
-use Rattle.proof_design.specs.Shows.{Core, Shows}
-use Rattle.proof_core.specs.State.{Keeps, State}
+use Rattle.refine_world.specs.Shows.{Core, Shows}
+use Rattle.refine_core.specs.State.{Keeps, State}
 
 -- a transfer is found by its number where there is one
 some_there : (l : List InCallback) → (l ≡ [] → ⊥) → (n : ℕ) × (x : InCallback) × (callback_of n l ≡ Some x)

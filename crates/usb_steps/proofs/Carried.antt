@@ -6,10 +6,10 @@ use Rattle.usb_tables.specs.Callers.{SameNumbers}
 use Rattle.usb_transfer.specs.declared.transfer.Transfer.{Transfer as InFlight}
 use Rattle.usb_tables.specs.Flights.{Flights, item_at}
 use Rattle.usb_tables.specs.declared.ending.Ending.{Ending}
-use Rattle.proof_core.specs.Payloads.{StillCarries}
-use Rattle.proof_core.specs.Deliveries.{asked_ending}
-use Rattle.proof_core.specs.State.{State}
-use Rattle.proof_core.proofs.Payloads.{Follows, still_by}
+use Rattle.refine_core.specs.Payloads.{StillCarries}
+use Rattle.refine_core.specs.Deliveries.{asked_ending}
+use Rattle.refine_core.specs.State.{State}
+use Rattle.refine_core.proofs.Payloads.{Follows, still_by}
 
 module _ {P : Type 0} where
   -- nothing of it changed

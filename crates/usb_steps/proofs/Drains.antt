@@ -6,12 +6,12 @@ use Rattle.usb_model.specs.declared.step.Step.{Step}
 use Rattle.usb_model.specs.declared.step.Step.TheVariants.{Command, Deliver, Take}
 use Rattle.usb_model.specs.Setup.{Setup}
 use Rattle.usb_model.specs.World.{World, turn}
-use Rattle.proof_design.specs.Calls.{step_core}
-use Rattle.proof_design.specs.Shows.{Core, Shows}
-use Rattle.proof_design.proofs.Calls.Whole.{whole_steps}
-use Rattle.proof_core.specs.State.{IsState, Keeps, State}
-use Rattle.proof_core.specs.Steps.{core_behind}
-use Rattle.proof_core.proofs.Rows.{core_behind_on}
+use Rattle.refine_world.specs.Calls.{step_core}
+use Rattle.refine_world.specs.Shows.{Core, Shows}
+use Rattle.refine_world.proofs.Calls.Whole.{whole_steps}
+use Rattle.refine_core.specs.State.{IsState, Keeps, State}
+use Rattle.refine_core.specs.Steps.{core_behind}
+use Rattle.refine_core.proofs.Rows.{core_behind_on}
 use Rattle.usb_steps.specs.Drains.{DrainsOne, drained_steps, next_drained}
 use Rattle.usb_steps.specs.Pending.{does_something}
 

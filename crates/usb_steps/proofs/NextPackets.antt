@@ -5,11 +5,11 @@ use Rattle.usb_model.specs.declared.reply.Reply.TheVariants.{Idle}
 use Rattle.usb_model.specs.declared.step.Step.TheVariants.{Serve}
 use Rattle.usb_model.specs.Setup.{Setup}
 use Rattle.usb_model.specs.World.{World}
-use Rattle.proof_design.specs.Shows.{Core, Shows}
-use Rattle.proof_core.specs.Offers.{HasNone}
-use Rattle.proof_core.specs.State.{Keeps, State}
-use Rattle.proof_core.specs.Works.{IsFront, IsHolder}
-use Rattle.proof_core.proofs.Turns.{turns}
+use Rattle.refine_world.specs.Shows.{Core, Shows}
+use Rattle.refine_core.specs.Offers.{HasNone}
+use Rattle.refine_core.specs.State.{Keeps, State}
+use Rattle.refine_core.specs.Works.{IsFront, IsHolder}
+use Rattle.refine_core.proofs.Turns.{turns}
 use Rattle.usb_steps.proofs.Serves.{nobody, nothing}
 
 module _ {P : Type 0} where

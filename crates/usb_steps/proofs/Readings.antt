@@ -16,10 +16,10 @@ use Rattle.usb_completion.specs.declared.target.Reading.TheVariants.{Ended, Paus
 use Rattle.usb_claims.specs.declared.held.HeldEndpoint.{HeldEndpoint}
 use Rattle.usb_xhc.specs.Context.{Context}
 use Rattle.usb_tables.specs.declared.ending.Ending.{Ending}
-use Rattle.proof_core.proofs.Reports.{IsFound, tells_all}
-use Rattle.proof_design.specs.Shows.{Core}
-use Rattle.proof_core.specs.Deliveries.{Tells, ending_of, is_gone}
-use Rattle.proof_core.specs.State.{State}
+use Rattle.refine_core.proofs.Reports.{IsFound, tells_all}
+use Rattle.refine_world.specs.Shows.{Core}
+use Rattle.refine_core.specs.Deliveries.{Tells, ending_of, is_gone}
+use Rattle.refine_core.specs.State.{State}
 use Rattle.usb_transfer.specs.Tds.{lengths, tds_of}
 use Rattle.usb_transfer.specs.declared.transfer.Transfer.{Transfer as InFlight}
 use Rattle.usb_steps.specs.declared.reports.Report.{Report}

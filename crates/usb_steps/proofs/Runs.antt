@@ -14,12 +14,12 @@ use Rattle.usb_trb.specs.declared.kind.TrbKind.{TrbKind}
 use Rattle.usb_claims.specs.Holders.{Holding, IsSetup, owner_of}
 use Rattle.usb_claims.specs.declared.held.HeldEndpoint.{HeldEndpoint}
 use Rattle.usb_xhc.specs.Controller.{Controller, run_of}
-use Rattle.proof_design.specs.Calls.{step_core}
-use Rattle.proof_design.specs.Shows.{Core}
-use Rattle.proof_core.specs.State.{IsState, Keeps, State}
-use Rattle.proof_core.specs.Steps.{DoesCoreStep, order_in}
-use Rattle.proof_core.proofs.Held.{holder_same}
-use Rattle.proof_core.proofs.Orders.{IsCommand, commanded, not_commanded, told_of}
+use Rattle.refine_world.specs.Calls.{step_core}
+use Rattle.refine_world.specs.Shows.{Core}
+use Rattle.refine_core.specs.State.{IsState, Keeps, State}
+use Rattle.refine_core.specs.Steps.{DoesCoreStep, order_in}
+use Rattle.refine_core.proofs.Held.{holder_same}
+use Rattle.refine_core.proofs.Orders.{IsCommand, commanded, not_commanded, told_of}
 
 -- what is told of the endpoint of a slot and an id
 abbrev pub Tells : Holding → (slot id : ℕ) → Option HeldEndpoint → Type 0

@@ -13,17 +13,17 @@ use Rattle.usb_transfer.specs.declared.transfer.Transfer.{Transfer as InFlight}
 use Rattle.usb_xhc.specs.Controller.{Controller, served_at, told_at}
 use Rattle.usb_xhc.specs.Slots.{DeviceSlot, context_of, serving, serving_at}
 use Rattle.usb_tables.specs.Flights.{Flights, item_at}
-use Rattle.proof_core.specs.Packets.{Serves, out_of}
-use Rattle.proof_controller.specs.Reports.{reply_of}
-use Rattle.proof_design.specs.Calls.{step_core}
-use Rattle.proof_core.specs.State.{IsState, State}
-use Rattle.proof_core.specs.Steps.{DoesCoreStep}
-use Rattle.proof_core.specs.Works.{CanServeItem, IsAt, IsFront, IsHolder, context_in}
-use Rattle.proof_core.proofs.Fronts.{at_work, serves_safely}
-use Rattle.proof_core.proofs.Held.{is_at}
-use Rattle.proof_core.proofs.Packets.{serves_nobody, serves_none, serves_packet}
-use Rattle.proof_core.proofs.Orders.{few_events}
-use Rattle.proof_core.proofs.Serves.{moves}
+use Rattle.refine_core.specs.Packets.{Serves, out_of}
+use Rattle.refine_rings.specs.Reports.{reply_of}
+use Rattle.refine_world.specs.Calls.{step_core}
+use Rattle.refine_core.specs.State.{IsState, State}
+use Rattle.refine_core.specs.Steps.{DoesCoreStep}
+use Rattle.refine_core.specs.Works.{CanServeItem, IsAt, IsFront, IsHolder, context_in}
+use Rattle.refine_core.proofs.Fronts.{at_work, serves_safely}
+use Rattle.refine_core.proofs.Held.{is_at}
+use Rattle.refine_core.proofs.Packets.{serves_nobody, serves_none, serves_packet}
+use Rattle.refine_core.proofs.Orders.{few_events}
+use Rattle.refine_core.proofs.Serves.{moves}
 
 -- where the controller works something is told
 told_some : (k : Controller) (d e : ℕ) (x : Context) (first : TrbAt) → context_in k d e ≡ Some x → working x ≡ Some first → told_at k d e ≡ None → ⊥

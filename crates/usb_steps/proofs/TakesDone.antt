@@ -25,18 +25,18 @@ use Rattle.usb_tables.specs.Caller.{Kept as Caller}
 use Rattle.usb_tables.specs.Callers.{SameCallbacks, SameCounts, SameNumbers, is_there, results_at}
 use Rattle.usb_transfer.specs.declared.transfer.Transfer.{Transfer as InFlight}
 use Rattle.usb_tables.specs.Flights.{EndedOf}
-use Rattle.proof_design.specs.Calls.{answer_core, called_back, step_core}
-use Rattle.proof_design.specs.Shows.{Core}
-use Rattle.proof_design.specs.Steps.{Stepped, take_core, take_first, with_out}
-use Rattle.proof_design.proofs.Numbers.{not_yet_called}
-use Rattle.proof_core.specs.Calls.{called_entry, returned_of}
-use Rattle.proof_core.specs.Handles.{says}
-use Rattle.proof_core.specs.State.{Keeps, KeepsName, State, result_of}
-use Rattle.proof_core.specs.Steps.{DoesCoreSteps, core_behind, core_entries}
-use Rattle.proof_core.proofs.Amid.{core_as}
-use Rattle.proof_core.proofs.Counts.{same_by_id}
-use Rattle.proof_core.proofs.Names.{keeps_named}
-use Rattle.proof_core.proofs.Takes.{called_of}
+use Rattle.refine_world.specs.Calls.{answer_core, called_back, step_core}
+use Rattle.refine_world.specs.Shows.{Core}
+use Rattle.refine_world.specs.Steps.{Stepped, take_core, take_first, with_out}
+use Rattle.refine_world.proofs.Numbers.{not_yet_called}
+use Rattle.refine_core.specs.Calls.{called_entry, returned_of}
+use Rattle.refine_core.specs.Handles.{says}
+use Rattle.refine_core.specs.State.{Keeps, KeepsName, State, result_of}
+use Rattle.refine_core.specs.Steps.{DoesCoreSteps, core_behind, core_entries}
+use Rattle.refine_core.proofs.Amid.{core_as}
+use Rattle.refine_core.proofs.Counts.{same_by_id}
+use Rattle.refine_core.proofs.Names.{keeps_named}
+use Rattle.refine_core.proofs.Takes.{called_of}
 
 -- the last one is found, where none of its number is before
 last_found : (xs : List InCallback) (x : InCallback) → callback_of x.n xs ≡ None → callback_of x.n (xs ++ x ∷ []) ≡ Some x

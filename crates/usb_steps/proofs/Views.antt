@@ -6,7 +6,7 @@ use Rattle.usb_tables.specs.declared.outstanding.Sent.{Sent}
 use Rattle.usb_xhc.specs.Controller.{Controller}
 use Rattle.usb_tables.specs.Flights.{Flights}
 use Rattle.usb_tables.specs.Caller.{Kept as Caller}
-use Rattle.proof_core.specs.State.{State}
+use Rattle.refine_core.specs.State.{State}
 
 -- the record of them
 abbrev pub parts : {P : Type 0} → Holding → Controller → Flights (InFlight P) → List Caller → List (Option Sent) → State P

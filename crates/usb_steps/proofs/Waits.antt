@@ -18,18 +18,18 @@ use Rattle.usb_design.specs.Events.{Reading, errand_of, finish, past_kept_blanks
 use Rattle.usb_design.specs.Settlements.{leads_kept, pauses, kept_blanked, resume_kept, settle}
 use Rattle.usb_transfer.specs.declared.transfer.Transfer.{Transfer as InFlight}
 use Rattle.usb_tables.specs.Flights.{EndedOf}
-use Rattle.proof_design.specs.Known.{KnowsEvent}
-use Rattle.proof_design.specs.Shows.{Completes, Core, RingEvent, RingOrder, Shows, Transfers}
-use Rattle.proof_design.specs.Steps.{command_core, command_first, complete_at, completion_work, deliver_core, deliver_first, delivers, take_core, take_first, transfer_work}
-use Rattle.proof_design.proofs.Delivers.{deliver_steps}
-use Rattle.proof_design.proofs.FirstOrders.{orders_fit}
-use Rattle.proof_design.proofs.Glue.{command_steps}
-use Rattle.proof_design.proofs.Strays.{never_stray}
-use Rattle.proof_design.proofs.Takes.{take_steps}
-use Rattle.proof_controller.specs.Holds.{event_trb}
-use Rattle.proof_core.specs.State.{Keeps, State, result_of}
-use Rattle.proof_core.proofs.Posts.{as_many_orders}
-use Rattle.proof_core.proofs.Orders.{runs_order}
+use Rattle.refine_world.specs.Known.{KnowsEvent}
+use Rattle.refine_world.specs.Shows.{Completes, Core, RingEvent, RingOrder, Shows, Transfers}
+use Rattle.refine_world.specs.Steps.{command_core, command_first, complete_at, completion_work, deliver_core, deliver_first, delivers, take_core, take_first, transfer_work}
+use Rattle.refine_world.proofs.Delivers.{deliver_steps}
+use Rattle.refine_world.proofs.FirstOrders.{orders_fit}
+use Rattle.refine_world.proofs.Glue.{command_steps}
+use Rattle.refine_world.proofs.Strays.{never_stray}
+use Rattle.refine_world.proofs.Takes.{take_steps}
+use Rattle.refine_rings.specs.Holds.{event_trb}
+use Rattle.refine_core.specs.State.{Keeps, State, result_of}
+use Rattle.refine_core.proofs.Posts.{as_many_orders}
+use Rattle.refine_core.proofs.Orders.{runs_order}
 use Rattle.usb_steps.specs.Pending.{does_something, tells_work}
 
 -- a ring is less than empty where something waits in it

@@ -10,12 +10,12 @@ use Rattle.usb_xhc.specs.Controller.{Controller, told_at}
 use Rattle.usb_xhc.specs.Skims.{controller_skimmed, size_at}
 use Rattle.usb_xhc.specs.Slots.{DeviceSlot, sends}
 use Rattle.usb_tables.specs.Flights.{Flights, item_at}
-use Rattle.proof_core.specs.Packets.{Skims, out_of}
-use Rattle.proof_core.specs.State.{IsState, State}
-use Rattle.proof_core.specs.Steps.{DoesCoreSteps}
-use Rattle.proof_core.specs.Works.{CanSkimItem}
-use Rattle.proof_core.proofs.Rests.{skims_safely}
-use Rattle.proof_core.proofs.Skims.{skims}
+use Rattle.refine_core.specs.Packets.{Skims, out_of}
+use Rattle.refine_core.specs.State.{IsState, State}
+use Rattle.refine_core.specs.Steps.{DoesCoreSteps}
+use Rattle.refine_core.specs.Works.{CanSkimItem}
+use Rattle.refine_core.proofs.Rests.{skims_safely}
+use Rattle.refine_core.proofs.Skims.{skims}
 use Rattle.usb_steps.specs.declared.bursts.Whole.{Whole}
 use Rattle.usb_steps.specs.Bursts.{IsWholeAt, whole_entry}
 

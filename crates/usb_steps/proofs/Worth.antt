@@ -20,18 +20,18 @@ use Rattle.usb_xhc.specs.Transaction.{packet_in, served, served_by, served_gone,
 use Rattle.usb_xhc.specs.Controller.{Controller, told_at}
 use Rattle.usb_xhc.specs.Slots.{DeviceSlot, context_of, serving, serving_at}
 use Rattle.usb_tables.specs.Flights.{line_at}
-use Rattle.proof_controller.specs.Reports.{reply_of}
-use Rattle.proof_design.specs.Shows.{Core, Shows}
-use Rattle.proof_design.specs.Steps.{serve_core, serve_held}
-use Rattle.proof_design.proofs.Glue.{serve_steps}
-use Rattle.proof_design.proofs.RunningEndpoints.{fresh_while_running}
-use Rattle.proof_controller.specs.Laws as slots
-use Rattle.proof_controller.proofs.SlotServes as slot
-use Rattle.proof_core.specs.State.{Keeps, State}
-use Rattle.proof_core.specs.Works.{IsAt, IsHolder, context_in, packet_of}
-use Rattle.proof_core.proofs.Fronts.{works_at}
-use Rattle.proof_core.proofs.Held.{held_interface, holder_is, is_at}
-use Rattle.proof_core.proofs.Rings.{IsSlotOf, slot_of}
+use Rattle.refine_rings.specs.Reports.{reply_of}
+use Rattle.refine_world.specs.Shows.{Core, Shows}
+use Rattle.refine_world.specs.Steps.{serve_core, serve_held}
+use Rattle.refine_world.proofs.Glue.{serve_steps}
+use Rattle.refine_world.proofs.RunningEndpoints.{fresh_while_running}
+use Rattle.refine_rings.specs.Laws as slots
+use Rattle.refine_rings.proofs.SlotServes as slot
+use Rattle.refine_core.specs.State.{Keeps, State}
+use Rattle.refine_core.specs.Works.{IsAt, IsHolder, context_in, packet_of}
+use Rattle.refine_core.proofs.Fronts.{works_at}
+use Rattle.refine_core.proofs.Held.{held_interface, holder_is, is_at}
+use Rattle.refine_core.proofs.Rings.{IsSlotOf, slot_of}
 use Rattle.usb_steps.specs.Pending.{can_answer, has_answers, serves, tells_work}
 
 -- whether what is told of a packet tells of something that was done; left: as of a reply

@@ -5,8 +5,8 @@ use Rattle.usb_model.specs.declared.reply.Reply.TheVariants.{Moved}
 use Rattle.usb_transfer.specs.declared.transfer.Transfer.{Transfer as InFlight}
 use Rattle.usb_tables.specs.Flights.{item_at}
 use Rattle.usb_xhc.specs.Skims.{size_at}
-use Rattle.proof_core.specs.State.{State}
-use Rattle.proof_core.specs.Works.{IsFront, IsHolder}
+use Rattle.refine_core.specs.State.{State}
+use Rattle.refine_core.specs.Works.{IsFront, IsHolder}
 use Rattle.usb_steps.specs.declared.bursts.Whole.{Whole}
 use Rattle.usb_steps.specs.declared.bursts.Burst.{Burst}
 

@@ -5,9 +5,9 @@ use Rattle.usb_model.specs.declared.step.Step.{Step}
 use Rattle.usb_model.specs.declared.step.Step.TheVariants.{Command, Deliver, Take}
 use Rattle.usb_model.specs.Setup.{Setup}
 use Rattle.usb_model.specs.World.{World, turn}
-use Rattle.proof_design.specs.Calls.{step_core}
-use Rattle.proof_design.specs.Shows.{Core}
-use Rattle.proof_core.specs.State.{Keeps, State}
+use Rattle.refine_world.specs.Calls.{step_core}
+use Rattle.refine_world.specs.Shows.{Core}
+use Rattle.refine_core.specs.State.{Keeps, State}
 use Rattle.usb_steps.specs.Pending.{does_something}
 
 -- what is to be done next in a world where no result waits: an event, or else an order

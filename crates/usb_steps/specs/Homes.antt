@@ -3,10 +3,10 @@ use Rattle.std.specs.Prelude.{◌≡◌, ℕ, ◌==◌, Bool, false, not, ◌&&�
 use Rattle.std.specs.Option.{option_map_or}
 use Rattle.usb_model.specs.Setup.{Setup, endpoints_of}
 use Rattle.usb_tables.specs.Flights.{item_at}
-use Rattle.proof_design.specs.Shows.{Core}
-use Rattle.proof_design.specs.Calls.{KeptHome, device_of, kept_home}
-use Rattle.proof_core.specs.State.{State}
-use Rattle.proof_core.specs.Steps.{IsHome}
+use Rattle.refine_world.specs.Shows.{Core}
+use Rattle.refine_world.specs.Calls.{KeptHome, device_of, kept_home}
+use Rattle.refine_core.specs.State.{State}
+use Rattle.refine_core.specs.Steps.{IsHome}
 use Rattle.usb_steps.specs.declared.ask.Home.{Home}
 
 -- it is nowhere, or it is there

@@ -5,7 +5,7 @@ use Rattle.usb_model.specs.declared.endpoint.EndpointState.{EndpointState}
 use Rattle.usb_model.specs.declared.endpoint.EndpointState.TheVariants.{Halted}
 use Rattle.usb_device.specs.Pipe.{pipe_at}
 use Rattle.usb_xhc.specs.Controller.{Controller}
-use Rattle.proof_core.specs.Works.{context_in}
+use Rattle.refine_core.specs.Works.{context_in}
 
 -- whether an endpoint is halted at the controller (xHCI 1.2, 4.8.3)
 abbrev pub is_halted_state : EndpointState → Bool

@@ -12,11 +12,11 @@ use Rattle.usb_completion.specs.declared.target.Reading.TheVariants.{Ended, Paus
 use Rattle.usb_completion.specs.declared.target.Target.{Target}
 use Rattle.usb_transfer.specs.declared.transfer.Transfer.{Transfer}
 use Rattle.usb_transfer.specs.Tds.{lengths, tds_of}
-use Rattle.proof_design.specs.Shows.{Core}
-use Rattle.proof_design.specs.Steps.{deliver_core}
-use Rattle.proof_core.specs.Deliveries.{Tells}
-use Rattle.proof_core.specs.State.{State}
-use Rattle.proof_core.specs.Steps.{Is}
+use Rattle.refine_world.specs.Shows.{Core}
+use Rattle.refine_world.specs.Steps.{deliver_core}
+use Rattle.refine_core.specs.Deliveries.{Tells}
+use Rattle.refine_core.specs.State.{State}
+use Rattle.refine_core.specs.Steps.{Is}
 use Rattle.usb_steps.specs.declared.reports.Report.{Report}
 
 -- a transfer of a line, and its TRB of number trb, as an event that points there is read

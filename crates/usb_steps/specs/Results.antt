@@ -3,11 +3,11 @@ use Rattle.std.specs.Prelude.{◌≡◌, [], ◌∷◌, Option, Some, None}
 use Rattle.usb_model.specs.declared.reply.Reply.TheVariants.{Done}
 use Rattle.usb_model.specs.declared.step.Step.TheVariants.{Answer, Take}
 use Rattle.usb_model.specs.declared.verdict.Verdict.TheVariants.{Stop}
-use Rattle.proof_core.specs.Calls.{called_entry}
-use Rattle.proof_core.specs.Handles.{says}
-use Rattle.proof_core.specs.Payloads.{Kept}
-use Rattle.proof_core.specs.State.{State}
-use Rattle.proof_core.specs.Steps.{DoesCoreStep, DoesCoreSteps}
+use Rattle.refine_core.specs.Calls.{called_entry}
+use Rattle.refine_core.specs.Handles.{says}
+use Rattle.refine_core.specs.Payloads.{Kept}
+use Rattle.refine_core.specs.State.{State}
+use Rattle.refine_core.specs.Steps.{DoesCoreStep, DoesCoreSteps}
 use Rattle.usb_steps.specs.declared.results.Taken.{Taken}
 
 -- the payload that goes out, if one does, is what is kept under the name and the number that the callback is given

@@ -3,9 +3,9 @@ use Rattle.std.specs.Prelude.{◌≡◌, ℕ, suc, List, ◌∷◌, Option, Some
 use Rattle.usb_model.specs.declared.errand.Errand.{Errand}
 use Rattle.usb_model.specs.Setup.{Setup}
 use Rattle.usb_claims.specs.declared.held.HeldEndpoint.{HeldEndpoint}
-use Rattle.proof_design.specs.Shows.{Completes, Core, RingEvent}
-use Rattle.proof_core.specs.Deliveries.{SentIs, Settles}
-use Rattle.proof_core.specs.State.{State}
+use Rattle.refine_world.specs.Shows.{Completes, Core, RingEvent}
+use Rattle.refine_core.specs.Deliveries.{SentIs, Settles}
+use Rattle.refine_core.specs.State.{State}
 
 module _ {P : Type 0} where
   -- an endpoint of the device of the oldest event, a completion: what this answers

@@ -7,9 +7,9 @@ use Rattle.usb_model.specs.declared.result.InCallback.{InCallback}
 use Rattle.usb_model.specs.Setup.{Setup}
 use Rattle.usb_model.specs.World.{World}
 use Rattle.usb_tables.specs.Callers.{callback_at}
-use Rattle.proof_design.specs.Shows.{Core, Shows}
-use Rattle.proof_core.specs.State.{Keeps, State}
-use Rattle.proof_core.specs.Submissions.{Admits, RefusesIt}
+use Rattle.refine_world.specs.Shows.{Core, Shows}
+use Rattle.refine_core.specs.State.{Keeps, State}
+use Rattle.refine_core.specs.Submissions.{Admits, RefusesIt}
 use Rattle.usb_steps.specs.declared.submission.Place.{Place}
 
 -- it is refused, or accepted there

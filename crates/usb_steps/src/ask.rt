@@ -2,11 +2,11 @@
 
 ghost use Rattle.std.specs.Prelude.{◌≡◌, ℕ, Some};
 ghost use Rattle.usb_model.specs.declared.step.Step.TheVariants.{Cancel, Expire};
-ghost use Rattle.proof_design.specs.Shows.{Core};
+ghost use Rattle.refine_world.specs.Shows.{Core};
 ghost use Rattle.usb_model.specs.Setup.{Setup};
-ghost use Rattle.proof_core.specs.Payloads.{StillCarries};
-ghost use Rattle.proof_core.specs.State.{IsState, Keeps};
-ghost use Rattle.proof_core.specs.Steps.{AskedAt, AsksToEnd, CanAsk, DoesCoreStep, InLine};
+ghost use Rattle.refine_core.specs.Payloads.{StillCarries};
+ghost use Rattle.refine_core.specs.State.{IsState, Keeps};
+ghost use Rattle.refine_core.specs.Steps.{AskedAt, AsksToEnd, CanAsk, DoesCoreStep, InLine};
 ghost use Rattle.usb_steps.specs.Homes.{HomeIs, is_askable};
 
 use crate::parts::Parts;

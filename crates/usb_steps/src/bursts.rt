@@ -7,10 +7,10 @@ ghost use Rattle.usb_transfer.specs.declared.transfer.Transfer.{Transfer as InFl
 ghost use Rattle.usb_xhc.specs.declared.packet.Packet.TheVariants.{Moved};
 ghost use Rattle.usb_xhc.specs.Controller.{told_at};
 ghost use Rattle.usb_xhc.specs.Skims.{controller_skimmed, size_at};
-ghost use Rattle.proof_core.specs.Packets.{CanSkim, IsSkimmed, Skims, out_of};
-ghost use Rattle.proof_core.specs.Payloads.{StillCarries};
-ghost use Rattle.proof_core.specs.State.{IsState};
-ghost use Rattle.proof_core.specs.Steps.{DoesCoreSteps};
+ghost use Rattle.refine_core.specs.Packets.{CanSkim, IsSkimmed, Skims, out_of};
+ghost use Rattle.refine_core.specs.Payloads.{StillCarries};
+ghost use Rattle.refine_core.specs.State.{IsState};
+ghost use Rattle.refine_core.specs.Steps.{DoesCoreSteps};
 ghost use Rattle.usb_steps.specs.Bursts.{Differs, IsWholeAt, burst_entries, whole_entry};
 
 use crate::parts::Parts;

@@ -1,9 +1,9 @@
 //! A step that takes no memory, whichever it is.
 
 ghost use Rattle.std.specs.Prelude.{◌≡◌, Some, false};
-ghost use Rattle.proof_core.specs.Payloads.{StillCarries};
-ghost use Rattle.proof_core.specs.State.{IsState};
-ghost use Rattle.proof_core.specs.Steps.{DoesCoreStep};
+ghost use Rattle.refine_core.specs.Payloads.{StillCarries};
+ghost use Rattle.refine_core.specs.State.{IsState};
+ghost use Rattle.refine_core.specs.Steps.{DoesCoreStep};
 ghost use Rattle.usb_steps.specs.Calls.{takes_memory};
 
 use crate::parts::Parts;

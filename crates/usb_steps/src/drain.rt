@@ -3,10 +3,10 @@
 ghost use Rattle.std.specs.Prelude.{◌≡◌, length};
 ghost use Rattle.usb_model.specs.Setup.{Setup};
 ghost use Rattle.usb_model.specs.World.{World};
-ghost use Rattle.proof_design.specs.Shows.{Core, Shows};
-ghost use Rattle.proof_core.specs.Payloads.{StillCarries};
-ghost use Rattle.proof_core.specs.State.{IsState, Keeps};
-ghost use Rattle.proof_core.specs.Steps.{core_behind};
+ghost use Rattle.refine_world.specs.Shows.{Core, Shows};
+ghost use Rattle.refine_core.specs.Payloads.{StillCarries};
+ghost use Rattle.refine_core.specs.State.{IsState, Keeps};
+ghost use Rattle.refine_core.specs.Steps.{core_behind};
 ghost use Rattle.usb_steps.specs.Drains.{DrainsOne, drained_steps};
 
 use crate::parts::Parts;

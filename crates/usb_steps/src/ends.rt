@@ -1,9 +1,9 @@
 //! The end of a transfer is told: its result is made, and it leaves its line.
 
 ghost use Rattle.std.specs.Prelude.{◌≡◌, ◌≤◌};
-ghost use Rattle.proof_core.specs.Payloads.{StillCarries};
-ghost use Rattle.proof_core.specs.Deliveries.{CanFinish, leaving};
-ghost use Rattle.proof_core.specs.Works.{Finishes};
+ghost use Rattle.refine_core.specs.Payloads.{StillCarries};
+ghost use Rattle.refine_core.specs.Deliveries.{CanFinish, leaving};
+ghost use Rattle.refine_core.specs.Works.{Finishes};
 
 use crate::parts::Parts;
 use usb_claims::HeldEndpoint;

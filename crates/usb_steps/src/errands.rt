@@ -2,9 +2,9 @@
 
 ghost use Rattle.std.specs.Prelude.{◌≡◌, ◌≤◌, ℕ, IfSome, length, option_map};
 ghost use Rattle.usb_tables.specs.Outstanding.{sent_at};
-ghost use Rattle.proof_core.specs.Payloads.{StillCarries};
-ghost use Rattle.proof_core.specs.Steps.{CanPost};
-ghost use Rattle.proof_core.specs.Works.{Posts, context_in, order_by};
+ghost use Rattle.refine_core.specs.Payloads.{StillCarries};
+ghost use Rattle.refine_core.specs.Steps.{CanPost};
+ghost use Rattle.refine_core.specs.Works.{Posts, context_in, order_by};
 
 use crate::parts::Parts;
 use usb_device::Device;

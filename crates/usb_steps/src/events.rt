@@ -7,11 +7,11 @@ ghost use Rattle.usb_trb.specs.declared.kind.TrbKind.TheVariants.{CommandComplet
 ghost use Rattle.usb_model.specs.declared.step.Step.TheVariants.{Deliver};
 ghost use Rattle.usb_model.specs.Setup.{Setup};
 ghost use Rattle.usb_model.specs.World.{World};
-ghost use Rattle.proof_design.specs.Shows.{Core, Shows};
-ghost use Rattle.proof_core.specs.Payloads.{StillCarries};
-ghost use Rattle.proof_core.specs.State.{IsState, Keeps};
-ghost use Rattle.proof_core.specs.Steps.{DoesCoreStep};
-ghost use Rattle.proof_core.specs.Deliveries.{Delivers, IsEvent, IsTaken};
+ghost use Rattle.refine_world.specs.Shows.{Core, Shows};
+ghost use Rattle.refine_core.specs.Payloads.{StillCarries};
+ghost use Rattle.refine_core.specs.State.{IsState, Keeps};
+ghost use Rattle.refine_core.specs.Steps.{DoesCoreStep};
+ghost use Rattle.refine_core.specs.Deliveries.{Delivers, IsEvent, IsTaken};
 ghost use Rattle.usb_steps.specs.Reports.{Handles, SomeTold};
 
 use crate::parts::Parts;

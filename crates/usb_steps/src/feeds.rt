@@ -2,8 +2,8 @@
 
 ghost use Rattle.std.specs.Prelude.{◌≡◌, true, IfErr, OnErr, OnOk, if◌then◌else◌};
 ghost use Rattle.usb_model.specs.declared.refused.Refused.TheVariants.{InvalidParam, NoMem};
-ghost use Rattle.proof_core.specs.Feeds.{may_be_fed_at, state_fed};
-ghost use Rattle.proof_core.specs.Payloads.{StillCarries};
+ghost use Rattle.refine_core.specs.Feeds.{may_be_fed_at, state_fed};
+ghost use Rattle.refine_core.specs.Payloads.{StillCarries};
 
 use crate::parts::Parts;
 use usb_device::Feed;

@@ -2,10 +2,10 @@
 
 ghost use Rattle.std.specs.Prelude.{◌≡◌, Some, None};
 ghost use Rattle.usb_model.specs.declared.step.Step.TheVariants.{Close, Open, Release, Unplug};
-ghost use Rattle.proof_core.specs.Payloads.{StillCarries};
-ghost use Rattle.proof_core.specs.Handles.{gone_in, reply_to};
-ghost use Rattle.proof_core.specs.State.{IsState};
-ghost use Rattle.proof_core.specs.Steps.{DoesCoreStep};
+ghost use Rattle.refine_core.specs.Payloads.{StillCarries};
+ghost use Rattle.refine_core.specs.Handles.{gone_in, reply_to};
+ghost use Rattle.refine_core.specs.State.{IsState};
+ghost use Rattle.refine_core.specs.Steps.{DoesCoreStep};
 
 use crate::parts::Parts;
 use usb_device::Device;

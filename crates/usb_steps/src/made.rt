@@ -3,9 +3,9 @@
 ghost use Rattle.std.specs.Prelude.{◌≡◌, IfOk};
 ghost use Rattle.usb_model.specs.Setup.{Setup as ModelSetup};
 ghost use Rattle.usb_model.specs.World.{World, new_world};
-ghost use Rattle.proof_core.specs.Payloads.{Carries, Kept};
-ghost use Rattle.proof_core.specs.Made.{setup_of};
-ghost use Rattle.proof_core.specs.State.{IsState, ShowsWorld};
+ghost use Rattle.refine_core.specs.Payloads.{Carries, Kept};
+ghost use Rattle.refine_core.specs.Made.{setup_of};
+ghost use Rattle.refine_core.specs.State.{IsState, ShowsWorld};
 
 use crate::parts::Parts;
 use crate::setup::Setup;

@@ -3,10 +3,10 @@
 ghost use Rattle.std.specs.Prelude.{◌≡◌, ◌<◌, IfSome, None, Some};
 ghost use Rattle.usb_model.specs.Setup.{Setup};
 ghost use Rattle.usb_model.specs.World.{World};
-ghost use Rattle.proof_design.specs.Shows.{Core, Shows};
-ghost use Rattle.proof_core.specs.Offers.{HasNone, IsNext, IsOffered, asks_device};
-ghost use Rattle.proof_core.specs.State.{IsState, Keeps};
-ghost use Rattle.proof_core.specs.Works.{CanServeItem, IsFront};
+ghost use Rattle.refine_world.specs.Shows.{Core, Shows};
+ghost use Rattle.refine_core.specs.Offers.{HasNone, IsNext, IsOffered, asks_device};
+ghost use Rattle.refine_core.specs.State.{IsState, Keeps};
+ghost use Rattle.refine_core.specs.Works.{CanServeItem, IsFront};
 
 use crate::parts::Parts;
 use usb_device::Scripted;

@@ -5,12 +5,12 @@ ghost use Rattle.usb_tables.specs.Flights.{item_at};
 ghost use Rattle.usb_model.specs.declared.step.Step.TheVariants.{Serve};
 ghost use Rattle.usb_transfer.specs.declared.transfer.Transfer.{Transfer as InFlight};
 ghost use Rattle.usb_xhc.specs.Controller.{served_at, told_at};
-ghost use Rattle.proof_controller.specs.Reports.{reply_of};
-ghost use Rattle.proof_core.specs.Packets.{CanServe, IsServed, Serves, out_of};
-ghost use Rattle.proof_core.specs.Payloads.{StillCarries};
-ghost use Rattle.proof_core.specs.State.{IsState};
-ghost use Rattle.proof_core.specs.Steps.{DoesCoreStep};
-ghost use Rattle.proof_core.specs.Works.{IsFront};
+ghost use Rattle.refine_rings.specs.Reports.{reply_of};
+ghost use Rattle.refine_core.specs.Packets.{CanServe, IsServed, Serves, out_of};
+ghost use Rattle.refine_core.specs.Payloads.{StillCarries};
+ghost use Rattle.refine_core.specs.State.{IsState};
+ghost use Rattle.refine_core.specs.Steps.{DoesCoreStep};
+ghost use Rattle.refine_core.specs.Works.{IsFront};
 
 use crate::parts::Parts;
 use usb_device::Device;

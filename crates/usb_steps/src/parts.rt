@@ -21,7 +21,7 @@ pub struct Parts<P, D: Device> {
 }
 
 impl<P, D: Device> Model for Parts<P, D> {
-    ghost use Rattle.proof_core.specs.State.{State};
+    ghost use Rattle.refine_core.specs.State.{State};
 
     ghost Value = { State P };
 

@@ -4,8 +4,8 @@ ghost use Rattle.std.specs.Prelude.{◌≡◌, ◌<◌, ◌≤◌, find};
 ghost use Rattle.usb_model.specs.declared.step.Step.TheVariants.{Command, Deliver, Take};
 ghost use Rattle.usb_model.specs.Setup.{Setup};
 ghost use Rattle.usb_model.specs.World.{World};
-ghost use Rattle.proof_design.specs.Shows.{Core, Shows};
-ghost use Rattle.proof_core.specs.State.{Keeps};
+ghost use Rattle.refine_world.specs.Shows.{Core, Shows};
+ghost use Rattle.refine_core.specs.State.{Keeps};
 ghost use Rattle.usb_steps.specs.Pending.{IsPending, behind, can_answer, does_something, end_of, ends_from, serves};
 
 use crate::parts::Parts;

@@ -1,7 +1,7 @@
 //! Whether something is under way at an endpoint.
 
 ghost use Rattle.std.specs.Prelude.{◌≡◌};
-ghost use Rattle.proof_core.specs.Handles.{AreQuiet, IsQuiet, is_among, rests_at};
+ghost use Rattle.refine_core.specs.Handles.{AreQuiet, IsQuiet, is_among, rests_at};
 
 use crate::parts::Parts;
 use usb_device::Device;

@@ -3,8 +3,8 @@
 ghost use Rattle.std.specs.Prelude.{◌≡◌, ℕ, length, slice_get};
 ghost use Rattle.std.specs.Option.{option_copied, option_map_or};
 ghost use Rattle.usb_model.specs.Setup.{Setup};
-ghost use Rattle.proof_design.specs.Shows.{Core};
-ghost use Rattle.proof_core.specs.State.{Keeps};
+ghost use Rattle.refine_world.specs.Shows.{Core};
+ghost use Rattle.refine_core.specs.State.{Keeps};
 ghost use Rattle.usb_steps.specs.Homes.{expires_now};
 ghost use Rattle.usb_steps.specs.Packets.{taken_in};
 

@@ -3,7 +3,7 @@
 ghost use Rattle.std.specs.Prelude.{◌≡◌, ◌==◌, false};
 ghost use Rattle.std.specs.Option.{option_map_or};
 ghost use Rattle.usb_descriptors.specs.Table.{info_at};
-ghost use Rattle.proof_core.specs.Renewals.{RenewedAll, is_held_by, is_of_interface};
+ghost use Rattle.refine_core.specs.Renewals.{RenewedAll, is_held_by, is_of_interface};
 
 use usb_claims::Claims;
 use usb_descriptors::Config;

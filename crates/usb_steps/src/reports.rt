@@ -6,9 +6,9 @@ ghost use Rattle.usb_model.specs.Requests.{length_of};
 ghost use Rattle.usb_model.specs.Setup.{Setup};
 ghost use Rattle.usb_transfer.specs.Tds.{lengths, tds_of};
 ghost use Rattle.usb_trb.specs.declared.kind.TrbKind.TheVariants.{TransferEvent};
-ghost use Rattle.proof_design.specs.Shows.{Core};
-ghost use Rattle.proof_core.specs.Deliveries.{IsEvent, IsTaken, is_gone};
-ghost use Rattle.proof_core.specs.Works.{context_in};
+ghost use Rattle.refine_world.specs.Shows.{Core};
+ghost use Rattle.refine_core.specs.Deliveries.{IsEvent, IsTaken, is_gone};
+ghost use Rattle.refine_core.specs.Works.{context_in};
 ghost use Rattle.usb_steps.specs.Reports.{ToldIs, target_of};
 
 use crate::parts::Parts;

@@ -3,8 +3,8 @@
 ghost use Rattle.std.specs.Prelude.{◌≡◌, ℕ};
 ghost use Rattle.usb_model.specs.Setup.{Setup};
 ghost use Rattle.usb_trb.specs.declared.kind.TrbKind.TheVariants.{CommandCompletion};
-ghost use Rattle.proof_design.specs.Shows.{Core};
-ghost use Rattle.proof_core.specs.Deliveries.{IsTaken, stands_at};
+ghost use Rattle.refine_world.specs.Shows.{Core};
+ghost use Rattle.refine_core.specs.Deliveries.{IsTaken, stands_at};
 ghost use Rattle.usb_steps.specs.Senders.{EndIs, SenderIs};
 
 use crate::parts::Parts;

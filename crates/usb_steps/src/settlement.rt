@@ -4,10 +4,10 @@
 ghost use Rattle.std.specs.Prelude.{◌≡◌, ℕ, Some, None, true, false};
 ghost use Rattle.usb_model.specs.declared.errand.Errand.{Errand};
 ghost use Rattle.usb_tables.specs.Flights.{item_at};
-ghost use Rattle.proof_core.specs.Payloads.{StillCarries};
-ghost use Rattle.proof_core.specs.Deliveries.{CanLeave, CanSettle, IsCompletion, Settled, WithdrawsAll, asked_ending};
-ghost use Rattle.proof_core.specs.Steps.{CanPost};
-ghost use Rattle.proof_core.specs.Works.{Leaves, Posts, Resumes, Withdraws};
+ghost use Rattle.refine_core.specs.Payloads.{StillCarries};
+ghost use Rattle.refine_core.specs.Deliveries.{CanLeave, CanSettle, IsCompletion, Settled, WithdrawsAll, asked_ending};
+ghost use Rattle.refine_core.specs.Steps.{CanPost};
+ghost use Rattle.refine_core.specs.Works.{Leaves, Posts, Resumes, Withdraws};
 
 use crate::parts::Parts;
 use usb_cancel::settle;

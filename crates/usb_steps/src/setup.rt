@@ -4,7 +4,7 @@ ghost use Rattle.std.specs.Prelude.{◌≡◌, ◌==◌, ◌++◌, ◌<◌, ◌�
 ghost use Rattle.std.specs.Option.{option_copied};
 ghost use Rattle.usb_model.specs.declared.refused.Refused.TheVariants.{InvalidParam, NoMem};
 ghost use Rattle.usb_device.specs.Scripts.{Takes};
-ghost use Rattle.proof_core.specs.Made.{setup_of};
+ghost use Rattle.refine_core.specs.Made.{setup_of};
 ghost use Rattle.usb_steps.specs.Packets.{taken_in};
 
 use crate::reads::taken_of;
@@ -28,7 +28,7 @@ pub struct Setup<D: Device> {
 }
 
 impl<D: Device> Model for Setup<D> {
-    ghost use Rattle.proof_core.specs.Made.{AreReady, Devices};
+    ghost use Rattle.refine_core.specs.Made.{AreReady, Devices};
 
     ghost Value = { Devices };
 

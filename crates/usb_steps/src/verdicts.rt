@@ -7,10 +7,10 @@ ghost use Rattle.usb_model.specs.declared.request.Body.TheVariants.{Out};
 ghost use Rattle.usb_model.specs.declared.step.Step.TheVariants.{Answer};
 ghost use Rattle.usb_model.specs.Direction.{IsBody};
 ghost use Rattle.usb_model.specs.declared.verdict.Verdict.TheVariants.{Again, AgainWith, Stop};
-ghost use Rattle.proof_core.specs.Calls.{Stays};
-ghost use Rattle.proof_core.specs.Payloads.{CarriesMore, StillCarries};
-ghost use Rattle.proof_core.specs.State.{IsState};
-ghost use Rattle.proof_core.specs.Steps.{DoesCoreStep};
+ghost use Rattle.refine_core.specs.Calls.{Stays};
+ghost use Rattle.refine_core.specs.Payloads.{CarriesMore, StillCarries};
+ghost use Rattle.refine_core.specs.State.{IsState};
+ghost use Rattle.refine_core.specs.Steps.{DoesCoreStep};
 ghost use Rattle.usb_steps.specs.Submissions.{AgainIs};
 
 use crate::parts::Parts;

@@ -65,10 +65,10 @@
 //! Conditions: room for the events that a call may post (one, or two in `run_command`); items that `blank` and
 //! `drop_front` name are there, and what is pushed fits. Where a transfer is served: the read's buffer has room for a
 //! packet, the write's bytes reach as far as its TRBs say, and the endpoint's packets are no larger than the device
-//! takes. That a core keeps all of these is what `proof_core` proves.
+//! takes. That a core keeps all of these is what `refine_core` proves.
 //!
 //! It doesn't say: that the items of the ring are those of the core's transfers, or that a packet leaves what
-//! `usb_design` says (`proof_controller` does); that there is always room for an event (each call that posts asks for
+//! `usb_design` says (`refine_rings` does); that there is always room for an event (each call that posts asks for
 //! it), that an order names an endpoint that is there (another is answered with an error), when anything is served.
 #![tactic(auto)]
 

@@ -9,8 +9,8 @@ use std::rt::Files;
 use std::sync::Wait;
 use std::thread::Threads;
 use trace_io::{Task, read_words};
+use trace_main::{described_devices, trace};
 use trace_recorded::{DeviceChoice, TextReader};
-use usb_trace::{described_devices, trace};
 
 /// The status of a run that ended early.
 const FAILED: u8 = 1;

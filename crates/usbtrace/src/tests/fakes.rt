@@ -8,7 +8,7 @@ use std::io::{ErrorKind, Read, Write};
 use std::rt::Files;
 use std::sync::Wait;
 use std::thread::Threads;
-use usb_trace::trace;
+use trace_main::trace;
 
 /// Gives bytes a few at a time, and then fails or ends.
 #[derive(Drop)]

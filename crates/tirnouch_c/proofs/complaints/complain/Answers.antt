@@ -1,6 +1,6 @@
 -- Nothing is wrong.
 use Rattle.std.proofs.Common.{None, Some, refl, subst}
-use Rattle.usb_desk.specs.Reason.{Complains}
+use Rattle.usb_devicetext.specs.Reason.{Complains}
 use Rattle.tirnouch_c.proofs.complaints.complain.Goals as goal
 
 pub returns-in-Ok-None : goal.returns-in-Ok-None

@@ -1,5 +1,5 @@
 -- What was performed is told by the piece's step.
-use Rattle.usb_purge.specs.PlanRuns.{entries_of}
+use Rattle.usb_plans.specs.PlanRuns.{entries_of}
 use Rattle.trace_run.proofs.Captured.{captured_begun, piece_captured}
 use Rattle.trace_run.proofs.capture.capture_piece.Goals as goal
 

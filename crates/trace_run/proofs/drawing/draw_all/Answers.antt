@@ -1,8 +1,8 @@
 -- A piece further each turn.
 use Rattle.std.proofs.Common.{[], ◌+◌, ◌++◌, drop, map, refl}
 use Rattle.std.specs.Vec.Iter.{into_iter_items}
-use Rattle.usb_purge.proofs.Reached.{has_callback, is_no_verdict, none_yet, one_more, rest_is}
-use Rattle.usb_purge.specs.PlanRuns.{entries_of}
+use Rattle.usb_plans.proofs.Reached.{has_callback, is_no_verdict, none_yet, one_more, rest_is}
+use Rattle.usb_plans.specs.PlanRuns.{entries_of}
 use Rattle.trace_run.proofs.drawing.draw_all.Goals as goal
 
 pub loop-piece-init : goal.loop-piece-init

@@ -3,7 +3,7 @@ use Rattle.std.proofs.Common.{List, drop, map}
 use Rattle.std.specs.Vec.Iter.{into_iter_items}
 use Rattle.usb_model.specs.declared.entry.Entry.{Entry}
 use Rattle.usb_model.specs.Setup.{Setup}
-use Rattle.usb_purge.proofs.Reached.{Reached}
+use Rattle.usb_plans.proofs.Reached.{Reached}
 use Rattle.trace_run.proofs.drawing.draw_all.Given as goal
 
 abbrev pub invariant-loop-piece : goal.invariant-loop-piece

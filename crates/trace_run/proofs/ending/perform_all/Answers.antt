@@ -1,7 +1,7 @@
 -- A piece further each turn.
 use Rattle.std.proofs.Common.{[], ◌++◌, ◌∙◌, refl}
 use Rattle.std.specs.Vec.Iter.{into_iter_items}
-use Rattle.usb_purge.proofs.Reached.{ends_fixed, has_callback, is_no_verdict, none_ahead, none_yet, one_more}
+use Rattle.usb_plans.proofs.Reached.{ends_fixed, has_callback, is_no_verdict, none_ahead, none_yet, one_more}
 use Rattle.trace_run.proofs.ending.perform_all.Goals as goal
 
 pub loop-piece-init : goal.loop-piece-init

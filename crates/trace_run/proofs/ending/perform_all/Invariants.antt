@@ -4,7 +4,7 @@ use Rattle.std.specs.Vec.Iter.{into_iter_items}
 use Rattle.usb_model.specs.declared.entry.Entry.{Entry}
 use Rattle.usb_model.specs.declared.verdict.Rule.{Rule}
 use Rattle.usb_model.specs.Setup.{Setup}
-use Rattle.usb_purge.proofs.Reached.{Reached}
+use Rattle.usb_plans.proofs.Reached.{Reached}
 use Rattle.trace_run.specs.Printed.{StartsPlan}
 use Rattle.trace_run.proofs.ending.perform_all.Given as goal
 

@@ -1,5 +1,5 @@
 -- Its entries are those that came of it.
-use Rattle.usb_purge.specs.PlanRuns.{entries_of}
+use Rattle.usb_plans.specs.PlanRuns.{entries_of}
 use Rattle.trace_run.proofs.ending.perform_piece.Goals as goal
 
 pub returns : goal.returns

@@ -1,7 +1,7 @@
 -- The runs were made for the plan.
 use Rattle.std.specs.Prelude.{map}
 use Rattle.usb_core.specs.Public.{setup_of}
-use Rattle.usb_purge.proofs.BothRuns.{starts_both}
+use Rattle.usb_plans.proofs.BothRuns.{starts_both}
 use Rattle.trace_run.proofs.Printed.{of_both}
 use Rattle.trace_run.proofs.lines.print_alone.Goals as goal
 

@@ -1,7 +1,7 @@
 -- A piece further each turn, and then what is left.
 use Rattle.std.proofs.Common.{◌∙◌}
 use Rattle.std.specs.Vec.Iter.{into_iter_items}
-use Rattle.usb_purge.proofs.Reached.{none_ahead}
+use Rattle.usb_plans.proofs.Reached.{none_ahead}
 use Rattle.trace_run.proofs.Printed.{from_begun, from_end, from_more, from_rest, from_same, from_start, from_stop, has_callback, is_no_verdict}
 use Rattle.trace_run.proofs.lines.print_run.Goals as goal
 

@@ -1,6 +1,6 @@
 -- A step further each turn.
 use Rattle.std.proofs.Common.{inl, inr, length, take}
-use Rattle.proof_core.specs.Made.{setup_of}
+use Rattle.refine_core.specs.Made.{setup_of}
 use Rattle.usb_core.proofs.Reached.{all, lawful, left, none_stopped, none_yet, obeys_laws, one_more, stopped}
 use Rattle.usb_core.proofs.runs.run.Goals as goal
 

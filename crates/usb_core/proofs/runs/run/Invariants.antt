@@ -1,5 +1,5 @@
 -- The run so far.
-use Rattle.proof_core.specs.Made.{setup_of}
+use Rattle.refine_core.specs.Made.{setup_of}
 use Rattle.usb_core.proofs.Reached.{Reached}
 use Rattle.usb_core.proofs.runs.run.Given as goal
 

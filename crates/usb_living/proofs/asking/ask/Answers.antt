@@ -1,6 +1,6 @@
 -- What is offered is next in each world, and the device is asked where it says so.
 use Rattle.std.proofs.Common.{Some, None, refl, subst, sym}
-use Rattle.proof_core.specs.Offers.{IsNext}
+use Rattle.refine_core.specs.Offers.{IsNext}
 use Rattle.usb_living.specs.Asks.{Answered, Packet, Unasked, Unready}
 use Rattle.usb_living.proofs.asking.ask.Goals as goal
 

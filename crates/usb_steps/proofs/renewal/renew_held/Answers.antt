@@ -2,8 +2,8 @@
 use Rattle.std.proofs.Common.{refl, ap, sym, ◌∙◌}
 use Rattle.std.specs.Prelude.{option_copied}
 use Rattle.usb_model.specs.World.{is_its}
-use Rattle.proof_core.specs.Renewals.{is_held_by}
-use Rattle.proof_core.proofs.Renewals.{renewed_all, renewed_more}
+use Rattle.refine_core.specs.Renewals.{is_held_by}
+use Rattle.refine_core.proofs.Renewals.{renewed_all, renewed_more}
 use Rattle.usb_steps.proofs.renewal.renew_held.Goals.{then-is_its, else-is_its}
 use Rattle.usb_steps.proofs.renewal.renew_held.Goals as goal
 

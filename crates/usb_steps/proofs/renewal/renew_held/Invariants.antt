@@ -1,5 +1,5 @@
 -- Those before are new.
-use Rattle.proof_core.specs.Renewals.{RenewedFirst, is_held_by}
+use Rattle.refine_core.specs.Renewals.{RenewedFirst, is_held_by}
 use Rattle.usb_steps.proofs.renewal.renew_held.Given as goal
 
 abbrev pub invariant-loop-info : goal.invariant-loop-info

@@ -1,8 +1,8 @@
 -- Each endpoint of the configuration, in order.
 use Rattle.std.proofs.Common.{refl, ap, sym, ◌∙◌}
 use Rattle.std.specs.Prelude.{option_copied}
-use Rattle.proof_core.specs.Renewals.{is_of_interface}
-use Rattle.proof_core.proofs.Renewals.{of_interface, renewed_all, renewed_more}
+use Rattle.refine_core.specs.Renewals.{is_of_interface}
+use Rattle.refine_core.proofs.Renewals.{of_interface, renewed_all, renewed_more}
 use Rattle.usb_steps.proofs.renewal.renew_interface.Goals.{then-is_of_interface, else-is_of_interface}
 use Rattle.usb_steps.proofs.renewal.renew_interface.Goals as goal
 

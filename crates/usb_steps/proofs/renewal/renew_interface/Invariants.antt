@@ -1,5 +1,5 @@
 -- Those before are new.
-use Rattle.proof_core.specs.Renewals.{RenewedFirst, is_of_interface}
+use Rattle.refine_core.specs.Renewals.{RenewedFirst, is_of_interface}
 use Rattle.usb_steps.proofs.renewal.renew_interface.Given as goal
 
 abbrev pub invariant-loop-info : goal.invariant-loop-info

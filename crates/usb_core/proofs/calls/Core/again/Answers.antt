@@ -3,9 +3,9 @@ use Rattle.usb_model.specs.declared.refused.Refused.TheVariants.{NoMem}
 use Rattle.usb_model.specs.declared.reply.Reply.TheVariants.{Number, Refused}
 use Rattle.usb_model.specs.declared.step.Step.TheVariants.{Answer}
 use Rattle.usb_model.specs.declared.verdict.Verdict.TheVariants.{Again}
-use Rattle.proof_core.specs.Calls.{Stays}
-use Rattle.proof_core.specs.State.{State}
-use Rattle.proof_core.specs.Steps.{TurnsWorld}
+use Rattle.refine_core.specs.Calls.{Stays}
+use Rattle.refine_core.specs.State.{State}
+use Rattle.refine_core.specs.Steps.{TurnsWorld}
 use Rattle.usb_core.proofs.Turns.{shown_either, turns_if, turns_unless}
 use Rattle.usb_core.proofs.calls.Core.again.Goals as goal
 

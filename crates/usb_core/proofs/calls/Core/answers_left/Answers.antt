@@ -1,5 +1,5 @@
 use Rattle.std.proofs.Common.{subst, sym, ◌∙◌}
-use Rattle.proof_core.specs.State.{ShowsWorld, State}
+use Rattle.refine_core.specs.State.{ShowsWorld, State}
 use Rattle.usb_core.proofs.Unfinished.{answers_shown}
 use Rattle.usb_core.proofs.calls.Core.answers_left.Goals as goal
 

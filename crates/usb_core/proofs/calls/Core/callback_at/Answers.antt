@@ -1,8 +1,8 @@
 use Rattle.std.proofs.Common.{ap, subst, sym, ◌∙◌}
 use Rattle.std.specs.Option.{option_map}
 use Rattle.usb_model.specs.declared.result.InCallback.{InCallback}
-use Rattle.proof_core.specs.State.{ShowsWorld, State}
-use Rattle.proof_core.proofs.Inventory.{callback_shown}
+use Rattle.refine_core.specs.State.{ShowsWorld, State}
+use Rattle.refine_core.proofs.Inventory.{callback_shown}
 use Rattle.usb_core.proofs.calls.Core.callback_at.Goals as goal
 
 pub returns-in-Some : goal.returns-in-Some

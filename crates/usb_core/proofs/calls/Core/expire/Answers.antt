@@ -1,8 +1,8 @@
 use Rattle.std.proofs.Common.{subst, Some}
 use Rattle.usb_model.specs.declared.step.Step.TheVariants.{Expire}
-use Rattle.proof_core.specs.State.{State}
-use Rattle.proof_core.specs.Steps.{TurnsWorld}
-use Rattle.proof_core.proofs.Turns.{shows_again, turns}
+use Rattle.refine_core.specs.State.{State}
+use Rattle.refine_core.specs.Steps.{TurnsWorld}
+use Rattle.refine_core.proofs.Turns.{shows_again, turns}
 use Rattle.usb_core.proofs.calls.Core.expire.Goals as goal
 
 pub invariant_of-self : goal.invariant_of-self

@@ -1,6 +1,6 @@
 use Rattle.std.proofs.Common.{subst, sym}
 use Rattle.usb_model.specs.declared.step.Step.TheVariants.{Take}
-use Rattle.proof_core.specs.State.{ShowsWorld, State}
+use Rattle.refine_core.specs.State.{ShowsWorld, State}
 use Rattle.usb_core.proofs.Shown.{work_shown}
 use Rattle.usb_core.proofs.calls.Core.has_result.Goals as goal
 

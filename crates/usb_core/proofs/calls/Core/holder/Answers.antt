@@ -1,6 +1,6 @@
 use Rattle.std.proofs.Common.{subst, sym}
-use Rattle.proof_core.specs.State.{ShowsWorld, State}
-use Rattle.proof_core.proofs.Inventory.{holder_shown}
+use Rattle.refine_core.specs.State.{ShowsWorld, State}
+use Rattle.refine_core.proofs.Inventory.{holder_shown}
 use Rattle.usb_core.proofs.calls.Core.holder.Goals as goal
 
 pub returns : goal.returns

@@ -1,7 +1,7 @@
 -- The parts are those of the core.
 use Rattle.std.proofs.Common.{subst, sym}
 use Rattle.usb_xhc.specs.Controller.{Controller}
-use Rattle.proof_core.specs.State.{ShowsWorld, State}
+use Rattle.refine_core.specs.State.{ShowsWorld, State}
 use Rattle.usb_core.specs.Reads.{IsLeft}
 use Rattle.usb_core.proofs.Shown.{left_shown}
 use Rattle.usb_core.proofs.calls.Core.into_setup.Goals as goal

@@ -1,6 +1,6 @@
 -- What the parts tell of each core that they keep holds of each world that this shows.
 use Rattle.std.proofs.Common.{sym, subst}
-use Rattle.proof_core.specs.State.{ShowsWorld, State}
+use Rattle.refine_core.specs.State.{ShowsWorld, State}
 use Rattle.usb_core.proofs.calls.Core.offer.Goals as goal
 
 pub returns-clause-next : goal.returns-clause-next

@@ -1,9 +1,9 @@
 use Rattle.std.proofs.Common.{◌+◌, subst}
 use Rattle.std.specs.Prelude.{replicate}
 use Rattle.usb_model.specs.declared.step.Step.TheVariants.{Serve}
-use Rattle.proof_core.specs.State.{State}
-use Rattle.proof_core.specs.Steps.{TurnsInRow}
-use Rattle.proof_core.proofs.Rows.{runs, shows_behind}
+use Rattle.refine_core.specs.State.{State}
+use Rattle.refine_core.specs.Steps.{TurnsInRow}
+use Rattle.refine_core.proofs.Rows.{runs, shows_behind}
 use Rattle.usb_steps.specs.Bursts.{burst_entries}
 use Rattle.usb_core.proofs.calls.Core.serve_burst.Goals as goal
 

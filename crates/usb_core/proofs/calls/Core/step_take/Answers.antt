@@ -1,6 +1,6 @@
 use Rattle.std.proofs.Common.{◌∙◌, ap, option_map, refl, sym, subst, Some}
 use Rattle.usb_model.specs.declared.step.Step.TheVariants.{Take}
-use Rattle.proof_core.specs.Calls.{called_entry}
+use Rattle.refine_core.specs.Calls.{called_entry}
 use Rattle.usb_core.proofs.Turns.{as_turn}
 use Rattle.usb_model.specs.declared.entry.Entry.{Entry}
 use Rattle.usb_steps.specs.Results.{CarriesOut}

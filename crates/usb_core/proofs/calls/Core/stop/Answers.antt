@@ -1,9 +1,9 @@
 use Rattle.std.proofs.Common.{subst, Some}
 use Rattle.usb_model.specs.declared.step.Step.TheVariants.{Answer}
 use Rattle.usb_model.specs.declared.verdict.Verdict.TheVariants.{Stop}
-use Rattle.proof_core.specs.State.{State}
-use Rattle.proof_core.specs.Steps.{TurnsWorld}
-use Rattle.proof_core.proofs.Turns.{shows_again, turns}
+use Rattle.refine_core.specs.State.{State}
+use Rattle.refine_core.specs.Steps.{TurnsWorld}
+use Rattle.refine_core.proofs.Turns.{shows_again, turns}
 use Rattle.usb_core.proofs.calls.Core.stop.Goals as goal
 
 pub invariant_of-self : goal.invariant_of-self

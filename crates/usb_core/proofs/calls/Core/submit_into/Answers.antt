@@ -2,9 +2,9 @@ use Rattle.std.proofs.Common.{Some, IfErr, IfOk, OnErr, ◌≡◌, subst}
 use Rattle.usb_model.specs.declared.refused.Refused.TheVariants.{NoMem}
 use Rattle.usb_model.specs.declared.reply.Reply.TheVariants.{Number, Refused}
 use Rattle.usb_model.specs.declared.step.Step.TheVariants.{Submit}
-use Rattle.proof_core.specs.Calls.{Stays}
-use Rattle.proof_core.specs.State.{State}
-use Rattle.proof_core.specs.Steps.{TurnsWorld}
+use Rattle.refine_core.specs.Calls.{Stays}
+use Rattle.refine_core.specs.State.{State}
+use Rattle.refine_core.specs.Steps.{TurnsWorld}
 use Rattle.usb_core.proofs.Turns.{shown_either, turns_if, turns_unless}
 use Rattle.usb_core.proofs.calls.Core.submit_into.Goals as goal
 

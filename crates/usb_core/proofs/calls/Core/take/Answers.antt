@@ -1,9 +1,9 @@
 use Rattle.std.proofs.Common.{IfOk, OnErr, subst}
 use Rattle.std.specs.Prelude.{option_map}
 use Rattle.usb_model.specs.declared.step.Step.TheVariants.{Take}
-use Rattle.proof_core.specs.Calls.{Stays, called_entry}
-use Rattle.proof_core.specs.State.{State}
-use Rattle.proof_core.specs.Steps.{TurnsWorld}
+use Rattle.refine_core.specs.Calls.{Stays, called_entry}
+use Rattle.refine_core.specs.State.{State}
+use Rattle.refine_core.specs.Steps.{TurnsWorld}
 use Rattle.usb_core.proofs.Turns.{shown_either, turns_if}
 use Rattle.usb_core.proofs.calls.Core.take.Goals as goal
 

@@ -1,5 +1,5 @@
 use Rattle.std.proofs.Common.{subst}
-use Rattle.proof_core.specs.State.{State}
+use Rattle.refine_core.specs.State.{State}
 use Rattle.usb_core.specs.Bursts.{TakesAndStops}
 use Rattle.usb_core.proofs.InRows.{shown_behind, takes_and_stops}
 use Rattle.usb_core.proofs.calls.Core.take_done.Goals as goal

@@ -6,18 +6,18 @@ use Rattle.usb_model.specs.declared.step.Step.TheVariants.{Answer}
 use Rattle.usb_model.specs.declared.verdict.Verdict.TheVariants.{Again}
 use Rattle.usb_tables.specs.Caller.{Kept as Caller}
 use Rattle.usb_tables.specs.Callers.{callback_at}
-use Rattle.proof_core.specs.Calls.{Stays}
-use Rattle.proof_core.specs.Handles.{says}
-use Rattle.proof_core.specs.State.{IsState, State}
-use Rattle.proof_core.specs.Steps.{DoesCoreStep}
-use Rattle.proof_core.specs.Submissions.{CanStart}
-use Rattle.proof_core.proofs.Again.{again_joins, can_again, number_found, put_back, round_fits}
-use Rattle.proof_core.proofs.Stops.{Ended}
+use Rattle.refine_core.specs.Calls.{Stays}
+use Rattle.refine_core.specs.Handles.{says}
+use Rattle.refine_core.specs.State.{IsState, State}
+use Rattle.refine_core.specs.Steps.{DoesCoreStep}
+use Rattle.refine_core.specs.Submissions.{CanStart}
+use Rattle.refine_core.proofs.Again.{again_joins, can_again, number_found, put_back, round_fits}
+use Rattle.refine_core.proofs.Stops.{Ended}
 use Rattle.usb_steps.specs.Submissions.{AgainIs}
 use Rattle.usb_steps.proofs.Callbacks.{admits_again, ended_by, refuses_again}
 use Rattle.usb_steps.proofs.Views.{parts}
 use Rattle.usb_steps.proofs.Carried.{callers_follow}
-use Rattle.proof_core.proofs.Payloads.{more_on, still_on}
+use Rattle.refine_core.proofs.Payloads.{more_on, still_on}
 use Rattle.usb_steps.proofs.parts.Parts.again.Goals as goal
 
 pub returns-in-Err-clause-refused : goal.returns-in-Err-clause-refused

@@ -6,20 +6,20 @@ use Rattle.usb_model.specs.declared.step.Step.TheVariants.{Answer}
 use Rattle.usb_model.specs.declared.verdict.Verdict.TheVariants.{AgainWith}
 use Rattle.usb_tables.specs.Caller.{Kept as Caller}
 use Rattle.usb_tables.specs.Callers.{callback_at}
-use Rattle.proof_core.specs.Calls.{Stays}
-use Rattle.proof_core.specs.Handles.{says}
-use Rattle.proof_core.specs.State.{IsState, State}
-use Rattle.proof_core.specs.Steps.{DoesCoreStep}
-use Rattle.proof_core.specs.Submissions.{CanStart}
-use Rattle.proof_core.proofs.Again.{again_joins, again_none, again_of, again_refused, can_again, number_found, put_back, round_fits}
-use Rattle.proof_core.proofs.Stops.{Ended}
+use Rattle.refine_core.specs.Calls.{Stays}
+use Rattle.refine_core.specs.Handles.{says}
+use Rattle.refine_core.specs.State.{IsState, State}
+use Rattle.refine_core.specs.Steps.{DoesCoreStep}
+use Rattle.refine_core.specs.Submissions.{CanStart}
+use Rattle.refine_core.proofs.Again.{again_joins, again_none, again_of, again_refused, can_again, number_found, put_back, round_fits}
+use Rattle.refine_core.proofs.Stops.{Ended}
 use Rattle.std.specs.Option.{option_copied, option_map}
 use Rattle.usb_model.specs.declared.request.Body.TheVariants.{Out}
 use Rattle.usb_model.specs.declared.request.Request.{Request}
 use Rattle.usb_steps.proofs.Callbacks.{AdmitsIt, absent, ended_by}
 use Rattle.usb_steps.proofs.Views.{parts}
 use Rattle.usb_steps.proofs.Carried.{callers_follow}
-use Rattle.proof_core.proofs.Payloads.{more_on, still_on}
+use Rattle.refine_core.proofs.Payloads.{more_on, still_on}
 use Rattle.usb_steps.proofs.parts.Parts.again_with.Goals as goal
 
 pub returns-in-None-clause-refused : goal.returns-in-None-clause-refused

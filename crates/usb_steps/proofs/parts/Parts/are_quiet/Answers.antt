@@ -1,9 +1,9 @@
 -- Each endpoint of the configuration, in order.
 use Rattle.std.proofs.Common.{refl, ap, sym, subst, ◌∙◌, ◌≡◌, Bool, Some}
 use Rattle.std.specs.Prelude.{option_copied, slice_get}
-use Rattle.proof_core.specs.Handles.{IsQuiet}
-use Rattle.proof_core.specs.State.{State}
-use Rattle.proof_core.proofs.Quiet.{quiet_all, quiet_more, quiet_not}
+use Rattle.refine_core.specs.Handles.{IsQuiet}
+use Rattle.refine_core.specs.State.{State}
+use Rattle.refine_core.proofs.Quiet.{quiet_all, quiet_more, quiet_not}
 use Rattle.usb_steps.proofs.parts.Parts.are_quiet.Goals.{else-is_among-via-then-is_among+else-not-is_quiet, else-is_among-via-else-is_among}
 use Rattle.usb_steps.proofs.parts.Parts.are_quiet.Goals as goal
 

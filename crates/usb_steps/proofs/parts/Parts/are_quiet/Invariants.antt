@@ -1,5 +1,5 @@
 -- The endpoints before are quiet.
-use Rattle.proof_core.specs.Handles.{FirstQuiet}
+use Rattle.refine_core.specs.Handles.{FirstQuiet}
 use Rattle.usb_steps.proofs.parts.Parts.are_quiet.Given as goal
 
 abbrev pub invariant-loop-info : goal.invariant-loop-info

@@ -2,16 +2,16 @@
 use Rattle.std.proofs.Common.{◌≡◌, Some, None, refl, sym, subst, ◌∙◌}
 use Rattle.std.proofs.lemmas.Option.{same_Some}
 use Rattle.usb_model.specs.declared.errand.Errand.{Errand}
-use Rattle.proof_core.specs.Payloads.{StillCarries}
-use Rattle.proof_core.specs.State.{State}
-use Rattle.proof_core.specs.Steps.{AskedAt, CanAsk}
-use Rattle.proof_core.specs.Works.{Posts}
-use Rattle.proof_core.proofs.Askable.{can_ask_item, can_post_asked}
-use Rattle.proof_core.proofs.Asks.{asked_at}
-use Rattle.proof_core.proofs.Transfers.{asks}
+use Rattle.refine_core.specs.Payloads.{StillCarries}
+use Rattle.refine_core.specs.State.{State}
+use Rattle.refine_core.specs.Steps.{AskedAt, CanAsk}
+use Rattle.refine_core.specs.Works.{Posts}
+use Rattle.refine_core.proofs.Askable.{can_ask_item, can_post_asked}
+use Rattle.refine_core.proofs.Asks.{asked_at}
+use Rattle.refine_core.proofs.Transfers.{asks}
 use Rattle.usb_steps.proofs.Views.{parts}
 use Rattle.usb_steps.proofs.Carried.{flights_follow}
-use Rattle.proof_core.proofs.Payloads.{follows_ask, still_on}
+use Rattle.refine_core.proofs.Payloads.{follows_ask, still_on}
 use Rattle.usb_steps.proofs.parts.Parts.ask_at.Goals as goal
 
 pub ask-requires : goal.ask-requires

@@ -1,4 +1,4 @@
-use Rattle.proof_core.proofs.Asks.{cancels}
+use Rattle.refine_core.proofs.Asks.{cancels}
 use Rattle.usb_steps.proofs.parts.Parts.cancel.Goals as goal
 
 pub returns-clause-done : goal.returns-clause-done

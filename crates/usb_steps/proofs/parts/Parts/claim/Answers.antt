@@ -4,10 +4,10 @@ use Rattle.usb_model.specs.declared.reply.Reply.TheVariants.{Done, Refused}
 use Rattle.usb_model.specs.declared.step.Step.TheVariants.{Claim}
 use Rattle.usb_model.specs.World.{is_its}
 use Rattle.usb_claims.specs.Holders.{Holding, device_of}
-use Rattle.proof_core.specs.Handles.{gone_in, says}
-use Rattle.proof_core.specs.State.{State}
-use Rattle.proof_core.specs.Steps.{DoesCoreStep}
-use Rattle.proof_core.proofs.Claims.{claims_again, claims_gone, claims_none, claims_now, claims_refused, refusal_of, refusal_none}
+use Rattle.refine_core.specs.Handles.{gone_in, says}
+use Rattle.refine_core.specs.State.{State}
+use Rattle.refine_core.specs.Steps.{DoesCoreStep}
+use Rattle.refine_core.proofs.Claims.{claims_again, claims_gone, claims_none, claims_now, claims_refused, refusal_of, refusal_none}
 use Rattle.usb_steps.proofs.Views.{parts}
 use Rattle.usb_steps.proofs.parts.Parts.claim.Goals as goal
 

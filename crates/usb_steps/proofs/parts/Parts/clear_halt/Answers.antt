@@ -2,9 +2,9 @@
 use Rattle.std.proofs.Common.{subst, ap, sym, ◌∙◌, ◌<◌, ◌≤◌, ℕ, length}
 use Rattle.usb_claims.specs.Holders.{device_of}
 use Rattle.usb_tables.specs.Flights.{line_at}
-use Rattle.proof_core.specs.State.{State}
-use Rattle.proof_core.specs.Works.{IsHolder}
-use Rattle.proof_core.proofs.Halts.{halts_busy, halts_gone, halts_none, halts_now, halts_others}
+use Rattle.refine_core.specs.State.{State}
+use Rattle.refine_core.specs.Works.{IsHolder}
+use Rattle.refine_core.proofs.Halts.{halts_busy, halts_gone, halts_none, halts_now, halts_others}
 use Rattle.usb_steps.proofs.parts.Parts.clear_halt.Goals as goal
 
 pub returns-in_default-clause-done : goal.returns-in_default-clause-done

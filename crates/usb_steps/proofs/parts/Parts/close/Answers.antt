@@ -1,9 +1,9 @@
 -- The step of the core, case by case.
 use Rattle.std.proofs.Common.{subst, ap, sym, ◌∙◌, None, Bool}
 use Rattle.usb_claims.specs.Holders.{device_of}
-use Rattle.proof_core.specs.Handles.{AreQuiet}
-use Rattle.proof_core.specs.State.{State}
-use Rattle.proof_core.proofs.Closes.{closes, closes_busy, closes_none}
+use Rattle.refine_core.specs.Handles.{AreQuiet}
+use Rattle.refine_core.specs.State.{State}
+use Rattle.refine_core.proofs.Closes.{closes, closes_busy, closes_none}
 use Rattle.usb_steps.proofs.parts.Parts.close.Goals as goal
 
 pub returns-in_default-clause-done : goal.returns-in_default-clause-done

@@ -3,9 +3,9 @@ use Rattle.std.proofs.Common.{Some, None, sym, subst, ◌∙◌, arith}
 use Rattle.std.specs.Prelude.{nat_eq}
 use Rattle.usb_model.specs.declared.reply.Reply.TheVariants.{Idle, Ran}
 use Rattle.usb_model.specs.declared.step.Step.TheVariants.{Command}
-use Rattle.proof_core.specs.State.{IsState, State}
-use Rattle.proof_core.specs.Steps.{DoesCoreStep}
-use Rattle.proof_core.proofs.Orders.{few_events}
+use Rattle.refine_core.specs.State.{IsState, State}
+use Rattle.refine_core.specs.Steps.{DoesCoreStep}
+use Rattle.refine_core.proofs.Orders.{few_events}
 use Rattle.usb_steps.proofs.Views.{parts}
 use Rattle.usb_steps.proofs.Runs.{its_endpoint, its_order, ran_none, ran_one}
 use Rattle.usb_steps.proofs.parts.Parts.command.Goals as goal

@@ -1,4 +1,4 @@
-use Rattle.proof_core.proofs.Reports.{delivered, none_taken, taken_by}
+use Rattle.refine_core.proofs.Reports.{delivered, none_taken, taken_by}
 use Rattle.usb_steps.proofs.parts.Parts.deliver.Goals as goal
 
 pub event-requires : goal.event-requires

@@ -1,8 +1,8 @@
 use Rattle.std.proofs.Common.{◌∙◌, ap}
 use Rattle.std.specs.Prelude.{slice_get}
-use Rattle.proof_core.specs.State.{State}
-use Rattle.proof_core.proofs.FirstEvents.{no_first}
-use Rattle.proof_core.proofs.Reports.{delivered, none_taken, taken_by}
+use Rattle.refine_core.specs.State.{State}
+use Rattle.refine_core.proofs.FirstEvents.{no_first}
+use Rattle.refine_core.proofs.Reports.{delivered, none_taken, taken_by}
 use Rattle.usb_steps.proofs.parts.Parts.deliver_at.Goals as goal
 
 pub event-entry-requires : goal.event-entry-requires

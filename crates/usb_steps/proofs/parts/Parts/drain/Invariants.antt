@@ -1,5 +1,5 @@
 -- So many were drained so far.
-use Rattle.proof_core.specs.Payloads.{StillCarries}
+use Rattle.refine_core.specs.Payloads.{StillCarries}
 use Rattle.usb_steps.proofs.Drains.{Drained}
 use Rattle.usb_steps.proofs.parts.Parts.drain.Given as goal
 

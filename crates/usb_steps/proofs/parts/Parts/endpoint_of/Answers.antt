@@ -1,8 +1,8 @@
 -- An event that was taken names its endpoint, or the order of its endpoint's errand.
 use Rattle.std.proofs.Common.{None, Some, subst}
-use Rattle.proof_core.specs.Deliveries.{IsTaken}
-use Rattle.proof_core.proofs.FirstEvents.{completion_first, transfer_first}
-use Rattle.proof_core.proofs.Reports.{FindsHeld, at_held, no_held}
+use Rattle.refine_core.specs.Deliveries.{IsTaken}
+use Rattle.refine_core.proofs.FirstEvents.{completion_first, transfer_first}
+use Rattle.refine_core.proofs.Reports.{FindsHeld, at_held, no_held}
 use Rattle.usb_steps.proofs.parts.Parts.endpoint_of.Goals as goal
 
 pub returns-in_err-at-in-TransferEvent : goal.returns-in_err-at-in-TransferEvent

@@ -1,7 +1,7 @@
 use Rattle.std.proofs.Common.{subst, sym, ap, ◌∙◌, Some, true}
 use Rattle.usb_tables.specs.Outstanding.{sent_at}
-use Rattle.proof_core.specs.Works.{IsHolder}
-use Rattle.proof_core.proofs.Senders.{done_at, stands_sends}
+use Rattle.refine_core.specs.Works.{IsHolder}
+use Rattle.refine_core.proofs.Senders.{done_at, stands_sends}
 use Rattle.usb_steps.proofs.parts.Parts.errand_at.Goals as goal
 
 pub returns-then-stands_at : goal.returns-then-stands_at

@@ -1,4 +1,4 @@
-use Rattle.proof_core.proofs.Asks.{expires}
+use Rattle.refine_core.proofs.Asks.{expires}
 use Rattle.usb_steps.proofs.parts.Parts.expire.Goals as goal
 
 pub returns-clause-done : goal.returns-clause-done

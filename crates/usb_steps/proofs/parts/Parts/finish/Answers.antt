@@ -1,6 +1,6 @@
-use Rattle.proof_core.proofs.Ends.{finishes_by, leaves_blank, leaves_within}
+use Rattle.refine_core.proofs.Ends.{finishes_by, leaves_blank, leaves_within}
 use Rattle.usb_steps.proofs.Carried.{live_seen, parts_follow}
-use Rattle.proof_core.proofs.Payloads.{follows_end, follows_leave, follows_on}
+use Rattle.refine_core.proofs.Payloads.{follows_end, follows_leave, follows_on}
 use Rattle.usb_steps.proofs.parts.Parts.finish.Goals as goal
 
 pub leave-requires-clause-within : goal.leave-requires-clause-within

@@ -2,8 +2,8 @@
 use Rattle.std.specs.Prelude.{◌≡◌, find}
 use Rattle.usb_model.specs.Setup.{Setup}
 use Rattle.usb_model.specs.World.{World}
-use Rattle.proof_design.specs.Shows.{Core, Shows}
-use Rattle.proof_core.specs.State.{Keeps}
+use Rattle.refine_world.specs.Shows.{Core, Shows}
+use Rattle.refine_core.specs.State.{Keeps}
 use Rattle.usb_steps.specs.Pending.{ends_from, serves}
 use Rattle.usb_steps.proofs.Circle.{from_here}
 use Rattle.usb_steps.proofs.parts.Parts.first_to_serve.Given as goal

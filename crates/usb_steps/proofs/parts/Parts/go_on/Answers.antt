@@ -1,5 +1,5 @@
 use Rattle.std.proofs.Common.{sym, ◌∙◌}
-use Rattle.proof_core.proofs.Settleable.{posts_same}
+use Rattle.refine_core.proofs.Settleable.{posts_same}
 use Rattle.usb_steps.proofs.parts.Parts.go_on.Goals as goal
 
 pub returns-in-Some-clause-ordered : goal.returns-in-Some-clause-ordered

@@ -2,7 +2,7 @@
 use Rattle.std.proofs.Common.{ap, ◌∙◌, ℕ, ◌-◌}
 use Rattle.std.specs.Prelude.{length}
 use Rattle.usb_ering.specs.Ring.{Ring}
-use Rattle.proof_core.specs.State.{State}
+use Rattle.refine_core.specs.State.{State}
 use Rattle.usb_steps.proofs.Waits.{commands}
 use Rattle.usb_steps.proofs.parts.Parts.has_order.Goals as goal
 

@@ -2,8 +2,8 @@
 use Rattle.std.proofs.Common.{ap, subst, sym, ◌∙◌}
 use Rattle.std.specs.Prelude.{length}
 use Rattle.usb_tables.specs.Flights.{line_at}
-use Rattle.proof_core.specs.State.{State}
-use Rattle.proof_core.specs.Works.{IsHolder}
+use Rattle.refine_core.specs.State.{State}
+use Rattle.refine_core.specs.Works.{IsHolder}
 use Rattle.usb_steps.proofs.Worth.{with_holder, without_holder, without_line}
 use Rattle.usb_steps.proofs.parts.Parts.has_packet.Goals.{then-len-eq0-via-then-len-eq0, then-len-eq0-via-else-len-eq0+then-is_none}
 use Rattle.usb_steps.proofs.parts.Parts.has_packet.Goals as goal

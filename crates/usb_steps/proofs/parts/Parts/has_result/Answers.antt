@@ -1,7 +1,7 @@
 -- A result waits where a transfer ended and wasn't taken out.
 use Rattle.std.proofs.Common.{ap, ◌∙◌}
 use Rattle.std.specs.Prelude.{is_some, slice_get}
-use Rattle.proof_core.specs.State.{State}
+use Rattle.refine_core.specs.State.{State}
 use Rattle.usb_steps.proofs.Waits.{some_map, takes}
 use Rattle.usb_steps.proofs.parts.Parts.has_result.Goals as goal
 

@@ -3,10 +3,10 @@ use Rattle.std.proofs.Common.{◌≡◌, ℕ, Some, None, [], ap, refl, sym, sub
 use Rattle.std.specs.Prelude.{slice_get, option_copied}
 use Rattle.usb_model.specs.Setup.{endpoints_of}
 use Rattle.usb_claims.specs.Holders.{device_of as device_at}
-use Rattle.proof_design.specs.Calls.{device_of}
-use Rattle.proof_core.specs.State.{State}
-use Rattle.proof_core.specs.Steps.{InLine}
-use Rattle.proof_core.proofs.Homes.{device_is, endpoints_are, endpoints_none, home_closed, home_nowhere, searched_all, searched_here, searched_on, stands_there}
+use Rattle.refine_world.specs.Calls.{device_of}
+use Rattle.refine_core.specs.State.{State}
+use Rattle.refine_core.specs.Steps.{InLine}
+use Rattle.refine_core.proofs.Homes.{device_is, endpoints_are, endpoints_none, home_closed, home_nowhere, searched_all, searched_here, searched_on, stands_there}
 use Rattle.usb_steps.specs.Homes.{HomeIs}
 use Rattle.usb_steps.proofs.parts.Parts.home.Goals as goal
 

@@ -1,8 +1,8 @@
 -- None of the endpoints before has it.
 use Rattle.usb_model.specs.Setup.{Setup}
-use Rattle.proof_design.specs.Shows.{Core}
-use Rattle.proof_core.specs.State.{Keeps}
-use Rattle.proof_core.proofs.Homes.{Searched}
+use Rattle.refine_world.specs.Shows.{Core}
+use Rattle.refine_core.specs.State.{Keeps}
+use Rattle.refine_core.proofs.Homes.{Searched}
 use Rattle.usb_steps.proofs.parts.Parts.home.Given as goal
 
 abbrev pub invariant-loop-info : goal.invariant-loop-info

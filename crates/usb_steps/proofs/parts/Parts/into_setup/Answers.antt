@@ -1,9 +1,9 @@
 -- The parts have the devices of each setup of which they show a world.
 use Rattle.std.proofs.Common.{◌∙◌, List, ap, subst, sym}
 use Rattle.usb_model.specs.declared.setup.Configuration.{Configuration}
-use Rattle.proof_core.specs.Made.{AreReady, Devices, setup_of}
-use Rattle.proof_core.specs.State.{State}
-use Rattle.proof_core.proofs.Made.{ready_again}
+use Rattle.refine_core.specs.Made.{AreReady, Devices, setup_of}
+use Rattle.refine_core.specs.State.{State}
+use Rattle.refine_core.proofs.Made.{ready_again}
 use Rattle.usb_steps.proofs.parts.Parts.into_setup.Goals as goal
 
 pub invariant_of-result : goal.invariant_of-result

@@ -1,8 +1,8 @@
 -- The name's own, by its tables.
 use Rattle.std.proofs.Common.{subst}
-use Rattle.proof_core.specs.State.{State}
-use Rattle.proof_core.specs.Works.{IsHolder}
-use Rattle.proof_core.proofs.Quiet.{quiet_own}
+use Rattle.refine_core.specs.State.{State}
+use Rattle.refine_core.specs.Works.{IsHolder}
+use Rattle.refine_core.proofs.Quiet.{quiet_own}
 use Rattle.usb_steps.proofs.parts.Parts.is_quiet.Goals as goal
 
 pub returns : goal.returns

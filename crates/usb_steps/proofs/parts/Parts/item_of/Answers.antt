@@ -3,10 +3,10 @@ use Rattle.std.proofs.Common.{Some, ap, sym, subst, ◌≡◌, ◌∙◌}
 use Rattle.std.specs.Prelude.{position}
 use Rattle.proof_lemmas.proofs.Handles.Alone.{is_its-some}
 use Rattle.usb_tables.specs.Flights.{is_number, line_at}
-use Rattle.proof_core.specs.State.{State}
-use Rattle.proof_core.specs.Works.{IsHolder}
-use Rattle.proof_core.proofs.Held.{is_at}
-use Rattle.proof_core.proofs.Homes.{in_line}
+use Rattle.refine_core.specs.State.{State}
+use Rattle.refine_core.specs.Works.{IsHolder}
+use Rattle.refine_core.proofs.Held.{is_at}
+use Rattle.refine_core.proofs.Homes.{in_line}
 use Rattle.usb_steps.proofs.parts.Parts.item_of.Goals as goal
 
 pub returns-then-is_its : goal.returns-then-is_its

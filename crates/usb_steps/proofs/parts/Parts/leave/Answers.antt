@@ -1,6 +1,6 @@
-use Rattle.proof_core.proofs.Settleable.{leaves_by}
+use Rattle.refine_core.proofs.Settleable.{leaves_by}
 use Rattle.usb_steps.proofs.Carried.{flights_follow}
-use Rattle.proof_core.proofs.Payloads.{follows_leave}
+use Rattle.refine_core.proofs.Payloads.{follows_leave}
 use Rattle.usb_steps.proofs.parts.Parts.leave.Goals as goal
 
 pub returns-clause-done : goal.returns-clause-done

@@ -1,11 +1,11 @@
 -- New parts are unused.
 use Rattle.std.proofs.Common.{subst}
 use Rattle.usb_model.specs.World.{new_world}
-use Rattle.proof_core.specs.Made.{Devices, setup_of}
-use Rattle.proof_core.specs.State.{ShowsWorld, State}
-use Rattle.proof_core.proofs.Made.{no_lines, shows_new}
+use Rattle.refine_core.specs.Made.{Devices, setup_of}
+use Rattle.refine_core.specs.State.{ShowsWorld, State}
+use Rattle.refine_core.proofs.Made.{no_lines, shows_new}
 use Rattle.usb_steps.proofs.Views.{parts}
-use Rattle.proof_core.proofs.Payloads.{none_carried}
+use Rattle.refine_core.proofs.Payloads.{none_carried}
 use Rattle.usb_steps.proofs.parts.Parts.new.Goals as goal
 
 pub returns-clause-shows : goal.returns-clause-shows

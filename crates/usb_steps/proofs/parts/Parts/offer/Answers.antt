@@ -1,9 +1,9 @@
 -- The packet that is next, or that there is none.
 use Rattle.std.proofs.Common.{Some, None, sym, subst, ◌∙◌}
-use Rattle.proof_core.specs.Offers.{IsNext}
-use Rattle.proof_core.specs.State.{State}
-use Rattle.proof_core.specs.Works.{IsFront, IsHolder}
-use Rattle.proof_core.proofs.Offers.{offers}
+use Rattle.refine_core.specs.Offers.{IsNext}
+use Rattle.refine_core.specs.State.{State}
+use Rattle.refine_core.specs.Works.{IsFront, IsHolder}
+use Rattle.refine_core.proofs.Offers.{offers}
 use Rattle.usb_steps.proofs.NextPackets.{none_front, none_held}
 use Rattle.usb_steps.proofs.Serves.{can_serve}
 use Rattle.usb_steps.proofs.parts.Parts.offer.Goals as goal

@@ -2,8 +2,8 @@
 use Rattle.std.proofs.Common.{Some, ap, refl, subst, sym, ◌∙◌}
 use Rattle.std.specs.Option.{option_copied}
 use Rattle.usb_xhc.specs.Slots.{sends}
-use Rattle.proof_core.specs.Offers.{IsOffered, bytes_ahead}
-use Rattle.proof_core.specs.State.{State}
+use Rattle.refine_core.specs.Offers.{IsOffered, bytes_ahead}
+use Rattle.refine_core.specs.State.{State}
 use Rattle.usb_steps.proofs.parts.Parts.offer_at.Goals.{in-In, in-Out+in_ok-out-in-Out}
 use Rattle.usb_steps.proofs.parts.Parts.offer_at.Goals as goal
 

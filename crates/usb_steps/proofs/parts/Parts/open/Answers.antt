@@ -1,4 +1,4 @@
-use Rattle.proof_core.proofs.Opens.{opens, opens_gone}
+use Rattle.refine_core.proofs.Opens.{opens, opens_gone}
 use Rattle.usb_steps.proofs.parts.Parts.open.Goals as goal
 
 pub returns-then-is_gone-clause-done : goal.returns-then-is_gone-clause-done

@@ -2,7 +2,7 @@
 use Rattle.std.proofs.Common.{ap, subst, ◌≡◌, ◌∙◌, ℕ, None}
 use Rattle.std.specs.Prelude.{find}
 use Rattle.usb_tables.specs.Callers.{IsOut, callback_at}
-use Rattle.proof_core.specs.State.{State}
+use Rattle.refine_core.specs.State.{State}
 use Rattle.usb_steps.specs.Pending.{ends_from, serves}
 use Rattle.usb_steps.proofs.Called.{out_shown}
 use Rattle.usb_steps.proofs.parts.Parts.pending.Goals as goal

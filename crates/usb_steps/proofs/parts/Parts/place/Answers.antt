@@ -9,9 +9,9 @@ use Rattle.usb_claims.specs.Holders.{device_of as device_at}
 use Rattle.usb_tables.specs.Callers.{number_of, results_at}
 use Rattle.usb_tables.specs.Flights.{line_at}
 use Rattle.usb_transfer.specs.Refusal.{checked}
-use Rattle.proof_core.specs.State.{State}
-use Rattle.proof_core.specs.Works.{IsHolder}
-use Rattle.proof_core.proofs.Joins.{IsHere, IsMine, is_mine, join_closed, join_full, join_gone, join_last, join_nowhere, join_others, join_refused, joins_there}
+use Rattle.refine_core.specs.State.{State}
+use Rattle.refine_core.specs.Works.{IsHolder}
+use Rattle.refine_core.proofs.Joins.{IsHere, IsMine, is_mine, join_closed, join_full, join_gone, join_last, join_nowhere, join_others, join_refused, joins_there}
 use Rattle.usb_steps.specs.Submissions.{PlaceIs}
 use Rattle.usb_steps.specs.declared.submission.Place.{Place}
 use Rattle.usb_steps.proofs.parts.Parts.place.Goals as goal

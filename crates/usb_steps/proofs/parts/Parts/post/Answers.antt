@@ -1,10 +1,10 @@
 -- The order is the errand's, and stands under the index that is kept.
 use Rattle.std.proofs.Common.{ℕ, ap, sym, subst, ◌∙◌, length, ◌≤◌}
 use Rattle.std.specs.Prelude.{IfSome, option_map, ◌≡◌}
-use Rattle.proof_core.specs.State.{State}
-use Rattle.proof_core.specs.Steps.{CanPost}
-use Rattle.proof_core.specs.Works.{Posts, context_in, order_by}
-use Rattle.proof_core.proofs.Posts.{can_post_blanks, can_post_order, can_post_room, post_is}
+use Rattle.refine_core.specs.State.{State}
+use Rattle.refine_core.specs.Steps.{CanPost}
+use Rattle.refine_core.specs.Works.{Posts, context_in, order_by}
+use Rattle.refine_core.proofs.Posts.{can_post_blanks, can_post_order, can_post_room, post_is}
 use Rattle.usb_steps.proofs.Views.{parts}
 use Rattle.usb_steps.proofs.parts.Parts.post.Goals as goal
 

@@ -2,9 +2,9 @@
 use Rattle.std.proofs.Common.{subst, ap, sym, ◌∙◌, Some, Bool}
 use Rattle.usb_model.specs.World.{is_its}
 use Rattle.usb_claims.specs.Holders.{device_of, owner_of}
-use Rattle.proof_core.specs.Handles.{AreQuiet}
-use Rattle.proof_core.specs.State.{State}
-use Rattle.proof_core.proofs.Closes.{releases, releases_busy, releases_none, releases_others}
+use Rattle.refine_core.specs.Handles.{AreQuiet}
+use Rattle.refine_core.specs.State.{State}
+use Rattle.refine_core.proofs.Closes.{releases, releases_busy, releases_none, releases_others}
 use Rattle.usb_steps.proofs.parts.Parts.release.Goals as goal
 
 pub returns-in_default-clause-done : goal.returns-in_default-clause-done

@@ -3,10 +3,10 @@ use Rattle.std.proofs.Common.{Bool, None, true, ap, sym, subst, ◌∙◌}
 use Rattle.usb_model.specs.declared.reply.Reply.TheVariants.{Done}
 use Rattle.usb_model.specs.declared.step.Step.TheVariants.{Reset}
 use Rattle.usb_claims.specs.Holders.{device_of, others_hold}
-use Rattle.proof_core.specs.Handles.{AreQuiet, gone_in, says}
-use Rattle.proof_core.specs.State.{State}
-use Rattle.proof_core.specs.Steps.{DoesCoreStep}
-use Rattle.proof_core.proofs.Resets.{resets_busy, resets_gone, resets_none, resets_now, resets_others}
+use Rattle.refine_core.specs.Handles.{AreQuiet, gone_in, says}
+use Rattle.refine_core.specs.State.{State}
+use Rattle.refine_core.specs.Steps.{DoesCoreStep}
+use Rattle.refine_core.proofs.Resets.{resets_busy, resets_gone, resets_none, resets_now, resets_others}
 use Rattle.usb_steps.proofs.Views.{parts}
 use Rattle.usb_steps.proofs.parts.Parts.reset.Goals as goal
 

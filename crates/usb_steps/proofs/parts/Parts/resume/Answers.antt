@@ -1,7 +1,7 @@
 use Rattle.std.proofs.Common.{sym, ◌∙◌, ap, ◌≡◌, Some, None}
 use Rattle.std.specs.Prelude.{option_copied}
-use Rattle.proof_core.proofs.Posts.{can_post_ring}
-use Rattle.proof_core.proofs.Settleable.{resumes_by}
+use Rattle.refine_core.proofs.Posts.{can_post_ring}
+use Rattle.refine_core.proofs.Settleable.{resumes_by}
 use Rattle.usb_steps.proofs.parts.Parts.resume.Goals as goal
 
 pub returns-in-Some-clause-done : goal.returns-in-Some-clause-done

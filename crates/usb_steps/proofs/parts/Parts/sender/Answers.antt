@@ -2,12 +2,12 @@ use Rattle.std.proofs.Common.{◌≡◌, [], ◌∷◌, true, false, suc, ap, sy
 use Rattle.std.specs.Prelude.{slice_get, option_copied}
 use Rattle.usb_model.specs.Setup.{endpoints_of}
 use Rattle.std.specs.List.{find}
-use Rattle.proof_design.specs.Shows.{Completes}
-use Rattle.proof_design.specs.Steps.{has_sent}
-use Rattle.proof_core.specs.State.{State}
-use Rattle.proof_core.specs.Deliveries.{SentIs}
-use Rattle.proof_core.proofs.Homes.{endpoints_are, endpoints_none, stands_there}
-use Rattle.proof_core.proofs.Senders.{done, done_at, looked_all, looked_here, looked_on, sender_there, settles_of}
+use Rattle.refine_world.specs.Shows.{Completes}
+use Rattle.refine_world.specs.Steps.{has_sent}
+use Rattle.refine_core.specs.State.{State}
+use Rattle.refine_core.specs.Deliveries.{SentIs}
+use Rattle.refine_core.proofs.Homes.{endpoints_are, endpoints_none, stands_there}
+use Rattle.refine_core.proofs.Senders.{done, done_at, looked_all, looked_here, looked_on, sender_there, settles_of}
 use Rattle.usb_steps.proofs.parts.Parts.sender.Goals as goal
 
 pub returns-in_err-dev : goal.returns-in_err-dev

@@ -2,9 +2,9 @@
 use Rattle.std.specs.Prelude.{◌≡◌, ℕ, suc, List, ◌∷◌}
 use Rattle.usb_model.specs.Setup.{Setup}
 use Rattle.usb_trb.specs.declared.kind.TrbKind.TheVariants.{CommandCompletion}
-use Rattle.proof_design.specs.Shows.{Completes, Core, RingEvent}
-use Rattle.proof_core.specs.Deliveries.{IsTaken}
-use Rattle.proof_core.proofs.Senders.{Looked}
+use Rattle.refine_world.specs.Shows.{Completes, Core, RingEvent}
+use Rattle.refine_core.specs.Deliveries.{IsTaken}
+use Rattle.refine_core.proofs.Senders.{Looked}
 use Rattle.usb_steps.proofs.parts.Parts.sender.Given as goal
 
 abbrev pub invariant-loop-info : goal.invariant-loop-info

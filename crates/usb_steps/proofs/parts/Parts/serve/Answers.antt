@@ -2,13 +2,13 @@
 use Rattle.std.proofs.Common.{Some, None, sym, subst, ◌∙◌}
 use Rattle.usb_model.specs.declared.reply.Reply.TheVariants.{Idle}
 use Rattle.usb_model.specs.declared.step.Step.TheVariants.{Serve}
-use Rattle.proof_core.specs.State.{IsState, State}
-use Rattle.proof_core.specs.Steps.{DoesCoreStep}
-use Rattle.proof_core.specs.Works.{CanServeItem, IsFront, IsHolder}
+use Rattle.refine_core.specs.State.{IsState, State}
+use Rattle.refine_core.specs.Steps.{DoesCoreStep}
+use Rattle.refine_core.specs.Works.{CanServeItem, IsFront, IsHolder}
 use Rattle.usb_steps.proofs.Serves.{can_serve, is_served, nobody, nothing, packet}
 use Rattle.usb_steps.proofs.Views.{parts}
 use Rattle.usb_steps.proofs.Carried.{flights_follow}
-use Rattle.proof_core.proofs.Payloads.{follows_serve}
+use Rattle.refine_core.proofs.Payloads.{follows_serve}
 use Rattle.usb_steps.proofs.parts.Parts.serve.Goals as goal
 
 pub returns-in_default-clause-done : goal.returns-in_default-clause-done

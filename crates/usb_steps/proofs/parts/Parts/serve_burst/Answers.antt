@@ -1,7 +1,7 @@
 -- One packet, or one that moved and more behind it.
 use Rattle.usb_model.specs.declared.step.Step.TheVariants.{Serve}
-use Rattle.proof_core.proofs.Rows.{does_one, row_first}
-use Rattle.proof_core.proofs.Turns.{shows_again}
+use Rattle.refine_core.proofs.Rows.{does_one, row_first}
+use Rattle.refine_core.proofs.Turns.{shows_again}
 use Rattle.usb_steps.specs.Bursts.{whole_entry}
 use Rattle.usb_steps.proofs.parts.Parts.serve_burst.Goals as goal
 

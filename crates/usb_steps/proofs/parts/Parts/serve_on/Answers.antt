@@ -1,8 +1,8 @@
 -- Row by row, as long as all did the same.
 use Rattle.std.proofs.Common.{◌+◌, arith, refl}
 use Rattle.usb_model.specs.declared.step.Step.TheVariants.{Serve}
-use Rattle.proof_core.proofs.Payloads.{still_on}
-use Rattle.proof_core.proofs.Rows.{does_none, row_more, row_on}
+use Rattle.refine_core.proofs.Payloads.{still_on}
+use Rattle.refine_core.proofs.Rows.{does_none, row_more, row_on}
 use Rattle.usb_steps.specs.Bursts.{whole_entry}
 use Rattle.usb_steps.proofs.parts.Parts.serve_on.Goals as goal
 

@@ -1,9 +1,9 @@
 -- So many did the same, and more may be served.
 use Rattle.std.specs.Prelude.{◌-◌, ◌<◌, replicate}
 use Rattle.usb_model.specs.declared.step.Step.TheVariants.{Serve}
-use Rattle.proof_core.specs.Payloads.{StillCarries}
-use Rattle.proof_core.specs.State.{IsState}
-use Rattle.proof_core.specs.Steps.{DoesCoreSteps}
+use Rattle.refine_core.specs.Payloads.{StillCarries}
+use Rattle.refine_core.specs.State.{IsState}
+use Rattle.refine_core.specs.Steps.{DoesCoreSteps}
 use Rattle.usb_steps.specs.Bursts.{whole_entry}
 use Rattle.usb_steps.proofs.parts.Parts.serve_on.Given as goal
 

@@ -1,9 +1,9 @@
 -- Whole packets in a row, and one behind them.
 use Rattle.std.specs.Prelude.{replicate}
 use Rattle.usb_model.specs.declared.step.Step.TheVariants.{Serve}
-use Rattle.proof_core.proofs.Payloads.{still_on}
-use Rattle.proof_core.proofs.Rows.{row_one, shows_behind}
-use Rattle.proof_core.proofs.Turns.{shows_again}
+use Rattle.refine_core.proofs.Payloads.{still_on}
+use Rattle.refine_core.proofs.Rows.{row_one, shows_behind}
+use Rattle.refine_core.proofs.Turns.{shows_again}
 use Rattle.usb_steps.specs.Bursts.{whole_entry}
 use Rattle.usb_steps.proofs.parts.Parts.serve_row.Goals as goal
 

@@ -1,8 +1,8 @@
 use Rattle.std.proofs.Common.{◌∙◌}
 use Rattle.std.specs.Prelude.{◌==◌}
-use Rattle.proof_core.proofs.Settleable.{can_leave, can_settle_left, settle_fits}
-use Rattle.proof_core.proofs.ErrandEnds.{can_settle, settles_event}
-use Rattle.proof_core.proofs.Payloads.{still_on}
+use Rattle.refine_core.proofs.Settleable.{can_leave, can_settle_left, settle_fits}
+use Rattle.refine_core.proofs.ErrandEnds.{can_settle, settles_event}
+use Rattle.refine_core.proofs.Payloads.{still_on}
 use Rattle.usb_steps.proofs.parts.Parts.settle.Goals as goal
 
 pub leave-requires : goal.leave-requires

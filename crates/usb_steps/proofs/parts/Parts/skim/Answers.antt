@@ -2,11 +2,11 @@
 use Rattle.std.proofs.Common.{sym, subst}
 use Rattle.std.specs.Prelude.{replicate}
 use Rattle.usb_model.specs.declared.step.Step.TheVariants.{Serve}
-use Rattle.proof_core.specs.State.{IsState, State}
-use Rattle.proof_core.specs.Steps.{DoesCoreSteps}
-use Rattle.proof_core.specs.Works.{CanSkimItem}
-use Rattle.proof_core.proofs.Payloads.{follows_skim}
-use Rattle.proof_core.proofs.Rows.{does_none}
+use Rattle.refine_core.specs.State.{IsState, State}
+use Rattle.refine_core.specs.Steps.{DoesCoreSteps}
+use Rattle.refine_core.specs.Works.{CanSkimItem}
+use Rattle.refine_core.proofs.Payloads.{follows_skim}
+use Rattle.refine_core.proofs.Rows.{does_none}
 use Rattle.usb_steps.specs.Bursts.{IsWholeAt, whole_entry}
 use Rattle.usb_steps.proofs.Wholes.{can_skim, skimmed}
 use Rattle.usb_steps.proofs.Carried.{flights_follow}

@@ -9,13 +9,13 @@ use Rattle.usb_transfer.specs.Trbs.{normals_of}
 use Rattle.usb_xhc.specs.Host.{with_pushed, with_ring}
 use Rattle.usb_xhc.specs.Controller.{slot_changed}
 use Rattle.usb_xhc.specs.Slots.{changed}
-use Rattle.proof_core.specs.State.{State}
-use Rattle.proof_core.specs.Submissions.{CanStart}
-use Rattle.proof_core.specs.Works.{IsUnstarted, Starts}
-use Rattle.proof_core.proofs.Starts.{starts}
+use Rattle.refine_core.specs.State.{State}
+use Rattle.refine_core.specs.Submissions.{CanStart}
+use Rattle.refine_core.specs.Works.{IsUnstarted, Starts}
+use Rattle.refine_core.proofs.Starts.{starts}
 use Rattle.usb_steps.proofs.Views.{parts}
-use Rattle.proof_core.specs.Payloads.{CarriesMore}
-use Rattle.proof_core.proofs.Payloads.{joins_carried}
+use Rattle.refine_core.specs.Payloads.{CarriesMore}
+use Rattle.refine_core.proofs.Payloads.{joins_carried}
 use Rattle.usb_steps.proofs.parts.Parts.start_into.Goals as goal
 
 pub returns-clause-started : goal.returns-clause-started

@@ -7,10 +7,10 @@ use Rattle.usb_model.specs.declared.step.Step.TheVariants.{Answer}
 use Rattle.usb_model.specs.declared.verdict.Verdict.TheVariants.{Stop}
 use Rattle.usb_tables.specs.Caller.{is_one_of}
 use Rattle.usb_tables.specs.Callers.{callbacks_at}
-use Rattle.proof_core.specs.Handles.{says}
-use Rattle.proof_core.specs.State.{State}
-use Rattle.proof_core.specs.Steps.{DoesCoreStep}
-use Rattle.proof_core.proofs.Stops.{stop_reply, stops}
+use Rattle.refine_core.specs.Handles.{says}
+use Rattle.refine_core.specs.State.{State}
+use Rattle.refine_core.specs.Steps.{DoesCoreStep}
+use Rattle.refine_core.proofs.Stops.{stop_reply, stops}
 use Rattle.usb_steps.proofs.Views.{parts}
 use Rattle.usb_steps.proofs.Carried.{callers_follow}
 use Rattle.usb_steps.proofs.parts.Parts.stop.Goals.{in-Some, in-None}

@@ -1,5 +1,5 @@
 -- The core's step, by what the tests and the start answer.
-use Rattle.proof_core.proofs.Submissions.{submits_new, refuses_new}
+use Rattle.refine_core.proofs.Submissions.{submits_new, refuses_new}
 use Rattle.usb_steps.proofs.Carried.{same_parts}
 use Rattle.usb_steps.proofs.parts.Parts.submit.Goals as goal
 

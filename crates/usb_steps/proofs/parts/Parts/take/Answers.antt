@@ -7,15 +7,15 @@ use Rattle.usb_model.specs.Setup.{endpoint_id}
 use Rattle.usb_tables.specs.Callers.{callback_at, results_at}
 use Rattle.usb_transfer.specs.declared.transfer.Transfer.{Transfer as InFlight}
 use Rattle.usb_tables.specs.Flights.{EndedOf, ended_of}
-use Rattle.proof_core.specs.Calls.{Stays, called_entry, returned_of}
-use Rattle.proof_core.specs.State.{IsState, State, result_of}
-use Rattle.proof_core.specs.Steps.{DoesCoreStep}
-use Rattle.proof_core.proofs.Names.{stays}
-use Rattle.proof_core.proofs.Takes.{calls_by, can_take, takes_first, takes_none}
+use Rattle.refine_core.specs.Calls.{Stays, called_entry, returned_of}
+use Rattle.refine_core.specs.State.{IsState, State, result_of}
+use Rattle.refine_core.specs.Steps.{DoesCoreStep}
+use Rattle.refine_core.proofs.Names.{stays}
+use Rattle.refine_core.proofs.Takes.{calls_by, can_take, takes_first, takes_none}
 use Rattle.usb_steps.proofs.Views.{parts}
 use Rattle.usb_steps.proofs.Carried.{callers_follow, parts_follow}
-use Rattle.proof_core.proofs.Payloads.{follows_take, goes_out}
-use Rattle.proof_core.specs.Payloads.{Carries, StillCarries}
+use Rattle.refine_core.proofs.Payloads.{follows_take, goes_out}
+use Rattle.refine_core.specs.Payloads.{Carries, StillCarries}
 use Rattle.usb_steps.proofs.parts.Parts.take.Goals as goal
 
 -- what holds whatever comes of a call holds where it fails

@@ -9,13 +9,13 @@ use Rattle.usb_model.specs.Setup.{endpoint_id}
 use Rattle.usb_tables.specs.Callers.{results_at}
 use Rattle.usb_transfer.specs.declared.transfer.Transfer.{Transfer as InFlight}
 use Rattle.usb_tables.specs.Flights.{EndedOf, Flights, ended_of}
-use Rattle.proof_core.specs.Calls.{called_entry}
-use Rattle.proof_core.specs.Handles.{says}
-use Rattle.proof_core.specs.Payloads.{Carries}
-use Rattle.proof_core.specs.State.{IsState, State}
-use Rattle.proof_core.specs.Steps.{DoesCoreStep, DoesCoreSteps}
-use Rattle.proof_core.proofs.Payloads.{follows_take, goes_out}
-use Rattle.proof_core.proofs.Takes.{can_take, takes_none}
+use Rattle.refine_core.specs.Calls.{called_entry}
+use Rattle.refine_core.specs.Handles.{says}
+use Rattle.refine_core.specs.Payloads.{Carries}
+use Rattle.refine_core.specs.State.{IsState, State}
+use Rattle.refine_core.specs.Steps.{DoesCoreStep, DoesCoreSteps}
+use Rattle.refine_core.proofs.Payloads.{follows_take, goes_out}
+use Rattle.refine_core.proofs.Takes.{can_take, takes_none}
 use Rattle.usb_steps.proofs.Carried.{parts_follow}
 use Rattle.usb_steps.proofs.TakesDone.{Drops, takes_done}
 use Rattle.usb_steps.specs.Results.{TakesDone}

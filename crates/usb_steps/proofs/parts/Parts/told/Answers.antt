@@ -6,7 +6,7 @@ use Rattle.usb_steps.specs.Reports.{target_of}
 use Rattle.usb_steps.proofs.Readings.{is_told}
 use Rattle.usb_transfer.specs.Tds.{lengths, tds_of}
 use Rattle.usb_tables.specs.Flights.{item_at}
-use Rattle.proof_core.proofs.Reports.{FindsHeld, FindsPlace, at_held, at_place, found_by, no_held}
+use Rattle.refine_core.proofs.Reports.{FindsHeld, FindsPlace, at_held, at_place, found_by, no_held}
 use Rattle.usb_steps.proofs.parts.Parts.told.Goals as goal
 
 pub returns-in_err-at : goal.returns-in_err-at

@@ -1,11 +1,11 @@
 use Rattle.std.proofs.Common.{◌∙◌, subst, subst₂, sym}
 use Rattle.std.proofs.lemmas.Option.{same_Some}
-use Rattle.proof_core.specs.Deliveries.{leaving}
-use Rattle.proof_core.specs.Works.{Finishes, Posts}
-use Rattle.proof_core.proofs.Deliveries.{ends_event}
-use Rattle.proof_core.proofs.Ends.{can_finish, can_post_end, outstanding_is}
-use Rattle.proof_core.proofs.Payloads.{still_on}
-use Rattle.proof_core.specs.Payloads.{StillCarries}
+use Rattle.refine_core.specs.Deliveries.{leaving}
+use Rattle.refine_core.specs.Works.{Finishes, Posts}
+use Rattle.refine_core.proofs.Deliveries.{ends_event}
+use Rattle.refine_core.proofs.Ends.{can_finish, can_post_end, outstanding_is}
+use Rattle.refine_core.proofs.Payloads.{still_on}
+use Rattle.refine_core.specs.Payloads.{StillCarries}
 use Rattle.usb_steps.proofs.Readings.{ends_at}
 use Rattle.usb_steps.proofs.parts.Parts.transfer_ended.Goals.{in-Some, in_default}
 use Rattle.usb_steps.proofs.parts.Parts.transfer_ended.Goals as goal

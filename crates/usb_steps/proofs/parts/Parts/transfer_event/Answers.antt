@@ -1,7 +1,7 @@
 use Rattle.std.proofs.Common.{Some, subst₂, sym, subst}
-use Rattle.proof_design.specs.Steps.{deliver_core}
-use Rattle.proof_core.specs.Steps.{Is}
-use Rattle.proof_core.specs.Payloads.{StillCarries}
+use Rattle.refine_world.specs.Steps.{deliver_core}
+use Rattle.refine_core.specs.Steps.{Is}
+use Rattle.refine_core.specs.Payloads.{StillCarries}
 use Rattle.usb_steps.proofs.Readings.{never_stray, stands_told}
 use Rattle.usb_steps.proofs.parts.Parts.transfer_event.Goals.{in-Ended, in-Paused}
 use Rattle.usb_steps.proofs.parts.Parts.transfer_event.Goals as goal

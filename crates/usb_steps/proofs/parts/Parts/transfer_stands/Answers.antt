@@ -1,6 +1,6 @@
-use Rattle.proof_core.proofs.Deliveries.{is_live, pauses_by, pauses_event}
+use Rattle.refine_core.proofs.Deliveries.{is_live, pauses_by, pauses_event}
 use Rattle.usb_steps.proofs.Carried.{flights_follow}
-use Rattle.proof_core.proofs.Payloads.{follows_pause}
+use Rattle.refine_core.proofs.Payloads.{follows_pause}
 use Rattle.usb_steps.proofs.Readings.{stands_at}
 use Rattle.usb_model.specs.Completion.{stopped}
 use Rattle.std.proofs.Common.{refl}

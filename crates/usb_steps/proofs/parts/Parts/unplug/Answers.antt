@@ -1,4 +1,4 @@
-use Rattle.proof_core.proofs.Unplugs.{unplugs_gone, unplugs_none, unplugs_now}
+use Rattle.refine_core.proofs.Unplugs.{unplugs_gone, unplugs_none, unplugs_now}
 use Rattle.usb_steps.proofs.parts.Parts.unplug.Goals as goal
 
 pub returns-then-not-is_device-clause-done : goal.returns-then-not-is_device-clause-done

@@ -1,6 +1,6 @@
-use Rattle.proof_core.proofs.Settleable.{can_settle_on, can_withdraw, withdraws_by}
+use Rattle.refine_core.proofs.Settleable.{can_settle_on, can_withdraw, withdraws_by}
 use Rattle.usb_steps.proofs.Carried.{live_asked, live_seen, parts_follow}
-use Rattle.proof_core.proofs.Payloads.{follows_end}
+use Rattle.refine_core.proofs.Payloads.{follows_end}
 use Rattle.usb_tables.specs.Flights.{item_at}
 use Rattle.usb_steps.proofs.parts.Parts.withdraw.Goals as goal
 

@@ -1,11 +1,11 @@
 use Rattle.std.proofs.Common.{sym, subst, subst₂, ◌∙◌, ap, ◌≡◌, ◌+◌, length, suc, arith}
 use Rattle.std.proofs.lemmas.Option.{same_Some}
 use Rattle.usb_tables.specs.Flights.{line_at}
-use Rattle.proof_core.specs.Payloads.{StillCarries}
-use Rattle.proof_core.specs.Deliveries.{CanSettle, WithdrawsTo}
-use Rattle.proof_core.specs.Works.{Withdraws}
-use Rattle.proof_core.proofs.Payloads.{still_on}
-use Rattle.proof_core.proofs.Withdrawals.{withdraws_all, withdraws_next, withdraws_none}
+use Rattle.refine_core.specs.Payloads.{StillCarries}
+use Rattle.refine_core.specs.Deliveries.{CanSettle, WithdrawsTo}
+use Rattle.refine_core.specs.Works.{Withdraws}
+use Rattle.refine_core.proofs.Payloads.{still_on}
+use Rattle.refine_core.proofs.Withdrawals.{withdraws_all, withdraws_next, withdraws_none}
 use Rattle.usb_steps.proofs.parts.Parts.withdraw_asked.Goals.{in-Some, in_default}
 use Rattle.usb_steps.proofs.parts.Parts.withdraw_asked.Goals as goal
 

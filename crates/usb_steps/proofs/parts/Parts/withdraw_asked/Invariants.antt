@@ -1,6 +1,6 @@
 -- The items before are withdrawn, where they were asked to end, and what is kept with transfers stays with them.
-use Rattle.proof_core.specs.Payloads.{StillCarries}
-use Rattle.proof_core.specs.Deliveries.{CanSettle, WithdrawsTo}
+use Rattle.refine_core.specs.Payloads.{StillCarries}
+use Rattle.refine_core.specs.Deliveries.{CanSettle, WithdrawsTo}
 use Rattle.usb_steps.proofs.parts.Parts.withdraw_asked.Given as goal
 
 abbrev pub invariant-loop-item : goal.invariant-loop-item

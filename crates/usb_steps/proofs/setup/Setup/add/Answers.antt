@@ -1,8 +1,8 @@
 -- A device joins behind the others.
 use Rattle.std.proofs.Common.{◌++◌, ◌∷◌, ◌∙◌, [], List, ap, sym, subst, arith, map, length}
 use Rattle.usb_model.specs.declared.setup.Configuration.{Configuration}
-use Rattle.proof_core.specs.Made.{AreReady, Devices, setup_from, setup_of}
-use Rattle.proof_core.proofs.Made.{ready_added}
+use Rattle.refine_core.specs.Made.{AreReady, Devices, setup_from, setup_of}
+use Rattle.refine_core.proofs.Made.{ready_added}
 use Rattle.usb_steps.proofs.setup.Setup.add.Goals as goal
 
 pub invariant_of-self : goal.invariant_of-self

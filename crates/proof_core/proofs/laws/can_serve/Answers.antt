@@ -1,5 +1,0 @@
-use Rattle.proof_core.proofs.Fronts.{serves_safely}
-use Rattle.proof_core.proofs.laws.can_serve.Goals as goal
-
-pub returns : goal.returns
-returns g c = serves_safely

@@ -1,5 +1,0 @@
-use Rattle.proof_core.proofs.Feeds.{feeds}
-use Rattle.proof_core.proofs.laws.feeds.Goals as goal
-
-pub returns : goal.returns
-returns g c = feeds

@@ -1,5 +1,0 @@
-use Rattle.proof_core.proofs.Feeds.{feedable}
-use Rattle.proof_core.proofs.laws.feeds_feedable.Goals as goal
-
-pub returns : goal.returns
-returns g c = feedable

@@ -1,5 +1,0 @@
-use Rattle.proof_core.proofs.Rows.{does_on}
-use Rattle.proof_core.proofs.laws.joins.Goals as goal
-
-pub returns : goal.returns
-returns g c = does_on

@@ -1,5 +1,0 @@
-use Rattle.proof_core.proofs.Leaves.{leaves}
-use Rattle.proof_core.proofs.laws.leaves.Goals as goal
-
-pub returns : goal.returns
-returns g c = leaves

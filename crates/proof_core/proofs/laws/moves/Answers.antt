@@ -1,5 +1,0 @@
-use Rattle.proof_core.proofs.Serves.{moves}
-use Rattle.proof_core.proofs.laws.moves.Goals as goal
-
-pub returns : goal.returns
-returns g c = moves

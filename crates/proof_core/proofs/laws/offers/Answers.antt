@@ -1,5 +1,0 @@
-use Rattle.proof_core.proofs.Offers.{offers}
-use Rattle.proof_core.proofs.laws.offers.Goals as goal
-
-pub returns : goal.returns
-returns g c = offers

@@ -1,5 +1,0 @@
-use Rattle.proof_core.proofs.Leaves.{withdraws}
-use Rattle.proof_core.proofs.laws.withdraws.Goals as goal
-
-pub returns : goal.returns
-returns g c = withdraws

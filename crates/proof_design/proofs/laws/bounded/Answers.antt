@@ -1,5 +1,0 @@
-use Rattle.proof_design.proofs.Bounds.{few_everywhere}
-use Rattle.proof_design.proofs.laws.bounded.Goals as goal
-
-pub returns : goal.returns
-returns c = λ setup fine w c s. few_everywhere setup w c s fine

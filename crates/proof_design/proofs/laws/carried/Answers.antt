@@ -1,6 +1,0 @@
-use Rattle.proof_design.proofs.Commands.{command_shows}
-use Rattle.proof_design.proofs.Tells.{pause_told_if_open}
-use Rattle.proof_design.proofs.laws.carried.Goals as goal
-
-pub returns : goal.returns
-returns c = λ size ep e o os ns b w sent told some c orderly s. command_shows size ep e o os ns b w sent told c orderly (pause_told_if_open size e some orderly.opens) s

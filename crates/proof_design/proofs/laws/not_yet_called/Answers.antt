@@ -1,5 +1,0 @@
-use Rattle.proof_design.proofs.Numbers.{not_yet_called}
-use Rattle.proof_design.proofs.laws.not_yet_called.Goals as goal
-
-pub returns : goal.returns
-returns c = λ setup fine. not_yet_called setup

@@ -1,6 +1,0 @@
-use Rattle.proof_design.proofs.Serves.{serve_shows}
-use Rattle.proof_design.proofs.Tells.{packet_told}
-use Rattle.proof_design.proofs.laws.served.Goals as goal
-
-pub returns : goal.returns
-returns c = λ size inward gone e os ns b sent told some c w bodies kinds s. serve_shows size gone e os ns b sent told c s w.behind (packet_told size inward e b some w.opens w.stalls s.device_halted bodies kinds)

@@ -1,0 +1,5 @@
+use Rattle.usb_design.proofs.Stands.{read_back}
+use Rattle.refine_world.proofs.laws.reads_back.Goals as goal
+
+pub returns : goal.returns
+returns c = read_back

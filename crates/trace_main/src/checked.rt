@@ -1,0 +1,86 @@
+//! What is wrong with a scenario, line by line, and what its run refuses.
+
+ghost use Rattle.std.specs.Prelude.{◌≡◌, ◌++◌, ◌≤◌, [], IfOk, length, map};
+ghost use Rattle.trace_explain.specs.Explained.{explained_text};
+ghost use Rattle.trace_explain.specs.declared.telling.Telling.TheVariants.{Refusals};
+ghost use Rattle.trace_io.specs.Input.{longest_input};
+ghost use Rattle.trace_io.specs.Output.{counts_line};
+ghost use Rattle.trace_io.specs.declared.words.Task.TheVariants.{Check};
+ghost use Rattle.trace_scenario.specs.Counts.{counts_of};
+ghost use Rattle.trace_scenario.specs.Findings.{bad_lines, good_lines};
+ghost use Rattle.trace_scenario.specs.StepLines.{numbered};
+ghost use Rattle.trace_main.specs.Program.{Begins, Performs};
+
+use crate::told::write_all;
+use std::alloc::{AllocError, Global};
+use std::io::Write;
+use trace_explain::{Telling, explained_run};
+use trace_io::Fault;
+use trace_io::print::print_findings;
+use trace_run::Ending;
+use trace_scenario::{Counts, Lined, NumberedLine, Scenario, check, into_setups, read_lined};
+
+/// Checks a text: prints its bad lines, and how much the good ones say; and of a text without a bad line which lines its run refuses, and why.
+pub(crate) fn report<W: Write>(alloc: Global, text: &[u8], out: &mut W) -> Result<Ending, Fault>
+    requires { length text.now ≤ longest_input }
+    ensures ends { Performs Check text.now [] (W.contents out.old) (W.contents out.new) result }
+    ensures begun { Begins Check text.now (W.contents out.old) (W.contents out.new) }
+{
+    let Ok(findings) = check(alloc, text) else {
+        return Err(Fault::Memory);
+    };
+    if findings.bad.is_empty() {
+        return report_good(alloc, text, &findings.counts, out);
+    }
+    print_findings(alloc, out, &findings)?;
+    Ok(Ending::BadLines)
+}
+
+/// How much a scenario says, and which lines its run refuses. An error where memory is refused.
+fn said(
+    alloc: Global,
+    counts: &Counts,
+    scenario: Scenario,
+    lines: &[NumberedLine<'_>],
+) -> Result<Vec<u8>, AllocError>
+    requires each { length lines.now ≡ length scenario.plan }
+    ensures text { IfOk result (λ text. text.items ≡ counts_line counts.now ++ explained_text Refusals scenario.setup scenario.plan scenario.rules (map numbered lines.now)) }
+{
+    let Scenario { setup, plan, rules } = scenario;
+    let setup = into_setups(alloc, setup)?;
+    let (plan, rules) = (plan.as_slice(), rules.as_slice());
+    let refused = explained_run(alloc, Telling::Refusals, &setup, plan, rules, lines)?;
+    let mut text = Vec::new(alloc);
+    let front = format!(in alloc; "{counts}\n")?;
+    text.extend_from_slice(front.as_bytes())?;
+    text.extend_from_slice(refused.as_slice())?;
+    Ok(text)
+}
+
+/// Prints how much the scenario of a text without a bad line says, and which lines its run refuses.
+fn report_good<W: Write>(
+    alloc: Global,
+    text: &[u8],
+    counts: &Counts,
+    out: &mut W,
+) -> Result<Ending, Fault>
+    requires short { length text.now ≤ longest_input }
+    requires good { bad_lines text.now ≡ [] }
+    requires counts { counts.now ≡ counts_of (good_lines text.now) }
+    ensures ends { Performs Check text.now [] (W.contents out.old) (W.contents out.new) result }
+    ensures begun { Begins Check text.now (W.contents out.old) (W.contents out.new) }
+{
+    let Ok(
+        Lined {
+            scenario,
+            lines,
+            ..
+        },
+    ) = read_lined(alloc, text)
+    else {
+        return Err(Fault::Memory);
+    };
+    let said = said(alloc, counts, scenario, lines.as_slice())?;
+    write_all(out, said.as_slice())?;
+    Ok(Ending::Good)
+}

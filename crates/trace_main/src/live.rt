@@ -1,0 +1,84 @@
+//! A scenario that is run in threads.
+
+ghost use Rattle.std.specs.Prelude.{◌≡◌, ◌≢◌, ◌≤◌, [], IfErr, IfOk, Ok, OnOk, length};
+ghost use Rattle.trace_io.specs.Input.{longest_input};
+ghost use Rattle.trace_scenario.specs.Runnable.{IsRunnable};
+ghost use Rattle.std.specs.Io.KnownBytes.{Keeps};
+ghost use Rattle.trace_io.specs.declared.fault.Fault.TheVariants.{Rounds};
+ghost use Rattle.trace_io.specs.declared.words.Task.TheVariants.{Live};
+ghost use Rattle.trace_main.specs.Lived.{AppendsCallbacks, AppendsSomeCallbacks, IsOfLive};
+ghost use Rattle.trace_main.specs.Program.{Begins, IsAlone, IsSilentAtBad, Performs};
+ghost use Rattle.trace_run.specs.declared.tasks.Ending.TheVariants.{BadLines, NoDevices};
+
+use crate::lived::read_lived;
+use std::alloc::Global;
+use std::io::Write;
+use std::sync::Wait;
+use std::thread::Threads;
+use trace_io::Fault;
+use trace_io::print::print;
+use trace_live::{Performance, perform};
+use trace_run::{Ending, devices_of};
+use trace_scenario::Scenario;
+use usb_left::lines_of;
+
+/// Runs a scenario in threads, and prints what its callbacks were told, by handle and number; nothing where more than so many are
+/// called. The notes are then the lines of what handles hadn't finished.
+fn live_scenario<T: Threads + Wait + Sync, W: Write>(
+    rt: &T,
+    alloc: Global,
+    scenario: Scenario,
+    rounds: u64,
+    out: &mut W,
+    notes: &mut Vec<u8>,
+) -> Result<Ending, Fault>
+    requires runnable { IsRunnable scenario }
+    requires none { notes.old.items ≡ [] }
+    ensures lines { OnOk result (AppendsCallbacks scenario notes.new.items (W.contents out.old) (W.contents out.new)) }
+    ensures begun { AppendsSomeCallbacks scenario (W.contents out.old) (W.contents out.new) }
+    ensures good { IfOk result (λ ending. ending ≡ Ending.Good) }
+    ensures fault { IfErr result (IsOfLive scenario rounds notes.new.items) }
+    ensures alone { IfErr result (IsAlone notes.new.items) }
+    ensures silent { IfErr result (λ fault. fault ≡ Rounds rounds → Keeps (W.contents out.old) (W.contents out.new)) }
+{
+    let Scenario { setup, plan, rules } = scenario;
+    let devices = devices_of(alloc, setup)?;
+    let Performance { told, unfinished } = perform(
+        rt,
+        alloc,
+        devices,
+        plan,
+        rules.as_slice(),
+        rounds,
+    )?;
+    let unfinished = lines_of(alloc, unfinished.as_slice())?;
+    if told.len() as u64 > rounds {
+        *notes = unfinished;
+        return Err(Fault::Rounds(rounds));
+    }
+    print(alloc, out, told.as_slice())?;
+    *notes = unfinished;
+    Ok(Ending::Good)
+}
+
+/// Runs the scenario of a text in threads, and prints what its callbacks were told, by handle and number; nothing where a
+/// line is bad, or more than so many are called. The notes are then the lines of what handles hadn't finished.
+pub(crate) fn live<T: Threads + Wait + Sync, W: Write>(
+    rt: &T,
+    alloc: Global,
+    text: &[u8],
+    rounds: u64,
+    out: &mut W,
+    notes: &mut Vec<u8>,
+) -> Result<Ending, Fault>
+    requires short { length text.now ≤ longest_input }
+    requires none { notes.old.items ≡ [] }
+    ensures ends { Performs (Live rounds) text.now notes.new.items (W.contents out.old) (W.contents out.new) result }
+    ensures alone { IfErr result (IsAlone notes.new.items) }
+    ensures good { result ≢ Ok BadLines }
+    ensures kept { result ≢ Ok NoDevices }
+    ensures silent { IsSilentAtBad text.now (W.contents out.old) (W.contents out.new) }
+    ensures begun { Begins (Live rounds) text.now (W.contents out.old) (W.contents out.new) }
+{
+    live_scenario(rt, alloc, read_lived(alloc, text)?, rounds, out, notes)
+}

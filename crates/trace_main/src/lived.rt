@@ -1,0 +1,64 @@
+//! The scenario of a text that is run in threads.
+
+ghost use Rattle.std.specs.Prelude.{◌≡◌, ◌==◌, IfOk, Some};
+ghost use Rattle.std.specs.List.{slice_split};
+ghost use Rattle.trace_scenario.specs.Line.{line_of_text};
+ghost use Rattle.trace_scenario.specs.TextResults.{AnswersAs};
+ghost use Rattle.trace_scenario.specs.Runnable.{IsRunnable};
+ghost use Rattle.trace_main.specs.Lived.{first_unlived, is_unlived, lived_of};
+
+use std::alloc::{AllocError, Global};
+use trace_scenario::{Line, LineFault, Scenario, TextFault, read_scenario};
+use usb_model::{Plan, Step};
+
+/// Whether what a line says is what no handle's thread does: the end of a transfer's time, or of a device.
+fn is_unlived(line: &Line) -> bool
+    ensures { result ≡ is_unlived (Some line.now) }
+{
+    matches!(
+        line,
+        Line::Piece(Plan::Do(Step::Expire { .. } | Step::Unplug { .. }))
+    )
+}
+
+/// The same of a line's text. An error where memory is refused.
+fn says_unlived(alloc: Global, text: &[u8]) -> Result<bool, AllocError>
+    ensures { IfOk result (λ says. says ≡ is_unlived (line_of_text text.now)) }
+{
+    match Line::from_text(alloc, text) {
+        Ok(line) => Ok(is_unlived(&line)),
+        Err(LineFault::Bad(_)) => Ok(false),
+        Err(LineFault::Memory) => Err(AllocError),
+    }
+}
+
+/// The number of the first such line, from 1 on.
+fn first_unlived(alloc: Global, text: &[u8]) -> Result<Option<u64>, AllocError>
+    ensures { IfOk result (λ found. found ≡ first_unlived 1 (slice_split (λ b. b == 10) text.now)) }
+{
+    let mut at: u64 = 0;
+    for line in text.split(|byte| *byte == b'\n') {
+        at = at.saturating_add(1);
+        if says_unlived(alloc, line)? {
+            return Ok(Some(at));
+        }
+    }
+    Ok(None)
+}
+
+/// The scenario of a text, or the number of its first line that isn't taken, or asks for what no handle's thread does.
+/// What it gives can be run.
+pub(crate) fn read_lived(alloc: Global, text: &[u8]) -> Result<Scenario, TextFault>
+    ensures scenario { AnswersAs result (lived_of text.now) }
+    ensures runnable { IfOk result (λ s. IsRunnable s) }
+{
+    let Ok(unlived) = first_unlived(alloc, text) else {
+        return Err(TextFault::Memory);
+    };
+    match (unlived, read_scenario(alloc, text)) {
+        (None, read) => read,
+        (Some(at), Ok(_)) => Err(TextFault::Line(at)),
+        (Some(at), Err(TextFault::Line(line))) => Err(TextFault::Line(line.min(at))),
+        (Some(_), Err(TextFault::Memory)) => Err(TextFault::Memory),
+    }
+}

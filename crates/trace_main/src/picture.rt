@@ -1,0 +1,37 @@
+//! A scenario's run as a picture, or as a page with one.
+
+ghost use Rattle.std.specs.Prelude.{◌≡◌, ◌≤◌, [], length};
+ghost use Rattle.trace_io.specs.Input.{longest_input};
+ghost use Rattle.trace_io.specs.declared.words.Task.TheVariants.{Draw, Page};
+ghost use Rattle.trace_main.specs.Program.{Begins, IsSilentAtBad, Performs};
+
+use std::alloc::Global;
+use std::io::Write;
+use trace_io::Fault;
+use trace_picture::Form;
+use trace_run::{Ending, draw_run};
+use trace_scenario::{Lined, read_lined};
+
+/// Prints a picture of the run of a text's scenario, or a page with one.
+pub(crate) fn drawn<W: Write>(
+    alloc: Global,
+    text: &[u8],
+    form: Form,
+    from: u64,
+    to: u64,
+    out: &mut W,
+) -> Result<Ending, Fault>
+    requires { length text.now ≤ longest_input }
+    ensures picture { Performs (Draw from to) text.now [] (W.contents out.old) (W.contents out.new) result }
+    ensures page { Performs (Page from to) text.now [] (W.contents out.old) (W.contents out.new) result }
+    ensures silent { IsSilentAtBad text.now (W.contents out.old) (W.contents out.new) }
+    ensures begun { Begins (Draw from to) text.now (W.contents out.old) (W.contents out.new) }
+    ensures begun_page { Begins (Page from to) text.now (W.contents out.old) (W.contents out.new) }
+{
+    let Lined {
+        scenario,
+        lines,
+        ..
+    } = read_lined(alloc, text)?;
+    draw_run(alloc, scenario, lines.as_slice(), from, to, form, out)
+}

@@ -1,8 +1,0 @@
-use Rattle.std.proofs.Common.{◌≡◌, take, Some}
-use Rattle.trace_scenario.specs.Words.{words_of}
-use Rattle.trace_scenario.specs.Line.{each_of}
-use Rattle.usb_desk.specs.Answer.{answer_of}
-use Rattle.usb_desk.proofs.answer.each_answer.Given as goal
-
-abbrev pub invariant-loop-word : goal.invariant-loop-word
-invariant-loop-word l = each_of (answer_of l.kind) (take l.word-index (words_of l.words)) ≡ Some l.answers.items

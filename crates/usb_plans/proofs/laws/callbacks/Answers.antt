@@ -1,0 +1,13 @@
+use Rattle.usb_plans.proofs.Calls.{calls_once}
+use Rattle.usb_plans.proofs.Given.{calls_after_number}
+use Rattle.usb_plans.proofs.Order.{calls_in_order}
+use Rattle.usb_plans.proofs.laws.callbacks.Goals as goal
+
+pub returns-clause-once : goal.returns-clause-once
+returns-clause-once c = calls_once
+
+pub returns-clause-after : goal.returns-clause-after
+returns-clause-after c = calls_after_number
+
+pub returns-clause-order : goal.returns-clause-order
+returns-clause-order c = calls_in_order

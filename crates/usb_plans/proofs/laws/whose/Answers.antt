@@ -1,0 +1,11 @@
+use Rattle.usb_plans.proofs.Owners.{names_owner, names_nobody, idles_for_nobody}
+use Rattle.usb_plans.proofs.laws.whose.Goals as goal
+
+pub returns-clause-owner : goal.returns-clause-owner
+returns-clause-owner c = names_owner
+
+pub returns-clause-nobody : goal.returns-clause-nobody
+returns-clause-nobody c = names_nobody
+
+pub returns-clause-idle : goal.returns-clause-idle
+returns-clause-idle c = idles_for_nobody

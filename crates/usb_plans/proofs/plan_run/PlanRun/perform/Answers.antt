@@ -1,0 +1,23 @@
+use Rattle.std.proofs.Common.{sym, ap, ◌∙◌}
+use Rattle.usb_plans.specs.PlanRuns.{is_verdict}
+use Rattle.usb_plans.proofs.ToldVerdicts.{calls_none, step_result}
+use Rattle.usb_plans.proofs.plan_run.PlanRun.perform.Goals as goal
+
+pub returns-in-Do-clause-performs : goal.returns-in-Do-clause-performs
+returns-in-Do-clause-performs g c = rw c.in-Do.is
+    (step_result g.C.Callback.rule c.args.self.now c.make.new.self c.in-Do.step c.args.callback c.make.result (ap is_verdict (sym c.in-Do.is) ∙ c.requires.no_verdict) c.make.ensures.made c.make.ensures.once)
+
+pub returns-in-Do-clause-called : goal.returns-in-Do-clause-called
+returns-in-Do-clause-called g c = rw c.in-Do.is (calls_none c.make.result)
+
+pub returns-in-Do-clause-out : goal.returns-in-Do-clause-out
+returns-in-Do-clause-out g c = rw c.in-Do.is c.make.ensures.out
+
+pub returns-in-Return-clause-performs : goal.returns-in-Return-clause-performs
+returns-in-Return-clause-performs g c = rw c.in-Return.is c.return_callback.ensures.performs
+
+pub returns-in-Return-clause-called : goal.returns-in-Return-clause-called
+returns-in-Return-clause-called g c = rw c.in-Return.is c.return_callback.ensures.called
+
+pub returns-in-Return-clause-out : goal.returns-in-Return-clause-out
+returns-in-Return-clause-out g c = rw c.in-Return.is c.return_callback.ensures.out

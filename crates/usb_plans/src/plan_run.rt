@@ -1,0 +1,217 @@
+//! Pieces of plans, performed over the core: steps are made, and callbacks that return are called.
+
+ghost use Rattle.std.specs.Prelude.{◌≡◌, true, false, List, None, Some, IfOk, is_some, if◌then◌else◌};
+ghost use Rattle.usb_callback.specs.Callbacks.{Fits};
+ghost use Rattle.usb_model.specs.declared.step.Step.TheVariants.{Answer};
+ghost use Rattle.usb_model.specs.declared.plan.Plan.TheVariants.{Return};
+ghost use Rattle.usb_model.specs.declared.verdict.Rule.{Rule};
+ghost use Rattle.usb_model.specs.Numbers.{takes_payload};
+ghost use Rattle.usb_model.specs.World.Plans.{first_stage, is_submission};
+ghost use Rattle.usb_core.specs.Public.{setup_of};
+ghost use Rattle.usb_plans.specs.Returns.{is_answer};
+ghost use Rattle.usb_plans.specs.PlanRuns.{Calls, CallsThere, MakesAnswer, MakesStep, Performs, Returns, RunBehind, RunBehindReturn, RunBehindStep, RunsToo, ShowsStage, entries_of, is_verdict};
+
+use crate::running_callbacks::RunningCallbacks;
+use std::alloc::{AllocError, Global};
+use std::marker::Model;
+use usb_callback::Callback;
+use usb_core::{Core, Setup, Stepped, Taken};
+use usb_device::Device;
+use usb_model::{Entry, Name, Plan, Reply, Returned, Step, Verdict};
+
+/// What came of a piece of a plan.
+#[derive(Drop)]
+pub struct Performed<C> {
+    /// The entry of its step.
+    pub entry: Entry,
+    /// Of a return whose resubmission was refused, the entry of the Stop behind it; None where there is none.
+    pub stop: Option<Entry>,
+    /// The callback that was given with the piece; None where a transfer was submitted with it.
+    pub back: Option<C>,
+}
+
+/// A run amid a plan: the core, and the callbacks that came out with their transfers and whose verdicts aren't made yet.
+/// Contracts see both, and say of it which stage of a plan it shows (`ShowsStage`). Where memory is refused it is to be
+/// dropped: what it shows then isn't said.
+#[derive(Drop)]
+pub struct PlanRun<C: Callback, D: Device> {
+    pub(crate) core: Core<C, D>,
+    running: RunningCallbacks<C>,
+    alloc: Global,
+}
+
+impl<C: Callback, D: Device> Model for PlanRun<C, D> {
+    ghost use Rattle.usb_plans.specs.PlanRuns.{PlanState};
+
+    ghost Value = { PlanState C };
+
+    ghost view = { λ r. record { core = r.core; running = r.running } };
+}
+
+/// A copy of what a callback is told.
+fn copied(returned: &Returned) -> Result<Returned, AllocError>
+    ensures { IfOk result (λ copy. copy ≡ returned.now) }
+{
+    Ok(Returned {
+        h: returned.h,
+        n: returned.n,
+        ep: returned.ep,
+        round: returned.round,
+        status: returned.status,
+        actual: returned.actual,
+        bytes: returned.bytes.clone()?,
+    })
+}
+
+/// A copy of a piece of a plan, which can be performed where the piece itself is still needed.
+pub fn copy_of(piece: &Plan) -> Result<Plan, AllocError>
+    ensures { IfOk result (λ copy. copy ≡ piece.now) }
+{
+    match piece {
+        Plan::Do(step) => Ok(Plan::Do(step.clone()?)),
+        Plan::Return { h, n } => Ok(Plan::Return { h: *h, n: *n }),
+    }
+}
+
+/// Whether a callback has to be told that it ends all the same: its resubmission was refused.
+fn needs_stop(stops: bool, refused: bool) -> bool
+    ensures { result ≡ (if stops then false else refused) }
+{
+    !stops && refused
+}
+
+impl<C: Callback, D: Device> PlanRun<C, D> {
+    /// No name has a device open, and no callback runs.
+    pub fn new(alloc: Global, setup: Setup<D>) -> Result<PlanRun<C, D>, AllocError>
+        ensures { IfOk result (λ r. (rules : List Rule) → ShowsStage C.rule (setup_of setup) r (first_stage (setup_of setup) rules)) }
+    {
+        Ok(PlanRun {
+            core: Core::new(alloc, setup)?,
+            running: RunningCallbacks::new(alloc)?,
+            alloc,
+        })
+    }
+
+    /// Performs a piece of a plan. A step is made: with its callback, where it submits. A return calls the very callback
+    /// that came out with its transfer, with the result that came out, and makes the Answer of the verdict that it gives;
+    /// where a resubmission is refused its callback ends by a Stop, with an entry of its own, and is dropped. A return of a
+    /// number that isn't out is refused NotFound.
+    pub fn perform(&mut self, piece: Plan, callback: Option<C>) -> Result<Performed<C>, AllocError>
+        requires submits { is_submission piece ≡ true → is_some callback ≡ true }
+        requires no_verdict { is_verdict piece ≡ false }
+        ensures performs { IfOk result (λ x. Performs C.rule self.old piece callback (entries_of x) self.new) }
+        ensures called { IfOk result (λ x. Calls C.rule C.may_answer self.old piece (entries_of x)) }
+        ensures out { IfOk result (λ x. RunBehind piece x.entry.reply self.old self.new) }
+    {
+        match piece {
+            Plan::Do(step) => self.make(step, callback),
+            Plan::Return { h, n } => self.return_callback(h, n, callback),
+        }
+    }
+
+    /// Makes a step that is no verdict. A callback that comes out with its transfer runs from then on.
+    fn make(&mut self, step: Step, callback: Option<C>) -> Result<Performed<C>, AllocError>
+        requires submits { takes_payload step ≡ true → is_some callback ≡ true }
+        requires no_verdict { is_answer step ≡ false }
+        ensures made { IfOk result (λ x. MakesStep C.rule self.old step callback x.entry self.new) }
+        ensures once { IfOk result (λ x. x.stop ≡ None) }
+        ensures out { IfOk result (λ x. RunBehindStep x.entry.reply self.old self.new) }
+    {
+        let Ok(Stepped { entry, out, back }) = self.core.step(step, callback) else {
+            return Err(AllocError);
+        };
+        self.keep(&entry, out)?;
+        Ok(Performed {
+            entry,
+            stop: None,
+            back,
+        })
+    }
+
+    /// A callback that came out with its transfer runs.
+    fn keep(&mut self, entry: &Entry, out: Option<C>) -> Result<(), AllocError>
+        ensures core { IfOk result (λ _. self.new.core ≡ self.old.core) }
+        ensures runs { IfOk result (λ _. RunsToo entry.now.reply out self.old.running self.new.running) }
+    {
+        let Some(payload) = out else {
+            return Ok(());
+        };
+        match &entry.reply {
+            Reply::Called(returned) => {
+                let taken = Taken {
+                    returned: copied(returned)?,
+                    payload,
+                };
+                self.running.put(returned.h, taken)
+            }
+            _ => Ok(()),
+        }
+    }
+
+    /// Makes the verdict of a callback that was called.
+    fn answer(
+        &mut self,
+        h: Name,
+        n: u64,
+        verdict: Verdict,
+        callback: Option<C>,
+    ) -> Result<Entry, AllocError>
+        requires { takes_payload (Answer h n verdict) ≡ true → is_some callback ≡ true }
+        ensures made { IfOk result (λ entry. MakesAnswer C.rule self.old h n (Answer h n verdict) callback entry self.new) }
+        ensures same { IfOk result (λ _. self.new.running ≡ self.old.running) }
+    {
+        match self.core.step(Step::Answer { h, n, verdict }, callback) {
+            Ok(stepped) => Ok(stepped.entry),
+            Err(_) => Err(AllocError),
+        }
+    }
+
+    /// A callback returns.
+    fn return_callback(
+        &mut self,
+        h: Name,
+        n: u64,
+        callback: Option<C>,
+    ) -> Result<Performed<C>, AllocError>
+        ensures performs { IfOk result (λ x. Performs C.rule self.old (Return h n) callback (entries_of x) self.new) }
+        ensures called { IfOk result (λ x. CallsThere C.rule C.may_answer self.old h n (entries_of x)) }
+        ensures out { IfOk result (λ _. RunBehindReturn h n self.old self.new) }
+    {
+        match self.running.remove(h, n) {
+            None => Ok(Performed {
+                entry: self.answer(h, n, Verdict::Stop, None)?,
+                stop: None,
+                back: callback,
+            }),
+            Some(taken) => self.call_back(h, n, taken, callback),
+        }
+    }
+
+    /// Calls a callback, and makes its verdict; where that submits once more and is refused, it is to stop.
+    fn call_back(
+        &mut self,
+        h: Name,
+        n: u64,
+        taken: Taken<C>,
+        callback: Option<C>,
+    ) -> Result<Performed<C>, AllocError>
+        ensures { IfOk result (λ x. Returns C.rule C.may_answer self.old h n taken (entries_of x) self.new) }
+    {
+        let (verdict, again) = taken.payload.call(taken.returned);
+        let stops = verdict.is_stop();
+        let entry = self.answer(h, n, verdict, again)?;
+        if !needs_stop(stops, entry.reply.is_other_refusal()) {
+            return Ok(Performed {
+                entry,
+                stop: None,
+                back: callback,
+            });
+        }
+        let stop = self.answer(h, n, Verdict::Stop, None)?;
+        Ok(Performed {
+            entry,
+            stop: Some(stop),
+            back: callback,
+        })
+    }
+}
