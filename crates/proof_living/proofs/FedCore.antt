@@ -12,7 +12,7 @@ use Rattle.usb_model.specs.Endpoint.{first_waiting, outcome_of}
 use Rattle.usb_model.specs.Endpoint.Packets.{IsOpenAt, open_with, outcome}
 use Rattle.usb_model.specs.World.{World, Claims, new_world, holder, is_its, machine_of, world_from}
 use Rattle.proof_lemmas.proofs.Lists.Pieces.{same_name}
-use Rattle.usb_design.specs.Kept.{KeptEndpoint}
+use Rattle.usb_model.specs.Kept.{KeptEndpoint}
 use Rattle.refine_world.specs.Lively.{IsFine, IsLively}
 use Rattle.refine_world.specs.ShownEndpoint.{ShowsDevice, ShowsEnd}
 use Rattle.refine_world.specs.Shows.{Core, Shows, At, AllHeld, errands, events, tellings, at}

@@ -8,8 +8,8 @@ use Rattle.usb_model.specs.declared.reply.Reply.{Reply}
 use Rattle.usb_model.specs.declared.result.TransferResult.{TransferResult}
 use Rattle.usb_model.specs.declared.step.Step.{Step}
 use Rattle.usb_model.specs.Setup.{Setup}
-use Rattle.usb_design.specs.Kept.{KeptEndpoint}
-use Rattle.usb_design.specs.Events.{posts}
+use Rattle.usb_model.specs.Kept.{KeptEndpoint}
+use Rattle.usb_model.specs.Events.{posts}
 use Rattle.refine_world.specs.Shows.{Core}
 use Rattle.refine_world.specs.Steps.{handle_work, worked}
 use Rattle.refine_rings.specs.Holds.{with_end}

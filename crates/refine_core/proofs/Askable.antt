@@ -8,7 +8,7 @@ use Rattle.usb_model.specs.declared.request.Request.{Request}
 use Rattle.usb_model.specs.Requests.{is_unsupported}
 use Rattle.usb_model.specs.Setup.{Setup, interface_of, kind_of}
 use Rattle.usb_model.specs.World.{World}
-use Rattle.usb_design.specs.Kept.{KeptTransfer}
+use Rattle.usb_model.specs.Kept.{KeptTransfer}
 use Rattle.usb_xhc.specs.Context.{Context}
 use Rattle.usb_transfer.specs.declared.transfer.Transfer.{Transfer as InFlight}
 use Rattle.usb_tables.specs.Flights.{item_at}

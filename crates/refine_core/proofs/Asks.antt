@@ -15,9 +15,9 @@ use Rattle.usb_model.specs.declared.step.Step.TheVariants.{Cancel, Expire}
 use Rattle.usb_model.specs.Machine.Turns.{takes_news, takes_order}
 use Rattle.usb_model.specs.Setup.{Setup, endpoints_of}
 use Rattle.usb_model.specs.World.Shared.{past_first}
-use Rattle.usb_design.specs.Kept.{KeptEndpoint, KeptTransfer, SentErrand}
-use Rattle.usb_design.specs.Events.{errand_of, posts}
-use Rattle.usb_design.specs.Joins.{asked, kept_ask}
+use Rattle.usb_model.specs.Kept.{KeptEndpoint, KeptTransfer, SentErrand}
+use Rattle.usb_model.specs.Events.{errand_of, posts}
+use Rattle.usb_model.specs.Joins.{asked, kept_ask}
 use Rattle.usb_cancel.specs.Orders.{ordered, with_ask}
 use Rattle.usb_tables.specs.Outstanding.{sent_at}
 use Rattle.refine_world.specs.Shows.{Core}

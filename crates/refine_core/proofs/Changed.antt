@@ -9,7 +9,7 @@ use Rattle.usb_model.specs.World.{Claims, holder}
 use Rattle.usb_model.specs.World.Shared.{pieces_of}
 use Rattle.usb_claims.specs.Holders.{Holding, device_of, owner_of}
 use Rattle.usb_claims.specs.Tables.{is_plain}
-use Rattle.usb_design.specs.Kept.{KeptEndpoint}
+use Rattle.usb_model.specs.Kept.{KeptEndpoint}
 use Rattle.usb_tables.specs.Outstanding.{sent_at}
 use Rattle.usb_tables.specs.Caller.{Kept as Caller}
 use Rattle.usb_tables.specs.Callers.{callback_at, callbacks_at, number_of, results_at}

@@ -12,11 +12,11 @@ use Rattle.usb_model.specs.declared.result.TransferResult.{TransferResult}
 use Rattle.usb_model.specs.Endpoint.Status.{halts}
 use Rattle.usb_model.specs.Setup.{Setup, interface_of}
 use Rattle.usb_model.specs.World.Shared.{past_first, tagged}
-use Rattle.usb_design.specs.Kept.{KeptEndpoint, KeptTransfer}
-use Rattle.usb_design.specs.Events.{Handled, Reading, find_at, finish, kept_after, kept_result, past_at, past_kept_blanks}
-use Rattle.usb_design.specs.Settlements.{pauses}
+use Rattle.usb_model.specs.Kept.{KeptEndpoint, KeptTransfer}
+use Rattle.usb_model.specs.Events.{Handled, Reading, find_at, finish, kept_after, kept_result, past_at, past_kept_blanks}
+use Rattle.usb_model.specs.Settlements.{pauses}
 use Rattle.usb_cancel.specs.Orders.{ordered, without_ended}
-use Rattle.usb_design.specs.Stands.{length_at, read_off}
+use Rattle.usb_model.specs.Stands.{length_at, read_off}
 use Rattle.usb_xhc.specs.Context.{Context}
 use Rattle.refine_rings.specs.Endpoint.{IsContext}
 use Rattle.refine_rings.specs.Holds.{ring_at}

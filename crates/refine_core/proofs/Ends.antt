@@ -13,8 +13,8 @@ use Rattle.usb_tables.specs.declared.outstanding.Sent.{Sent}
 use Rattle.usb_tables.specs.Outstanding.{sent_at}
 use Rattle.refine_rings.proofs.Ends.{here}
 use Rattle.std.specs.Option.{option_map}
-use Rattle.usb_design.specs.Kept.{SentErrand, KeptEndpoint, KeptTransfer}
-use Rattle.usb_design.specs.Events.{errand_of, kept_result}
+use Rattle.usb_model.specs.Kept.{SentErrand, KeptEndpoint, KeptTransfer}
+use Rattle.usb_model.specs.Events.{errand_of, kept_result}
 use Rattle.usb_cancel.specs.Orders.{without_ended}
 use Rattle.usb_transfer.specs.declared.transfer.Transfer.{Transfer as InFlight}
 use Rattle.usb_tables.specs.Callers.{SameCallbacks, SameCounts, SameNumbers, is_there, results_at}

@@ -13,9 +13,9 @@ use Rattle.usb_model.specs.declared.step.Step.TheVariants.{Deliver}
 use Rattle.usb_model.specs.Requests.{is_unsupported}
 use Rattle.usb_model.specs.Setup.{Setup, interface_of, kind_of}
 use Rattle.usb_model.specs.World.Shared.{past_first, tagged}
-use Rattle.usb_design.specs.Kept.{KeptEndpoint, SentErrand}
-use Rattle.usb_design.specs.Events.{Handled, errand_of}
-use Rattle.usb_design.specs.Settlements.{kept_blanked, settle, withdrawn_results}
+use Rattle.usb_model.specs.Kept.{KeptEndpoint, SentErrand}
+use Rattle.usb_model.specs.Events.{Handled, errand_of}
+use Rattle.usb_model.specs.Settlements.{kept_blanked, settle, withdrawn_results}
 use Rattle.usb_cancel.specs.declared.ended.Settlement.{Settlement}
 use Rattle.usb_cancel.specs.Settlements.{goes_on, line_by, results_by}
 use Rattle.usb_device.specs.Pipe.{pipe_at}

@@ -12,7 +12,7 @@ use Rattle.usb_model.specs.Limits.{longest_script}
 use Rattle.usb_model.specs.Requests.{is_unsupported}
 use Rattle.usb_model.specs.Setup.{Setup, endpoint_id, info_of, interface_of, is_in, kind_of, script_at}
 use Rattle.usb_model.specs.World.{World, holder}
-use Rattle.usb_design.specs.Kept.{KeptEndpoint}
+use Rattle.usb_model.specs.Kept.{KeptEndpoint}
 use Rattle.usb_device.specs.Feeds.{may_be_fed}
 use Rattle.usb_device.specs.Pipe.{Pipe, no_pipe, pipe_at}
 use Rattle.usb_device.specs.Scripts.{is_answer}

@@ -13,8 +13,8 @@ use Rattle.usb_model.specs.Setup.{Setup, packet_size_of}
 use Rattle.usb_model.specs.World.{World, holder}
 use Rattle.proof_lemmas.proofs.Lists.Parts.{heads_same}
 use Rattle.proof_lemmas.proofs.Lists.Pieces.{same_name}
-use Rattle.usb_design.specs.Kept.{InRow, KeptEndpoint, KeptTransfer, SentErrand, Telling, Transfer, first_place}
-use Rattle.usb_design.specs.Events.{find_at, past_kept_blanks}
+use Rattle.usb_model.specs.Kept.{InRow, KeptEndpoint, KeptTransfer, SentErrand, Telling, Transfer, first_place}
+use Rattle.usb_model.specs.Events.{find_at, past_kept_blanks}
 use Rattle.refine_world.specs.Lively.{IsFine}
 use Rattle.refine_world.specs.ShownEndpoint.{AllKept, ShowsEnd, tail_told, telling_of, told_by, told_of}
 use Rattle.refine_world.specs.Shows.{AllHeld, At, Core, Report, RingEvent, Shows, Transfers, at, errands, event_at, events, ring_event, tellings}

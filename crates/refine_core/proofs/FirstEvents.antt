@@ -11,7 +11,7 @@ use Rattle.usb_model.specs.declared.shared.Tagged.{Tagged}
 use Rattle.usb_model.specs.Coherence.{IsCoherent}
 use Rattle.usb_model.specs.Setup.{Setup, packet_size_of}
 use Rattle.usb_model.specs.World.{World, holder}
-use Rattle.usb_design.specs.Kept.{Completion, KeptEndpoint, Telling, Transfer, code_of, index_of}
+use Rattle.usb_model.specs.Kept.{Completion, KeptEndpoint, Telling, Transfer, code_of, index_of}
 use Rattle.proof_lemmas.proofs.Lists.Parts.{heads_same}
 use Rattle.proof_lemmas.proofs.Lists.Pieces.{same_name}
 use Rattle.refine_world.specs.Lively.{IsFine}

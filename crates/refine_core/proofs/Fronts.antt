@@ -10,9 +10,9 @@ use Rattle.usb_model.specs.Requests.{length_of}
 use Rattle.usb_model.specs.Setup.{Setup}
 use Rattle.usb_model.specs.declared.request.Request.{Request}
 use Rattle.usb_model.specs.World.{Claims, World, holder}
-use Rattle.usb_design.specs.Kept.{KeptEndpoint, KeptTransfer}
-use Rattle.usb_design.specs.Events.{find_at}
-use Rattle.usb_design.specs.Packets.{sent_before, serve_kept}
+use Rattle.usb_model.specs.Kept.{KeptEndpoint, KeptTransfer}
+use Rattle.usb_model.specs.Events.{find_at}
+use Rattle.usb_model.specs.Packets.{sent_before, serve_kept}
 use Rattle.usb_device.specs.Pipe.{answer_of, pipe_at}
 use Rattle.usb_transfer.specs.declared.transfer.Transfer.{Transfer as InFlight}
 use Rattle.usb_transfer.specs.Tds.{room_of}

@@ -10,7 +10,7 @@ use Rattle.usb_model.specs.declared.news.Event.{Event}
 use Rattle.usb_model.specs.Coherence.{EndsStop, IsCoherent, IsPhase, ended, runs, served_events}
 use Rattle.usb_model.specs.Setup.{Setup, interface_of, packet_size_of}
 use Rattle.usb_model.specs.World.{World, holder}
-use Rattle.usb_design.specs.Kept.{KeptTransfer, SentErrand}
+use Rattle.usb_model.specs.Kept.{KeptTransfer, SentErrand}
 use Rattle.usb_device.specs.Pipe.{pipe_at}
 use Rattle.usb_tables.specs.Flights.{line_at}
 use Rattle.usb_xhc.specs.Context.{Context}

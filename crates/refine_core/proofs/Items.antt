@@ -3,9 +3,9 @@ use Rattle.std.proofs.Common.{◌≡◌, ℕ, zero, suc, ◌≤◌, refl, ap, su
 use Rattle.std.specs.Prelude.{slice_get, slice_set, if◌then◌else◌}
 use Rattle.std.proofs.lemmas.Option.{same_Some}
 use Rattle.usb_trb.specs.declared.kind.TrbKind.{TrbKind}
-use Rattle.usb_design.specs.Kept.{InRow, KeptEndpoint, KeptTransfer, first_place}
-use Rattle.usb_design.specs.Events.{covers, find_at, past_at}
-use Rattle.usb_design.specs.Packets.{put_at}
+use Rattle.usb_model.specs.Kept.{InRow, KeptEndpoint, KeptTransfer, first_place}
+use Rattle.usb_model.specs.Events.{covers, find_at, past_at}
+use Rattle.usb_model.specs.Packets.{put_at}
 use Rattle.usb_xhc.specs.Context.{Context}
 use Rattle.refine_rings.specs.Endpoint.{IsContext}
 use Rattle.refine_rings.specs.Line.{AllItems}

@@ -8,7 +8,7 @@ use Rattle.usb_tables.specs.Outstanding.{sent_at}
 use Rattle.usb_tables.specs.ByEndpoint.{lane_at}
 use Rattle.usb_tables.specs.Flights.{Flights, line_at, with_line}
 use Rattle.std.proofs.lemmas.Bool.{cases_eq}
-use Rattle.usb_design.specs.Kept.{KeptEndpoint, KeptTransfer}
+use Rattle.usb_model.specs.Kept.{KeptEndpoint, KeptTransfer}
 use Rattle.refine_rings.specs.EndpointLaws.{HaveTrbsOf}
 use Rattle.refine_rings.specs.Holds.{with_end}
 use Rattle.refine_rings.specs.Laws.{HasPlain}

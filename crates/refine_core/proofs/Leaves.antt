@@ -11,7 +11,7 @@ use Rattle.usb_model.specs.Setup.{Setup, endpoint_id}
 use Rattle.usb_model.specs.World.Shared.{pieces_of, tagged}
 use Rattle.usb_claims.specs.Tables.{is_plain}
 use Rattle.usb_trb.specs.declared.kind.TrbKind.TheVariants.{NoOp}
-use Rattle.usb_design.specs.Kept.{KeptEndpoint, KeptTransfer}
+use Rattle.usb_model.specs.Kept.{KeptEndpoint, KeptTransfer}
 use Rattle.usb_transfer.specs.declared.transfer.Transfer.{Transfer as InFlight}
 use Rattle.usb_xhc.specs.Host.{with_blank, with_ring, without_first}
 use Rattle.usb_xhc.specs.Controller.{Controller, slot_changed}

@@ -3,8 +3,8 @@ use Rattle.std.proofs.Common.{◌≡◌, ℕ, zero, suc, ◌+◌, ◌<◌, refl,
 use Rattle.std.specs.Prelude.{slice_get, slice_set, slice_index_or, is_none, if◌then◌else◌}
 use Rattle.std.specs.List.{prefix_len}
 use Rattle.std.proofs.lemmas.Option.{same_Some}
-use Rattle.usb_design.specs.Kept.{KeptTransfer}
-use Rattle.usb_design.specs.Events.{past_kept_blanks}
+use Rattle.usb_model.specs.Kept.{KeptTransfer}
+use Rattle.usb_model.specs.Events.{past_kept_blanks}
 use Rattle.usb_transfer.specs.declared.transfer.Transfer.{Transfer as InFlight}
 use Rattle.refine_core.specs.State.{AllItems, IsItem}
 

@@ -9,7 +9,7 @@ use Rattle.usb_model.specs.declared.news.Event.{Event}
 use Rattle.usb_model.specs.Coherence.{IsPhase, ended, move_ran, move_waits, reset_ran, reset_waits, runs, stop_failed, stop_ran, stop_ran_paused, stop_waits, stop_waits_halted}
 use Rattle.usb_model.specs.Setup.{Setup}
 use Rattle.usb_model.specs.World.{World, holder}
-use Rattle.usb_design.specs.Kept.{SentErrand}
+use Rattle.usb_model.specs.Kept.{SentErrand}
 use Rattle.refine_world.specs.Known.{NoMove}
 use Rattle.refine_world.specs.Lively.{IsFine}
 use Rattle.refine_world.specs.ShownEndpoint.{orders_sent}

@@ -14,8 +14,8 @@ use Rattle.usb_model.specs.Endpoint.Packets.{count_of}
 use Rattle.usb_model.specs.Requests.{length_of}
 use Rattle.usb_model.specs.Setup.{Setup, packet_size_of}
 use Rattle.usb_model.specs.World.{Claims, World, holder}
-use Rattle.usb_design.specs.Kept.{KeptEndpoint, KeptTransfer}
-use Rattle.usb_design.specs.Packets.{room_at, sent_before}
+use Rattle.usb_model.specs.Kept.{KeptEndpoint, KeptTransfer}
+use Rattle.usb_model.specs.Packets.{room_at, sent_before}
 use Rattle.usb_device.specs.Pipe.{Pipe, pipe_at}
 use Rattle.usb_transfer.specs.declared.transfer.Transfer.{Transfer as InFlight}
 use Rattle.usb_xhc.specs.declared.trb_at.TrbAt.{TrbAt}

@@ -15,8 +15,8 @@ use Rattle.usb_model.specs.Setup.{Setup, endpoint_id, interface_of}
 use Rattle.usb_model.specs.World.{Claims, World, holder}
 use Rattle.usb_model.specs.World.Shared.{past_first, pieces_of}
 use Rattle.usb_trb.specs.declared.kind.TrbKind.{TrbKind}
-use Rattle.usb_design.specs.Kept.{KeptEndpoint, KeptTransfer, SentErrand, code_of}
-use Rattle.usb_design.specs.Commands.{Carried, carry}
+use Rattle.usb_model.specs.Kept.{KeptEndpoint, KeptTransfer, SentErrand, code_of}
+use Rattle.usb_model.specs.Commands.{Carried, carry}
 use Rattle.usb_xhc.specs.Controller.{Controller, Run, run_of}
 use Rattle.refine_world.specs.Known.{KnowsOrder}
 use Rattle.refine_world.specs.Shows.{Core, RingOrder, Shows, event_at}

@@ -9,8 +9,8 @@ use Rattle.usb_model.specs.declared.reply.Reply.TheVariants.{Idle}
 use Rattle.usb_model.specs.declared.step.Step.TheVariants.{Serve}
 use Rattle.usb_model.specs.Setup.{Setup}
 use Rattle.usb_model.specs.World.{Claims, World, holder}
-use Rattle.usb_design.specs.Kept.{KeptEndpoint}
-use Rattle.usb_design.specs.Packets.{Answered}
+use Rattle.usb_model.specs.Kept.{KeptEndpoint}
+use Rattle.usb_model.specs.Packets.{Answered}
 use Rattle.usb_device.specs.Pipe.{answer_of, pipe_at}
 use Rattle.usb_xhc.specs.declared.packet.Packet.{Packet as ServedPacket}
 use Rattle.usb_xhc.specs.declared.trb_at.TrbAt.{TrbAt}

@@ -11,7 +11,7 @@ use Rattle.usb_model.specs.Requests.{is_unsupported}
 use Rattle.usb_model.specs.Setup.{Setup, interface_of, kind_of}
 use Rattle.usb_model.specs.World.{holder}
 use Rattle.usb_trb.specs.declared.kind.TrbKind.{TrbKind}
-use Rattle.usb_design.specs.Kept.{KeptEndpoint, KeptTransfer}
+use Rattle.usb_model.specs.Kept.{KeptEndpoint, KeptTransfer}
 use Rattle.refine_rings.specs.Line.{AllItems as AllSent}
 use Rattle.usb_xhc.specs.Context.{Context}
 use Rattle.usb_xhc.specs.Controller.{Controller}

@@ -10,7 +10,7 @@ use Rattle.usb_model.specs.Machine.{is_callback_at, is_result_at}
 use Rattle.usb_model.specs.Setup.{Setup, endpoint_id, endpoints_of, info_of, interface_of}
 use Rattle.usb_model.specs.World.{holder, is_its}
 use Rattle.usb_model.specs.World.Shared.{pieces_of}
-use Rattle.usb_design.specs.Kept.{KeptEndpoint, KeptTransfer, SentErrand}
+use Rattle.usb_model.specs.Kept.{KeptEndpoint, KeptTransfer, SentErrand}
 use Rattle.usb_claims.specs.Tables.{is_plain}
 use Rattle.usb_tables.specs.declared.outstanding.Sent.{Sent}
 use Rattle.usb_tables.specs.Outstanding.{sent_at}

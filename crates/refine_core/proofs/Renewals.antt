@@ -13,7 +13,7 @@ use Rattle.usb_descriptors.specs.Table.{info_at}
 use Rattle.usb_claims.specs.Holders.{Holding, IsSetup}
 use Rattle.refine_core.proofs.Gone.{endpoints_are}
 use Rattle.refine_core.proofs.Ringed.{IsBare, SameRings, rings_renewed}
-use Rattle.usb_design.specs.Kept.{KeptEndpoint, new_kept_endpoint}
+use Rattle.usb_model.specs.Kept.{KeptEndpoint, new_kept_endpoint}
 use Rattle.usb_xhc.specs.Controller.{Controller, slot_changed}
 use Rattle.usb_xhc.specs.Slots.{renewed}
 use Rattle.refine_world.specs.Known.{NoMove}

@@ -20,9 +20,9 @@ use Rattle.usb_segment.specs.Places.{address_of}
 use Rattle.usb_tring.specs.Line.{IsAt as IsInRing, Line, places}
 use Rattle.usb_transfer.specs.declared.transfer.Transfer.{Transfer as InFlight}
 use Rattle.usb_transfer.specs.Tds.{lengths, tds_of}
-use Rattle.usb_design.specs.Kept.{KeptEndpoint, KeptTransfer, trbs_of}
-use Rattle.usb_design.specs.Events.{Reading, find_at, read_at, reading}
-use Rattle.usb_design.specs.Stands.{length_at, read_off}
+use Rattle.usb_model.specs.Kept.{KeptEndpoint, KeptTransfer, trbs_of}
+use Rattle.usb_model.specs.Events.{Reading, find_at, read_at, reading}
+use Rattle.usb_model.specs.Stands.{length_at, read_off}
 use Rattle.usb_device.specs.Pipe.{pipe_at}
 use Rattle.usb_xhc.specs.Context.{Context}
 use Rattle.usb_xhc.specs.Controller.{Controller}

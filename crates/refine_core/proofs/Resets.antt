@@ -12,7 +12,7 @@ use Rattle.usb_model.specs.declared.step.Step.TheVariants.{Reset}
 use Rattle.usb_model.specs.Setup.{Setup, endpoint_id, endpoints_of, interface_of, interfaces_of, script_of}
 use Rattle.usb_model.specs.World.{Claims, World, holder, is_its, is_others}
 use Rattle.usb_claims.specs.Holders.{device_of, others_hold, owner_of}
-use Rattle.usb_design.specs.Kept.{KeptEndpoint, new_kept_endpoint}
+use Rattle.usb_model.specs.Kept.{KeptEndpoint, new_kept_endpoint}
 use Rattle.usb_xhc.specs.Controller.{Controller}
 use Rattle.refine_world.specs.Calls as calling
 use Rattle.refine_world.specs.Calls.{are_quiet, is_gone, is_open, reset_core, rests, step_core}

@@ -14,7 +14,7 @@ use Rattle.usb_model.specs.World.Shared.{pieces_of}
 use Rattle.usb_claims.specs.Holders.{Holding}
 use Rattle.usb_claims.specs.Tables.{is_plain}
 use Rattle.usb_trb.specs.declared.kind.TrbKind.{TrbKind}
-use Rattle.usb_design.specs.Kept.{KeptEndpoint, KeptTransfer, SentErrand}
+use Rattle.usb_model.specs.Kept.{KeptEndpoint, KeptTransfer, SentErrand}
 use Rattle.usb_transfer.specs.declared.transfer.Transfer.{Transfer as InFlight}
 use Rattle.usb_tables.specs.declared.outstanding.Sent.{Sent}
 use Rattle.usb_tables.specs.Outstanding.{sent_at}

@@ -7,10 +7,10 @@ use Rattle.usb_model.specs.Requests.{length_of}
 use Rattle.usb_model.specs.Setup.{Setup}
 use Rattle.usb_model.specs.World.{World}
 use Rattle.usb_trb.specs.declared.kind.Normal.{Normal as NormalTrb}
-use Rattle.usb_design.specs.Stands.{total}
-use Rattle.usb_design.specs.Kept.{KeptEndpoint, KeptTransfer}
-use Rattle.usb_design.specs.Events.{find_at}
-use Rattle.usb_design.specs.Packets.{sent_before}
+use Rattle.usb_model.specs.Stands.{total}
+use Rattle.usb_model.specs.Kept.{KeptEndpoint, KeptTransfer}
+use Rattle.usb_model.specs.Events.{find_at}
+use Rattle.usb_model.specs.Packets.{sent_before}
 use Rattle.usb_device.specs.Pipe.{pipe_at}
 use Rattle.usb_transfer.specs.declared.transfer.Transfer.{Transfer as InFlight}
 use Rattle.usb_transfer.specs.Tds.{room_of}

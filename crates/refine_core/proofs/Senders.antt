@@ -11,8 +11,8 @@ use Rattle.usb_model.specs.Setup.{Setup, endpoints_of, interface_of}
 use Rattle.usb_model.specs.World.{World, holder}
 use Rattle.usb_trb.specs.declared.kind.TrbKind.TheVariants.{CommandCompletion}
 use Rattle.usb_segment.specs.Places.{address_of}
-use Rattle.usb_design.specs.Kept.{SentErrand}
-use Rattle.usb_design.specs.Events.{errand_of}
+use Rattle.usb_model.specs.Kept.{SentErrand}
+use Rattle.usb_model.specs.Events.{errand_of}
 use Rattle.usb_tables.specs.declared.outstanding.Sent.{Sent}
 use Rattle.usb_tables.specs.Outstanding.{sent_at}
 use Rattle.refine_world.specs.Known.{KnowsCompletion, KnowsEvent}

@@ -9,7 +9,7 @@ use Rattle.usb_tables.specs.Caller.{Kept as Caller}
 use Rattle.usb_cancel.specs.declared.ended.Mark.{Mark}
 use Rattle.usb_tables.specs.declared.outstanding.Sent.{Sent}
 use Rattle.usb_cancel.specs.Settlements.{fails_stop, mark_of, settled_by}
-use Rattle.usb_design.specs.Settlements.{settle}
+use Rattle.usb_model.specs.Settlements.{settle}
 use Rattle.usb_xhc.specs.Host.{rung, with_blank, with_ring, without_first}
 use Rattle.usb_xhc.specs.Controller.{Controller, slot_changed}
 use Rattle.refine_core.proofs.Leaves.{leaves, withdraws}
@@ -20,7 +20,7 @@ use Rattle.usb_model.specs.Setup.{Setup, endpoint_id}
 use Rattle.usb_model.specs.World.Shared.{pieces_of, tagged}
 use Rattle.proof_lemmas.proofs.Lists.Pieces.{pieces_of-append}
 use Rattle.proof_lemmas.proofs.Lists.Times.{count-cons}
-use Rattle.usb_design.specs.Kept.{KeptEndpoint, KeptTransfer}
+use Rattle.usb_model.specs.Kept.{KeptEndpoint, KeptTransfer}
 use Rattle.usb_cancel.specs.declared.ended.Settlement.{Settlement}
 use Rattle.usb_transfer.specs.declared.transfer.Transfer.{Transfer as InFlight}
 use Rattle.usb_tables.specs.Callers.{SameCallbacks, SameCounts, SameNumbers, is_there, results_at}

@@ -10,9 +10,9 @@ use Rattle.usb_model.specs.declared.reply.Reply.TheVariants.{Settled}
 use Rattle.proof_lemmas.proofs.Lists.Parts.{heads_same}
 use Rattle.usb_model.specs.declared.endpoint.EndpointState.TheVariants.{Running}
 use Rattle.usb_model.specs.declared.result.TransferResult.{TransferResult}
-use Rattle.usb_design.specs.Kept.{KeptEndpoint, KeptTransfer, SentErrand}
-use Rattle.usb_design.specs.Events.{Handled, past_kept_blanks, posts}
-use Rattle.usb_design.specs.Settlements.{kept_blanked, leads_kept, resume_kept, settle, withdrawn_results}
+use Rattle.usb_model.specs.Kept.{KeptEndpoint, KeptTransfer, SentErrand}
+use Rattle.usb_model.specs.Events.{Handled, past_kept_blanks, posts}
+use Rattle.usb_model.specs.Settlements.{kept_blanked, leads_kept, resume_kept, settle, withdrawn_results}
 use Rattle.usb_cancel.specs.declared.ended.Settlement.{Settlement}
 use Rattle.usb_cancel.specs.declared.ended.Mark.{Mark}
 use Rattle.usb_cancel.specs.Settlements.{fails_stop, goes_on, line_by, mark_of, results_by, settled_by}

@@ -9,7 +9,7 @@ use Rattle.usb_model.specs.declared.request.Request.{Request}
 use Rattle.usb_model.specs.declared.step.Step.TheVariants.{Serve}
 use Rattle.usb_model.specs.Setup.{Setup, packet_size_of}
 use Rattle.usb_model.specs.World.{World, holder, turn}
-use Rattle.usb_design.specs.Kept.{InRow, KeptEndpoint, KeptTransfer}
+use Rattle.usb_model.specs.Kept.{InRow, KeptEndpoint, KeptTransfer}
 use Rattle.usb_device.specs.Pipe.{answer_of, pipe_at}
 use Rattle.usb_transfer.specs.declared.transfer.Transfer.{Transfer as InFlight}
 use Rattle.usb_xhc.specs.declared.packet.Packet.{Packet as ServedPacket}

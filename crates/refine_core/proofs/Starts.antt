@@ -12,8 +12,8 @@ use Rattle.usb_model.specs.Setup.{endpoint_id, packet_size_of}
 use Rattle.usb_model.specs.World.Shared.{pieces_of}
 use Rattle.usb_claims.specs.Holders.{Holding, device_of}
 use Rattle.usb_claims.specs.Tables.{is_plain}
-use Rattle.usb_design.specs.Kept.{KeptEndpoint, trbs_of}
-use Rattle.usb_design.specs.Joins.{joined, new_kept}
+use Rattle.usb_model.specs.Kept.{KeptEndpoint, trbs_of}
+use Rattle.usb_model.specs.Joins.{joined, new_kept}
 use Rattle.usb_device.specs.Pipe.{pipe_at}
 use Rattle.usb_transfer.specs.declared.transfer.Transfer.{Transfer as InFlight}
 use Rattle.usb_transfer.specs.Tds.{tds_of}

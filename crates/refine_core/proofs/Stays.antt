@@ -8,9 +8,9 @@ use Rattle.usb_model.specs.declared.endpoint.EndpointState.TheVariants.{Running}
 use Rattle.usb_model.specs.declared.reply.Reply.TheVariants.{Moved}
 use Rattle.usb_model.specs.Setup.{Setup}
 use Rattle.usb_model.specs.World.{World}
-use Rattle.usb_design.specs.Kept.{InRow, KeptEndpoint, KeptTransfer}
-use Rattle.usb_design.specs.Events.{covers, find_at}
-use Rattle.usb_design.specs.Packets.{Answered, Packet, answer_now, answered_by, answered_gone, got, packet_now, put_at, serve_at, serve_kept, walk}
+use Rattle.usb_model.specs.Kept.{InRow, KeptEndpoint, KeptTransfer}
+use Rattle.usb_model.specs.Events.{covers, find_at}
+use Rattle.usb_model.specs.Packets.{Answered, Packet, answer_now, answered_by, answered_gone, got, packet_now, put_at, serve_at, serve_kept, walk}
 use Rattle.usb_xhc.specs.declared.trb_at.TrbAt.{TrbAt}
 use Rattle.usb_xhc.specs.Context.{Context}
 use Rattle.usb_xhc.specs.Transaction.{working}

@@ -13,9 +13,9 @@ use Rattle.usb_model.specs.Endpoint.Status.{told_status}
 use Rattle.usb_model.specs.Requests.{is_short_not_ok, length_of}
 use Rattle.usb_model.specs.Setup.{Setup}
 use Rattle.usb_model.specs.World.Shared.{tagged}
-use Rattle.usb_design.specs.Kept.{KeptEndpoint, KeptTransfer}
-use Rattle.usb_design.specs.Events.{kept_result}
-use Rattle.usb_design.specs.Settlements.{kept_blanked, kept_withdrawn, withdrawn_results}
+use Rattle.usb_model.specs.Kept.{KeptEndpoint, KeptTransfer}
+use Rattle.usb_model.specs.Events.{kept_result}
+use Rattle.usb_model.specs.Settlements.{kept_blanked, kept_withdrawn, withdrawn_results}
 use Rattle.usb_transfer.specs.declared.transfer.Transfer.{Transfer as InFlight}
 use Rattle.usb_tables.specs.declared.ending.Ending.{Ending}
 use Rattle.usb_tables.specs.Flights.{item_at, line_at}

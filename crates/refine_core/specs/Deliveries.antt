@@ -11,14 +11,14 @@ use Rattle.usb_model.specs.Machine.{is_result_at}
 use Rattle.usb_model.specs.Requests.{is_short_not_ok, is_unsupported, length_of}
 use Rattle.usb_model.specs.World.Shared.{pieces_of, tagged}
 use Rattle.usb_transfer.specs.declared.transfer.Transfer.{Transfer as InFlight}
-use Rattle.usb_design.specs.Settlements.{kept_blanked, withdrawn_results}
+use Rattle.usb_model.specs.Settlements.{kept_blanked, withdrawn_results}
 use Rattle.refine_world.specs.Known.{NoMove}
 use Rattle.refine_core.specs.Works.{IsAt, with_kept}
 use Rattle.usb_model.specs.Setup.{Setup, endpoint_id, kind_of}
 use Rattle.usb_model.specs.World.{World, holder}
 use Rattle.usb_trb.specs.declared.kind.TrbKind.{TrbKind}
-use Rattle.usb_design.specs.Kept.{KeptTransfer}
-use Rattle.usb_design.specs.Events.{errand_of, kept_result, reading}
+use Rattle.usb_model.specs.Kept.{KeptTransfer}
+use Rattle.usb_model.specs.Events.{errand_of, kept_result, reading}
 use Rattle.usb_tables.specs.declared.ending.Ending.{Ending}
 use Rattle.usb_tables.specs.Callers.{results_at}
 use Rattle.usb_xhc.specs.Controller.{Controller}

@@ -14,7 +14,7 @@ use Rattle.usb_tables.specs.ByEndpoint.{lane_at}
 use Rattle.usb_tables.specs.Flights.{Flights, blanked_at, item_at, left_at, line_at, with_item, with_last}
 use Rattle.refine_core.specs.Packets.{Serves, Skims}
 use Rattle.usb_tables.specs.declared.ending.Ending.{Ending}
-use Rattle.usb_design.specs.Kept.{trbs_of}
+use Rattle.usb_model.specs.Kept.{trbs_of}
 use Rattle.usb_model.specs.Setup.{Setup, endpoint_id}
 use Rattle.usb_model.specs.World.{World}
 use Rattle.usb_model.specs.declared.entry.Entry.{Entry}

@@ -13,7 +13,7 @@ use Rattle.usb_model.specs.World.{World, holder}
 use Rattle.usb_model.specs.World.Shared.{pieces_of}
 use Rattle.usb_claims.specs.Holders.{Holding, IsSetup, device_of, owner_of}
 use Rattle.usb_claims.specs.Tables.{is_plain}
-use Rattle.usb_design.specs.Kept.{KeptEndpoint, KeptTransfer, SentErrand}
+use Rattle.usb_model.specs.Kept.{KeptEndpoint, KeptTransfer, SentErrand}
 use Rattle.usb_transfer.specs.declared.transfer.Transfer.{Transfer as InFlight}
 use Rattle.usb_transfer.specs.Tds.{room_of, tds_of}
 use Rattle.usb_transfer.specs.Trbs.{normals_of}

@@ -15,12 +15,12 @@ use Rattle.usb_model.specs.Setup.{Setup, endpoint_id, endpoints_of, kind_of}
 use Rattle.usb_model.specs.World.{World, holder, turn, world_from}
 use Rattle.usb_model.specs.World.Journal.{run_from}
 use Rattle.usb_model.specs.World.Shared.{past_first, tagged}
-use Rattle.usb_design.specs.Kept.{KeptEndpoint, KeptTransfer}
+use Rattle.usb_model.specs.Kept.{KeptEndpoint, KeptTransfer}
 use Rattle.usb_trb.specs.declared.kind.TrbKind.{TrbKind}
 use Rattle.usb_trb.specs.declared.kind.TrbKind.TheVariants.{CommandCompletion, Link, NoOp, Normal, ResetEndpoint, SetDequeue, StopEndpoint, TransferEvent}
 use Rattle.usb_xhc.specs.Controller.{Run, run_of}
 use Rattle.refine_world.specs.Shows.{Core, RingOrder, Shows}
-use Rattle.usb_design.specs.Joins.{asked}
+use Rattle.usb_model.specs.Joins.{asked}
 use Rattle.refine_world.specs.Steps.{Stepped, command_core, handle_work, worked}
 use Rattle.refine_world.specs.Calls.{ask_core, device_of, is_kept_it, kept_home, kept_in_progress, own_kept, step_core}
 use Rattle.refine_rings.specs.Holds.{with_end}

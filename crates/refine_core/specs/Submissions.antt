@@ -7,7 +7,7 @@ use Rattle.usb_model.specs.declared.step.Step.{Step}
 use Rattle.usb_model.specs.Limits.{last_number, most_bytes}
 use Rattle.usb_model.specs.Requests.{length_of}
 use Rattle.usb_model.specs.Setup.{Setup, packet_size_of}
-use Rattle.usb_design.specs.Kept.{trbs_of}
+use Rattle.usb_model.specs.Kept.{trbs_of}
 use Rattle.usb_transfer.specs.Tds.{Tds, tds_of}
 use Rattle.usb_tring.specs.Line.{capacity, used}
 use Rattle.usb_xhc.specs.Context.{Context}

@@ -20,9 +20,9 @@ use Rattle.usb_tring.specs.Line.{IsAt as IsInRing, place_of, places}
 use Rattle.usb_xhc.specs.declared.packet.Packet.{Packet as ServedPacket}
 use Rattle.usb_xhc.specs.declared.trb_at.TrbAt.{TrbAt}
 use Rattle.usb_xhc.specs.Transaction.{working}
-use Rattle.usb_design.specs.Kept.{KeptEndpoint, KeptTransfer}
-use Rattle.usb_design.specs.Joins.{joined}
-use Rattle.usb_design.specs.Packets.{Answered, serve_kept}
+use Rattle.usb_model.specs.Kept.{KeptEndpoint, KeptTransfer}
+use Rattle.usb_model.specs.Joins.{joined}
+use Rattle.usb_model.specs.Packets.{Answered, serve_kept}
 use Rattle.usb_transfer.specs.declared.transfer.Transfer.{Transfer as InFlight}
 use Rattle.usb_transfer.specs.Tds.{room_of}
 use Rattle.usb_xhc.specs.Context.{Context}

@@ -6,8 +6,8 @@ use Rattle.std.proofs.lemmas.Bool.{cases_lt}
 use Rattle.usb_trb.specs.declared.kind.Normal.{Normal as NormalTrb}
 use Rattle.usb_trb.specs.declared.kind.TrbKind.{TrbKind}
 use Rattle.usb_trb.specs.declared.kind.TrbKind.TheVariants.{Normal, NoOp}
-use Rattle.usb_design.specs.Kept.{InRow, KeptTransfer, first_place}
-use Rattle.usb_design.specs.Events.{past_kept_blanks}
+use Rattle.usb_model.specs.Kept.{InRow, KeptTransfer, first_place}
+use Rattle.usb_model.specs.Events.{past_kept_blanks}
 use Rattle.usb_transfer.specs.Tds.{tds_of}
 use Rattle.usb_transfer.specs.Trbs.{normals_of, buffer_of}
 use Rattle.usb_tring.specs.Line.{Line, all_of, contents, no_ops, normals, used}

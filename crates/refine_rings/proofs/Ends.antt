@@ -2,7 +2,7 @@
 use Rattle.std.proofs.Common.{◌≡◌, ℕ, refl, ap, ap₂, Bool, eq-eqb, ne_eqb}
 use Rattle.std.specs.Prelude.{◌==◌, ◌&&◌, if◌then◌else◌}
 use Rattle.std.proofs.lemmas.Bool.{and_right}
-use Rattle.usb_design.specs.Kept.{KeptEndpoint}
+use Rattle.usb_model.specs.Kept.{KeptEndpoint}
 use Rattle.refine_rings.specs.Holds.{with_end}
 
 -- there it is the other

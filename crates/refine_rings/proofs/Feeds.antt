@@ -16,7 +16,7 @@ use Rattle.usb_model.specs.Direction.{is_of_direction}
 use Rattle.usb_model.specs.Requests.{is_unsupported}
 use Rattle.usb_model.specs.Setup.{Setup, endpoint_id, info_of, interface_of, is_in, kind_of}
 use Rattle.usb_trb.specs.declared.kind.TrbKind.{TrbKind}
-use Rattle.usb_design.specs.Kept.{KeptEndpoint}
+use Rattle.usb_model.specs.Kept.{KeptEndpoint}
 use Rattle.usb_device.specs.Feeds.{may_be_fed, pipe_fed}
 use Rattle.usb_device.specs.Pipe.{Pipe, no_pipe, pipe_at}
 use Rattle.usb_device.specs.Scripts.{script_by}

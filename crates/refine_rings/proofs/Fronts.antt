@@ -6,10 +6,10 @@ use Rattle.std.proofs.lemmas.List.{drop-map, length-drop}
 use Rattle.usb_model.specs.declared.response.Response.{Response}
 use Rattle.usb_model.specs.Requests.{length_of}
 use Rattle.usb_trb.specs.declared.kind.Normal.{Normal as NormalTrb}
-use Rattle.usb_design.specs.Stands.{length_at, lengths_of, stand, total}
-use Rattle.usb_design.specs.Kept.{KeptEndpoint, KeptTransfer, is_extra}
-use Rattle.usb_design.specs.Events.{find_at}
-use Rattle.usb_design.specs.Packets.{packet_by, room_at, sent_before, walk}
+use Rattle.usb_model.specs.Stands.{length_at, lengths_of, stand, total}
+use Rattle.usb_model.specs.Kept.{KeptEndpoint, KeptTransfer, is_extra}
+use Rattle.usb_model.specs.Events.{find_at}
+use Rattle.usb_model.specs.Packets.{packet_by, room_at, sent_before, walk}
 use Rattle.usb_transfer.specs.Tds.{tds_of}
 use Rattle.usb_transfer.specs.Trbs.{buffer_of, normals_of}
 use Rattle.usb_transfer.proofs.Pieces.{normals_at_lengths}

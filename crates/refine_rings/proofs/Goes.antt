@@ -6,10 +6,10 @@ use Rattle.std.proofs.lemmas.List.{length-drop}
 use Rattle.std.proofs.lemmas.Option.{same_Some}
 use Rattle.usb_trb.specs.declared.kind.TrbKind.{TrbKind}
 use Rattle.usb_trb.specs.declared.kind.Normal.{Normal as NormalTrb}
-use Rattle.usb_design.specs.Stands.{Stand, length_at, total}
-use Rattle.usb_design.specs.Kept.{InRow, KeptEndpoint, KeptTransfer, first_place}
-use Rattle.usb_design.specs.Events.{covers, find_at, past_at, past_kept_blanks}
-use Rattle.usb_design.specs.Packets.{put_at, room_at, sent_before, walk}
+use Rattle.usb_model.specs.Stands.{Stand, length_at, total}
+use Rattle.usb_model.specs.Kept.{InRow, KeptEndpoint, KeptTransfer, first_place}
+use Rattle.usb_model.specs.Events.{covers, find_at, past_at, past_kept_blanks}
+use Rattle.usb_model.specs.Packets.{put_at, room_at, sent_before, walk}
 use Rattle.usb_tring.specs.Line.{Line, all_of, contents, moved, no_ops}
 use Rattle.usb_xhc.specs.Ahead.{lengths, past, trbs_ahead}
 use Rattle.usb_xhc.specs.Context.{Context, gone_on, gone_past, stand_by}
@@ -21,7 +21,7 @@ use Rattle.refine_rings.proofs.Contents.{blanks_span, contents_at}
 use Rattle.refine_rings.proofs.Fronts.{IsFront, length_drop_at, lengths_ahead, same_walk, within_total}
 use Rattle.refine_rings.proofs.Hosts.{found_same, line_same, spans_of}
 use Rattle.refine_rings.proofs.Lines.{Found, covered, covers_is, drop_past, row_below, starts_behind}
-use Rattle.usb_design.proofs.Stands as standing
+use Rattle.usb_model.proofs.Stands as standing
 
 -- another item with the same TRBs in its place
 trbs_refl : (ys : List KeptTransfer) → HaveTrbsOf ys ys

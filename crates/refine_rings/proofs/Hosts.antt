@@ -7,10 +7,10 @@ use Rattle.usb_model.specs.Limits.{most_bytes}
 use Rattle.usb_model.specs.Requests.{length_of}
 use Rattle.usb_trb.specs.declared.kind.TrbKind.{TrbKind}
 use Rattle.usb_trb.specs.declared.kind.TrbKind.TheVariants.{NoOp}
-use Rattle.usb_design.specs.Stands.{length_at, total}
-use Rattle.usb_design.specs.Kept.{InRow, KeptEndpoint, KeptTransfer, first_place, trbs_of}
-use Rattle.usb_design.specs.Events.{covers, find_at}
-use Rattle.usb_design.specs.Joins.{joined, new_kept}
+use Rattle.usb_model.specs.Stands.{length_at, total}
+use Rattle.usb_model.specs.Kept.{InRow, KeptEndpoint, KeptTransfer, first_place, trbs_of}
+use Rattle.usb_model.specs.Events.{covers, find_at}
+use Rattle.usb_model.specs.Joins.{joined, new_kept}
 use Rattle.usb_transfer.specs.Tds.{tds_of}
 use Rattle.usb_transfer.specs.Trbs.{buffer_of, normals_of}
 use Rattle.usb_transfer.proofs.Pieces.{normals_at_count}

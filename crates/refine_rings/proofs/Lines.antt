@@ -4,8 +4,8 @@ use Rattle.std.specs.Prelude.{nat_le, nat_lt, slice_get, if◌then◌else◌}
 use Rattle.std.proofs.lemmas.Bool.{and_parts, le-leb, leb-true, lt-ltb, ltb-true}
 use Rattle.std.proofs.lemmas.Option.{same_Some}
 use Rattle.usb_trb.specs.declared.kind.TrbKind.{TrbKind}
-use Rattle.usb_design.specs.Kept.{InRow, KeptTransfer, first_place}
-use Rattle.usb_design.specs.Events.{covers, find_at, past_at}
+use Rattle.usb_model.specs.Kept.{InRow, KeptTransfer, first_place}
+use Rattle.usb_model.specs.Events.{covers, find_at, past_at}
 use Rattle.usb_tring.specs.Line.{all_of}
 use Rattle.refine_rings.specs.Line.{AllItems, IsItem}
 

@@ -14,7 +14,7 @@ use Rattle.usb_model.specs.Requests.{is_unsupported}
 use Rattle.usb_model.specs.Setup.{Setup, endpoint_id, info_of, interface_of, is_in, kind_of, packet_size_of, script_at, script_of}
 use Rattle.usb_claims.specs.Tables.{is_plain}
 use Rattle.usb_descriptors.specs.Table.{IsNumbered, IsTable, info_at}
-use Rattle.usb_design.specs.Kept.{KeptEndpoint, new_kept_endpoint}
+use Rattle.usb_model.specs.Kept.{KeptEndpoint, new_kept_endpoint}
 use Rattle.usb_device.specs.Pipe.{Pipe, no_pipe, pipe_at, rewound}
 use Rattle.usb_device.specs.Scripts.{info_by}
 use Rattle.usb_xhc.specs.Context.{Context, configured}

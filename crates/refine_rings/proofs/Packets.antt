@@ -9,7 +9,7 @@ use Rattle.usb_model.specs.declared.request.Body.TheVariants.{In, Out}
 use Rattle.usb_model.specs.declared.response.Response.{Response}
 use Rattle.usb_model.specs.Endpoint.Status.{halts}
 use Rattle.usb_model.specs.Setup.{endpoint_id}
-use Rattle.usb_design.specs.Packets.{Packet}
+use Rattle.usb_model.specs.Packets.{Packet}
 use Rattle.usb_device.specs.Pipe.{Pipe, answer_of, bytes_after, first_of, no_pipe, pipe_after, pipe_at, stalls, taken_by}
 use Rattle.usb_xhc.specs.declared.trb_at.TrbAt.{TrbAt}
 use Rattle.usb_xhc.specs.Context.{Context, gone_on, gone_past}

@@ -9,8 +9,8 @@ use Rattle.usb_model.specs.declared.response.Response.TheVariants as response
 use Rattle.usb_model.specs.Completion.{stall_error}
 use Rattle.usb_model.specs.Endpoint.Serve.{is_no_packet}
 use Rattle.usb_model.specs.Endpoint.Serve as service
-use Rattle.usb_design.specs.Kept.{KeptEndpoint, KeptTransfer, is_extra}
-use Rattle.usb_design.specs.Packets.{Packet, answer_now, gave, got, packet_by, packet_now, packet_of, room_at, sent_before}
+use Rattle.usb_model.specs.Kept.{KeptEndpoint, KeptTransfer, is_extra}
+use Rattle.usb_model.specs.Packets.{Packet, answer_now, gave, got, packet_by, packet_now, packet_of, room_at, sent_before}
 use Rattle.usb_device.specs.Pipe.{Pipe, answer_of, bytes_after, first_of, pipe_after, stalls, taken_by}
 use Rattle.refine_rings.specs.Endpoint.{IsPipe}
 

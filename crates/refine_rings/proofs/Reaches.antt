@@ -6,8 +6,8 @@ use Rattle.std.proofs.lemmas.Option.{slice_get_within}
 use Rattle.usb_model.specs.declared.response.Response.{Response}
 use Rattle.usb_model.specs.declared.response.Response.TheVariants as response
 use Rattle.usb_trb.specs.declared.kind.Normal.{Normal as NormalTrb}
-use Rattle.usb_design.specs.Stands.{full_trbs, lengths_of, total}
-use Rattle.usb_design.specs.Packets.{packet_by}
+use Rattle.usb_model.specs.Stands.{full_trbs, lengths_of, total}
+use Rattle.usb_model.specs.Packets.{packet_by}
 use Rattle.usb_transfer.specs.Tds.{Tds, lengths as lengths_by}
 use Rattle.usb_transfer.specs.Trbs.{buffer_of, normal_at, normals_at, td_at}
 use Rattle.usb_transfer.proofs.Pieces.{td_at-lengths}

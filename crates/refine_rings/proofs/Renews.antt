@@ -5,8 +5,8 @@ use Rattle.std.specs.Option.{option_map_or, unwrap_or}
 use Rattle.usb_model.specs.declared.endpoint.EndpointState.{EndpointState}
 use Rattle.usb_model.specs.declared.response.Response.{Response}
 use Rattle.usb_model.specs.Setup.{Setup, endpoint_id, script_of}
-use Rattle.usb_design.specs.Kept.{KeptEndpoint, KeptTransfer, first_place, new_kept_endpoint}
-use Rattle.usb_design.specs.Events.{find_at, past_kept_blanks}
+use Rattle.usb_model.specs.Kept.{KeptEndpoint, KeptTransfer, first_place, new_kept_endpoint}
+use Rattle.usb_model.specs.Events.{find_at, past_kept_blanks}
 use Rattle.usb_device.specs.Pipe.{Pipe, cleared, no_pipe, pipe_at, rewound}
 use Rattle.usb_xhc.specs.Context.{Context, configured}
 use Rattle.usb_xhc.specs.Controller.{Controller, slot_changed}

@@ -10,9 +10,9 @@ use Rattle.usb_model.specs.Setup.{Setup, endpoint_id}
 use Rattle.usb_trb.specs.declared.kind.TrbKind.{TrbKind}
 use Rattle.usb_trb.specs.declared.kind.TrbKind.TheVariants.{CommandCompletion, SetDequeue, StopEndpoint, ResetEndpoint}
 use Rattle.usb_segment.specs.Places.{address_of, cycle_of}
-use Rattle.usb_design.specs.Kept.{KeptEndpoint}
-use Rattle.usb_design.specs.Events.{errand_of}
-use Rattle.usb_design.specs.Commands as kept
+use Rattle.usb_model.specs.Kept.{KeptEndpoint}
+use Rattle.usb_model.specs.Events.{errand_of}
+use Rattle.usb_model.specs.Commands as kept
 use Rattle.usb_device.specs.Pipe.{Pipe, pipe_at}
 use Rattle.usb_tring.specs.Line.{places}
 use Rattle.usb_xhc.specs.Commands.{carried, endpoint_not_enabled_error, move_in, moved_at, before, reset_in, stop_in, trb_error}

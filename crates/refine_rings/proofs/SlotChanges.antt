@@ -3,7 +3,7 @@ use Rattle.std.proofs.Common.{◌≡◌, ℕ, refl, ap, sym, subst, ◌∙◌, a
 use Rattle.std.specs.Prelude.{Bool, slice_get, slice_index_or, slice_set}
 use Rattle.std.specs.Option.{option_map_or}
 use Rattle.usb_model.specs.Setup.{Setup, endpoint_id, interface_of}
-use Rattle.usb_design.specs.Kept.{KeptEndpoint}
+use Rattle.usb_model.specs.Kept.{KeptEndpoint}
 use Rattle.usb_device.specs.Pipe.{Pipe, pipe_at}
 use Rattle.usb_xhc.specs.Context.{Context}
 use Rattle.usb_xhc.specs.Controller.{Controller, slot_changed}

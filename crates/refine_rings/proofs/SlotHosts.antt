@@ -8,8 +8,8 @@ use Rattle.usb_model.specs.declared.request.Request.{Request}
 use Rattle.usb_model.specs.Limits.{most_bytes}
 use Rattle.usb_model.specs.Requests.{length_of}
 use Rattle.usb_model.specs.Setup.{Setup, endpoint_id, interface_of, packet_size_of}
-use Rattle.usb_design.specs.Kept.{KeptEndpoint, KeptTransfer, trbs_of}
-use Rattle.usb_design.specs.Joins.{joined, new_kept}
+use Rattle.usb_model.specs.Kept.{KeptEndpoint, KeptTransfer, trbs_of}
+use Rattle.usb_model.specs.Joins.{joined, new_kept}
 use Rattle.usb_device.specs.Pipe.{Pipe, pipe_at}
 use Rattle.usb_transfer.specs.Tds.{tds_of}
 use Rattle.usb_transfer.specs.Trbs.{normals_of}

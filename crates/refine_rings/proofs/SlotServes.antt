@@ -8,9 +8,9 @@ use Rattle.usb_model.specs.declared.endpoint.EndpointState.TheVariants.{Running,
 use Rattle.usb_model.specs.declared.reply.Reply.TheVariants.{Idle}
 use Rattle.usb_model.specs.declared.request.Body.TheVariants.{In}
 use Rattle.usb_model.specs.Setup.{Setup, interface_of, packet_size_of}
-use Rattle.usb_design.specs.Kept.{KeptEndpoint, KeptTransfer}
-use Rattle.usb_design.specs.Events.{find_at}
-use Rattle.usb_design.specs.Packets.{Answered, answer_now, got, packet_now, serve_at, serve_kept}
+use Rattle.usb_model.specs.Kept.{KeptEndpoint, KeptTransfer}
+use Rattle.usb_model.specs.Events.{find_at}
+use Rattle.usb_model.specs.Packets.{Answered, answer_now, got, packet_now, serve_at, serve_kept}
 use Rattle.usb_device.specs.Pipe.{Pipe, answer_of, pipe_at}
 use Rattle.usb_xhc.specs.declared.packet.Packet.{Packet as Told}
 use Rattle.usb_xhc.specs.declared.trb_at.TrbAt.{TrbAt}

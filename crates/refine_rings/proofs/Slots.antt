@@ -7,7 +7,7 @@ use Rattle.std.proofs.lemmas.List.{ext_get_or, length-map}
 use Rattle.std.proofs.lemmas.Option.{same_Some, slice_get_within}
 use Rattle.usb_model.specs.declared.response.Response.{Response}
 use Rattle.usb_model.specs.Setup.{Setup, endpoint_id, interface_of, script_of}
-use Rattle.usb_design.specs.Kept.{KeptEndpoint}
+use Rattle.usb_model.specs.Kept.{KeptEndpoint}
 use Rattle.usb_device.specs.Pipe.{Pipe, no_pipe, pipe_at}
 use Rattle.usb_xhc.specs.Context.{Context}
 use Rattle.usb_xhc.specs.Controller.{Controller}

@@ -5,7 +5,7 @@ use Rattle.std.specs.Option.{option_map_or}
 use Rattle.std.proofs.lemmas.Bool.{cases_eq}
 use Rattle.std.proofs.lemmas.Option.{same_Some, slice_get_within}
 use Rattle.usb_model.specs.Setup.{Setup}
-use Rattle.usb_design.specs.Kept.{KeptEndpoint}
+use Rattle.usb_model.specs.Kept.{KeptEndpoint}
 use Rattle.usb_xhc.specs.Controller.{slot_changed}
 use Rattle.usb_xhc.specs.Slots.{DeviceSlot}
 use Rattle.refine_rings.specs.Holds.{Holds, IsSlot}

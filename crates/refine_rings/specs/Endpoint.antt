@@ -1,9 +1,9 @@
 -- When an endpoint of the controller, and of its device, is a kept one.
 use Rattle.std.specs.Prelude.{◌≡◌, ℕ, ◌+◌, ◌-◌, ◌≤◌, nat_lt, false, List, take, Some, ◌⊎◌}
 use Rattle.usb_model.specs.declared.endpoint.EndpointState.{EndpointState}
-use Rattle.usb_design.specs.Stands.{length_at, total}
-use Rattle.usb_design.specs.Kept.{KeptEndpoint, KeptTransfer}
-use Rattle.usb_design.specs.Events.{find_at}
+use Rattle.usb_model.specs.Stands.{length_at, total}
+use Rattle.usb_model.specs.Kept.{KeptEndpoint, KeptTransfer}
+use Rattle.usb_model.specs.Events.{find_at}
 use Rattle.usb_device.specs.Pipe.{Pipe}
 use Rattle.usb_xhc.specs.Context.{Context}
 use Rattle.refine_rings.specs.Line.{IsLine}

@@ -14,11 +14,11 @@ use Rattle.usb_trb.specs.declared.kind.Normal.{Normal as NormalTrb}
 use Rattle.usb_trb.specs.declared.kind.TrbKind.{TrbKind}
 use Rattle.usb_trb.specs.declared.kind.TrbKind.TheVariants.{StopEndpoint, ResetEndpoint, SetDequeue, CommandCompletion}
 use Rattle.usb_segment.specs.Places.{address_of, cycle_of}
-use Rattle.usb_design.specs.Kept.{KeptEndpoint, KeptTransfer, code_of, first_place, new_kept_endpoint, trbs_of}
-use Rattle.usb_design.specs.Events.{find_at, past_kept_blanks}
-use Rattle.usb_design.specs.Packets.{Answered, answer_now, got, packet_now, sent_before, serve_kept}
-use Rattle.usb_design.specs.Commands as kept
-use Rattle.usb_design.specs.Joins.{joined}
+use Rattle.usb_model.specs.Kept.{KeptEndpoint, KeptTransfer, code_of, first_place, new_kept_endpoint, trbs_of}
+use Rattle.usb_model.specs.Events.{find_at, past_kept_blanks}
+use Rattle.usb_model.specs.Packets.{Answered, answer_now, got, packet_now, sent_before, serve_kept}
+use Rattle.usb_model.specs.Commands as kept
+use Rattle.usb_model.specs.Joins.{joined}
 use Rattle.usb_device.specs.Pipe.{Pipe, answer_of, bytes_after, pipe_after, rewound}
 use Rattle.usb_transfer.specs.Tds.{tds_of}
 use Rattle.usb_transfer.specs.Trbs.{normals_of}

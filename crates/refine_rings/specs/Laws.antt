@@ -14,11 +14,11 @@ use Rattle.usb_claims.specs.Tables.{is_plain}
 use Rattle.usb_descriptors.specs.Table.{IsTable}
 use Rattle.usb_trb.specs.declared.kind.TrbKind.{TrbKind}
 use Rattle.usb_segment.specs.Places.{index_of}
-use Rattle.usb_design.specs.Kept.{KeptEndpoint, KeptTransfer, code_of, new_kept_endpoint, trbs_of}
-use Rattle.usb_design.specs.Events.{errand_of, find_at}
-use Rattle.usb_design.specs.Packets.{Answered, answer_now, got, packet_now, serve_kept}
-use Rattle.usb_design.specs.Commands as kept
-use Rattle.usb_design.specs.Joins.{joined}
+use Rattle.usb_model.specs.Kept.{KeptEndpoint, KeptTransfer, code_of, new_kept_endpoint, trbs_of}
+use Rattle.usb_model.specs.Events.{errand_of, find_at}
+use Rattle.usb_model.specs.Packets.{Answered, answer_now, got, packet_now, serve_kept}
+use Rattle.usb_model.specs.Commands as kept
+use Rattle.usb_model.specs.Joins.{joined}
 use Rattle.usb_device.specs.Pipe.{IsLawful, Pipe, cleared, pipe_at}
 use Rattle.usb_transfer.specs.Tds.{tds_of}
 use Rattle.usb_transfer.specs.Trbs.{normals_of}

@@ -4,7 +4,7 @@ use Rattle.usb_model.specs.Limits.{most_bytes}
 use Rattle.usb_model.specs.Requests.{length_of}
 use Rattle.usb_trb.specs.declared.kind.TrbKind.{TrbKind}
 use Rattle.usb_trb.specs.declared.kind.TrbKind.TheVariants.{NoOp}
-use Rattle.usb_design.specs.Kept.{InRow, KeptTransfer, first_place, trbs_of}
+use Rattle.usb_model.specs.Kept.{InRow, KeptTransfer, first_place, trbs_of}
 use Rattle.usb_transfer.specs.Tds.{tds_of}
 use Rattle.usb_transfer.specs.Trbs.{normals_of}
 use Rattle.usb_tring.specs.Line.{Line, capacity, normals, places}

@@ -8,7 +8,7 @@
 //! - specs/ Line: a transfer's TRBs, or as many No Ops; a ring that holds a line, up to the enqueue place, with its
 //!   dequeue pointer at a place
 //! - specs/ Endpoint: a context that is a kept endpoint's; a device's endpoint that is
-//! - specs/ Reports: an event of the event ring for what `usb_design` tells; a reply for what the controller tells of a
+//! - specs/ Reports: an event of the event ring for what `usb_model` tells; a reply for what the controller tells of a
 //!   packet
 //! - specs/ EndpointLaws: the statements of the nine laws of `endpoint_laws.rt`
 //! - specs/ Holds: an endpoint of a slot, with a ring or without; a slot; an order and an event as their TRBs; the
@@ -22,7 +22,7 @@
 //! Premise of each but `made`: the context, its ring and the device's endpoint are a kept endpoint (docs/MODEL.md,
 //! The controller's endpoint and the kept one).
 //!
-//! - `serves`: nothing is served just where `usb_design` serves nothing. Else the TRB at dequeue is that of the
+//! - `serves`: nothing is served just where `usb_model` serves nothing. Else the TRB at dequeue is that of the
 //!   transfer where the kept endpoint stands; what is told is its reply, the event its telling, and context and
 //!   device are again the kept endpoint's; the bytes that come are those that it reads, and for each packet there is
 //!   room in the request's length, behind what moved, and in the transfer's buffer. Premise: while it runs it stands

@@ -1,5 +1,5 @@
 -- Where the controller stands at the first transfer that waits, the line begins there or before, and so does all that is told point.
-use Rattle.usb_design.proofs.Stands.{stands_some}
+use Rattle.usb_model.proofs.Stands.{stands_some}
 use Rattle.std.proofs.Common.{Bool, List, Option, [], ap, arith, false, length, refl, subst, sym, true, ℕ, ◌++◌, ◌<◌, ◌≤◌, ◌∷◌, ◌≡◌}
 use Rattle.std.specs.Prelude.{if◌then◌else◌}
 use Rattle.proof_lemmas.proofs.Lists.Parts.{each_append}
@@ -12,8 +12,8 @@ use Rattle.usb_model.specs.declared.item.ItemState.TheVariants.{Blank, Served, W
 use Rattle.usb_model.specs.declared.item.ItemState.{ItemState}
 use Rattle.usb_model.specs.declared.news.Event.TheVariants.{Finished, Paused, Settled}
 use Rattle.usb_model.specs.declared.news.Event.{Event}
-use Rattle.usb_design.specs.Kept.{Completion, InRow, KeptEndpoint, KeptTransfer, SentErrand, Telling, Transfer, first_place}
-use Rattle.usb_design.specs.Stands.{stand}
+use Rattle.usb_model.specs.Kept.{Completion, InRow, KeptEndpoint, KeptTransfer, SentErrand, Telling, Transfer, first_place}
+use Rattle.usb_model.specs.Stands.{stand}
 use Rattle.refine_world.specs.ShownEndpoint.{AllBefore, AllKept, IsBefore, IsLive, IsNear, ShowsEnd, count, front, front_of, is_stale, pause_told, tail_told, telling_of, told_by, told_of}
 use Rattle.refine_world.proofs.Fronts.{told_none}
 use Rattle.refine_world.proofs.Near.{front_behind, near_fresh}

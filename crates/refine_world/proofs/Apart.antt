@@ -6,7 +6,7 @@ use Rattle.std.proofs.lemmas.Bool.{cases_lt, eqb-true, or_left, or_right}
 use Rattle.std.proofs.lemmas.List.Folds.{list_any-append}
 use Rattle.usb_model.specs.Setup.{Setup}
 use Rattle.usb_model.specs.World.{World, holder}
-use Rattle.usb_design.specs.Kept.{SentErrand}
+use Rattle.usb_model.specs.Kept.{SentErrand}
 use Rattle.refine_world.specs.Lively.{IsFine, ends_of}
 use Rattle.refine_world.specs.Shows.{Core, InRun, RingOrder, Shows, at, completed, tellings, under_way}
 use Rattle.refine_world.proofs.Budget.{index_names}

@@ -20,10 +20,10 @@ use Rattle.usb_model.specs.Endpoint.{first_waiting, is_blank, is_waiting, is_wai
 use Rattle.proof_lemmas.proofs.Work.Errands.{events-with_ask}
 use Rattle.usb_model.specs.Coherence.{IsCoherent, served_events}
 use Rattle.refine_world.specs.ShownEndpoint.{AllKept, FirstPaused, FrontKnown, IsKept, ShowsEnd, count, front, is_stale, known_by, orders_sent, pause_told, tail_told, told_of}
-use Rattle.usb_design.specs.Kept.{InRow, KeptEndpoint, KeptTransfer, SentErrand, Telling, first_place}
-use Rattle.usb_design.specs.Events.{Handled, posts}
+use Rattle.usb_model.specs.Kept.{InRow, KeptEndpoint, KeptTransfer, SentErrand, Telling, first_place}
+use Rattle.usb_model.specs.Events.{Handled, posts}
 use Rattle.refine_world.specs.Kept.{Handles}
-use Rattle.usb_design.specs.Joins.{asked, kept_ask}
+use Rattle.usb_model.specs.Joins.{asked, kept_ask}
 use Rattle.refine_world.proofs.Finished.{same_tail, tail_same}
 use Rattle.proof_lemmas.proofs.Work.Phases.{free}
 

@@ -12,7 +12,7 @@ use Rattle.usb_model.specs.declared.setup.EndpointInfo.{EndpointInfo}
 use Rattle.usb_model.specs.Setup.{Setup, info_of, interface_of, packet_size_of}
 use Rattle.usb_model.specs.World.{Claims, World, holder}
 use Rattle.proof_lemmas.proofs.Lists.Pieces.{either_way}
-use Rattle.usb_design.specs.Kept.{SentErrand, KeptTransfer, first_place}
+use Rattle.usb_model.specs.Kept.{SentErrand, KeptTransfer, first_place}
 use Rattle.refine_world.specs.ShownEndpoint.{AllKept, is_stale}
 use Rattle.refine_world.specs.Lively.{IsFine, ends_from, ends_of}
 use Rattle.refine_world.specs.Shows.{AllHeld, At, Core, Report, Shows, at, here, ring_event, ring_order, errands, events, tellings}

@@ -2,7 +2,7 @@
 use Rattle.std.proofs.Common.{Bool, List, Option, [], ap, arith, false, length, length-append, refl, suc, true, ℕ, ◌%◌, ◌*◌, ◌+◌, ◌/◌, ◌<◌, ◌≤◌, ◌==◌, ◌∷◌, ◌≡◌, replicate, ◌-◌}
 use Rattle.std.specs.Prelude.{if◌then◌else◌, nat_lt, not, ◌||◌}
 use Rattle.std.specs.List.{AllByRecursion, filter, list_any}
-use Rattle.usb_design.specs.Stands.{full_trbs, lengths_of}
+use Rattle.usb_model.specs.Stands.{full_trbs, lengths_of}
 use Rattle.std.proofs.lemmas.List.{length-replicate}
 use Rattle.std.proofs.Math.Nat.{div-mul-le_self, mul-le-mul_right, suc-mul}
 use Rattle.std.proofs.lemmas.Nat.{div-add-mod'}
@@ -12,7 +12,7 @@ use Rattle.usb_model.specs.declared.endpoint.Endpoint.{Endpoint}
 use Rattle.usb_model.specs.declared.news.Event.{Event}
 use Rattle.usb_model.specs.Coherence.{IsCoherent, served_events}
 use Rattle.proof_invariants.proofs.Bounds.Waits.{few_behind, few_ends}
-use Rattle.usb_design.specs.Kept.{InRow, KeptTransfer, first_place}
+use Rattle.usb_model.specs.Kept.{InRow, KeptTransfer, first_place}
 
 -- at most 18 events and 1 order wait for an endpoint of 16 places
 pub few_at_endpoint : (e : Endpoint) (os : List Errand) (ns : List Event) → IsCoherent e os ns → length e.line ≤ 16 → (length os ≤ 1) × (length ns ≤ 18)

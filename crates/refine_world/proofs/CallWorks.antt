@@ -24,10 +24,10 @@ use Rattle.std.proofs.lemmas.Option.{same_Some}
 use Rattle.proof_invariants.proofs.Coherence.Commands.{coherent_ask, coherent_submit}
 use Rattle.proof_invariants.proofs.Machines.Deeds.{cleared}
 use Rattle.refine_world.specs.ShownEndpoint.{AllFew, ShowsEnd, StandsNear}
-use Rattle.usb_design.specs.Kept.{KeptEndpoint}
-use Rattle.usb_design.specs.Events.{Handled, posts}
+use Rattle.usb_model.specs.Kept.{KeptEndpoint}
+use Rattle.usb_model.specs.Events.{Handled, posts}
 use Rattle.refine_world.specs.Kept.{Handles}
-use Rattle.usb_design.specs.Joins.{asked, joined, kept_ask}
+use Rattle.usb_model.specs.Joins.{asked, joined, kept_ask}
 use Rattle.refine_world.specs.Lively.{IsFine}
 use Rattle.refine_world.specs.Shows.{Core, InRun, Shows, at, errands, events, order_at, tellings, under_way}
 use Rattle.refine_world.specs.Steps.{Stepped, handle_work, posted_by, worked, StepsTo}

@@ -15,11 +15,11 @@ use Rattle.usb_model.specs.Endpoint.Command.{command, pause_of}
 use Rattle.usb_model.specs.Endpoint.{first_waiting, outcome_of}
 use Rattle.usb_model.specs.Coherence.{IsCoherent, IsPhase, move_waits, reset_waits, served_events, stop_waits, stop_waits_halted}
 use Rattle.refine_world.specs.ShownEndpoint.{AllNew, FirstPaused, FrontKnown, IsOrderly, ShowsEnd, count, front, has_pause, is_past, is_stale, orders_sent, pause_told, tail_told, telling_of, told_of}
-use Rattle.usb_design.specs.Kept.{KeptEndpoint, Completion, KeptTransfer, SentErrand, Telling, code_of, first_place, index_of}
-use Rattle.usb_design.specs.Events.{find_at, past_kept_blanks}
-use Rattle.usb_design.specs.Packets.{event_at, walk}
+use Rattle.usb_model.specs.Kept.{KeptEndpoint, Completion, KeptTransfer, SentErrand, Telling, code_of, first_place, index_of}
+use Rattle.usb_model.specs.Events.{find_at, past_kept_blanks}
+use Rattle.usb_model.specs.Packets.{event_at, walk}
 use Rattle.refine_world.specs.Kept.{Carries, PauseTold}
-use Rattle.usb_design.specs.Commands.{carry, pause_at}
+use Rattle.usb_model.specs.Commands.{carry, pause_at}
 use Rattle.refine_world.proofs.Fronts.{Fronted, front_new, fronts, known_new, known_none}
 use Rattle.refine_world.proofs.Serves.{at_front, event_is, find_end, front_none, fresh_running}
 

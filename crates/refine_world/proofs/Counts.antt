@@ -12,7 +12,7 @@ use Rattle.usb_model.specs.declared.news.Event.{Event}
 use Rattle.usb_model.specs.Endpoint.{first_waiting, is_waiting}
 use Rattle.usb_model.specs.Coherence.{event_by, served_events}
 use Rattle.refine_world.specs.ShownEndpoint.{AllKept, FirstPaused, ShowsEnd, orders_sent, pause_told, tail_told, telling_of, told_by, told_of}
-use Rattle.usb_design.specs.Kept.{KeptEndpoint, KeptTransfer, SentErrand, Telling}
+use Rattle.usb_model.specs.Kept.{KeptEndpoint, KeptTransfer, SentErrand, Telling}
 use Rattle.refine_world.specs.Shows.{Report, errands, events, tellings}
 
 -- an end for each served transfer

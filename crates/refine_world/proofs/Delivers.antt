@@ -27,11 +27,11 @@ use Rattle.proof_lemmas.proofs.Lists.Pieces.{same_name}
 use Rattle.std.proofs.lemmas.Option.{same_Some}
 use Rattle.proof_invariants.proofs.Coherence.Delivers.{coherent_deliver}
 use Rattle.refine_world.specs.ShownEndpoint.{AllFew, AllUncut, ShowsEnd, StandsNear, is_stale, uncut_by}
-use Rattle.usb_design.specs.Kept.{KeptEndpoint, KeptTransfer, SentErrand, Telling, Transfer, code_of, index_of}
-use Rattle.usb_design.specs.Events.{Handled, Reading, errand_of, finish, kept_after, kept_result, past_kept_blanks, posts, reading}
+use Rattle.usb_model.specs.Kept.{KeptEndpoint, KeptTransfer, SentErrand, Telling, Transfer, code_of, index_of}
+use Rattle.usb_model.specs.Events.{Handled, Reading, errand_of, finish, kept_after, kept_result, past_kept_blanks, posts, reading}
 use Rattle.refine_world.specs.Kept.{Handles}
 use Rattle.refine_world.specs.Lively.{IsFine}
-use Rattle.usb_design.specs.Settlements.{kept_blanked, leads_kept, pauses, resume_kept, settle, withdrawn_results}
+use Rattle.usb_model.specs.Settlements.{kept_blanked, leads_kept, pauses, resume_kept, settle, withdrawn_results}
 use Rattle.refine_world.specs.Shows.{AllHeld, At, Core, InRun, Report, RingEvent, RingOrder, Shows, at, errands, event_at, events, here, news_of, order_at, ring_event, tellings, under_way}
 use Rattle.refine_world.specs.Steps.{StepsTo, complete_at, completion_work, deliver_core, deliver_first, delivers, handle_work, posted_by, sender, transfer_work, works}
 use Rattle.refine_world.proofs.Finished.{FinishedShows, finished_shows, first_end}

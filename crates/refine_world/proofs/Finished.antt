@@ -1,5 +1,5 @@
 -- A transfer's end is handled: its event finds the item, the residual gives the bytes, and the next endpoint is shown.
-use Rattle.usb_design.proofs.Stands.{stands_some}
+use Rattle.usb_model.proofs.Stands.{stands_some}
 use Rattle.std.proofs.Common.{Bool, List, None, Option, Some, [], append-nil, ap, arith, ap₂, false, length, refl, subst, sym, true, ℕ, ◌++◌, ◌-◌, ◌<◌, ◌∙◌, ◌∷◌, ◌≡◌}
 use Rattle.std.specs.Prelude.{if◌then◌else◌, nat_lt, not, is_some}
 use Rattle.std.proofs.lemmas.Bool.{le-ltb, and_parts}
@@ -19,10 +19,10 @@ use Rattle.usb_model.specs.Endpoint.Deliver.{deliver, finished_result, line_afte
 use Rattle.usb_model.specs.Endpoint.{first_waiting, in_progress, past_blanks, past_number, result_of}
 use Rattle.usb_model.specs.Endpoint.Status.{halts}
 use Rattle.usb_model.specs.Coherence.{IsCoherent, served_events}
-use Rattle.usb_design.specs.Stands.{length_at, read_off, residual, stand}
-use Rattle.usb_design.specs.Kept.{KeptEndpoint, KeptTransfer, SentErrand, Telling, Transfer, Completion, code_of, index_of}
+use Rattle.usb_model.specs.Stands.{length_at, read_off, residual, stand}
+use Rattle.usb_model.specs.Kept.{KeptEndpoint, KeptTransfer, SentErrand, Telling, Transfer, Completion, code_of, index_of}
 use Rattle.refine_world.specs.ShownEndpoint.{IsLive, ShowsEnd, count, FirstPaused, is_stale, orders_sent, pause_told, tail_told, telling_of, told_of}
-use Rattle.usb_design.specs.Events.{Handled, Reading, finish, find_at, kept_after, kept_result, past_at, past_kept_blanks, posts, read_at, reading}
+use Rattle.usb_model.specs.Events.{Handled, Reading, finish, find_at, kept_after, kept_result, past_at, past_kept_blanks, posts, read_at, reading}
 use Rattle.refine_world.specs.Kept.{Handles}
 use Rattle.refine_world.proofs.FirstServed.{Found, Less, blanks_leave, finds, pointer}
 use Rattle.proof_invariants.proofs.Coherence.Delivers.{past_told}

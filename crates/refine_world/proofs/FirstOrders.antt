@@ -14,7 +14,7 @@ use Rattle.proof_lemmas.proofs.Lists.Pieces.{same_name}
 use Rattle.refine_world.specs.Known.{KnowsOrder, OrdersFit}
 use Rattle.refine_world.specs.Lively.{IsFine}
 use Rattle.refine_world.specs.Shows.{AllHeld, At, Core, InRun, RingOrder, Shows, at, completed, errands, here, ring_order, under_way}
-use Rattle.usb_design.specs.Kept.{SentErrand}
+use Rattle.usb_model.specs.Kept.{SentErrand}
 use Rattle.refine_world.proofs.Glue.{same_holder}
 use Rattle.refine_world.proofs.InRun.{run_length, run_once}
 use Rattle.refine_world.proofs.Links.{known}

@@ -25,14 +25,14 @@ use Rattle.proof_lemmas.proofs.Work.StepMoves.{plain_serve}
 use Rattle.proof_lemmas.proofs.Lists.Pieces.{same_name}
 use Rattle.proof_invariants.proofs.Coherence.Commands.{coherent_command}
 use Rattle.proof_invariants.proofs.Coherence.Serves.{coherent_serve}
-use Rattle.usb_design.specs.Kept.{KeptEndpoint, Completion, KeptTransfer, SentErrand, code_of}
+use Rattle.usb_model.specs.Kept.{KeptEndpoint, Completion, KeptTransfer, SentErrand, code_of}
 use Rattle.refine_world.specs.ShownEndpoint.{ShowsEnd, is_stale}
-use Rattle.usb_design.specs.Commands.{Carried, carry, pause_at}
+use Rattle.usb_model.specs.Commands.{Carried, carry, pause_at}
 use Rattle.refine_world.specs.Kept.{Carries, Serves}
-use Rattle.usb_design.specs.Events.{find_at}
+use Rattle.usb_model.specs.Events.{find_at}
 use Rattle.refine_world.specs.Lively.{IsFine, goes}
-use Rattle.usb_design.specs.Packets as serving
-use Rattle.usb_design.specs.Packets.{walk, Answered, Packet, answered_by, answered_gone, packet_now, sent_before, serve_at, serve_kept}
+use Rattle.usb_model.specs.Packets as serving
+use Rattle.usb_model.specs.Packets.{walk, Answered, Packet, answered_by, answered_gone, packet_now, sent_before, serve_at, serve_kept}
 use Rattle.refine_world.specs.Shows.{AllHeld, At, Completes, Core, InRun, RingEvent, RingOrder, Shows, at, completed, errands, event_at, events, here, order_of, ring_order, tellings, under_way}
 use Rattle.refine_world.specs.Steps.{StepsTo, answer_work, carry_work, command_core, command_first, command_held, idle, serve_core, serve_held}
 use Rattle.refine_world.proofs.Commands.{command_shows, ways}

@@ -11,11 +11,11 @@ use Rattle.usb_model.specs.declared.errand.Errand.TheVariants as errand
 use Rattle.usb_model.specs.declared.errand.Errand.{Errand}
 use Rattle.usb_model.specs.declared.item.Item.{Item}
 use Rattle.usb_model.specs.declared.news.Event.{Event}
-use Rattle.usb_design.specs.Commands.{carry}
-use Rattle.usb_design.specs.Events.{find_at, past_at, past_kept_blanks}
-use Rattle.usb_design.specs.Kept.{Completion, KeptEndpoint, KeptTransfer, SentErrand, Telling, code_of, first_place}
-use Rattle.usb_design.specs.Packets.{Packet, answer_now, answered_by, answered_gone, endpoint_with, event_at, gave, got, packet_now, put_at, sent_before, serve_at, serve_kept, walk}
-use Rattle.usb_design.specs.Stands.{stand}
+use Rattle.usb_model.specs.Commands.{carry}
+use Rattle.usb_model.specs.Events.{find_at, past_at, past_kept_blanks}
+use Rattle.usb_model.specs.Kept.{Completion, KeptEndpoint, KeptTransfer, SentErrand, Telling, code_of, first_place}
+use Rattle.usb_model.specs.Packets.{Packet, answer_now, answered_by, answered_gone, endpoint_with, event_at, gave, got, packet_now, put_at, sent_before, serve_at, serve_kept, walk}
+use Rattle.usb_model.specs.Stands.{stand}
 use Rattle.refine_world.specs.ShownEndpoint.{IsNear, ShowsEnd, StandsNear, count, is_stale}
 use Rattle.refine_world.proofs.Ahead.{before_and, before_later}
 use Rattle.refine_world.proofs.Commands.{Ways}

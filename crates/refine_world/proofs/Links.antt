@@ -21,7 +21,7 @@ use Rattle.proof_lemmas.proofs.Lists.Pieces.{same_name}
 use Rattle.std.proofs.lemmas.Option.{same_Some}
 use Rattle.usb_model.specs.Fitness.{IsFit, IsWell, errands_of, events_of, posts_of}
 use Rattle.proof_invariants.proofs.Machines.Well.{fit_at}
-use Rattle.usb_design.specs.Kept.{SentErrand}
+use Rattle.usb_model.specs.Kept.{SentErrand}
 use Rattle.refine_world.specs.Lively.{IsFine, IsLively}
 use Rattle.refine_world.specs.Shows.{AllHeld, At, Core, Report, Shows, at, errands, events, here}
 use Rattle.refine_world.proofs.Lives.{IsSound, sound_at}

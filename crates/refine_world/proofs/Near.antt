@@ -18,13 +18,13 @@ use Rattle.usb_model.specs.Requests.{length_of}
 use Rattle.usb_model.specs.Endpoint.Status.{halts}
 use Rattle.std.proofs.lemmas.Option.{same_Some}
 use Rattle.refine_world.specs.ShownEndpoint.{AllFew, IsFew, AllKept, ShowsEnd, front, front_of, is_stale}
-use Rattle.usb_design.specs.Kept.{InRow, KeptEndpoint, KeptTransfer, SentErrand, Telling, first_place, is_extra}
-use Rattle.usb_design.specs.Commands.{carry}
-use Rattle.usb_design.specs.Events.{read_at, reading, Handled, Reading, covers, errand_of, find_at, finish, kept_after, kept_result, past_at, past_kept_blanks, posts}
-use Rattle.usb_design.specs.Joins.{asked, joined, kept_ask, new_kept}
-use Rattle.usb_design.specs.Packets.{Packet, answer_now, answered_by, answered_gone, endpoint_with, gave, packet_now, put_at, sent_before, serve_at, serve_kept}
-use Rattle.usb_design.specs.Settlements.{kept_blanked, kept_withdrawn, leads_kept, pauses, resume_kept, settle, withdrawn_results}
-use Rattle.usb_design.specs.Stands.{length_at, read_off}
+use Rattle.usb_model.specs.Kept.{InRow, KeptEndpoint, KeptTransfer, SentErrand, Telling, first_place, is_extra}
+use Rattle.usb_model.specs.Commands.{carry}
+use Rattle.usb_model.specs.Events.{read_at, reading, Handled, Reading, covers, errand_of, find_at, finish, kept_after, kept_result, past_at, past_kept_blanks, posts}
+use Rattle.usb_model.specs.Joins.{asked, joined, kept_ask, new_kept}
+use Rattle.usb_model.specs.Packets.{Packet, answer_now, answered_by, answered_gone, endpoint_with, gave, packet_now, put_at, sent_before, serve_at, serve_kept}
+use Rattle.usb_model.specs.Settlements.{kept_blanked, kept_withdrawn, leads_kept, pauses, resume_kept, settle, withdrawn_results}
+use Rattle.usb_model.specs.Stands.{length_at, read_off}
 use Rattle.refine_world.proofs.Budget.{few_trbs, ring_fits}
 
 few_put : (p : ℕ) (z : KeptTransfer) (ys : List KeptTransfer) → IsFew z → AllFew ys → AllFew (put_at p z ys)

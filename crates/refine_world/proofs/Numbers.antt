@@ -23,7 +23,7 @@ use Rattle.proof_invariants.proofs.Places.Placed.{IsPlaced}
 use Rattle.proof_invariants.proofs.Places.Runs.{kept_at}
 use Rattle.proof_lemmas.proofs.Lists.Pieces.{same_name}
 use Rattle.proof_lemmas.proofs.Lists.Times.{count-cons, times-cons, times_here}
-use Rattle.usb_design.specs.Kept.{KeptTransfer}
+use Rattle.usb_model.specs.Kept.{KeptTransfer}
 use Rattle.refine_world.specs.Known.{FewPlaces, NotYetCalled, NumbersOnce}
 use Rattle.refine_world.specs.Lively.{IsFine}
 use Rattle.refine_world.specs.ShownEndpoint.{AllKept}

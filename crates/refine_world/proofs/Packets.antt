@@ -20,8 +20,8 @@ use Rattle.usb_model.proofs.CutPackets.{length_cut, no_more_packets}
 use Rattle.proof_lemmas.proofs.Shares.More.{next_of, read_next, sent_next}
 use Rattle.proof_lemmas.proofs.Shares.OpenShares.{IsRead, IsSent, IsWhole, full_count}
 use Rattle.std.proofs.lemmas.Option.{same_Some}
-use Rattle.usb_design.specs.Kept.{is_extra}
-use Rattle.usb_design.specs.Packets.{Packet, gave, got, packet_by}
+use Rattle.usb_model.specs.Kept.{is_extra}
+use Rattle.usb_model.specs.Packets.{Packet, gave, got, packet_by}
 use Rattle.refine_world.proofs.Pieces.{first_pieces, more_comes, next_piece}
 
 -- what an answer tells of a transfer

@@ -13,13 +13,13 @@ use Rattle.usb_model.specs.declared.reply.Reply.TheVariants as reply
 use Rattle.usb_model.specs.Endpoint.Deliver.{deliver}
 use Rattle.usb_model.specs.Endpoint.{first_waiting, is_blank_state, is_waiting, with_first}
 use Rattle.usb_model.specs.Coherence.{IsCoherent, IsPhase, ended, move_ran, move_waits, reset_ran, reset_waits, runs, served_events, stop_failed, stop_ran, stop_ran_paused, stop_waits, stop_waits_halted}
-use Rattle.usb_design.specs.Stands.{residual}
+use Rattle.usb_model.specs.Stands.{residual}
 use Rattle.refine_world.specs.ShownEndpoint.{AllKept, FirstPaused, FrontKnown, ShowsEnd, count, front, tail_told, telling_of, told_of}
-use Rattle.usb_design.specs.Kept.{KeptEndpoint, KeptTransfer, SentErrand, Telling, Transfer}
+use Rattle.usb_model.specs.Kept.{KeptEndpoint, KeptTransfer, SentErrand, Telling, Transfer}
 use Rattle.refine_world.specs.Kept.{Handles}
-use Rattle.usb_design.specs.Events.{Reading, reading}
-use Rattle.usb_design.specs.Packets.{put_at}
-use Rattle.usb_design.specs.Settlements.{pauses}
+use Rattle.usb_model.specs.Events.{Reading, reading}
+use Rattle.usb_model.specs.Packets.{put_at}
+use Rattle.usb_model.specs.Settlements.{pauses}
 use Rattle.refine_world.proofs.Finished.{reads_at}
 use Rattle.proof_lemmas.proofs.Lists.Parts.{heads_same}
 use Rattle.refine_world.proofs.Fronts.{fronts, told_none}

@@ -4,12 +4,12 @@ use Rattle.std.specs.Prelude.{if◌then◌else◌, nat_le, nat_lt, not, ◌&&◌
 use Rattle.std.proofs.lemmas.Bool.{and_parts, leb-true, ltb-true}
 use Rattle.std.proofs.lemmas.Option.{same_Some}
 use Rattle.usb_model.specs.declared.item.Ask.{Ask}
-use Rattle.usb_design.specs.Events.{covers, find_at, past_at}
-use Rattle.usb_design.specs.Joins.{kept_ask}
-use Rattle.usb_design.specs.Kept.{InRow, KeptTransfer, first_place}
-use Rattle.usb_design.specs.Packets.{put_at}
-use Rattle.usb_design.specs.Settlements.{kept_blanked, kept_withdrawn}
-use Rattle.usb_design.specs.Stands.{one_on, stand}
+use Rattle.usb_model.specs.Events.{covers, find_at, past_at}
+use Rattle.usb_model.specs.Joins.{kept_ask}
+use Rattle.usb_model.specs.Kept.{InRow, KeptTransfer, first_place}
+use Rattle.usb_model.specs.Packets.{put_at}
+use Rattle.usb_model.specs.Settlements.{kept_blanked, kept_withdrawn}
+use Rattle.usb_model.specs.Stands.{one_on, stand}
 use Rattle.refine_world.proofs.Ahead.{row_low}
 
 -- another transfer at the place of one that is found

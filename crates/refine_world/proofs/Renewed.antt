@@ -7,7 +7,7 @@ use Rattle.usb_model.specs.declared.response.Response.{Response}
 use Rattle.usb_model.specs.Endpoint.{fresh}
 use Rattle.usb_model.specs.Setup.{Setup, script_of}
 use Rattle.usb_model.specs.Coherence.{served_events}
-use Rattle.usb_design.specs.Kept.{KeptEndpoint, SentErrand, Telling, new_kept_endpoint}
+use Rattle.usb_model.specs.Kept.{KeptEndpoint, SentErrand, Telling, new_kept_endpoint}
 use Rattle.refine_world.specs.ShownEndpoint.{ShowsEnd, StandsNear, front, told_of}
 
 pub fresh_shows : (size : ℕ) (setup : Setup) (d e : ℕ) → ShowsEnd size (fresh setup d e) [] [] (new_kept_endpoint (script_of setup d e)) [] []

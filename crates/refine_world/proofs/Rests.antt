@@ -1,5 +1,5 @@
 -- Steps that do no work at an endpoint: Open, Close, Claim, Release, Reset, Take, Unplug, an Answer that submits nothing, and refusals.
-use Rattle.usb_design.specs.Kept.{new_kept_endpoint}
+use Rattle.usb_model.specs.Kept.{new_kept_endpoint}
 use Rattle.std.proofs.Common.{Bool, List, None, Option, Some, [], ap, ap₂, append-nil, false, inl, inr, map, refl, subst, subst₂, sym, true, ℕ, ◌&&◌, ◌++◌, ◌==◌, ◌∙◌, ◌∷◌, ◌≡◌, ◌⊎◌}
 use Rattle.std.specs.Prelude.{if◌then◌else◌, not, option_and_then}
 use Rattle.std.specs.List.{filter}

@@ -14,9 +14,9 @@ use Rattle.usb_model.specs.Endpoint.{bytes_read, first_waiting, outcome_of}
 use Rattle.usb_model.specs.Endpoint.Packets.{count_of}
 use Rattle.usb_model.specs.Setup.{Setup, packet_size_of}
 use Rattle.usb_model.specs.World.{World, holder}
-use Rattle.usb_design.specs.Events.{find_at}
-use Rattle.usb_design.specs.Kept.{KeptEndpoint, KeptTransfer, SentErrand, Telling}
-use Rattle.usb_design.specs.Packets.{sent_before}
+use Rattle.usb_model.specs.Events.{find_at}
+use Rattle.usb_model.specs.Kept.{KeptEndpoint, KeptTransfer, SentErrand, Telling}
+use Rattle.usb_model.specs.Packets.{sent_before}
 use Rattle.refine_world.specs.Lively.{IsFine}
 use Rattle.refine_world.specs.ShownEndpoint.{ShowsEnd, front_of, is_stale}
 use Rattle.refine_world.specs.Shows.{Core, Shows}

@@ -9,7 +9,7 @@ use Rattle.usb_model.specs.declared.request.Request.{Request}
 use Rattle.usb_model.specs.Endpoint.{in_progress, is_blank, is_transfer}
 use Rattle.refine_world.specs.Calls.{is_kept_it, kept_in_progress}
 use Rattle.refine_world.specs.ShownEndpoint.{AllKept}
-use Rattle.usb_design.specs.Kept.{KeptTransfer, SentErrand}
+use Rattle.usb_model.specs.Kept.{KeptTransfer, SentErrand}
 
 -- what is read of it
 pub record Looked : Type 0 where

@@ -15,7 +15,7 @@ use Rattle.usb_model.specs.declared.setup.EndpointInfo.{EndpointInfo}
 use Rattle.usb_model.specs.Setup.{Setup, endpoints_of, info_of, interface_of}
 use Rattle.usb_model.specs.World.{World, holder}
 use Rattle.usb_model.specs.Coherence.{IsCoherent, IsPhase, ended, move_ran, move_waits, reset_ran, reset_waits, runs, served_events, stop_failed, stop_ran, stop_ran_paused, stop_waits, stop_waits_halted}
-use Rattle.usb_design.specs.Kept.{KeptEndpoint, Completion, SentErrand, Telling, Transfer, code_of, index_of}
+use Rattle.usb_model.specs.Kept.{KeptEndpoint, Completion, SentErrand, Telling, Transfer, code_of, index_of}
 use Rattle.refine_world.specs.ShownEndpoint.{ShowsEnd, orders_sent, pause_told, tail_told, told_of}
 use Rattle.refine_world.specs.Lively.{IsFine}
 use Rattle.refine_world.specs.Shows.{At, Core, InRun, Report, RingOrder, Shows, at, completed, event_at, here, ring_event, ring_order, tellings, under_way}

@@ -18,15 +18,15 @@ use Rattle.usb_model.specs.Endpoint.Serve.{acknowledged, is_no_packet, next_answ
 use Rattle.usb_model.specs.Endpoint.Status.{halts}
 use Rattle.proof_lemmas.proofs.Work.Errands.{events-with_first}
 use Rattle.usb_model.specs.Coherence.{IsCoherent, event_by, served_events}
-use Rattle.usb_design.specs.Stands.{Stand, stand, total}
+use Rattle.usb_model.specs.Stands.{Stand, stand, total}
 use Rattle.refine_world.specs.ShownEndpoint.{AllKept, IsLive, NewBehind, ShowsEnd, count, front, front_of, is_stale, orders_sent, telling_of, tail_told, told_of}
-use Rattle.usb_design.specs.Kept.{InRow, KeptEndpoint, KeptTransfer, SentErrand, Telling, first_place}
-use Rattle.usb_design.specs.Events.{covers, find_at, past_at, past_kept_blanks}
-use Rattle.usb_design.specs.Packets.{Packet, answer_now, answered_by, answered_gone, endpoint_with, event_at, gave, got, packet_now, put_at, sent_before, serve_at, serve_kept, walk}
+use Rattle.usb_model.specs.Kept.{InRow, KeptEndpoint, KeptTransfer, SentErrand, Telling, first_place}
+use Rattle.usb_model.specs.Events.{covers, find_at, past_at, past_kept_blanks}
+use Rattle.usb_model.specs.Packets.{Packet, answer_now, answered_by, answered_gone, endpoint_with, event_at, gave, got, packet_now, put_at, sent_before, serve_at, serve_kept, walk}
 use Rattle.refine_world.specs.Kept.{PacketIs, Serves, grown, outcome_now}
 use Rattle.refine_world.proofs.FirstServed.{covers_past}
 use Rattle.refine_world.proofs.Fronts.{Fronted, Puts, fronts}
-use Rattle.usb_design.proofs.Stands.{stands_some, walks}
+use Rattle.usb_model.proofs.Stands.{stands_some, walks}
 use Rattle.proof_lemmas.proofs.Work.Phases.{running_tail}
 
 -- a running endpoint's controller stands at the first waiting transfer

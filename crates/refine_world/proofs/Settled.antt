@@ -20,10 +20,10 @@ use Rattle.usb_model.specs.Endpoint.{is_blank, is_blank_state, is_waiting, is_wa
 use Rattle.proof_lemmas.proofs.Work.Errands.{events-blanked, events-past_blanks}
 use Rattle.usb_model.specs.Coherence.{IsCoherent, IsPhase, event_by, ended, move_ran, move_waits, reset_ran, reset_waits, runs, served_events, stop_failed, stop_ran, stop_ran_paused, stop_waits, stop_waits_halted}
 use Rattle.refine_world.specs.ShownEndpoint.{AllKept, AllNew, FrontKnown, IsOrderly, NewBehind, ShowsEnd, count, front, has_pause, is_stale, known_by, new_by, orders_sent, tail_told}
-use Rattle.usb_design.specs.Kept.{Completion, InRow, KeptEndpoint, KeptTransfer, SentErrand, Telling, code_of, first_place, index_of}
+use Rattle.usb_model.specs.Kept.{Completion, InRow, KeptEndpoint, KeptTransfer, SentErrand, Telling, code_of, first_place, index_of}
 use Rattle.refine_world.specs.Kept.{Handles}
-use Rattle.usb_design.specs.Events.{kept_result, past_kept_blanks, posts}
-use Rattle.usb_design.specs.Settlements.{kept_blanked, kept_withdrawn, leads_kept, resume_kept, settle, withdrawn_results}
+use Rattle.usb_model.specs.Events.{kept_result, past_kept_blanks, posts}
+use Rattle.usb_model.specs.Settlements.{kept_blanked, kept_withdrawn, leads_kept, resume_kept, settle, withdrawn_results}
 use Rattle.refine_world.proofs.FirstServed.{blanks_leave}
 use Rattle.refine_world.proofs.Finished.{same_result}
 use Rattle.proof_lemmas.proofs.Lists.Parts.{heads_same}

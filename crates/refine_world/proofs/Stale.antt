@@ -19,10 +19,10 @@ use Rattle.usb_model.specs.declared.news.Event.{Event}
 use Rattle.usb_model.specs.declared.reply.Reply.TheVariants as reply
 use Rattle.usb_model.specs.declared.reply.Reply.{Reply}
 use Rattle.usb_model.specs.declared.request.Request.{Request}
-use Rattle.usb_design.specs.Events.{Handled, Reading, errand_of, find_at, finish, kept_after, kept_result, past_at, past_kept_blanks, posts}
-use Rattle.usb_design.specs.Joins.{asked, joined, kept_ask, new_kept}
-use Rattle.usb_design.specs.Kept.{InRow, KeptEndpoint, KeptTransfer, SentErrand, Telling, Transfer, first_place, trbs_of}
-use Rattle.usb_design.specs.Settlements.{kept_blanked, leads_kept, pauses, resume_kept, settle, withdrawn_results}
+use Rattle.usb_model.specs.Events.{Handled, Reading, errand_of, find_at, finish, kept_after, kept_result, past_at, past_kept_blanks, posts}
+use Rattle.usb_model.specs.Joins.{asked, joined, kept_ask, new_kept}
+use Rattle.usb_model.specs.Kept.{InRow, KeptEndpoint, KeptTransfer, SentErrand, Telling, Transfer, first_place, trbs_of}
+use Rattle.usb_model.specs.Settlements.{kept_blanked, leads_kept, pauses, resume_kept, settle, withdrawn_results}
 use Rattle.refine_world.specs.ShownEndpoint.{AllBefore, AllFew, IsNear, ShowsEnd, StandsNear, is_stale}
 use Rattle.refine_world.proofs.Ahead.{told_near}
 use Rattle.refine_world.proofs.FirstServed.{Less, blanks_leave}

@@ -15,7 +15,7 @@ use Rattle.usb_model.specs.Setup.{Setup, packet_size_of}
 use Rattle.usb_model.specs.World.{World, holder}
 use Rattle.proof_lemmas.proofs.Lists.Parts.{heads_same}
 use Rattle.proof_lemmas.proofs.Lists.Pieces.{same_name}
-use Rattle.usb_design.specs.Kept.{KeptEndpoint, SentErrand, code_of, index_of}
+use Rattle.usb_model.specs.Kept.{KeptEndpoint, SentErrand, code_of, index_of}
 use Rattle.refine_world.specs.Known.{KnowsEvent, NeverStray, NoMove}
 use Rattle.refine_world.specs.Lively.{IsFine, ends_of}
 use Rattle.refine_world.specs.ShownEndpoint.{ShowsEnd}

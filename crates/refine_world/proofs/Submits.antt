@@ -16,10 +16,10 @@ use Rattle.usb_model.specs.Endpoint.Packets.{open_with}
 use Rattle.proof_lemmas.proofs.Work.Errands.{events-push}
 use Rattle.proof_lemmas.proofs.Shares.OpenShares.{outcome_nothing}
 use Rattle.usb_model.specs.Requests.{length_of}
-use Rattle.usb_design.specs.Stands.{full_trbs, stand}
+use Rattle.usb_model.specs.Stands.{full_trbs, stand}
 use Rattle.refine_world.specs.ShownEndpoint.{AllKept, FirstPaused, FrontKnown, IsKept, ShowsEnd, count, front, front_of, known_by, pause_told, tail_told, telling_of, told_by, told_of}
-use Rattle.usb_design.specs.Kept.{Completion, InRow, KeptEndpoint, KeptTransfer, SentErrand, Telling, code_of, first_place, index_of, is_extra, trbs_of}
-use Rattle.usb_design.specs.Joins.{joined, new_kept}
+use Rattle.usb_model.specs.Kept.{Completion, InRow, KeptEndpoint, KeptTransfer, SentErrand, Telling, code_of, first_place, index_of, is_extra, trbs_of}
+use Rattle.usb_model.specs.Joins.{joined, new_kept}
 use Rattle.refine_world.proofs.Fronts.{none_moved, starts}
 
 some_trbs : (size : ℕ) (request : Request) → 0 < length (trbs_of size request)

@@ -21,10 +21,10 @@ use Rattle.usb_model.specs.Endpoint.Serve.{acknowledged, next_answer}
 use Rattle.proof_lemmas.proofs.Shares.More.{one_more}
 use Rattle.proof_lemmas.proofs.Shares.Next.{next_there}
 use Rattle.proof_lemmas.proofs.Shares.OpenShares.{IsWhole, open_at, open_whole, halted_outcome}
-use Rattle.usb_design.specs.Stands.{full_trbs, lengths_of, total}
+use Rattle.usb_model.specs.Stands.{full_trbs, lengths_of, total}
 use Rattle.refine_world.specs.ShownEndpoint.{AllNew, AllOpen, IsLive, count, known_by, new_by}
-use Rattle.usb_design.specs.Kept.{KeptEndpoint, KeptTransfer, is_extra, trbs_of}
-use Rattle.usb_design.specs.Packets.{Packet, answer_now, gave, got, packet_by, packet_now, packet_of, room_at}
+use Rattle.usb_model.specs.Kept.{KeptEndpoint, KeptTransfer, is_extra, trbs_of}
+use Rattle.usb_model.specs.Packets.{Packet, answer_now, gave, got, packet_by, packet_now, packet_of, room_at}
 use Rattle.refine_world.specs.Kept.{PacketIs, grown, outcome_now, PauseTold}
 use Rattle.refine_world.proofs.Packets.{IsCounted, counted, next_is}
 use Rattle.refine_world.proofs.Fronts.{none_moved}

@@ -16,7 +16,7 @@ use Rattle.usb_model.specs.declared.item.ItemState.TheVariants.{Blank, Served, W
 use Rattle.usb_model.specs.declared.item.ItemState.{ItemState}
 use Rattle.usb_model.specs.declared.news.Event.TheVariants.{Settled}
 use Rattle.usb_model.specs.declared.news.Event.{Event}
-use Rattle.usb_design.specs.Kept.{Completion, KeptEndpoint, KeptTransfer, SentErrand, Telling, Transfer}
+use Rattle.usb_model.specs.Kept.{Completion, KeptEndpoint, KeptTransfer, SentErrand, Telling, Transfer}
 use Rattle.refine_world.specs.Lively.{IsFine, ends_of}
 use Rattle.refine_world.specs.ShownEndpoint.{ShowsEnd, orders_sent, pause_told, tail_told, telling_of, told_by, told_of}
 use Rattle.refine_world.specs.Shows.{At, Core, Report, RingOrder, Shows, at, completed, event_at, here, ring_event, ring_order, tellings, under_way}

@@ -20,7 +20,7 @@ use Rattle.usb_model.specs.Coherence.{IsCoherent, IsPhase, ended, move_ran, move
 use Rattle.proof_lemmas.proofs.Handles.Isolation.{gone_stays}
 use Rattle.proof_lemmas.proofs.Lists.Pieces.{same_name}
 use Rattle.refine_world.specs.ShownEndpoint.{AllFew, ShowsEnd, StandsNear, is_stale}
-use Rattle.usb_design.specs.Kept.{KeptEndpoint, SentErrand, Telling}
+use Rattle.usb_model.specs.Kept.{KeptEndpoint, SentErrand, Telling}
 use Rattle.refine_world.specs.Shows.{At, Core, InRun, Report, Shows, at, errands, event_at, events, news_of, order_at, order_of, ring_event, ring_order, tellings, under_way}
 use Rattle.refine_world.specs.Steps.{Work, posted_by, worked}
 use Rattle.refine_world.proofs.Ahead.{fresh_near}

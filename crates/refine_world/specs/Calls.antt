@@ -27,9 +27,9 @@ use Rattle.usb_model.specs.Requests.{is_same_kind, is_unsupported}
 use Rattle.usb_model.specs.Setup.{Setup, endpoints_of, has_interface, interfaces_of, is_device, kind_of, packet_size_of}
 use Rattle.usb_model.specs.World.{World, holder, is_its, is_others}
 use Rattle.usb_model.specs.World.Shared.{pieces_of}
-use Rattle.usb_design.specs.Kept.{KeptEndpoint, KeptTransfer}
-use Rattle.usb_design.specs.Events.{Handled}
-use Rattle.usb_design.specs.Joins.{asked, joined}
+use Rattle.usb_model.specs.Kept.{KeptEndpoint, KeptTransfer}
+use Rattle.usb_model.specs.Events.{Handled}
+use Rattle.usb_model.specs.Joins.{asked, joined}
 use Rattle.refine_world.specs.Shows.{Core, Shows}
 use Rattle.refine_world.specs.Steps.{Stepped, StepsTo, command_core, deliver_core, handle_work, rested, serve_core, take_core, worked}
 

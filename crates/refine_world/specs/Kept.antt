@@ -2,8 +2,8 @@
 use Rattle.std.specs.Prelude.{◌≡◌, ℕ, ◌+◌, List, [], ◌++◌, length, Some, ◌≤◌, ◌==◌}
 use Rattle.std.specs.Option.{unwrap_or}
 use Rattle.usb_model.specs.declared.errand.Errand.{Errand}
-use Rattle.usb_design.specs.Stands.{total}
-use Rattle.usb_design.specs.Kept.{Telling, SentErrand, trbs_of}
+use Rattle.usb_model.specs.Stands.{total}
+use Rattle.usb_model.specs.Kept.{Telling, SentErrand, trbs_of}
 use Rattle.refine_world.specs.ShownEndpoint.{ShowsEnd, count}
 use Rattle.usb_model.specs.declared.endpoint_effect.EndpointEffect.{EndpointEffect}
 use Rattle.usb_model.specs.declared.news.Event.{Event}
@@ -14,9 +14,9 @@ use Rattle.usb_model.specs.Endpoint.{outcome_of, bytes_read, first_waiting}
 use Rattle.usb_model.specs.declared.outcome.Outcome.{Outcome}
 use Rattle.usb_model.specs.Endpoint.Packets.{outcome, open_with, count_of}
 use Rattle.usb_model.specs.Endpoint.Serve.{next_answer, acknowledged}
-use Rattle.usb_design.specs.Events.{Handled}
-use Rattle.usb_design.specs.Packets.{Packet, got, gave, Answered}
-use Rattle.usb_design.specs.Commands.{Carried}
+use Rattle.usb_model.specs.Events.{Handled}
+use Rattle.usb_model.specs.Packets.{Packet, got, gave, Answered}
+use Rattle.usb_model.specs.Commands.{Carried}
 
 -- a handled event leaves what the definitions' step leaves
 pub record Handles (size : ℕ) (d : EndpointEffect) (h : Handled) (os : List Errand) (ns : List Event) (sent : List SentErrand) (told : List Telling) : Type 0 where

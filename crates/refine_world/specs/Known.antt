@@ -9,8 +9,8 @@ use Rattle.usb_model.specs.Machine.Calls.{callback_of}
 use Rattle.usb_model.specs.Setup.{Setup}
 use Rattle.usb_model.specs.World.{World, holder}
 use Rattle.usb_model.specs.World.Shared.{pieces_of}
-use Rattle.usb_design.specs.Kept.{KeptTransfer, SentErrand}
-use Rattle.usb_design.specs.Events.{Reading, errand_of, reading}
+use Rattle.usb_model.specs.Kept.{KeptTransfer, SentErrand}
+use Rattle.usb_model.specs.Events.{Reading, errand_of, reading}
 use Rattle.refine_world.specs.Shows.{Completes, Core, RingEvent, RingOrder, Shows, Transfers}
 use Rattle.refine_world.specs.Steps.{sender}
 

@@ -24,15 +24,15 @@ use Rattle.refine_world.specs.Lively.{IsLively, ends_of}
 use Rattle.refine_world.specs.Shows.{Core, Shows, under_way}
 use Rattle.refine_world.specs.Steps.{StepsTo, command_core, deliver_core, new_core, serve_core, take_core}
 use Rattle.usb_model.specs.Coherence.{IsCoherent}
-use Rattle.usb_design.specs.Stands.{read_off, residual, stand, total}
-use Rattle.usb_design.specs.Kept.{KeptEndpoint, KeptTransfer, Completion, SentErrand, Telling, Transfer, code_of, first_place, index_of}
+use Rattle.usb_model.specs.Stands.{read_off, residual, stand, total}
+use Rattle.usb_model.specs.Kept.{KeptEndpoint, KeptTransfer, Completion, SentErrand, Telling, Transfer, code_of, first_place, index_of}
 use Rattle.refine_world.specs.ShownEndpoint.{IsOrderly, ShowsEnd}
 use Rattle.refine_world.specs.Kept.{Handles, Serves, Carries}
-use Rattle.usb_design.specs.Events.{Reading, find_at, finish, reading}
-use Rattle.usb_design.specs.Packets.{sent_before, serve_kept}
-use Rattle.usb_design.specs.Commands.{carry}
-use Rattle.usb_design.specs.Settlements.{pauses, settle}
-use Rattle.usb_design.specs.Joins.{asked, joined}
+use Rattle.usb_model.specs.Events.{Reading, find_at, finish, reading}
+use Rattle.usb_model.specs.Packets.{sent_before, serve_kept}
+use Rattle.usb_model.specs.Commands.{carry}
+use Rattle.usb_model.specs.Settlements.{pauses, settle}
+use Rattle.usb_model.specs.Joins.{asked, joined}
 
 -- the bytes moved are read off the residual of an event where the transfer stands
 abbrev pub ReadsBack : Type 0

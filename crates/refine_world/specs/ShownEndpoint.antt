@@ -16,8 +16,8 @@ use Rattle.usb_model.specs.Endpoint.{first_waiting, is_waiting, is_blank, outcom
 use Rattle.usb_model.specs.Endpoint.Packets.{count_of, outcome, IsOpenAt}
 use Rattle.usb_model.specs.Endpoint.Deliver.{leads_blank}
 use Rattle.usb_model.specs.Coherence.{served_events}
-use Rattle.usb_design.specs.Stands.{stand, residual, total}
-use Rattle.usb_design.specs.Kept.{InRow, KeptTransfer, Telling, Transfer, Completion, SentErrand, KeptEndpoint, trbs_of, first_place, code_of, index_of}
+use Rattle.usb_model.specs.Stands.{stand, residual, total}
+use Rattle.usb_model.specs.Kept.{InRow, KeptTransfer, Telling, Transfer, Completion, SentErrand, KeptEndpoint, trbs_of, first_place, code_of, index_of}
 
 -- the bytes that a transfer moved
 abbrev pub count : ℕ → Item → ℕ

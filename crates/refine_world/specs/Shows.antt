@@ -13,7 +13,7 @@ use Rattle.usb_model.specs.declared.shared.Tagged.{Tagged}
 use Rattle.usb_model.specs.Setup.{Setup, packet_size_of}
 use Rattle.usb_model.specs.World.{World, Claims, holder, turn, new_world, world_from}
 use Rattle.refine_world.specs.ShownEndpoint.{AllFew, ShowsDevice, ShowsEnd, StandsNear}
-use Rattle.usb_design.specs.Kept.{Telling, Transfer, Completion, SentErrand, KeptEndpoint}
+use Rattle.usb_model.specs.Kept.{Telling, Transfer, Completion, SentErrand, KeptEndpoint}
 
 -- an order as the command ring has it: its endpoint, and the place where it stands, counted without end
 pub record RingOrder : Type 0 where

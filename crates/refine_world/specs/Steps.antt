@@ -19,11 +19,11 @@ use Rattle.usb_model.specs.Setup.{Setup, endpoints_of, is_within, script_of, pac
 use Rattle.usb_model.specs.World.Shared.{past_first, tagged}
 use Rattle.usb_model.specs.Machine.Turns.{takes_news, takes_order, takes_result}
 use Rattle.usb_model.specs.World.{World, claims_after, holder, is_its, turn}
-use Rattle.usb_design.specs.Kept.{KeptEndpoint, SentErrand, Telling, new_kept_endpoint}
-use Rattle.usb_design.specs.Commands.{Carried, carry}
-use Rattle.usb_design.specs.Events.{Handled, Reading, finish, reading}
-use Rattle.usb_design.specs.Packets.{Answered, serve_kept}
-use Rattle.usb_design.specs.Settlements.{pauses, settle}
+use Rattle.usb_model.specs.Kept.{KeptEndpoint, SentErrand, Telling, new_kept_endpoint}
+use Rattle.usb_model.specs.Commands.{Carried, carry}
+use Rattle.usb_model.specs.Events.{Handled, Reading, finish, reading}
+use Rattle.usb_model.specs.Packets.{Answered, serve_kept}
+use Rattle.usb_model.specs.Settlements.{pauses, settle}
 use Rattle.refine_world.specs.Shows.{Core, Completes, RingEvent, RingOrder, Shows, Transfers, event_at, order_at}
 
 -- what work at an endpoint leaves: its endpoint, the orders posted, the events told, the results made

@@ -6,9 +6,9 @@ use Rattle.usb_model.specs.declared.errand.Errand.TheVariants.{Reset, Stop}
 use Rattle.usb_model.specs.declared.item.Ask.{Ask}
 use Rattle.usb_model.specs.declared.reply.Reply.TheVariants.{Done, Finished}
 use Rattle.usb_model.specs.Endpoint.Deliver.{needs_reset}
-use Rattle.usb_design.specs.Kept.{KeptEndpoint, SentErrand}
-use Rattle.usb_design.specs.Events.{Handled, Reading, errand_of, finish, kept_result, posts}
-use Rattle.usb_design.specs.Joins.{asked}
+use Rattle.usb_model.specs.Kept.{KeptEndpoint, SentErrand}
+use Rattle.usb_model.specs.Events.{Handled, Reading, errand_of, finish, kept_result, posts}
+use Rattle.usb_model.specs.Joins.{asked}
 use Rattle.usb_cancel.specs.Orders.{ordered, with_ask, without_ended}
 
 -- there is an order of the errand just where there is an errand

@@ -5,9 +5,9 @@ use Rattle.std.specs.Prelude.{if◌then◌else◌, is_some, not, ◌&&◌, ◌||
 use Rattle.usb_model.specs.declared.errand.Errand.{Errand}
 use Rattle.usb_model.specs.declared.errand.Errand.TheVariants.{Move, Reset, Stop}
 use Rattle.usb_model.specs.declared.reply.Reply.TheVariants.{Settled}
-use Rattle.usb_design.specs.Kept.{KeptEndpoint, KeptTransfer}
-use Rattle.usb_design.specs.Events.{Handled, past_kept_blanks}
-use Rattle.usb_design.specs.Settlements.{kept_blanked, leads_kept, resume_kept, settle, withdrawn_results}
+use Rattle.usb_model.specs.Kept.{KeptEndpoint, KeptTransfer}
+use Rattle.usb_model.specs.Events.{Handled, past_kept_blanks}
+use Rattle.usb_model.specs.Settlements.{kept_blanked, leads_kept, resume_kept, settle, withdrawn_results}
 use Rattle.usb_cancel.specs.declared.ended.Mark.{Mark}
 use Rattle.usb_cancel.specs.Settlements.{goes_on, leading, leads_withdrawn, mark_of, resumed_at, settled_by}
 

@@ -4,9 +4,9 @@ use Rattle.usb_model.specs.declared.errand.Errand.{Errand}
 use Rattle.usb_model.specs.declared.item.Ask.{Ask}
 use Rattle.usb_model.specs.declared.reply.Reply.{Reply}
 use Rattle.usb_model.specs.declared.result.TransferResult.{TransferResult}
-use Rattle.usb_design.specs.Kept.{KeptEndpoint}
-use Rattle.usb_design.specs.Events.{Handled, kept_after, posts}
-use Rattle.usb_design.specs.Joins.{kept_ask}
+use Rattle.usb_model.specs.Kept.{KeptEndpoint}
+use Rattle.usb_model.specs.Events.{Handled, kept_after, posts}
+use Rattle.usb_model.specs.Joins.{kept_ask}
 
 -- this errand, if there is one, is posted at the command ring's next index
 abbrev pub ordered : Option Errand → ℕ → KeptEndpoint → Reply → List TransferResult → Handled

@@ -7,9 +7,9 @@ use Rattle.usb_model.specs.declared.endpoint.EndpointState.TheVariants.{Running}
 use Rattle.usb_model.specs.declared.reply.Reply.{Reply}
 use Rattle.usb_model.specs.declared.reply.Reply.TheVariants.{Settled}
 use Rattle.usb_model.specs.declared.result.TransferResult.{TransferResult}
-use Rattle.usb_design.specs.Kept.{KeptEndpoint, KeptTransfer}
-use Rattle.usb_design.specs.Events.{Handled, posts}
-use Rattle.usb_design.specs.Settlements.{kept_blanked, withdrawn_results}
+use Rattle.usb_model.specs.Kept.{KeptEndpoint, KeptTransfer}
+use Rattle.usb_model.specs.Events.{Handled, posts}
+use Rattle.usb_model.specs.Settlements.{kept_blanked, withdrawn_results}
 use Rattle.usb_cancel.specs.declared.ended.Mark.{Mark}
 use Rattle.usb_cancel.specs.declared.ended.Settlement.{Settlement}
 

@@ -1,8 +1,8 @@
 //! What follows when an errand ended.
 
 ghost use Rattle.std.specs.Prelude.{◌≡◌, ◌≤◌, ◌||◌, ℕ, length, map, not};
-ghost use Rattle.usb_design.specs.Kept.{KeptEndpoint};
-ghost use Rattle.usb_design.specs.Settlements as kept;
+ghost use Rattle.usb_model.specs.Kept.{KeptEndpoint};
+ghost use Rattle.usb_model.specs.Settlements as kept;
 ghost use Rattle.usb_cancel.specs.Settlements.{fails_stop, leading, mark_of, resumed_at, settled_by};
 
 use usb_model::Errand;

@@ -2,7 +2,7 @@
 //! meanwhile (xHCI 1.2, 4.6.8 to 4.6.10; `libusb_cancel_transfer`).
 //!
 //! The one promise: at most one errand is outstanding at an endpoint, and each answer of the controller is followed by
-//! what `usb_design` says of the whole endpoint.
+//! what `usb_model` says of the whole endpoint.
 //!
 //! # Files
 //!
@@ -13,14 +13,14 @@
 //!
 //! # Contracts
 //!
-//! - `ask`, `next_order`: over every kept endpoint with this errand outstanding: what `usb_design` does at an ask,
+//! - `ask`, `next_order`: over every kept endpoint with this errand outstanding: what `usb_model` does at an ask,
 //!   and at the event of a transfer's end, is to order this and no more; where an errand is outstanding nothing is
 //!   ordered (clause `one`)
-//! - `settle`: over every kept endpoint whose line has these marks: what `usb_design` does at the end of the errand
+//! - `settle`: over every kept endpoint whose line has these marks: what `usb_model` does at the end of the errand
 //!   is this settlement. No more leave than the line has; asked transfers are withdrawn but after a Stop that failed
 //!
 //! It doesn't say: where an order stands in the command ring, nor what a withdrawn transfer's result is; both are in
-//! `usb_design`'s endpoint, and the core's to do.
+//! `usb_model`'s endpoint, and the core's to do.
 #![tactic(auto)]
 
 mod ended;

@@ -4,9 +4,9 @@ ghost use Rattle.std.specs.Prelude.{◌≡◌, ℕ, Bool, IfSome, [], ◌∷◌}
 ghost use Rattle.usb_model.specs.declared.item.Ask.{Ask};
 ghost use Rattle.usb_model.specs.Endpoint.Deliver.{needs_reset};
 ghost use Rattle.usb_model.specs.declared.reply.Reply.TheVariants.{Done, Finished};
-ghost use Rattle.usb_design.specs.Kept.{KeptEndpoint};
-ghost use Rattle.usb_design.specs.Events.{Reading, errand_of, finish, kept_result};
-ghost use Rattle.usb_design.specs.Joins.{asked};
+ghost use Rattle.usb_model.specs.Kept.{KeptEndpoint};
+ghost use Rattle.usb_model.specs.Events.{Reading, errand_of, finish, kept_result};
+ghost use Rattle.usb_model.specs.Joins.{asked};
 ghost use Rattle.usb_cancel.specs.Orders.{ordered, with_ask, without_ended};
 
 use usb_model::Errand;

@@ -7,10 +7,10 @@ use Rattle.std.proofs.lemmas.Bool.{eq-eqb, eqb-true, le-leb, leb-true, lt-ltb, l
 use Rattle.usb_model.specs.Completion.{stopped}
 use Rattle.usb_model.specs.Endpoint.Status.{status_of, told_status}
 use Rattle.usb_model.specs.Requests.{is_short_not_ok, length_of}
-use Rattle.usb_design.specs.Kept.{KeptTransfer}
-use Rattle.usb_design.specs.Stands.{length_at, read_off}
-use Rattle.usb_design.specs.Events.{covers, find_at, read_at}
-use Rattle.usb_design.specs.Events as kept
+use Rattle.usb_model.specs.Kept.{KeptTransfer}
+use Rattle.usb_model.specs.Stands.{length_at, read_off}
+use Rattle.usb_model.specs.Events.{covers, find_at, read_at}
+use Rattle.usb_model.specs.Events as kept
 use Rattle.usb_completion.specs.declared.placed.Placed.{Placed}
 use Rattle.usb_completion.specs.declared.placed.PlacedTrb.{PlacedTrb}
 use Rattle.usb_completion.specs.declared.target.Reading.{Reading}

@@ -3,7 +3,7 @@ use Rattle.std.specs.Prelude.{ℕ, ◌+◌, ◌-◌, ◌==◌, nat_lt, false, Li
 use Rattle.std.specs.Option.{option_map}
 use Rattle.usb_model.specs.Completion.{stopped}
 use Rattle.usb_model.specs.Endpoint.Status.{told_status}
-use Rattle.usb_design.specs.Stands.{length_at, total}
+use Rattle.usb_model.specs.Stands.{length_at, total}
 use Rattle.usb_trb.specs.declared.kind.TrbKind.{TrbKind}
 use Rattle.usb_trb.specs.declared.kind.TrbKind.TheVariants.{TransferEvent}
 use Rattle.usb_completion.specs.declared.placed.Placed.{Placed}

@@ -4,8 +4,8 @@ use Rattle.std.specs.List.{AllByRecursion}
 use Rattle.usb_model.specs.Completion.{stopped}
 use Rattle.usb_model.specs.Endpoint.Status.{status_of}
 use Rattle.usb_model.specs.Requests.{is_short_not_ok, length_of}
-use Rattle.usb_design.specs.Kept.{KeptTransfer}
-use Rattle.usb_design.specs.Events as kept
+use Rattle.usb_model.specs.Kept.{KeptTransfer}
+use Rattle.usb_model.specs.Events as kept
 use Rattle.usb_completion.specs.declared.placed.Placed.{Placed}
 use Rattle.usb_completion.specs.declared.placed.PlacedTrb.{PlacedTrb}
 use Rattle.usb_completion.specs.declared.target.Reading.{Reading}

@@ -2,7 +2,7 @@
 
 ghost use Rattle.usb_completion.specs.Lines.{ReadsLines};
 
-/// An event that points at a place of a line is read as `usb_design` says of the line, where the addresses of its
+/// An event that points at a place of a line is read as `usb_model` says of the line, where the addresses of its
 /// places differ.
 pub fn reads_as_kept()
     ensures { ReadsLines }

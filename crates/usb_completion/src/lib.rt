@@ -10,7 +10,7 @@
 //! - `event.rt`, `placed.rt`: `read_event`: the same against a line of transfers with the addresses of their TRBs
 //!   (`Placed`, `PlacedTrb`), five at most, in room of its own
 //! - `status.rt`: `result`: the status by a code
-//! - `laws.rt`, specs/Lines: where the addresses of a line's places differ, a reading is that of `usb_design`
+//! - `laws.rt`, specs/Lines: where the addresses of a line's places differ, a reading is that of `usb_model`
 //! - specs/ Events, Statuses: what an event tells; which ends have which status, read from the status
 //!
 //! # Contracts
@@ -25,7 +25,7 @@
 //!   over its TRB's length, and where the event is of another kind
 //! - `result`: the status is that of the definitions; and, read the other way, each status is given for just the ends
 //!   that it stands for (clause `exact`)
-//! - `usb_completion::laws::reads_as_kept`: an event at a place of a line is read as `usb_design` reads it, and is
+//! - `usb_completion::laws::reads_as_kept`: an event at a place of a line is read as `usb_model` reads it, and is
 //!   stray just where that finds nothing; premise: no other place of the line has its address
 #![tactic(auto)]
 

@@ -1,7 +1,7 @@
 //! A transfer of a line, as events are read against it.
 
 ghost use Rattle.std.specs.Prelude.{◌≡◌, ◌<◌, ◌≤◌, ◌*◌, ◌+◌, ◌^◌, IfSome, length, map};
-ghost use Rattle.usb_design.specs.Stands.{total};
+ghost use Rattle.usb_model.specs.Stands.{total};
 ghost use Rattle.usb_completion.specs.Events.{target_at, target_of, trb_at};
 
 use crate::target::Target;

@@ -6,7 +6,7 @@ use Rattle.usb_model.specs.declared.item.Item.{Item}
 use Rattle.usb_model.specs.Endpoint.{is_blank}
 use Rattle.usb_model.specs.Setup.{Setup, packet_size_of}
 use Rattle.usb_model.specs.World.{World, holder}
-use Rattle.usb_design.specs.Kept.{KeptTransfer}
+use Rattle.usb_model.specs.Kept.{KeptTransfer}
 use Rattle.usb_device.specs.Pipe.{pipe_at}
 use Rattle.usb_tables.specs.Flights.{EndedOf, item_at, line_at}
 use Rattle.usb_transfer.specs.declared.transfer.Transfer.{Transfer as InFlight}

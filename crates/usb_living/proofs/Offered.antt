@@ -35,8 +35,8 @@ use Rattle.proof_lemmas.proofs.Lists.Pieces.{same_name}
 use Rattle.proof_lemmas.proofs.Shares.More.{one_more}
 use Rattle.proof_lemmas.proofs.Shares.Next.{next_there}
 use Rattle.proof_lemmas.proofs.Shares.OpenShares.{open_at, open_whole}
-use Rattle.usb_design.specs.Kept.{is_extra}
-use Rattle.usb_design.specs.Packets.{Packet, gave, packet_by}
+use Rattle.usb_model.specs.Kept.{is_extra}
+use Rattle.usb_model.specs.Packets.{Packet, gave, packet_by}
 use Rattle.refine_world.specs.Kept.{outcome_now}
 use Rattle.refine_world.specs.Lively.{IsSized}
 use Rattle.refine_world.proofs.Links.{known}

@@ -6,8 +6,8 @@ use Rattle.usb_model.specs.declared.status.Status.{Status}
 use Rattle.usb_model.specs.declared.status.Status.TheVariants.{Error}
 use Rattle.usb_model.specs.Completion.{stopped}
 use Rattle.usb_model.specs.Setup.{Setup}
-use Rattle.usb_design.specs.Events.{kept_result}
-use Rattle.usb_design.specs.Stands.{length_at, read_off}
+use Rattle.usb_model.specs.Events.{kept_result}
+use Rattle.usb_model.specs.Stands.{length_at, read_off}
 use Rattle.usb_model.specs.Endpoint.Status.{told_status}
 use Rattle.usb_model.specs.Requests.{is_short_not_ok, length_of}
 use Rattle.usb_completion.specs.Events.{read_target, told_of_target}

@@ -12,10 +12,10 @@ use Rattle.usb_model.specs.declared.shared.Tagged.{Tagged}
 use Rattle.usb_model.specs.declared.step.Step.TheVariants.{Command, Deliver, Take}
 use Rattle.usb_model.specs.Setup.{Setup}
 use Rattle.usb_model.specs.World.{World}
-use Rattle.usb_design.specs.Kept.{KeptEndpoint, KeptTransfer, SentErrand}
+use Rattle.usb_model.specs.Kept.{KeptEndpoint, KeptTransfer, SentErrand}
 use Rattle.usb_model.specs.Endpoint.Deliver.{needs_reset}
-use Rattle.usb_design.specs.Events.{Reading, errand_of, finish, past_kept_blanks}
-use Rattle.usb_design.specs.Settlements.{leads_kept, pauses, kept_blanked, resume_kept, settle}
+use Rattle.usb_model.specs.Events.{Reading, errand_of, finish, past_kept_blanks}
+use Rattle.usb_model.specs.Settlements.{leads_kept, pauses, kept_blanked, resume_kept, settle}
 use Rattle.usb_transfer.specs.declared.transfer.Transfer.{Transfer as InFlight}
 use Rattle.usb_tables.specs.Flights.{EndedOf}
 use Rattle.refine_world.specs.Known.{KnowsEvent}

@@ -4,9 +4,9 @@ use Rattle.usb_model.specs.Completion.{stopped}
 use Rattle.usb_model.specs.Requests.{length_of}
 use Rattle.usb_model.specs.Setup.{Setup}
 use Rattle.usb_model.specs.declared.reply.Reply.{Reply}
-use Rattle.usb_design.specs.Events.{kept_result}
-use Rattle.usb_design.specs.Kept.{KeptTransfer}
-use Rattle.usb_design.specs.Stands.{length_at, total}
+use Rattle.usb_model.specs.Events.{kept_result}
+use Rattle.usb_model.specs.Kept.{KeptTransfer}
+use Rattle.usb_model.specs.Stands.{length_at, total}
 use Rattle.usb_completion.specs.declared.target.Reading.{Reading}
 use Rattle.usb_completion.specs.declared.target.Reading.TheVariants.{Ended, Paused}
 use Rattle.usb_completion.specs.declared.target.Target.{Target}

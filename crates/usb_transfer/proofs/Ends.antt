@@ -3,7 +3,7 @@ use Rattle.std.proofs.Common.{◌≡◌, ℕ, zero, suc, ◌+◌, ◌-◌, ◌*�
 use Rattle.std.specs.Prelude.{replicate, if◌then◌else◌}
 use Rattle.std.proofs.lemmas.Bool.{cases_lt}
 use Rattle.std.proofs.Math.Nat.{min-eq_left, min-eq_right}
-use Rattle.usb_design.specs.Stands.{total, length_at, full_trbs, lengths_of}
+use Rattle.usb_model.specs.Stands.{total, length_at, full_trbs, lengths_of}
 
 -- before a whole piece stand whole pieces
 whole : (f i : ℕ) (ls : List ℕ) → i < f → (total (take i (replicate f 65536 ++ ls)) ≡ i * 65536) × (length_at (replicate f 65536 ++ ls) i ≡ 65536)

@@ -3,7 +3,7 @@ use Rattle.std.proofs.Common.{◌≡◌, ℕ, suc, ◌+◌, ◌-◌, ◌*◌, �
 use Rattle.std.specs.Prelude.{replicate, if◌then◌else◌}
 use Rattle.std.proofs.lemmas.List.{append-nil}
 use Rattle.usb_trb.specs.declared.kind.Normal.{Normal as NormalTrb}
-use Rattle.usb_design.specs.Stands.{full_trbs, lengths_of}
+use Rattle.usb_model.specs.Stands.{full_trbs, lengths_of}
 use Rattle.usb_transfer.specs.Tds.{Tds, lengths}
 use Rattle.usb_transfer.specs.Trbs.{normal_at, td_at, normals_at, lengths_in}
 

@@ -6,8 +6,8 @@ use Rattle.usb_model.specs.declared.request.Body.TheVariants.{In, Out}
 use Rattle.usb_model.specs.declared.request.Request.{Request}
 use Rattle.usb_model.specs.Limits.{most_bytes}
 use Rattle.usb_model.specs.Requests.{length_of}
-use Rattle.usb_design.specs.Kept.{is_extra}
-use Rattle.usb_design.specs.Stands.{lengths_of}
+use Rattle.usb_model.specs.Kept.{is_extra}
+use Rattle.usb_model.specs.Stands.{lengths_of}
 
 -- how many bytes; whether an empty packet comes behind whole ones, as a TD of its own; whether they come from the device
 pub record Tds : Type 0 where

@@ -1,7 +1,7 @@
 -- The Normal TRBs of a transfer (xHCI 1.2, 4.9.1, 4.10.1, 4.11.3, 6.4.1.1).
 use Rattle.std.specs.Prelude.{ℕ, ◌+◌, ◌*◌, ◌%◌, ◌^◌, Bool, true, false, not, List, [], ◌∷◌, ◌++◌, if◌then◌else◌}
 use Rattle.usb_trb.specs.declared.kind.Normal.{Normal as NormalTrb}
-use Rattle.usb_design.specs.Stands.{lengths_of}
+use Rattle.usb_model.specs.Stands.{lengths_of}
 use Rattle.usb_transfer.specs.Tds.{Tds}
 
 -- where the transfer with this key has its buffer: 262,144 bytes for each of 2^32 keys, from 4 GiB on. The address stands in the TRBs

@@ -1,7 +1,7 @@
 //! Laws over the definitions, as functions that do nothing.
 
 ghost use Rattle.std.specs.Prelude.{◌≡◌, ℕ};
-ghost use Rattle.usb_design.specs.Kept.{trbs_of};
+ghost use Rattle.usb_model.specs.Kept.{trbs_of};
 ghost use Rattle.usb_model.specs.declared.request.Request.{Request};
 ghost use Rattle.usb_transfer.specs.Tds.{Tds, lengths, tds_of};
 ghost use Rattle.usb_transfer.specs.Trbs.{lengths_in, normals_of};

@@ -10,7 +10,7 @@
 //! - `tds.rt`, `trbs.rt`: `Tds`: of, length, count, span, trbs; `Trbs`: at most five TRBs in the value itself
 //! - `transfer.rt`: `Transfer`, with room for what it reads; `Unmade`, what it was to be made of
 //! - `store.rt`: `Store`: insert, get, get_mut, remove, len
-//! - `laws.rt`, specs/Vectors: the TRBs' lengths are those of `usb_design`; three requests worked out
+//! - `laws.rt`, specs/Vectors: the TRBs' lengths are those of `usb_model`; three requests worked out
 //! - specs/ Refusal, Tds, Trbs, Store, Lends: the refusals in their order; length, empty packet and direction; the
 //!   TRBs of a TD; the store, and what it is after a write through `get_mut`
 //!
@@ -19,7 +19,7 @@
 //! - `check`, `check_at`: one equation each: the first refusal in its order, else the TDs of the request by the
 //!   endpoint's packet size. `check` finds the endpoint, `check_at` is told kind and size
 //! - `Tds::trbs`: the TRBs are those of the definition, each address, length, ISP, CH and IOC; their lengths are
-//!   those that `usb_design` counts by; there is one at least, and as many as `count`
+//!   those that `usb_model` counts by; there is one at least, and as many as `count`
 //! - `Tds::count`, `length`: how many TRBs, 1 to 5; how many bytes, at most 262,144
 //! - `Tds::of`: the TDs of a request of at most 262,144 bytes, by one equation
 //! - `Tds::span`: which bytes a TRB moves: how many stand before it, and its own length; no more than the transfer
@@ -29,7 +29,7 @@
 //! - `Store::insert`, `remove`: the next key had nothing and has the transfer now; what stood at a key, where nothing
 //!   stands then; each other key what it had. Refused, the transfer comes back and nothing changed
 //! - `Store::get`, `get_mut`: what stands at the key; a write through `get_mut` changes that key alone
-//! - `laws::lengths_are_kept`, `vectors`: the lengths are those of `usb_design`; the TRBs of three requests, computed
+//! - `laws::lengths_are_kept`, `vectors`: the lengths are those of `usb_model`; the TRBs of three requests, computed
 //!
 //! It doesn't say: that the line has a place, the device is there or a number is left, which the core tests before
 //! and after; nor that buffers of two keys don't overlap, since nothing is found by an address.

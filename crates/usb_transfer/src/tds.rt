@@ -4,8 +4,8 @@ ghost use Rattle.std.specs.Prelude.{◌≡◌, ◌≤◌, ◌<◌, ◌+◌, leng
 ghost use Rattle.usb_model.specs.Limits.{most_bytes};
 ghost use Rattle.usb_model.specs.Requests.{length_of};
 ghost use Rattle.usb_transfer.specs.Tds.{tds_of, lengths};
-ghost use Rattle.usb_design.specs.Kept.{is_extra, trbs_of};
-ghost use Rattle.usb_design.specs.Stands.{length_at, total};
+ghost use Rattle.usb_model.specs.Kept.{is_extra, trbs_of};
+ghost use Rattle.usb_model.specs.Stands.{length_at, total};
 
 use std::marker::Model;
 use usb_model::{Body, Request};

@@ -3,7 +3,7 @@
 ghost use Rattle.std.specs.Prelude.{◌≡◌, ◌≤◌, ◌+◌, ◌<◌, ◌^◌, [], ◌∷◌, ◌++◌, length, not, true, false};
 ghost use Rattle.usb_transfer.specs.Tds.{lengths};
 ghost use Rattle.usb_transfer.specs.Trbs.{buffer_of, normals_at, normals_of, lengths_in, normal_at, td_at};
-ghost use Rattle.usb_design.specs.Stands.{lengths_of};
+ghost use Rattle.usb_model.specs.Stands.{lengths_of};
 
 use crate::tds::{PIECE, Tds};
 use std::marker::Model;

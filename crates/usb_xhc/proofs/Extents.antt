@@ -6,8 +6,8 @@ use Rattle.std.proofs.lemmas.Bool.{lt-ltb, ltb-false}
 use Rattle.usb_trb.specs.declared.kind.Normal.{Normal as NormalTrb}
 use Rattle.usb_model.specs.declared.response.Response.{Response}
 use Rattle.usb_model.specs.declared.response.Response.TheVariants.{Data, Ack, Nak, Stall, Broken}
-use Rattle.usb_design.specs.Stands.{total}
-use Rattle.usb_design.specs.Packets.{Packet, packet_by}
+use Rattle.usb_model.specs.Stands.{total}
+use Rattle.usb_model.specs.Packets.{Packet, packet_by}
 use Rattle.usb_xhc.specs.Ahead.{lengths, goes_on, room, Reaches}
 
 -- a number isn't a greater one

@@ -8,7 +8,7 @@ use Rattle.std.proofs.lemmas.Option.{slice_get_within}
 use Rattle.usb_trb.specs.declared.kind.Normal.{Normal as NormalTrb}
 use Rattle.usb_trb.specs.declared.kind.TrbKind.{TrbKind}
 use Rattle.usb_trb.specs.declared.kind.TrbKind.TheVariants.{Normal, Link, NoOp, ResetEndpoint, StopEndpoint, SetDequeue, TransferEvent, CommandCompletion}
-use Rattle.usb_design.specs.Stands.{Stand, stand, one_on, total}
+use Rattle.usb_model.specs.Stands.{Stand, stand, one_on, total}
 use Rattle.usb_xhc.specs.Ahead.{ahead, lengths, goes_on}
 
 -- the first TRB, where it is a Normal one

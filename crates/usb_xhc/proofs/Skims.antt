@@ -8,8 +8,8 @@ use Rattle.usb_model.specs.declared.response.Response.{Response}
 use Rattle.usb_model.specs.declared.response.Response.TheVariants.{Data, Ack, Nak, Stall, Broken}
 use Rattle.usb_model.specs.Endpoint.Serve.{is_no_packet}
 use Rattle.usb_segment.specs.Places.{after, address_of}
-use Rattle.usb_design.specs.Stands.{Stand}
-use Rattle.usb_design.specs.Packets.{packet_by}
+use Rattle.usb_model.specs.Stands.{Stand}
+use Rattle.usb_model.specs.Packets.{packet_by}
 use Rattle.usb_tring.specs.Line.{Line, places, all_of, contents, moved}
 use Rattle.usb_device.specs.Pipe.{bytes_after, is_ack, packet_of}
 use Rattle.usb_device.specs.Skims.{is_whole}

@@ -4,8 +4,8 @@ use Rattle.usb_trb.specs.declared.kind.Normal.{Normal as NormalTrb}
 use Rattle.usb_trb.specs.declared.kind.TrbKind.{TrbKind}
 use Rattle.usb_trb.specs.declared.kind.TrbKind.TheVariants.{Normal}
 use Rattle.usb_model.specs.declared.response.Response.{Response}
-use Rattle.usb_design.specs.Stands.{total}
-use Rattle.usb_design.specs.Packets.{packet_by}
+use Rattle.usb_model.specs.Stands.{total}
+use Rattle.usb_model.specs.Packets.{packet_by}
 use Rattle.usb_tring.specs.Line.{Line, contents, moved, no_ops}
 
 -- its Normal TRBs, up to the one that tells its end (IOC)

@@ -6,7 +6,7 @@ use Rattle.usb_trb.specs.declared.kind.Normal.{Normal as NormalTrb}
 use Rattle.usb_trb.specs.declared.kind.TrbKind.{TrbKind}
 use Rattle.usb_trb.specs.declared.kind.TrbKind.TheVariants.{TransferEvent}
 use Rattle.usb_segment.specs.Places.{address_of}
-use Rattle.usb_design.specs.Stands.{Stand, stand, length_at}
+use Rattle.usb_model.specs.Stands.{Stand, stand, length_at}
 use Rattle.usb_tring.specs.Line.{places, empty, moved}
 use Rattle.usb_tring.specs.View.{Ring, made}
 use Rattle.usb_xhc.specs.Ahead.{trbs_ahead, lengths, past}

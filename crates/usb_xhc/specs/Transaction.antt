@@ -8,7 +8,7 @@ use Rattle.usb_model.specs.Endpoint.Serve.{is_no_packet}
 use Rattle.usb_model.specs.Endpoint.Status.{halts}
 use Rattle.usb_trb.specs.declared.kind.Normal.{Normal as NormalTrb}
 use Rattle.usb_trb.specs.declared.kind.TrbKind.{TrbKind}
-use Rattle.usb_design.specs.Packets.{Packet, packet_by}
+use Rattle.usb_model.specs.Packets.{Packet, packet_by}
 use Rattle.usb_xhc.specs.declared.packet.Packet.{Packet as Told}
 use Rattle.usb_xhc.specs.declared.packet.Packet.TheVariants as told
 use Rattle.usb_segment.specs.Places.{address_of}

@@ -68,7 +68,7 @@
 //! takes. That a core keeps all of these is what `refine_core` proves.
 //!
 //! It doesn't say: that the items of the ring are those of the core's transfers, or that a packet leaves what
-//! `usb_design` says (`refine_rings` does); that there is always room for an event (each call that posts asks for
+//! `usb_model` says (`refine_rings` does); that there is always room for an event (each call that posts asks for
 //! it), that an order names an endpoint that is there (another is answered with an error), when anything is served.
 #![tactic(auto)]
 

@@ -2,7 +2,7 @@
 
 ghost use Rattle.std.specs.Prelude.{◌≡◌, ◌≤◌, min, ℕ, List, length, false, None, Some};
 ghost use Rattle.usb_model.specs.declared.response.Response.{Response};
-ghost use Rattle.usb_design.specs.Packets.{packet_by};
+ghost use Rattle.usb_model.specs.Packets.{packet_by};
 ghost use Rattle.usb_device.specs.Pipe.{act_of};
 ghost use Rattle.usb_model.specs.declared.response.Response.TheVariants.{Data, Ack};
 

@@ -19,8 +19,8 @@ use Rattle.usb_model.specs.Machine.Calls.{Home, ask_effect, ask_in_progress, ask
 use Rattle.usb_model.specs.Machine.Turns.{effect}
 use Rattle.usb_model.specs.Setup.{Setup, endpoints_of, packet_size_of}
 use Rattle.usb_model.specs.World.{World, holder, machine_of, owner_of}
-use Rattle.usb_design.specs.Joins.{asked}
-use Rattle.usb_design.specs.Kept.{KeptEndpoint, KeptTransfer}
+use Rattle.usb_model.specs.Joins.{asked}
+use Rattle.usb_model.specs.Kept.{KeptEndpoint, KeptTransfer}
 use Rattle.refine_world.specs.Calls.{KeptHome, ask_core, calls, device_of, home_by, home_in, kept_home, kept_in_progress}
 use Rattle.refine_world.specs.Lively.{IsFine}
 use Rattle.refine_world.specs.Shows.{Core, Shows}

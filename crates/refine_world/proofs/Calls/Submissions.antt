@@ -21,7 +21,7 @@ use Rattle.usb_model.specs.Machine.Turns.{effect}
 use Rattle.usb_model.specs.Requests.{is_same_kind, is_unsupported, length_of}
 use Rattle.usb_model.specs.Setup.{Setup, is_in, kind_of, packet_size_of}
 use Rattle.usb_model.specs.World.{World, machine_of, owner_of}
-use Rattle.usb_design.specs.Kept.{KeptEndpoint}
+use Rattle.usb_model.specs.Kept.{KeptEndpoint}
 use Rattle.refine_world.specs.Calls.{calls, device_of, is_gone, joins, kept_at, places_at, results_of, submit_core}
 use Rattle.refine_world.specs.Lively.{IsFine}
 use Rattle.refine_world.specs.Shows.{Core, Shows}

@@ -1,4 +1,4 @@
-use Rattle.usb_design.proofs.Stands.{read_back}
+use Rattle.usb_model.proofs.Stands.{read_back}
 use Rattle.refine_world.proofs.laws.reads_back.Goals as goal
 
 pub returns : goal.returns

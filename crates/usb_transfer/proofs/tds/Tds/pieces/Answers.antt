@@ -1,6 +1,6 @@
 -- Each round moves one whole piece from the bytes that are left to the TRBs.
 use Rattle.std.proofs.Common.{◌+◌, ◌-◌, ◌∷◌, ◌++◌, [], not, false, length-append, append_assoc, refl, sym, ap, ◌∙◌, arith}
-use Rattle.usb_design.specs.Stands.{lengths_of}
+use Rattle.usb_model.specs.Stands.{lengths_of}
 use Rattle.usb_transfer.specs.Trbs.{normal_at, td_at}
 use Rattle.usb_transfer.proofs.Pieces.{td_at-large, td_at-small}
 use Rattle.usb_transfer.proofs.tds.Tds.pieces.Goals as goal

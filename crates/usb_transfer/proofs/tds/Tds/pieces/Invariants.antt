@@ -1,6 +1,6 @@
 use Rattle.std.proofs.Common.{◌+◌, ◌*◌, ◌≡◌, ◌≤◌, ◌++◌, length, not, false}
 use Rattle.usb_transfer.specs.Trbs.{td_at}
-use Rattle.usb_design.specs.Stands.{lengths_of}
+use Rattle.usb_model.specs.Stands.{lengths_of}
 use Rattle.usb_transfer.proofs.tds.Tds.pieces.Given as goal
 
 -- the TRBs so far, and behind them those of the bytes that are left

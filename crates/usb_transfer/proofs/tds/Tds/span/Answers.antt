@@ -1,6 +1,6 @@
 -- The bytes before a TRB, and those up to its end.
 use Rattle.std.proofs.Common.{◌≡◌, ℕ, ◌+◌, ◌-◌, ◌*◌, ◌≤◌, ap, ap₂, arith, min, subst₂, sym, ◌∙◌}
-use Rattle.usb_design.specs.Stands.{length_at}
+use Rattle.usb_model.specs.Stands.{length_at}
 use Rattle.usb_transfer.specs.declared.tds.Span.{Span}
 use Rattle.usb_transfer.specs.Tds.{Tds, lengths}
 use Rattle.usb_transfer.proofs.Ends.{before-is, length-is, within}

@@ -1,7 +1,7 @@
 use Rattle.std.proofs.Common.{◌≡◌, ◌+◌, ◌-◌, arith, refl, ap, sym, ◌∙◌, subst, suc, ℕ, List, Some, None, true, false, drop, Bool, ◌||◌, not}
 use Rattle.std.specs.Prelude.{slice_get}
 use Rattle.usb_trb.specs.declared.kind.Normal.{Normal as NormalTrb}
-use Rattle.usb_design.specs.Stands.{total}
+use Rattle.usb_model.specs.Stands.{total}
 use Rattle.usb_xhc.specs.Ahead.{lengths, goes_on, Reaches}
 use Rattle.usb_xhc.specs.Context.{Context, trbs}
 use Rattle.usb_xhc.specs.Transaction.{trb_at}

@@ -1,5 +1,5 @@
 use Rattle.std.proofs.Common.{◌≡◌, ◌≤◌, ◌+◌, ◌-◌, ◌||◌, suc, Some, drop}
-use Rattle.usb_design.specs.Stands.{total}
+use Rattle.usb_model.specs.Stands.{total}
 use Rattle.usb_xhc.specs.Ahead.{lengths, goes_on}
 use Rattle.usb_xhc.specs.Context.{trbs}
 use Rattle.usb_xhc.specs.Transaction.{trb_at}

@@ -2,7 +2,7 @@ use Rattle.std.proofs.Common.{◌≡◌, ◌+◌, ◌-◌, ◌<◌, ◌≤◌, a
 use Rattle.std.proofs.Common.{inl, inr, ◌⊎◌}
 use Rattle.std.specs.Prelude.{slice_get}
 use Rattle.usb_trb.specs.declared.kind.Normal.{Normal as NormalTrb}
-use Rattle.usb_design.specs.Stands.{stand, total}
+use Rattle.usb_model.specs.Stands.{stand, total}
 use Rattle.usb_xhc.specs.Ahead.{lengths}
 use Rattle.usb_xhc.specs.Context.{trbs}
 use Rattle.usb_xhc.specs.Transaction.{trb_at}

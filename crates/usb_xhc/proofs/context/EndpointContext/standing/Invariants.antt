@@ -1,5 +1,5 @@
 use Rattle.std.proofs.Common.{◌≡◌, ◌≤◌, ◌-◌, Some, drop, ◌⊎◌}
-use Rattle.usb_design.specs.Stands.{stand, total}
+use Rattle.usb_model.specs.Stands.{stand, total}
 use Rattle.usb_xhc.specs.Ahead.{lengths}
 use Rattle.usb_xhc.specs.Context.{trbs, stand_by}
 use Rattle.usb_xhc.specs.Transaction.{trb_at}

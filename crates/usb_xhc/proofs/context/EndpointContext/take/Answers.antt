@@ -1,5 +1,5 @@
 use Rattle.std.proofs.Common.{◌∙◌, ap, sym, Some, None}
-use Rattle.usb_design.specs.Stands.{Stand}
+use Rattle.usb_model.specs.Stands.{Stand}
 use Rattle.usb_xhc.specs.Context.{event_by}
 use Rattle.usb_xhc.specs.Posts.{posted_all, posted_one}
 use Rattle.usb_xhc.specs.Transaction.{Served}

@@ -9,8 +9,8 @@ use Rattle.usb_model.specs.declared.result.TransferResult.{TransferResult}
 use Rattle.usb_model.specs.Endpoint.Deliver.{needs_reset}
 use Rattle.usb_model.specs.Requests.{length_of, is_short_not_ok}
 use Rattle.usb_model.specs.Endpoint.Status.{halts, told_status}
-use Rattle.usb_design.specs.Stands.{length_at, read_off}
-use Rattle.usb_design.specs.Kept.{KeptTransfer, SentErrand, KeptEndpoint}
+use Rattle.usb_model.specs.Stands.{length_at, read_off}
+use Rattle.usb_model.specs.Kept.{KeptTransfer, SentErrand, KeptEndpoint}
 
 -- whether a place is that of one of its TRBs
 abbrev pub covers : ℕ → KeptTransfer → Bool

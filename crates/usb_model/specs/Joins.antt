@@ -4,8 +4,8 @@ use Rattle.usb_model.specs.declared.errand.Errand.TheVariants.{Stop}
 use Rattle.usb_model.specs.declared.reply.Reply.TheVariants as reply
 use Rattle.usb_model.specs.declared.request.Request.{Request}
 use Rattle.usb_model.specs.declared.item.Ask.{Ask}
-use Rattle.usb_design.specs.Kept.{KeptTransfer, KeptEndpoint, trbs_of}
-use Rattle.usb_design.specs.Events.{Handled, posts}
+use Rattle.usb_model.specs.Kept.{KeptTransfer, KeptEndpoint, trbs_of}
+use Rattle.usb_model.specs.Events.{Handled, posts}
 
 -- a transfer whose TRBs are pushed at the enqueue place
 abbrev pub new_kept : ℕ → ℕ → ℕ → Request → ℕ → KeptTransfer

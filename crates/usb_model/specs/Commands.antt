@@ -5,9 +5,9 @@ use Rattle.usb_model.specs.declared.errand.Errand.TheVariants.{Stop, Reset, Move
 use Rattle.usb_model.specs.declared.endpoint.EndpointState.{EndpointState}
 use Rattle.usb_model.specs.declared.endpoint.EndpointState.TheVariants.{Running, Stopped, Halted}
 use Rattle.usb_model.specs.Completion.{stopped}
-use Rattle.usb_design.specs.Kept.{KeptTransfer, Telling, Completion, KeptEndpoint, code_of, first_place}
-use Rattle.usb_design.specs.Events.{find_at, past_kept_blanks}
-use Rattle.usb_design.specs.Packets.{event_at, sent_before, walk}
+use Rattle.usb_model.specs.Kept.{KeptTransfer, Telling, Completion, KeptEndpoint, code_of, first_place}
+use Rattle.usb_model.specs.Events.{find_at, past_kept_blanks}
+use Rattle.usb_model.specs.Packets.{event_at, sent_before, walk}
 
 -- what an order leaves: whether it was carried out, the endpoint, and what is told
 pub record Carried : Type 0 where

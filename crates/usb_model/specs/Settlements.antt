@@ -7,9 +7,9 @@ use Rattle.usb_model.specs.declared.reply.Reply.TheVariants as reply
 use Rattle.usb_model.specs.declared.endpoint.EndpointState.TheVariants.{Running}
 use Rattle.usb_model.specs.declared.result.TransferResult.{TransferResult}
 use Rattle.usb_model.specs.Completion.{stopped}
-use Rattle.usb_design.specs.Kept.{KeptTransfer, KeptEndpoint}
-use Rattle.usb_design.specs.Events.{Reading, Handled, posts, kept_result, past_kept_blanks}
-use Rattle.usb_design.specs.Packets.{put_at}
+use Rattle.usb_model.specs.Kept.{KeptTransfer, KeptEndpoint}
+use Rattle.usb_model.specs.Events.{Reading, Handled, posts, kept_result, past_kept_blanks}
+use Rattle.usb_model.specs.Packets.{put_at}
 
 -- a transfer in progress that was asked to end; when an errand ends none is served
 abbrev pub kept_withdrawn : KeptTransfer → Bool

@@ -2,7 +2,7 @@
 use Rattle.std.proofs.Common.{zero-add, Bool, List, [], ap, arith, false, length, refl, take, drop, true, ℕ, suc, ◌+◌, ◌-◌, ◌<◌, ◌≤◌, ◌∙◌, ◌∷◌, ◌≡◌}
 use Rattle.std.specs.Prelude.{if◌then◌else◌, nat_lt}
 use Rattle.std.proofs.lemmas.Bool.{le-ltb, ltb-false, ltb-true}
-use Rattle.usb_design.specs.Stands.{Stand, stand, one_on, length_at, residual, read_off, total}
+use Rattle.usb_model.specs.Stands.{Stand, stand, one_on, length_at, residual, read_off, total}
 
 -- what is known of where a transfer of these TRBs stands
 pub record Stands (ls : List ℕ) (c : ℕ) (s : Stand) : Type 0 where

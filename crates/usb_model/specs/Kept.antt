@@ -10,7 +10,7 @@ use Rattle.usb_model.specs.declared.endpoint.EndpointState.{EndpointState}
 use Rattle.usb_model.specs.declared.endpoint.EndpointState.TheVariants.{Running}
 use Rattle.usb_model.specs.Requests.{length_of, adds_zero_packet}
 use Rattle.usb_model.specs.Completion.{context_state_error, success}
-use Rattle.usb_design.specs.Stands.{lengths_of}
+use Rattle.usb_model.specs.Stands.{lengths_of}
 
 -- a transfer of a line as the core keeps it: its item of the ring, and its transfer of the store
 pub record KeptTransfer : Type 0 where
