@@ -27,7 +27,7 @@ class Changes(unittest.TestCase):
 
     def test_the_lowest_crate_comes_first(self) -> None:
         it = changed.trials(["crates/usb_trb/src/lib.rt", "crates/usb_model/src/lib.rt"])
-        for below, above in [("usb_trb", "usb_segment"), ("usb_segment", "usb_tring"), ("usb_tring", "usb_xhc"), ("usb_model", "usb_steps"),
+        for below, above in [("usb_trb", "usb_rings"), ("usb_rings", "usb_rings"), ("usb_rings", "usb_xhc"), ("usb_model", "usb_steps"),
                              ("usb_steps", "usb_core"), ("usb_core", "usb_library"), ("usb_devicetext", "tirnouch_c"), ("trace_main", "usbtrace")]:
             self.assertLess(it.proved.index(below), it.proved.index(above), f"{below} stands below {above}")
 

@@ -34,13 +34,13 @@ class Proofs(unittest.TestCase):
         """The status of a run of this script in the place of the prover, what it passed on, and what it told."""
         out, told = io.StringIO(), io.StringIO()
         with contextlib.redirect_stderr(told):
-            status = progress.prove("make it", names or crate_graph.below("usb_tring"), ["sh", "-c", script], out, quiet=quiet)
+            status = progress.prove("make it", names or crate_graph.below("usb_rings"), ["sh", "-c", script], out, quiet=quiet)
         return status, out.getvalue(), told.getvalue()
 
     def test_crates_that_stood_and_crates_that_are_kept_are_counted(self) -> None:
         before, progress.LOGGED = progress.LOGGED, 0.2
         try:
-            _, _, told = self.prove("echo 'rt: usb_trb is kept: an earlier run'; sleep 0.5; echo 'rt: usb_segment proved'; sleep 0.5")
+            _, _, told = self.prove("echo 'rt: usb_trb is kept: an earlier run'; sleep 0.5; echo 'rt: usb_rings proved'; sleep 0.5")
         finally:
             progress.LOGGED = before
         self.assertIn("make it: 1 of 3 crates; now other work; 0 minutes gone, some ", told)
@@ -64,10 +64,10 @@ class Proofs(unittest.TestCase):
         self.assertEqual((status, out), (3, "fn usb_trb::read: proved\n"))
 
     def test_dear_crates_are_waited_for_longer(self) -> None:
-        proofs = progress.Proofs(["usb_trb", "usb_segment"], progress.Meter())
-        proofs.cost = {"usb_trb": 2.0, "usb_segment": 40.0}
-        self.assertEqual(proofs.minutes_left(), 42.0)  # usb_segment waits for usb_trb
-        proofs.read(KEPT.replace("usb_lent", "usb_segment"))
+        proofs = progress.Proofs(["usb_trb", "usb_rings"], progress.Meter())
+        proofs.cost = {"usb_trb": 2.0, "usb_rings": 40.0}
+        self.assertEqual(proofs.minutes_left(), 42.0)  # usb_rings waits for usb_trb
+        proofs.read(KEPT.replace("usb_lent", "usb_rings"))
         self.assertEqual(proofs.minutes_left(), 2.0)
 
 

@@ -2,7 +2,7 @@
 
 use crate::codes::weight;
 use std::alloc::{AllocError, Global};
-use usb_ering::{EventRing, Ring};
+use usb_rings::{EventRing, Ring};
 use usb_trb::{EndpointId, Pointer, Residual, Slot, Trb, TrbKind};
 
 /// A turn's event; a No Op where slot and endpoint are none.

@@ -2,8 +2,8 @@
 
 use crate::codes::weight;
 use std::alloc::{AllocError, Global};
+use usb_rings::TransferRing;
 use usb_trb::{Length, Normal, Pointer};
-use usb_tring::TransferRing;
 
 /// The address of the ring's first TRB.
 const BASE: u64 = 0x1002_3000;

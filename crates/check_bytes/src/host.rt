@@ -9,7 +9,7 @@ use trace_scenario::number::{address, decimal_u32, handle};
 use usb_core::Core;
 use usb_device::TableDevice;
 use usb_model::{Body, DeviceNo, EpAddr, Flags, Kind, Plan, Request, Sequence, Step, Verdict};
-use usb_tring::TransferRing;
+use usb_rings::TransferRing;
 
 /// A core, and its device.
 #[derive(Drop)]

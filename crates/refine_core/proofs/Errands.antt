@@ -11,8 +11,8 @@ use Rattle.usb_model.specs.World.{holder}
 use Rattle.usb_model.specs.World.Shared.{pieces_of}
 use Rattle.usb_trb.specs.declared.kind.TrbKind.TheVariants.{ResetEndpoint, SetDequeue, StopEndpoint}
 use Rattle.usb_device.specs.Pipe.{pipe_at}
-use Rattle.usb_segment.specs.Places.{address_of, cycle_of, index_of}
-use Rattle.usb_tring.specs.Line.{place_of, places}
+use Rattle.usb_rings.specs.Places.{address_of, cycle_of, index_of}
+use Rattle.usb_rings.specs.Line.{place_of, places}
 use Rattle.usb_model.specs.Kept.{KeptEndpoint, KeptTransfer, SentErrand, first_place}
 use Rattle.refine_rings.specs.EndpointLaws.{start_of}
 use Rattle.usb_transfer.specs.declared.transfer.Transfer.{Transfer as InFlight}

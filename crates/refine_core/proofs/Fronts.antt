@@ -16,8 +16,8 @@ use Rattle.usb_model.specs.Packets.{sent_before, serve_kept}
 use Rattle.usb_device.specs.Pipe.{answer_of, pipe_at}
 use Rattle.usb_transfer.specs.declared.transfer.Transfer.{Transfer as InFlight}
 use Rattle.usb_transfer.specs.Tds.{room_of}
-use Rattle.usb_tring.specs.Line.{IsAt as IsInRing, places}
-use Rattle.usb_segment.specs.Places.{address_of}
+use Rattle.usb_rings.specs.Line.{IsAt as IsInRing, places}
+use Rattle.usb_rings.specs.Places.{address_of}
 use Rattle.usb_xhc.specs.declared.trb_at.TrbAt.{TrbAt}
 use Rattle.usb_xhc.specs.Context.{Context}
 use Rattle.usb_xhc.specs.Transaction.{is_running, offset_by, packet_room, trb_at, working}

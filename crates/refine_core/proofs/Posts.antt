@@ -3,7 +3,7 @@ use Rattle.std.proofs.Common.{◌≡◌, ℕ, suc, true, false, refl, ap, sym, s
 use Rattle.std.specs.Prelude.{IfSome, is_none, option_map, slice_set}
 use Rattle.std.proofs.lemmas.Option.{same_Some}
 use Rattle.usb_model.specs.declared.errand.Errand.{Errand}
-use Rattle.usb_segment.specs.Places.{index_of}
+use Rattle.usb_rings.specs.Places.{index_of}
 use Rattle.usb_tables.specs.declared.outstanding.Sent.{Sent}
 use Rattle.usb_xhc.specs.Posts.{posted_one}
 use Rattle.std.proofs.lemmas.List.Sums.{prefix_len-le-length}

@@ -16,8 +16,8 @@ use Rattle.usb_claims.specs.Holders.{IsSetup, owner_of}
 use Rattle.usb_claims.specs.declared.held.HeldEndpoint.{HeldEndpoint}
 use Rattle.usb_trb.specs.declared.kind.TrbKind.{TrbKind}
 use Rattle.usb_trb.specs.declared.kind.TrbKind.TheVariants.{TransferEvent}
-use Rattle.usb_segment.specs.Places.{address_of}
-use Rattle.usb_tring.specs.Line.{IsAt as IsInRing, Line, places}
+use Rattle.usb_rings.specs.Places.{address_of}
+use Rattle.usb_rings.specs.Line.{IsAt as IsInRing, Line, places}
 use Rattle.usb_transfer.specs.declared.transfer.Transfer.{Transfer as InFlight}
 use Rattle.usb_transfer.specs.Tds.{lengths, tds_of}
 use Rattle.usb_model.specs.Kept.{KeptEndpoint, KeptTransfer, trbs_of}

@@ -5,7 +5,7 @@ use Rattle.usb_model.specs.Limits.{most_bytes}
 use Rattle.usb_model.specs.Requests.{length_of}
 use Rattle.usb_trb.specs.declared.kind.TrbKind.{TrbKind}
 use Rattle.usb_model.specs.Kept.{InRow, KeptTransfer, first_place, is_extra, trbs_of}
-use Rattle.usb_tring.specs.Line.{Line, all_of, capacity, used}
+use Rattle.usb_rings.specs.Line.{Line, all_of, capacity, used}
 use Rattle.refine_rings.specs.Line.{AllItems, IsLine}
 use Rattle.refine_world.specs.ShownEndpoint.{AllFew}
 use Rattle.refine_world.proofs.Budget.{few_trbs, row_span}

@@ -10,7 +10,7 @@ use Rattle.usb_model.specs.declared.setup.EndpointInfo.{EndpointInfo}
 use Rattle.usb_model.specs.Setup.{Setup, endpoints_of, interface_of}
 use Rattle.usb_model.specs.World.{World, holder}
 use Rattle.usb_trb.specs.declared.kind.TrbKind.TheVariants.{CommandCompletion}
-use Rattle.usb_segment.specs.Places.{address_of}
+use Rattle.usb_rings.specs.Places.{address_of}
 use Rattle.usb_model.specs.Kept.{SentErrand}
 use Rattle.usb_model.specs.Events.{errand_of}
 use Rattle.usb_tables.specs.declared.outstanding.Sent.{Sent}

@@ -18,7 +18,7 @@ use Rattle.usb_device.specs.Pipe.{pipe_at}
 use Rattle.usb_transfer.specs.declared.transfer.Transfer.{Transfer as InFlight}
 use Rattle.usb_transfer.specs.Tds.{tds_of}
 use Rattle.usb_transfer.specs.Trbs.{normals_of}
-use Rattle.usb_tring.specs.Line.{capacity, normals, used}
+use Rattle.usb_rings.specs.Line.{capacity, normals, used}
 use Rattle.usb_xhc.specs.Context.{Context}
 use Rattle.usb_xhc.specs.Host.{with_pushed, with_ring}
 use Rattle.usb_xhc.specs.Controller.{Controller, slot_changed}

@@ -24,7 +24,7 @@ use Rattle.usb_model.specs.declared.request.Request.{Request}
 use Rattle.usb_model.specs.declared.reply.Reply.TheVariants.{Moved}
 use Rattle.usb_model.specs.declared.step.Step.{Step}
 use Rattle.usb_model.specs.declared.step.Step.TheVariants.{Serve}
-use Rattle.usb_segment.specs.Places.{index_of}
+use Rattle.usb_rings.specs.Places.{index_of}
 use Rattle.refine_world.specs.Shows.{Core, Shows}
 use Rattle.refine_core.specs.State.{IsState, State}
 use Rattle.refine_core.specs.Steps.{DoesCoreStep, DoesCoreSteps, TurnsInRow, TurnsWorld}
@@ -32,7 +32,7 @@ use Rattle.refine_core.specs.Works.{Asks, CanServeItem, CanSkimItem, Finishes, I
 use Rattle.usb_transfer.specs.Tds.{tds_of}
 use Rattle.usb_transfer.specs.Trbs.{normals_of}
 use Rattle.usb_transfer.specs.declared.transfer.Transfer.{Transfer as InFlight}
-use Rattle.usb_tring.specs.Line.{capacity, normals, used}
+use Rattle.usb_rings.specs.Line.{capacity, normals, used}
 use Rattle.usb_xhc.specs.Controller.{Controller, served_at, slot_changed, told_at}
 use Rattle.usb_xhc.specs.Skims.{controller_skimmed}
 use Rattle.usb_xhc.specs.Slots.{changed}

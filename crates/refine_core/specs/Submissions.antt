@@ -9,7 +9,7 @@ use Rattle.usb_model.specs.Requests.{length_of}
 use Rattle.usb_model.specs.Setup.{Setup, packet_size_of}
 use Rattle.usb_model.specs.Kept.{trbs_of}
 use Rattle.usb_transfer.specs.Tds.{Tds, tds_of}
-use Rattle.usb_tring.specs.Line.{capacity, used}
+use Rattle.usb_rings.specs.Line.{capacity, used}
 use Rattle.usb_xhc.specs.Context.{Context}
 use Rattle.usb_tables.specs.Callers.{number_of}
 use Rattle.usb_tables.specs.Flights.{line_at}

@@ -11,13 +11,13 @@ use Rattle.usb_model.specs.Completion.{stopped}
 use Rattle.usb_trb.specs.declared.kind.Normal.{Normal as NormalTrb}
 use Rattle.usb_trb.specs.declared.kind.TrbKind.{TrbKind}
 use Rattle.usb_trb.specs.declared.kind.TrbKind.TheVariants.{CommandCompletion}
-use Rattle.usb_segment.specs.Places.{address_of}
+use Rattle.usb_rings.specs.Places.{address_of}
 use Rattle.usb_model.specs.Stands.{total}
 use Rattle.usb_model.specs.Kept.{Completion, KeptEndpoint, KeptTransfer, Telling, first_place}
 use Rattle.usb_model.specs.Events.{find_at, past_kept_blanks}
 use Rattle.usb_model.specs.Packets.{event_at, sent_before, walk}
 use Rattle.usb_model.specs.Commands as kept
-use Rattle.usb_tring.specs.Line.{Line, all_of, moved_behind, places}
+use Rattle.usb_rings.specs.Line.{Line, all_of, moved_behind, places}
 use Rattle.usb_xhc.specs.Ahead.{ahead}
 use Rattle.usb_xhc.specs.Commands.{Carried, before, carried, move_in, moved_at, pause_by, reset_in, stop_in}
 use Rattle.usb_xhc.specs.Context.{Context}

@@ -6,7 +6,7 @@ use Rattle.std.proofs.lemmas.Bool.{cases_lt}
 use Rattle.usb_trb.specs.declared.kind.TrbKind.{TrbKind}
 use Rattle.usb_trb.specs.declared.kind.TrbKind.TheVariants.{NoOp}
 use Rattle.usb_model.specs.Kept.{InRow, KeptTransfer, first_place}
-use Rattle.usb_tring.specs.Line.{Line, all_of, blanked, dropped, moved, moved_behind, place_behind, pushed}
+use Rattle.usb_rings.specs.Line.{Line, all_of, blanked, dropped, moved, moved_behind, place_behind, pushed}
 use Rattle.refine_rings.specs.Line.{AllItems, IsItem, IsLine, in_ring}
 
 -- the controller goes on by n

@@ -3,9 +3,9 @@ use Rattle.std.proofs.Common.{◌≡◌, ℕ, suc, ◌+◌, ◌-◌, ◌*◌, �
 use Rattle.std.proofs.lemmas.List.{map-append}
 use Rattle.usb_model.specs.Setup.{endpoint_id}
 use Rattle.usb_trb.specs.declared.kind.TrbKind.{TrbKind}
-use Rattle.usb_segment.specs.Places.{address_of, index_of}
+use Rattle.usb_rings.specs.Places.{address_of, index_of}
 use Rattle.usb_model.specs.Kept.{Completion, Telling, Transfer}
-use Rattle.usb_ering.specs.Ring.{Ring}
+use Rattle.usb_rings.specs.Ring.{Ring}
 use Rattle.usb_xhc.specs.Context.{Context}
 use Rattle.usb_xhc.specs.Posts.{posted_all, posted_one}
 use Rattle.usb_xhc.specs.Controller.{order_address}

@@ -10,7 +10,7 @@ use Rattle.usb_model.specs.Stands.{Stand, length_at, total}
 use Rattle.usb_model.specs.Kept.{InRow, KeptEndpoint, KeptTransfer, first_place}
 use Rattle.usb_model.specs.Events.{covers, find_at, past_at, past_kept_blanks}
 use Rattle.usb_model.specs.Packets.{put_at, room_at, sent_before, walk}
-use Rattle.usb_tring.specs.Line.{Line, all_of, contents, moved, no_ops}
+use Rattle.usb_rings.specs.Line.{Line, all_of, contents, moved, no_ops}
 use Rattle.usb_xhc.specs.Ahead.{lengths, past, trbs_ahead}
 use Rattle.usb_xhc.specs.Context.{Context, gone_on, gone_past, stand_by}
 use Rattle.refine_rings.specs.Line.{AllItems, IsLine}

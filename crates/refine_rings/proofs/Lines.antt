@@ -6,7 +6,7 @@ use Rattle.std.proofs.lemmas.Option.{same_Some}
 use Rattle.usb_trb.specs.declared.kind.TrbKind.{TrbKind}
 use Rattle.usb_model.specs.Kept.{InRow, KeptTransfer, first_place}
 use Rattle.usb_model.specs.Events.{covers, find_at, past_at}
-use Rattle.usb_tring.specs.Line.{all_of}
+use Rattle.usb_rings.specs.Line.{all_of}
 use Rattle.refine_rings.specs.Line.{AllItems, IsItem}
 
 -- a line spans as many places as its items have TRBs

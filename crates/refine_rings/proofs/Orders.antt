@@ -10,12 +10,12 @@ use Rattle.usb_model.specs.Endpoint.Status.{halts}
 use Rattle.usb_model.specs.Setup.{endpoint_id}
 use Rattle.usb_trb.specs.declared.kind.TrbKind.{TrbKind}
 use Rattle.usb_trb.specs.declared.kind.TrbKind.TheVariants.{SetDequeue}
-use Rattle.usb_segment.specs.Places.{address_of, cycle_of}
+use Rattle.usb_rings.specs.Places.{address_of, cycle_of}
 use Rattle.usb_model.specs.Kept.{KeptEndpoint, KeptTransfer, first_place}
 use Rattle.usb_model.specs.Events.{find_at, past_at, past_kept_blanks}
 use Rattle.usb_model.specs.Packets.{Packet, answer_now, answered_by, answered_gone, endpoint_with, gave, got, packet_now, put_at, sent_before, serve_at, serve_kept}
 use Rattle.usb_model.specs.Commands as kept
-use Rattle.usb_tring.specs.Line.{places}
+use Rattle.usb_rings.specs.Line.{places}
 use Rattle.refine_rings.specs.EndpointLaws.{HaveTrbsOf, start_of}
 use Rattle.refine_rings.proofs.Goes.{put_same}
 use Rattle.refine_world.specs.Shows.{RingOrder}

@@ -9,12 +9,12 @@ use Rattle.usb_model.specs.declared.errand.Errand.TheVariants as errand
 use Rattle.usb_model.specs.Setup.{Setup, endpoint_id}
 use Rattle.usb_trb.specs.declared.kind.TrbKind.{TrbKind}
 use Rattle.usb_trb.specs.declared.kind.TrbKind.TheVariants.{CommandCompletion, SetDequeue, StopEndpoint, ResetEndpoint}
-use Rattle.usb_segment.specs.Places.{address_of, cycle_of}
+use Rattle.usb_rings.specs.Places.{address_of, cycle_of}
 use Rattle.usb_model.specs.Kept.{KeptEndpoint}
 use Rattle.usb_model.specs.Events.{errand_of}
 use Rattle.usb_model.specs.Commands as kept
 use Rattle.usb_device.specs.Pipe.{Pipe, pipe_at}
-use Rattle.usb_tring.specs.Line.{places}
+use Rattle.usb_rings.specs.Line.{places}
 use Rattle.usb_xhc.specs.Commands.{carried, endpoint_not_enabled_error, move_in, moved_at, before, reset_in, stop_in, trb_error}
 use Rattle.usb_xhc.specs.Context.{Context}
 use Rattle.usb_xhc.specs.Posts.{posted_all}

@@ -14,13 +14,13 @@ use Rattle.usb_model.specs.Endpoint.Status.{halts}
 use Rattle.usb_trb.specs.declared.kind.Normal.{Normal as NormalTrb}
 use Rattle.usb_trb.specs.declared.kind.TrbKind.{TrbKind}
 use Rattle.usb_trb.specs.declared.kind.TrbKind.TheVariants.{TransferEvent}
-use Rattle.usb_segment.specs.Places.{address_of}
+use Rattle.usb_rings.specs.Places.{address_of}
 use Rattle.usb_model.specs.Stands.{Stand, length_at}
 use Rattle.usb_model.specs.Kept.{KeptEndpoint, KeptTransfer, is_extra}
 use Rattle.usb_model.specs.Events.{find_at}
 use Rattle.usb_model.specs.Packets.{Answered, Packet, answer_now, answered_by, answered_gone, endpoint_with, event_at, gave, got, packet_now, put_at, room_at, sent_before, serve_at, serve_kept, walk}
 use Rattle.usb_device.specs.Pipe.{Pipe, answer_of, bytes_after, pipe_after}
-use Rattle.usb_tring.specs.Line.{places}
+use Rattle.usb_rings.specs.Line.{places}
 use Rattle.usb_xhc.specs.declared.packet.Packet.TheVariants as told
 use Rattle.usb_xhc.specs.declared.trb_at.TrbAt.{TrbAt}
 use Rattle.usb_xhc.specs.Ahead.{ahead, lengths}

@@ -13,7 +13,7 @@ use Rattle.usb_model.specs.Joins.{joined, new_kept}
 use Rattle.usb_device.specs.Pipe.{Pipe, pipe_at}
 use Rattle.usb_transfer.specs.Tds.{tds_of}
 use Rattle.usb_transfer.specs.Trbs.{normals_of}
-use Rattle.usb_tring.specs.Line.{capacity, normals, used}
+use Rattle.usb_rings.specs.Line.{capacity, normals, used}
 use Rattle.usb_xhc.specs.Context.{Context}
 use Rattle.usb_xhc.specs.Host.{rung, state_by_doorbell, with_ring, with_pushed, with_blank, without_first}
 use Rattle.usb_xhc.specs.Controller.{Controller, slot_changed}

@@ -3,10 +3,10 @@ use Rattle.std.proofs.Common.{◌≡◌, ℕ, zero, suc, ◌+◌, ◌-◌, ◌*�
 use Rattle.std.specs.Prelude.{get_or, slice_get}
 use Rattle.std.proofs.lemmas.Option.{slice_get_within}
 use Rattle.usb_trb.specs.declared.kind.TrbKind.{TrbKind}
-use Rattle.usb_segment.specs.Places.{address_of, cycle_of}
+use Rattle.usb_rings.specs.Places.{address_of, cycle_of}
 use Rattle.usb_model.specs.Kept.{KeptEndpoint, KeptTransfer, first_place}
 use Rattle.usb_model.specs.Events.{find_at}
-use Rattle.usb_tring.specs.Line.{IsAt, Line, all_of, place_of, places}
+use Rattle.usb_rings.specs.Line.{IsAt, Line, all_of, place_of, places}
 use Rattle.usb_xhc.specs.Context.{Context}
 use Rattle.refine_rings.specs.Line.{AllItems, in_ring}
 use Rattle.refine_rings.specs.Endpoint.{IsContext}

@@ -13,7 +13,7 @@ use Rattle.usb_model.specs.Requests.{length_of}
 use Rattle.usb_trb.specs.declared.kind.Normal.{Normal as NormalTrb}
 use Rattle.usb_trb.specs.declared.kind.TrbKind.{TrbKind}
 use Rattle.usb_trb.specs.declared.kind.TrbKind.TheVariants.{StopEndpoint, ResetEndpoint, SetDequeue, CommandCompletion}
-use Rattle.usb_segment.specs.Places.{address_of, cycle_of}
+use Rattle.usb_rings.specs.Places.{address_of, cycle_of}
 use Rattle.usb_model.specs.Kept.{KeptEndpoint, KeptTransfer, code_of, first_place, new_kept_endpoint, trbs_of}
 use Rattle.usb_model.specs.Events.{find_at, past_kept_blanks}
 use Rattle.usb_model.specs.Packets.{Answered, answer_now, got, packet_now, sent_before, serve_kept}
@@ -22,7 +22,7 @@ use Rattle.usb_model.specs.Joins.{joined}
 use Rattle.usb_device.specs.Pipe.{Pipe, answer_of, bytes_after, pipe_after, rewound}
 use Rattle.usb_transfer.specs.Tds.{tds_of}
 use Rattle.usb_transfer.specs.Trbs.{normals_of}
-use Rattle.usb_tring.specs.Line.{IsAt, capacity, normals, place_of, places, used}
+use Rattle.usb_rings.specs.Line.{IsAt, capacity, normals, place_of, places, used}
 use Rattle.usb_xhc.specs.declared.trb_at.TrbAt.{TrbAt}
 use Rattle.usb_xhc.specs.Context.{Context, configured}
 use Rattle.usb_xhc.specs.Commands.{Carried, carried}

@@ -7,10 +7,10 @@ use Rattle.usb_model.specs.Requests.{is_unsupported}
 use Rattle.usb_model.specs.Setup.{Setup, endpoint_id, interface_of, kind_of, packet_size_of, script_of}
 use Rattle.usb_trb.specs.declared.kind.TrbKind.{TrbKind}
 use Rattle.usb_trb.specs.declared.kind.TrbKind.TheVariants.{CommandCompletion, ResetEndpoint, SetDequeue, StopEndpoint}
-use Rattle.usb_segment.specs.Places.{address_of, cycle_of}
+use Rattle.usb_rings.specs.Places.{address_of, cycle_of}
 use Rattle.usb_model.specs.Kept.{KeptEndpoint, Transfer}
 use Rattle.usb_device.specs.Pipe.{Pipe, pipe_at, rewound}
-use Rattle.usb_tring.specs.Line.{places}
+use Rattle.usb_rings.specs.Line.{places}
 use Rattle.usb_xhc.specs.Context.{Context}
 use Rattle.usb_xhc.specs.Controller.{Controller}
 use Rattle.usb_xhc.specs.Made.{ring_base}

@@ -13,7 +13,7 @@ use Rattle.usb_model.specs.Setup.{Setup, endpoint_id, interface_of, packet_size_
 use Rattle.usb_claims.specs.Tables.{is_plain}
 use Rattle.usb_descriptors.specs.Table.{IsTable}
 use Rattle.usb_trb.specs.declared.kind.TrbKind.{TrbKind}
-use Rattle.usb_segment.specs.Places.{index_of}
+use Rattle.usb_rings.specs.Places.{index_of}
 use Rattle.usb_model.specs.Kept.{KeptEndpoint, KeptTransfer, code_of, new_kept_endpoint, trbs_of}
 use Rattle.usb_model.specs.Events.{errand_of, find_at}
 use Rattle.usb_model.specs.Packets.{Answered, answer_now, got, packet_now, serve_kept}
@@ -22,7 +22,7 @@ use Rattle.usb_model.specs.Joins.{joined}
 use Rattle.usb_device.specs.Pipe.{IsLawful, Pipe, cleared, pipe_at}
 use Rattle.usb_transfer.specs.Tds.{tds_of}
 use Rattle.usb_transfer.specs.Trbs.{normals_of}
-use Rattle.usb_tring.specs.Line.{capacity, normals, used}
+use Rattle.usb_rings.specs.Line.{capacity, normals, used}
 use Rattle.usb_xhc.specs.declared.packet.Packet.{Packet as Told}
 use Rattle.usb_xhc.specs.Context.{Context}
 use Rattle.usb_xhc.specs.Host.{rung, with_ring, with_pushed, with_blank, without_first}

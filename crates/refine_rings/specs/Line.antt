@@ -7,7 +7,7 @@ use Rattle.usb_trb.specs.declared.kind.TrbKind.TheVariants.{NoOp}
 use Rattle.usb_model.specs.Kept.{InRow, KeptTransfer, first_place, trbs_of}
 use Rattle.usb_transfer.specs.Tds.{tds_of}
 use Rattle.usb_transfer.specs.Trbs.{normals_of}
-use Rattle.usb_tring.specs.Line.{Line, capacity, normals, places}
+use Rattle.usb_rings.specs.Line.{Line, capacity, normals, places}
 
 -- the TRBs of a transfer in progress, under some key, at an endpoint of this packet size
 pub record IsSent (size : ℕ) (y : KeptTransfer) (ks : List TrbKind) : Type 0 where

@@ -4,9 +4,9 @@ use Rattle.usb_model.specs.declared.reply.Reply.{Reply}
 use Rattle.usb_model.specs.declared.reply.Reply.TheVariants.{Nak, Moved, Ended}
 use Rattle.usb_trb.specs.declared.kind.TrbKind.{TrbKind}
 use Rattle.usb_trb.specs.declared.kind.TrbKind.TheVariants.{TransferEvent, CommandCompletion}
-use Rattle.usb_segment.specs.Places.{address_of}
+use Rattle.usb_rings.specs.Places.{address_of}
 use Rattle.usb_model.specs.Kept.{Telling, Transfer, Completion}
-use Rattle.usb_tring.specs.Line.{places}
+use Rattle.usb_rings.specs.Line.{places}
 use Rattle.usb_xhc.specs.declared.packet.Packet.{Packet}
 use Rattle.usb_xhc.specs.declared.packet.Packet.TheVariants as packet
 use Rattle.usb_xhc.specs.Context.{Context}

@@ -7,7 +7,7 @@ use Rattle.usb_model.specs.declared.response.Response.{Response}
 use Rattle.usb_model.specs.Endpoint.Status.{halts}
 use Rattle.usb_model.specs.declared.endpoint.EndpointState.TheVariants.{Halted}
 use Rattle.usb_model.specs.Setup.{endpoint_id}
-use Rattle.usb_ering.specs.Ring.{Ring}
+use Rattle.usb_rings.specs.Ring.{Ring}
 use Rattle.usb_model.specs.Packets.{Packet}
 use Rattle.usb_device.specs.Pipe.{answer_of, pipe_at}
 use Rattle.usb_xhc.specs.declared.packet.Packet.{Packet as Told}

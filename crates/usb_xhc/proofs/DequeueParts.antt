@@ -2,7 +2,7 @@
 use Rattle.std.proofs.Common.{◌≡◌, ℕ, zero, suc, ◌+◌, ◌-◌, ◌%◌, refl, ap, sym, ◌∙◌, arith, List, [], ◌∷◌, ◌++◌, length, drop}
 use Rattle.std.proofs.lemmas.List.{drop-drop, length-drop}
 use Rattle.usb_trb.specs.declared.kind.TrbKind.{TrbKind}
-use Rattle.usb_tring.specs.Line.{Line, all_of, contents, moved, no_ops, advanced}
+use Rattle.usb_rings.specs.Line.{Line, all_of, contents, moved, no_ops, advanced}
 use Rattle.usb_xhc.specs.Ahead.{trbs_ahead, past}
 
 module _ {A : Type 0} where

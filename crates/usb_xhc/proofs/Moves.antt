@@ -2,10 +2,10 @@
 use Rattle.std.proofs.Common.{◌≡◌, ℕ, zero, suc, ◌<◌, ◌≤◌, refl, ap, ◌∙◌, arith, length, Some, None, true, false, Bool, inl, inr, ◌⊎◌}
 use Rattle.std.specs.Prelude.{Option, is_some, ◌==◌, if◌then◌else◌, ◌≢◌}
 use Rattle.std.proofs.lemmas.Bool.{eqb-true, eq-eqb, cases_lt}
-use Rattle.usb_segment.specs.Places.{address_of}
-use Rattle.usb_tring.specs.Line.{Line, places, all_of, place_behind, moved_behind}
-use Rattle.usb_segment.specs.Memory.{Memory}
-use Rattle.usb_tring.specs.View.{Ring}
+use Rattle.usb_rings.specs.Places.{address_of}
+use Rattle.usb_rings.specs.Line.{Line, places, all_of, place_behind, moved_behind}
+use Rattle.usb_rings.specs.Memory.{Memory}
+use Rattle.usb_rings.specs.View.{Ring}
 use Rattle.usb_xhc.specs.Context.{Context}
 use Rattle.usb_xhc.specs.Commands.{before, before_by, moved_at}
 

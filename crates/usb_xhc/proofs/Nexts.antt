@@ -5,8 +5,8 @@ use Rattle.std.proofs.lemmas.Option.{slice_get_within}
 use Rattle.usb_trb.specs.declared.kind.Normal.{Normal as NormalTrb}
 use Rattle.usb_trb.specs.declared.kind.TrbKind.{TrbKind}
 use Rattle.usb_trb.specs.declared.kind.TrbKind.TheVariants.{Normal, Link, NoOp, ResetEndpoint, StopEndpoint, SetDequeue, TransferEvent, CommandCompletion}
-use Rattle.usb_segment.specs.Places.{after, address_of}
-use Rattle.usb_tring.specs.Line.{Line, places, contents, first_of, ahead_of}
+use Rattle.usb_rings.specs.Places.{after, address_of}
+use Rattle.usb_rings.specs.Line.{Line, places, contents, first_of, ahead_of}
 use Rattle.usb_xhc.specs.declared.trb_at.TrbAt.{TrbAt}
 use Rattle.usb_xhc.specs.Ahead.{trbs_ahead}
 use Rattle.usb_xhc.specs.NormalTrbs.{seen}

@@ -7,10 +7,10 @@ use Rattle.usb_trb.specs.declared.kind.TrbKind.{TrbKind}
 use Rattle.usb_model.specs.declared.response.Response.{Response}
 use Rattle.usb_model.specs.declared.response.Response.TheVariants.{Data, Ack, Nak, Stall, Broken}
 use Rattle.usb_model.specs.Endpoint.Serve.{is_no_packet}
-use Rattle.usb_segment.specs.Places.{after, address_of}
+use Rattle.usb_rings.specs.Places.{after, address_of}
 use Rattle.usb_model.specs.Stands.{Stand}
 use Rattle.usb_model.specs.Packets.{packet_by}
-use Rattle.usb_tring.specs.Line.{Line, places, all_of, contents, moved}
+use Rattle.usb_rings.specs.Line.{Line, places, all_of, contents, moved}
 use Rattle.usb_device.specs.Pipe.{bytes_after, is_ack, packet_of}
 use Rattle.usb_device.specs.Skims.{is_whole}
 use Rattle.usb_xhc.specs.declared.packet.Packet.TheVariants as told

@@ -6,7 +6,7 @@ use Rattle.usb_trb.specs.declared.kind.TrbKind.TheVariants.{Normal}
 use Rattle.usb_model.specs.declared.response.Response.{Response}
 use Rattle.usb_model.specs.Stands.{total}
 use Rattle.usb_model.specs.Packets.{packet_by}
-use Rattle.usb_tring.specs.Line.{Line, contents, moved, no_ops}
+use Rattle.usb_rings.specs.Line.{Line, contents, moved, no_ops}
 
 -- its Normal TRBs, up to the one that tells its end (IOC)
 abbrev pub ahead : List TrbKind → List NormalTrb

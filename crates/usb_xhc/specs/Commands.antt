@@ -5,8 +5,8 @@ use Rattle.usb_model.specs.declared.endpoint.EndpointState.TheVariants.{Running,
 use Rattle.usb_model.specs.Completion.{context_state_error, stopped, success}
 use Rattle.usb_trb.specs.declared.kind.TrbKind.{TrbKind}
 use Rattle.usb_trb.specs.declared.kind.TrbKind.TheVariants.{Normal, Link, NoOp, ResetEndpoint, StopEndpoint, SetDequeue, TransferEvent, CommandCompletion}
-use Rattle.usb_segment.specs.Places.{address_of}
-use Rattle.usb_tring.specs.Line.{Line, places, all_of, place_behind, moved_behind}
+use Rattle.usb_rings.specs.Places.{address_of}
+use Rattle.usb_rings.specs.Line.{Line, places, all_of, place_behind, moved_behind}
 use Rattle.usb_xhc.specs.declared.trb_at.TrbAt.{TrbAt}
 use Rattle.usb_xhc.specs.Context.{Context, stand_by, event_by}
 use Rattle.usb_xhc.specs.Transaction.{trb_at}

@@ -5,10 +5,10 @@ use Rattle.usb_model.specs.declared.endpoint.EndpointState.TheVariants.{Running}
 use Rattle.usb_trb.specs.declared.kind.Normal.{Normal as NormalTrb}
 use Rattle.usb_trb.specs.declared.kind.TrbKind.{TrbKind}
 use Rattle.usb_trb.specs.declared.kind.TrbKind.TheVariants.{TransferEvent}
-use Rattle.usb_segment.specs.Places.{address_of}
+use Rattle.usb_rings.specs.Places.{address_of}
 use Rattle.usb_model.specs.Stands.{Stand, stand, length_at}
-use Rattle.usb_tring.specs.Line.{places, empty, moved}
-use Rattle.usb_tring.specs.View.{Ring, made}
+use Rattle.usb_rings.specs.Line.{places, empty, moved}
+use Rattle.usb_rings.specs.View.{Ring, made}
 use Rattle.usb_xhc.specs.Ahead.{trbs_ahead, lengths, past}
 
 -- slot and id: its device's slot, and which of its endpoints. size: the bytes of a whole packet. within: the bytes that moved of the TRB at dequeue.

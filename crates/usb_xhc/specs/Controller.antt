@@ -3,8 +3,8 @@ use Rattle.std.specs.Prelude.{◌≡◌, ℕ, ◌+◌, ◌-◌, ◌*◌, List, [
 use Rattle.std.specs.Option.{option_and_then, option_map_or}
 use Rattle.usb_trb.specs.declared.kind.TrbKind.{TrbKind}
 use Rattle.usb_trb.specs.declared.kind.TrbKind.TheVariants.{Normal, Link, NoOp, ResetEndpoint, StopEndpoint, SetDequeue, TransferEvent, CommandCompletion}
-use Rattle.usb_segment.specs.Places.{index_of}
-use Rattle.usb_ering.specs.Ring.{Ring, dequeue_of, empty}
+use Rattle.usb_rings.specs.Places.{index_of}
+use Rattle.usb_rings.specs.Ring.{Ring, dequeue_of, empty}
 use Rattle.usb_device.specs.Pipe.{IsLawful}
 use Rattle.usb_xhc.specs.declared.packet.Packet.{Packet as Told}
 use Rattle.usb_xhc.specs.Commands.{carried, endpoint_not_enabled_error, trb_error}

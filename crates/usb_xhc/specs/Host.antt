@@ -4,9 +4,9 @@ use Rattle.usb_model.specs.declared.endpoint.EndpointState.{EndpointState}
 use Rattle.usb_model.specs.declared.endpoint.EndpointState.TheVariants.{Running, Stopped, Halted}
 use Rattle.usb_trb.specs.declared.kind.TrbKind.{TrbKind}
 use Rattle.usb_trb.specs.declared.kind.TrbKind.TheVariants.{NoOp}
-use Rattle.usb_segment.specs.Memory.{puts}
-use Rattle.usb_tring.specs.Line.{places, blanked, dropped, enqueue_of, place_of, pushed}
-use Rattle.usb_tring.specs.View.{Ring}
+use Rattle.usb_rings.specs.Memory.{puts}
+use Rattle.usb_rings.specs.Line.{places, blanked, dropped, enqueue_of, place_of, pushed}
+use Rattle.usb_rings.specs.View.{Ring}
 use Rattle.usb_xhc.specs.Context.{Context}
 
 -- a doorbell makes a stopped endpoint run

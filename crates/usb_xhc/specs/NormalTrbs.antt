@@ -2,7 +2,7 @@
 use Rattle.std.specs.Prelude.{ℕ, Option, option_map}
 use Rattle.usb_trb.specs.declared.kind.Normal.{Normal as NormalTrb}
 use Rattle.usb_trb.specs.declared.trb.Trb.{Trb}
-use Rattle.usb_tring.specs.Line.{normal_at}
+use Rattle.usb_rings.specs.Line.{normal_at}
 use Rattle.usb_xhc.specs.declared.trb_at.TrbAt.{TrbAt}
 
 -- what a Normal TRB says, with its address

@@ -1,9 +1,9 @@
 -- TRBs are posted to a ring, one behind another.
 use Rattle.std.specs.Prelude.{ℕ, List, [], ◌∷◌, ◌++◌}
 use Rattle.usb_trb.specs.declared.kind.TrbKind.{TrbKind}
-use Rattle.usb_segment.specs.Places.{after}
-use Rattle.usb_segment.specs.Memory.{put}
-use Rattle.usb_ering.specs.Ring.{Ring}
+use Rattle.usb_rings.specs.Places.{after}
+use Rattle.usb_rings.specs.Memory.{put}
+use Rattle.usb_rings.specs.Ring.{Ring}
 
 -- one more waits
 abbrev pub posted_one : ℕ → Ring → TrbKind → Ring

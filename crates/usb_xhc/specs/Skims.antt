@@ -1,7 +1,7 @@
 -- Whole packets in a row at an endpoint, each inside the TRB at dequeue: none ends a TRB, and none ends anything.
 use Rattle.std.specs.Prelude.{◌≡◌, ℕ, zero, suc, ◌+◌, ◌*◌, ◌<◌, true, List, [], Option, Some, None, slice_get}
 use Rattle.std.specs.Option.{option_and_then, option_map_or}
-use Rattle.usb_tring.specs.Line.{moved}
+use Rattle.usb_rings.specs.Line.{moved}
 use Rattle.usb_xhc.specs.declared.packet.Packet.TheVariants.{Moved}
 use Rattle.usb_xhc.specs.Context.{Context}
 use Rattle.usb_xhc.specs.Transaction.{Served}

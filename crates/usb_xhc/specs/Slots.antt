@@ -4,7 +4,7 @@ use Rattle.std.specs.Option.{option_and_then, option_map_or}
 use Rattle.usb_model.specs.declared.response.Response.{Response}
 use Rattle.usb_model.specs.Setup.{endpoint_id}
 use Rattle.usb_trb.specs.declared.kind.TrbKind.{TrbKind}
-use Rattle.usb_ering.specs.Ring.{Ring}
+use Rattle.usb_rings.specs.Ring.{Ring}
 use Rattle.usb_device.specs.Pipe.{Pipe, answer_of, bytes_after, pipe_after, pipe_at, rewound}
 use Rattle.usb_xhc.specs.declared.trb_at.TrbAt.{TrbAt}
 use Rattle.usb_xhc.specs.Context.{Context, configured}

@@ -11,8 +11,8 @@ use Rattle.usb_trb.specs.declared.kind.TrbKind.{TrbKind}
 use Rattle.usb_model.specs.Packets.{Packet, packet_by}
 use Rattle.usb_xhc.specs.declared.packet.Packet.{Packet as Told}
 use Rattle.usb_xhc.specs.declared.packet.Packet.TheVariants as told
-use Rattle.usb_segment.specs.Places.{address_of}
-use Rattle.usb_tring.specs.Line.{Line, places}
+use Rattle.usb_rings.specs.Places.{address_of}
+use Rattle.usb_rings.specs.Line.{Line, places}
 use Rattle.usb_xhc.specs.declared.trb_at.TrbAt.{TrbAt}
 use Rattle.usb_xhc.specs.Ahead.{trbs_ahead, goes_on, room}
 use Rattle.usb_xhc.specs.Context.{Context, trbs, stand_by, event_by, gone_on, gone_past}

@@ -7,9 +7,9 @@ ghost use Rattle.usb_xhc.specs.Transaction.{trb_at};
 
 use crate::context::EndpointContext;
 use crate::transaction::post;
-use usb_ering::EventRing;
 use usb_model::EndpointState;
 use usb_model::completion::{STOPPED, SUCCESS};
+use usb_rings::EventRing;
 use usb_trb::{Pointer, TrbKind};
 
 /// A TRB's field is out of its range, or what stands in the command ring is no order (xHCI 1.2, 6.4.5).

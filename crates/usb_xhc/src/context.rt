@@ -2,7 +2,7 @@
 
 ghost use Rattle.std.specs.Prelude.{◌≡◌, ◌+◌, ◌*◌, ◌<◌, ◌≤◌, ◌^◌, None, Some, length, suc, IfOk, IfSome, is_some};
 ghost use Rattle.usb_model.specs.declared.endpoint.EndpointState.TheVariants.{Running, Stopped, Halted};
-ghost use Rattle.usb_tring.specs.Line.{capacity, normals, used};
+ghost use Rattle.usb_rings.specs.Line.{capacity, normals, used};
 ghost use Rattle.usb_xhc.specs.Ahead.{Reaches, room};
 ghost use Rattle.usb_xhc.specs.Context.{Context, configured, trbs, stand_by, event_by, gone_on, gone_past};
 ghost use Rattle.usb_xhc.specs.Transaction.{trb_at, working};
@@ -15,8 +15,8 @@ use crate::trb_at::TrbAt;
 use std::alloc::{AllocError, Global};
 use std::marker::Model;
 use usb_model::EndpointState;
+use usb_rings::TransferRing;
 use usb_trb::{EndpointId, Normal, Pointer, Residual, Slot, TrbKind};
-use usb_tring::TransferRing;
 
 /// An endpoint: the state of its context (Endpoint Context; xHCI 1.2, 6.2.3), its transfer ring, and how far the transfer
 /// at dequeue has come. Contracts see a record of these.

@@ -3,9 +3,9 @@
 ghost use Rattle.std.specs.Prelude.{◌≡◌, ◌+◌, ◌-◌, ◌≤◌, ◌<◌, ◌∷◌, ◌++◌, [], None, Some, length, suc, IfErr, IfOk, IfSome, OnErr, OnOk, ℕ, option_map, slice_get, true, drop, slice_set, if◌then◌else◌};
 ghost use Rattle.std.specs.Option.{option_copied, option_map_or};
 ghost use Rattle.usb_model.specs.Setup.{endpoint_id};
-ghost use Rattle.usb_segment.specs.Places.{index_of};
-ghost use Rattle.usb_ering.specs.Ring.{empty};
-ghost use Rattle.usb_tring.specs.Line.{capacity, normals, used};
+ghost use Rattle.usb_rings.specs.Places.{index_of};
+ghost use Rattle.usb_rings.specs.Ring.{empty};
+ghost use Rattle.usb_rings.specs.Line.{capacity, normals, used};
 ghost use Rattle.usb_model.specs.declared.refused.Refused.TheVariants.{InvalidParam, NoMem};
 ghost use Rattle.usb_device.specs.Pipe.{cleared, pipe_at};
 ghost use Rattle.usb_xhc.specs.Feeds.{controller_fed, device_may_be_fed};
@@ -27,8 +27,8 @@ use std::alloc::{AllocError, Global};
 use std::marker::Model;
 use usb_descriptors::Config;
 use usb_device::{Device, Feed};
-use usb_ering::{CommandRing, EventRing, Ring};
 use usb_model::{Buffer, DeviceNo, EpAddr, Refused, Response};
+use usb_rings::{CommandRing, EventRing, Ring};
 use usb_trb::{EndpointId, Normal, Slot, TrbKind};
 
 /// How many devices there are at most.

@@ -13,7 +13,7 @@ ghost use Rattle.usb_xhc.specs.Transaction.{offset_by, packet_room, working};
 ghost use Rattle.usb_xhc.specs.Slots.{context_of, room_ahead, serving, sends, slot_after, events_after, read_after, changed, order_code, order_events, renewed, slot_renewed};
 ghost use Rattle.usb_xhc.specs.Made.{slot_for};
 ghost use Rattle.std.specs.Option.{option_copied};
-ghost use Rattle.usb_tring.specs.Line.{capacity, normals, used};
+ghost use Rattle.usb_rings.specs.Line.{capacity, normals, used};
 ghost use Rattle.usb_xhc.specs.Commands.{carried};
 ghost use Rattle.usb_xhc.specs.Host.{rung, with_ring, with_pushed, with_blank, without_first};
 ghost use Rattle.usb_xhc.specs.Posts.{posted_all};
@@ -25,8 +25,8 @@ use std::alloc::Global;
 use std::marker::Model;
 use usb_descriptors::Config;
 use usb_device::{Device, Feed, Scripted};
-use usb_ering::EventRing;
 use usb_model::{Buffer, EpAddr, Refused, Response};
+use usb_rings::EventRing;
 use usb_trb::{EndpointId, Normal, Slot, TrbKind};
 
 /// A device, and its endpoints by their ids, 0 to 31 (Device Context; xHCI 1.2, 6.2.1); a bulk or interrupt endpoint of the

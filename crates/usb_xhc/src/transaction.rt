@@ -15,8 +15,8 @@ use crate::outcome::{Reach, decide};
 use crate::packet::Packet;
 use crate::trb_at::TrbAt;
 use usb_device::Act;
-use usb_ering::EventRing;
 use usb_model::completion::{TRANSACTION_ERROR, halts};
+use usb_rings::EventRing;
 use usb_trb::TrbKind;
 
 impl EndpointContext {

@@ -1,7 +1,7 @@
 -- An event waits where the event ring isn't empty.
 use Rattle.std.proofs.Common.{ap, ◌∙◌, ℕ, ◌-◌}
 use Rattle.std.specs.Prelude.{length}
-use Rattle.usb_ering.specs.Ring.{Ring}
+use Rattle.usb_rings.specs.Ring.{Ring}
 use Rattle.refine_core.specs.State.{State}
 use Rattle.usb_steps.proofs.Waits.{delivers_one}
 use Rattle.usb_steps.proofs.parts.Parts.has_event.Goals as goal

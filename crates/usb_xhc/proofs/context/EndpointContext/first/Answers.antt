@@ -1,5 +1,5 @@
 use Rattle.std.proofs.Common.{ap, ◌∙◌}
-use Rattle.usb_tring.specs.Line.{ahead_of}
+use Rattle.usb_rings.specs.Line.{ahead_of}
 use Rattle.usb_xhc.specs.Context.{Context}
 use Rattle.usb_xhc.specs.NormalTrbs.{placed, seen}
 use Rattle.usb_xhc.proofs.Nexts.{first-read}

@@ -1,5 +1,5 @@
 use Rattle.std.proofs.Common.{arith, ap, length}
-use Rattle.usb_tring.specs.Line.{contents}
+use Rattle.usb_rings.specs.Line.{contents}
 use Rattle.usb_xhc.specs.Context.{Context}
 use Rattle.usb_xhc.proofs.Nexts.{within}
 use Rattle.usb_xhc.proofs.context.EndpointContext.go_on.Goals as goal

@@ -1,9 +1,9 @@
 use Rattle.std.proofs.Common.{◌≡◌, ◌-◌, arith, ap, ◌∙◌, suc, false, length}
 use Rattle.std.proofs.lemmas.List.{length-drop}
 use Rattle.std.proofs.lemmas.Option.{slice_get_within}
-use Rattle.usb_segment.specs.Memory.{Memory}
-use Rattle.usb_tring.specs.Line.{Line, contents, advanced}
-use Rattle.usb_tring.specs.View.{Ring}
+use Rattle.usb_rings.specs.Memory.{Memory}
+use Rattle.usb_rings.specs.Line.{Line, contents, advanced}
+use Rattle.usb_rings.specs.View.{Ring}
 use Rattle.usb_xhc.specs.Ahead.{trbs_ahead, past}
 use Rattle.usb_xhc.specs.Context.{Context, gone_past}
 use Rattle.usb_xhc.proofs.Scans.{few-ahead}

@@ -1,6 +1,6 @@
 use Rattle.std.proofs.Common.{◌∙◌, ap, sym}
 use Rattle.std.specs.Prelude.{is_some}
-use Rattle.usb_tring.specs.View.{Ring}
+use Rattle.usb_rings.specs.View.{Ring}
 use Rattle.usb_xhc.specs.Context.{Context}
 use Rattle.usb_xhc.specs.Commands.{before, moved_at}
 use Rattle.usb_xhc.proofs.Moves.{leads, moved-there, stayed-there}

@@ -1,3 +1,0 @@
-pub mod Between
-pub mod Rings
-pub mod Chain

@@ -1,5 +1,0 @@
-use Rattle.usb_ering.proofs.Chain.{link-stays-unchained}
-use Rattle.usb_ering.proofs.laws.a_link_behind_commands_has_no_chain_bit.Goals as goal
-
-pub returns : goal.returns
-returns c = link-stays-unchained

@@ -1,9 +1,0 @@
-use Rattle.std.proofs.Common.{ap, length, sym, ◌∙◌}
-use Rattle.usb_ering.specs.Ring.{Ring}
-use Rattle.usb_ering.proofs.Rings.{length-waits}
-use Rattle.usb_ering.proofs.ring.Ring.len.Goals as goal
-
-pub returns-clause-value : goal.returns-clause-value
-returns-clause-value g c =
-    let r = c.self.inside in
-    c.waiting.ensures ∙ sym (length-waits g.row.N r.segment r.enqueue r.dequeue) ∙ ap (λ (x : Ring). length x.waits) c.self.view_is

@@ -1,5 +1,0 @@
-use Rattle.usb_segment.proofs.Places.{cycle-is}
-use Rattle.usb_segment.proofs.place.cycle.Goals as goal
-
-pub returns : goal.returns
-returns g c = cycle-is g.row.N c.args.place c.requires
