@@ -13,7 +13,7 @@ use Rattle.usb_model.specs.World.{World, Turn, turn, world_from}
 use Rattle.usb_model.specs.World.Journal.{journal_from}
 use Rattle.usb_model.specs.World.Plans.{Stage, stage_after, needs_stop, return_steps, steps_of, noted, rule_for, rules_after, expand_from}
 use Rattle.usb_model.specs.World.Journal.{IsBeginning, run_from}
-use Rattle.proof_lemmas.proofs.Handles.Runs.{run_append}
+use Rattle.proof_model.proofs.Handles.Runs.{run_append}
 use Rattle.plain_run.specs.PlanRuns.{Made, kept_with}
 
 -- one step's entry

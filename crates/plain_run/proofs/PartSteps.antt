@@ -7,8 +7,8 @@ use Rattle.usb_model.specs.World.{World, new_world, turn}
 use Rattle.usb_model.specs.Machine.Turns.{alone}
 use Rattle.usb_model.specs.World.Journal.{Place, journal_from, journal, entries_in, steps_in, world_run, is_own, own_places, own, entries}
 use Rattle.plain_run.specs.Part.{places_of, own_steps, own_entries}
-use Rattle.proof_lemmas.proofs.Handles.Isolation.{sees_alone}
-use Rattle.proof_lemmas.proofs.Handles.Alone.{runs_alone}
+use Rattle.proof_model.proofs.Handles.Isolation.{sees_alone}
+use Rattle.proof_model.proofs.Handles.Alone.{runs_alone}
 
 -- a run's steps with its entries are its places, from a world on
 places_from_world : (setup : Setup) (w : World) (steps : List Step) → places_of steps (entries_in (journal_from setup w steps)) ≡ journal_from setup w steps

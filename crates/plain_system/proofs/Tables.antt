@@ -1,7 +1,7 @@
 -- The plain program's tables of cells, read and written.
 use Rattle.std.proofs.Common.{◌≡◌, ℕ, zero, suc, ◌+◌, ◌*◌, ◌<◌, ◌==◌, ◌&&◌, List, [], ◌∷◌, ◌++◌, length, slice_index_or, slice_set, refl}
 use Rattle.std.specs.Prelude.{if◌then◌else◌}
-use Rattle.proof_lemmas.proofs.Cells as cells
+use Rattle.proof_model.proofs.Cells as cells
 use Rattle.plain_system.specs.Tables.{cell_at}
 
 -- what is read at a cell's place is the cell, whatever stands for the others

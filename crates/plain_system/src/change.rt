@@ -125,7 +125,7 @@ impl System {
     }
 
     /// Makes the effect of a name's step, which is no Unplug; the reply is the effect's.
-    #[tactic(auto, using(proof_lemmas::proofs::Handles::Isolation::gone_stays), unfolding(usb_model::specs::World::world_after))]
+    #[tactic(auto, using(proof_model::proofs::Handles::Isolation::gone_stays), unfolding(usb_model::specs::World::world_after))]
     pub fn apply(
         &mut self,
         alloc: Global,

@@ -11,7 +11,7 @@ use Rattle.usb_model.specs.Setup.{Setup, packet_size_of}
 use Rattle.usb_model.specs.Endpoint.{first_waiting, outcome_of}
 use Rattle.usb_model.specs.Endpoint.Packets.{IsOpenAt, open_with, outcome}
 use Rattle.usb_model.specs.World.{World, Claims, new_world, holder, is_its, machine_of, world_from}
-use Rattle.proof_lemmas.proofs.Lists.Pieces.{same_name}
+use Rattle.proof_model.proofs.Lists.Pieces.{same_name}
 use Rattle.usb_model.specs.Kept.{KeptEndpoint}
 use Rattle.refine_world.specs.Lively.{IsFine, IsLively}
 use Rattle.refine_world.specs.ShownEndpoint.{ShowsDevice, ShowsEnd}

@@ -6,8 +6,8 @@ use Rattle.usb_model.specs.declared.endpoint.Endpoint.{Endpoint}
 use Rattle.usb_model.specs.Setup.{Setup}
 use Rattle.usb_model.specs.World.{World, new_world, turn, world_from}
 use Rattle.usb_model.specs.World.Journal.{Place, journal, journal_from, entries_in, own_places}
-use Rattle.proof_lemmas.proofs.Handles.Isolation.{sees_alone}
-use Rattle.proof_lemmas.proofs.Handles.Runs.{world_append}
+use Rattle.proof_model.proofs.Handles.Isolation.{sees_alone}
+use Rattle.proof_model.proofs.Handles.Runs.{world_append}
 use Rattle.proof_living.specs.Living.{More, GoesOn, StaysWithin, with_more, world_with}
 use Rattle.proof_living.specs.Feeding.{Stretch, fed_in, setup_after, steps_in, world_fed, fed_journal, fed_world, IsFed, IsAsIfKnown, FedAsIfKnown}
 use Rattle.proof_living.proofs.Worlds.{new_same}

@@ -30,7 +30,7 @@ use Rattle.usb_model.specs.Machine.{at_endpoint}
 use Rattle.usb_model.specs.Machine.Turns.{serve_effect, effect}
 use Rattle.usb_model.specs.Setup.{Setup, packet_size_of}
 use Rattle.usb_model.specs.World.{World, Turn, new_world, holder, is_its, machine_of, owner_of, world_after, is_blocked, turn_of, turn_by, turn, world_from}
-use Rattle.proof_lemmas.proofs.Lists.Pieces.{same_name}
+use Rattle.proof_model.proofs.Lists.Pieces.{same_name}
 use Rattle.proof_living.specs.Living.{More, GoesOn, StaysWithin, is_wanting, is_running, is_empty, meets_end, world_with}
 use Rattle.proof_living.specs.Wanting.{wants, IsOpen, wanting_none, WantChangesNothing, ReachedLonger}
 use Rattle.proof_living.proofs.Worlds.{new_same}

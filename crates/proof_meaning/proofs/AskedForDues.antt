@@ -15,8 +15,8 @@ use Rattle.usb_model.specs.Setup.{Setup, endpoints_of}
 use Rattle.usb_model.specs.World.{is_its, machine_of}
 use Rattle.usb_model.specs.World.Journal.{steps_in}
 use Rattle.usb_model.specs.World.Due.{Dated, below, due, due_of, given_at, is_due, is_number}
-use Rattle.proof_lemmas.proofs.Lists.Pieces.{same_name}
-use Rattle.proof_lemmas.proofs.Work.StepMoves.{IsHome, home_is}
+use Rattle.proof_model.proofs.Lists.Pieces.{same_name}
+use Rattle.proof_model.proofs.Work.StepMoves.{IsHome, home_is}
 use Rattle.proof_meaning.specs.Dues.{AsksForDue, ComesBefore, Gives, IsAskedFor, IsDue, IsGivenAt, world_of}
 use Rattle.proof_meaning.proofs.ListedNumbers.{all_of, chosen_rise, flat_more, in_filter, in_flat, in_map, pairs_append, pairs_map, to_below, to_filter, to_flat, to_map}
 use Rattle.proof_meaning.proofs.LivesInLines.{found_lives, its_number, lives_found}

@@ -8,7 +8,7 @@ use Rattle.usb_model.specs.declared.response.Response.TheVariants.{Data, Ack, Na
 use Rattle.usb_model.specs.declared.request.Body.{Body}
 use Rattle.usb_model.specs.declared.request.Body.TheVariants.{In, Out}
 use Rattle.usb_model.specs.declared.request.Request.{Request}
-use Rattle.proof_lemmas.proofs.Shares.Outcome.{outcome_is}
+use Rattle.proof_model.proofs.Shares.Outcome.{outcome_is}
 use Rattle.usb_model.specs.declared.outcome.Outcome.{Outcome}
 use Rattle.usb_model.specs.Endpoint.Packets.{open_with, ended_with, moved_by, is_nak, without_naks, acks, sent_with, full_front, front_of, read_with, packets_by}
 use Rattle.proof_meaning.specs.Outcomes.{EndsForGood}

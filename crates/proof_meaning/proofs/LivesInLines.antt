@@ -16,11 +16,11 @@ use Rattle.usb_model.specs.Machine.Calls.{Home, home_by, home_in, home_of}
 use Rattle.usb_model.specs.Setup.{Setup, endpoints_of, info_of}
 use Rattle.usb_model.specs.World.{World, holder, is_its, machine_of, new_world, world_from}
 use Rattle.usb_model.specs.World.Journal.{entries}
-use Rattle.proof_lemmas.proofs.Lists.Pieces.{same_name}
-use Rattle.proof_lemmas.proofs.Lists.Times.{times-cons, times_here}
-use Rattle.proof_lemmas.proofs.Work.Lines.{found_it, progress_times}
-use Rattle.proof_lemmas.proofs.Work.StepMoves.{IsHome, home_is}
-use Rattle.proof_invariants.proofs.Places.Runs.{keeps_places}
+use Rattle.proof_model.proofs.Lists.Pieces.{same_name}
+use Rattle.proof_model.proofs.Lists.Times.{times-cons, times_here}
+use Rattle.proof_model.proofs.Work.Lines.{found_it, progress_times}
+use Rattle.proof_model.proofs.Work.StepMoves.{IsHome, home_is}
+use Rattle.proof_model.proofs.Places.Runs.{keeps_places}
 use Rattle.proof_meaning.specs.Dues.{IsInProgress}
 use Rattle.proof_meaning.proofs.ListedNumbers.{behind, front_or_behind, here, nowhere}
 

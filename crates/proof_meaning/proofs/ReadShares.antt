@@ -12,8 +12,8 @@ use Rattle.usb_model.specs.declared.request.Body.TheVariants.{In}
 use Rattle.usb_model.specs.declared.request.Request.{Request}
 use Rattle.usb_model.specs.declared.outcome.Outcome.{Outcome}
 use Rattle.usb_model.specs.Endpoint.Packets.{open_with, ended_with, moved_by, full_front, front_of, read_with}
-use Rattle.proof_lemmas.proofs.Shares.OpenShares.{front_split, front_full, read_behind, no_front}
-use Rattle.proof_lemmas.proofs.Shares.More.{room_behind}
+use Rattle.proof_model.proofs.Shares.OpenShares.{front_split, front_full, read_behind, no_front}
+use Rattle.proof_model.proofs.Shares.More.{room_behind}
 use Rattle.proof_meaning.specs.Outcomes.{LeaveRoom, ReadsOn, Reads}
 
 -- no more whole packets than there is room for a byte behind leave room

@@ -10,7 +10,7 @@ use Rattle.usb_model.specs.declared.request.Body.TheVariants.{Out}
 use Rattle.usb_model.specs.declared.request.Request.{Request}
 use Rattle.usb_model.specs.declared.outcome.Outcome.{Outcome}
 use Rattle.usb_model.specs.Endpoint.Packets.{open_with, ended_with, moved_by, packets_by, acks, sent_with}
-use Rattle.proof_lemmas.proofs.Shares.OpenShares.{acks_split, sent_behind}
+use Rattle.proof_model.proofs.Shares.OpenShares.{acks_split, sent_behind}
 use Rattle.proof_meaning.specs.Outcomes.{SendsOn, Sends}
 
 -- the first of so many packets

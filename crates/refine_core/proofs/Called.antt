@@ -12,11 +12,11 @@ use Rattle.usb_model.specs.Machine.Calls.{callback_of, without}
 use Rattle.usb_model.specs.Setup.{Setup}
 use Rattle.usb_model.specs.World.{World, machine_of}
 use Rattle.usb_model.specs.World.Journal.{entries}
-use Rattle.proof_lemmas.proofs.Lists.Pieces.{same_name}
-use Rattle.proof_lemmas.proofs.Lists.Times.{count-cons, times-cons, times_here}
-use Rattle.proof_invariants.proofs.Bounds.Runs.{keeps_bounds}
-use Rattle.proof_invariants.proofs.Places.Placed.{IsPlaced}
-use Rattle.proof_invariants.proofs.Places.Runs.{kept_at}
+use Rattle.proof_model.proofs.Lists.Pieces.{same_name}
+use Rattle.proof_model.proofs.Lists.Times.{count-cons, times-cons, times_here}
+use Rattle.proof_model.proofs.Bounds.Runs.{keeps_bounds}
+use Rattle.proof_model.proofs.Places.Placed.{IsPlaced}
+use Rattle.proof_model.proofs.Places.Runs.{kept_at}
 use Rattle.refine_world.specs.Shows.{Core, Shows}
 use Rattle.refine_world.proofs.Links.{machine_parts}
 

@@ -8,7 +8,7 @@ use Rattle.std.proofs.lemmas.List.Sums.{prefix_len-le-length}
 use Rattle.std.proofs.lemmas.Option.{same_Some, slice_get_within}
 use Rattle.usb_model.specs.Endpoint.Status.{halts}
 use Rattle.usb_model.specs.Setup.{Setup, endpoint_id}
-use Rattle.proof_lemmas.proofs.Lists.Times.{count-cons}
+use Rattle.proof_model.proofs.Lists.Times.{count-cons}
 use Rattle.usb_tables.specs.declared.outstanding.Sent.{Sent}
 use Rattle.usb_tables.specs.Outstanding.{sent_at}
 use Rattle.refine_rings.proofs.Ends.{here}

@@ -11,8 +11,8 @@ use Rattle.usb_model.specs.Coherence.{IsCoherent, ServedFirst, event_by, first_b
 use Rattle.usb_model.specs.Endpoint.{is_blank_state}
 use Rattle.usb_model.specs.Setup.{Setup, packet_size_of}
 use Rattle.usb_model.specs.World.{World, holder}
-use Rattle.proof_lemmas.proofs.Lists.Parts.{heads_same}
-use Rattle.proof_lemmas.proofs.Lists.Pieces.{same_name}
+use Rattle.proof_model.proofs.Lists.Parts.{heads_same}
+use Rattle.proof_model.proofs.Lists.Pieces.{same_name}
 use Rattle.usb_model.specs.Kept.{InRow, KeptEndpoint, KeptTransfer, SentErrand, Telling, Transfer, first_place}
 use Rattle.usb_model.specs.Events.{find_at, past_kept_blanks}
 use Rattle.refine_world.specs.Lively.{IsFine}

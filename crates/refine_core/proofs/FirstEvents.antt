@@ -12,8 +12,8 @@ use Rattle.usb_model.specs.Coherence.{IsCoherent}
 use Rattle.usb_model.specs.Setup.{Setup, packet_size_of}
 use Rattle.usb_model.specs.World.{World, holder}
 use Rattle.usb_model.specs.Kept.{Completion, KeptEndpoint, Telling, Transfer, code_of, index_of}
-use Rattle.proof_lemmas.proofs.Lists.Parts.{heads_same}
-use Rattle.proof_lemmas.proofs.Lists.Pieces.{same_name}
+use Rattle.proof_model.proofs.Lists.Parts.{heads_same}
+use Rattle.proof_model.proofs.Lists.Pieces.{same_name}
 use Rattle.refine_world.specs.Lively.{IsFine}
 use Rattle.refine_world.specs.ShownEndpoint.{ShowsEnd}
 use Rattle.refine_world.specs.Shows.{AllHeld, At, Completes, Core, Report, RingEvent, Shows, Transfers, at, errands, event_at, events, news_of, ring_event, tellings}

@@ -13,8 +13,8 @@ use Rattle.usb_model.specs.Limits.{last_number, most_bytes, most_places}
 use Rattle.usb_model.specs.Requests.{length_of}
 use Rattle.usb_model.specs.Setup.{Setup, endpoint_id, info_of}
 use Rattle.usb_model.specs.World.{Claims, World, holder, is_its}
-use Rattle.proof_lemmas.proofs.Lists.Pieces.{same_name}
-use Rattle.proof_lemmas.proofs.Handles.Alone.{is_its-some}
+use Rattle.proof_model.proofs.Lists.Pieces.{same_name}
+use Rattle.proof_model.proofs.Handles.Alone.{is_its-some}
 use Rattle.usb_model.specs.Kept.{KeptEndpoint}
 use Rattle.usb_claims.specs.Holders.{device_of as device_at}
 use Rattle.usb_transfer.specs.Refusal.{checked}

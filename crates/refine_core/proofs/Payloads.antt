@@ -11,7 +11,7 @@ use Rattle.usb_tables.specs.ByEndpoint.{lane_at}
 use Rattle.usb_tables.specs.Flights.{EndedOf, Flights, blanked_at, item_at, left_at, line_at, with_item, with_line}
 use Rattle.refine_core.specs.Packets.{Serves, Skims}
 use Rattle.usb_xhc.specs.Controller.{Controller}
-use Rattle.proof_lemmas.proofs.Lists.Pieces.{same_name}
+use Rattle.proof_model.proofs.Lists.Pieces.{same_name}
 use Rattle.refine_core.specs.Payloads.{Carries, CarriesMore, EachHas, IsKept, Kept, StillCarries, kept_with}
 use Rattle.refine_core.specs.State.{State}
 

@@ -18,8 +18,8 @@ use Rattle.usb_model.specs.declared.errand.Errand.{Errand}
 use Rattle.usb_model.specs.Machine.{is_result_at}
 use Rattle.usb_model.specs.Setup.{Setup, endpoint_id}
 use Rattle.usb_model.specs.World.Shared.{pieces_of, tagged}
-use Rattle.proof_lemmas.proofs.Lists.Pieces.{pieces_of-append}
-use Rattle.proof_lemmas.proofs.Lists.Times.{count-cons}
+use Rattle.proof_model.proofs.Lists.Pieces.{pieces_of-append}
+use Rattle.proof_model.proofs.Lists.Times.{count-cons}
 use Rattle.usb_model.specs.Kept.{KeptEndpoint, KeptTransfer}
 use Rattle.usb_cancel.specs.declared.ended.Settlement.{Settlement}
 use Rattle.usb_transfer.specs.declared.transfer.Transfer.{Transfer as InFlight}

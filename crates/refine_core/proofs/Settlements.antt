@@ -7,7 +7,7 @@ use Rattle.usb_model.specs.declared.errand.Errand.TheVariants.{Move, Reset, Stop
 use Rattle.usb_model.specs.declared.reply.Reply.{Reply}
 use Rattle.usb_model.specs.declared.item.Ask.{Ask}
 use Rattle.usb_model.specs.declared.reply.Reply.TheVariants.{Settled}
-use Rattle.proof_lemmas.proofs.Lists.Parts.{heads_same}
+use Rattle.proof_model.proofs.Lists.Parts.{heads_same}
 use Rattle.usb_model.specs.declared.endpoint.EndpointState.TheVariants.{Running}
 use Rattle.usb_model.specs.declared.result.TransferResult.{TransferResult}
 use Rattle.usb_model.specs.Kept.{KeptEndpoint, KeptTransfer, SentErrand}

@@ -11,7 +11,7 @@ use Rattle.usb_model.specs.declared.step.Step.TheVariants.{Submit}
 use Rattle.usb_model.specs.Machine.Turns.{takes_news, takes_order}
 use Rattle.usb_model.specs.Setup.{Setup, packet_size_of}
 use Rattle.usb_model.specs.World.Shared.{past_first}
-use Rattle.proof_lemmas.proofs.Lists.Pieces.{same_name}
+use Rattle.proof_model.proofs.Lists.Pieces.{same_name}
 use Rattle.usb_model.specs.Joins.{joined}
 use Rattle.usb_transfer.specs.Tds.{Tds}
 use Rattle.usb_tables.specs.Callers.{number_of}

@@ -13,8 +13,8 @@ use Rattle.usb_model.specs.Machine.{is_callback_at, is_result_at}
 use Rattle.usb_model.specs.Machine.Calls.{callback_of}
 use Rattle.usb_model.specs.Setup.{Setup, endpoint_id}
 use Rattle.usb_model.specs.World.Shared.{past_first, pieces_of}
-use Rattle.proof_lemmas.proofs.Lists.Pieces.{same_name}
-use Rattle.proof_lemmas.proofs.Lists.Times.{count-cons}
+use Rattle.proof_model.proofs.Lists.Pieces.{same_name}
+use Rattle.proof_model.proofs.Lists.Times.{count-cons}
 use Rattle.usb_claims.specs.Holders.{Holding, device_of}
 use Rattle.usb_claims.specs.Tables.{is_plain}
 use Rattle.usb_tables.specs.Caller.{Kept as Caller}

@@ -2,7 +2,7 @@
 use Rattle.usb_model.proofs.Stands.{stands_some}
 use Rattle.std.proofs.Common.{Bool, List, Option, [], ap, arith, false, length, refl, subst, sym, true, ℕ, ◌++◌, ◌<◌, ◌≤◌, ◌∷◌, ◌≡◌}
 use Rattle.std.specs.Prelude.{if◌then◌else◌}
-use Rattle.proof_lemmas.proofs.Lists.Parts.{each_append}
+use Rattle.proof_model.proofs.Lists.Parts.{each_append}
 use Rattle.usb_model.specs.Coherence.{IsCoherent, ServedFirst, event_by, first_by, served_events}
 use Rattle.usb_model.specs.Endpoint.{is_blank_state, is_waiting, is_waiting_state}
 use Rattle.usb_model.specs.declared.endpoint.Endpoint.{Endpoint}

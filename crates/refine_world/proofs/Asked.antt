@@ -17,7 +17,7 @@ use Rattle.usb_model.specs.declared.news.Event.{Event}
 use Rattle.usb_model.specs.declared.reply.Reply.TheVariants as reply
 use Rattle.usb_model.specs.Machine.Calls.{asks, with_ask}
 use Rattle.usb_model.specs.Endpoint.{first_waiting, is_blank, is_waiting, is_waiting_state}
-use Rattle.proof_lemmas.proofs.Work.Errands.{events-with_ask}
+use Rattle.proof_model.proofs.Work.Errands.{events-with_ask}
 use Rattle.usb_model.specs.Coherence.{IsCoherent, served_events}
 use Rattle.refine_world.specs.ShownEndpoint.{AllKept, FirstPaused, FrontKnown, IsKept, ShowsEnd, count, front, is_stale, known_by, orders_sent, pause_told, tail_told, told_of}
 use Rattle.usb_model.specs.Kept.{InRow, KeptEndpoint, KeptTransfer, SentErrand, Telling, first_place}
@@ -25,7 +25,7 @@ use Rattle.usb_model.specs.Events.{Handled, posts}
 use Rattle.refine_world.specs.Kept.{Handles}
 use Rattle.usb_model.specs.Joins.{asked, kept_ask}
 use Rattle.refine_world.proofs.Finished.{same_tail, tail_same}
-use Rattle.proof_lemmas.proofs.Work.Phases.{free}
+use Rattle.proof_model.proofs.Work.Phases.{free}
 
 -- an item that was asked, beside the one that it was
 record AskedItem (size : ℕ) (x : Item) (y : KeptTransfer) (x' : Item) (y' : KeptTransfer) : Type 0 where

@@ -11,7 +11,7 @@ use Rattle.usb_model.specs.declared.setup.DeviceSetup.{DeviceSetup}
 use Rattle.usb_model.specs.declared.setup.EndpointInfo.{EndpointInfo}
 use Rattle.usb_model.specs.Setup.{Setup, info_of, interface_of, packet_size_of}
 use Rattle.usb_model.specs.World.{Claims, World, holder}
-use Rattle.proof_lemmas.proofs.Lists.Pieces.{either_way}
+use Rattle.proof_model.proofs.Lists.Pieces.{either_way}
 use Rattle.usb_model.specs.Kept.{SentErrand, KeptTransfer, first_place}
 use Rattle.refine_world.specs.ShownEndpoint.{AllKept, is_stale}
 use Rattle.refine_world.specs.Lively.{IsFine, ends_from, ends_of}

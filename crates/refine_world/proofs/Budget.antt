@@ -11,7 +11,7 @@ use Rattle.usb_model.specs.declared.errand.Errand.{Errand}
 use Rattle.usb_model.specs.declared.endpoint.Endpoint.{Endpoint}
 use Rattle.usb_model.specs.declared.news.Event.{Event}
 use Rattle.usb_model.specs.Coherence.{IsCoherent, served_events}
-use Rattle.proof_invariants.proofs.Bounds.Waits.{few_behind, few_ends}
+use Rattle.proof_model.proofs.Bounds.Waits.{few_behind, few_ends}
 use Rattle.usb_model.specs.Kept.{InRow, KeptTransfer, first_place}
 
 -- at most 18 events and 1 order wait for an endpoint of 16 places

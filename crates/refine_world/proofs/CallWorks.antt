@@ -21,8 +21,8 @@ use Rattle.usb_model.specs.Machine.Turns.{effect, takes_news, takes_order, takes
 use Rattle.usb_model.specs.World.{World, holder, is_its, machine_of, owner_of}
 use Rattle.usb_model.specs.Coherence.{IsCoherent}
 use Rattle.std.proofs.lemmas.Option.{same_Some}
-use Rattle.proof_invariants.proofs.Coherence.Commands.{coherent_ask, coherent_submit}
-use Rattle.proof_invariants.proofs.Machines.Deeds.{cleared}
+use Rattle.proof_model.proofs.Coherence.Commands.{coherent_ask, coherent_submit}
+use Rattle.proof_model.proofs.Machines.Deeds.{cleared}
 use Rattle.refine_world.specs.ShownEndpoint.{AllFew, ShowsEnd, StandsNear}
 use Rattle.usb_model.specs.Kept.{KeptEndpoint}
 use Rattle.usb_model.specs.Events.{Handled, posts}

@@ -23,9 +23,9 @@ use Rattle.usb_model.specs.World.Shared.{first_name, past_first, pieces_of}
 use Rattle.usb_model.specs.Machine.Turns.{deliver_news, deliver_effect, effect}
 use Rattle.usb_model.specs.World.{World, holder, machine_of}
 use Rattle.usb_model.specs.Coherence.{IsCoherent, event_by, served_events}
-use Rattle.proof_lemmas.proofs.Lists.Pieces.{same_name}
+use Rattle.proof_model.proofs.Lists.Pieces.{same_name}
 use Rattle.std.proofs.lemmas.Option.{same_Some}
-use Rattle.proof_invariants.proofs.Coherence.Delivers.{coherent_deliver}
+use Rattle.proof_model.proofs.Coherence.Delivers.{coherent_deliver}
 use Rattle.refine_world.specs.ShownEndpoint.{AllFew, AllUncut, ShowsEnd, StandsNear, is_stale, uncut_by}
 use Rattle.usb_model.specs.Kept.{KeptEndpoint, KeptTransfer, SentErrand, Telling, Transfer, code_of, index_of}
 use Rattle.usb_model.specs.Events.{Handled, Reading, errand_of, finish, kept_after, kept_result, past_kept_blanks, posts, reading}

@@ -12,8 +12,8 @@ use Rattle.usb_model.specs.Machine.{Machine, device_of}
 use Rattle.usb_model.specs.Machine.Turns.{take_effect}
 use Rattle.usb_model.specs.Setup.{Setup, is_within, packet_size_of, script_of}
 use Rattle.usb_model.specs.World.{Claims, World, all_ends_after, holder, is_its}
-use Rattle.proof_lemmas.proofs.Lists.Pieces.{same_name}
-use Rattle.proof_invariants.proofs.Machines.Deeds.{IsRest, claims, claims_again, closes, opens, releases, resets, stays, stops, takes}
+use Rattle.proof_model.proofs.Lists.Pieces.{same_name}
+use Rattle.proof_model.proofs.Machines.Deeds.{IsRest, claims, claims_again, closes, opens, releases, resets, stays, stops, takes}
 use Rattle.usb_model.specs.Kept.{KeptEndpoint, SentErrand, Telling, new_kept_endpoint}
 use Rattle.refine_world.specs.ShownEndpoint.{ShowsDevice, ShowsEnd}
 use Rattle.refine_world.specs.Shows.{Core, Shows}

@@ -25,9 +25,9 @@ use Rattle.refine_world.specs.ShownEndpoint.{IsLive, ShowsEnd, count, FirstPause
 use Rattle.usb_model.specs.Events.{Handled, Reading, finish, find_at, kept_after, kept_result, past_at, past_kept_blanks, posts, read_at, reading}
 use Rattle.refine_world.specs.Kept.{Handles}
 use Rattle.refine_world.proofs.FirstServed.{Found, Less, blanks_leave, finds, pointer}
-use Rattle.proof_invariants.proofs.Coherence.Delivers.{past_told}
-use Rattle.proof_lemmas.proofs.Work.Phases.{no_end, free, halted_if}
-use Rattle.proof_lemmas.proofs.Lists.Parts.{heads_same}
+use Rattle.proof_model.proofs.Coherence.Delivers.{past_told}
+use Rattle.proof_model.proofs.Work.Phases.{no_end, free, halted_if}
+use Rattle.proof_model.proofs.Lists.Parts.{heads_same}
 
 -- an end that is told first is that of the first served
 pub record FirstEnd (line : List Item) (tail ns : List Event) (n code : ℕ) : Type 0 where

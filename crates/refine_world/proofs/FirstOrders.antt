@@ -9,8 +9,8 @@ use Rattle.usb_model.specs.declared.news.Event.{Event}
 use Rattle.usb_model.specs.Coherence.{IsPhase, ended, move_ran, move_waits, reset_ran, reset_waits, runs, served_events, stop_failed, stop_ran, stop_ran_paused, stop_waits, stop_waits_halted}
 use Rattle.usb_model.specs.Setup.{Setup}
 use Rattle.usb_model.specs.World.{World, holder}
-use Rattle.proof_lemmas.proofs.Lists.Parts.{heads_same}
-use Rattle.proof_lemmas.proofs.Lists.Pieces.{same_name}
+use Rattle.proof_model.proofs.Lists.Parts.{heads_same}
+use Rattle.proof_model.proofs.Lists.Pieces.{same_name}
 use Rattle.refine_world.specs.Known.{KnowsOrder, OrdersFit}
 use Rattle.refine_world.specs.Lively.{IsFine}
 use Rattle.refine_world.specs.Shows.{AllHeld, At, Core, InRun, RingOrder, Shows, at, completed, errands, here, ring_order, under_way}

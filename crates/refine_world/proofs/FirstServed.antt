@@ -9,7 +9,7 @@ use Rattle.usb_model.specs.declared.news.Event.TheVariants.{Finished}
 use Rattle.usb_model.specs.declared.news.Event.{Event}
 use Rattle.usb_model.specs.Endpoint.{first_waiting, in_progress, is_blank, is_blank_state, is_transfer, is_waiting, is_waiting_state, past_blanks, past_number}
 use Rattle.usb_model.specs.Coherence.{ServedFirst, event_by, first_by, served_events}
-use Rattle.proof_lemmas.proofs.Lists.Pieces.{same_name}
+use Rattle.proof_model.proofs.Lists.Pieces.{same_name}
 use Rattle.usb_model.specs.Stands.{stand}
 use Rattle.refine_world.specs.ShownEndpoint.{AllKept, FrontKnown, IsLive, count, front, known_by, pause_told, telling_of, told_by, told_of}
 use Rattle.usb_model.specs.Kept.{InRow, KeptTransfer, first_place}

@@ -12,7 +12,7 @@ use Rattle.usb_model.specs.declared.request.Body.TheVariants.{In, Out}
 use Rattle.usb_model.specs.declared.request.Request.{Request}
 use Rattle.usb_model.specs.Endpoint.Packets.{count_of, open_with}
 use Rattle.usb_model.specs.Requests.{adds_zero_packet, length_of}
-use Rattle.proof_lemmas.proofs.Shares.OpenShares.{outcome_nothing}
+use Rattle.proof_model.proofs.Shares.OpenShares.{outcome_nothing}
 use Rattle.usb_model.specs.Stands.{full_trbs, lengths_of, stand}
 use Rattle.refine_world.specs.ShownEndpoint.{AllKept, AllNew, FrontKnown, pause_told, IsKept, IsLive, NewBehind, count, front, front_of, known_by, new_by, telling_of, told_by, told_of}
 use Rattle.usb_model.specs.Kept.{InRow, KeptTransfer, Telling, first_place, is_extra, trbs_of}

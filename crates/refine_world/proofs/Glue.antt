@@ -21,10 +21,10 @@ use Rattle.usb_model.specs.World.Shared.{first_name, past_first, pieces_of}
 use Rattle.usb_model.specs.Machine.Turns.{command_order, command_effect, effect, serve_effect}
 use Rattle.usb_model.specs.World.{World, holder, machine_of, owner_of, turn, turn_by, turn_of_nobody}
 use Rattle.usb_model.specs.Coherence.{IsCoherent}
-use Rattle.proof_lemmas.proofs.Work.StepMoves.{plain_serve}
-use Rattle.proof_lemmas.proofs.Lists.Pieces.{same_name}
-use Rattle.proof_invariants.proofs.Coherence.Commands.{coherent_command}
-use Rattle.proof_invariants.proofs.Coherence.Serves.{coherent_serve}
+use Rattle.proof_model.proofs.Work.StepMoves.{plain_serve}
+use Rattle.proof_model.proofs.Lists.Pieces.{same_name}
+use Rattle.proof_model.proofs.Coherence.Commands.{coherent_command}
+use Rattle.proof_model.proofs.Coherence.Serves.{coherent_serve}
 use Rattle.usb_model.specs.Kept.{KeptEndpoint, Completion, KeptTransfer, SentErrand, code_of}
 use Rattle.refine_world.specs.ShownEndpoint.{ShowsEnd, is_stale}
 use Rattle.usb_model.specs.Commands.{Carried, carry, pause_at}

@@ -16,11 +16,11 @@ use Rattle.usb_model.specs.Setup.{Setup}
 use Rattle.usb_model.specs.World.Shared.{pieces_of}
 use Rattle.usb_model.specs.Machine.Turns.{effect}
 use Rattle.usb_model.specs.World.{Claims, World, holder, is_blocked, is_its, machine_of, owner_of, turn, turn_by, world_after}
-use Rattle.proof_lemmas.proofs.Handles.Isolation.{turn_free}
-use Rattle.proof_lemmas.proofs.Lists.Pieces.{same_name}
+use Rattle.proof_model.proofs.Handles.Isolation.{turn_free}
+use Rattle.proof_model.proofs.Lists.Pieces.{same_name}
 use Rattle.std.proofs.lemmas.Option.{same_Some}
 use Rattle.usb_model.specs.Fitness.{IsFit, IsWell, errands_of, events_of, posts_of}
-use Rattle.proof_invariants.proofs.Machines.Well.{fit_at}
+use Rattle.proof_model.proofs.Machines.Well.{fit_at}
 use Rattle.usb_model.specs.Kept.{SentErrand}
 use Rattle.refine_world.specs.Lively.{IsFine, IsLively}
 use Rattle.refine_world.specs.Shows.{AllHeld, At, Core, Report, Shows, at, errands, events, here}

@@ -38,22 +38,22 @@ use Rattle.usb_model.specs.Endpoint.Status.{halts}
 use Rattle.usb_model.specs.Machine.Turns.{effect, ends_after, machine_after}
 use Rattle.usb_model.specs.World.{World, machine_of, new_world, turn, world_from}
 use Rattle.usb_model.specs.Coherence.{IsCoherent}
-use Rattle.proof_lemmas.proofs.Handles.Isolation.{IsEither, new_machine_of, turn_to}
-use Rattle.proof_lemmas.proofs.Work.Moves.{SetsNone}
+use Rattle.proof_model.proofs.Handles.Isolation.{IsEither, new_machine_of, turn_to}
+use Rattle.proof_model.proofs.Work.Moves.{SetsNone}
 use Rattle.std.proofs.lemmas.Option.{same_Some}
-use Rattle.proof_invariants.proofs.Cut.Steps.{rest_sets}
-use Rattle.proof_invariants.proofs.Machines.Deeds.{IsDone, IsWork, asks_it, clears, commands, delivers, only_rests, serves, submits, works}
+use Rattle.proof_model.proofs.Cut.Steps.{rest_sets}
+use Rattle.proof_model.proofs.Machines.Deeds.{IsDone, IsWork, asks_it, clears, commands, delivers, only_rests, serves, submits, works}
 use Rattle.usb_model.specs.Fitness.{IsWell, errands_of, events_of}
-use Rattle.proof_invariants.proofs.Machines.Done.{is_done}
-use Rattle.proof_invariants.proofs.Machines.Idle.{at_device_of}
-use Rattle.proof_invariants.proofs.Machines.Well.{fit_at, first_news, first_order, well_kept, well_new}
+use Rattle.proof_model.proofs.Machines.Done.{is_done}
+use Rattle.proof_model.proofs.Machines.Idle.{at_device_of}
+use Rattle.proof_model.proofs.Machines.Well.{fit_at, first_news, first_order, well_kept, well_new}
 use Rattle.refine_world.specs.Kept.{outcome_now}
 use Rattle.refine_world.specs.Lively.{IsFine, IsLively, IsSized, goes}
 use Rattle.refine_world.proofs.Orderly.Serves.{answer_goes, orderly_serve}
 use Rattle.refine_world.proofs.Orderly.Lines.{each_blanks, each_first, each_map, each_number, each_push}
 use Rattle.refine_world.proofs.Orderly.Works.{orderly_ask, orderly_cleared, orderly_command, orderly_deliver, orderly_fresh, orderly_submit}
 use Rattle.refine_world.proofs.Sizes.{asked_sized, ordered_sized, served_sized, submits_supported, told_sized, waits_sized}
-use Rattle.proof_lemmas.proofs.Shares.Next.{good_body}
+use Rattle.proof_model.proofs.Shares.Next.{good_body}
 
 -- the first that waits is one of the line
 pub first_each : (P : Item → Type 0) (xs : List Item) (x : Item) → AllByRecursion P xs → first_waiting xs ≡ Some x → P x

@@ -5,7 +5,7 @@ use Rattle.usb_model.specs.declared.step.Step.{Step}
 use Rattle.usb_model.specs.World.Journal.{journal_from, run_from}
 use Rattle.usb_model.specs.Setup.{Setup, script_of, packet_size_of}
 use Rattle.usb_model.specs.World.{World, new_world, turn, world_from}
-use Rattle.proof_lemmas.proofs.Handles.Runs.{one_step}
+use Rattle.proof_model.proofs.Handles.Runs.{one_step}
 use Rattle.refine_world.specs.Shows.{Core, Shows, Steps}
 use Rattle.refine_world.specs.Steps.{new_core}
 use Rattle.refine_world.proofs.Devices.{device_renewed}

@@ -17,12 +17,12 @@ use Rattle.usb_model.specs.Setup.{Setup, packet_size_of}
 use Rattle.usb_model.specs.World.Journal.{entries}
 use Rattle.usb_model.specs.World.Shared.{pieces_of}
 use Rattle.usb_model.specs.World.{World, holder, machine_of}
-use Rattle.proof_invariants.proofs.Bound.Gone.{live_once}
-use Rattle.proof_invariants.proofs.Bounds.Runs.{keeps_bounds}
-use Rattle.proof_invariants.proofs.Places.Placed.{IsPlaced}
-use Rattle.proof_invariants.proofs.Places.Runs.{kept_at}
-use Rattle.proof_lemmas.proofs.Lists.Pieces.{same_name}
-use Rattle.proof_lemmas.proofs.Lists.Times.{count-cons, times-cons, times_here}
+use Rattle.proof_model.proofs.Bound.Gone.{live_once}
+use Rattle.proof_model.proofs.Bounds.Runs.{keeps_bounds}
+use Rattle.proof_model.proofs.Places.Placed.{IsPlaced}
+use Rattle.proof_model.proofs.Places.Runs.{kept_at}
+use Rattle.proof_model.proofs.Lists.Pieces.{same_name}
+use Rattle.proof_model.proofs.Lists.Times.{count-cons, times-cons, times_here}
 use Rattle.usb_model.specs.Kept.{KeptTransfer}
 use Rattle.refine_world.specs.Known.{FewPlaces, NotYetCalled, NumbersOnce}
 use Rattle.refine_world.specs.Lively.{IsFine}

@@ -17,8 +17,8 @@ use Rattle.usb_model.specs.Endpoint.Packets.{count_of, cut, ended_with, full_pac
 use Rattle.usb_model.specs.Requests.{adds_zero_packet, length_of}
 use Rattle.usb_model.specs.Endpoint.Serve.{acknowledged}
 use Rattle.usb_model.proofs.CutPackets.{length_cut, no_more_packets}
-use Rattle.proof_lemmas.proofs.Shares.More.{next_of, read_next, sent_next}
-use Rattle.proof_lemmas.proofs.Shares.OpenShares.{IsRead, IsSent, IsWhole, full_count}
+use Rattle.proof_model.proofs.Shares.More.{next_of, read_next, sent_next}
+use Rattle.proof_model.proofs.Shares.OpenShares.{IsRead, IsSent, IsWhole, full_count}
 use Rattle.std.proofs.lemmas.Option.{same_Some}
 use Rattle.usb_model.specs.Kept.{is_extra}
 use Rattle.usb_model.specs.Packets.{Packet, gave, got, packet_by}

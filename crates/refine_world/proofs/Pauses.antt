@@ -21,7 +21,7 @@ use Rattle.usb_model.specs.Events.{Reading, reading}
 use Rattle.usb_model.specs.Packets.{put_at}
 use Rattle.usb_model.specs.Settlements.{pauses}
 use Rattle.refine_world.proofs.Finished.{reads_at}
-use Rattle.proof_lemmas.proofs.Lists.Parts.{heads_same}
+use Rattle.proof_model.proofs.Lists.Parts.{heads_same}
 use Rattle.refine_world.proofs.Fronts.{fronts, told_none}
 use Rattle.refine_world.proofs.Settled.{none_served}
 

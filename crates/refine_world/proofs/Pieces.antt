@@ -6,7 +6,7 @@ use Rattle.std.proofs.lemmas.Bool.{and_parts, eq-eqb, eqb-false, eqb-true, le-lt
 use Rattle.std.proofs.lemmas.List.{drop-drop}
 use Rattle.std.proofs.Math.Nat.{div-mul-le_self, mul-le-mul_right, mul_comm, suc-mul}
 use Rattle.usb_model.specs.Endpoint.Packets.{cut, full_packets}
-use Rattle.proof_lemmas.proofs.Shares.More.{no_room_behind, room_behind}
+use Rattle.proof_model.proofs.Shares.More.{no_room_behind, room_behind}
 
 -- the bytes of the first j pieces
 pub first_pieces : (size k j : ℕ) (bytes : List ℕ) → j ≤ suc k → k * size ≤ length bytes → length (concat (take j (cut size k bytes))) ≡ min (j * size) (length bytes)

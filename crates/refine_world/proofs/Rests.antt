@@ -19,9 +19,9 @@ use Rattle.usb_model.specs.Setup.{Setup, interface_of, is_within, script_of, pac
 use Rattle.usb_model.specs.World.Shared.{past_first, tagged}
 use Rattle.usb_model.specs.Machine.Turns.{effect, gone_after, take_effect, takes_news, takes_order, takes_result, unplug_reply}
 use Rattle.usb_model.specs.World.{Claims, World, all_ends_after, claims_after, holder, is_blocked, is_its, is_others, machine_of, new_world, owner_of, turn, turn_by, turn_of_nobody, world_after}
-use Rattle.proof_lemmas.proofs.Handles.Isolation.{gone_stays, turn_blocked, turn_free}
-use Rattle.proof_lemmas.proofs.Lists.Pieces.{either_way, same_name}
-use Rattle.proof_invariants.proofs.Machines.Deeds.{IsIdle, IsRest, claims, claims_again, closes, opens, releases, resets, stays, stops, takes}
+use Rattle.proof_model.proofs.Handles.Isolation.{gone_stays, turn_blocked, turn_free}
+use Rattle.proof_model.proofs.Lists.Pieces.{either_way, same_name}
+use Rattle.proof_model.proofs.Machines.Deeds.{IsIdle, IsRest, claims, claims_again, closes, opens, releases, resets, stays, stops, takes}
 use Rattle.refine_world.specs.ShownEndpoint.{AllFew, ShowsEnd, StandsNear}
 use Rattle.refine_world.specs.Lively.{IsFine}
 use Rattle.refine_world.specs.Shows.{AllHeld, At, Core, Shows, at, errands, events, here, tellings}
@@ -31,7 +31,7 @@ use Rattle.refine_world.proofs.Links.{all_sound, has_device, its_lists, machine_
 use Rattle.refine_world.proofs.Waiters.{is_here}
 use Rattle.refine_world.proofs.Renewed.{fresh_shows, new_near}
 use Rattle.refine_world.proofs.Worked.{world_and}
-use Rattle.proof_lemmas.proofs.Handles.Alone.{is_its-some}
+use Rattle.proof_model.proofs.Handles.Alone.{is_its-some}
 
 -- nothing waits at an endpoint
 abbrev Empty : {setup : Setup} {w : World} {c : Core} → Shows setup w c → ℕ → ℕ → Type 0

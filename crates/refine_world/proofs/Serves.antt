@@ -16,7 +16,7 @@ use Rattle.usb_model.specs.Endpoint.{first_waiting, is_blank, is_blank_state, is
 use Rattle.usb_model.specs.Endpoint.Packets.{count_of}
 use Rattle.usb_model.specs.Endpoint.Serve.{acknowledged, is_no_packet, next_answer, serve, serve_by, serve_first, serve_gone, is_stall}
 use Rattle.usb_model.specs.Endpoint.Status.{halts}
-use Rattle.proof_lemmas.proofs.Work.Errands.{events-with_first}
+use Rattle.proof_model.proofs.Work.Errands.{events-with_first}
 use Rattle.usb_model.specs.Coherence.{IsCoherent, event_by, served_events}
 use Rattle.usb_model.specs.Stands.{Stand, stand, total}
 use Rattle.refine_world.specs.ShownEndpoint.{AllKept, IsLive, NewBehind, ShowsEnd, count, front, front_of, is_stale, orders_sent, telling_of, tail_told, told_of}
@@ -27,7 +27,7 @@ use Rattle.refine_world.specs.Kept.{PacketIs, Serves, grown, outcome_now}
 use Rattle.refine_world.proofs.FirstServed.{covers_past}
 use Rattle.refine_world.proofs.Fronts.{Fronted, Puts, fronts}
 use Rattle.usb_model.proofs.Stands.{stands_some, walks}
-use Rattle.proof_lemmas.proofs.Work.Phases.{running_tail}
+use Rattle.proof_model.proofs.Work.Phases.{running_tail}
 
 -- a running endpoint's controller stands at the first waiting transfer
 pub fresh_running : (s : EndpointState) (er : Option Errand) (os : List Errand) → s ≡ Running → is_stale s er os ≡ false

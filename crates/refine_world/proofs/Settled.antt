@@ -17,7 +17,7 @@ use Rattle.usb_model.specs.declared.reply.Reply.{Reply}
 use Rattle.usb_model.specs.declared.reply.Reply.TheVariants as reply
 use Rattle.usb_model.specs.Endpoint.Deliver.{blanked, deliver, is_withdrawn, leads_blank, orders_errand, resume, withdrawn}
 use Rattle.usb_model.specs.Endpoint.{is_blank, is_blank_state, is_waiting, is_waiting_state, past_blanks}
-use Rattle.proof_lemmas.proofs.Work.Errands.{events-blanked, events-past_blanks}
+use Rattle.proof_model.proofs.Work.Errands.{events-blanked, events-past_blanks}
 use Rattle.usb_model.specs.Coherence.{IsCoherent, IsPhase, event_by, ended, move_ran, move_waits, reset_ran, reset_waits, runs, served_events, stop_failed, stop_ran, stop_ran_paused, stop_waits, stop_waits_halted}
 use Rattle.refine_world.specs.ShownEndpoint.{AllKept, AllNew, FrontKnown, IsOrderly, NewBehind, ShowsEnd, count, front, has_pause, is_stale, known_by, new_by, orders_sent, tail_told}
 use Rattle.usb_model.specs.Kept.{Completion, InRow, KeptEndpoint, KeptTransfer, SentErrand, Telling, code_of, first_place, index_of}
@@ -26,7 +26,7 @@ use Rattle.usb_model.specs.Events.{kept_result, past_kept_blanks, posts}
 use Rattle.usb_model.specs.Settlements.{kept_blanked, kept_withdrawn, leads_kept, resume_kept, settle, withdrawn_results}
 use Rattle.refine_world.proofs.FirstServed.{blanks_leave}
 use Rattle.refine_world.proofs.Finished.{same_result}
-use Rattle.proof_lemmas.proofs.Lists.Parts.{heads_same}
+use Rattle.proof_model.proofs.Lists.Parts.{heads_same}
 use Rattle.refine_world.proofs.Fronts.{none_moved, told_none}
 
 -- of each waiting transfer the core knows what moved

@@ -22,8 +22,8 @@ use Rattle.usb_model.specs.Machine.Calls.{answer_callback, answer_effect, submit
 use Rattle.usb_model.specs.Machine.Turns.{effect}
 use Rattle.usb_model.specs.Requests.{is_unsupported}
 use Rattle.usb_model.specs.Setup.{Setup, kind_of}
-use Rattle.proof_invariants.proofs.Machines.Deeds.{IsSubmission, again, again_with, anew}
-use Rattle.proof_lemmas.proofs.Work.Phases.{free}
+use Rattle.proof_model.proofs.Machines.Deeds.{IsSubmission, again, again_with, anew}
+use Rattle.proof_model.proofs.Work.Phases.{free}
 use Rattle.refine_world.specs.Lively.{IsSized}
 
 -- where a transfer waits there is a packet size

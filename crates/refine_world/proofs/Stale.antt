@@ -2,7 +2,7 @@
 use Rattle.std.proofs.Common.{Bool, List, None, Option, Some, [], ap, ap₂, append-nil, arith, false, inl, inr, length, map, not, refl, subst, sym, true, ℕ, ◌+◌, ◌++◌, ◌<◌, ◌≤◌, ◌∙◌, ◌∷◌, ◌≡◌}
 use Rattle.std.specs.Prelude.{if◌then◌else◌, is_some}
 use Rattle.std.proofs.lemmas.Bool.{and_parts}
-use Rattle.proof_invariants.proofs.Coherence.Delivers.{past_told}
+use Rattle.proof_model.proofs.Coherence.Delivers.{past_told}
 use Rattle.usb_model.specs.Coherence.{EndsStop, IsCoherent, IsPhase, ended, move_ran, move_waits, reset_ran, reset_waits, runs, served_events, stop_failed, stop_ran, stop_ran_paused, stop_waits, stop_waits_halted}
 use Rattle.usb_model.specs.Endpoint.Deliver.{deliver, finished_result, line_after, needs_reset, orders_errand}
 use Rattle.usb_model.specs.Endpoint.Status.{halts}

@@ -13,8 +13,8 @@ use Rattle.usb_model.specs.declared.news.Event.{Event}
 use Rattle.usb_model.specs.Coherence.{IsCoherent, IsPhase, ended, move_ran, move_waits, reset_ran, reset_waits, runs, served_events, stop_failed, stop_ran, stop_ran_paused, stop_waits, stop_waits_halted}
 use Rattle.usb_model.specs.Setup.{Setup, packet_size_of}
 use Rattle.usb_model.specs.World.{World, holder}
-use Rattle.proof_lemmas.proofs.Lists.Parts.{heads_same}
-use Rattle.proof_lemmas.proofs.Lists.Pieces.{same_name}
+use Rattle.proof_model.proofs.Lists.Parts.{heads_same}
+use Rattle.proof_model.proofs.Lists.Pieces.{same_name}
 use Rattle.usb_model.specs.Kept.{KeptEndpoint, SentErrand, code_of, index_of}
 use Rattle.refine_world.specs.Known.{KnowsEvent, NeverStray, NoMove}
 use Rattle.refine_world.specs.Lively.{IsFine, ends_of}

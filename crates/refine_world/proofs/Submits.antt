@@ -13,8 +13,8 @@ use Rattle.usb_model.specs.declared.request.Body.{Body}
 use Rattle.usb_model.specs.declared.request.Body.TheVariants.{In, Out}
 use Rattle.usb_model.specs.Endpoint.{bytes_read, first_waiting, is_waiting, new_item, outcome_of}
 use Rattle.usb_model.specs.Endpoint.Packets.{open_with}
-use Rattle.proof_lemmas.proofs.Work.Errands.{events-push}
-use Rattle.proof_lemmas.proofs.Shares.OpenShares.{outcome_nothing}
+use Rattle.proof_model.proofs.Work.Errands.{events-push}
+use Rattle.proof_model.proofs.Shares.OpenShares.{outcome_nothing}
 use Rattle.usb_model.specs.Requests.{length_of}
 use Rattle.usb_model.specs.Stands.{full_trbs, stand}
 use Rattle.refine_world.specs.ShownEndpoint.{AllKept, FirstPaused, FrontKnown, IsKept, ShowsEnd, count, front, front_of, known_by, pause_told, tail_told, telling_of, told_by, told_of}

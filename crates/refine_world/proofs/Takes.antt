@@ -9,8 +9,8 @@ use Rattle.usb_model.specs.Setup.{Setup}
 use Rattle.usb_model.specs.World.Shared.{first_name, pieces_of}
 use Rattle.usb_model.specs.Machine.Turns.{effect, take_effect}
 use Rattle.usb_model.specs.World.{World, is_blocked, machine_of}
-use Rattle.proof_lemmas.proofs.Lists.Pieces.{same_name}
-use Rattle.proof_invariants.proofs.Machines.Deeds.{takes}
+use Rattle.proof_model.proofs.Lists.Pieces.{same_name}
+use Rattle.proof_model.proofs.Machines.Deeds.{takes}
 use Rattle.refine_world.specs.Lively.{IsFine}
 use Rattle.refine_world.specs.Shows.{Core, Shows}
 use Rattle.refine_world.specs.Steps.{StepsTo, rested, take_core, take_first, with_out}

@@ -18,9 +18,9 @@ use Rattle.usb_model.specs.Endpoint.{bytes_read, first_waiting, is_waiting_state
 use Rattle.usb_model.specs.Endpoint.Packets.{IsOpenAt, count_of, ended_with, open_with, outcome, without_naks}
 use Rattle.usb_model.specs.Requests.{length_of}
 use Rattle.usb_model.specs.Endpoint.Serve.{acknowledged, next_answer}
-use Rattle.proof_lemmas.proofs.Shares.More.{one_more}
-use Rattle.proof_lemmas.proofs.Shares.Next.{next_there}
-use Rattle.proof_lemmas.proofs.Shares.OpenShares.{IsWhole, open_at, open_whole, halted_outcome}
+use Rattle.proof_model.proofs.Shares.More.{one_more}
+use Rattle.proof_model.proofs.Shares.Next.{next_there}
+use Rattle.proof_model.proofs.Shares.OpenShares.{IsWhole, open_at, open_whole, halted_outcome}
 use Rattle.usb_model.specs.Stands.{full_trbs, lengths_of, total}
 use Rattle.refine_world.specs.ShownEndpoint.{AllNew, AllOpen, IsLive, count, known_by, new_by}
 use Rattle.usb_model.specs.Kept.{KeptEndpoint, KeptTransfer, is_extra, trbs_of}

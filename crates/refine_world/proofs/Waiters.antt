@@ -7,7 +7,7 @@ use Rattle.std.proofs.lemmas.List.Elements.{filter-append}
 use Rattle.usb_model.specs.Setup.{Setup}
 use Rattle.usb_model.specs.World.Shared.{past_first}
 use Rattle.usb_model.specs.World.{Claims, holder}
-use Rattle.proof_lemmas.proofs.Lists.Pieces.{same_name}
+use Rattle.proof_model.proofs.Lists.Pieces.{same_name}
 use Rattle.refine_world.specs.Shows.{AllHeld, At, at, here}
 
 -- at an endpoint, for the name that holds it

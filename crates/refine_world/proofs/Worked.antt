@@ -17,8 +17,8 @@ use Rattle.usb_model.specs.World.Shared.{past_first, tagged}
 use Rattle.usb_model.specs.Machine.Turns.{takes_news, takes_order, takes_result}
 use Rattle.usb_model.specs.World.{World, holder, is_its, new_world, turn, world_after, world_from}
 use Rattle.usb_model.specs.Coherence.{IsCoherent, IsPhase, ended, move_ran, move_waits, reset_ran, reset_waits, runs, served_events, stop_failed, stop_ran, stop_ran_paused, stop_waits, stop_waits_halted}
-use Rattle.proof_lemmas.proofs.Handles.Isolation.{gone_stays}
-use Rattle.proof_lemmas.proofs.Lists.Pieces.{same_name}
+use Rattle.proof_model.proofs.Handles.Isolation.{gone_stays}
+use Rattle.proof_model.proofs.Lists.Pieces.{same_name}
 use Rattle.refine_world.specs.ShownEndpoint.{AllFew, ShowsEnd, StandsNear, is_stale}
 use Rattle.usb_model.specs.Kept.{KeptEndpoint, SentErrand, Telling}
 use Rattle.refine_world.specs.Shows.{At, Core, InRun, Report, Shows, at, errands, event_at, events, news_of, order_at, order_of, ring_event, ring_order, tellings, under_way}

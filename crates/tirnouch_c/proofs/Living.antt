@@ -11,7 +11,7 @@ use Rattle.usb_model.specs.declared.step.Step.TheVariants.{Serve}
 use Rattle.usb_model.specs.Setup.{Setup}
 use Rattle.usb_model.specs.World.{World, turn, world_from}
 use Rattle.usb_core.specs.Public.{ShowsWorld, State}
-use Rattle.proof_lemmas.proofs.Handles.Runs.{world_append}
+use Rattle.proof_model.proofs.Handles.Runs.{world_append}
 use Rattle.usb_living.specs.Rows.{Deed, Leads}
 use Rattle.usb_living.specs.Rows as rows
 use Rattle.usb_living.proofs.Rows.{rows_are_as_if_known}

@@ -29,9 +29,9 @@ use Rattle.usb_model.specs.World.{World, is_blocked, machine_of, new_world, turn
 use Rattle.usb_model.specs.World.Shared.{pieces_of}
 use Rattle.usb_steps.specs.Pending.{tells_work}
 use Rattle.usb_core.specs.Public.{ShowsWorld, State, does_something}
-use Rattle.proof_lemmas.proofs.Handles.Isolation.{IsEither, new_machine_of, turn_to}
-use Rattle.proof_lemmas.proofs.Lists.Pieces.{same_name}
-use Rattle.proof_invariants.proofs.Machines.Well.{fit_at, well_kept, well_new}
+use Rattle.proof_model.proofs.Handles.Isolation.{IsEither, new_machine_of, turn_to}
+use Rattle.proof_model.proofs.Lists.Pieces.{same_name}
+use Rattle.proof_model.proofs.Machines.Well.{fit_at, well_kept, well_new}
 use Rattle.tirnouch_c.specs.Settling.{NoneAsked, next_step}
 
 -- an endpoint without orders and events has no errand, and so none that was asked to end

@@ -6,7 +6,7 @@ use Rattle.std.proofs.lemmas.List.{take-append-drop, length-replicate}
 use Rattle.std.proofs.lemmas.Nat.{le-div}
 use Rattle.std.proofs.Math.Nat.{suc-mul, lt-mul-div-succ, mul_comm}
 use Rattle.usb_model.specs.Endpoint.Packets.{cut, full_packets}
-use Rattle.proof_lemmas.proofs.Shares.OpenShares.{AllFull}
+use Rattle.proof_model.proofs.Shares.OpenShares.{AllFull}
 use Rattle.trace_recorded.specs.declared.transfer.RecordedTransfer.{RecordedTransfer}
 use Rattle.trace_recorded.specs.Answers.{front_packets, recorded_bytes}
 

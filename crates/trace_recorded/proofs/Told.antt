@@ -9,8 +9,8 @@ use Rattle.usb_model.specs.Requests.{is_short_not_ok}
 use Rattle.usb_model.specs.Endpoint.{bytes_read}
 use Rattle.usb_model.specs.Endpoint.Packets.{Ends, count_of, outcome}
 use Rattle.usb_model.specs.Endpoint.Status.{status_of, told_status}
-use Rattle.proof_lemmas.proofs.Shares.Cuts.{ends_now}
-use Rattle.proof_lemmas.proofs.Shares.OpenShares.{open_if}
+use Rattle.proof_model.proofs.Shares.Cuts.{ends_now}
+use Rattle.proof_model.proofs.Shares.OpenShares.{open_if}
 use Rattle.trace_capture.specs.declared.errno.Errno.{Errno}
 use Rattle.trace_capture.specs.declared.errno.Errno.TheVariants.{Success, Pipe, Protocol, Overflow, RemoteIo}
 use Rattle.trace_capture.specs.Transfer.{errno_of}

@@ -13,9 +13,9 @@ use Rattle.usb_model.specs.Requests.{is_short_not_ok, adds_zero_packet}
 use Rattle.usb_model.specs.Setup.{is_in}
 use Rattle.usb_model.specs.Endpoint.{bytes_read}
 use Rattle.usb_model.specs.Endpoint.Packets.{open_with, ended_with, moved_by, outcome, without_naks, packets_by, pieces, full_packets}
-use Rattle.proof_lemmas.proofs.Shares.Outcome.{outcome_is}
-use Rattle.proof_lemmas.proofs.Shares.OpenShares.{full_count, IsSent, open_if_whole}
-use Rattle.proof_lemmas.proofs.Shares.More.{next_of, sent_next, one_more}
+use Rattle.proof_model.proofs.Shares.Outcome.{outcome_is}
+use Rattle.proof_model.proofs.Shares.OpenShares.{full_count, IsSent, open_if_whole}
+use Rattle.proof_model.proofs.Shares.More.{next_of, sent_next, one_more}
 use Rattle.trace_capture.specs.declared.errno.Errno.{Errno}
 use Rattle.trace_capture.specs.declared.errno.Errno.TheVariants.{Success, NoEntry, Pipe, Protocol, Overflow, Shutdown, InProgress, RemoteIo}
 use Rattle.trace_recorded.specs.declared.transfer.RecordedEnd.{RecordedEnd}

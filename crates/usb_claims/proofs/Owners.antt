@@ -3,7 +3,7 @@ use Rattle.std.proofs.Common.{◌≡◌, ℕ, ◌+◌, ◌*◌, ◌<◌, ◌==�
 use Rattle.std.specs.Prelude.{if◌then◌else◌}
 use Rattle.std.proofs.lemmas.Bool.{ltb-true}
 use Rattle.usb_model.specs.World.{is_its}
-use Rattle.proof_lemmas.proofs.Cells.{cell_is, cell_put, cells_changed, cells_same}
+use Rattle.proof_model.proofs.Cells.{cell_is, cell_put, cells_changed, cells_same}
 use Rattle.usb_claims.specs.Tables.{owner_at, freed}
 
 -- what is read at an interface's place is its owner

@@ -17,13 +17,13 @@ use Rattle.usb_model.specs.World.Journal.{entries, own}
 use Rattle.usb_model.specs.Laws.Cut.{times}
 use Rattle.usb_model.specs.Laws.Places.{KeepsPlaces, call_of, calls, numbers_called}
 use Rattle.usb_model.specs.World.{machine_of, new_world, world_from}
-use Rattle.proof_invariants.proofs.Places.Runs.{keeps_places}
-use Rattle.proof_lemmas.proofs.Lists.Pieces.{same_name}
-use Rattle.proof_lemmas.proofs.Handles.Isolation.{sees_alone}
-use Rattle.proof_lemmas.proofs.Lists.Parts.{each_append, each_behind, each_front, each_part, IsPart, part_behind, part_map, part_filter}
-use Rattle.proof_lemmas.proofs.Work.Lines.{Key, uncut_keys}
-use Rattle.proof_lemmas.proofs.Work.Moves.{keys_at, told, DoesWork, Submits, Takes, Moves}
-use Rattle.proof_lemmas.proofs.Work.StepMoves.{moves}
+use Rattle.proof_model.proofs.Places.Runs.{keeps_places}
+use Rattle.proof_model.proofs.Lists.Pieces.{same_name}
+use Rattle.proof_model.proofs.Handles.Isolation.{sees_alone}
+use Rattle.proof_model.proofs.Lists.Parts.{each_append, each_behind, each_front, each_part, IsPart, part_behind, part_map, part_filter}
+use Rattle.proof_model.proofs.Work.Lines.{Key, uncut_keys}
+use Rattle.proof_model.proofs.Work.Moves.{keys_at, told, DoesWork, Submits, Takes, Moves}
+use Rattle.proof_model.proofs.Work.StepMoves.{moves}
 use Rattle.usb_core.specs.Runs.{CallsBackInOrder, CallsBackOnce, uncut_at}
 use Rattle.usb_core.proofs.Rises.{AllBelow, Rises, increasing, part_rises, below_more, below_up, rises_more, rises_front}
 

@@ -16,8 +16,8 @@ use Rattle.proof_rows.specs.Rows.{bulk}
 use Rattle.proof_rows.specs.Rows.Halts.{stall_and_clear_halt}
 use Rattle.proof_rows.specs.Rows.Unplugs.{unplug_amid_transfers}
 use Rattle.proof_rows.proofs.Computed.{computed}
-use Rattle.proof_lemmas.proofs.Shares.Cuts.{ends_now}
-use Rattle.proof_lemmas.proofs.Shares.OpenShares.{open_if, outcome_nothing}
+use Rattle.proof_model.proofs.Shares.Cuts.{ends_now}
+use Rattle.proof_model.proofs.Shares.OpenShares.{open_if, outcome_nothing}
 use Rattle.usb_core.specs.Instances.{CallsBack, ReachesBound, ReachesBounds, IsCutInto, IsNotCut, stalled_cells, unplugged_cells}
 
 -- the bound is reached: the 17th Deliver makes the result, and no earlier one

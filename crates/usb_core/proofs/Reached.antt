@@ -5,11 +5,11 @@ use Rattle.usb_model.specs.declared.step.Step.{Step}
 use Rattle.usb_model.specs.Setup.{Setup}
 use Rattle.usb_model.specs.World.{World, new_world, turn}
 use Rattle.usb_model.specs.World.Journal.{journal, run_from, world_run}
-use Rattle.proof_lemmas.proofs.Handles.Beginnings.{first_steps, step_left}
-use Rattle.proof_lemmas.proofs.Handles.Runs.{run_ends, step_further}
-use Rattle.proof_invariants.proofs.Bound.AskedEnds.{asked_ends}
-use Rattle.proof_invariants.proofs.Cut.Runs.{cuts_at}
-use Rattle.proof_invariants.proofs.Places.Runs.{keeps_places}
+use Rattle.proof_model.proofs.Handles.Beginnings.{first_steps, step_left}
+use Rattle.proof_model.proofs.Handles.Runs.{run_ends, step_further}
+use Rattle.proof_model.proofs.Bound.AskedEnds.{asked_ends}
+use Rattle.proof_model.proofs.Cut.Runs.{cuts_at}
+use Rattle.proof_model.proofs.Places.Runs.{keeps_places}
 use Rattle.refine_core.specs.State.{ShowsWorld, State}
 use Rattle.refine_core.specs.Steps.{TurnsWorld}
 use Rattle.refine_world.specs.Lively.{IsFine}

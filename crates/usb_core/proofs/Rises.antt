@@ -3,7 +3,7 @@ use Rattle.std.proofs.Common.{ℕ, zero, suc, ◌+◌, ◌<◌, List, [], ◌∷
 use Rattle.std.specs.Prelude.{slice_index}
 use Rattle.std.specs.List.{AllByRecursion}
 use Rattle.std.specs.List.Sorted.{IsStrictlyIncreasing}
-use Rattle.proof_lemmas.proofs.Lists.Parts.{each_append, each_front, each_part, each_weaker, IsPart, nothing, skips, keeps}
+use Rattle.proof_model.proofs.Lists.Parts.{each_append, each_front, each_part, each_weaker, IsPart, nothing, skips, keeps}
 
 -- each is above all before it
 abbrev pub Rises : List ℕ → Type 0

@@ -27,16 +27,16 @@ use Rattle.usb_model.specs.Machine.Turns.{effect}
 use Rattle.usb_model.specs.Requests.{is_unsupported}
 use Rattle.usb_model.specs.Setup.{Setup, is_within, kind_of, packet_size_of, script_of}
 use Rattle.usb_model.specs.World.{World, all_ends_after, holder, is_blocked, is_its, machine_of, new_world, owner_of, turn, turn_by, turn_of, turn_of_nobody, world_after, world_from}
-use Rattle.proof_lemmas.proofs.Handles.Changes.{places_equal}
-use Rattle.proof_lemmas.proofs.Handles.Isolation.{effect_to, turn_blocked, turn_free}
-use Rattle.proof_lemmas.proofs.Lists.Parts.{each_append}
-use Rattle.proof_lemmas.proofs.Work.Moves.{SetsNone}
-use Rattle.proof_invariants.proofs.Cut.Runs.{cuts_at}
-use Rattle.proof_invariants.proofs.Cut.Steps.{rest_sets}
-use Rattle.proof_invariants.proofs.Machines.Deeds.{IsDone, IsWork, asks_it, clears, commands, delivers, only_rests, serves, submits, works}
-use Rattle.proof_invariants.proofs.Machines.Done.{is_done}
-use Rattle.proof_invariants.proofs.Machines.Idle.{at_device_of}
-use Rattle.proof_invariants.proofs.Machines.Well.{first_news, first_order, fit_at}
+use Rattle.proof_model.proofs.Handles.Changes.{places_equal}
+use Rattle.proof_model.proofs.Handles.Isolation.{effect_to, turn_blocked, turn_free}
+use Rattle.proof_model.proofs.Lists.Parts.{each_append}
+use Rattle.proof_model.proofs.Work.Moves.{SetsNone}
+use Rattle.proof_model.proofs.Cut.Runs.{cuts_at}
+use Rattle.proof_model.proofs.Cut.Steps.{rest_sets}
+use Rattle.proof_model.proofs.Machines.Deeds.{IsDone, IsWork, asks_it, clears, commands, delivers, only_rests, serves, submits, works}
+use Rattle.proof_model.proofs.Machines.Done.{is_done}
+use Rattle.proof_model.proofs.Machines.Idle.{at_device_of}
+use Rattle.proof_model.proofs.Machines.Well.{first_news, first_order, fit_at}
 use Rattle.refine_world.specs.Lively.{IsFine, IsSized}
 use Rattle.refine_world.proofs.Lives.{IsSound, sound_at, sound_turn}
 use Rattle.refine_world.proofs.Sizes.{asked_sized, ordered_sized, submits_supported, told_sized}

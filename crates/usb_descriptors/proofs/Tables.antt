@@ -5,7 +5,7 @@ use Rattle.std.specs.List.{AllByRecursion, IsDistinct, list_any}
 use Rattle.std.proofs.lemmas.Map.Steps.{length-le_from_distinct_below}
 use Rattle.std.proofs.lemmas.Bool.{false≢true, or_parts, or_cases, eqb-true, eqb-false, ne_eqb}
 use Rattle.usb_model.specs.declared.setup.EndpointInfo.{EndpointInfo}
-use Rattle.proof_lemmas.proofs.Lists.Parts.{each_append}
+use Rattle.proof_model.proofs.Lists.Parts.{each_append}
 use Rattle.usb_descriptors.specs.Grammar.{is_bad_size}
 use Rattle.usb_descriptors.specs.Table.{IsNumbered, IsTable, addresses}
 

@@ -22,12 +22,12 @@ use Rattle.usb_model.specs.Setup.{Setup, endpoints_of}
 use Rattle.usb_model.specs.World.{Turn, World, is_blocked, machine_of, new_world, turn, turn_of, world_after, world_from}
 use Rattle.usb_model.specs.World.Due.{Dated, below, deadline, due, due_of, given_at, is_due}
 use Rattle.usb_model.specs.World.Journal.{steps_in}
-use Rattle.proof_invariants.proofs.Bounds.Items.{OfItem}
+use Rattle.proof_model.proofs.Bounds.Items.{OfItem}
 use Rattle.usb_core.specs.Reads.{is_done, would_expire}
-use Rattle.proof_lemmas.proofs.Lists.Parts.{each_weaker}
-use Rattle.proof_lemmas.proofs.Work.Each.{each-in_progress}
-use Rattle.proof_lemmas.proofs.Work.Lines.{found_it, progress_times}
-use Rattle.proof_lemmas.proofs.Work.StepMoves.{IsHome, home_is}
+use Rattle.proof_model.proofs.Lists.Parts.{each_weaker}
+use Rattle.proof_model.proofs.Work.Each.{each-in_progress}
+use Rattle.proof_model.proofs.Work.Lines.{found_it, progress_times}
+use Rattle.proof_model.proofs.Work.StepMoves.{IsHome, home_is}
 use Rattle.usb_journal.specs.declared.place.Place.{Place}
 use Rattle.usb_journal.specs.declared.timer.Timer.{Timer}
 use Rattle.usb_journal.specs.Booked.{IsRun, dated, steps_of, world_where}

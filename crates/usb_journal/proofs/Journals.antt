@@ -15,9 +15,9 @@ use Rattle.usb_model.specs.Setup.{Setup}
 use Rattle.usb_model.specs.World.{Turn, World, is_blocked, is_its, machine_of, owner_of, turn, turn_by, turn_of, world_from}
 use Rattle.usb_model.specs.World.Due.{Dated, is_number}
 use Rattle.usb_model.specs.World.Journal.{entries_in, is_held_elsewhere, is_unplug, journal, journal_from}
-use Rattle.proof_invariants.proofs.Machines.Done.{is_done}
-use Rattle.proof_invariants.proofs.Places.Runs.{kept_new, kept_step}
-use Rattle.proof_lemmas.proofs.Handles.Isolation.{IsEither, effect_to, is_own_step, new_machine_of, turn_blocked, turn_free, turn_to}
+use Rattle.proof_model.proofs.Machines.Done.{is_done}
+use Rattle.proof_model.proofs.Places.Runs.{kept_new, kept_step}
+use Rattle.proof_model.proofs.Handles.Isolation.{IsEither, effect_to, is_own_step, new_machine_of, turn_blocked, turn_free, turn_to}
 use Rattle.usb_journal.specs.declared.place.Place.{Place}
 use Rattle.usb_journal.specs.declared.timer.Timer.{Timer}
 use Rattle.usb_journal.specs.Booked.{IsRun, dated, entries_of, steps_of, world_where}

@@ -14,13 +14,13 @@ use Rattle.usb_model.specs.Machine.Turns.{machine_after, takes_result}
 use Rattle.usb_model.specs.Machine.{Machine, at_endpoint, device_of, endpoint_at}
 use Rattle.usb_model.specs.Setup.{Setup}
 use Rattle.usb_model.specs.World.Shared.{past_first}
-use Rattle.proof_invariants.proofs.Bounds.Items.{KeepsItems, OfItem, OfResult, keeps_work}
-use Rattle.proof_invariants.proofs.Bounds.Runs.{OfCallback, rest_callbacks, rest_items, rest_part}
-use Rattle.proof_invariants.proofs.Calls.{work_callbacks}
-use Rattle.proof_invariants.proofs.Machines.Acts.{end_set, rests_at, works_elsewhere}
-use Rattle.proof_invariants.proofs.Machines.Deeds.{IsDone, IsRest, IsSubmission, IsWork, only_rests, works}
-use Rattle.proof_invariants.proofs.Places.Placed.{takes_no_result}
-use Rattle.proof_lemmas.proofs.Lists.Parts.{each_append, each_part, each_weaker}
+use Rattle.proof_model.proofs.Bounds.Items.{KeepsItems, OfItem, OfResult, keeps_work}
+use Rattle.proof_model.proofs.Bounds.Runs.{OfCallback, rest_callbacks, rest_items, rest_part}
+use Rattle.proof_model.proofs.Calls.{work_callbacks}
+use Rattle.proof_model.proofs.Machines.Acts.{end_set, rests_at, works_elsewhere}
+use Rattle.proof_model.proofs.Machines.Deeds.{IsDone, IsRest, IsSubmission, IsWork, only_rests, works}
+use Rattle.proof_model.proofs.Places.Placed.{takes_no_result}
+use Rattle.proof_model.proofs.Lists.Parts.{each_append, each_part, each_weaker}
 
 -- of each transfer in a line, in a result, and in its callback
 pub record Known (P : ℕ → Request → ℕ → Type 0) (m : Machine) : Type 0 where

@@ -17,10 +17,10 @@ use Rattle.usb_model.specs.Machine.Turns.{effect, machine_after, take_effect, ta
 use Rattle.usb_model.specs.Setup.{Setup, is_device}
 use Rattle.usb_model.specs.World.{Turn, World, is_blocked, machine_of, owner_of, turn, turn_by, turn_of, turn_of_nobody}
 use Rattle.usb_model.specs.World.Shared.{past_first}
-use Rattle.proof_lemmas.proofs.Handles.Isolation.{turn_blocked, turn_free, effect_to}
-use Rattle.proof_lemmas.proofs.Lists.Pieces.{same_name}
-use Rattle.proof_lemmas.proofs.Work.Moves.{Moves}
-use Rattle.proof_lemmas.proofs.Work.StepMoves.{moves}
+use Rattle.proof_model.proofs.Handles.Isolation.{turn_blocked, turn_free, effect_to}
+use Rattle.proof_model.proofs.Lists.Pieces.{same_name}
+use Rattle.proof_model.proofs.Work.Moves.{Moves}
+use Rattle.proof_model.proofs.Work.StepMoves.{moves}
 use Rattle.usb_model.specs.declared.request.Request.{Request}
 use Rattle.usb_model.specs.declared.verdict.Verdict.TheVariants.{Again, AgainWith, Stop}
 use Rattle.usb_core.specs.Reads.{is_done}

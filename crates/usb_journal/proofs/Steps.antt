@@ -23,11 +23,11 @@ use Rattle.usb_model.specs.Setup.{Setup, packet_size_of}
 use Rattle.usb_model.specs.World.{World, is_its, owner_of}
 use Rattle.usb_model.specs.World.Due.{Dated, is_number}
 use Rattle.usb_model.specs.World.Journal.{is_unplug}
-use Rattle.proof_invariants.proofs.Machines.Deeds.{IsDone, IsRest, IsSubmission, IsWork, again, again_with, anew, asks_it, cancels, claims, claims_again, clears, closes, commands, delivers, expires, idles, only_rests, opens, refuses, releases, resets, serves, stays, stops, submits, takes, unplugs, works}
-use Rattle.proof_invariants.proofs.Places.Placed.{called_by}
-use Rattle.proof_invariants.proofs.Places.Runs.{IsKept}
-use Rattle.proof_lemmas.proofs.Lists.Pieces.{same_name}
-use Rattle.proof_lemmas.proofs.Work.Replies.{asks_told, command_told, deliver_told, serve_told, told_plain}
+use Rattle.proof_model.proofs.Machines.Deeds.{IsDone, IsRest, IsSubmission, IsWork, again, again_with, anew, asks_it, cancels, claims, claims_again, clears, closes, commands, delivers, expires, idles, only_rests, opens, refuses, releases, resets, serves, stays, stops, submits, takes, unplugs, works}
+use Rattle.proof_model.proofs.Places.Placed.{called_by}
+use Rattle.proof_model.proofs.Places.Runs.{IsKept}
+use Rattle.proof_model.proofs.Lists.Pieces.{same_name}
+use Rattle.proof_model.proofs.Work.Replies.{asks_told, command_told, deliver_told, serve_told, told_plain}
 use Rattle.usb_journal.specs.declared.timer.Timer.{Timer}
 use Rattle.usb_journal.specs.Timers.{ended, numbered, stopped, timeout_in, timers_by}
 use Rattle.usb_journal.proofs.Known.{Known, known_rest, known_work}

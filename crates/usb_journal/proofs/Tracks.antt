@@ -17,14 +17,14 @@ use Rattle.usb_model.specs.Machine.{Machine}
 use Rattle.usb_model.specs.Setup.{Setup}
 use Rattle.usb_model.specs.World.{is_its}
 use Rattle.usb_model.specs.World.Due.{Dated, below, given_at, is_number}
-use Rattle.proof_invariants.proofs.Bounds.Runs.{OfCallback, callback_each}
-use Rattle.proof_invariants.proofs.Machines.Deeds.{IsDone}
-use Rattle.proof_invariants.proofs.Places.Placed.{IsPlaced, callback_numbers}
-use Rattle.proof_invariants.proofs.Places.Runs.{IsKept}
-use Rattle.proof_lemmas.proofs.Lists.Parts.{each_append, each_weaker}
-use Rattle.proof_lemmas.proofs.Lists.Pieces.{same_name}
-use Rattle.proof_lemmas.proofs.Lists.Times.{each_apart, times-append, times-cons}
-use Rattle.proof_lemmas.proofs.Work.Lines.{result_numbers}
+use Rattle.proof_model.proofs.Bounds.Runs.{OfCallback, callback_each}
+use Rattle.proof_model.proofs.Machines.Deeds.{IsDone}
+use Rattle.proof_model.proofs.Places.Placed.{IsPlaced, callback_numbers}
+use Rattle.proof_model.proofs.Places.Runs.{IsKept}
+use Rattle.proof_model.proofs.Lists.Parts.{each_append, each_weaker}
+use Rattle.proof_model.proofs.Lists.Pieces.{same_name}
+use Rattle.proof_model.proofs.Lists.Times.{each_apart, times-append, times-cons}
+use Rattle.proof_model.proofs.Work.Lines.{result_numbers}
 use Rattle.usb_journal.specs.declared.timer.Timer.{Timer}
 use Rattle.usb_journal.proofs.Known.{Known, callbacks_after, known_weaker}
 use Rattle.usb_journal.proofs.Owns.{Left, left_look, look}

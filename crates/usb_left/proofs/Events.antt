@@ -30,9 +30,9 @@ use Rattle.usb_left.specs.declared.left.Left.TheVariants.{At}
 use Rattle.usb_left.specs.declared.left.Thing.TheVariants.{HasEnded, Waits}
 use Rattle.usb_left.specs.Gathered.{by_events, is_end_of, line_read}
 use Rattle.usb_left.specs.Left.{event_left, order_left, result_left, thing_of, transfers_left}
-use Rattle.proof_invariants.proofs.Places.Runs.{keeps_places}
-use Rattle.proof_lemmas.proofs.Lists.Pieces.{same_name}
-use Rattle.proof_lemmas.proofs.Lists.Times.{times-cons, times_here}
+use Rattle.proof_model.proofs.Places.Runs.{keeps_places}
+use Rattle.proof_model.proofs.Lists.Pieces.{same_name}
+use Rattle.proof_model.proofs.Lists.Times.{times-cons, times_here}
 use Rattle.usb_left.proofs.Turns.{IsReached}
 
 -- whether an event tells that the transfer of this number ended

@@ -24,7 +24,7 @@ use Rattle.usb_left.specs.declared.left.Left.{Left}
 use Rattle.usb_left.specs.declared.left.Left.TheVariants.{At, Held, Open}
 use Rattle.usb_left.specs.Gathered.{all_waiting, by_events, configured_read, device_read, end_read, event_of, handle_read, handles_read, held_read, is_end_of, is_of, joined, line_read, order_of, result_of}
 use Rattle.usb_left.specs.Left.{answers_left, at_device, at_endpoint, event_left, halt_left, left_below, left_by, order_left, result_left, transfers_left}
-use Rattle.proof_invariants.proofs.Machines.Well.{fit_at}
+use Rattle.proof_model.proofs.Machines.Well.{fit_at}
 use Rattle.usb_left.proofs.Events.{each_told, is_finished, line_by_events, no_order_tells, no_result_tells, only_served, stands_once, told_there}
 use Rattle.usb_left.proofs.Turns.{IsReached, well_at}
 

@@ -31,8 +31,8 @@ use Rattle.usb_model.specs.World.Shared.{first_name, past_first, pieces_of, tagg
 use Rattle.usb_left.specs.Gathered.{event_of, event_told, first_of, order_of, order_told}
 use Rattle.usb_left.specs.Left.{event_left}
 use Rattle.refine_world.proofs.Links.{machine_parts, turn_works}
-use Rattle.proof_invariants.proofs.Places.Runs.{kept_at}
-use Rattle.proof_lemmas.proofs.Lists.Pieces.{same_name}
+use Rattle.proof_model.proofs.Places.Runs.{kept_at}
+use Rattle.proof_model.proofs.Lists.Pieces.{same_name}
 
 -- a world that a run leads to
 abbrev pub IsReached : Setup → World → Type 0

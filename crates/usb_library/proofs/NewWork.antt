@@ -36,13 +36,13 @@ use Rattle.usb_model.specs.Setup.{Setup, is_device, packet_size_of}
 use Rattle.usb_model.specs.World.{World, Turn, holder, is_blocked, is_its, machine_of, new_world, owner_of, turn, turn_by, turn_of, turn_of_nobody, world_after, world_from}
 use Rattle.usb_model.specs.World.Shared.{first_name, past_first, pieces_of, tagged}
 use Rattle.usb_model.specs.World.Journal.{is_unplug}
-use Rattle.proof_invariants.proofs.Machines.Deeds.{IsDone, IsRest, IsWork, TakesNone, again, again_with, anew, asks_it, cancels, claims, claims_again, clears, closes, commands, delivers, expires, idles, only_rests, opens, refuses, releases, resets, serves, stays, stops, submits, takes, unplugs, works}
-use Rattle.proof_invariants.proofs.Machines.Done.{is_done}
-use Rattle.proof_invariants.proofs.Machines.Idle.{at_device_of}
-use Rattle.proof_invariants.proofs.Machines.Well.{first_news, fit_at}
-use Rattle.proof_invariants.proofs.Places.Runs.{kept_at}
-use Rattle.proof_lemmas.proofs.Handles.Isolation.{effect_to, gone_stays, takes_its_news, takes_its_order, takes_its_result, turn_blocked, turn_free}
-use Rattle.proof_lemmas.proofs.Lists.Pieces.{same_name}
+use Rattle.proof_model.proofs.Machines.Deeds.{IsDone, IsRest, IsWork, TakesNone, again, again_with, anew, asks_it, cancels, claims, claims_again, clears, closes, commands, delivers, expires, idles, only_rests, opens, refuses, releases, resets, serves, stays, stops, submits, takes, unplugs, works}
+use Rattle.proof_model.proofs.Machines.Done.{is_done}
+use Rattle.proof_model.proofs.Machines.Idle.{at_device_of}
+use Rattle.proof_model.proofs.Machines.Well.{first_news, fit_at}
+use Rattle.proof_model.proofs.Places.Runs.{kept_at}
+use Rattle.proof_model.proofs.Handles.Isolation.{effect_to, gone_stays, takes_its_news, takes_its_order, takes_its_result, turn_blocked, turn_free}
+use Rattle.proof_model.proofs.Lists.Pieces.{same_name}
 use Rattle.usb_core.specs.Public.{does_something, serves as serves_at}
 use Rattle.usb_library.specs.declared.wakes.Part.{Part}
 use Rattle.usb_library.specs.declared.wakes.Part.TheVariants.{Controller, Events}

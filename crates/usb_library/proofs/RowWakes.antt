@@ -15,7 +15,7 @@ use Rattle.usb_core.specs.Public.{does_something}
 use Rattle.usb_journal.specs.declared.place.Place.{Place}
 use Rattle.usb_journal.specs.Booked.{entries_of, steps_of, world_where}
 use Rattle.usb_journal.specs.Rows.{are_quiet, ends_any, is_end, is_quiet, is_settled}
-use Rattle.proof_lemmas.proofs.Handles.Runs.{world_append}
+use Rattle.proof_model.proofs.Handles.Runs.{world_append}
 use Rattle.usb_library.specs.declared.wakes.Part.{Part}
 use Rattle.usb_library.specs.declared.wakes.Part.TheVariants.{Controller, Events}
 use Rattle.usb_library.specs.declared.wakes.Work.{Work}

@@ -20,8 +20,8 @@ use Rattle.usb_model.specs.Machine.Turns.{command_effect, command_order, deliver
 use Rattle.usb_model.specs.Setup.{Setup, packet_size_of}
 use Rattle.usb_model.specs.World.Shared.{first_name, pieces_of}
 use Rattle.usb_model.specs.World.{World, holder, is_blocked, is_its, machine_of, turn, turn_by, turn_of, turn_of_nobody}
-use Rattle.proof_invariants.proofs.Machines.Idle.{idle_if_none}
-use Rattle.proof_lemmas.proofs.Lists.Pieces.{same_name}
+use Rattle.proof_model.proofs.Machines.Idle.{idle_if_none}
+use Rattle.proof_model.proofs.Lists.Pieces.{same_name}
 use Rattle.usb_core.specs.Public.{does_something, serves}
 use Rattle.usb_library.proofs.Served.{deliver_says, is_served, said_of}
 use Rattle.usb_steps.specs.Pending.{has_answers, tells_work}

@@ -31,10 +31,10 @@ use Rattle.usb_model.specs.Machine.Turns.{effect, serve_effect}
 use Rattle.usb_model.specs.Requests.{length_of}
 use Rattle.usb_model.specs.Setup.{Setup, endpoint_id, endpoints_of, info_of, packet_size_of}
 use Rattle.usb_model.specs.World.{Turn, World, holder, is_blocked, is_its, machine_of, turn, turn_by, turn_of, world_after}
-use Rattle.proof_lemmas.proofs.Lists.Pieces.{same_name}
-use Rattle.proof_lemmas.proofs.Shares.More.{one_more}
-use Rattle.proof_lemmas.proofs.Shares.Next.{next_there}
-use Rattle.proof_lemmas.proofs.Shares.OpenShares.{open_at, open_whole}
+use Rattle.proof_model.proofs.Lists.Pieces.{same_name}
+use Rattle.proof_model.proofs.Shares.More.{one_more}
+use Rattle.proof_model.proofs.Shares.Next.{next_there}
+use Rattle.proof_model.proofs.Shares.OpenShares.{open_at, open_whole}
 use Rattle.usb_model.specs.Kept.{is_extra}
 use Rattle.usb_model.specs.Packets.{Packet, gave, packet_by}
 use Rattle.refine_world.specs.Kept.{outcome_now}

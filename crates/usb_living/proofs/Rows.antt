@@ -5,8 +5,8 @@ use Rattle.usb_model.specs.Setup.{Setup, endpoint_id}
 use Rattle.usb_model.specs.World.{World, new_world, world_from}
 use Rattle.usb_model.specs.World.Journal.{Place, journal_from, run_from}
 use Rattle.usb_model.specs.World.Journal.{journal}
-use Rattle.proof_lemmas.proofs.Handles.Runs.{world_append}
-use Rattle.proof_lemmas.proofs.Handles.Runs.{run_append}
+use Rattle.proof_model.proofs.Handles.Runs.{world_append}
+use Rattle.proof_model.proofs.Handles.Runs.{run_append}
 use Rattle.proof_living.specs.Living.{GoesOn, More, StaysWithin, world_with}
 use Rattle.proof_living.specs.NoWants.{WantsNone}
 use Rattle.proof_living.proofs.Fed.{fed_goes_on}

@@ -8,8 +8,8 @@ use Rattle.usb_model.specs.Setup.{Setup}
 use Rattle.usb_model.specs.Machine.Turns.{alone}
 use Rattle.usb_model.specs.World.{World, new_world, turn}
 use Rattle.usb_model.specs.World.Journal.{entries, is_own, journal, journal_from, own, run_from, world_run}
-use Rattle.proof_lemmas.proofs.Handles.Isolation.{entries_from, entries_less, entries_more, own_from, own_less, own_more, sees_alone}
-use Rattle.proof_lemmas.proofs.Handles.Alone.{runs_alone}
+use Rattle.proof_model.proofs.Handles.Isolation.{entries_from, entries_less, entries_more, own_from, own_less, own_more, sees_alone}
+use Rattle.proof_model.proofs.Handles.Alone.{runs_alone}
 use Rattle.usb_core.specs.Public.{ShowsWorld, State, TurnsWorld}
 use Rattle.usb_plans.specs.declared.comparison.Comparison.{Comparison}
 use Rattle.usb_plans.specs.declared.comparison.Part.{Part}

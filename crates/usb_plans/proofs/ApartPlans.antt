@@ -13,8 +13,8 @@ use Rattle.usb_model.specs.Setup.{Setup}
 use Rattle.usb_model.specs.World.{turn, world_from}
 use Rattle.usb_model.specs.World.Journal.{IsBeginning, entries, is_own, journal, journal_from, run_from}
 use Rattle.usb_model.specs.World.Plans.{Stage, expand, expand_from, first_stage, is_own_piece, is_submission, rule_for, rules_after, stage_after, steps_of}
-use Rattle.proof_lemmas.proofs.Handles.Alone.{only_new}
-use Rattle.proof_lemmas.proofs.Handles.Isolation.{entries_from}
+use Rattle.proof_model.proofs.Handles.Alone.{only_new}
+use Rattle.proof_model.proofs.Handles.Isolation.{entries_from}
 use Rattle.usb_plans.specs.Alone.{PerformsBoth, alone_of, is_own_by, place_of, shared_of}
 use Rattle.usb_plans.specs.Drives.{Advances, TakesNext}
 use Rattle.usb_plans.specs.PlanRuns.{Performs, PlanState, ShowsStage, StandsFor, entries_of, is_verdict}

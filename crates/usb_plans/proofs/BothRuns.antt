@@ -10,8 +10,8 @@ use Rattle.usb_model.specs.Setup.{Setup}
 use Rattle.usb_model.specs.Machine.Turns.{alone}
 use Rattle.usb_model.specs.World.Journal.{IsBeginning, entries, own, world_run}
 use Rattle.usb_model.specs.World.Plans.{expand, first_stage, is_submission}
-use Rattle.proof_lemmas.proofs.Handles.Alone.{runs_alone}
-use Rattle.proof_lemmas.proofs.Handles.Isolation.{sees_alone}
+use Rattle.proof_model.proofs.Handles.Alone.{runs_alone}
+use Rattle.proof_model.proofs.Handles.Isolation.{sees_alone}
 use Rattle.usb_plans.specs.Alone.{AdvancesBoth, AreLeft, Begins, PerformsTwice, StartsBoth, TellsPlan, TwinState, alone_of, is_own_by, shared_of}
 use Rattle.usb_plans.specs.declared.comparison.Comparison.{Comparison}
 use Rattle.usb_plans.specs.declared.plan_run.Performed.{Performed}

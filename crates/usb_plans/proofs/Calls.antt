@@ -9,9 +9,9 @@ use Rattle.usb_model.specs.Machine.{Machine, new_machine}
 use Rattle.usb_model.specs.Machine.Turns.{effect, machine_after}
 use Rattle.usb_model.specs.Laws.Cut.{times}
 use Rattle.usb_model.specs.Laws.Places.{call_of}
-use Rattle.proof_lemmas.proofs.Lists.Times.{times-cons, times-append, times_one, times_none}
-use Rattle.proof_lemmas.proofs.Work.Lines.{result_numbers}
-use Rattle.proof_lemmas.proofs.Work.Moves.{lives_at, DoesWork, Submits, Takes, Moves, work_less}
+use Rattle.proof_model.proofs.Lists.Times.{times-cons, times-append, times_one, times_none}
+use Rattle.proof_model.proofs.Work.Lines.{result_numbers}
+use Rattle.proof_model.proofs.Work.Moves.{lives_at, DoesWork, Submits, Takes, Moves, work_less}
 use Rattle.usb_core.proofs.CallsBack.{calls_back_once}
 use Rattle.usb_plans.specs.Laws.{CallsOnce}
 

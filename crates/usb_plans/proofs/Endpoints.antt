@@ -13,7 +13,7 @@ use Rattle.usb_model.specs.Setup.{Setup, endpoints_of, info_of, interface_of}
 use Rattle.usb_model.specs.Machine.{is_result_at, is_callback_at, is_quiet, are_quiet}
 use Rattle.usb_model.specs.World.{World, holder, is_its, own_endpoint, machine_of}
 use Rattle.usb_model.specs.World.Shared.{pieces_of}
-use Rattle.proof_lemmas.proofs.Lists.Pieces.{same_name}
+use Rattle.proof_model.proofs.Lists.Pieces.{same_name}
 use Rattle.usb_plans.specs.Holders.{HoldsEndpoint, NobodyHolds, IsQuiet, AreQuiet}
 
 -- who holds the interface of an endpoint is its holder

@@ -17,9 +17,9 @@ use Rattle.usb_model.specs.Machine.Calls.{callback_of}
 use Rattle.usb_model.specs.World.{machine_of, is_its, turn}
 use Rattle.usb_model.specs.World.Journal.{journal_from, journal, is_held_elsewhere, is_unplug}
 use Rattle.usb_model.specs.World.Plans.{Book, noted_by, noted, verdict_by, needs_stop, return_steps, is_submit, rules_past, rules_after, first_rule, rule_for, once_only, Stage, first_stage, returning, steps_of, stage_after, expand_from, is_own_piece, is_submission, own_plan_from, own_rules_from}
-use Rattle.proof_lemmas.proofs.Handles.Isolation.{is_own_step, IsEither, turn_to, own_from}
+use Rattle.proof_model.proofs.Handles.Isolation.{is_own_step, IsEither, turn_to, own_from}
 use Rattle.usb_plans.specs.Laws.{ExpandsAlone}
-use Rattle.proof_lemmas.proofs.Handles.Alone.{OnlyOf, turn_again, only_new}
+use Rattle.proof_model.proofs.Handles.Alone.{OnlyOf, turn_again, only_new}
 use Rattle.usb_plans.proofs.Runs.{own-append, AllOwn, NoneOwn, own_all, own_none, run_again, run_stays}
 use Rattle.usb_plans.proofs.Verdicts.{answer_own, answer_others}
 

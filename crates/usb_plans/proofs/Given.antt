@@ -15,11 +15,11 @@ use Rattle.usb_model.specs.Machine.Turns.{unplug_reply, effect, maker, alone_fro
 use Rattle.usb_model.specs.World.Journal.{own}
 use Rattle.usb_model.specs.Laws.Cut.{times}
 use Rattle.usb_model.specs.Laws.Places.{call_of, number_of, numbers_given}
-use Rattle.proof_lemmas.proofs.Handles.Isolation.{sees_alone}
-use Rattle.proof_lemmas.proofs.Lists.Times.{times-cons, times-append, times_one}
-use Rattle.proof_lemmas.proofs.Work.Lines.{result_numbers}
-use Rattle.proof_lemmas.proofs.Work.Moves.{told, Submits, Moves}
-use Rattle.proof_lemmas.proofs.Work.StepMoves.{moves}
+use Rattle.proof_model.proofs.Handles.Isolation.{sees_alone}
+use Rattle.proof_model.proofs.Lists.Times.{times-cons, times-append, times_one}
+use Rattle.proof_model.proofs.Work.Lines.{result_numbers}
+use Rattle.proof_model.proofs.Work.Moves.{told, Submits, Moves}
+use Rattle.proof_model.proofs.Work.StepMoves.{moves}
 use Rattle.usb_plans.specs.Laws.{CallsAfterNumber}
 use Rattle.usb_plans.proofs.Calls.{called_now, IsOnce, once_kept, next_machine, reply_to, once_new}
 

@@ -19,9 +19,9 @@ use Rattle.usb_model.specs.Machine.Calls.{claim_effect, reset_effect}
 use Rattle.usb_model.specs.Machine.Turns.{effect}
 use Rattle.usb_model.specs.World.{World, is_its, is_others, machine_of, owner_of, is_blocked, turn_of_nobody, turn_by, turn}
 use Rattle.usb_model.specs.World.Journal.{is_held_elsewhere}
-use Rattle.proof_lemmas.proofs.Lists.Pieces.{same_name}
-use Rattle.proof_lemmas.proofs.Handles.Fair.{effect_is_fair}
-use Rattle.proof_lemmas.proofs.Handles.Isolation.{effect_to, blocked_turn, turn_blocked, turn_free}
+use Rattle.proof_model.proofs.Lists.Pieces.{same_name}
+use Rattle.proof_model.proofs.Handles.Fair.{effect_is_fair}
+use Rattle.proof_model.proofs.Handles.Isolation.{effect_to, blocked_turn, turn_blocked, turn_free}
 use Rattle.usb_plans.specs.Holders.{HasInterface, AnotherHolds, IsHeldByAnother}
 use Rattle.usb_plans.specs.Laws.{TellsOfAnother, ChangesNothingForAnother}
 use Rattle.usb_plans.proofs.Endpoints.{all_quiet, quiet_all}

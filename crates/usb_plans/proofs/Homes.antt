@@ -6,7 +6,7 @@ use Rattle.usb_model.specs.declared.result.InCallback.{InCallback}
 use Rattle.usb_model.specs.Machine.{endpoint_at}
 use Rattle.usb_model.specs.Setup.{Setup}
 use Rattle.usb_model.specs.World.{World, machine_of}
-use Rattle.proof_invariants.proofs.Bounds.Runs.{callback_each, callbacks_home}
+use Rattle.proof_model.proofs.Bounds.Runs.{callback_each, callbacks_home}
 use Rattle.usb_plans.specs.Returns.{IsReached, callback_at}
 use Rattle.usb_plans.proofs.Returns.{machine_callbacks}
 

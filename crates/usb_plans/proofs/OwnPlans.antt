@@ -16,9 +16,9 @@ use Rattle.usb_model.specs.Setup.{Setup}
 use Rattle.usb_model.specs.World.{turn, world_from}
 use Rattle.usb_model.specs.World.Journal.{entries, journal, journal_from, own, run_from, world_run}
 use Rattle.usb_model.specs.World.Plans.{Stage, expand, expand_from, first_rule, first_stage, is_own_piece, is_submission, needs_stop, own_plan, own_plan_from, own_rules, own_rules_from, returning, rules_after, stage_after, steps_of, verdict_by}
-use Rattle.proof_lemmas.proofs.Handles.Alone.{runs_alone}
-use Rattle.proof_lemmas.proofs.Handles.Isolation.{IsEither, entries_from, sees_alone, turn_to}
-use Rattle.proof_lemmas.proofs.Handles.Runs.{run_append}
+use Rattle.proof_model.proofs.Handles.Alone.{runs_alone}
+use Rattle.proof_model.proofs.Handles.Isolation.{IsEither, entries_from, sees_alone, turn_to}
+use Rattle.proof_model.proofs.Handles.Runs.{run_append}
 use Rattle.usb_plans.specs.declared.comparison.Part.{Part}
 use Rattle.usb_plans.specs.declared.plan_run.Performed.{Performed}
 use Rattle.usb_plans.specs.Alone.{DrivesPicked, IsNext, IsPlanPart, PerformsOwn, SharesPiece, ShowsSomeStage, Starts, TellsPlan, TellsPlanPart, is_own_by, picked, picked_rules, with_own}

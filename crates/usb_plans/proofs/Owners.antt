@@ -8,7 +8,7 @@ use Rattle.usb_model.specs.declared.shared.Tagged.{Tagged}
 use Rattle.usb_model.specs.Setup.{Setup}
 use Rattle.usb_model.specs.World.{World, owner_of, is_blocked, turn_of_nobody, turn_by, turn}
 use Rattle.usb_model.specs.World.Shared.{first_name}
-use Rattle.proof_lemmas.proofs.Handles.Isolation.{effect_to, turn_blocked, turn_free}
+use Rattle.proof_model.proofs.Handles.Isolation.{effect_to, turn_blocked, turn_free}
 use Rattle.usb_plans.specs.Whose.{BeginsWith, IsOf, IsNobodys}
 use Rattle.usb_plans.specs.Laws.{NamesOwner, NamesNobody, IdlesForNobody}
 use Rattle.usb_plans.proofs.Endpoints.{holder_is, holds_it, nobody_holds, no_holder}

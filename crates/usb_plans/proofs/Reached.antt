@@ -17,12 +17,12 @@ use Rattle.usb_model.specs.Setup.{Setup}
 use Rattle.usb_model.specs.World.{World, new_world, turn, world_from}
 use Rattle.usb_model.specs.World.Journal.{IsBeginning, journal, journal_from, run_from, world_run}
 use Rattle.usb_model.specs.World.Plans.{Expands, ExpandsFrom, Stage, expand, expand_from, first_stage, is_submission, needs_stop, return_steps, returning, rules_after, stage_after, steps_of, verdict_by}
-use Rattle.proof_lemmas.proofs.Handles.Beginnings.{first_steps}
-use Rattle.proof_lemmas.proofs.Handles.Isolation.{sees_alone}
-use Rattle.proof_lemmas.proofs.Handles.Runs.{run_append, world_append}
-use Rattle.proof_invariants.proofs.Bound.AskedEnds.{asked_ends}
-use Rattle.proof_invariants.proofs.Cut.Runs.{cuts_at}
-use Rattle.proof_invariants.proofs.Places.Runs.{keeps_places}
+use Rattle.proof_model.proofs.Handles.Beginnings.{first_steps}
+use Rattle.proof_model.proofs.Handles.Isolation.{sees_alone}
+use Rattle.proof_model.proofs.Handles.Runs.{run_append, world_append}
+use Rattle.proof_model.proofs.Bound.AskedEnds.{asked_ends}
+use Rattle.proof_model.proofs.Cut.Runs.{cuts_at}
+use Rattle.proof_model.proofs.Places.Runs.{keeps_places}
 use Rattle.usb_plans.specs.declared.plan_run.Performed.{Performed}
 use Rattle.usb_plans.specs.Drives.{Advances, IsDriven, IsDrivenTo, ObeysAll, TakesNext}
 use Rattle.usb_plans.specs.PlanRuns.{PlanState, entries_of, of_option, ShowsStage, StandsFor, is_verdict}

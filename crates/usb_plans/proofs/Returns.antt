@@ -26,16 +26,16 @@ use Rattle.usb_model.specs.Setup.{Setup, packet_size_of}
 use Rattle.usb_model.specs.World.{World, Turn, machine_of, turn, turn_by, turn_of_nobody}
 use Rattle.usb_model.specs.World.Journal.{entries, is_unplug}
 use Rattle.usb_model.specs.World.Shared.{first_name}
-use Rattle.proof_lemmas.proofs.Handles.Isolation.{IsEither, IsNothing, IsOwnTurn, effect_to, free_own, is_own_step, turn_free, turn_to}
-use Rattle.proof_lemmas.proofs.Lists.Pieces.{same_name}
-use Rattle.proof_lemmas.proofs.Lists.Times.{times-cons, times_here}
-use Rattle.proof_lemmas.proofs.Work.Moves.{Moves}
-use Rattle.proof_lemmas.proofs.Work.Replies.{asks_told, command_told, deliver_told, serve_told, told_plain}
-use Rattle.proof_lemmas.proofs.Work.StepMoves.{moves}
-use Rattle.proof_invariants.proofs.Machines.Deeds.{IsDone, IsRest, IsWork, again, again_with, anew, asks_it, claims, claims_again, clears, closes, commands, delivers, idles, only_rests, opens, refuses, releases, resets, serves, stays, stops, submits, takes, unplugs, works}
-use Rattle.proof_invariants.proofs.Machines.Done.{is_done}
-use Rattle.proof_invariants.proofs.Places.Placed.{IsPlaced}
-use Rattle.proof_invariants.proofs.Places.Runs.{IsKept, kept_at}
+use Rattle.proof_model.proofs.Handles.Isolation.{IsEither, IsNothing, IsOwnTurn, effect_to, free_own, is_own_step, turn_free, turn_to}
+use Rattle.proof_model.proofs.Lists.Pieces.{same_name}
+use Rattle.proof_model.proofs.Lists.Times.{times-cons, times_here}
+use Rattle.proof_model.proofs.Work.Moves.{Moves}
+use Rattle.proof_model.proofs.Work.Replies.{asks_told, command_told, deliver_told, serve_told, told_plain}
+use Rattle.proof_model.proofs.Work.StepMoves.{moves}
+use Rattle.proof_model.proofs.Machines.Deeds.{IsDone, IsRest, IsWork, again, again_with, anew, asks_it, claims, claims_again, clears, closes, commands, delivers, idles, only_rests, opens, refuses, releases, resets, serves, stays, stops, submits, takes, unplugs, works}
+use Rattle.proof_model.proofs.Machines.Done.{is_done}
+use Rattle.proof_model.proofs.Places.Placed.{IsPlaced}
+use Rattle.proof_model.proofs.Places.Runs.{IsKept, kept_at}
 use Rattle.usb_plans.specs.Returns.{AnswerEnds, IsReached, KeepsCallbacks, SameCallbacks, TakeCalls, callback_at, ends_callback, is_answer, is_of_callback}
 use Rattle.usb_plans.proofs.Gentle.{gentle_else}
 use Rattle.usb_plans.proofs.Verdicts.{answer_others, answer_own}

@@ -7,8 +7,8 @@ use Rattle.usb_model.specs.declared.step.Step.{Step}
 use Rattle.usb_model.specs.Setup.{Setup}
 use Rattle.usb_model.specs.World.{World, machine_of, turn, world_from}
 use Rattle.usb_model.specs.World.Journal.{Place, journal_from, is_own, own_places, run_from}
-use Rattle.proof_lemmas.proofs.Handles.Isolation.{IsOwnTurn, IsNothing, entries_from, entries_less, entries_more, own_from, own_more, own_less}
-use Rattle.proof_lemmas.proofs.Handles.Alone.{OnlyOf, turn_again}
+use Rattle.proof_model.proofs.Handles.Isolation.{IsOwnTurn, IsNothing, entries_from, entries_less, entries_more, own_from, own_more, own_less}
+use Rattle.proof_model.proofs.Handles.Alone.{OnlyOf, turn_again}
 
 -- the journal of two runs, one behind the other
 journal-append : (setup : Setup) (w : World) (xs ys : List Step) → journal_from setup w (xs ++ ys) ≡ journal_from setup w xs ++ journal_from setup (world_from setup w xs) ys

@@ -6,7 +6,7 @@ use Rattle.usb_model.specs.declared.plan.Plan.{Plan}
 use Rattle.usb_model.specs.declared.plan.Plan.TheVariants.{Do, Return}
 use Rattle.usb_model.specs.declared.verdict.Rule.{Rule}
 use Rattle.usb_model.specs.World.Plans.{first_rule, is_submission, rules_after, rules_past}
-use Rattle.proof_lemmas.proofs.Lists.Times.{count-cons}
+use Rattle.proof_model.proofs.Lists.Times.{count-cons}
 use Rattle.usb_plans.specs.Drives.{TakesNext}
 use Rattle.usb_plans.specs.PlanRuns.{IsUnder}
 

@@ -11,10 +11,10 @@ use Rattle.usb_model.specs.Laws.Places.{call_of}
 use Rattle.usb_model.specs.Machine.{Machine, at_endpoint, device_of, is_gone}
 use Rattle.usb_model.specs.Setup.{Setup, packet_size_of}
 use Rattle.usb_model.specs.World.{Turn, World, is_blocked, machine_of, owner_of, turn, turn_by, turn_of, turn_of_nobody}
-use Rattle.proof_lemmas.proofs.Handles.Isolation.{effect_to, turn_blocked, turn_free, unplug_own}
-use Rattle.proof_lemmas.proofs.Work.Replies.{asks_told, command_told, deliver_told, serve_told, told_plain}
-use Rattle.proof_invariants.proofs.Machines.Deeds.{IsDone, IsRest, IsWork, again, again_with, anew, asks_it, claims, claims_again, clears, closes, commands, delivers, idles, only_rests, opens, refuses, releases, resets, serves, stays, stops, submits, takes, unplugs, works}
-use Rattle.proof_invariants.proofs.Machines.Done.{is_done}
+use Rattle.proof_model.proofs.Handles.Isolation.{effect_to, turn_blocked, turn_free, unplug_own}
+use Rattle.proof_model.proofs.Work.Replies.{asks_told, command_told, deliver_told, serve_told, told_plain}
+use Rattle.proof_model.proofs.Machines.Deeds.{IsDone, IsRest, IsWork, again, again_with, anew, asks_it, claims, claims_again, clears, closes, commands, delivers, idles, only_rests, opens, refuses, releases, resets, serves, stays, stops, submits, takes, unplugs, works}
+use Rattle.proof_model.proofs.Machines.Done.{is_done}
 use Rattle.usb_plans.specs.Returns.{IsReached}
 use Rattle.usb_plans.proofs.Returns.{kept}
 

@@ -5,7 +5,7 @@ use Rattle.usb_model.specs.declared.step.Step.TheVariants.{Answer}
 use Rattle.usb_model.specs.declared.verdict.Verdict.{Verdict}
 use Rattle.usb_model.specs.Setup.{Setup}
 use Rattle.usb_model.specs.World.{World, machine_of, turn}
-use Rattle.proof_lemmas.proofs.Handles.Isolation.{IsOwnTurn, IsNothing, IsEither, turn_free, free_own, turn_to}
+use Rattle.proof_model.proofs.Handles.Isolation.{IsOwnTurn, IsNothing, IsEither, turn_free, free_own, turn_to}
 use Rattle.usb_plans.proofs.Gentle.{gentle_else}
 
 -- it is its handle's own

@@ -1,7 +1,7 @@
 -- Whether a transfer of any name is in its callback.
 use Rattle.std.proofs.Common.{◌≡◌, ℕ, Bool, true, false, refl, ap, sym, ◌∙◌, List, [], ◌∷◌, Option, Some, None}
 use Rattle.std.specs.Prelude.{◌↔◌, if◌then◌else◌}
-use Rattle.proof_lemmas.proofs.Lists.Pieces.{same_name}
+use Rattle.proof_model.proofs.Lists.Pieces.{same_name}
 use Rattle.usb_model.specs.declared.handle.Handle.{Handle}
 use Rattle.usb_model.specs.declared.result.InCallback.{InCallback}
 use Rattle.usb_model.specs.Machine.Calls.{callback_of}

@@ -11,7 +11,7 @@ use Rattle.usb_model.specs.Machine.Calls.{claim_effect, release_effect, reset_ef
 use Rattle.usb_model.specs.Machine.Turns.{effect}
 use Rattle.usb_model.specs.Setup.{Setup, has_interface}
 use Rattle.usb_model.specs.World.{World, is_blocked, is_its, is_others, machine_of}
-use Rattle.proof_lemmas.proofs.Work.Moves.{SetsNone}
+use Rattle.proof_model.proofs.Work.Moves.{SetsNone}
 use Rattle.refine_world.specs.Calls.{are_quiet, claim_core, device_of, holds, is_gone, is_open, others_hold, release_core, reset_core, rests, unless}
 use Rattle.refine_world.specs.Lively.{IsFine}
 use Rattle.refine_world.specs.Shows.{Core, Shows}

@@ -11,7 +11,7 @@ use Rattle.usb_model.specs.Machine.Calls.{clear_halt_effect}
 use Rattle.usb_model.specs.Machine.Turns.{effect}
 use Rattle.usb_model.specs.Setup.{Setup}
 use Rattle.usb_model.specs.World.{World, machine_of}
-use Rattle.proof_invariants.proofs.Machines.Deeds.{cleared}
+use Rattle.proof_model.proofs.Machines.Deeds.{cleared}
 use Rattle.usb_model.specs.Kept.{KeptEndpoint}
 use Rattle.refine_world.specs.Calls.{calls, clear_core, device_of, is_gone, kept_at, unhalted}
 use Rattle.refine_world.specs.Lively.{IsFine}

@@ -16,10 +16,10 @@ use Rattle.usb_model.specs.Setup.{Setup}
 use Rattle.usb_model.specs.World.Shared.{past_first}
 use Rattle.usb_model.specs.Machine.Turns.{effect}
 use Rattle.usb_model.specs.World.{World, is_blocked, machine_of, owner_of, turn, turn_by, world_after}
-use Rattle.proof_lemmas.proofs.Handles.Isolation.{gone_stays, turn_free}
-use Rattle.proof_lemmas.proofs.Work.Moves.{SetsNone}
-use Rattle.proof_invariants.proofs.Machines.Deeds.{IsDone, IsRest, only_rests, works}
-use Rattle.proof_invariants.proofs.Machines.Done.{is_done}
+use Rattle.proof_model.proofs.Handles.Isolation.{gone_stays, turn_free}
+use Rattle.proof_model.proofs.Work.Moves.{SetsNone}
+use Rattle.proof_model.proofs.Machines.Deeds.{IsDone, IsRest, only_rests, works}
+use Rattle.proof_model.proofs.Machines.Done.{is_done}
 use Rattle.refine_world.specs.Calls.{refuses, rests, unless}
 use Rattle.refine_world.specs.Lively.{IsFine}
 use Rattle.refine_world.specs.Shows.{Core, Shows}

@@ -8,7 +8,7 @@ use Rattle.usb_model.specs.Machine as machine
 use Rattle.usb_model.specs.Machine.{is_callback_at, is_result_at}
 use Rattle.usb_model.specs.Setup.{Setup, endpoints_of, packet_size_of}
 use Rattle.usb_model.specs.World.{World, holder, is_its, machine_of, own_endpoint}
-use Rattle.proof_lemmas.proofs.Handles.Alone.{is_its-some}
+use Rattle.proof_model.proofs.Handles.Alone.{is_its-some}
 use Rattle.usb_model.specs.Kept.{KeptEndpoint}
 use Rattle.refine_world.specs.Calls.{are_quiet, device_of, is_quiet, kept_at, own_kept, results_of}
 use Rattle.refine_world.specs.Shows.{Core, Shows}

@@ -18,11 +18,11 @@ use Rattle.usb_model.specs.declared.response.Response.{Response}
 use Rattle.usb_model.specs.declared.outcome.Outcome.{Outcome}
 use Rattle.usb_model.specs.Direction.{is_of_direction, IsBody}
 use Rattle.usb_model.specs.Endpoint.Serve.{acknowledged, is_stall, next_answer, serve, serve_by, serve_first, serve_gone}
-use Rattle.proof_lemmas.proofs.Shares.Next.{next_there}
-use Rattle.proof_lemmas.proofs.Work.Sound.{first_waits}
+use Rattle.proof_model.proofs.Shares.Next.{next_there}
+use Rattle.proof_model.proofs.Work.Sound.{first_waits}
 use Rattle.refine_world.specs.Kept.{grown, outcome_now}
 use Rattle.refine_world.proofs.Tells.{first_new, first_open}
-use Rattle.proof_lemmas.proofs.Shares.OpenShares.{halted_outcome, open_at, open_if}
+use Rattle.proof_model.proofs.Shares.OpenShares.{halted_outcome, open_at, open_if}
 use Rattle.usb_model.specs.Coherence.{IsCoherent, IsPhase, ended, move_ran, move_waits, reset_ran, reset_waits, runs, served_events, stop_failed, stop_ran, stop_ran_paused, stop_waits, stop_waits_halted}
 use Rattle.std.proofs.lemmas.Option.{same_Some}
 use Rattle.refine_world.specs.ShownEndpoint.{IsOrderly, is_past, known_by, uncut_by}

@@ -24,12 +24,12 @@ use Rattle.refine_world.proofs.Finished.{first_end}
 use Rattle.refine_world.proofs.Settled.{EndWays, behind_blanks, end_ways, none_served}
 use Rattle.usb_model.specs.Endpoint.{fresh, in_progress, is_blank, new_item, past_blanks, past_number}
 use Rattle.usb_model.specs.Endpoint.Packets.{IsOpenAt, outcome, open_with}
-use Rattle.proof_lemmas.proofs.Shares.OpenShares.{open_if, outcome_nothing}
+use Rattle.proof_model.proofs.Shares.OpenShares.{open_if, outcome_nothing}
 use Rattle.usb_model.specs.Setup.{Setup}
 use Rattle.usb_model.specs.Coherence.{IsCoherent, IsPhase, served_events}
 use Rattle.refine_world.proofs.Commands.{Ways, ways}
 use Rattle.refine_world.specs.ShownEndpoint.{AllNew, IsOrderly, NewBehind, is_past, known_by, new_by}
-use Rattle.proof_lemmas.proofs.Work.Phases.{halted_if}
+use Rattle.proof_model.proofs.Work.Phases.{halted_if}
 use Rattle.refine_world.proofs.Orderly.Lines.{new_blanks, new_number, behind_number, new_blanked, behind_blanked, led_by_withdrawn, new_push, behind_push, each_map, each_push, OpenItem, UncutItem, opens_from, uncut_from, Fine, fine_of, fine_blanked, fine_blanks, fine_number, led_by_none}
 
 -- an endpoint made new

@@ -2,7 +2,7 @@
 use Rattle.std.proofs.Common.{◌∙◌, ap, sym}
 use Rattle.usb_model.specs.World.Journal.{world_run}
 use Rattle.plain_run.specs.Part.{own_entries, own_steps}
-use Rattle.proof_lemmas.proofs.Handles.Isolation.{sees_alone}
+use Rattle.proof_model.proofs.Handles.Isolation.{sees_alone}
 use Rattle.plain_run.proofs.PartSteps.{entries_are, run_is_alone, runs_as_alone}
 use Rattle.plain_run.proofs.comparison.compare.Goals as goal
 

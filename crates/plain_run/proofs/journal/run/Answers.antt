@@ -3,8 +3,8 @@ use Rattle.std.proofs.Common.{drop, inr, sym}
 use Rattle.usb_model.specs.World.Journal.{world_run, journal}
 use Rattle.usb_model.specs.World.Journal.{run_from}
 use Rattle.plain_system.specs.System.{world_of}
-use Rattle.proof_lemmas.proofs.Handles.Runs.{step_further, run_ends}
-use Rattle.proof_lemmas.proofs.Handles.Beginnings.{first_steps, step_left}
+use Rattle.proof_model.proofs.Handles.Runs.{step_further, run_ends}
+use Rattle.proof_model.proofs.Handles.Beginnings.{first_steps, step_left}
 use Rattle.plain_run.proofs.journal.run.Goals as goal
 
 pub returns-in_default-clause-stopped : goal.returns-in_default-clause-stopped

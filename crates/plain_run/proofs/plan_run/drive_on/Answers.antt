@@ -5,7 +5,7 @@ use Rattle.usb_model.specs.World.Plans.{Stage, expand, expand_from}
 use Rattle.usb_model.specs.World.Journal.{run_from}
 use Rattle.plain_run.specs.PlanRuns.{kept_with, stage_of}
 use Rattle.plain_run.proofs.Drives.{piece_further, plan_ends, begun_all, steps_further, steps_end}
-use Rattle.proof_lemmas.proofs.Handles.Beginnings.{first_steps, piece_left}
+use Rattle.proof_model.proofs.Handles.Beginnings.{first_steps, piece_left}
 use Rattle.plain_run.proofs.plan_run.drive_on.Goals as goal
 
 pub returns-in_default-clause-stopped : goal.returns-in_default-clause-stopped

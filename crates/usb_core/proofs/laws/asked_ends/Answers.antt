@@ -1,4 +1,4 @@
-use Rattle.proof_invariants.proofs.Bound.AskedEnds.{asked_ends}
+use Rattle.proof_model.proofs.Bound.AskedEnds.{asked_ends}
 use Rattle.usb_core.proofs.laws.asked_ends.Goals as goal
 
 pub returns : goal.returns

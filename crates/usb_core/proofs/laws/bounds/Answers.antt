@@ -1,4 +1,4 @@
-use Rattle.proof_invariants.proofs.Bounds.Runs.{keeps_bounds}
+use Rattle.proof_model.proofs.Bounds.Runs.{keeps_bounds}
 use Rattle.usb_core.proofs.laws.bounds.Goals as goal
 
 pub returns : goal.returns

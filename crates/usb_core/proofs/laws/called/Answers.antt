@@ -1,4 +1,4 @@
-use Rattle.proof_invariants.proofs.Calls.{callbacks_are_of_calls, calls_what_was_made}
+use Rattle.proof_model.proofs.Calls.{callbacks_are_of_calls, calls_what_was_made}
 use Rattle.usb_core.proofs.laws.called.Goals as goal
 
 pub returns-clause-in_order : goal.returns-clause-in_order

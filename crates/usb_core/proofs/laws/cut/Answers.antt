@@ -1,4 +1,4 @@
-use Rattle.proof_invariants.proofs.Cut.Runs.{cuts_at}
+use Rattle.proof_model.proofs.Cut.Runs.{cuts_at}
 use Rattle.usb_core.proofs.laws.cut.Goals as goal
 
 pub returns : goal.returns

@@ -1,4 +1,4 @@
-use Rattle.proof_invariants.proofs.Places.Runs.{keeps_places}
+use Rattle.proof_model.proofs.Places.Runs.{keeps_places}
 use Rattle.usb_core.proofs.laws.places.Goals as goal
 
 pub returns : goal.returns

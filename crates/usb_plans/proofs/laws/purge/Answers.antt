@@ -1,5 +1,5 @@
-use Rattle.proof_lemmas.proofs.Handles.Isolation.{sees_alone}
-use Rattle.proof_lemmas.proofs.Handles.Alone.{runs_alone}
+use Rattle.proof_model.proofs.Handles.Isolation.{sees_alone}
+use Rattle.proof_model.proofs.Handles.Alone.{runs_alone}
 use Rattle.usb_plans.proofs.laws.purge.Goals as goal
 
 pub returns-clause-sees : goal.returns-clause-sees

@@ -1,4 +1,4 @@
-use Rattle.proof_lemmas.proofs.Handles.Runs.{states_alone}
+use Rattle.proof_model.proofs.Handles.Runs.{states_alone}
 use Rattle.usb_plans.proofs.laws.states.Goals as goal
 
 pub returns : goal.returns

@@ -7,7 +7,7 @@ use Rattle.usb_model.specs.World.{World, world_after}
 use Rattle.plain_system.specs.Tables.{handle_at}
 use Rattle.usb_model.specs.World.Shared.{tagged, past_first}
 use Rattle.plain_system.specs.System.{world_of, changed}
-use Rattle.proof_lemmas.proofs.Handles.Isolation.{gone_stays}
+use Rattle.proof_model.proofs.Handles.Isolation.{gone_stays}
 use Rattle.plain_system.proofs.system.System.apply.Goals as goal
 
 pub returns-clause-world : goal.returns-clause-world

@@ -1,7 +1,7 @@
 -- A line of another name has none of the name's transfers.
 use Rattle.std.proofs.Common.{Some, ap, sym, subst, ◌≡◌, ◌∙◌}
 use Rattle.std.specs.Prelude.{position}
-use Rattle.proof_lemmas.proofs.Handles.Alone.{is_its-some}
+use Rattle.proof_model.proofs.Handles.Alone.{is_its-some}
 use Rattle.usb_tables.specs.Flights.{is_number, line_at}
 use Rattle.refine_core.specs.State.{State}
 use Rattle.refine_core.specs.Works.{IsHolder}

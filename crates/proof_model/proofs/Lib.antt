@@ -1,0 +1,12 @@
+pub mod Lists
+pub mod Handles
+pub mod Shares
+pub mod Work
+pub mod Cells
+pub mod Coherence
+pub mod Machines
+pub mod Places
+pub mod Calls
+pub mod Bound
+pub mod Bounds
+pub mod Cut
