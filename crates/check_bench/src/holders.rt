@@ -2,9 +2,9 @@
 
 use arrayvec::ArrayVec;
 use std::alloc::Global;
-use usb_claims::Claims;
 use usb_descriptors::read_config;
 use usb_model::{DeviceNo, EpAddr, Name};
+use usb_tables::Claims;
 
 /// Interface 0 with the endpoint 81.
 const DESCRIPTOR: [u8; 25] = [

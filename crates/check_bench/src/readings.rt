@@ -2,8 +2,8 @@
 
 use arrayvec::ArrayVec;
 use bitflags::Flags as _;
-use usb_completion::{Placed, PlacedTrb, Reading, read_event};
 use usb_model::Flags;
+use usb_tables::{Placed, PlacedTrb, Reading, read_event};
 use usb_trb::{EndpointId, Length, Pointer, Residual, Slot, Trb, TrbKind};
 
 /// The address of the line's only TRB.

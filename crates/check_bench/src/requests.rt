@@ -2,7 +2,7 @@
 
 use bitflags::Flags as _;
 use usb_model::{Body, EpAddr, Flags, Kind, Request};
-use usb_transfer::check_at;
+use usb_tables::check_at;
 
 /// The endpoint's packet size.
 const SIZE: u16 = 8;

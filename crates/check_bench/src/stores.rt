@@ -3,7 +3,7 @@
 use bitflags::Flags as _;
 use std::alloc::{AllocError, Global};
 use usb_model::{Body, Buffer, EpAddr, Flags, Kind, Name, Request};
-use usb_transfer::{Store, Transfer};
+use usb_tables::{Store, Transfer};
 
 /// So many transfers are in flight.
 const MANY: u64 = 16;

@@ -5,8 +5,8 @@ use crate::expect::{expect, present};
 use anyhow::{Result, anyhow};
 use arrayvec::ArrayVec;
 use bitflags::Flags as _;
-use usb_completion::{Placed, PlacedTrb, Reading, read_event, result};
 use usb_model::{Ask, Flags, Status};
+use usb_tables::{Placed, PlacedTrb, Reading, read_event, result};
 use usb_trb::{Length, TrbKind, decode};
 
 /// Plays the scenes of events.

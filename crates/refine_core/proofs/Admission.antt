@@ -20,8 +20,8 @@ use Rattle.usb_model.specs.Requests.{is_same_kind, is_unsupported, length_of}
 use Rattle.usb_model.specs.Setup.{Setup, info_of, interface_of, is_in, kind_of, packet_size_of}
 use Rattle.usb_model.specs.World.{holder, is_its}
 use Rattle.usb_descriptors.specs.Table.{info_at}
-use Rattle.usb_transfer.specs.Refusal.{checked, refusal_at, unless_refused}
-use Rattle.usb_transfer.specs.Tds.{Tds, tds_of}
+use Rattle.usb_tables.specs.Refusal.{checked, refusal_at, unless_refused}
+use Rattle.usb_tables.specs.Tds.{Tds, tds_of}
 use Rattle.refine_world.specs.Shows.{Core}
 use Rattle.refine_world.specs.Steps.{Stepped}
 use Rattle.refine_world.specs.Calls.{calls, is_gone, joins, own_kept, places_at, refuses, submit_core}

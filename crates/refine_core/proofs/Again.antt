@@ -16,7 +16,7 @@ use Rattle.usb_model.specs.Limits.{last_number}
 use Rattle.usb_model.specs.Machine.Calls.{callback_of}
 use Rattle.usb_model.specs.Setup.{Setup, endpoint_id}
 use Rattle.usb_model.specs.World.{World}
-use Rattle.usb_transfer.specs.Tds.{Tds}
+use Rattle.usb_tables.specs.Tds.{Tds}
 use Rattle.usb_tables.specs.Caller.{Kept as Caller, is_one_of}
 use Rattle.usb_tables.specs.Callers.{SameCallbacks, SameNumbers, SameResults, callback_at, callbacks_at, is_there, number_of}
 use Rattle.refine_world.specs.Calls.{answer_core, called_back, step_core}

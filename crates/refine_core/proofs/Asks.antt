@@ -18,7 +18,7 @@ use Rattle.usb_model.specs.World.Shared.{past_first}
 use Rattle.usb_model.specs.Kept.{KeptEndpoint, KeptTransfer, SentErrand}
 use Rattle.usb_model.specs.Events.{errand_of, posts}
 use Rattle.usb_model.specs.Joins.{asked, kept_ask}
-use Rattle.usb_cancel.specs.Orders.{ordered, with_ask}
+use Rattle.usb_tables.specs.Orders.{ordered, with_ask}
 use Rattle.usb_tables.specs.Outstanding.{sent_at}
 use Rattle.refine_world.specs.Shows.{Core}
 use Rattle.refine_world.specs.Steps.{handle_work, worked}

@@ -6,9 +6,9 @@ use Rattle.std.proofs.lemmas.Bool.{cases_eq}
 use Rattle.std.proofs.lemmas.Option.{same_Some}
 use Rattle.usb_model.specs.Setup.{endpoint_id}
 use Rattle.usb_trb.specs.declared.kind.TrbKind.{TrbKind}
-use Rattle.usb_transfer.specs.declared.transfer.Transfer.{Transfer as InFlight}
-use Rattle.usb_transfer.specs.Tds.{tds_of}
-use Rattle.usb_transfer.specs.Trbs.{normals_of}
+use Rattle.usb_tables.specs.declared.transfer.Transfer.{Transfer as InFlight}
+use Rattle.usb_tables.specs.Tds.{tds_of}
+use Rattle.usb_tables.specs.Trbs.{normals_of}
 use Rattle.usb_rings.specs.Line.{normals}
 use Rattle.usb_xhc.specs.Context.{Context}
 use Rattle.usb_xhc.specs.Controller.{Controller, slot_changed}

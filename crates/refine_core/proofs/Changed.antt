@@ -7,8 +7,8 @@ use Rattle.usb_model.specs.declared.result.TransferResult.{TransferResult}
 use Rattle.usb_model.specs.Setup.{Setup, endpoint_id, interface_of}
 use Rattle.usb_model.specs.World.{Claims, holder}
 use Rattle.usb_model.specs.World.Shared.{pieces_of}
-use Rattle.usb_claims.specs.Holders.{Holding, device_of, owner_of}
-use Rattle.usb_claims.specs.Tables.{is_plain}
+use Rattle.usb_tables.specs.Holders.{Holding, device_of, owner_of}
+use Rattle.usb_tables.specs.Tables.{is_plain}
 use Rattle.usb_model.specs.Kept.{KeptEndpoint}
 use Rattle.usb_tables.specs.Outstanding.{sent_at}
 use Rattle.usb_tables.specs.Caller.{Kept as Caller}

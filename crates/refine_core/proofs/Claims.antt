@@ -11,7 +11,7 @@ use Rattle.usb_model.specs.declared.reply.Reply.TheVariants.{Done, Refused}
 use Rattle.usb_model.specs.declared.step.Step.TheVariants.{Claim}
 use Rattle.usb_model.specs.Setup.{Setup, endpoints_of, has_interface, interface_of, is_within, script_of}
 use Rattle.usb_model.specs.World.{World, claims_after, holder, is_its, is_others}
-use Rattle.usb_claims.specs.Holders.{Holding, answer_of, claim_refusal, claim_refusal_at, device_of, interfaces_of, owner_of}
+use Rattle.usb_tables.specs.Holders.{Holding, answer_of, claim_refusal, claim_refusal_at, device_of, interfaces_of, owner_of}
 use Rattle.proof_model.proofs.Lists.Pieces.{either_way}
 use Rattle.usb_model.specs.Kept.{KeptEndpoint, new_kept_endpoint}
 use Rattle.usb_xhc.specs.Controller.{Controller}

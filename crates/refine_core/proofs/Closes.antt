@@ -11,7 +11,7 @@ use Rattle.usb_model.specs.declared.reply.Reply.TheVariants.{Done, Refused}
 use Rattle.usb_model.specs.declared.step.Step.TheVariants.{Close, Release}
 use Rattle.usb_model.specs.Setup.{Setup}
 use Rattle.usb_model.specs.World.{claims_after, is_its}
-use Rattle.usb_claims.specs.Holders.{Holding, answer_of, close_refusal, device_of, owner_of, release_refusal}
+use Rattle.usb_tables.specs.Holders.{Holding, answer_of, close_refusal, device_of, owner_of, release_refusal}
 use Rattle.refine_world.specs.Shows.{Core}
 use Rattle.refine_world.specs.Steps.{rested}
 use Rattle.refine_world.specs.Calls as calling

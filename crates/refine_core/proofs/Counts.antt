@@ -10,8 +10,8 @@ use Rattle.usb_model.specs.Machine.{is_result_at}
 use Rattle.usb_model.specs.Setup.{endpoint_id}
 use Rattle.usb_model.specs.World.Shared.{pieces_of, tagged}
 use Rattle.proof_model.proofs.Lists.Pieces.{pieces_of-append}
-use Rattle.usb_claims.specs.Holders.{Holding, device_of}
-use Rattle.usb_claims.specs.Tables.{is_plain}
+use Rattle.usb_tables.specs.Holders.{Holding, device_of}
+use Rattle.usb_tables.specs.Tables.{is_plain}
 use Rattle.usb_tables.specs.Caller.{Kept as Caller}
 use Rattle.usb_tables.specs.Callers.{SameCallbacks, SameCounts, SameNumbers, is_there, results_at}
 use Rattle.refine_rings.proofs.Ids.{same_id}

@@ -15,7 +15,7 @@ use Rattle.usb_model.specs.World.Shared.{past_first, tagged}
 use Rattle.usb_model.specs.Kept.{KeptEndpoint, KeptTransfer}
 use Rattle.usb_model.specs.Events.{Handled, Reading, find_at, finish, kept_after, kept_result, past_at, past_kept_blanks}
 use Rattle.usb_model.specs.Settlements.{pauses}
-use Rattle.usb_cancel.specs.Orders.{ordered, without_ended}
+use Rattle.usb_tables.specs.Orders.{ordered, without_ended}
 use Rattle.usb_model.specs.Stands.{length_at, read_off}
 use Rattle.usb_xhc.specs.Context.{Context}
 use Rattle.refine_rings.specs.Endpoint.{IsContext}
@@ -35,7 +35,7 @@ use Rattle.refine_core.proofs.Held.{held_interface}
 use Rattle.refine_core.proofs.Lines.{drop_items, past_blanks}
 use Rattle.refine_core.proofs.Same.{put_same}
 use Rattle.refine_core.proofs.Reports.{read_parts, ring_of_item}
-use Rattle.usb_transfer.specs.declared.transfer.Transfer.{Transfer as InFlight}
+use Rattle.usb_tables.specs.declared.transfer.Transfer.{Transfer as InFlight}
 use Rattle.refine_core.proofs.Transfers as transfers
 use Rattle.refine_core.proofs.Transfers.{IsLiveAt, end_at, live_at}
 

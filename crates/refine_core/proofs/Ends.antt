@@ -15,8 +15,8 @@ use Rattle.refine_rings.proofs.Ends.{here}
 use Rattle.std.specs.Option.{option_map}
 use Rattle.usb_model.specs.Kept.{SentErrand, KeptEndpoint, KeptTransfer}
 use Rattle.usb_model.specs.Events.{errand_of, kept_result}
-use Rattle.usb_cancel.specs.Orders.{without_ended}
-use Rattle.usb_transfer.specs.declared.transfer.Transfer.{Transfer as InFlight}
+use Rattle.usb_tables.specs.Orders.{without_ended}
+use Rattle.usb_tables.specs.declared.transfer.Transfer.{Transfer as InFlight}
 use Rattle.usb_tables.specs.Callers.{SameCallbacks, SameCounts, SameNumbers, is_there, results_at}
 use Rattle.usb_tables.specs.Caller.{Kept as Caller}
 use Rattle.usb_xhc.specs.Host.{with_ring, without_first}

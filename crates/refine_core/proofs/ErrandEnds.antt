@@ -16,8 +16,8 @@ use Rattle.usb_model.specs.World.Shared.{past_first, tagged}
 use Rattle.usb_model.specs.Kept.{KeptEndpoint, SentErrand}
 use Rattle.usb_model.specs.Events.{Handled, errand_of}
 use Rattle.usb_model.specs.Settlements.{kept_blanked, settle, withdrawn_results}
-use Rattle.usb_cancel.specs.declared.ended.Settlement.{Settlement}
-use Rattle.usb_cancel.specs.Settlements.{goes_on, line_by, results_by}
+use Rattle.usb_tables.specs.declared.ended.Settlement.{Settlement}
+use Rattle.usb_tables.specs.Settlements.{goes_on, line_by, results_by}
 use Rattle.usb_device.specs.Pipe.{pipe_at}
 use Rattle.usb_xhc.specs.Context.{Context}
 use Rattle.refine_world.specs.Known.{KnowsCompletion, NoMove}

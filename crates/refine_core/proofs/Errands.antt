@@ -15,7 +15,7 @@ use Rattle.usb_rings.specs.Places.{address_of, cycle_of, index_of}
 use Rattle.usb_rings.specs.Line.{place_of, places}
 use Rattle.usb_model.specs.Kept.{KeptEndpoint, KeptTransfer, SentErrand, first_place}
 use Rattle.refine_rings.specs.EndpointLaws.{start_of}
-use Rattle.usb_transfer.specs.declared.transfer.Transfer.{Transfer as InFlight}
+use Rattle.usb_tables.specs.declared.transfer.Transfer.{Transfer as InFlight}
 use Rattle.usb_tables.specs.declared.outstanding.Sent.{Sent}
 use Rattle.usb_tables.specs.Outstanding.{sent_at}
 use Rattle.usb_xhc.specs.Context.{Context}

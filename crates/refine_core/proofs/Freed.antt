@@ -7,7 +7,7 @@ use Rattle.usb_model.specs.declared.handle.Handle.{Handle}
 use Rattle.usb_model.specs.Setup.{Setup, interface_of}
 use Rattle.usb_model.specs.World.{Claims, World, holder, is_its}
 use Rattle.usb_model.specs.Kept.{KeptEndpoint}
-use Rattle.usb_claims.specs.Holders.{Holding, device_of}
+use Rattle.usb_tables.specs.Holders.{Holding, device_of}
 use Rattle.refine_world.specs.Shows.{Core, Shows}
 use Rattle.refine_world.proofs.Links.{known}
 use Rattle.refine_core.specs.Handles.{IsLeft, NameRests, StaysHeld, StaysLeft}

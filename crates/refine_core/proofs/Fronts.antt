@@ -14,8 +14,8 @@ use Rattle.usb_model.specs.Kept.{KeptEndpoint, KeptTransfer}
 use Rattle.usb_model.specs.Events.{find_at}
 use Rattle.usb_model.specs.Packets.{sent_before, serve_kept}
 use Rattle.usb_device.specs.Pipe.{answer_of, pipe_at}
-use Rattle.usb_transfer.specs.declared.transfer.Transfer.{Transfer as InFlight}
-use Rattle.usb_transfer.specs.Tds.{room_of}
+use Rattle.usb_tables.specs.declared.transfer.Transfer.{Transfer as InFlight}
+use Rattle.usb_tables.specs.Tds.{room_of}
 use Rattle.usb_rings.specs.Line.{IsAt as IsInRing, places}
 use Rattle.usb_rings.specs.Places.{address_of}
 use Rattle.usb_xhc.specs.declared.trb_at.TrbAt.{TrbAt}

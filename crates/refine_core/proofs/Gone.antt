@@ -12,8 +12,8 @@ use Rattle.usb_model.specs.Machine.Turns.{gone_after}
 use Rattle.usb_model.specs.Setup.{Setup, endpoints_of, interfaces_of, is_device}
 use Rattle.usb_model.specs.World.{Turn, World, is_blocked, machine_of, new_world, owner_of, turn, turn_by, turn_of, turn_of_nobody, world_after, world_from}
 use Rattle.usb_model.specs.Machine.Turns.{effect}
-use Rattle.usb_claims.specs.Holders as claims
-use Rattle.usb_claims.specs.Holders.{Holding, IsSetup, has_device}
+use Rattle.usb_tables.specs.Holders as claims
+use Rattle.usb_tables.specs.Holders.{Holding, IsSetup, has_device}
 use Rattle.usb_xhc.specs.Slots.{DeviceSlot}
 use Rattle.refine_world.specs.Shows.{Core, Shows}
 use Rattle.refine_rings.proofs.Lookups.{get_within}

@@ -10,7 +10,7 @@ use Rattle.usb_model.specs.Setup.{Setup, endpoint_id}
 use Rattle.usb_model.specs.World.{World, is_its}
 use Rattle.usb_model.specs.World.Shared.{pieces_of}
 use Rattle.usb_model.specs.Kept.{KeptEndpoint}
-use Rattle.usb_claims.specs.Holders.{device_of}
+use Rattle.usb_tables.specs.Holders.{device_of}
 use Rattle.usb_device.specs.Pipe.{cleared, pipe_at}
 use Rattle.usb_xhc.specs.Controller.{Controller, slot_changed}
 use Rattle.usb_tables.specs.Flights.{line_at}

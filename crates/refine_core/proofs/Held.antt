@@ -3,7 +3,7 @@ use Rattle.std.proofs.Common.{◌≡◌, ℕ, refl, sym, ◌∙◌, Option, Some
 use Rattle.std.specs.Option.{option_and_then}
 use Rattle.usb_model.specs.Setup.{Setup, interface_of}
 use Rattle.usb_model.specs.World.{Claims, holder}
-use Rattle.usb_claims.specs.Holders.{owner_of}
+use Rattle.usb_tables.specs.Holders.{owner_of}
 use Rattle.refine_world.specs.Shows.{Core}
 use Rattle.refine_core.specs.State.{Keeps, State}
 use Rattle.refine_core.specs.Works.{IsAt, IsHolder}

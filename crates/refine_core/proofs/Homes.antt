@@ -6,14 +6,14 @@ use Rattle.std.specs.Option.{option_and_then, option_map_or, unwrap_or}
 use Rattle.std.proofs.lemmas.Option.{same_Some, slice_get-map}
 use Rattle.usb_model.specs.declared.setup.Configuration.{Configuration}
 use Rattle.usb_model.specs.declared.setup.DeviceSetup.{DeviceSetup}
-use Rattle.usb_claims.specs.Holders.{device_of as device_at}
+use Rattle.usb_tables.specs.Holders.{device_of as device_at}
 use Rattle.std.proofs.lemmas.Bool.{ltb-true}
 use Rattle.std.proofs.lemmas.List.Quantifiers.{position-Some}
 use Rattle.usb_model.specs.declared.setup.EndpointInfo.{EndpointInfo}
 use Rattle.usb_model.specs.Setup.{Setup, endpoints_of}
 use Rattle.usb_model.specs.World.{holder, is_its}
 use Rattle.usb_model.specs.Kept.{KeptEndpoint, KeptTransfer}
-use Rattle.usb_transfer.specs.declared.transfer.Transfer.{Transfer as InFlight}
+use Rattle.usb_tables.specs.declared.transfer.Transfer.{Transfer as InFlight}
 use Rattle.usb_tables.specs.Flights.{is_number, line_at}
 use Rattle.refine_world.specs.Shows.{Core}
 use Rattle.refine_world.specs.Calls.{device_of, home_by, home_in, is_kept_it, kept_home, kept_in_progress, own_kept}

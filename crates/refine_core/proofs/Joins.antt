@@ -16,9 +16,9 @@ use Rattle.usb_model.specs.World.{Claims, World, holder, is_its}
 use Rattle.proof_model.proofs.Lists.Pieces.{same_name}
 use Rattle.proof_model.proofs.Handles.Alone.{is_its-some}
 use Rattle.usb_model.specs.Kept.{KeptEndpoint}
-use Rattle.usb_claims.specs.Holders.{device_of as device_at}
-use Rattle.usb_transfer.specs.Refusal.{checked}
-use Rattle.usb_transfer.specs.Tds.{Tds, tds_of}
+use Rattle.usb_tables.specs.Holders.{device_of as device_at}
+use Rattle.usb_tables.specs.Refusal.{checked}
+use Rattle.usb_tables.specs.Tds.{Tds, tds_of}
 use Rattle.usb_xhc.specs.Context.{Context}
 use Rattle.usb_xhc.specs.Slots.{DeviceSlot, context_of}
 use Rattle.usb_tables.specs.Callers.{number_of, results_at}

@@ -2,7 +2,7 @@
 use Rattle.std.proofs.Common.{◌≡◌, ℕ, ◌<◌, ◌≤◌, refl, sym, arith, true, Some, None, length, List, Option, [], ◌∷◌, ◌⊎◌, inl, inr}
 use Rattle.std.specs.Prelude.{slice_set}
 use Rattle.usb_model.specs.Setup.{Setup, endpoint_id, interface_of}
-use Rattle.usb_claims.specs.Tables.{is_plain}
+use Rattle.usb_tables.specs.Tables.{is_plain}
 use Rattle.usb_tables.specs.declared.outstanding.Sent.{Sent}
 use Rattle.usb_tables.specs.Outstanding.{sent_at}
 use Rattle.usb_tables.specs.ByEndpoint.{lane_at}

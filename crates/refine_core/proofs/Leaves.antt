@@ -9,10 +9,10 @@ use Rattle.usb_model.specs.declared.result.TransferResult.{TransferResult}
 use Rattle.usb_model.specs.declared.shared.Tagged.{Tagged}
 use Rattle.usb_model.specs.Setup.{Setup, endpoint_id}
 use Rattle.usb_model.specs.World.Shared.{pieces_of, tagged}
-use Rattle.usb_claims.specs.Tables.{is_plain}
+use Rattle.usb_tables.specs.Tables.{is_plain}
 use Rattle.usb_trb.specs.declared.kind.TrbKind.TheVariants.{NoOp}
 use Rattle.usb_model.specs.Kept.{KeptEndpoint, KeptTransfer}
-use Rattle.usb_transfer.specs.declared.transfer.Transfer.{Transfer as InFlight}
+use Rattle.usb_tables.specs.declared.transfer.Transfer.{Transfer as InFlight}
 use Rattle.usb_xhc.specs.Host.{with_blank, with_ring, without_first}
 use Rattle.usb_xhc.specs.Controller.{Controller, slot_changed}
 use Rattle.usb_xhc.specs.Slots.{changed}

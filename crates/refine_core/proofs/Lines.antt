@@ -5,7 +5,7 @@ use Rattle.std.specs.List.{prefix_len}
 use Rattle.std.proofs.lemmas.Option.{same_Some}
 use Rattle.usb_model.specs.Kept.{KeptTransfer}
 use Rattle.usb_model.specs.Events.{past_kept_blanks}
-use Rattle.usb_transfer.specs.declared.transfer.Transfer.{Transfer as InFlight}
+use Rattle.usb_tables.specs.declared.transfer.Transfer.{Transfer as InFlight}
 use Rattle.refine_core.specs.State.{AllItems, IsItem}
 
 module _ {P : Type 0} (name : Option ℕ) (e : ℕ) where

@@ -7,9 +7,9 @@ use Rattle.usb_model.specs.declared.shared.Tagged.{Tagged}
 use Rattle.usb_model.specs.Setup.{Setup, endpoint_id}
 use Rattle.usb_model.specs.World.{holder}
 use Rattle.usb_model.specs.World.Shared.{pieces_of}
-use Rattle.usb_claims.specs.Holders.{Holding, device_of, owner_of}
-use Rattle.usb_claims.specs.Tables.{is_plain}
-use Rattle.usb_transfer.specs.declared.transfer.Transfer.{Transfer as InFlight}
+use Rattle.usb_tables.specs.Holders.{Holding, device_of, owner_of}
+use Rattle.usb_tables.specs.Tables.{is_plain}
+use Rattle.usb_tables.specs.declared.transfer.Transfer.{Transfer as InFlight}
 use Rattle.usb_tables.specs.declared.outstanding.Sent.{Sent}
 use Rattle.usb_tables.specs.Outstanding.{sent_at}
 use Rattle.usb_xhc.specs.Controller.{Controller}

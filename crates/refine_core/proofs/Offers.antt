@@ -17,7 +17,7 @@ use Rattle.usb_model.specs.World.{Claims, World, holder}
 use Rattle.usb_model.specs.Kept.{KeptEndpoint, KeptTransfer}
 use Rattle.usb_model.specs.Packets.{room_at, sent_before}
 use Rattle.usb_device.specs.Pipe.{Pipe, pipe_at}
-use Rattle.usb_transfer.specs.declared.transfer.Transfer.{Transfer as InFlight}
+use Rattle.usb_tables.specs.declared.transfer.Transfer.{Transfer as InFlight}
 use Rattle.usb_xhc.specs.declared.trb_at.TrbAt.{TrbAt}
 use Rattle.usb_xhc.specs.Ahead.{room}
 use Rattle.usb_xhc.specs.Context.{Context, trbs}

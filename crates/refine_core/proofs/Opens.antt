@@ -9,7 +9,7 @@ use Rattle.usb_model.specs.declared.reply.Reply.TheVariants.{Done, Refused}
 use Rattle.usb_model.specs.declared.step.Step.TheVariants.{Open}
 use Rattle.usb_model.specs.Setup.{Setup, is_device}
 use Rattle.usb_model.specs.World.{is_its, World, claims_after}
-use Rattle.usb_claims.specs.Holders.{Holding, answer_of, device_of, has_device, open_refusal, owner_of}
+use Rattle.usb_tables.specs.Holders.{Holding, answer_of, device_of, has_device, open_refusal, owner_of}
 use Rattle.refine_world.specs.Shows.{Core, Shows}
 use Rattle.refine_world.specs.Steps.{rested}
 use Rattle.refine_world.specs.Calls.{is_open, open_core, rests, step_core}

@@ -21,7 +21,7 @@ use Rattle.usb_xhc.specs.Controller.{Controller, Run, run_of}
 use Rattle.refine_world.specs.Known.{KnowsOrder}
 use Rattle.refine_world.specs.Shows.{Core, RingOrder, Shows, event_at}
 use Rattle.refine_world.specs.Steps.{Stepped, carry_work, command_core, command_first, command_held, works}
-use Rattle.usb_claims.specs.Tables.{is_plain}
+use Rattle.usb_tables.specs.Tables.{is_plain}
 use Rattle.refine_world.proofs.Bounds.{few_everywhere}
 use Rattle.refine_world.proofs.FirstOrders.{orders_fit}
 use Rattle.refine_world.proofs.RunningEndpoints.{fresh_while_running}

@@ -5,7 +5,7 @@ use Rattle.std.proofs.lemmas.Bool.{eqb-true}
 use Rattle.std.proofs.lemmas.Option.{same_Some}
 use Rattle.usb_model.specs.declared.item.Ask.{Ask}
 use Rattle.usb_tables.specs.Callers.{SameNumbers, number_of}
-use Rattle.usb_transfer.specs.declared.transfer.Transfer.{Transfer as InFlight}
+use Rattle.usb_tables.specs.declared.transfer.Transfer.{Transfer as InFlight}
 use Rattle.usb_tables.specs.declared.ending.Ending.{Ending}
 use Rattle.usb_tables.specs.ByEndpoint.{lane_at}
 use Rattle.usb_tables.specs.Flights.{EndedOf, Flights, blanked_at, item_at, left_at, line_at, with_item, with_line}

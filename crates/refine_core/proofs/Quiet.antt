@@ -11,7 +11,7 @@ use Rattle.usb_model.specs.Setup.{Setup, endpoint_id, endpoints_of, info_of, int
 use Rattle.usb_model.specs.World.{holder, is_its}
 use Rattle.usb_model.specs.World.Shared.{pieces_of}
 use Rattle.usb_model.specs.Kept.{KeptEndpoint, KeptTransfer, SentErrand}
-use Rattle.usb_claims.specs.Tables.{is_plain}
+use Rattle.usb_tables.specs.Tables.{is_plain}
 use Rattle.usb_tables.specs.declared.outstanding.Sent.{Sent}
 use Rattle.usb_tables.specs.Outstanding.{sent_at}
 use Rattle.usb_tables.specs.Flights.{line_at}

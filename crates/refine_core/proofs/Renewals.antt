@@ -10,7 +10,7 @@ use Rattle.std.proofs.lemmas.List.{take_all}
 use Rattle.std.proofs.lemmas.List.Sums.{fold_more}
 use Rattle.usb_model.specs.declared.setup.Configuration.{Configuration}
 use Rattle.usb_descriptors.specs.Table.{info_at}
-use Rattle.usb_claims.specs.Holders.{Holding, IsSetup}
+use Rattle.usb_tables.specs.Holders.{Holding, IsSetup}
 use Rattle.refine_core.proofs.Gone.{endpoints_are}
 use Rattle.refine_core.proofs.Ringed.{IsBare, SameRings, rings_renewed}
 use Rattle.usb_model.specs.Kept.{KeptEndpoint, new_kept_endpoint}

@@ -12,14 +12,14 @@ use Rattle.usb_model.specs.Requests.{is_short_not_ok, length_of}
 use Rattle.usb_model.specs.Setup.{Setup, endpoint_id, interface_of}
 use Rattle.usb_model.specs.World.{World, holder}
 use Rattle.usb_model.specs.World.Shared.{pieces_of}
-use Rattle.usb_claims.specs.Holders.{IsSetup, owner_of}
-use Rattle.usb_claims.specs.declared.held.HeldEndpoint.{HeldEndpoint}
+use Rattle.usb_tables.specs.Holders.{IsSetup, owner_of}
+use Rattle.usb_tables.specs.declared.held.HeldEndpoint.{HeldEndpoint}
 use Rattle.usb_trb.specs.declared.kind.TrbKind.{TrbKind}
 use Rattle.usb_trb.specs.declared.kind.TrbKind.TheVariants.{TransferEvent}
 use Rattle.usb_rings.specs.Places.{address_of}
 use Rattle.usb_rings.specs.Line.{IsAt as IsInRing, Line, places}
-use Rattle.usb_transfer.specs.declared.transfer.Transfer.{Transfer as InFlight}
-use Rattle.usb_transfer.specs.Tds.{lengths, tds_of}
+use Rattle.usb_tables.specs.declared.transfer.Transfer.{Transfer as InFlight}
+use Rattle.usb_tables.specs.Tds.{lengths, tds_of}
 use Rattle.usb_model.specs.Kept.{KeptEndpoint, KeptTransfer, trbs_of}
 use Rattle.usb_model.specs.Events.{Reading, find_at, read_at, reading}
 use Rattle.usb_model.specs.Stands.{length_at, read_off}

@@ -11,7 +11,7 @@ use Rattle.usb_model.specs.declared.reply.Reply.TheVariants.{Done, Refused}
 use Rattle.usb_model.specs.declared.step.Step.TheVariants.{Reset}
 use Rattle.usb_model.specs.Setup.{Setup, endpoint_id, endpoints_of, interface_of, interfaces_of, script_of}
 use Rattle.usb_model.specs.World.{Claims, World, holder, is_its, is_others}
-use Rattle.usb_claims.specs.Holders.{device_of, others_hold, owner_of}
+use Rattle.usb_tables.specs.Holders.{device_of, others_hold, owner_of}
 use Rattle.usb_model.specs.Kept.{KeptEndpoint, new_kept_endpoint}
 use Rattle.usb_xhc.specs.Controller.{Controller}
 use Rattle.refine_world.specs.Calls as calling

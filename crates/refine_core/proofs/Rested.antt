@@ -11,11 +11,11 @@ use Rattle.usb_model.specs.Machine.Calls.{callback_of}
 use Rattle.usb_model.specs.Setup.{Setup, endpoint_id, interface_of}
 use Rattle.usb_model.specs.World.{holder}
 use Rattle.usb_model.specs.World.Shared.{pieces_of}
-use Rattle.usb_claims.specs.Holders.{Holding}
-use Rattle.usb_claims.specs.Tables.{is_plain}
+use Rattle.usb_tables.specs.Holders.{Holding}
+use Rattle.usb_tables.specs.Tables.{is_plain}
 use Rattle.usb_trb.specs.declared.kind.TrbKind.{TrbKind}
 use Rattle.usb_model.specs.Kept.{KeptEndpoint, KeptTransfer, SentErrand}
-use Rattle.usb_transfer.specs.declared.transfer.Transfer.{Transfer as InFlight}
+use Rattle.usb_tables.specs.declared.transfer.Transfer.{Transfer as InFlight}
 use Rattle.usb_tables.specs.declared.outstanding.Sent.{Sent}
 use Rattle.usb_tables.specs.Outstanding.{sent_at}
 use Rattle.usb_xhc.specs.Controller.{Controller}

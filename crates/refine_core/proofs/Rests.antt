@@ -12,9 +12,9 @@ use Rattle.usb_model.specs.Kept.{KeptEndpoint, KeptTransfer}
 use Rattle.usb_model.specs.Events.{find_at}
 use Rattle.usb_model.specs.Packets.{sent_before}
 use Rattle.usb_device.specs.Pipe.{pipe_at}
-use Rattle.usb_transfer.specs.declared.transfer.Transfer.{Transfer as InFlight}
-use Rattle.usb_transfer.specs.Tds.{room_of}
-use Rattle.usb_transfer.specs.Trbs.{buffer_of}
+use Rattle.usb_tables.specs.declared.transfer.Transfer.{Transfer as InFlight}
+use Rattle.usb_tables.specs.Tds.{room_of}
+use Rattle.usb_tables.specs.Trbs.{buffer_of}
 use Rattle.usb_xhc.specs.declared.trb_at.TrbAt.{TrbAt}
 use Rattle.usb_xhc.specs.Ahead.{lengths, room}
 use Rattle.usb_xhc.specs.Context.{Context, trbs}

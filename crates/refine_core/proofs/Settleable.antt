@@ -6,9 +6,9 @@ use Rattle.std.proofs.lemmas.List.{length-drop, length-map}
 use Rattle.std.proofs.lemmas.List.Sums.{prefix_len-le-length}
 use Rattle.std.proofs.lemmas.Option.{same_Some, slice_get_within}
 use Rattle.usb_tables.specs.Caller.{Kept as Caller}
-use Rattle.usb_cancel.specs.declared.ended.Mark.{Mark}
+use Rattle.usb_tables.specs.declared.ended.Mark.{Mark}
 use Rattle.usb_tables.specs.declared.outstanding.Sent.{Sent}
-use Rattle.usb_cancel.specs.Settlements.{fails_stop, mark_of, settled_by}
+use Rattle.usb_tables.specs.Settlements.{fails_stop, mark_of, settled_by}
 use Rattle.usb_model.specs.Settlements.{settle}
 use Rattle.usb_xhc.specs.Host.{rung, with_blank, with_ring, without_first}
 use Rattle.usb_xhc.specs.Controller.{Controller, slot_changed}
@@ -21,8 +21,8 @@ use Rattle.usb_model.specs.World.Shared.{pieces_of, tagged}
 use Rattle.proof_model.proofs.Lists.Pieces.{pieces_of-append}
 use Rattle.proof_model.proofs.Lists.Times.{count-cons}
 use Rattle.usb_model.specs.Kept.{KeptEndpoint, KeptTransfer}
-use Rattle.usb_cancel.specs.declared.ended.Settlement.{Settlement}
-use Rattle.usb_transfer.specs.declared.transfer.Transfer.{Transfer as InFlight}
+use Rattle.usb_tables.specs.declared.ended.Settlement.{Settlement}
+use Rattle.usb_tables.specs.declared.transfer.Transfer.{Transfer as InFlight}
 use Rattle.usb_tables.specs.Callers.{SameCallbacks, SameCounts, SameNumbers, is_there, results_at}
 use Rattle.usb_tables.specs.declared.ending.Ending.{Ending}
 use Rattle.usb_tables.specs.ByEndpoint.{lane_at}

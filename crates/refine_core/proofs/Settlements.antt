@@ -13,10 +13,10 @@ use Rattle.usb_model.specs.declared.result.TransferResult.{TransferResult}
 use Rattle.usb_model.specs.Kept.{KeptEndpoint, KeptTransfer, SentErrand}
 use Rattle.usb_model.specs.Events.{Handled, past_kept_blanks, posts}
 use Rattle.usb_model.specs.Settlements.{kept_blanked, leads_kept, resume_kept, settle, withdrawn_results}
-use Rattle.usb_cancel.specs.declared.ended.Settlement.{Settlement}
-use Rattle.usb_cancel.specs.declared.ended.Mark.{Mark}
-use Rattle.usb_cancel.specs.Settlements.{fails_stop, goes_on, line_by, mark_of, results_by, settled_by}
-use Rattle.usb_transfer.specs.declared.transfer.Transfer.{Transfer as InFlight}
+use Rattle.usb_tables.specs.declared.ended.Settlement.{Settlement}
+use Rattle.usb_tables.specs.declared.ended.Mark.{Mark}
+use Rattle.usb_tables.specs.Settlements.{fails_stop, goes_on, line_by, mark_of, results_by, settled_by}
+use Rattle.usb_tables.specs.declared.transfer.Transfer.{Transfer as InFlight}
 use Rattle.usb_tables.specs.Flights.{mark_in}
 use Rattle.refine_core.specs.State.{AllItems}
 

@@ -11,7 +11,7 @@ use Rattle.usb_model.specs.Setup.{Setup, packet_size_of}
 use Rattle.usb_model.specs.World.{World, holder, turn}
 use Rattle.usb_model.specs.Kept.{InRow, KeptEndpoint, KeptTransfer}
 use Rattle.usb_device.specs.Pipe.{answer_of, pipe_at}
-use Rattle.usb_transfer.specs.declared.transfer.Transfer.{Transfer as InFlight}
+use Rattle.usb_tables.specs.declared.transfer.Transfer.{Transfer as InFlight}
 use Rattle.usb_xhc.specs.declared.packet.Packet.{Packet as ServedPacket}
 use Rattle.usb_xhc.specs.declared.packet.Packet.TheVariants as served
 use Rattle.usb_xhc.specs.declared.trb_at.TrbAt.{TrbAt}

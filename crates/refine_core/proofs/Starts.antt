@@ -10,14 +10,14 @@ use Rattle.usb_model.specs.Machine.{is_callback_at}
 use Rattle.usb_model.specs.Machine.Calls.{callback_of}
 use Rattle.usb_model.specs.Setup.{endpoint_id, packet_size_of}
 use Rattle.usb_model.specs.World.Shared.{pieces_of}
-use Rattle.usb_claims.specs.Holders.{Holding, device_of}
-use Rattle.usb_claims.specs.Tables.{is_plain}
+use Rattle.usb_tables.specs.Holders.{Holding, device_of}
+use Rattle.usb_tables.specs.Tables.{is_plain}
 use Rattle.usb_model.specs.Kept.{KeptEndpoint, trbs_of}
 use Rattle.usb_model.specs.Joins.{joined, new_kept}
 use Rattle.usb_device.specs.Pipe.{pipe_at}
-use Rattle.usb_transfer.specs.declared.transfer.Transfer.{Transfer as InFlight}
-use Rattle.usb_transfer.specs.Tds.{tds_of}
-use Rattle.usb_transfer.specs.Trbs.{normals_of}
+use Rattle.usb_tables.specs.declared.transfer.Transfer.{Transfer as InFlight}
+use Rattle.usb_tables.specs.Tds.{tds_of}
+use Rattle.usb_tables.specs.Trbs.{normals_of}
 use Rattle.usb_rings.specs.Line.{capacity, normals, used}
 use Rattle.usb_xhc.specs.Context.{Context}
 use Rattle.usb_xhc.specs.Host.{with_pushed, with_ring}

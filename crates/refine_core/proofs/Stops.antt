@@ -16,8 +16,8 @@ use Rattle.usb_model.specs.Machine.Calls.{callback_of, without}
 use Rattle.usb_model.specs.Setup.{Setup, endpoint_id}
 use Rattle.usb_model.specs.World.{World}
 use Rattle.usb_model.specs.World.Shared.{pieces_of}
-use Rattle.usb_claims.specs.Holders.{device_of}
-use Rattle.usb_claims.specs.Tables.{is_plain}
+use Rattle.usb_tables.specs.Holders.{device_of}
+use Rattle.usb_tables.specs.Tables.{is_plain}
 use Rattle.usb_tables.specs.Caller.{Kept as Caller, is_one_of}
 use Rattle.usb_tables.specs.Callers.{SameNumbers, SameResults, callback_at, callbacks_at, is_there}
 use Rattle.refine_world.specs.Calls.{answer_core, called_back, step_core}

@@ -15,11 +15,11 @@ use Rattle.usb_model.specs.Setup.{Setup, endpoint_id}
 use Rattle.usb_model.specs.World.Shared.{past_first, pieces_of}
 use Rattle.proof_model.proofs.Lists.Pieces.{same_name}
 use Rattle.proof_model.proofs.Lists.Times.{count-cons}
-use Rattle.usb_claims.specs.Holders.{Holding, device_of}
-use Rattle.usb_claims.specs.Tables.{is_plain}
+use Rattle.usb_tables.specs.Holders.{Holding, device_of}
+use Rattle.usb_tables.specs.Tables.{is_plain}
 use Rattle.usb_tables.specs.Caller.{Kept as Caller}
 use Rattle.usb_tables.specs.Callers.{SameCallbacks, SameCounts, SameNumbers, SameResults, callback_at, callbacks_at, is_there, results_at}
-use Rattle.usb_transfer.specs.declared.transfer.Transfer.{Transfer as InFlight}
+use Rattle.usb_tables.specs.declared.transfer.Transfer.{Transfer as InFlight}
 use Rattle.usb_tables.specs.Flights.{EndedOf}
 use Rattle.refine_world.specs.Shows.{Core}
 use Rattle.refine_world.specs.Steps.{Stepped, idle, take_core, take_first, with_out}

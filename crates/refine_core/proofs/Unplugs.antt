@@ -7,7 +7,7 @@ use Rattle.usb_model.specs.declared.reply.Reply.TheVariants.{Done, Refused}
 use Rattle.usb_model.specs.declared.step.Step.TheVariants.{Unplug}
 use Rattle.usb_model.specs.Machine.Turns.{gone_after}
 use Rattle.usb_model.specs.Setup.{Setup, is_device}
-use Rattle.usb_claims.specs.Holders.{has_device}
+use Rattle.usb_tables.specs.Holders.{has_device}
 use Rattle.usb_xhc.specs.Controller.{Controller, slot_changed}
 use Rattle.refine_world.specs.Shows.{Core}
 use Rattle.refine_world.specs.Calls.{step_core, unplug_core}

@@ -16,7 +16,7 @@ use Rattle.usb_model.specs.World.Shared.{tagged}
 use Rattle.usb_model.specs.Kept.{KeptEndpoint, KeptTransfer}
 use Rattle.usb_model.specs.Events.{kept_result}
 use Rattle.usb_model.specs.Settlements.{kept_blanked, kept_withdrawn, withdrawn_results}
-use Rattle.usb_transfer.specs.declared.transfer.Transfer.{Transfer as InFlight}
+use Rattle.usb_tables.specs.declared.transfer.Transfer.{Transfer as InFlight}
 use Rattle.usb_tables.specs.declared.ending.Ending.{Ending}
 use Rattle.usb_tables.specs.Flights.{item_at, line_at}
 use Rattle.refine_world.specs.Shows.{Core}

@@ -10,7 +10,7 @@ use Rattle.usb_model.specs.Endpoint.Status.{halts, told_status}
 use Rattle.usb_model.specs.Machine.{is_result_at}
 use Rattle.usb_model.specs.Requests.{is_short_not_ok, is_unsupported, length_of}
 use Rattle.usb_model.specs.World.Shared.{pieces_of, tagged}
-use Rattle.usb_transfer.specs.declared.transfer.Transfer.{Transfer as InFlight}
+use Rattle.usb_tables.specs.declared.transfer.Transfer.{Transfer as InFlight}
 use Rattle.usb_model.specs.Settlements.{kept_blanked, withdrawn_results}
 use Rattle.refine_world.specs.Known.{NoMove}
 use Rattle.refine_core.specs.Works.{IsAt, with_kept}

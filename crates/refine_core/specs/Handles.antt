@@ -11,7 +11,7 @@ use Rattle.usb_model.specs.declared.setup.EndpointInfo.{EndpointInfo}
 use Rattle.usb_model.specs.Setup.{endpoint_id, Setup, interface_of}
 use Rattle.usb_model.specs.World.{holder}
 use Rattle.usb_model.specs.Kept.{KeptEndpoint}
-use Rattle.usb_claims.specs.Holders.{Holding, device_of, owner_of}
+use Rattle.usb_tables.specs.Holders.{Holding, device_of, owner_of}
 use Rattle.usb_tables.specs.Outstanding.{sent_at}
 use Rattle.usb_xhc.specs.Controller.{Controller}
 use Rattle.usb_tables.specs.Flights.{line_at}

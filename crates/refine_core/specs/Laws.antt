@@ -29,9 +29,9 @@ use Rattle.refine_world.specs.Shows.{Core, Shows}
 use Rattle.refine_core.specs.State.{IsState, State}
 use Rattle.refine_core.specs.Steps.{DoesCoreStep, DoesCoreSteps, TurnsInRow, TurnsWorld}
 use Rattle.refine_core.specs.Works.{Asks, CanServeItem, CanSkimItem, Finishes, IsAt, IsFront, IsHolder, IsUnstarted, Leaves, MovesPacket, Pauses, Posts, Resumes, Starts, Withdraws, context_in, leading, order_by}
-use Rattle.usb_transfer.specs.Tds.{tds_of}
-use Rattle.usb_transfer.specs.Trbs.{normals_of}
-use Rattle.usb_transfer.specs.declared.transfer.Transfer.{Transfer as InFlight}
+use Rattle.usb_tables.specs.Tds.{tds_of}
+use Rattle.usb_tables.specs.Trbs.{normals_of}
+use Rattle.usb_tables.specs.declared.transfer.Transfer.{Transfer as InFlight}
 use Rattle.usb_rings.specs.Line.{capacity, normals, used}
 use Rattle.usb_xhc.specs.Controller.{Controller, served_at, slot_changed, told_at}
 use Rattle.usb_xhc.specs.Skims.{controller_skimmed}

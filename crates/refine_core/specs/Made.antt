@@ -4,7 +4,7 @@ use Rattle.usb_model.specs.declared.setup.Configuration.{Configuration}
 use Rattle.usb_model.specs.declared.setup.DeviceSetup.{DeviceSetup}
 use Rattle.usb_model.specs.Setup.{Setup}
 use Rattle.usb_descriptors.specs.Table.{IsTable}
-use Rattle.usb_claims.specs.Holders.{device_of, owner_of}
+use Rattle.usb_tables.specs.Holders.{device_of, owner_of}
 use Rattle.usb_tables.specs.Outstanding.{sent_at}
 use Rattle.usb_xhc.specs.Controller.{AreLawfulAll, Controller, all_renewed}
 use Rattle.usb_xhc.specs.Slots.{DeviceSlot}

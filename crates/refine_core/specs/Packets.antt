@@ -10,7 +10,7 @@ use Rattle.usb_xhc.specs.Skims.{controller_read}
 use Rattle.usb_xhc.specs.Transaction.{offset_by, packet_room, working}
 use Rattle.usb_xhc.specs.Controller.{Controller}
 use Rattle.usb_xhc.specs.Slots.{DeviceSlot, context_of, read_after, sends}
-use Rattle.usb_transfer.specs.declared.transfer.Transfer.{Transfer}
+use Rattle.usb_tables.specs.declared.transfer.Transfer.{Transfer}
 use Rattle.usb_tables.specs.Flights.{Flights, with_item}
 
 -- what is sent of a transfer's body

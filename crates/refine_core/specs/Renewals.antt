@@ -5,7 +5,7 @@ use Rattle.std.specs.Option.{option_map_or}
 use Rattle.usb_model.specs.declared.setup.EndpointInfo.{EndpointInfo}
 use Rattle.usb_model.specs.Setup.{Setup, endpoints_of, interface_of}
 use Rattle.usb_model.specs.World.{holder, is_its}
-use Rattle.usb_claims.specs.Holders.{Holding, IsSetup, owner_of}
+use Rattle.usb_tables.specs.Holders.{Holding, IsSetup, owner_of}
 use Rattle.usb_xhc.specs.Controller.{Controller, slot_changed}
 use Rattle.usb_xhc.specs.Slots.{renewed}
 

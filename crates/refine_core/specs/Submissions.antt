@@ -8,7 +8,7 @@ use Rattle.usb_model.specs.Limits.{last_number, most_bytes}
 use Rattle.usb_model.specs.Requests.{length_of}
 use Rattle.usb_model.specs.Setup.{Setup, packet_size_of}
 use Rattle.usb_model.specs.Kept.{trbs_of}
-use Rattle.usb_transfer.specs.Tds.{Tds, tds_of}
+use Rattle.usb_tables.specs.Tds.{Tds, tds_of}
 use Rattle.usb_rings.specs.Line.{capacity, used}
 use Rattle.usb_xhc.specs.Context.{Context}
 use Rattle.usb_tables.specs.Callers.{number_of}

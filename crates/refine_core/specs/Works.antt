@@ -23,8 +23,8 @@ use Rattle.usb_xhc.specs.Transaction.{working}
 use Rattle.usb_model.specs.Kept.{KeptEndpoint, KeptTransfer}
 use Rattle.usb_model.specs.Joins.{joined}
 use Rattle.usb_model.specs.Packets.{Answered, serve_kept}
-use Rattle.usb_transfer.specs.declared.transfer.Transfer.{Transfer as InFlight}
-use Rattle.usb_transfer.specs.Tds.{room_of}
+use Rattle.usb_tables.specs.declared.transfer.Transfer.{Transfer as InFlight}
+use Rattle.usb_tables.specs.Tds.{room_of}
 use Rattle.usb_xhc.specs.Context.{Context}
 use Rattle.usb_xhc.specs.Controller.{Controller}
 use Rattle.usb_xhc.specs.Slots.{context_of}
@@ -35,7 +35,7 @@ use Rattle.refine_rings.specs.Reports.{reply_of}
 use Rattle.refine_world.specs.Shows.{Core, Shows, event_at, order_at}
 use Rattle.refine_rings.specs.Holds.{with_end}
 use Rattle.refine_world.specs.Known.{NoMove}
-use Rattle.usb_claims.specs.Holders.{IsSetup, owner_of}
+use Rattle.usb_tables.specs.Holders.{IsSetup, owner_of}
 use Rattle.refine_core.specs.State.{Keeps, State}
 
 -- what the controller keeps of an endpoint

@@ -8,8 +8,8 @@ use Rattle.usb_trb.specs.declared.kind.TrbKind.{TrbKind}
 use Rattle.usb_trb.specs.declared.kind.TrbKind.TheVariants.{Normal, NoOp}
 use Rattle.usb_model.specs.Kept.{InRow, KeptTransfer, first_place}
 use Rattle.usb_model.specs.Events.{past_kept_blanks}
-use Rattle.usb_transfer.specs.Tds.{tds_of}
-use Rattle.usb_transfer.specs.Trbs.{normals_of, buffer_of}
+use Rattle.usb_tables.specs.Tds.{tds_of}
+use Rattle.usb_tables.specs.Trbs.{normals_of, buffer_of}
 use Rattle.usb_rings.specs.Line.{Line, all_of, contents, no_ops, normals, used}
 use Rattle.usb_xhc.specs.Ahead.{ahead, trbs_ahead}
 use Rattle.refine_rings.specs.Line.{AllItems, IsLine, IsSent}

@@ -10,9 +10,9 @@ use Rattle.usb_model.specs.Stands.{length_at, lengths_of, stand, total}
 use Rattle.usb_model.specs.Kept.{KeptEndpoint, KeptTransfer, is_extra}
 use Rattle.usb_model.specs.Events.{find_at}
 use Rattle.usb_model.specs.Packets.{packet_by, room_at, sent_before, walk}
-use Rattle.usb_transfer.specs.Tds.{tds_of}
-use Rattle.usb_transfer.specs.Trbs.{buffer_of, normals_of}
-use Rattle.usb_transfer.proofs.Pieces.{normals_at_lengths}
+use Rattle.usb_tables.specs.Tds.{tds_of}
+use Rattle.usb_tables.specs.Trbs.{buffer_of, normals_of}
+use Rattle.usb_tables.proofs.Pieces.{normals_at_lengths}
 use Rattle.usb_xhc.specs.Ahead.{goes_on, lengths, room}
 use Rattle.usb_xhc.specs.Context.{Context, stand_by, trbs}
 use Rattle.usb_xhc.specs.Transaction.{offset_by, packet_in, packet_room}

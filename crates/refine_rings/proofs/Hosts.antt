@@ -11,9 +11,9 @@ use Rattle.usb_model.specs.Stands.{length_at, total}
 use Rattle.usb_model.specs.Kept.{InRow, KeptEndpoint, KeptTransfer, first_place, trbs_of}
 use Rattle.usb_model.specs.Events.{covers, find_at}
 use Rattle.usb_model.specs.Joins.{joined, new_kept}
-use Rattle.usb_transfer.specs.Tds.{tds_of}
-use Rattle.usb_transfer.specs.Trbs.{buffer_of, normals_of}
-use Rattle.usb_transfer.proofs.Pieces.{normals_at_count}
+use Rattle.usb_tables.specs.Tds.{tds_of}
+use Rattle.usb_tables.specs.Trbs.{buffer_of, normals_of}
+use Rattle.usb_tables.proofs.Pieces.{normals_at_count}
 use Rattle.usb_rings.specs.Line.{Line, normals, used}
 use Rattle.usb_xhc.specs.Context.{Context}
 use Rattle.usb_xhc.specs.Host.{with_ring, with_pushed, with_blank, without_first}

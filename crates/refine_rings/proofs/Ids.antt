@@ -7,7 +7,7 @@ use Rattle.std.proofs.lemmas.Option.{slice_get_within}
 use Rattle.usb_model.specs.declared.setup.DeviceSetup.{DeviceSetup}
 use Rattle.usb_model.specs.declared.setup.EndpointInfo.{EndpointInfo}
 use Rattle.usb_model.specs.Setup.{Setup, endpoint_id, info_of, interface_of, is_in}
-use Rattle.usb_claims.specs.Tables.{address_of_id, is_plain}
+use Rattle.usb_tables.specs.Tables.{address_of_id, is_plain}
 
 -- an id is below 32
 pub id-lt : (e : ℕ) → endpoint_id e < 32

@@ -12,7 +12,7 @@ use Rattle.usb_model.specs.declared.setup.EndpointInfo.{EndpointInfo}
 use Rattle.usb_model.specs.declared.request.Kind.TheVariants.{Control}
 use Rattle.usb_model.specs.Requests.{is_unsupported}
 use Rattle.usb_model.specs.Setup.{Setup, endpoint_id, info_of, interface_of, is_in, kind_of, packet_size_of, script_at, script_of}
-use Rattle.usb_claims.specs.Tables.{is_plain}
+use Rattle.usb_tables.specs.Tables.{is_plain}
 use Rattle.usb_descriptors.specs.Table.{IsNumbered, IsTable, info_at}
 use Rattle.usb_model.specs.Kept.{KeptEndpoint, new_kept_endpoint}
 use Rattle.usb_device.specs.Pipe.{Pipe, no_pipe, pipe_at, rewound}

@@ -8,9 +8,9 @@ use Rattle.usb_model.specs.declared.response.Response.TheVariants as response
 use Rattle.usb_trb.specs.declared.kind.Normal.{Normal as NormalTrb}
 use Rattle.usb_model.specs.Stands.{full_trbs, lengths_of, total}
 use Rattle.usb_model.specs.Packets.{packet_by}
-use Rattle.usb_transfer.specs.Tds.{Tds, lengths as lengths_by}
-use Rattle.usb_transfer.specs.Trbs.{buffer_of, normal_at, normals_at, td_at}
-use Rattle.usb_transfer.proofs.Pieces.{td_at-lengths}
+use Rattle.usb_tables.specs.Tds.{Tds, lengths as lengths_by}
+use Rattle.usb_tables.specs.Trbs.{buffer_of, normal_at, normals_at, td_at}
+use Rattle.usb_tables.proofs.Pieces.{td_at-lengths}
 use Rattle.usb_xhc.specs.Ahead.{goes_on, lengths}
 use Rattle.refine_rings.proofs.Trbs.{EndsTd, chained_ends, more_behind, normals_plain, same_lengths, some_pieces, td_chained, td_last}
 

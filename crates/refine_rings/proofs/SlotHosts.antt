@@ -11,8 +11,8 @@ use Rattle.usb_model.specs.Setup.{Setup, endpoint_id, interface_of, packet_size_
 use Rattle.usb_model.specs.Kept.{KeptEndpoint, KeptTransfer, trbs_of}
 use Rattle.usb_model.specs.Joins.{joined, new_kept}
 use Rattle.usb_device.specs.Pipe.{Pipe, pipe_at}
-use Rattle.usb_transfer.specs.Tds.{tds_of}
-use Rattle.usb_transfer.specs.Trbs.{normals_of}
+use Rattle.usb_tables.specs.Tds.{tds_of}
+use Rattle.usb_tables.specs.Trbs.{normals_of}
 use Rattle.usb_rings.specs.Line.{capacity, normals, used}
 use Rattle.usb_xhc.specs.Context.{Context}
 use Rattle.usb_xhc.specs.Host.{rung, state_by_doorbell, with_ring, with_pushed, with_blank, without_first}

@@ -9,8 +9,8 @@ use Rattle.usb_trb.specs.declared.kind.TrbKind.{TrbKind}
 use Rattle.usb_trb.specs.declared.kind.TrbKind.TheVariants.{Normal}
 use Rattle.usb_model.specs.Stands.{full_trbs, lengths_of}
 use Rattle.usb_model.specs.Kept.{is_extra, trbs_of}
-use Rattle.usb_transfer.specs.Tds.{Tds}
-use Rattle.usb_transfer.specs.Trbs.{normal_at, normals_at, td_at, lengths_in}
+use Rattle.usb_tables.specs.Tds.{Tds}
+use Rattle.usb_tables.specs.Trbs.{normal_at, normals_at, td_at, lengths_in}
 use Rattle.usb_rings.specs.Line.{normals}
 use Rattle.usb_xhc.specs.Ahead.{ahead, goes_on, lengths}
 

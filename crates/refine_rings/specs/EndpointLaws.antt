@@ -20,8 +20,8 @@ use Rattle.usb_model.specs.Packets.{Answered, answer_now, got, packet_now, sent_
 use Rattle.usb_model.specs.Commands as kept
 use Rattle.usb_model.specs.Joins.{joined}
 use Rattle.usb_device.specs.Pipe.{Pipe, answer_of, bytes_after, pipe_after, rewound}
-use Rattle.usb_transfer.specs.Tds.{tds_of}
-use Rattle.usb_transfer.specs.Trbs.{normals_of}
+use Rattle.usb_tables.specs.Tds.{tds_of}
+use Rattle.usb_tables.specs.Trbs.{normals_of}
 use Rattle.usb_rings.specs.Line.{IsAt, capacity, normals, place_of, places, used}
 use Rattle.usb_xhc.specs.declared.trb_at.TrbAt.{TrbAt}
 use Rattle.usb_xhc.specs.Context.{Context, configured}

@@ -10,7 +10,7 @@ use Rattle.usb_model.specs.declared.setup.DeviceSetup.{DeviceSetup}
 use Rattle.usb_model.specs.Limits.{most_bytes}
 use Rattle.usb_model.specs.Requests.{length_of}
 use Rattle.usb_model.specs.Setup.{Setup, endpoint_id, interface_of, packet_size_of, script_of}
-use Rattle.usb_claims.specs.Tables.{is_plain}
+use Rattle.usb_tables.specs.Tables.{is_plain}
 use Rattle.usb_descriptors.specs.Table.{IsTable}
 use Rattle.usb_trb.specs.declared.kind.TrbKind.{TrbKind}
 use Rattle.usb_rings.specs.Places.{index_of}
@@ -20,8 +20,8 @@ use Rattle.usb_model.specs.Packets.{Answered, answer_now, got, packet_now, serve
 use Rattle.usb_model.specs.Commands as kept
 use Rattle.usb_model.specs.Joins.{joined}
 use Rattle.usb_device.specs.Pipe.{IsLawful, Pipe, cleared, pipe_at}
-use Rattle.usb_transfer.specs.Tds.{tds_of}
-use Rattle.usb_transfer.specs.Trbs.{normals_of}
+use Rattle.usb_tables.specs.Tds.{tds_of}
+use Rattle.usb_tables.specs.Trbs.{normals_of}
 use Rattle.usb_rings.specs.Line.{capacity, normals, used}
 use Rattle.usb_xhc.specs.declared.packet.Packet.{Packet as Told}
 use Rattle.usb_xhc.specs.Context.{Context}

@@ -5,8 +5,8 @@ use Rattle.usb_model.specs.Requests.{length_of}
 use Rattle.usb_trb.specs.declared.kind.TrbKind.{TrbKind}
 use Rattle.usb_trb.specs.declared.kind.TrbKind.TheVariants.{NoOp}
 use Rattle.usb_model.specs.Kept.{InRow, KeptTransfer, first_place, trbs_of}
-use Rattle.usb_transfer.specs.Tds.{tds_of}
-use Rattle.usb_transfer.specs.Trbs.{normals_of}
+use Rattle.usb_tables.specs.Tds.{tds_of}
+use Rattle.usb_tables.specs.Trbs.{normals_of}
 use Rattle.usb_rings.specs.Line.{Line, capacity, normals, places}
 
 -- the TRBs of a transfer in progress, under some key, at an endpoint of this packet size

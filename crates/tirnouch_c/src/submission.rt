@@ -4,7 +4,7 @@ ghost use Rattle.std.specs.Prelude.{◌≡◌, IfOk, IfSome, OnErr, Some, is_som
 ghost use Rattle.usb_model.specs.declared.refused.Refused.TheVariants.{NoMem};
 ghost use Rattle.usb_model.specs.declared.reply.Reply.TheVariants.{Refused as IsRefused};
 ghost use Rattle.usb_model.specs.declared.request.Body.TheVariants.{In};
-ghost use Rattle.usb_transfer.specs.Tds.{memory_left};
+ghost use Rattle.usb_tables.specs.Tds.{memory_left};
 ghost use Rattle.tirnouch_c.specs.Told.{code_of, told_of};
 ghost use Rattle.tirnouch_c.specs.Submission.{Submits, body_by, kind_by, request_by, request_over};
 

@@ -6,7 +6,7 @@ ghost use Rattle.usb_model.specs.declared.reply.Reply.TheVariants.{Number, Refus
 ghost use Rattle.usb_model.specs.declared.step.Step.TheVariants.{Answer, Deliver, Expire, Serve, Submit, Take};
 ghost use Rattle.usb_model.specs.declared.verdict.Verdict.TheVariants.{Again, AgainWith, Stop};
 ghost use Rattle.usb_model.specs.World.{new_world};
-ghost use Rattle.usb_transfer.specs.Tds.{memory_left};
+ghost use Rattle.usb_tables.specs.Tds.{memory_left};
 ghost use Rattle.refine_core.specs.Calls.{Stays, called_entry};
 ghost use Rattle.refine_core.specs.Payloads.{Carries, CarriesMore, Kept, StillCarries};
 ghost use Rattle.refine_core.specs.Made.{setup_of};

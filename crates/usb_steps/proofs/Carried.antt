@@ -3,7 +3,7 @@ use Rattle.std.proofs.Common.{◌≡◌, ℕ, refl, sym, subst, List, Option, So
 use Rattle.std.specs.Prelude.{IsSome}
 use Rattle.usb_tables.specs.Caller.{Kept as Caller}
 use Rattle.usb_tables.specs.Callers.{SameNumbers}
-use Rattle.usb_transfer.specs.declared.transfer.Transfer.{Transfer as InFlight}
+use Rattle.usb_tables.specs.declared.transfer.Transfer.{Transfer as InFlight}
 use Rattle.usb_tables.specs.Flights.{Flights, item_at}
 use Rattle.usb_tables.specs.declared.ending.Ending.{Ending}
 use Rattle.refine_core.specs.Payloads.{StillCarries}

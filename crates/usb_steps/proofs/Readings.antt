@@ -10,18 +10,18 @@ use Rattle.usb_model.specs.Events.{kept_result}
 use Rattle.usb_model.specs.Stands.{length_at, read_off}
 use Rattle.usb_model.specs.Endpoint.Status.{told_status}
 use Rattle.usb_model.specs.Requests.{is_short_not_ok, length_of}
-use Rattle.usb_completion.specs.Events.{read_target, told_of_target}
-use Rattle.usb_completion.specs.declared.target.Reading.{Reading}
-use Rattle.usb_completion.specs.declared.target.Reading.TheVariants.{Ended, Paused, Stray}
-use Rattle.usb_claims.specs.declared.held.HeldEndpoint.{HeldEndpoint}
+use Rattle.usb_tables.specs.Events.{read_target, told_of_target}
+use Rattle.usb_tables.specs.declared.target.Reading.{Reading}
+use Rattle.usb_tables.specs.declared.target.Reading.TheVariants.{Ended, Paused, Stray}
+use Rattle.usb_tables.specs.declared.held.HeldEndpoint.{HeldEndpoint}
 use Rattle.usb_xhc.specs.Context.{Context}
 use Rattle.usb_tables.specs.declared.ending.Ending.{Ending}
 use Rattle.refine_core.proofs.Reports.{IsFound, tells_all}
 use Rattle.refine_world.specs.Shows.{Core}
 use Rattle.refine_core.specs.Deliveries.{Tells, ending_of, is_gone}
 use Rattle.refine_core.specs.State.{State}
-use Rattle.usb_transfer.specs.Tds.{lengths, tds_of}
-use Rattle.usb_transfer.specs.declared.transfer.Transfer.{Transfer as InFlight}
+use Rattle.usb_tables.specs.Tds.{lengths, tds_of}
+use Rattle.usb_tables.specs.declared.transfer.Transfer.{Transfer as InFlight}
 use Rattle.usb_steps.specs.declared.reports.Report.{Report}
 use Rattle.usb_steps.specs.Reports.{IsTold, target_of}
 

@@ -11,8 +11,8 @@ use Rattle.usb_model.specs.declared.step.Step.TheVariants.{Command}
 use Rattle.usb_model.specs.Setup.{Setup, endpoint_id}
 use Rattle.usb_model.specs.World.{holder}
 use Rattle.usb_trb.specs.declared.kind.TrbKind.{TrbKind}
-use Rattle.usb_claims.specs.Holders.{Holding, IsSetup, owner_of}
-use Rattle.usb_claims.specs.declared.held.HeldEndpoint.{HeldEndpoint}
+use Rattle.usb_tables.specs.Holders.{Holding, IsSetup, owner_of}
+use Rattle.usb_tables.specs.declared.held.HeldEndpoint.{HeldEndpoint}
 use Rattle.usb_xhc.specs.Controller.{Controller, run_of}
 use Rattle.refine_world.specs.Calls.{step_core}
 use Rattle.refine_world.specs.Shows.{Core}

@@ -19,11 +19,11 @@ use Rattle.usb_model.specs.Setup.{endpoint_id}
 use Rattle.usb_model.specs.World.Shared.{past_first, pieces_of}
 use Rattle.proof_model.proofs.Lists.Pieces.{same_name}
 use Rattle.proof_model.proofs.Lists.Times.{count-cons}
-use Rattle.usb_claims.specs.Holders.{Holding, device_of}
-use Rattle.usb_claims.specs.Tables.{is_plain}
+use Rattle.usb_tables.specs.Holders.{Holding, device_of}
+use Rattle.usb_tables.specs.Tables.{is_plain}
 use Rattle.usb_tables.specs.Caller.{Kept as Caller}
 use Rattle.usb_tables.specs.Callers.{SameCallbacks, SameCounts, SameNumbers, is_there, results_at}
-use Rattle.usb_transfer.specs.declared.transfer.Transfer.{Transfer as InFlight}
+use Rattle.usb_tables.specs.declared.transfer.Transfer.{Transfer as InFlight}
 use Rattle.usb_tables.specs.Flights.{EndedOf}
 use Rattle.refine_world.specs.Calls.{answer_core, called_back, step_core}
 use Rattle.refine_world.specs.Shows.{Core}

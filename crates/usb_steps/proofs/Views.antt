@@ -1,7 +1,7 @@
 -- The parts as contracts see them.
 use Rattle.std.proofs.Common.{List, Option}
-use Rattle.usb_claims.specs.Holders.{Holding}
-use Rattle.usb_transfer.specs.declared.transfer.Transfer.{Transfer as InFlight}
+use Rattle.usb_tables.specs.Holders.{Holding}
+use Rattle.usb_tables.specs.declared.transfer.Transfer.{Transfer as InFlight}
 use Rattle.usb_tables.specs.declared.outstanding.Sent.{Sent}
 use Rattle.usb_xhc.specs.Controller.{Controller}
 use Rattle.usb_tables.specs.Flights.{Flights}

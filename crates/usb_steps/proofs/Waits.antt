@@ -16,7 +16,7 @@ use Rattle.usb_model.specs.Kept.{KeptEndpoint, KeptTransfer, SentErrand}
 use Rattle.usb_model.specs.Endpoint.Deliver.{needs_reset}
 use Rattle.usb_model.specs.Events.{Reading, errand_of, finish, past_kept_blanks}
 use Rattle.usb_model.specs.Settlements.{leads_kept, pauses, kept_blanked, resume_kept, settle}
-use Rattle.usb_transfer.specs.declared.transfer.Transfer.{Transfer as InFlight}
+use Rattle.usb_tables.specs.declared.transfer.Transfer.{Transfer as InFlight}
 use Rattle.usb_tables.specs.Flights.{EndedOf}
 use Rattle.refine_world.specs.Known.{KnowsEvent}
 use Rattle.refine_world.specs.Shows.{Completes, Core, RingEvent, RingOrder, Shows, Transfers}

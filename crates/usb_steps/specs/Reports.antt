@@ -7,11 +7,11 @@ use Rattle.usb_model.specs.declared.reply.Reply.{Reply}
 use Rattle.usb_model.specs.Events.{kept_result}
 use Rattle.usb_model.specs.Kept.{KeptTransfer}
 use Rattle.usb_model.specs.Stands.{length_at, total}
-use Rattle.usb_completion.specs.declared.target.Reading.{Reading}
-use Rattle.usb_completion.specs.declared.target.Reading.TheVariants.{Ended, Paused}
-use Rattle.usb_completion.specs.declared.target.Target.{Target}
-use Rattle.usb_transfer.specs.declared.transfer.Transfer.{Transfer}
-use Rattle.usb_transfer.specs.Tds.{lengths, tds_of}
+use Rattle.usb_tables.specs.declared.target.Reading.{Reading}
+use Rattle.usb_tables.specs.declared.target.Reading.TheVariants.{Ended, Paused}
+use Rattle.usb_tables.specs.declared.target.Target.{Target}
+use Rattle.usb_tables.specs.declared.transfer.Transfer.{Transfer}
+use Rattle.usb_tables.specs.Tds.{lengths, tds_of}
 use Rattle.refine_world.specs.Shows.{Core}
 use Rattle.refine_world.specs.Steps.{deliver_core}
 use Rattle.refine_core.specs.Deliveries.{Tells}

@@ -2,7 +2,7 @@
 use Rattle.std.specs.Prelude.{◌≡◌, ℕ, suc, List, ◌∷◌, Option, Some, None}
 use Rattle.usb_model.specs.declared.errand.Errand.{Errand}
 use Rattle.usb_model.specs.Setup.{Setup}
-use Rattle.usb_claims.specs.declared.held.HeldEndpoint.{HeldEndpoint}
+use Rattle.usb_tables.specs.declared.held.HeldEndpoint.{HeldEndpoint}
 use Rattle.refine_world.specs.Shows.{Completes, Core, RingEvent}
 use Rattle.refine_core.specs.Deliveries.{SentIs, Settles}
 use Rattle.refine_core.specs.State.{State}

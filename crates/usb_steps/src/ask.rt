@@ -10,9 +10,9 @@ ghost use Rattle.refine_core.specs.Steps.{AskedAt, AsksToEnd, CanAsk, DoesCoreSt
 ghost use Rattle.usb_steps.specs.Homes.{HomeIs, is_askable};
 
 use crate::parts::Parts;
-use usb_cancel::ask;
 use usb_device::Device;
 use usb_model::{Ask, DeviceNo, EpAddr, Name, Refused, Reply};
+use usb_tables::ask;
 
 /// Where a transfer in progress stands.
 #[derive(Clone, Copy, PartialEq, Eq, Debug)]

@@ -3,7 +3,7 @@
 ghost use Rattle.std.specs.Prelude.{◌≡◌, ◌+◌, ◌≤◌, ◌<◌, ◌∷◌, [], ◌++◌, ℕ, max, replicate, false, true, IfNone, IfSome, IsSome, Some};
 ghost use Rattle.usb_tables.specs.Flights.{item_at};
 ghost use Rattle.usb_model.specs.declared.step.Step.TheVariants.{Serve};
-ghost use Rattle.usb_transfer.specs.declared.transfer.Transfer.{Transfer as InFlight};
+ghost use Rattle.usb_tables.specs.declared.transfer.Transfer.{Transfer as InFlight};
 ghost use Rattle.usb_xhc.specs.declared.packet.Packet.TheVariants.{Moved};
 ghost use Rattle.usb_xhc.specs.Controller.{told_at};
 ghost use Rattle.usb_xhc.specs.Skims.{controller_skimmed, size_at};
@@ -16,8 +16,7 @@ ghost use Rattle.usb_steps.specs.Bursts.{Differs, IsWholeAt, burst_entries, whol
 use crate::parts::Parts;
 use usb_device::Device;
 use usb_model::{Body, DeviceNo, Entry, EpAddr, Name, Reply};
-use usb_tables::Flights;
-use usb_transfer::Transfer;
+use usb_tables::{Flights, Transfer};
 use usb_xhc::Controller;
 
 /// A packet that moved so many bytes of a transfer, which goes on.

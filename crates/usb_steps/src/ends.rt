@@ -6,11 +6,10 @@ ghost use Rattle.refine_core.specs.Deliveries.{CanFinish, leaving};
 ghost use Rattle.refine_core.specs.Works.{Finishes};
 
 use crate::parts::Parts;
-use usb_claims::HeldEndpoint;
 use usb_device::Device;
 use usb_model::completion::halts;
 use usb_model::{DeviceNo, EpAddr};
-use usb_tables::Ending;
+use usb_tables::{Ending, HeldEndpoint};
 
 impl<P, D: Device> Parts<P, D> {
     /// A transfer ended with this code: its result is made, and it leaves the line with the blanks before it, and with

@@ -2,7 +2,7 @@
 
 ghost use Rattle.std.specs.Prelude.{◌≡◌, option_map, slice_get};
 ghost use Rattle.usb_model.specs.Completion.{stopped};
-ghost use Rattle.usb_completion.specs.declared.target.Reading.TheVariants.{Ended, Paused};
+ghost use Rattle.usb_tables.specs.declared.target.Reading.TheVariants.{Ended, Paused};
 ghost use Rattle.usb_trb.specs.declared.kind.TrbKind.TheVariants.{CommandCompletion, TransferEvent};
 ghost use Rattle.usb_model.specs.declared.step.Step.TheVariants.{Deliver};
 ghost use Rattle.usb_model.specs.Setup.{Setup};
@@ -16,12 +16,9 @@ ghost use Rattle.usb_steps.specs.Reports.{Handles, SomeTold};
 
 use crate::parts::Parts;
 use crate::reports::Report;
-use usb_cancel::next_order;
-use usb_claims::HeldEndpoint;
-use usb_completion::Reading;
 use usb_device::Device;
 use usb_model::{Entry, EpAddr, Reply};
-use usb_tables::Ending;
+use usb_tables::{Ending, HeldEndpoint, Reading, next_order};
 use usb_trb::{EndpointId, Pointer, Residual, Slot, TrbKind};
 
 /// What was handled.

@@ -4,7 +4,7 @@ ghost use Rattle.std.specs.Prelude.{◌≡◌, length, option_map, slice_get};
 ghost use Rattle.std.specs.Option.{option_copied};
 ghost use Rattle.usb_model.specs.Setup.{Setup};
 ghost use Rattle.usb_model.specs.World.{holder};
-ghost use Rattle.usb_claims.specs.Holders.{IsSetup, device_of, owner_of};
+ghost use Rattle.usb_tables.specs.Holders.{IsSetup, device_of, owner_of};
 ghost use Rattle.usb_tables.specs.Callers.{callback_at, number_of};
 ghost use Rattle.usb_tables.specs.Flights.{item_at, line_at};
 ghost use Rattle.usb_steps.specs.Inventory.{answers_in, halted_in, stalled_in};
@@ -13,8 +13,7 @@ use crate::parts::Parts;
 use usb_descriptors::Config;
 use usb_device::{Device, Scripted};
 use usb_model::{DeviceNo, EndpointState, EpAddr, InCallback, Name};
-use usb_tables::Ending;
-use usb_transfer::Transfer;
+use usb_tables::{Ending, Transfer};
 
 impl<P, D: Device> Parts<P, D> {
     /// The device that a name has open.

@@ -10,9 +10,8 @@ ghost use Rattle.refine_core.specs.State.{IsState, ShowsWorld};
 use crate::parts::Parts;
 use crate::setup::Setup;
 use std::alloc::{AllocError, Global};
-use usb_claims::Claims;
 use usb_device::Device;
-use usb_tables::{Callers, Flights, Outstanding};
+use usb_tables::{Callers, Claims, Flights, Outstanding};
 
 impl<P, D: Device> Parts<P, D> {
     /// No name has a device open, nothing is submitted, and each device is there, at the beginning of its scripts. The

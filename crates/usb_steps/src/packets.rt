@@ -3,7 +3,7 @@
 ghost use Rattle.std.specs.Prelude.{◌≡◌, ◌<◌, IfSome, IsSome, Some, length, option_map};
 ghost use Rattle.usb_tables.specs.Flights.{item_at};
 ghost use Rattle.usb_model.specs.declared.step.Step.TheVariants.{Serve};
-ghost use Rattle.usb_transfer.specs.declared.transfer.Transfer.{Transfer as InFlight};
+ghost use Rattle.usb_tables.specs.declared.transfer.Transfer.{Transfer as InFlight};
 ghost use Rattle.usb_xhc.specs.Controller.{served_at, told_at};
 ghost use Rattle.refine_rings.specs.Reports.{reply_of};
 ghost use Rattle.refine_core.specs.Packets.{CanServe, IsServed, Serves, out_of};
@@ -15,8 +15,7 @@ ghost use Rattle.refine_core.specs.Works.{IsFront};
 use crate::parts::Parts;
 use usb_device::Device;
 use usb_model::{Body, DeviceNo, Entry, EpAddr, Reply};
-use usb_tables::Flights;
-use usb_transfer::Transfer;
+use usb_tables::{Flights, Transfer};
 use usb_xhc::{Controller, Packet};
 
 impl<P, D: Device> Parts<P, D> {

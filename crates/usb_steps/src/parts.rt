@@ -2,9 +2,8 @@
 
 use std::alloc::Global;
 use std::marker::Model;
-use usb_claims::Claims;
 use usb_device::Device;
-use usb_tables::{Callers, Flights, Outstanding};
+use usb_tables::{Callers, Claims, Flights, Outstanding};
 use usb_xhc::Controller;
 
 /// Who holds what; the controller with its devices and rings; the transfers in flight; what is kept of each handle; the

@@ -5,10 +5,10 @@ ghost use Rattle.std.specs.Option.{option_map_or};
 ghost use Rattle.usb_descriptors.specs.Table.{info_at};
 ghost use Rattle.refine_core.specs.Renewals.{RenewedAll, is_held_by, is_of_interface};
 
-use usb_claims::Claims;
 use usb_descriptors::Config;
 use usb_device::Device;
 use usb_model::{DeviceNo, EpAddr, Name};
+use usb_tables::Claims;
 use usb_xhc::Controller;
 
 /// Those of an interface of a device.

@@ -4,7 +4,7 @@ ghost use Rattle.std.specs.Prelude.{◌≡◌, ◌<◌, ◌≤◌, ◌+◌, ◌^
 ghost use Rattle.usb_model.specs.Limits.{most_bytes};
 ghost use Rattle.usb_model.specs.Requests.{length_of};
 ghost use Rattle.usb_model.specs.Setup.{Setup};
-ghost use Rattle.usb_transfer.specs.Tds.{lengths, tds_of};
+ghost use Rattle.usb_tables.specs.Tds.{lengths, tds_of};
 ghost use Rattle.usb_trb.specs.declared.kind.TrbKind.TheVariants.{TransferEvent};
 ghost use Rattle.refine_world.specs.Shows.{Core};
 ghost use Rattle.refine_core.specs.Deliveries.{IsEvent, IsTaken, is_gone};
@@ -12,11 +12,9 @@ ghost use Rattle.refine_core.specs.Works.{context_in};
 ghost use Rattle.usb_steps.specs.Reports.{ToldIs, target_of};
 
 use crate::parts::Parts;
-use usb_claims::HeldEndpoint;
-use usb_completion::{Reading, Target};
 use usb_device::Device;
 use usb_model::{DeviceNo, EpAddr};
-use usb_transfer::{Tds, Transfer};
+use usb_tables::{HeldEndpoint, Reading, Target, Tds, Transfer};
 use usb_trb::{EndpointId, Pointer, Residual, Slot};
 use usb_xhc::EndpointContext;
 

@@ -13,8 +13,7 @@ use crate::parts::Parts;
 use std::alloc::AllocError;
 use usb_device::Device;
 use usb_model::{BytesRead, EpAddr, InCallback, Name, Returned};
-use usb_tables::Ended;
-use usb_transfer::Transfer;
+use usb_tables::{Ended, Transfer};
 
 /// A transfer that ended, as it goes out to its callback.
 #[derive(Drop)]

@@ -8,9 +8,9 @@ ghost use Rattle.refine_core.specs.Deliveries.{IsTaken, stands_at};
 ghost use Rattle.usb_steps.specs.Senders.{EndIs, SenderIs};
 
 use crate::parts::Parts;
-use usb_claims::HeldEndpoint;
 use usb_device::Device;
 use usb_model::{DeviceNo, EpAddr, Errand, Name};
+use usb_tables::HeldEndpoint;
 use usb_trb::{Pointer, Slot};
 
 impl<P, D: Device> Parts<P, D> {

@@ -10,13 +10,10 @@ ghost use Rattle.refine_core.specs.Steps.{CanPost};
 ghost use Rattle.refine_core.specs.Works.{Leaves, Posts, Resumes, Withdraws};
 
 use crate::parts::Parts;
-use usb_cancel::settle;
-use usb_claims::HeldEndpoint;
-use usb_completion::result;
 use usb_device::Device;
 use usb_model::completion::{STOPPED, SUCCESS};
 use usb_model::{DeviceNo, EpAddr, Errand, Name, Reply};
-use usb_tables::Ending;
+use usb_tables::{Ending, HeldEndpoint, result, settle};
 
 impl<P, D: Device> Parts<P, D> {
     /// The errand that was outstanding at an endpoint ended with this code.

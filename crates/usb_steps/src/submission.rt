@@ -8,7 +8,7 @@ ghost use Rattle.usb_model.specs.declared.step.Step.TheVariants.{Submit};
 ghost use Rattle.usb_model.specs.Buffer.{no_memory};
 ghost use Rattle.usb_model.specs.Setup.{Setup};
 ghost use Rattle.usb_model.specs.World.{World};
-ghost use Rattle.usb_transfer.specs.Tds.{memory_left};
+ghost use Rattle.usb_tables.specs.Tds.{memory_left};
 ghost use Rattle.usb_tables.specs.Callers.{number_of};
 ghost use Rattle.refine_world.specs.Shows.{Core, Shows};
 ghost use Rattle.refine_core.specs.Calls.{Stays};
@@ -25,7 +25,7 @@ use thiserror::Error;
 use usb_device::Device;
 use usb_model::limits::{LAST_NUMBER, MOST_PLACES};
 use usb_model::{Buffer, DeviceNo, Name, Refused, Request};
-use usb_transfer::{Tds, Transfer, Unmade, check};
+use usb_tables::{Tds, Transfer, Unmade, check};
 
 /// What isn't accepted: all that was given comes back. As an error it says why.
 #[derive(Drop, Error)]

@@ -1,7 +1,7 @@
 -- What a caller sees stays, where the store changes at a key that counts nothing.
 use Rattle.std.proofs.Common.{◌≡◌, ◌≢◌, ℕ, ◌==◌, Bool, true, false, List, [], ◌∷◌, Option, Some, None, refl, arith}
 use Rattle.std.proofs.lemmas.Bool.{eqb-true, eq-eqb}
-use Rattle.usb_transfer.specs.Store.{Slots, transfer_at}
+use Rattle.usb_tables.specs.Store.{Slots, transfer_at}
 use Rattle.usb_tables.specs.declared.ending.Waiting.{Waiting}
 use Rattle.usb_tables.specs.Places.{seen, seen_line, seen_lines, seen_ended, weight, line_weight, lines_weight, ended_weight, one_at}
 

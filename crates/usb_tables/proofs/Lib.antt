@@ -1,3 +1,14 @@
+pub mod Ordered
+pub mod Settlements
+pub mod Positions
+pub mod Readings
+pub mod Statuses
+mod Endpoints
+mod Holders
+mod Owners
+mod Setups
+pub mod Pieces
+pub mod Ends
 pub mod Counts
 pub mod Names
 pub mod Out

@@ -1,7 +1,7 @@
 -- What a caller sees of lines and of those that ended, as they change and the store stays.
 use Rattle.std.proofs.Common.{◌≡◌, ◌≤◌, ℕ, zero, suc, List, [], ◌∷◌, ◌++◌, length, drop, replicate, Option, Some, None, slice_index_or, slice_set, refl, ap, arith}
 use Rattle.std.specs.Prelude.{slice_get}
-use Rattle.usb_transfer.specs.Store.{Slots, transfer_at}
+use Rattle.usb_tables.specs.Store.{Slots, transfer_at}
 use Rattle.usb_tables.specs.declared.ending.Waiting.{Waiting}
 use Rattle.usb_tables.specs.Places.{seen, seen_line, seen_lines, joins, seen_ended}
 

@@ -1,7 +1,7 @@
 -- What a caller sees of the transfers in flight, as items come, end and leave.
 use Rattle.std.proofs.Common.{◌≡◌, ℕ, ◌+◌, ◌<◌, List, [], ◌∷◌, ◌++◌, length, drop, replicate, Option, Some, None, slice_index_or, slice_set, refl, sym, ap, ◌∙◌, arith}
 use Rattle.std.proofs.lemmas.List.{set-set, set-get_or, get_or-set_same, get_or-set_other}
-use Rattle.usb_transfer.specs.Store.{Slots, count, transfer_at, Updates, with_transfer}
+use Rattle.usb_tables.specs.Store.{Slots, count, transfer_at, Updates, with_transfer}
 use Rattle.usb_tables.specs.declared.ending.Waiting.{Waiting}
 use Rattle.usb_tables.specs.ByEndpoint.{lane_at}
 use Rattle.usb_tables.specs.Flights.{Flights, blanked_at, keys_at, left_at, line_at, item_at, with_item, with_keys, with_last}

@@ -4,7 +4,7 @@ use Rattle.std.specs.Prelude.{if◌then◌else◌, slice_get}
 use Rattle.std.proofs.lemmas.Bool.{eqb-true, eqb-false}
 use Rattle.std.proofs.lemmas.List.{get_or-set_same, get_or-set_other}
 use Rattle.std.proofs.lemmas.List.Sums.{sum_by-cons}
-use Rattle.usb_transfer.specs.Store.{Slots, count, transfer_at, Updates, with_transfer}
+use Rattle.usb_tables.specs.Store.{Slots, count, transfer_at, Updates, with_transfer}
 use Rattle.usb_tables.specs.declared.ending.Waiting.{Waiting}
 use Rattle.usb_tables.specs.ByEndpoint.{lane_at}
 use Rattle.usb_tables.specs.Flights.{keys_at, with_keys}

@@ -1,7 +1,7 @@
 -- The transfers in flight, as a caller sees them.
 use Rattle.std.specs.Prelude.{ℕ, ◌==◌, Bool, true, false, List, [], ◌∷◌, ◌++◌, drop, Option, Some, None, is_some, slice_index_or, slice_set}
-use Rattle.usb_cancel.specs.declared.ended.Mark.{Mark}
-use Rattle.usb_transfer.specs.declared.transfer.Transfer.{Transfer}
+use Rattle.usb_tables.specs.declared.ended.Mark.{Mark}
+use Rattle.usb_tables.specs.declared.transfer.Transfer.{Transfer}
 use Rattle.usb_tables.specs.ByEndpoint.{lane_at}
 use Rattle.usb_tables.specs.declared.ending.Ended.{Ended}
 use Rattle.usb_tables.specs.declared.ending.Ending.{Ending}

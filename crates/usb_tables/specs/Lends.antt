@@ -1,8 +1,8 @@
 -- What the transfers in flight end as, where a `&mut` to one of them is returned.
 use Rattle.std.specs.Prelude.{ℕ, Option, Some}
 use Rattle.std.specs.Borrow.{LendsIf, Fml, RattleType, MutBor}
-use Rattle.usb_transfer.specs.declared.transfer.Transfer.{Transfer}
-use Rattle.usb_transfer.specs.contracts.transfer.Transfer.{the_row as the_transfer}
+use Rattle.usb_tables.specs.declared.transfer.Transfer.{Transfer}
+use Rattle.usb_tables.specs.contracts.transfer.Transfer.{the_row as the_transfer}
 use Rattle.usb_tables.specs.Flights.{Flights, with_item}
 use Rattle.usb_tables.specs.contracts.flights.Flights.{the_row}
 

@@ -1,3 +1,16 @@
+pub mod Orders
+pub mod Settlements
+pub mod Statuses
+pub mod Events
+pub mod Lines
+pub mod Tables
+pub mod Holders
+pub mod Refusal
+pub mod Tds
+pub mod Trbs
+pub mod Store
+pub mod LendsTransfer
+pub mod Vectors
 pub mod Caller
 pub mod Callers
 pub mod ByEndpoint

@@ -1,6 +1,6 @@
 -- Where the transfers of the store stand: each key at one place of a line, or among those that ended.
 use Rattle.std.specs.Prelude.{◌≡◌, ℕ, ◌+◌, ◌==◌, List, [], ◌∷◌, Option, Some, None, is_some, if◌then◌else◌}
-use Rattle.usb_transfer.specs.Store.{Slots, count, transfer_at}
+use Rattle.usb_tables.specs.Store.{Slots, count, transfer_at}
 use Rattle.usb_tables.specs.declared.ending.Waiting.{Waiting}
 use Rattle.usb_tables.specs.Flights.{EndedOf, Flights}
 

@@ -1,7 +1,7 @@
 //! What came of a transfer.
 
+use crate::Transfer;
 use usb_model::Status;
-use usb_transfer::Transfer;
 
 /// What came of a transfer.
 #[derive(Clone, Copy, PartialEq, Eq, Debug)]

@@ -5,19 +5,18 @@ ghost use Rattle.std.specs.Borrow.{sem};
 ghost use Rattle.std.specs.List.{prefix_len};
 ghost use Rattle.std.specs.Option.{option_copied_mut};
 ghost use Rattle.std.specs.VecDeque.{deque_capacity};
-ghost use Rattle.usb_transfer.specs.Store.{count};
+ghost use Rattle.usb_tables.specs.Store.{count};
 ghost use Rattle.usb_tables.specs.Flights.{blanked_at, ended_of, is_number, item_at, left_at, line_at, mark_in, with_item, with_last};
 
 use crate::ending::{Ended, Ending, Waiting};
 use crate::lanes::Lanes;
 use crate::line::MOST;
+use crate::{Mark, Store, Transfer};
 use arrayvec::ArrayVec;
 use std::alloc::{AllocError, Global};
 use std::collections::VecDeque;
 use std::marker::Model;
-use usb_cancel::Mark;
 use usb_model::{Ask, DeviceNo, EpAddr};
-use usb_transfer::{Store, Transfer};
 
 /// The transfers in flight at the endpoints of at most 4 devices, in lines of at most 16 items, and those that ended and
 /// wait to be taken. An item is a transfer, or a blank where its transfer was withdrawn. Contracts see a record of these.
@@ -31,8 +30,8 @@ pub struct Flights<P> {
 impl<P> Model for Flights<P> {
     ghost use Rattle.std.specs.Prelude.{◌≤◌};
     ghost use Rattle.std.specs.VecDeque.{deque_capacity};
-    ghost use Rattle.usb_transfer.specs.Store.{count};
-    ghost use Rattle.usb_transfer.specs.declared.transfer.Transfer.{Transfer as InFlight};
+    ghost use Rattle.usb_tables.specs.Store.{count};
+    ghost use Rattle.usb_tables.specs.declared.transfer.Transfer.{Transfer as InFlight};
     ghost use Rattle.usb_tables.specs.Flights.{Flights as View};
     ghost use Rattle.usb_tables.specs.Places.{Stands, seen_flights};
 
@@ -45,7 +44,7 @@ impl<P> Model for Flights<P> {
 
 impl<P> Flights<P> {
     ghost use Rattle.usb_tables.specs.Lends.{lends_item};
-    ghost use Rattle.usb_transfer.specs.declared.transfer.Transfer.{Transfer as InFlight};
+    ghost use Rattle.usb_tables.specs.declared.transfer.Transfer.{Transfer as InFlight};
 
     /// No item at any endpoint, and no transfer that ended. The first transfer has key 0.
     pub fn new(alloc: Global) -> Result<Flights<P>, AllocError>

@@ -3,7 +3,7 @@ use Rattle.std.proofs.Common.{◌≡◌, Some, false, ap, sym, subst, ◌∙◌}
 use Rattle.usb_model.specs.declared.reply.Reply.TheVariants.{Done, Refused}
 use Rattle.usb_model.specs.declared.step.Step.TheVariants.{Claim}
 use Rattle.usb_model.specs.World.{is_its}
-use Rattle.usb_claims.specs.Holders.{Holding, device_of}
+use Rattle.usb_tables.specs.Holders.{Holding, device_of}
 use Rattle.refine_core.specs.Handles.{gone_in, says}
 use Rattle.refine_core.specs.State.{State}
 use Rattle.refine_core.specs.Steps.{DoesCoreStep}

@@ -1,6 +1,6 @@
 -- The step of the core, case by case.
 use Rattle.std.proofs.Common.{subst, ap, sym, ◌∙◌, ◌<◌, ◌≤◌, ℕ, length}
-use Rattle.usb_claims.specs.Holders.{device_of}
+use Rattle.usb_tables.specs.Holders.{device_of}
 use Rattle.usb_tables.specs.Flights.{line_at}
 use Rattle.refine_core.specs.State.{State}
 use Rattle.refine_core.specs.Works.{IsHolder}

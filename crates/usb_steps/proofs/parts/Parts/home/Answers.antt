@@ -2,7 +2,7 @@
 use Rattle.std.proofs.Common.{◌≡◌, ℕ, Some, None, [], ap, refl, sym, subst, ◌∙◌, arith, Option}
 use Rattle.std.specs.Prelude.{slice_get, option_copied}
 use Rattle.usb_model.specs.Setup.{endpoints_of}
-use Rattle.usb_claims.specs.Holders.{device_of as device_at}
+use Rattle.usb_tables.specs.Holders.{device_of as device_at}
 use Rattle.refine_world.specs.Calls.{device_of}
 use Rattle.refine_core.specs.State.{State}
 use Rattle.refine_core.specs.Steps.{InLine}

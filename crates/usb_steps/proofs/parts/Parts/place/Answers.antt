@@ -5,10 +5,10 @@ use Rattle.std.proofs.lemmas.Result.{err_from_is_err_and}
 use Rattle.usb_model.specs.declared.refused.Refused.{Refused}
 use Rattle.usb_model.specs.Limits.{last_number}
 use Rattle.usb_model.specs.Setup.{endpoint_id}
-use Rattle.usb_claims.specs.Holders.{device_of as device_at}
+use Rattle.usb_tables.specs.Holders.{device_of as device_at}
 use Rattle.usb_tables.specs.Callers.{number_of, results_at}
 use Rattle.usb_tables.specs.Flights.{line_at}
-use Rattle.usb_transfer.specs.Refusal.{checked}
+use Rattle.usb_tables.specs.Refusal.{checked}
 use Rattle.refine_core.specs.State.{State}
 use Rattle.refine_core.specs.Works.{IsHolder}
 use Rattle.refine_core.proofs.Joins.{IsHere, IsMine, is_mine, join_closed, join_full, join_gone, join_last, join_nowhere, join_others, join_refused, joins_there}

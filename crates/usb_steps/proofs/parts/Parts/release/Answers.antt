@@ -1,7 +1,7 @@
 -- The step of the core, case by case.
 use Rattle.std.proofs.Common.{subst, ap, sym, ◌∙◌, Some, Bool}
 use Rattle.usb_model.specs.World.{is_its}
-use Rattle.usb_claims.specs.Holders.{device_of, owner_of}
+use Rattle.usb_tables.specs.Holders.{device_of, owner_of}
 use Rattle.refine_core.specs.Handles.{AreQuiet}
 use Rattle.refine_core.specs.State.{State}
 use Rattle.refine_core.proofs.Closes.{releases, releases_busy, releases_none, releases_others}

@@ -2,7 +2,7 @@
 use Rattle.std.proofs.Common.{Bool, None, true, ap, sym, subst, ◌∙◌}
 use Rattle.usb_model.specs.declared.reply.Reply.TheVariants.{Done}
 use Rattle.usb_model.specs.declared.step.Step.TheVariants.{Reset}
-use Rattle.usb_claims.specs.Holders.{device_of, others_hold}
+use Rattle.usb_tables.specs.Holders.{device_of, others_hold}
 use Rattle.refine_core.specs.Handles.{AreQuiet, gone_in, says}
 use Rattle.refine_core.specs.State.{State}
 use Rattle.refine_core.specs.Steps.{DoesCoreStep}

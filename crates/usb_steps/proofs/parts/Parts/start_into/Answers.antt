@@ -4,8 +4,8 @@ use Rattle.usb_model.specs.Setup.{endpoint_id}
 use Rattle.usb_tables.specs.Callers.{number_of}
 use Rattle.usb_trb.specs.declared.kind.Normal.{Normal as NormalTrb}
 use Rattle.usb_rings.specs.Line.{normals}
-use Rattle.usb_transfer.specs.declared.transfer.Transfer.{Transfer as InFlight}
-use Rattle.usb_transfer.specs.Trbs.{normals_of}
+use Rattle.usb_tables.specs.declared.transfer.Transfer.{Transfer as InFlight}
+use Rattle.usb_tables.specs.Trbs.{normals_of}
 use Rattle.usb_xhc.specs.Host.{with_pushed, with_ring}
 use Rattle.usb_xhc.specs.Controller.{slot_changed}
 use Rattle.usb_xhc.specs.Slots.{changed}

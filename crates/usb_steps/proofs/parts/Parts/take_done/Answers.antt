@@ -7,7 +7,7 @@ use Rattle.usb_model.specs.declared.step.Step.TheVariants.{Answer, Take}
 use Rattle.usb_model.specs.declared.verdict.Verdict.TheVariants.{Stop}
 use Rattle.usb_model.specs.Setup.{endpoint_id}
 use Rattle.usb_tables.specs.Callers.{results_at}
-use Rattle.usb_transfer.specs.declared.transfer.Transfer.{Transfer as InFlight}
+use Rattle.usb_tables.specs.declared.transfer.Transfer.{Transfer as InFlight}
 use Rattle.usb_tables.specs.Flights.{EndedOf, Flights, ended_of}
 use Rattle.refine_core.specs.Calls.{called_entry}
 use Rattle.refine_core.specs.Handles.{says}

@@ -1,10 +1,10 @@
 use Rattle.std.proofs.Common.{◌≡◌, ◌∙◌, ap, ap₂, subst, sym, Some, None, length, ◌<◌}
 use Rattle.std.proofs.lemmas.Option.{same_Some}
-use Rattle.usb_completion.specs.Events.{read_target}
-use Rattle.usb_completion.specs.declared.target.Target.{Target}
+use Rattle.usb_tables.specs.Events.{read_target}
+use Rattle.usb_tables.specs.declared.target.Target.{Target}
 use Rattle.usb_steps.specs.Reports.{target_of}
 use Rattle.usb_steps.proofs.Readings.{is_told}
-use Rattle.usb_transfer.specs.Tds.{lengths, tds_of}
+use Rattle.usb_tables.specs.Tds.{lengths, tds_of}
 use Rattle.usb_tables.specs.Flights.{item_at}
 use Rattle.refine_core.proofs.Reports.{FindsHeld, FindsPlace, at_held, at_place, found_by, no_held}
 use Rattle.usb_steps.proofs.parts.Parts.told.Goals as goal

@@ -1,6 +1,6 @@
 -- A transfer joins its line under a key of its own.
 use Rattle.std.proofs.Common.{◌≡◌, ◌≤◌, ◌+◌, length, refl, sym, ◌∙◌, arith}
-use Rattle.usb_transfer.specs.Store.{count}
+use Rattle.usb_tables.specs.Store.{count}
 use Rattle.usb_tables.specs.Flights.{keys_at, line_at}
 use Rattle.usb_tables.proofs.Kept.{ended-kept}
 use Rattle.std.specs.VecDeque.{deque_capacity}

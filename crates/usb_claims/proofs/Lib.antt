@@ -1,4 +1,0 @@
-mod Endpoints
-mod Holders
-mod Owners
-mod Setups

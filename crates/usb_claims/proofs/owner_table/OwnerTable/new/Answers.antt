@@ -1,6 +1,0 @@
--- All owners are nobody.
-use Rattle.usb_claims.proofs.Owners.{all_none}
-use Rattle.usb_claims.proofs.owner_table.OwnerTable.new.Goals as goal
-
-pub returns : goal.returns
-returns c = all_none c.loop.owners.items c.loop.invariant.unheld

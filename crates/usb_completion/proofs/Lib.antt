@@ -1,3 +1,0 @@
-pub mod Positions
-pub mod Readings
-pub mod Statuses

@@ -1,6 +1,0 @@
--- The TDs of a request.
-use Rattle.std.proofs.Common.{rules}
-use Rattle.usb_transfer.proofs.tds.Tds.of.Goals as goal
-
-pub returns : goal.returns
-returns c = search rules
