@@ -1,4 +1,4 @@
-"""The part of tools/rows.py that makes the files of crates/proof_rows: worked rows as definitions, with their proofs.
+"""The part of tools/rows.py that makes the files of crates/proof_laws: worked rows as definitions, with their proofs.
 
 rows/proved.txt says which rows they are, in groups. Of a group there are the rows as definitions (specs/Rows), their
 proofs (proofs/WorkedRows), a law with a clause a row (src/rows.rt), and the answers to its goals (proofs/rows)."""
@@ -8,7 +8,7 @@ import textwrap
 
 ROOT = pathlib.Path(__file__).resolve().parent.parent
 TABLE = ROOT / "rows" / "proved.txt"
-CRATE = ROOT / "crates" / "proof_rows"
+CRATE = ROOT / "crates" / "proof_laws"
 # A list stands in lines of at most so many columns, but for the `;` behind it, and each has this indent.
 WIDTH, INDENT = 150, " " * 6
 # The words of a scenario (docs/FORMATS.md), as terms of the definitions.
@@ -48,7 +48,7 @@ HOMES = {
     DECLARED + "verdict.Rule.TheVariants": ["Again"],
     DECLARED + "plan.Plan.TheVariants": ["Do", "Return"],
 }
-ROWS = "Rattle.proof_rows.specs.Rows"
+ROWS = "Rattle.proof_laws.specs.Rows"
 ALONE = "record { amid = refl; by_itself = refl }"
 HEAD_OF_LAWS = """\
 //! Worked rows: the definitions compute what the standards' and the library's users expect. Each is a law
@@ -201,7 +201,7 @@ def definition(row, sentence, devices):
         setup, rules = setup_of(said, devices), rules_of(steps)
         plan = filled([piece(*it) for it in steps])
     except (IndexError, KeyError, ValueError) as why:
-        raise BadRow(f"{row.name}.in has what no row of proof_rows says: {why}") from why
+        raise BadRow(f"{row.name}.in has what no row of proof_laws says: {why}") from why
     return f"""
 -- {sentence}
 abbrev pub {row.name} : Row
@@ -248,7 +248,7 @@ def proofs_file(group, rows):
     text = f"-- {group.above('proofs', 'rows', 'law')}\nuse Rattle.std.proofs.Common.{{refl}}\n"
     text += f"use {ROWS}.{{{', '.join(sorted({it[0] for it in claims(group, rows)}))}}}\n"
     text += f"use {ROWS}.{group.module}.{{{', '.join(group.rows)}}}\n"
-    text += "use Rattle.proof_rows.proofs.Computed.{computed}\n"
+    text += "use Rattle.proof_laws.proofs.Computed.{computed}\n"
     for it in claims(group, rows):
         proof = ALONE if it[0] == "PrintsAlone" else "refl"
         text += f"\npub {it[1]}_holds : {' '.join(it)}\nunfolding computed\n{it[1]}_holds = {proof}\n"
@@ -257,8 +257,8 @@ def proofs_file(group, rows):
 
 def answers_file(group):
     names = ", ".join(f"{it}_holds" for it in group.rows)
-    text = f"use Rattle.proof_rows.proofs.WorkedRows.{group.module}.{{{names}}}\n"
-    text += f"use Rattle.proof_rows.proofs.rows.{group.law}.Goals as goal\n"
+    text = f"use Rattle.proof_laws.proofs.WorkedRows.{group.module}.{{{names}}}\n"
+    text += f"use Rattle.proof_laws.proofs.rows.{group.law}.Goals as goal\n"
     for name in group.rows:
         text += f"\npub returns-clause-{name} : goal.returns-clause-{name}\nreturns-clause-{name} c = {name}_holds\n"
     return text
@@ -293,7 +293,7 @@ def judge(devices, groups, rows):
     known = (CRATE / "specs" / "Rows.antt").read_text()
     for device in devices:
         if device.definition() not in known:
-            raise BadRow(f"rows/proved.txt has another {device.name} than crates/proof_rows/specs/Rows.antt")
+            raise BadRow(f"rows/proved.txt has another {device.name} than crates/proof_laws/specs/Rows.antt")
     for path in sorted((CRATE / "specs" / "Rows").iterdir()):
         if path.stem not in [it.module for it in groups]:
             raise BadRow(f"{path.relative_to(ROOT)} is of no group of rows/proved.txt")
@@ -304,7 +304,7 @@ def judge(devices, groups, rows):
 
 
 def proved_files(rows):
-    """The files of proof_rows that are written, and what stands in them where all rows are these."""
+    """The files of proof_laws that are written, and what stands in them where all rows are these."""
     devices, groups = table()
     rows = {it.name: it for it in rows}
     judge(devices, groups, rows)

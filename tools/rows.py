@@ -1,6 +1,6 @@
 #!/usr/bin/env python3
 """The worked rows of rows/ (rows/README.md), as the gate runs and proves them: all in one text, which the program
-check_rows reads; and those of rows/proved.txt in crates/proof_rows, as definitions (tools/proved_rows.py).
+check_rows reads; and those of rows/proved.txt in crates/proof_laws, as definitions (tools/proved_rows.py).
 
     tools/rows.py write         writes those files of the two crates anew that aren't as rows/ has them
     tools/rows.py check         says which they are; the gate asks it
@@ -107,7 +107,7 @@ def check(rows):
     for path in others:
         print(f"{path.relative_to(ROOT)} isn't that of rows/: tools/rows.py write")
     if not others:
-        print(f"{len(rows)} worked rows stand in check_rows, and in proof_rows those of rows/proved.txt")
+        print(f"{len(rows)} worked rows stand in check_rows, and in proof_laws those of rows/proved.txt")
     return 1 if others else 0
 
 

@@ -12,10 +12,10 @@ use Rattle.usb_model.specs.Laws.Cut.{AllFit, Cell, Cleared, Ended, Fate, FitsFat
 use Rattle.usb_model.specs.Laws.Calls.{made, made_from}
 use Rattle.usb_model.specs.Laws.Places.{calls}
 use Rattle.usb_model.specs.Laws.Bound.{commands_in, delivers_in}
-use Rattle.proof_rows.specs.Rows.{bulk}
-use Rattle.proof_rows.specs.Rows.Halts.{stall_and_clear_halt}
-use Rattle.proof_rows.specs.Rows.Unplugs.{unplug_amid_transfers}
-use Rattle.proof_rows.proofs.Computed.{computed}
+use Rattle.proof_laws.specs.Rows.{bulk}
+use Rattle.proof_laws.specs.Rows.Halts.{stall_and_clear_halt}
+use Rattle.proof_laws.specs.Rows.Unplugs.{unplug_amid_transfers}
+use Rattle.proof_laws.proofs.Computed.{computed}
 use Rattle.proof_model.proofs.Shares.Cuts.{ends_now}
 use Rattle.proof_model.proofs.Shares.OpenShares.{open_if, outcome_nothing}
 use Rattle.usb_core.specs.Instances.{CallsBack, ReachesBound, ReachesBounds, IsCutInto, IsNotCut, stalled_cells, unplugged_cells}

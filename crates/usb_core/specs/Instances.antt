@@ -20,9 +20,9 @@ use Rattle.usb_model.specs.Laws.Bound.{IsAccepted, is_in_progress, commands_in, 
 use Rattle.usb_model.specs.Laws.Bounds.{line_at}
 use Rattle.usb_model.specs.Laws.Calls.{made, returned, waiting}
 use Rattle.usb_model.specs.Laws.Places.{calls}
-use Rattle.proof_rows.specs.Rows.{Row, bulk}
-use Rattle.proof_rows.specs.Rows.Callbacks.{resubmit_three_rounds}
-use Rattle.proof_rows.specs.Rows.Cancels.{cancel_at_its_bound}
+use Rattle.proof_laws.specs.Rows.{Row, bulk}
+use Rattle.proof_laws.specs.Rows.Callbacks.{resubmit_three_rounds}
+use Rattle.proof_laws.specs.Rows.Cancels.{cancel_at_its_bound}
 
 -- the steps of a worked row
 abbrev pub steps_of : Row → List Step

@@ -8,8 +8,8 @@ ghost use Rattle.usb_model.specs.Laws.Bounds.{KeepsBounds};
 ghost use Rattle.usb_model.specs.Laws.Calls.{CallbacksAreOfCalls, CallsWhatWasMade};
 ghost use Rattle.usb_model.specs.Laws.Cut.{CutsAt};
 ghost use Rattle.usb_model.specs.Laws.Places.{KeepsPlaces};
-ghost use Rattle.proof_rows.specs.Rows.Halts.{stall_and_clear_halt};
-ghost use Rattle.proof_rows.specs.Rows.Unplugs.{unplug_amid_transfers};
+ghost use Rattle.proof_laws.specs.Rows.Halts.{stall_and_clear_halt};
+ghost use Rattle.proof_laws.specs.Rows.Unplugs.{unplug_amid_transfers};
 ghost use Rattle.usb_model.specs.Setup.{Setup};
 ghost use Rattle.usb_core.specs.Instances.{CallsBack, ReachesBound, ReachesBounds, IsCutInto, IsNotCut, stalled_cells, unplugged_cells};
 

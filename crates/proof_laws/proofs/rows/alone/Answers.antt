@@ -1,0 +1,23 @@
+use Rattle.proof_laws.proofs.WorkedRows.Alone.{stall_beside_cancel_alone_1_holds, stall_beside_cancel_alone_2_holds, interface_changes_hands_alone_2_holds, two_handles_two_rules_alone_1_holds, two_handles_two_rules_alone_2_holds, unplug_amid_transfers_alone_2_holds, fed_answers_alone_holds}
+use Rattle.proof_laws.proofs.rows.alone.Goals as goal
+
+pub returns-clause-stall_beside_cancel_alone_1 : goal.returns-clause-stall_beside_cancel_alone_1
+returns-clause-stall_beside_cancel_alone_1 c = stall_beside_cancel_alone_1_holds
+
+pub returns-clause-stall_beside_cancel_alone_2 : goal.returns-clause-stall_beside_cancel_alone_2
+returns-clause-stall_beside_cancel_alone_2 c = stall_beside_cancel_alone_2_holds
+
+pub returns-clause-interface_changes_hands_alone_2 : goal.returns-clause-interface_changes_hands_alone_2
+returns-clause-interface_changes_hands_alone_2 c = interface_changes_hands_alone_2_holds
+
+pub returns-clause-two_handles_two_rules_alone_1 : goal.returns-clause-two_handles_two_rules_alone_1
+returns-clause-two_handles_two_rules_alone_1 c = two_handles_two_rules_alone_1_holds
+
+pub returns-clause-two_handles_two_rules_alone_2 : goal.returns-clause-two_handles_two_rules_alone_2
+returns-clause-two_handles_two_rules_alone_2 c = two_handles_two_rules_alone_2_holds
+
+pub returns-clause-unplug_amid_transfers_alone_2 : goal.returns-clause-unplug_amid_transfers_alone_2
+returns-clause-unplug_amid_transfers_alone_2 c = unplug_amid_transfers_alone_2_holds
+
+pub returns-clause-fed_answers_alone : goal.returns-clause-fed_answers_alone
+returns-clause-fed_answers_alone c = fed_answers_alone_holds

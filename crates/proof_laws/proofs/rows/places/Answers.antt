@@ -1,0 +1,11 @@
+use Rattle.proof_laws.proofs.WorkedRows.Places.{blanks_behind_a_failed_transfer_holds, blanks_behind_a_completed_transfer_holds, sixteen_places_at_each_endpoint_holds}
+use Rattle.proof_laws.proofs.rows.places.Goals as goal
+
+pub returns-clause-blanks_behind_a_failed_transfer : goal.returns-clause-blanks_behind_a_failed_transfer
+returns-clause-blanks_behind_a_failed_transfer c = blanks_behind_a_failed_transfer_holds
+
+pub returns-clause-blanks_behind_a_completed_transfer : goal.returns-clause-blanks_behind_a_completed_transfer
+returns-clause-blanks_behind_a_completed_transfer c = blanks_behind_a_completed_transfer_holds
+
+pub returns-clause-sixteen_places_at_each_endpoint : goal.returns-clause-sixteen_places_at_each_endpoint
+returns-clause-sixteen_places_at_each_endpoint c = sixteen_places_at_each_endpoint_holds

@@ -1,9 +1,0 @@
-use Rattle.proof_meaning.proofs.EndedShares.{ends_for_good}
-use Rattle.proof_meaning.proofs.ToldOutcomes.{tells_outcomes}
-use Rattle.proof_meaning.proofs.laws.outcomes.Goals as goal
-
-pub returns-clause-told : goal.returns-clause-told
-returns-clause-told c = tells_outcomes
-
-pub returns-clause-ended : goal.returns-clause-ended
-returns-clause-ended c = ends_for_good

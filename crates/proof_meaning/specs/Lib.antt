@@ -1,5 +1,0 @@
-pub mod Dues
-pub mod Nothing
-pub mod Outcomes
-pub mod Packets
-pub mod Statuses

@@ -1,2 +1,0 @@
-pub mod Computed
-mod WorkedRows

@@ -1,8 +1,0 @@
-use Rattle.proof_rows.proofs.WorkedRows.Unplugs.{unplug_amid_transfers_holds, unplug_of_nothing_holds}
-use Rattle.proof_rows.proofs.rows.unplugging.Goals as goal
-
-pub returns-clause-unplug_amid_transfers : goal.returns-clause-unplug_amid_transfers
-returns-clause-unplug_amid_transfers c = unplug_amid_transfers_holds
-
-pub returns-clause-unplug_of_nothing : goal.returns-clause-unplug_of_nothing
-returns-clause-unplug_of_nothing c = unplug_of_nothing_holds
