@@ -23,12 +23,12 @@ use Rattle.usb_xhc.specs.Slots.{DeviceSlot, context_of}
 use Rattle.usb_tables.specs.Flights.{keys_at, line_at}
 use Rattle.refine_world.specs.Lively.{ends_from}
 use Rattle.refine_world.specs.Shows.{Core}
-use Rattle.proof_living.specs.Fed.{changed_at, device_fed, fed, fed_at}
-use Rattle.proof_living.specs.FedCore.{core_with, kept_with}
-use Rattle.proof_living.specs.Living.{GoesOn, More, world_with}
-use Rattle.proof_living.proofs.Fed.{fed_goes_on}
-use Rattle.proof_living.proofs.FedCore.{shows_fed}
-use Rattle.proof_living.proofs.Worlds.{holder_same}
+use Rattle.refine_world.specs.Fed.{changed_at, device_fed, fed, fed_at}
+use Rattle.refine_world.specs.FedCore.{core_with, kept_with}
+use Rattle.refine_world.specs.Living.{GoesOn, More, world_with}
+use Rattle.refine_world.proofs.Fed.{fed_goes_on}
+use Rattle.refine_world.proofs.FedCore.{shows_fed}
+use Rattle.refine_world.proofs.Worlds.{holder_same}
 use Rattle.refine_rings.specs.Holds.{IsSlot, RingIs}
 use Rattle.refine_rings.specs.Made.{IsRead}
 use Rattle.refine_rings.proofs.Feeds.{holds_fed, interface_same, length_changed, may_there, read_fed}

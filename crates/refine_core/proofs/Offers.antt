@@ -23,7 +23,7 @@ use Rattle.usb_xhc.specs.Ahead.{room}
 use Rattle.usb_xhc.specs.Context.{Context, trbs}
 use Rattle.usb_xhc.specs.Transaction.{offset_by, packet_out, packet_room, working}
 use Rattle.usb_xhc.specs.Slots.{DeviceSlot, context_of, room_ahead, sends}
-use Rattle.proof_living.specs.Living.{is_empty, is_running, is_wanting}
+use Rattle.refine_world.specs.Living.{is_empty, is_running, is_wanting}
 use Rattle.refine_world.specs.ShownEndpoint.{ShowsEnd}
 use Rattle.refine_world.specs.Shows.{Core, Shows, errands, events, tellings}
 use Rattle.refine_world.specs.Shows.{at as at_end}

@@ -7,8 +7,8 @@ use Rattle.usb_model.specs.Setup.{Setup, endpoint_id, interface_of, is_in, kind_
 use Rattle.usb_model.specs.World.{World}
 use Rattle.usb_device.specs.Scripts.{is_answer}
 use Rattle.usb_xhc.specs.Feeds.{controller_fed, device_may_be_fed}
-use Rattle.proof_living.specs.Fed.{fed, fed_at}
-use Rattle.proof_living.specs.Living.{world_with}
+use Rattle.refine_world.specs.Fed.{fed, fed_at}
+use Rattle.refine_world.specs.Living.{world_with}
 use Rattle.refine_core.specs.State.{ShowsWorld, State}
 
 -- an answer of the endpoint's direction that isn't too long, where its script isn't full

@@ -15,7 +15,7 @@ use Rattle.usb_device.specs.Pipe.{pipe_at}
 use Rattle.usb_tables.specs.declared.transfer.Transfer.{Transfer as InFlight}
 use Rattle.usb_tables.specs.Flights.{item_at}
 use Rattle.usb_xhc.specs.Slots.{DeviceSlot, room_ahead, sends}
-use Rattle.proof_living.specs.Living.{is_wanting}
+use Rattle.refine_world.specs.Living.{is_wanting}
 use Rattle.refine_world.specs.Shows.{Core, Shows}
 use Rattle.refine_core.specs.State.{Keeps, State}
 use Rattle.refine_core.specs.Works.{IsFront, IsHolder}

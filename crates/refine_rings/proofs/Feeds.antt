@@ -27,11 +27,11 @@ use Rattle.usb_xhc.specs.Controller.{Controller}
 use Rattle.usb_xhc.specs.Feeds.{controller_fed, device_may_be_fed, slot_fed}
 use Rattle.usb_xhc.specs.Slots.{DeviceSlot, context_of}
 use Rattle.refine_world.specs.Shows.{RingEvent, RingOrder}
-use Rattle.proof_living.specs.Fed.{changed_at, device_fed, fed, fed_at, has_script}
-use Rattle.proof_living.specs.FedCore.{kept_with}
-use Rattle.proof_living.specs.Living.{GoesOn, More}
-use Rattle.proof_living.proofs.Effects.{info_same, size_same}
-use Rattle.proof_living.proofs.Fed.{fed_goes_on, got}
+use Rattle.refine_world.specs.Fed.{changed_at, device_fed, fed, fed_at, has_script}
+use Rattle.refine_world.specs.FedCore.{kept_with}
+use Rattle.refine_world.specs.Living.{GoesOn, More}
+use Rattle.refine_world.proofs.Effects.{info_same, size_same}
+use Rattle.refine_world.proofs.Fed.{fed_goes_on, got}
 use Rattle.refine_rings.specs.Endpoint.{IsPipe}
 use Rattle.refine_rings.specs.Feeds.{FeedsCore, ends_with}
 use Rattle.refine_rings.specs.Holds.{AllPosted, HasNone, HasRing, Holds, IsEnd, IsPosted, IsSlot, RingIs}

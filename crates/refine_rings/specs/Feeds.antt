@@ -6,9 +6,9 @@ use Rattle.usb_model.specs.Kept.{KeptEndpoint}
 use Rattle.usb_xhc.specs.Controller.{Controller}
 use Rattle.usb_xhc.specs.Feeds.{controller_fed, device_may_be_fed}
 use Rattle.refine_world.specs.Shows.{RingEvent, RingOrder}
-use Rattle.proof_living.specs.Fed.{fed, fed_at}
-use Rattle.proof_living.specs.FedCore.{kept_with}
-use Rattle.proof_living.specs.Living.{More}
+use Rattle.refine_world.specs.Fed.{fed, fed_at}
+use Rattle.refine_world.specs.FedCore.{kept_with}
+use Rattle.refine_world.specs.Living.{More}
 use Rattle.refine_rings.specs.Holds.{Holds}
 
 -- the endpoints of a core, where more is left

@@ -42,3 +42,13 @@ pub mod FirstOrders
 pub mod Numbers
 pub mod Apart
 pub mod Strays
+pub mod LivingServes
+pub mod Ends
+pub mod Effects
+pub mod Worlds
+pub mod Runs
+pub mod Feeding
+pub mod Wanting
+pub mod FedCore
+pub mod Fed
+pub mod NoWants

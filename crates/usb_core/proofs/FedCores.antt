@@ -2,8 +2,8 @@
 use Rattle.std.proofs.Common.{◌≡◌, ℕ, true, [], ◌∷◌, Result, Ok, Err, OnOk, OnErr, sym, subst}
 use Rattle.usb_model.specs.declared.response.Response.{Response}
 use Rattle.usb_model.specs.Setup.{endpoint_id}
-use Rattle.proof_living.specs.Fed.{fed, fed_at}
-use Rattle.proof_living.specs.Living.{world_with}
+use Rattle.refine_world.specs.Fed.{fed, fed_at}
+use Rattle.refine_world.specs.Living.{world_with}
 use Rattle.refine_core.specs.Feeds.{FeedsWorld, may_be_fed_at, state_fed}
 use Rattle.refine_core.specs.State.{IsState, State}
 use Rattle.refine_core.proofs.Feeds.{feeds}

@@ -42,16 +42,16 @@ use Rattle.refine_world.specs.Lively.{IsSized}
 use Rattle.refine_world.proofs.Links.{known}
 use Rattle.refine_world.proofs.Packets.{NextIs, next_is}
 use Rattle.refine_world.proofs.Tells.{first_open}
-use Rattle.proof_living.specs.Living.{GoesOn, More, is_empty, is_running, is_wanting, with_more, world_with}
-use Rattle.proof_living.proofs.Effects.{size_same}
-use Rattle.proof_living.proofs.Worlds.{holder_same}
+use Rattle.refine_world.specs.Living.{GoesOn, More, is_empty, is_running, is_wanting, with_more, world_with}
+use Rattle.refine_world.proofs.Effects.{size_same}
+use Rattle.refine_world.proofs.Worlds.{holder_same}
 use Rattle.refine_core.specs.Offers.{IsNext, bytes_next, room_next}
 use Rattle.refine_core.proofs.Offers.{length_drop, take_min}
 use Rattle.refine_core.specs.State.{ShowsWorld, State}
 use Rattle.refine_rings.specs.Made.{IsRead}
 use Rattle.refine_rings.proofs.Ids.{id-lt}
-use Rattle.proof_living.specs.Fed.{fed_at, has_script}
-use Rattle.proof_living.proofs.Fed.{fed_goes_on}
+use Rattle.refine_world.specs.Fed.{fed_at, has_script}
+use Rattle.refine_world.proofs.Fed.{fed_goes_on}
 use Rattle.usb_living.specs.Offered.{FeedingGoesOn, FitsTheRoomItIsTold, GoesOnWith, TakesWhatItIsTold, answered, tells_babble}
 
 -- an endpoint that runs, whose first transfer that waits is open, and whose device has no answer left

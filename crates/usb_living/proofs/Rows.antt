@@ -7,13 +7,13 @@ use Rattle.usb_model.specs.World.Journal.{Place, journal_from, run_from}
 use Rattle.usb_model.specs.World.Journal.{journal}
 use Rattle.proof_model.proofs.Handles.Runs.{world_append}
 use Rattle.proof_model.proofs.Handles.Runs.{run_append}
-use Rattle.proof_living.specs.Living.{GoesOn, More, StaysWithin, world_with}
-use Rattle.proof_living.specs.NoWants.{WantsNone}
-use Rattle.proof_living.proofs.Fed.{fed_goes_on}
-use Rattle.proof_living.proofs.Worlds.{new_same}
-use Rattle.proof_living.proofs.Runs.{journal_same, world_same}
-use Rattle.proof_living.proofs.Feeding.{goes_none, goes_twice, world_none, world_twice}
-use Rattle.proof_living.proofs.NoWants.{stays_within}
+use Rattle.refine_world.specs.Living.{GoesOn, More, StaysWithin, world_with}
+use Rattle.refine_world.specs.NoWants.{WantsNone}
+use Rattle.refine_world.proofs.Fed.{fed_goes_on}
+use Rattle.refine_world.proofs.Worlds.{new_same}
+use Rattle.refine_world.proofs.Runs.{journal_same, world_same}
+use Rattle.refine_world.proofs.Feeding.{goes_none, goes_twice, world_none, world_twice}
+use Rattle.refine_world.proofs.NoWants.{stays_within}
 use Rattle.refine_core.specs.State.{ShowsWorld, State}
 use Rattle.usb_living.specs.Rows.{Deed, Does, Fed, HasAnswers, Leads, Made, RowsAreAsIfKnown, entries_in, more_in, more_of, setup_behind, setup_in, steps_in, steps_of, world_behind}
 

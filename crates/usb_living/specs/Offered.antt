@@ -10,8 +10,8 @@ use Rattle.usb_model.specs.declared.step.Step.TheVariants.{Serve}
 use Rattle.usb_model.specs.Completion.{babble_detected}
 use Rattle.usb_model.specs.Setup.{Setup, endpoint_id}
 use Rattle.usb_model.specs.World.{Turn, World, holder, turn}
-use Rattle.proof_living.specs.Fed.{fed}
-use Rattle.proof_living.specs.Living.{GoesOn, More, world_with}
+use Rattle.refine_world.specs.Fed.{fed}
+use Rattle.refine_world.specs.Living.{GoesOn, More, world_with}
 
 -- scripts that go on, that of this endpoint with this answer
 pub record GoesOnWith (setup longer : Setup) (dev ep : ℕ) (a : Response) : Type 0 where

@@ -7,9 +7,9 @@ use Rattle.usb_model.specs.declared.step.Step.{Step}
 use Rattle.usb_model.specs.Setup.{Setup, endpoint_id}
 use Rattle.usb_model.specs.World.{World, new_world, world_from}
 use Rattle.usb_model.specs.World.Journal.{run_from, world_run}
-use Rattle.proof_living.specs.Fed.{fed, fed_at}
-use Rattle.proof_living.specs.Living.{GoesOn, More, world_with}
-use Rattle.proof_living.specs.NoWants.{WantsNone}
+use Rattle.refine_world.specs.Fed.{fed, fed_at}
+use Rattle.refine_world.specs.Living.{GoesOn, More, world_with}
+use Rattle.refine_world.specs.NoWants.{WantsNone}
 
 -- a call made the steps that were to be made in its world; or it put an answer behind a script
 pub data Deed : Type 0 where

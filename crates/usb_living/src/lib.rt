@@ -24,7 +24,7 @@
 //! - clause `carries`: what callers keep with their transfers stays with them
 //!
 //! That a step at an endpoint whose device isn't ready isn't made is on purpose: a Serve that finds no answer is one of a shorter
-//! script, which the answers behind it would make another (laws of `proof_living`).
+//! script, which the answers behind it would make another (laws of `refine_world`).
 #![tactic(auto)]
 
 mod asking;

@@ -1,6 +1,0 @@
-pub mod Living
-pub mod Feeding
-pub mod Wanting
-pub mod FedCore
-pub mod Fed
-pub mod NoWants
