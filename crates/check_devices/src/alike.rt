@@ -11,7 +11,7 @@ use crate::told::{are_told, lines_of};
 use anyhow::Result;
 use example_devices::Reader;
 use std::alloc::Global;
-use usb_callback::{Callback, Repeat, StoredCallback};
+use usb_core::{Callback, Repeat, StoredCallback};
 use usb_model::{Name, Plan, Returned, Rule, StatusSet, Step, Verdict};
 use usb_plans::{Comparison, alone, drive_alone};
 

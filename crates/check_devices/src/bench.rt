@@ -4,8 +4,7 @@ use crate::told::add_line;
 use anyhow::{Result, anyhow};
 use example_devices::Reader;
 use std::alloc::Global;
-use usb_callback::Callback;
-use usb_core::{Core, Setup, Stepped};
+use usb_core::{Callback, Core, Setup, Stepped};
 use usb_device::Device;
 use usb_model::{DeviceNo, EpAddr, Reply, Step, Verdict};
 

@@ -7,8 +7,7 @@ use crate::told::{expect, is_told};
 use anyhow::Result;
 use example_devices::Reader;
 use std::alloc::{AllocError, Global};
-use usb_callback::{Callback, Repeat, StoredCallback};
-use usb_core::{Core, Setup};
+use usb_core::{Callback, Core, Repeat, Setup, StoredCallback};
 use usb_model::{Bytes, EpAddr, Flags, Request, Returned, Rule, Step, Verdict};
 
 /// What is told of a write whose callback sends other bytes, by the rules: the second is a transfer of its own.

@@ -13,8 +13,7 @@ use example_devices::Reader;
 use std::alloc::Global;
 use std::sync::Arc;
 use std::sync::atomic::{AtomicU64, Ordering};
-use usb_callback::{Callback, Once, Repeat, StoredCallback};
-use usb_core::{Setup, Stopped};
+use usb_core::{Callback, Once, Repeat, Setup, Stopped, StoredCallback};
 use usb_model::{Bytes, Entry, Plan, Returned, Rule, Sequence, Step, Verdict};
 use usb_plans::drive;
 

@@ -1,7 +1,7 @@
 //! Callbacks that are called: two that repeat and one that is called once, by code that knows no box.
 
 ghost use Rattle.std.specs.Prelude.{IfOk, IfSome, is_some, ◌≡◌};
-ghost use Rattle.usb_callback.specs.Callbacks.{Fits};
+ghost use Rattle.usb_core.specs.Callbacks.{Fits};
 ghost use Rattle.usb_model.specs.declared.status.Status.TheVariants.{Completed};
 ghost use Rattle.usb_model.specs.World.Plans.{verdict_of};
 
@@ -10,7 +10,7 @@ use anyhow::Result;
 use std::alloc::Global;
 use std::sync::Arc;
 use std::sync::atomic::{AtomicU64, Ordering};
-use usb_callback::{Callback, End, Once, Repeat, StoredCallback, Told};
+use usb_core::{Callback, End, Once, Repeat, StoredCallback, Told};
 use usb_model::{BytesRead, EpAddr, Name, Refused, Returned, Rule, Status, StatusSet, Verdict};
 
 /// Plays the scenes of callbacks.

@@ -16,8 +16,7 @@ use bitflags::Flags as _;
 use std::alloc::{AllocError, Global};
 use std::result;
 use trace_io::print;
-use usb_callback::{Callback, Ruled};
-use usb_core::Stopped;
+use usb_core::{Callback, Ruled, Stopped};
 use usb_model::{Entry, Name, Plan, Rule, Sequence, StatusSet, Step};
 use usb_plans::{Comparison, drive, drive_alone};
 

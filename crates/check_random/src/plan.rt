@@ -10,7 +10,7 @@ use std::alloc::Global;
 use std::sync::Arc;
 use std::sync::atomic::{AtomicU64, Ordering};
 use trace_io::print;
-use usb_callback::{Once, Repeat, StoredCallback};
+use usb_core::{Once, Repeat, StoredCallback};
 use usb_model::{
     Body, DeviceNo, EpAddr, Flags, Kind, Name, Plan, Request, Returned, Rule, StatusSet, Step,
     Verdict,

@@ -8,7 +8,7 @@ use std::alloc::Global;
 use std::marker::Brand;
 use std::result;
 use std::sync::Wait;
-use usb_callback::Ruled;
+use usb_core::Ruled;
 use usb_device::{Device, TableDevice};
 use usb_journal::{Journal, Naming, Receipt};
 use usb_library::{Caller, Ended, Library, Missing, Opening};

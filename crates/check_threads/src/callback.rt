@@ -1,7 +1,7 @@
 //! The callbacks of a scene.
 
 use crate::board::{Board, Mark};
-use usb_callback::{Callback, End};
+use usb_core::{Callback, End};
 use usb_model::{Refused, Returned, Rule, StatusSet, Verdict};
 
 /// What a callback does.

@@ -47,7 +47,7 @@
 //!   (`IsNext`): of the first transfer that waits, the bytes behind those that moved, at most a packet's. Premise: the
 //!   same
 //!
-//! Lemmas of its proofs/ are cited by `usb_steps`: a step in code is the core's, case by case.
+//! Lemmas of its proofs/ are cited by `usb_core`: a step in code is the core's, case by case.
 #![tactic(auto)]
 
 pub mod laws;

@@ -63,8 +63,9 @@
 //! - **All of it in one call**: `live` makes the library, runs both workers and each `Driver` in a thread, joins them, and ends it.
 #![tactic(auto)]
 
-pub use usb_callback::{Callback, Once, Repeat, StoredCallback};
-pub use usb_core::{Core, Pending, Setup, Taken, Unaccepted, Unadded};
+pub use usb_core::{
+    Callback, Core, Once, Pending, Repeat, Setup, StoredCallback, Taken, Unaccepted, Unadded,
+};
 pub use usb_descriptors::{Config, read_config};
 pub use usb_device::{BoxedDevice, Device, TableDevice};
 pub use usb_journal::{

@@ -27,7 +27,7 @@ use Rattle.usb_model.specs.Machine.Turns.{command_effect, command_order, deliver
 use Rattle.usb_model.specs.Setup.{Setup}
 use Rattle.usb_model.specs.World.{World, is_blocked, machine_of, new_world, turn, turn_of, world_from}
 use Rattle.usb_model.specs.World.Shared.{pieces_of}
-use Rattle.usb_steps.specs.Pending.{tells_work}
+use Rattle.usb_core.specs.Pending.{tells_work}
 use Rattle.usb_core.specs.Public.{ShowsWorld, State, does_something}
 use Rattle.proof_model.proofs.Handles.Isolation.{IsEither, new_machine_of, turn_to}
 use Rattle.proof_model.proofs.Lists.Pieces.{same_name}

@@ -8,7 +8,7 @@ use Rattle.usb_model.specs.declared.step.Step.TheVariants.{Serve}
 use Rattle.usb_model.specs.Setup.{Setup}
 use Rattle.usb_model.specs.World.{World, turn, world_from}
 use Rattle.usb_model.specs.World.Journal.{journal_from, run_from}
-use Rattle.usb_steps.specs.Bursts.{whole_entry}
+use Rattle.usb_core.specs.StepBursts.{whole_entry}
 use Rattle.tirnouch_c.specs.declared.session.Session.{Session}
 use Rattle.tirnouch_c.specs.Calls.{SameBeside}
 use Rattle.tirnouch_c.specs.Packets.{ServesRow, ends_nothing, entry_behind, goes_on, served}

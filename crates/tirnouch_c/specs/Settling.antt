@@ -2,7 +2,7 @@
 use Rattle.std.specs.Prelude.{◌≡◌, ℕ, zero, suc, ◌<◌, ◌≤◌, Bool, true, false, find, Option, Some, None, if◌then◌else◌}
 use Rattle.std.specs.Option.{option_map}
 use Rattle.usb_core.specs.Public.{ShowsWorld, State, StillCarries, does_something, serves}
-use Rattle.usb_steps.specs.Pending.{in_circle}
+use Rattle.usb_core.specs.Pending.{in_circle}
 use Rattle.usb_model.specs.declared.step.Step.{Step}
 use Rattle.usb_model.specs.declared.step.Step.TheVariants.{Command, Deliver, Serve}
 use Rattle.usb_model.specs.Coherence.{has_asked}

@@ -3,7 +3,7 @@
 use std::alloc::{AllocError, Global};
 use std::sync::Arc;
 use std::sync::atomic::{AtomicU64, Ordering};
-use usb_callback::Callback;
+use usb_core::Callback;
 use usb_model::{Returned, Rule, Verdict};
 
 /// How many callbacks may be called still, before each is the last of its transfer.

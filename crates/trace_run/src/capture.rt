@@ -23,7 +23,7 @@ use std::vec::IntoIter;
 use trace_capture::{Recorder, append_all, file_header};
 use trace_io::{Fault, Lines};
 use trace_scenario::{DescribedDevice, NumberedLine};
-use usb_callback::Callback;
+use usb_core::Callback;
 use usb_device::Device;
 use usb_model::{Entry, Plan, Sequence, Step, Verdict};
 use usb_plans::{Performed, PlanRun, next_callback};

@@ -8,8 +8,7 @@ ghost use Rattle.trace_scenario.specs.Runnable.{CanBeMade};
 use crate::lines::Parts;
 use std::alloc::{AllocError, Global};
 use trace_scenario::ScriptedDevice;
-use usb_callback::{Callback, Ruled};
-use usb_core::Setup;
+use usb_core::{Callback, Ruled, Setup};
 use usb_device::TableDevice;
 use usb_model::{Rule, Sequence};
 

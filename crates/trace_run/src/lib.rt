@@ -17,7 +17,7 @@
 //!
 //! The part of `trace_main` that needs no threads: it doesn't wait for the library's proofs. A run's lines are
 //! gathered as its steps are made, and no entry is kept; `print_alone` runs two cores side by side. Stands on
-//! `usb_plans`, `usb_left`, `usb_callback`, `usb_core` with what it stands on, `trace_io`, `trace_scenario`, and on
+//! `usb_plans`, `usb_left`, `usb_core`, `usb_core` with what it stands on, `trace_io`, `trace_scenario`, and on
 //! `trace_picture` and `trace_capture` for pictures and captures.
 #![tactic(auto)]
 

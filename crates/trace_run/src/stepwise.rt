@@ -19,7 +19,7 @@ use std::io::Write;
 use std::vec::IntoIter;
 use trace_io::{Fault, Lines, add_behind};
 use trace_scenario::NumberedLine;
-use usb_callback::Callback;
+use usb_core::Callback;
 use usb_device::Device;
 use usb_model::{Plan, Sequence};
 use usb_plans::{Performed, PlanRun, next_callback};

@@ -6,8 +6,7 @@ ghost use Rattle.trace_test.specs.Expanded.{settling_line};
 use std::alloc::{AllocError, Global};
 use trace_run::{parts_of, run_to_end};
 use trace_scenario::{Scenario, TextFault, read_scenario};
-use usb_callback::Callback;
-use usb_core::Core;
+use usb_core::{Callback, Core};
 use usb_device::Device;
 use usb_model::Step;
 

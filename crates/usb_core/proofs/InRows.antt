@@ -13,9 +13,9 @@ use Rattle.refine_core.specs.State.{IsState, Keeps, ShowsWorld, State}
 use Rattle.refine_core.specs.Steps.{core_behind}
 use Rattle.refine_core.proofs.Rows.{runs, shows_behind, steps_run}
 use Rattle.refine_core.proofs.Turns.{shows_again, turns}
-use Rattle.usb_steps.specs.declared.results.Taken.{Taken}
-use Rattle.usb_steps.specs.Drains.{drained_steps}
-use Rattle.usb_steps.specs.Results.{TakesDone}
+use Rattle.usb_core.specs.declared.results.Taken.{Taken}
+use Rattle.usb_core.specs.Drains.{drained_steps}
+use Rattle.usb_core.specs.Results.{TakesDone}
 use Rattle.usb_core.specs.Bursts.{TakesAndStops}
 
 module _ {P : Type 0} (old new : State P) where

@@ -1,3 +1,18 @@
+mod Views
+mod Asks
+mod StepRuns
+mod Serves
+mod Wholes
+mod Worth
+mod Circle
+mod Waits
+mod Called
+mod Callbacks
+mod Carried
+mod Readings
+mod Drains
+mod TakesDone
+pub mod NextPackets
 mod Instances
 mod Turns
 mod InRows

@@ -3,7 +3,7 @@ use Rattle.std.proofs.Common.{◌≡◌, ℕ, Bool, true, false, Option, Some, R
 use Rattle.usb_model.specs.declared.entry.Entry.{Entry}
 use Rattle.usb_model.specs.declared.step.Step.{Step}
 use Rattle.usb_model.specs.Numbers.{takes_payload}
-use Rattle.usb_steps.specs.declared.submission.Unaccepted.{Unaccepted}
+use Rattle.usb_core.specs.declared.submission.Unaccepted.{Unaccepted}
 use Rattle.refine_core.specs.Payloads.{Carries, CarriesMore, Kept, StillCarries}
 use Rattle.refine_core.specs.State.{State}
 use Rattle.usb_core.specs.Steps.{answered, kept_after, kept_by, turned_down}

@@ -12,10 +12,10 @@ use Rattle.usb_model.specs.World.{World}
 use Rattle.usb_device.specs.Pipe.{pipe_at}
 use Rattle.usb_xhc.specs.Slots.{DeviceSlot}
 use Rattle.refine_rings.specs.Endpoint.{IsPipe}
-use Rattle.usb_steps.specs.declared.pending.Pending.{Pending}
-use Rattle.usb_steps.specs.Pending.{IsPending, does_something}
-use Rattle.usb_steps.specs.Homes.{can_expire, expires_now}
-use Rattle.usb_steps.specs.Packets.{taken_in}
+use Rattle.usb_core.specs.declared.pending.Pending.{Pending}
+use Rattle.usb_core.specs.Pending.{IsPending, does_something}
+use Rattle.usb_core.specs.Homes.{can_expire, expires_now}
+use Rattle.usb_core.specs.Packets.{taken_in}
 use Rattle.refine_world.specs.Calls.{KeptHome, ask_core, device_of, kept_home, step_core}
 use Rattle.refine_world.specs.Shows.{Core, Shows}
 use Rattle.refine_world.proofs.Calls.Whole.{whole_steps}

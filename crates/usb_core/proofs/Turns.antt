@@ -5,7 +5,7 @@ use Rattle.usb_model.specs.declared.refused.Refused.{Refused}
 use Rattle.usb_model.specs.declared.refused.Refused.TheVariants.{Busy, HeldElsewhere, InvalidParam, NoDevice, NoMem, NotFound, NotSupported}
 use Rattle.usb_model.specs.declared.reply.Reply.TheVariants.{Number, Refused as IsRefused}
 use Rattle.usb_model.specs.declared.step.Step.{Step}
-use Rattle.usb_steps.specs.declared.submission.Unaccepted.{Unaccepted}
+use Rattle.usb_core.specs.declared.submission.Unaccepted.{Unaccepted}
 use Rattle.refine_core.specs.Calls.{Stays}
 use Rattle.refine_core.specs.State.{IsState, State}
 use Rattle.refine_core.specs.Steps.{DoesCoreStep, TurnsWorld}

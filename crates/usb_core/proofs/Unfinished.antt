@@ -12,7 +12,7 @@ use Rattle.usb_tables.specs.Flights.{EndedOf, item_at, line_at}
 use Rattle.usb_tables.specs.declared.transfer.Transfer.{Transfer as InFlight}
 use Rattle.usb_xhc.specs.Context.{Context}
 use Rattle.usb_xhc.specs.Slots.{DeviceSlot}
-use Rattle.usb_steps.specs.Inventory.{answers_in, halted_in, is_halted_state, stalled_in}
+use Rattle.usb_core.specs.StepInventory.{answers_in, halted_in, is_halted_state, stalled_in}
 use Rattle.refine_world.specs.ShownEndpoint.{AllKept, IsKept}
 use Rattle.refine_core.specs.State.{AllItems, IsItem, ShowsWorld, State, result_of}
 use Rattle.refine_core.specs.Works.{context_in}

@@ -7,7 +7,7 @@ use Rattle.refine_core.specs.Calls.{called_entry}
 use Rattle.refine_core.specs.Handles.{says}
 use Rattle.refine_core.specs.State.{State}
 use Rattle.refine_core.specs.Steps.{TurnsInRow, TurnsWorld}
-use Rattle.usb_steps.specs.declared.results.Taken.{Taken}
+use Rattle.usb_core.specs.declared.results.Taken.{Taken}
 
 -- a result goes out to its callback, which ends: a Take, and an Answer with Stop, which is done; where none waits a Take is idle, and nothing changed
 abbrev pub TakesAndStops : {P : Type 0} → State P → Option (Taken P) → State P → Type 0

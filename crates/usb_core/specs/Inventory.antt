@@ -5,7 +5,7 @@ use Rattle.usb_model.specs.declared.item.Item.{Item}
 use Rattle.usb_model.specs.declared.result.TransferResult.{TransferResult}
 use Rattle.usb_model.specs.declared.shared.Tagged.{Tagged}
 use Rattle.usb_model.specs.Endpoint.{is_blank}
-use Rattle.usb_steps.specs.Inventory.{is_halted_state}
+use Rattle.usb_core.specs.StepInventory.{is_halted_state}
 use Rattle.usb_core.specs.declared.inventory.WaitingResult.{WaitingResult}
 
 -- a result that waits: whose it is, its endpoint, its number and its status

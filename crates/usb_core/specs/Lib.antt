@@ -1,3 +1,16 @@
+pub mod Callbacks
+pub mod Props
+pub mod Homes
+pub mod Reports
+pub mod Submissions
+pub mod Senders
+pub mod Results
+pub mod Pending
+pub mod Packets
+pub mod Calls
+pub mod StepInventory
+pub mod StepBursts
+pub mod Drains
 pub mod Reads
 pub mod Inventory
 pub mod Instances

@@ -8,7 +8,7 @@ use Rattle.usb_model.specs.declared.reply.Reply.TheVariants.{Called, Number, Ref
 use Rattle.usb_model.specs.declared.step.Step.{Step}
 use Rattle.usb_model.specs.declared.step.Step.TheVariants.{Take}
 use Rattle.usb_model.specs.Numbers.{takes_payload}
-use Rattle.usb_steps.specs.declared.submission.Unaccepted.{Unaccepted}
+use Rattle.usb_core.specs.declared.submission.Unaccepted.{Unaccepted}
 use Rattle.refine_core.specs.Payloads.{Kept, kept_with}
 use Rattle.refine_core.specs.State.{State}
 use Rattle.refine_core.specs.Steps.{TurnsWorld}

@@ -9,15 +9,15 @@ ghost use Rattle.usb_model.specs.World.{World, world_from};
 ghost use Rattle.refine_core.specs.Payloads.{Carries, Kept, StillCarries};
 ghost use Rattle.refine_core.specs.State.{ShowsWorld};
 ghost use Rattle.refine_core.specs.Steps.{TurnsInRow};
-ghost use Rattle.usb_steps.specs.Bursts.{Differs, burst_entries};
-ghost use Rattle.usb_steps.specs.Drains.{drained_steps};
-ghost use Rattle.usb_steps.specs.Results.{CarriesOut};
+ghost use Rattle.usb_core.specs.StepBursts.{Differs, burst_entries};
+ghost use Rattle.usb_core.specs.Drains.{drained_steps};
+ghost use Rattle.usb_core.specs.Results.{CarriesOut};
 ghost use Rattle.usb_core.specs.Bursts.{TakesAndStops};
 
 use crate::calls::Core;
+use crate::{Burst, Taken};
 use usb_device::Device;
 use usb_model::{DeviceNo, EpAddr};
-use usb_steps::{Burst, Taken};
 
 impl<P, D: Device> Core<P, D> {
     /// A device answers packets in a row at an endpoint (USB 2.0, 8.5), each as one of `serve`: at most so many, and at

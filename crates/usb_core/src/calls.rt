@@ -12,14 +12,14 @@ ghost use Rattle.refine_core.specs.Payloads.{Carries, CarriesMore, Kept, StillCa
 ghost use Rattle.refine_core.specs.Made.{setup_of};
 ghost use Rattle.refine_core.specs.State.{ShowsWorld};
 ghost use Rattle.refine_core.specs.Steps.{TurnsWorld};
-ghost use Rattle.usb_steps.specs.Calls.{takes_memory};
-ghost use Rattle.usb_steps.specs.Results.{CarriesOut};
+ghost use Rattle.usb_core.specs.Calls.{takes_memory};
+ghost use Rattle.usb_core.specs.Results.{CarriesOut};
 
+use crate::{Parts, Setup, Taken, Unaccepted};
 use std::alloc::{AllocError, Global};
 use std::marker::Model;
 use usb_device::Device;
 use usb_model::{Buffer, Bytes, DeviceNo, Entry, EpAddr, Name, Reply, Request, Step};
-use usb_steps::{Parts, Setup, Taken, Unaccepted};
 
 /// The library's core: every step of every name is made here, over the memory of real rings. Contracts see what it
 /// keeps, and say of it which world it shows (`ShowsWorld`); it always shows one. Each call is a turn of that world

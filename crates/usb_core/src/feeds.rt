@@ -9,10 +9,10 @@ ghost use Rattle.refine_core.specs.Offers.{HasNone, IsNext};
 ghost use Rattle.refine_core.specs.Payloads.{StillCarries};
 ghost use Rattle.refine_core.specs.State.{ShowsWorld};
 
+use crate::Offer;
 use crate::calls::Core;
 use usb_device::{Feed, Scripted};
 use usb_model::{DeviceNo, EpAddr, Refused, Response};
-use usb_steps::Offer;
 
 impl<P, D: Scripted> Core<P, D> {
     /// The packet that a device is to answer next at an endpoint: that of the first transfer that waits there, where the endpoint runs

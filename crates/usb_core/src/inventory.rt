@@ -11,11 +11,11 @@ ghost use Rattle.refine_core.specs.State.{ShowsWorld};
 ghost use Rattle.refine_core.specs.Steps.{TurnsWorld};
 ghost use Rattle.usb_core.specs.Inventory.{halted, number_in, waiting_result};
 
+use crate::Delivered;
 use crate::calls::Core;
 use usb_descriptors::Config;
 use usb_device::{Device, Scripted};
 use usb_model::{DeviceNo, EpAddr, Name, Status};
-use usb_steps::Delivered;
 
 /// A result that waits for its callback.
 #[derive(Clone, Copy, PartialEq, Eq, Debug)]

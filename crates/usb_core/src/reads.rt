@@ -7,13 +7,13 @@ ghost use Rattle.usb_model.specs.Setup.{Setup as ModelSetup, interface_of};
 ghost use Rattle.usb_model.specs.World.{World};
 ghost use Rattle.refine_core.specs.Made.{setup_of};
 ghost use Rattle.refine_core.specs.State.{ShowsWorld};
-ghost use Rattle.usb_steps.specs.Pending.{IsPending, does_something, serves};
+ghost use Rattle.usb_core.specs.Pending.{IsPending, does_something, serves};
 ghost use Rattle.usb_core.specs.Reads.{IsLeft, would_expire};
 
 use crate::calls::Core;
+use crate::{Pending, Setup};
 use usb_device::Device;
 use usb_model::{DeviceNo, EpAddr, Name};
-use usb_steps::{Pending, Setup};
 use usb_xhc::Controller;
 
 impl<P, D: Device> Core<P, D> {

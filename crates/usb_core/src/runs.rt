@@ -6,12 +6,12 @@ ghost use Rattle.refine_core.specs.Made.{setup_of};
 ghost use Rattle.usb_core.specs.Runs.{IsLawfulRun, ObeysLaws};
 ghost use Rattle.usb_core.specs.Steps.{Advances};
 
+use crate::Setup;
 use crate::calls::Core;
 use std::alloc::{AllocError, Global};
 use thiserror::Error;
 use usb_device::Device;
 use usb_model::{Entry, Sequence, Step};
-use usb_steps::Setup;
 
 /// A run that found no memory: the entries before the step that found none.
 #[derive(Debug, Drop, Error)]

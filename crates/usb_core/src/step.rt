@@ -6,15 +6,15 @@ ghost use Rattle.usb_model.specs.Numbers.{takes_payload};
 ghost use Rattle.refine_core.specs.Calls.{Stays};
 ghost use Rattle.refine_core.specs.Payloads.{Carries, Kept, StillCarries};
 ghost use Rattle.refine_core.specs.Steps.{TurnsWorld};
-ghost use Rattle.usb_steps.specs.Calls.{takes_memory};
+ghost use Rattle.usb_core.specs.Calls.{takes_memory};
 ghost use Rattle.usb_core.specs.Steps.{GoesOut, answered, first_payload, handed_out, kept_after, left_over};
 
 use crate::calls::Core;
+use crate::{Taken, Unaccepted};
 use std::fmt;
 use thiserror::Error;
 use usb_device::Device;
 use usb_model::{Entry, Name, Refused, Reply, Step, Verdict};
-use usb_steps::{Taken, Unaccepted};
 
 /// What a step gave.
 #[derive(Drop)]

@@ -10,7 +10,7 @@ use Rattle.usb_model.specs.World.{World, turn}
 use Rattle.usb_model.specs.World.Journal.{journal_from, run_from}
 use Rattle.usb_model.specs.Machine.Turns.{takes_result}
 use Rattle.usb_core.specs.Public.{Burst, State, Whole, burst_entries, whole_entries}
-use Rattle.usb_steps.specs.Bursts.{whole_entry}
+use Rattle.usb_core.specs.StepBursts.{whole_entry}
 use Rattle.usb_journal.specs.declared.place.Place.{Place}
 use Rattle.usb_journal.specs.Booked.{world_where}
 use Rattle.usb_journal.specs.Entered.{DoesRow}

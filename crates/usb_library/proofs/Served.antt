@@ -29,7 +29,7 @@ use Rattle.usb_model.specs.Endpoint.Packets.{open_with, outcome}
 use Rattle.usb_model.specs.Endpoint.Serve.{answered, is_no_packet, next_answer, serve, serve_by, serve_first, serve_gone}
 use Rattle.usb_model.specs.Endpoint.Status.{halts}
 use Rattle.proof_model.proofs.Coherence.FirstEnd.{EndsFirst, end_told}
-use Rattle.usb_steps.specs.Pending.{tells_work}
+use Rattle.usb_core.specs.Pending.{tells_work}
 
 -- whether the packet that comes next does something
 abbrev pub is_served : (size : ℕ) → (gone : Bool) → Endpoint → Bool

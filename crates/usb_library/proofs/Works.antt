@@ -24,7 +24,7 @@ use Rattle.proof_model.proofs.Machines.Idle.{idle_if_none}
 use Rattle.proof_model.proofs.Lists.Pieces.{same_name}
 use Rattle.usb_core.specs.Public.{does_something, serves}
 use Rattle.usb_library.proofs.Served.{deliver_says, is_served, said_of}
-use Rattle.usb_steps.specs.Pending.{has_answers, tells_work}
+use Rattle.usb_core.specs.Pending.{has_answers, tells_work}
 
 -- each name's machine is well
 abbrev pub AllWell : Setup → World → Type 0

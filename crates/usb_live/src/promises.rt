@@ -9,7 +9,7 @@ use crate::seat::{Home, Seat};
 use std::marker::PhantomData;
 use std::snapshot::Snapshot;
 use std::thread::Promise;
-use usb_callback::Callback;
+use usb_core::Callback;
 use usb_journal::Naming;
 use usb_library::Caller;
 

@@ -12,7 +12,7 @@ use std::alloc::{AllocError, Global};
 use std::sync::Wait;
 use std::thread;
 use std::thread::{PromisedHandle, Scope, Threads};
-use usb_callback::Callback;
+use usb_core::Callback;
 use usb_device::Device;
 use usb_journal::{Naming, Recorder};
 use usb_library::{Caller, Library};

@@ -11,8 +11,7 @@ ghost use Rattle.usb_plans.specs.PlanRuns.{entries_of, is_verdict};
 use crate::plan_run::{Performed, PlanRun};
 use std::alloc::{AllocError, Global};
 use std::vec::IntoIter;
-use usb_callback::Callback;
-use usb_core::{Setup, Stopped};
+use usb_core::{Callback, Setup, Stopped};
 use usb_device::Device;
 use usb_model::{Entry, Plan, Sequence, Step};
 

@@ -16,8 +16,7 @@ use crate::plan_run::{Performed, PlanRun, copy_of};
 use crate::twins::is_own;
 use std::alloc::{AllocError, Global};
 use std::vec::IntoIter;
-use usb_callback::Callback;
-use usb_core::Setup;
+use usb_core::{Callback, Setup};
 use usb_device::Device;
 use usb_model::{Entry, Name, Plan, Sequence};
 

@@ -1,7 +1,7 @@
 //! Pieces of plans, performed over the core: steps are made, and callbacks that return are called.
 
 ghost use Rattle.std.specs.Prelude.{◌≡◌, true, false, List, None, Some, IfOk, is_some, if◌then◌else◌};
-ghost use Rattle.usb_callback.specs.Callbacks.{Fits};
+ghost use Rattle.usb_core.specs.Callbacks.{Fits};
 ghost use Rattle.usb_model.specs.declared.step.Step.TheVariants.{Answer};
 ghost use Rattle.usb_model.specs.declared.plan.Plan.TheVariants.{Return};
 ghost use Rattle.usb_model.specs.declared.verdict.Rule.{Rule};
@@ -14,8 +14,7 @@ ghost use Rattle.usb_plans.specs.PlanRuns.{Calls, CallsThere, MakesAnswer, Makes
 use crate::running_callbacks::RunningCallbacks;
 use std::alloc::{AllocError, Global};
 use std::marker::Model;
-use usb_callback::Callback;
-use usb_core::{Core, Setup, Stepped, Taken};
+use usb_core::{Callback, Core, Setup, Stepped, Taken};
 use usb_device::Device;
 use usb_model::{Entry, Name, Plan, Reply, Returned, Step, Verdict};
 

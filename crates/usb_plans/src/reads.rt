@@ -9,8 +9,7 @@ ghost use Rattle.usb_core.specs.Reads.{IsLeft};
 ghost use Rattle.usb_plans.specs.PlanRuns.{ShowsStage};
 
 use crate::plan_run::PlanRun;
-use usb_callback::Callback;
-use usb_core::{Core, Setup};
+use usb_core::{Callback, Core, Setup};
 use usb_device::Device;
 use usb_model::{DeviceNo, EpAddr};
 

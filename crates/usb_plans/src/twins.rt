@@ -11,8 +11,7 @@ use crate::plan_run::{Performed, PlanRun, copy_of};
 use std::alloc::{AllocError, Global};
 use std::marker::Model;
 use std::vec::IntoIter;
-use usb_callback::Callback;
-use usb_core::Setup;
+use usb_core::{Callback, Setup};
 use usb_device::Device;
 use usb_model::{Entry, Name, Plan};
 

@@ -11,7 +11,7 @@ use Rattle.usb_model.specs.declared.verdict.Verdict.TheVariants.{Stop}
 use Rattle.usb_model.specs.Numbers.{is_stop}
 use Rattle.usb_model.specs.Setup.{Setup}
 use Rattle.usb_core.specs.Public.{Pending, called_entry, does_something}
-use Rattle.usb_callback.specs.Callbacks.{Fits}
+use Rattle.usb_core.specs.Callbacks.{Fits}
 use Rattle.usb_journal.specs.declared.events.Events.{Events}
 use Rattle.usb_journal.specs.declared.place.Place.{Place}
 use Rattle.usb_journal.specs.declared.rows.Row.{Row}

@@ -6,8 +6,7 @@ ghost use Rattle.usb_workers.specs.Rounds.{AreCounted, Ends, Resubmits, Tells};
 
 use crate::tries::Tries;
 use std::sync::Wait;
-use usb_callback::{Callback, End};
-use usb_core::Unaccepted;
+use usb_core::{Callback, End, Unaccepted};
 use usb_device::Device;
 use usb_journal::{Naming, NotRecorded, Recorder};
 use usb_library::{Caller, Library, Submitted};

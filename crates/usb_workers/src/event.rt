@@ -2,7 +2,7 @@
 
 ghost use Rattle.std.specs.Prelude.{◌≡◌, ◌<◌, [], map};
 ghost use Rattle.usb_model.specs.declared.verdict.Verdict.{Verdict};
-ghost use Rattle.usb_callback.specs.Callbacks.{Fits};
+ghost use Rattle.usb_core.specs.Callbacks.{Fits};
 ghost use Rattle.usb_library.specs.Calls.{LacksEvents, ShowsEvents};
 ghost use Rattle.usb_workers.specs.Rounds.{AreCounted, CallsBackIf, DeliversIf, Handles, HasEnded, MayAnswer, Rounds, Takes, Tells, TellsAll};
 
@@ -12,8 +12,7 @@ use crate::park::Parking;
 use crate::tries::Tries;
 use std::alloc::Global;
 use std::sync::Wait;
-use usb_callback::Callback;
-use usb_core::Taken;
+use usb_core::{Callback, Taken};
 use usb_device::Device;
 use usb_journal::{Events, Naming, Recorder};
 use usb_library::{Caller, Library, Part};

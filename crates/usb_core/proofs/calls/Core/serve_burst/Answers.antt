@@ -4,7 +4,7 @@ use Rattle.usb_model.specs.declared.step.Step.TheVariants.{Serve}
 use Rattle.refine_core.specs.State.{State}
 use Rattle.refine_core.specs.Steps.{TurnsInRow}
 use Rattle.refine_core.proofs.Rows.{runs, shows_behind}
-use Rattle.usb_steps.specs.Bursts.{burst_entries}
+use Rattle.usb_core.specs.StepBursts.{burst_entries}
 use Rattle.usb_core.proofs.calls.Core.serve_burst.Goals as goal
 
 pub invariant_of-self : goal.invariant_of-self

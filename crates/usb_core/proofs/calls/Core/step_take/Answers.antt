@@ -3,7 +3,7 @@ use Rattle.usb_model.specs.declared.step.Step.TheVariants.{Take}
 use Rattle.refine_core.specs.Calls.{called_entry}
 use Rattle.usb_core.proofs.Turns.{as_turn}
 use Rattle.usb_model.specs.declared.entry.Entry.{Entry}
-use Rattle.usb_steps.specs.Results.{CarriesOut}
+use Rattle.usb_core.specs.Results.{CarriesOut}
 use Rattle.usb_core.specs.Steps.{GoesOut}
 use Rattle.usb_core.proofs.calls.Core.step_take.Goals as goal
 

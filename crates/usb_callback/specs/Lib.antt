@@ -1,2 +1,0 @@
-pub mod Callbacks
-pub mod Props
