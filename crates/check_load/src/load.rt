@@ -12,8 +12,8 @@ use std::time::{Clock, Duration, Instant};
 use usb_core::Setup;
 use usb_device::TableDevice;
 use usb_journal::Recorder;
-use usb_live::{Lived, live};
 use usb_model::Refused;
+use usb_workers::{Lived, live};
 
 /// The devices: two handles have an interface each of one.
 pub const DEVICES: u8 = 4;

@@ -7,8 +7,8 @@ use usb_core::Taken;
 use usb_device::Device;
 use usb_journal::{Naming, Recorder};
 use usb_library::{Answered, Caller, Library};
-use usb_live::make;
 use usb_model::{DeviceNo, EpAddr, Name, Refused, Request, Step};
+use usb_workers::make;
 
 /// How often a thread looks whether something came about, before it gives up.
 pub const TURNS: u64 = 100_000_000;

@@ -10,8 +10,8 @@ use usb_core::Callback;
 use usb_device::Device;
 use usb_journal::{Naming, Recorder};
 use usb_library::{Caller, Library};
-use usb_live::Driver;
 use usb_model::{Refused, Returned, Step, Verdict};
+use usb_workers::Driver;
 
 /// The callback of a transfer: it counts.
 #[derive(Drop)]

@@ -12,8 +12,8 @@ use usb_core::Unaccepted;
 use usb_device::Device;
 use usb_journal::{Naming, Recorder};
 use usb_library::{Caller, Library};
-use usb_live::{Driver, make};
 use usb_model::{Name, Refused, Reply, Request, Step};
+use usb_workers::{Driver, make};
 
 /// A thread of a scene.
 #[derive(Drop)]

@@ -15,8 +15,8 @@ use std::thread::Threads;
 use usb_core::Setup;
 use usb_device::Device;
 use usb_journal::{Journal, Place};
-use usb_live::{Gates, Lived, live_gated};
 use usb_model::{Entry, Reply};
+use usb_workers::{Gates, Lived, live_gated};
 
 /// What a thread leaves, or that it waited in vain.
 type Left = result::Result<Played, AllocError>;

@@ -2,8 +2,7 @@
 
 use crate::board::{Board, Mark};
 use std::sync::Wait;
-use usb_live::Gates;
-use usb_workers::{Gate, Point};
+use usb_workers::{Gate, Gates, Point};
 
 /// Where a worker is held: at this point, when it comes there for the nth time, counted from 1; 0 holds nobody.
 #[derive(Clone, Copy)]

@@ -72,9 +72,11 @@ pub use usb_journal::{
     Journal, Naming, NotRecorded, Outgoing, Place, Receipt, Recorder, Row, Unrecorded,
 };
 pub use usb_library::{Answered, CALLERS, Caller, Ended, Library, Missing, Opening, Submitted};
-pub use usb_live::{Driver, Gates, Lived, live, live_gated};
 pub use usb_model::{
     Body, Bytes, DeviceNo, Entry, EpAddr, Flags, Kind, Name, Refused, Reply, Request, Response,
     Returned, Rule, Script, Sequence, Status, StatusSet, Step, Verdict,
 };
-pub use usb_workers::{BURST, Gate, Moments, Open, Point, controller_loop, event_loop};
+pub use usb_workers::{
+    BURST, Driver, Gate, Gates, Lived, Moments, Open, Point, controller_loop, event_loop, live,
+    live_gated,
+};

@@ -16,7 +16,7 @@ use Rattle.usb_journal.specs.Booked.{steps_of}
 use Rattle.usb_journal.specs.Seen.{caller_of}
 use Rattle.usb_library.specs.Calls.{Calling, Knows, ShowsEvents, ShowsPending}
 use Rattle.usb_workers.specs.Rounds.{Controls, Handles}
-use Rattle.usb_live.specs.Life.{Drives, Each, LivedBy, Returns}
+use Rattle.usb_workers.specs.Life.{Drives, Each, LivedBy, Returns}
 use Rattle.trace_live.specs.Calls.{HasCalls, calls_by, handle_of, is_call_of, is_lived, steps_in}
 use Rattle.trace_live.specs.Lines.{ArePlanned, has_steps}
 use Rattle.trace_live.proofs.Parts.{Lone, joined, joined-empty}

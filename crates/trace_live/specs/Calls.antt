@@ -6,9 +6,9 @@ use Rattle.usb_model.specs.declared.plan.Plan.{Plan}
 use Rattle.usb_model.specs.declared.plan.Plan.TheVariants.{Do, Return}
 use Rattle.usb_model.specs.declared.step.Step.{Step}
 use Rattle.usb_model.specs.declared.step.Step.TheVariants.{Expire, Submit, Unplug}
-use Rattle.usb_live.specs.Steps.{caller_of}
+use Rattle.usb_workers.specs.Steps.{caller_of}
 
--- the handle whose call a step is: one that submits, or another that usb_live makes; none of what workers, clocks and callbacks do
+-- the handle whose call a step is: one that submits, or another that usb_workers makes; none of what workers, clocks and callbacks do
 abbrev pub handle_of : Step → Option ℕ
 handle_of (Submit h request) = Some h
 handle_of step = caller_of step

@@ -12,8 +12,8 @@ use std::sync::Wait;
 use usb_device::Device;
 use usb_journal::{Naming, Recorder};
 use usb_library::{Caller, Library};
-use usb_live::Driver;
 use usb_model::{Plan, Rule, Sequence};
+use usb_workers::Driver;
 
 /// How many handles there are.
 const HANDLES: usize = 64;

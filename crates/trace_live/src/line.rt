@@ -10,8 +10,8 @@ use std::sync::Wait;
 use usb_device::Device;
 use usb_journal::{Naming, Recorder};
 use usb_library::{Caller, Library};
-use usb_live::{handle_of, make};
 use usb_model::{Name, Plan, Request, Rule, Step};
+use usb_workers::{handle_of, make};
 
 /// What a handle does by a line.
 #[derive(Drop)]

@@ -16,8 +16,8 @@ use usb_core::Setup;
 use usb_device::Scripted;
 use usb_journal::Journal;
 use usb_left::Left;
-use usb_live::{Lived, live};
 use usb_model::{Entry, Plan, Rule, Sequence};
+use usb_workers::{Lived, live};
 
 /// What came of a plan that was performed.
 #[derive(Drop)]

@@ -3,11 +3,12 @@
 ghost use Rattle.std.specs.Prelude.{◌≡◌, ◌++◌, [], IfOk, IfSome, map};
 ghost use denote.Param.Send.{IsSend, IsSync};
 ghost use Rattle.usb_workers.specs.Rounds.{MayAnswer};
-ghost use Rattle.usb_live.specs.Life.{ControlsAll, Each, HandlesAll};
+ghost use Rattle.usb_workers.specs.Life.{ControlsAll, Each, HandlesAll};
 
 use crate::driver::Driver;
 use crate::promises::{Controlling, Driving, Handling};
 use crate::seat::{Home, Seat, drive};
+use crate::{Gate, controller_loop, event_loop};
 use std::alloc::{AllocError, Global};
 use std::sync::Wait;
 use std::thread;
@@ -16,7 +17,6 @@ use usb_core::Callback;
 use usb_device::Device;
 use usb_journal::{Naming, Recorder};
 use usb_library::{Caller, Library};
-use usb_workers::{Gate, controller_loop, event_loop};
 
 /// A worker's caller, and its gate.
 #[derive(Drop)]

@@ -1,7 +1,7 @@
 use Rattle.std.proofs.Common.{subst}
 use Rattle.usb_journal.specs.Booked.{world_where}
-use Rattle.usb_live.specs.Life.{AreAll}
-use Rattle.usb_live.proofs.life.ended.Goals as goal
+use Rattle.usb_workers.specs.Life.{AreAll}
+use Rattle.usb_workers.proofs.life.ended.Goals as goal
 
 pub returns-clause-callers : goal.returns-clause-callers
 returns-clause-callers g c =

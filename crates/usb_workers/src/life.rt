@@ -3,12 +3,13 @@
 ghost use Rattle.std.specs.Prelude.{◌≡◌, ◌∷◌, IfOk, map};
 ghost use Rattle.usb_core.specs.Public.{setup_of};
 ghost use Rattle.usb_workers.specs.Rounds.{MayAnswer};
-ghost use Rattle.usb_live.specs.Life.{AreAll, KeepsRun, LivedBy, TellsRest};
+ghost use Rattle.usb_workers.specs.Life.{AreAll, KeepsRun, LivedBy, TellsRest};
 
 use crate::driver::Driver;
 use crate::gates::Gates;
 use crate::seat::{caller_of, seated};
 use crate::threads::{Back, Post, run_all};
+use crate::{Gate, Open};
 use std::alloc::{AllocError, Global};
 use std::marker::Brand;
 use std::sync::Wait;
@@ -17,7 +18,6 @@ use usb_core::{Callback, Core, Setup};
 use usb_device::Device;
 use usb_journal::{Naming, Recorder, Whole};
 use usb_library::{Caller, Library, Opening};
-use usb_workers::{Gate, Open};
 
 /// What a library that lived leaves, and its drivers.
 #[derive(Drop)]

@@ -1,5 +1,5 @@
 -- The library's name: that of what it is made of.
-use Rattle.usb_live.proofs.life.live_gated.Given as goal
+use Rattle.usb_workers.proofs.life.live_gated.Given as goal
 
 abbrev pub ghosts-named-L-Ledger : goal.ghosts-named-L-Ledger
 ghosts-named-L-Ledger g a = record { name = a.opening.name; parts = 1025 }

@@ -1,6 +1,6 @@
 //! The gates of both workers.
 
-use usb_workers::Open;
+use crate::Open;
 
 /// What the two workers pass before each of their acts.
 #[derive(Drop)]

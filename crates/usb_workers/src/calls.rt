@@ -4,7 +4,7 @@ ghost use Rattle.std.specs.Prelude.{◌≡◌, IfNone, IfOk, IfSome, OnErr, Some
 ghost use Rattle.usb_model.specs.Setup.{Setup};
 ghost use Rattle.usb_model.specs.World.{World, owner_of};
 ghost use Rattle.usb_library.specs.Calls.{Makes, misses};
-ghost use Rattle.usb_live.specs.Steps.{caller_of};
+ghost use Rattle.usb_workers.specs.Steps.{caller_of};
 
 use std::alloc::AllocError;
 use std::sync::Wait;

@@ -2,7 +2,7 @@
 
 ghost use Rattle.std.specs.Prelude.{◌≡◌};
 ghost use Rattle.usb_workers.specs.Rounds.{MayAnswer};
-ghost use Rattle.usb_live.specs.Life.{ControlsAll, HandlesAll};
+ghost use Rattle.usb_workers.specs.Life.{ControlsAll, HandlesAll};
 
 use crate::driver::Driver;
 use crate::seat::{Home, Seat};

@@ -7,7 +7,7 @@ use Rattle.usb_model.specs.declared.verdict.Verdict.{Verdict}
 use Rattle.usb_model.specs.Setup.{Setup}
 use Rattle.usb_journal.specs.declared.place.Place.{Place}
 use Rattle.usb_library.specs.Calls.{Calling}
-use Rattle.usb_live.specs.Life.{AreAll, ControlsAll, Drives, Each, HandlesAll, LivedBy, Returns}
+use Rattle.usb_workers.specs.Life.{AreAll, ControlsAll, Drives, Each, HandlesAll, LivedBy, Returns}
 
 -- one more at the end of both
 pub each_push : {A B : Type 0} (R : A → B → Type 0) (xs : List A) (ys : List B) (x : A) (y : B) → Each R xs ys → R x y → Each R (xs ++ x ∷ []) (ys ++ y ∷ [])

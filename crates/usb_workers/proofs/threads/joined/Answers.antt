@@ -1,5 +1,5 @@
-use Rattle.usb_live.proofs.Homes.{each_none, each_push_mapped}
-use Rattle.usb_live.proofs.threads.joined.Goals as goal
+use Rattle.usb_workers.proofs.Homes.{each_none, each_push_mapped}
+use Rattle.usb_workers.proofs.threads.joined.Goals as goal
 
 pub loop-thread-init : goal.loop-thread-init
 loop-thread-init g c = each_none _ c.args.homes.items c.requires

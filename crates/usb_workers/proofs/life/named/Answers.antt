@@ -1,6 +1,6 @@
 use Rattle.usb_workers.specs.Rounds.{MayAnswer}
-use Rattle.usb_live.proofs.Homes.{lived_by}
-use Rattle.usb_live.proofs.life.named.Goals as goal
+use Rattle.usb_workers.proofs.Homes.{lived_by}
+use Rattle.usb_workers.proofs.life.named.Goals as goal
 
 pub returns-clause-by : goal.returns-clause-by
 returns-clause-by g c =
