@@ -18,7 +18,7 @@ import times
 import unproved
 
 ROOT = pathlib.Path(__file__).resolve().parent.parent
-KEPT = "rt: usb_lent is kept: an earlier run on this machine proved the same files over the same libraries"
+KEPT = "rt: tirnouch_c is kept: an earlier run on this machine proved the same files over the same libraries"
 
 
 class Proofs(unittest.TestCase):
@@ -67,7 +67,7 @@ class Proofs(unittest.TestCase):
         proofs = progress.Proofs(["usb_trb", "usb_rings"], progress.Meter())
         proofs.cost = {"usb_trb": 2.0, "usb_rings": 40.0}
         self.assertEqual(proofs.minutes_left(), 42.0)  # usb_rings waits for usb_trb
-        proofs.read(KEPT.replace("usb_lent", "usb_rings"))
+        proofs.read(KEPT.replace("tirnouch_c", "usb_rings"))
         self.assertEqual(proofs.minutes_left(), 2.0)
 
 

@@ -42,7 +42,7 @@ use crate::held::Slot;
 use crate::told::Told;
 use std::io;
 use std::ptr::null_mut;
-use usb_lent::LentMemory;
+use tirnouch_c::LentMemory;
 
 fn main(rt: HostRuntime) -> io::Result<()> {{
     let alloc = rt.alloc();

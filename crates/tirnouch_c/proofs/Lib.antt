@@ -1,3 +1,5 @@
+pub mod LentCalls
+pub mod LentValues
 pub mod HeldValues
 pub mod Values
 pub mod MadeDevices

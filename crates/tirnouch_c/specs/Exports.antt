@@ -2,7 +2,7 @@
 use Rattle.std.specs.Prelude.{◌≡◌, ℕ, ℤ, pos, negsuc, ◌==◌, nat_lt, not, List, Option, Some, None, Err, if◌then◌else◌}
 use Rattle.std.specs.Option.{option_map}
 use Rattle.usb_devicetext.specs.Desk.{desk_of}
-use Rattle.usb_lent.specs.declared.lent.LentMemory.{LentMemory}
+use Rattle.tirnouch_c.specs.declared.lent_memory.LentMemory.{LentMemory}
 use Rattle.tirnouch_c.specs.declared.session.Session.{Session}
 use Rattle.tirnouch_c.specs.declared.told.Told.{Told}
 use Rattle.tirnouch_c.specs.Calls.{no_session, out_of_range}

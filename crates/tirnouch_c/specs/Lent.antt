@@ -1,7 +1,7 @@
 -- Memory that C lends, on its way into a transfer and back.
 use Rattle.std.specs.Prelude.{◌≡◌, ℕ, ℤ, pos, Bool, true, false, Option, Some, None}
 use Rattle.usb_core.specs.Public.{Taken}
-use Rattle.usb_lent.specs.declared.lent.LentMemory.{LentMemory}
+use Rattle.tirnouch_c.specs.declared.lent_memory.LentMemory.{LentMemory}
 use Rattle.usb_model.specs.Buffer.{Buffer}
 
 -- what C lent goes back to it; what is the library's doesn't

@@ -10,7 +10,7 @@ use Rattle.tirnouch_c.specs.declared.told.Told.{Told}
 use Rattle.tirnouch_c.specs.Buffers.{answer_of, filled, taken_count}
 use Rattle.tirnouch_c.specs.Lent.{BytesGo}
 use Rattle.tirnouch_c.specs.Told.{of_kind, told_of}
-use Rattle.usb_lent.specs.declared.lent.LentMemory.{LentMemory}
+use Rattle.tirnouch_c.specs.declared.lent_memory.LentMemory.{LentMemory}
 
 -- what is answered where a result is asked for: 0 where none waits, 1 where one goes out
 abbrev pub went_number : Option (Taken ℕ) → ℤ

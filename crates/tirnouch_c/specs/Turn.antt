@@ -1,6 +1,6 @@
 -- A packet's way in one call.
 use Rattle.std.specs.Prelude.{ℕ, ℤ, false}
-use Rattle.usb_lent.specs.declared.lent.LentMemory.{LentMemory}
+use Rattle.tirnouch_c.specs.declared.lent_memory.LentMemory.{LentMemory}
 use Rattle.tirnouch_c.specs.declared.session.Session.{Session}
 use Rattle.tirnouch_c.specs.declared.told.Told.{Told}
 use Rattle.tirnouch_c.specs.Packets.{Serves}

@@ -21,12 +21,12 @@ use crate::lent::{lend, put_back};
 use crate::session::Session;
 use crate::told::Told;
 use crate::{
-    complaints, descriptions, feeds, packets, reads, requests, results, settling, submission, turn,
+    LentMemory, complaints, descriptions, feeds, packets, reads, requests, results, settling,
+    submission, turn,
 };
 use std::alloc::Global;
 use trace_scenario::TextFault;
 use usb_devicetext::SetupPacket;
-use usb_lent::LentMemory;
 use usb_model::{Buffer, DeviceNo, EpAddr, Name, Step};
 
 /// The answer of a slot that holds no session (libusb 1.0, `LIBUSB_ERROR_OTHER`).

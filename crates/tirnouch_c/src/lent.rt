@@ -3,11 +3,11 @@
 ghost use Rattle.std.specs.Prelude.{◌≡◌, true};
 ghost use Rattle.tirnouch_c.specs.Lent.{BytesGo, GoesInto};
 
+use crate::LentMemory;
 use std::alloc::Global;
 use std::mem;
 use std_alloc::vec::Lodged;
 use usb_core::Taken;
-use usb_lent::LentMemory;
 use usb_model::{Buffer, BytesRead, Memory, Returned};
 
 /// The memory, of which none stays behind.

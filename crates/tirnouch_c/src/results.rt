@@ -4,11 +4,11 @@ ghost use Rattle.std.specs.Prelude.{◌≡◌, ◌≤◌, length};
 ghost use Rattle.tirnouch_c.specs.Buffers.{answer_of, filled, taken_count};
 ghost use Rattle.tirnouch_c.specs.Results.{Fetches, Takes};
 
+use crate::LentMemory;
 use crate::lent::give_back;
 use crate::session::Session;
 use crate::told::Told;
 use std::alloc::Global;
-use usb_lent::LentMemory;
 
 /// A count as an answer, as far as it fits.
 pub fn answer_of(count: usize) -> i32

@@ -3,13 +3,13 @@
 ghost use Rattle.std.specs.Prelude.{◌≡◌};
 ghost use Rattle.tirnouch_c.specs.Turn.{Works};
 
+use crate::LentMemory;
 use crate::packets::serve;
 use crate::results::take;
 use crate::session::Session;
 use crate::settling::settle;
 use crate::told::Told;
 use std::alloc::Global;
-use usb_lent::LentMemory;
 use usb_model::{DeviceNo, EpAddr};
 
 /// Packets at an endpoint, at most so many; what is to be done behind them, without other packets, at most so many steps; and the

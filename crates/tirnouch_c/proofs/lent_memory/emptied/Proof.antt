@@ -23,12 +23,12 @@ use Rattle.std.proofs.alloc.Calls.{Goes-blank}
 use Rattle.std.proofs.raw_atomic.Walks.{proved_at}
 use Rattle.std_alloc.specs.Vec.Ownership.{lodged}
 use Rattle.std_alloc.proofs.vec.lodged.Vec+T+Lodged.dislodge.Met as callee
-use Rattle.usb_lent.proofs.Calls.{byte_laws, Housed, housed-laws, tells, Dislodges, at_dislodge, dislodge_goes, dislodge_gives}
-use Rattle.usb_lent.proofs.Values.{lent_val, lent_own, lent_made, lent_typed, ptr_typed}
-use Rattle.usb_lent.specs.contracts.lent.LentMemory.{the_row as R}
-use Rattle.usb_lent.specs.contracts.lent.emptied as f
-use Rattle.usb_lent.proofs.lent.emptied.Statement.{statement}
-use Rattle.usb_lent.proofs.lent.emptied.Code as code
+use Rattle.tirnouch_c.proofs.LentCalls.{byte_laws, Housed, housed-laws, tells, Dislodges, at_dislodge, dislodge_goes, dislodge_gives}
+use Rattle.tirnouch_c.proofs.LentValues.{lent_val, lent_own, lent_made, lent_typed, ptr_typed}
+use Rattle.tirnouch_c.specs.contracts.lent.LentMemory.{the_row as R}
+use Rattle.tirnouch_c.specs.contracts.lent.emptied as f
+use Rattle.tirnouch_c.proofs.lent_memory.emptied.Statement.{statement}
+use Rattle.tirnouch_c.proofs.lent_memory.emptied.Code as code
 
 abbrev stayed : Stays f.ended.signature.params f.ended.kept
 stayed = (stay_dropped (plain (λ _. Housed)) yes, (stay_dropped (plain (λ _. RawPtr)) yes, (stay_dropped (plain (λ _. usize)) yes, tt)))

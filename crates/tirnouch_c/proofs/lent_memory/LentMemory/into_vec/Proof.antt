@@ -26,12 +26,12 @@ use Rattle.std.proofs.VecSteps.Shapes.{after}
 use Rattle.std_alloc.specs.Vec.Ownership.{owns_if, has_block}
 use Rattle.std_alloc.specs.declared.vec.lodged.Lodged.{Lodged}
 use Rattle.std_alloc.proofs.vec.lodge.Met as callee
-use Rattle.usb_lent.proofs.Calls.{byte_laws, Housed, housed-laws, Good, tells, Lodges, at_lodge, IsLodged, lodge_goes, lodge_gives}
-use Rattle.usb_lent.proofs.Values.{lent_val, lent_told}
-use Rattle.usb_lent.specs.contracts.lent.LentMemory.{the_row as R}
-use Rattle.usb_lent.specs.contracts.lent.LentMemory.into_vec as f
-use Rattle.usb_lent.proofs.lent.LentMemory.into_vec.Statement.{statement}
-use Rattle.usb_lent.proofs.lent.LentMemory.into_vec.Code as code
+use Rattle.tirnouch_c.proofs.LentCalls.{byte_laws, Housed, housed-laws, Good, tells, Lodges, at_lodge, IsLodged, lodge_goes, lodge_gives}
+use Rattle.tirnouch_c.proofs.LentValues.{lent_val, lent_told}
+use Rattle.tirnouch_c.specs.contracts.lent.LentMemory.{the_row as R}
+use Rattle.tirnouch_c.specs.contracts.lent.LentMemory.into_vec as f
+use Rattle.tirnouch_c.proofs.lent_memory.LentMemory.into_vec.Statement.{statement}
+use Rattle.tirnouch_c.proofs.lent_memory.LentMemory.into_vec.Code as code
 
 abbrev stayed : Stays f.ended.signature.params f.ended.kept
 stayed = (stay_dropped (plain (λ _. R)) yes, tt)
