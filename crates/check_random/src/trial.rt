@@ -12,7 +12,7 @@ use trace_io::print;
 pub fn run(alloc: Global, seed: u64, count: u64, seen: &mut Seen) -> Result<()> {
     let steps = steps(alloc, seed, count)?;
     let setup = scene::plain(alloc, seed)?;
-    let Ok(plain) = plain_run::run(alloc, &setup, steps.as_slice()) else {
+    let Ok(plain) = reference::run(alloc, &setup, steps.as_slice()) else {
         return Err(anyhow!("scenario {seed}: the plain program stopped"));
     };
     let Ok(real) = usb_core::run(

@@ -2,7 +2,7 @@
 
 use crate::row::Row;
 use anyhow::Result;
-use plain_run::{drive, drive_alone};
+use reference::{drive, drive_alone};
 use std::alloc::{AllocError, Global};
 use std::io::Write;
 use std::result;

@@ -5,14 +5,14 @@ ghost use Rattle.std.specs.List.{flat_map};
 ghost use Rattle.usb_model.specs.declared.verdict.Rule.{Rule};
 ghost use Rattle.usb_model.specs.World.Journal.{run_from};
 ghost use Rattle.usb_model.specs.World.Plans.{rules_after, stage_after, steps_of};
-ghost use Rattle.plain_run.specs.PlanRuns.{stage_of};
+ghost use Rattle.reference.specs.PlanRuns.{stage_of};
 ghost use Rattle.trace_explain.specs.Packets.{packet_lines};
 ghost use Rattle.trace_scenario.specs.StepLines.{numbered};
 ghost use Rattle.trace_explain.specs.Explained.{explained_entries, explained_from, explained_text, first_reason, first_step, note_text, reason_line, told_entry, told_piece};
 
 use crate::packets::packet_lines;
 use crate::telling::Telling;
-use plain_run::PlanRun;
+use reference::PlanRun;
 use std::alloc::{AllocError, Global};
 use trace_io::add_behind;
 use trace_reasons::{Reason, reason};

@@ -12,7 +12,7 @@
 //! # Contracts
 //!
 //! - `explained_run`: the text is that of the definition (`explained_text`): entries of the plan's run, and reasons (`reason_of` of
-//!   `trace_reasons`) or packets (`packets_moved` of `plain_endpoint`) of the very steps that the plan stands for. The plain program makes
+//!   `trace_reasons`) or packets (`packets_moved` of `reference`) of the very steps that the plan stands for. The plain program makes
 //!   the run, since between two of its steps all that handles have can be looked at
 #![tactic(auto)]
 

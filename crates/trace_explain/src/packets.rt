@@ -2,12 +2,12 @@
 
 ghost use Rattle.std.specs.Prelude.{◌≡◌, ◌++◌, IfOk, string_bytes};
 ghost use Rattle.std.specs.List.{flat_map};
-ghost use Rattle.plain_system.specs.System.{world_of};
+ghost use Rattle.reference.specs.System.{world_of};
 ghost use Rattle.trace_explain.specs.Packets.{data_text, packet_line, packet_lines, packets_at, way_text};
 ghost use Rattle.usb_model.specs.World.{holder};
 
-use plain_endpoint::moved::packets_moved;
-use plain_system::System;
+use reference::System;
+use reference::moved::packets_moved;
 use std::alloc::{AllocError, Global};
 use usb_model::{Bytes, DeviceNo, EpAddr, Setup, Step};
 

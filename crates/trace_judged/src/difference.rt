@@ -2,12 +2,12 @@
 
 ghost use Rattle.std.specs.Prelude.{◌≡◌, IfOk};
 ghost use Rattle.std.specs.Option.{option_copied};
-ghost use Rattle.plain_system.specs.System.{world_of};
+ghost use Rattle.reference.specs.System.{world_of};
 ghost use Rattle.usb_model.specs.Setup.{Setup};
 ghost use Rattle.trace_judged.specs.Differences.{difference_of, next_index, received_at};
 
 use crate::expected::{copy_expected, copy_of, differs_at};
-use plain_system::System;
+use reference::System;
 use std::alloc::{AllocError, Global};
 use trace_scenario::ExpectedPacket;
 use usb_model::{Bytes, DeviceNo, EpAddr};

@@ -2,7 +2,7 @@
 
 ghost use Rattle.std.specs.Prelude.{◌≡◌, ◌<◌, ◌++◌, IfOk, count_by, drop, position, slice_get};
 ghost use Rattle.std.specs.Option.{option_copied, option_to_list};
-ghost use Rattle.plain_system.specs.System.{world_of};
+ghost use Rattle.reference.specs.System.{world_of};
 ghost use Rattle.trace_judged.specs.Differences.{next_index};
 ghost use Rattle.trace_judged.specs.Expected.{packets_of};
 ghost use Rattle.trace_judged.specs.Missing.{all_missing, device_missing, is_wanted, missing_at, missing_of};
@@ -10,7 +10,7 @@ ghost use Rattle.usb_model.specs.Setup.{Setup};
 
 use crate::difference::next_index;
 use crate::expected::{copy_expected, expected_at};
-use plain_system::System;
+use reference::System;
 use std::alloc::{AllocError, Global};
 use trace_scenario::{ExpectedPacket, ExpectedPackets};
 use usb_model::{DeviceNo, EpAddr, Setup};

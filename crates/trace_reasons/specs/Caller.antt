@@ -2,7 +2,7 @@
 use Rattle.usb_model.specs.Setup.{Setup}
 use Rattle.usb_model.specs.Machine.{Machine}
 use Rattle.usb_model.specs.World.{World, machine_with}
-use Rattle.plain_system.specs.System.{world_of}
+use Rattle.reference.specs.System.{world_of}
 use Rattle.trace_reasons.specs.declared.caller.Caller.{Caller}
 
 -- the devices as they were set up

@@ -11,7 +11,7 @@ ghost use Rattle.usb_model.specs.Setup.{endpoints_of};
 
 use crate::caller::Caller;
 use crate::refusal::{Missing, Refusal};
-use plain_endpoint::calls::in_progress;
+use reference::calls::in_progress;
 use usb_model::{DeviceNo, EndpointInfo, EpAddr, Item};
 
 impl<'a> Caller<'a> {

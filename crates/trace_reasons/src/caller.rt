@@ -2,10 +2,10 @@
 
 ghost use Rattle.std.specs.Prelude.{◌≡◌};
 ghost use Rattle.usb_model.specs.World.{machine_of as machine_in_world};
-ghost use Rattle.plain_system.specs.System.{world_of};
+ghost use Rattle.reference.specs.System.{world_of};
 ghost use Rattle.trace_reasons.specs.Caller.{machine_of, setup_in, world_in};
 
-use plain_system::System;
+use reference::System;
 use usb_model::{Handle, Name, Setup};
 
 /// What a call of a handle reads, with what is kept of the handle. Contracts see the world by `world_in`, and what it is

@@ -3,7 +3,7 @@
 ghost use Rattle.std.specs.Prelude.{◌≡◌, ℕ, Some};
 ghost use Rattle.trace_reasons.specs.Caller.{machine_of, setup_in, world_in};
 ghost use Rattle.trace_reasons.specs.Refusals.{claim_refusal, close_refusal, elsewhere, first_elsewhere, open_refusal, release_refusal, reset_refusal, unplug_refusal};
-ghost use Rattle.plain_system.specs.System.{world_of};
+ghost use Rattle.reference.specs.System.{world_of};
 ghost use Rattle.std.specs.List.{find};
 ghost use Rattle.std.specs.Option.{option_copied};
 ghost use Rattle.usb_model.specs.Setup.{interfaces_of};
@@ -11,7 +11,7 @@ ghost use Rattle.usb_model.specs.World.{is_others};
 
 use crate::caller::Caller;
 use crate::refusal::{Missing, Obstacle, Refusal};
-use plain_system::System;
+use reference::System;
 use usb_model::{DeviceNo, Name, Setup};
 
 /// Why a device can't be unplugged.

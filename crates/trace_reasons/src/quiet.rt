@@ -3,7 +3,7 @@
 ghost use Rattle.std.specs.Prelude.{◌≡◌, ◌==◌, ◌&&◌, not, Some};
 ghost use Rattle.std.specs.List.{count_by, find};
 ghost use Rattle.std.specs.Option.{option_copied};
-ghost use Rattle.plain_system.specs.System.{is_chosen};
+ghost use Rattle.reference.specs.System.{is_chosen};
 ghost use Rattle.trace_reasons.specs.Caller.{machine_of, setup_in};
 ghost use Rattle.trace_reasons.specs.Refusals.Quiet.{called, in_line, ordered, unquiet, unquiet_at, untaken};
 ghost use Rattle.usb_model.specs.Setup.{endpoints_of};
@@ -12,7 +12,7 @@ ghost use Rattle.usb_model.specs.World.Shared.{pieces_of};
 
 use crate::caller::Caller;
 use crate::refusal::Obstacle;
-use plain_system::Call;
+use reference::Call;
 use usb_model::{
     DeviceNo, EndpointInfo, EpAddr, Errand, InCallback, Item, Name, Tagged, TransferResult,
 };

@@ -1,7 +1,7 @@
 //! The reason of a step.
 
 ghost use Rattle.std.specs.Prelude.{◌≡◌};
-ghost use Rattle.plain_system.specs.System.{world_of};
+ghost use Rattle.reference.specs.System.{world_of};
 ghost use Rattle.trace_reasons.specs.Reasons.{reason_of, refusal_told};
 
 use crate::caller::Caller;
@@ -10,7 +10,7 @@ use crate::refusal::Refusal;
 use crate::sentence::Reason;
 use crate::shape::Shape;
 use crate::turns::{command_reason, deliver_reason, serve_reason, take_reason};
-use plain_system::System;
+use reference::System;
 use usb_model::{Setup, Step};
 
 /// A step is refused for this, if it is.

@@ -11,7 +11,7 @@ use crate::endpoints::EndpointList;
 use crate::quiet::{in_line, results_at};
 use crate::refusal::{Misfit, Missing, Obstacle, Refusal};
 use crate::shape::Shape;
-use plain_system::callback::callback_of;
+use reference::callback::callback_of;
 use usb_model::limits::{LAST_NUMBER, MOST_BYTES, MOST_PLACES};
 use usb_model::{DeviceNo, Endpoint, EpAddr, Kind, Verdict};
 

@@ -1,7 +1,7 @@
 //! The reasons of the steps of device, controller and event loop.
 
 ghost use Rattle.std.specs.Prelude.{◌≡◌};
-ghost use Rattle.plain_system.specs.System.{world_of};
+ghost use Rattle.reference.specs.System.{world_of};
 ghost use Rattle.trace_reasons.specs.Endings.{answer_reason, unready_by};
 ghost use Rattle.trace_reasons.specs.Turns.{command_reason, deliver_reason, errand_reason, first_reason, held_reason, serve_reason, take_reason};
 ghost use Rattle.usb_model.specs.Endpoint.{first_waiting};
@@ -11,7 +11,7 @@ use crate::answers::next_answer;
 use crate::caller::Caller;
 use crate::ends::{End, answer_end};
 use crate::sentence::{Ending, Idleness, Reason, Unready};
-use plain_system::System;
+use reference::System;
 use usb_model::{DeviceNo, Endpoint, EndpointState, EpAddr, Errand, Item, Response, Setup};
 
 /// The first of a line that waits.

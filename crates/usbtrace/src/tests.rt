@@ -1,5 +1,5 @@
 //! What no clause says: long runs, lines of every form, streams that fail, the words, and those public functions of
-//! `usb_model` and `plain_run` that the program doesn't call, once each where memory is there.
+//! `usb_model` and `reference` that the program doesn't call, once each where memory is there.
 
 mod bad_lines;
 mod check;

@@ -1,7 +1,7 @@
-//! Runs of `plain_run` by the outside's lines: two handles at one device, which is unplugged amid their transfers.
+//! Runs of `reference` by the outside's lines: two handles at one device, which is unplugged amid their transfers.
 
 use super::model::is_line_of;
-use plain_run::{alone, run};
+use reference::{alone, run};
 use std::alloc::Global;
 use trace_scenario::{Scenario, into_setups, read_scenario};
 use usb_model::{Entry, Name, Plan, Sequence, Setup, Step};

@@ -1,7 +1,7 @@
 use Rattle.std.proofs.Common.{◌≡◌, ◌+◌, ◌<◌, ◌≤◌, ◌++◌, ◌∷◌, drop, length, map, ap, sym, ◌∙◌, subst, arith}
 use Rattle.usb_model.specs.World.Plans.{Stage}
 use Rattle.trace_scenario.specs.StepLines.{numbered}
-use Rattle.plain_run.specs.PlanRuns.{stage_of}
+use Rattle.reference.specs.PlanRuns.{stage_of}
 use Rattle.trace_explain.specs.Explained.{explained_from}
 use Rattle.trace_explain.proofs.Explains.{explained-further, explained-end, line_at}
 use Rattle.trace_explain.proofs.explained.explain_all.Goals as goal

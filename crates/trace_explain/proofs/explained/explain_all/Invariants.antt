@@ -1,6 +1,6 @@
 use Rattle.std.proofs.Common.{◌≡◌, ◌++◌, drop, map}
 use Rattle.trace_scenario.specs.StepLines.{numbered}
-use Rattle.plain_run.specs.PlanRuns.{stage_of}
+use Rattle.reference.specs.PlanRuns.{stage_of}
 use Rattle.trace_explain.specs.Explained.{explained_from}
 use Rattle.trace_explain.proofs.explained.explain_all.Given as goal
 

@@ -1,7 +1,7 @@
 use Rattle.std.proofs.Common.{◌≡◌, ◌++◌, ap, ◌∙◌, map}
 use Rattle.usb_model.specs.World.Plans.{Stage}
 use Rattle.trace_scenario.specs.StepLines.{numbered}
-use Rattle.plain_run.specs.PlanRuns.{stage_of}
+use Rattle.reference.specs.PlanRuns.{stage_of}
 use Rattle.trace_explain.specs.Explained.{explained_from}
 use Rattle.trace_explain.proofs.explained.explained_run.Goals as goal
 

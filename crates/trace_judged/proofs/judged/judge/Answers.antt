@@ -2,8 +2,8 @@ use Rattle.std.proofs.Common.{◌≡◌, ◌++◌, ap, ◌∙◌, map}
 use Rattle.usb_model.specs.World.{World, world_from}
 use Rattle.usb_model.specs.World.Plans.{Stage, expand_from}
 use Rattle.trace_scenario.specs.StepLines.{numbered}
-use Rattle.plain_run.specs.PlanRuns.{stage_of}
-use Rattle.plain_system.specs.System.{world_of}
+use Rattle.reference.specs.PlanRuns.{stage_of}
+use Rattle.reference.specs.System.{world_of}
 use Rattle.trace_judged.specs.Differences.{differences_from}
 use Rattle.trace_judged.specs.Missing.{all_missing}
 use Rattle.trace_judged.proofs.judged.judge.Goals as goal

@@ -2,7 +2,7 @@ use Rattle.std.proofs.Common.{◌≡◌, ◌+◌, ◌<◌, ◌≤◌, ◌++◌, 
 use Rattle.std.specs.Option.{option_to_list}
 use Rattle.usb_model.specs.World.Plans.{Stage}
 use Rattle.trace_scenario.specs.StepLines.{numbered}
-use Rattle.plain_run.specs.PlanRuns.{stage_of}
+use Rattle.reference.specs.PlanRuns.{stage_of}
 use Rattle.trace_judged.specs.Differences.{differences_from}
 use Rattle.trace_judged.proofs.Judges.{ends-end, ends-further, judged-end, judged-further, line_at}
 use Rattle.trace_judged.proofs.judged.judge_all.Goals as goal

@@ -2,7 +2,7 @@ use Rattle.std.proofs.Common.{◌≡◌, ◌<◌, ℕ, ◌+◌, List, [], ◌∷
 use Rattle.std.specs.List.{flat_map}
 use Rattle.std.specs.Option.{option_to_list}
 use Rattle.std.proofs.lemmas.List.{flat_map_more, take_more}
-use Rattle.plain_system.specs.System.{world_of}
+use Rattle.reference.specs.System.{world_of}
 use Rattle.usb_model.specs.declared.setup.EndpointInfo.{EndpointInfo}
 use Rattle.usb_model.specs.Setup.{endpoints_of}
 use Rattle.trace_judged.specs.declared.missing.Missing.{Missing}

@@ -1,7 +1,7 @@
 use Rattle.std.proofs.Common.{◌≡◌, ◌++◌, take}
 use Rattle.std.specs.List.{flat_map}
 use Rattle.std.specs.Option.{option_to_list}
-use Rattle.plain_system.specs.System.{world_of}
+use Rattle.reference.specs.System.{world_of}
 use Rattle.usb_model.specs.Setup.{endpoints_of}
 use Rattle.trace_judged.specs.Missing.{missing_at}
 use Rattle.trace_judged.proofs.missing.put_missing.Given as goal

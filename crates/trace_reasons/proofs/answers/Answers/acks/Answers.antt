@@ -1,6 +1,6 @@
 -- One acknowledgement more.
 use Rattle.std.proofs.Common.{arith}
-use Rattle.plain_endpoint.proofs.Walks.{acks_more}
+use Rattle.reference.proofs.Walks.{acks_more}
 use Rattle.trace_reasons.proofs.answers.Answers.acks.Goals as goal
 
 pub loop-behind-preserved : goal.loop-behind-preserved

@@ -1,6 +1,6 @@
 use Rattle.std.proofs.Common.{◌+◌, ◌≤◌, length}
 use Rattle.usb_model.specs.Endpoint.Packets.{without_naks}
-use Rattle.plain_endpoint.proofs.Walks.{IsAcks}
+use Rattle.reference.proofs.Walks.{IsAcks}
 use Rattle.trace_reasons.specs.Answers.{answers_in}
 use Rattle.trace_reasons.proofs.answers.Answers.acks.Given as goal
 

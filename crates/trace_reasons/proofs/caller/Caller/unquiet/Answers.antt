@@ -1,7 +1,7 @@
 -- Something is found, or nothing.
 use Rattle.std.proofs.Common.{Some, None, ap, sym, ◌∙◌}
 use Rattle.std.specs.Option.{option_copied}
-use Rattle.plain_system.specs.System.{is_chosen}
+use Rattle.reference.specs.System.{is_chosen}
 use Rattle.trace_reasons.specs.Caller.{machine_of, setup_in}
 use Rattle.trace_reasons.proofs.Unquiet.{found_unquiet}
 use Rattle.trace_reasons.proofs.caller.Caller.unquiet.Goals as goal

@@ -1,5 +1,0 @@
-pub mod Walks
-mod LineWalks
-mod StandIns
-mod Fronts
-mod Received

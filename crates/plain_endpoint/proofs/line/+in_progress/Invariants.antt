@@ -1,6 +1,0 @@
-use Rattle.std.proofs.Common.{length}
-use Rattle.plain_endpoint.proofs.line.+in_progress.Given as goal
-
--- the transfers that are left
-abbrev pub decreases-in_progress : goal.decreases-in_progress
-decreases-in_progress l = length l.line.now

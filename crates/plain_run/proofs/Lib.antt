@@ -1,2 +1,0 @@
-mod PartSteps
-mod Drives

@@ -1,3 +1,0 @@
-pub mod PlanRuns
-pub mod RuleBooks
-pub mod Part

@@ -1,9 +1,0 @@
-mod Asks
-mod Heads
-mod InCallbacks
-mod OfName
-mod Renewals
-mod Steps
-mod Submissions
-mod Tables
-mod TurnOf

@@ -1,6 +1,0 @@
--- Whether an endpoint is among those made new.
-use Rattle.std.proofs.Common.{rules}
-use Rattle.plain_system.proofs.renewal.Renewed.has.Goals as goal
-
-pub returns-in-Within : goal.returns-in-Within
-returns-in-Within c = search rules

@@ -1,0 +1,11 @@
+pub mod Moved
+pub mod Laws
+pub mod Tables
+pub mod System
+pub mod Renewed
+pub mod Asked
+pub mod Submit
+pub mod Call
+pub mod PlanRuns
+pub mod RuleBooks
+pub mod Part
