@@ -5,11 +5,11 @@ use Rattle.usb_model.specs.declared.plan.Plan.{Plan}
 use Rattle.usb_model.specs.declared.step.Step.{Step}
 use Rattle.usb_model.specs.Setup.{Setup}
 use Rattle.usb_model.specs.World.{new_world, world_from}
-use Rattle.usb_left.specs.declared.left.Left.{Left}
-use Rattle.usb_left.specs.declared.left.Left.TheVariants.{At, Held, Open}
-use Rattle.usb_left.specs.declared.left.Thing.{Thing}
-use Rattle.usb_left.specs.declared.left.Thing.TheVariants.{IsHalted, Unused}
-use Rattle.usb_left.specs.Left.{all_left}
+use Rattle.trace_run.specs.declared.left.Left.{Left}
+use Rattle.trace_run.specs.declared.left.Left.TheVariants.{At, Held, Open}
+use Rattle.trace_run.specs.declared.left.Thing.{Thing}
+use Rattle.trace_run.specs.declared.left.Thing.TheVariants.{IsHalted, Unused}
+use Rattle.trace_run.specs.Left.{all_left}
 use Rattle.usb_library.specs.Calls.{IsAtRest}
 use Rattle.trace_live.specs.Callbacks.{AreCallbacks}
 use Rattle.trace_live.specs.Calls.{HasCalls}

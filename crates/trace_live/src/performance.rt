@@ -12,10 +12,10 @@ use crate::unfinished::unfinished_in;
 use std::alloc::{AllocError, Global};
 use std::sync::Wait;
 use std::thread::Threads;
+use trace_run::Left;
 use usb_core::Setup;
 use usb_device::Scripted;
 use usb_journal::Journal;
-use usb_left::Left;
 use usb_model::{Entry, Plan, Rule, Sequence};
 use usb_workers::{Lived, live};
 

@@ -5,13 +5,13 @@ ghost use Rattle.std.specs.List.{filter};
 ghost use Rattle.usb_model.specs.Setup.{Setup as ModelSetup};
 ghost use Rattle.usb_model.specs.World.{World};
 ghost use Rattle.usb_core.specs.Public.{ShowsWorld};
-ghost use Rattle.usb_left.specs.Left.{all_left};
+ghost use Rattle.trace_run.specs.Left.{all_left};
 ghost use Rattle.trace_live.specs.Unfinished.{is_unfinished};
 
 use std::alloc::{AllocError, Global};
+use trace_run::{Left, Thing, left_behind};
 use usb_core::Core;
 use usb_device::Scripted;
-use usb_left::{Left, Thing, left_behind};
 
 /// Whether this is of a transfer or an order that isn't over.
 fn is_unfinished(left: &Left) -> bool

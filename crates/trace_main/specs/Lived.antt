@@ -14,7 +14,7 @@ use Rattle.trace_scenario.specs.Line.{line_of_text}
 use Rattle.trace_live.specs.Callbacks.{AreCallbacks}
 use Rattle.trace_live.specs.Calls.{HasCalls}
 use Rattle.trace_live.specs.Unfinished.{unfinished_in}
-use Rattle.usb_left.specs.LeftText.{lines_left}
+use Rattle.trace_run.specs.LeftText.{lines_left}
 use Rattle.usb_library.specs.Calls.{IsAtRest}
 use Rattle.trace_io.specs.Faults.{IsOfRun}
 use Rattle.trace_io.specs.Output.{AppendsSome}

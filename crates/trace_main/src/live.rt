@@ -18,9 +18,8 @@ use std::thread::Threads;
 use trace_io::Fault;
 use trace_io::print::print;
 use trace_live::{Performance, perform};
-use trace_run::{Ending, devices_of};
+use trace_run::{Ending, devices_of, lines_of};
 use trace_scenario::Scenario;
-use usb_left::lines_of;
 
 /// Runs a scenario in threads, and prints what its callbacks were told, by handle and number; nothing where more than so many are
 /// called. The notes are then the lines of what handles hadn't finished.

@@ -1,3 +1,9 @@
+mod Lists
+pub mod Turns
+mod Events
+mod Joined
+mod ReadParts
+pub mod Gathers
 mod MadeDevices
 mod Printed
 mod Lined

@@ -1,3 +1,6 @@
+pub mod Left
+pub mod LeftText
+pub mod Gathered
 pub mod Printed
 pub mod Stepwise
 pub mod Capture
@@ -11,5 +14,3 @@ pub use Rattle.trace_scenario.specs.StepLines
 pub use Rattle.trace_scenario.specs.DeviceLines
 pub use Rattle.trace_capture.specs.Event
 pub use Rattle.trace_capture.specs.Events
-pub use Rattle.usb_left.specs.Left
-pub use Rattle.usb_left.specs.LeftText

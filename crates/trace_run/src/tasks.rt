@@ -19,12 +19,12 @@ use crate::drawing::{draw, tell_endpoints};
 use crate::ending::run_to_end;
 use crate::lines::{Reach, print_alone, print_plan};
 use crate::stepwise::print_stepwise;
+use crate::{left_behind, lines_of};
 use std::alloc::{AllocError, Global};
 use std::io::Write;
 use trace_io::{Fault, write_bytes};
 use trace_picture::{Drawing, Form};
 use trace_scenario::{DescribedDevice, NumberedLine, Scenario, ScriptedDevice};
-use usb_left::{left_behind, lines_of};
 use usb_model::{Name, Sequence};
 
 /// How a task ends that no fault ends.
