@@ -1,1 +1,15 @@
+mod Fronts
+mod Homes
+mod Listed
+mod Named
+mod FullFronts
+mod OfSorts
+mod TellsAsks
+mod TellsCalls
+mod TellsEnds
+mod TellsQuiet
+mod TellsSubmissions
+mod TellsTurns
+mod Told
+mod Unquiet
 mod Explains

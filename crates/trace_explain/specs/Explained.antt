@@ -11,10 +11,10 @@ use Rattle.usb_model.specs.Setup.{Setup}
 use Rattle.usb_model.specs.World.Journal.{run_from}
 use Rattle.usb_model.specs.World.Plans.{Stage, first_stage, returning, stage_after, steps_of, verdict_by}
 use Rattle.trace_io.specs.Output.{behind_line, line_text}
-use Rattle.trace_reasons.specs.Reasons.{reason_of}
-use Rattle.trace_reasons.specs.Text.{reason_text}
-use Rattle.trace_reasons.specs.declared.sentence.Reason.{Reason}
-use Rattle.trace_reasons.specs.declared.sentence.Reason.TheVariants.{Refused}
+use Rattle.trace_explain.specs.Reasons.{reason_of}
+use Rattle.trace_explain.specs.Text.{reason_text}
+use Rattle.trace_explain.specs.declared.sentence.Reason.{Reason}
+use Rattle.trace_explain.specs.declared.sentence.Reason.TheVariants.{Refused}
 use Rattle.trace_explain.specs.Packets.{packet_lines}
 use Rattle.trace_explain.specs.declared.telling.Telling.{Telling}
 use Rattle.trace_explain.specs.declared.telling.Telling.TheVariants.{Reasons, Refusals, Packets, StepPackets}

@@ -1,2 +1,13 @@
+pub mod First
+pub mod Endpoints
+pub mod Text
+pub mod Caller
+pub mod Refusals
+pub mod Answers
+pub mod Endings
+pub mod Ends
+pub mod Turns
+pub mod Reasons
+pub mod Sorts
 pub mod Explained
 pub mod Packets

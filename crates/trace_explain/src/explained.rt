@@ -12,10 +12,10 @@ ghost use Rattle.trace_explain.specs.Explained.{explained_entries, explained_fro
 
 use crate::packets::packet_lines;
 use crate::telling::Telling;
+use crate::{Reason, reason};
 use reference::PlanRun;
 use std::alloc::{AllocError, Global};
 use trace_io::add_behind;
-use trace_reasons::{Reason, reason};
 use trace_scenario::NumberedLine;
 use usb_model::{Entry, Plan, Rule, Sequence, Setup, Step};
 

@@ -1,3 +1,29 @@
+//! Why each entry of a run says what it says, in a sentence: which test refused a call, why there was nothing to do, and
+//! what ended a transfer.
+//!
+//! The one promise: the reason of a step is that of its definition in the world that the system is; and in every world it
+//! is of the reply's sort.
+//!
+//! # Files
+//!
+//! - `refusal.rt`, `sentence.rt`, `names.rt`, `endpoints.rt`: reasons and their sentences; how these name handles, devices,
+//!   transfers and the endpoints of a device
+//! - `caller.rt`, `calls.rt`, `quiet.rt`: what a call reads; open, close, claim, release, reset and Unplug; what is under
+//!   way at an endpoint
+//! - `submissions.rt`, `shape.rt`, `asks.rt`: the end of a halt, submit and the verdicts of callbacks; a request without
+//!   its bytes; cancel and expire
+//! - `turns.rt`, `ends.rt`, `answers.rt`: the steps of device, controller and event loop; how a transfer ends, read off
+//!   its answers without a copy of their bytes
+//! - `step.rt`, `laws.rt`: the reason of a step; what it has to do with the reply
+//!
+//! # Contracts
+//!
+//! - `reason`: the definition's reason of a step in the world that a system is, asked before the step is made
+//! - `Display` of `Reason`, `Refusal` and their parts: the text of its definition, byte for byte
+//! - `Refusal::refused`: what a call is refused with for this reason
+//! - `sorts`, `refusals`, `others`: a refused step has a reason, of a test that refuses with what the reply says; an idle
+//!   step, a packet that wasn't ready, an end, an order that failed and a callback have one of their sorts; no other has
+//!
 //! A scenario's run with what there is to say of its entries: why each came, or which packets moved.
 //!
 //! The one promise: what is told of a run are its entries, all or those of refused lines, and below the first of a line the reason of its
@@ -12,13 +38,33 @@
 //! # Contracts
 //!
 //! - `explained_run`: the text is that of the definition (`explained_text`): entries of the plan's run, and reasons (`reason_of` of
-//!   `trace_reasons`) or packets (`packets_moved` of `reference`) of the very steps that the plan stands for. The plain program makes
+//!   `trace_explain`) or packets (`packets_moved` of `reference`) of the very steps that the plan stands for. The plain program makes
 //!   the run, since between two of its steps all that handles have can be looked at
 #![tactic(auto)]
 
+mod answers;
+mod asks;
+mod caller;
+mod calls;
+mod endpoints;
+mod ends;
 mod explained;
+mod laws;
+mod names;
 mod packets;
+mod quiet;
+mod refusal;
+mod sentence;
+mod shape;
+mod step;
+mod submissions;
 mod telling;
+mod turns;
 
+pub use endpoints::EndpointList;
 pub use explained::explained_run;
+pub use laws::{others, refusals, sorts};
+pub use refusal::{Misfit, Missing, Obstacle, Refusal};
+pub use sentence::{Ending, Idleness, Reason, Unready};
+pub use step::reason;
 pub use telling::Telling;

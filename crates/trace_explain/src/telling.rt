@@ -3,7 +3,7 @@
 ghost use Rattle.std.specs.Prelude.{◌≡◌};
 ghost use Rattle.trace_explain.specs.Explained.{is_told};
 
-use trace_reasons::Reason;
+use crate::Reason;
 
 /// What is told of a run: which entries, and what stands below them.
 #[derive(Clone, Copy, PartialEq, Eq, Debug)]

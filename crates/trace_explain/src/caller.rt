@@ -1,0 +1,41 @@
+//! A call of a handle, before anything of it is done.
+
+ghost use Rattle.std.specs.Prelude.{◌≡◌};
+ghost use Rattle.usb_model.specs.World.{machine_of as machine_in_world};
+ghost use Rattle.reference.specs.System.{world_of};
+ghost use Rattle.trace_explain.specs.Caller.{machine_of, setup_in, world_in};
+
+use reference::System;
+use usb_model::{Handle, Name, Setup};
+
+/// What a call of a handle reads, with what is kept of the handle. Contracts see the world by `world_in`, and what it is
+/// to the handle by `machine_of`.
+#[derive(Clone, Copy)]
+pub(crate) struct Caller<'a> {
+    /// The devices as they were set up.
+    pub setup: &'a Setup,
+    /// The system.
+    pub system: &'a System,
+    /// Whose call it is.
+    pub name: Name,
+    /// What is kept of its handle.
+    pub handle: &'a Handle,
+}
+
+impl<'a> Caller<'a> {
+    /// The call of a name in a system.
+    #[tactic(auto, unfolding(usb_model::specs::World::machine_of))]
+    pub fn new(setup: &'a Setup, system: &'a System, name: Name) -> Caller<'a>
+        ensures setup { setup_in result ≡ setup.now }
+        ensures name { result.name ≡ name }
+        ensures machine { machine_of result ≡ machine_in_world setup.now name (world_of setup.now system.now) }
+        ensures world { world_in result ≡ world_of setup.now system.now }
+    {
+        Caller {
+            setup,
+            system,
+            name,
+            handle: system.names.get(name),
+        }
+    }
+}
