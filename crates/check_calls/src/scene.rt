@@ -12,7 +12,7 @@ use std::result;
 use std::sync::Wait;
 use usb_core::Taken;
 use usb_device::TableDevice;
-use usb_journal::{Naming, NotRecorded, Receipt, Recorder};
+use usb_journal::{Naming, RecordError, Receipt, Recorder};
 use usb_library::{Answered, Caller, Ended, Library, Missing, Opening, Submitted};
 use usb_model::{Bytes, Entry, EpAddr, Reply, Request};
 
@@ -169,7 +169,7 @@ impl<L: Naming, J: Recorder> Scene<L, J> {
     /// Keeps the receipt of a submission.
     fn submitted<G: Drop>(
         &mut self,
-        submitted: result::Result<Submitted<L, G, u8>, NotRecorded<G, u8>>,
+        submitted: result::Result<Submitted<L, G, u8>, RecordError<G, u8>>,
     ) -> Came {
         let Ok(Submitted { receipt, number }) = submitted else {
             return Err(AllocError);

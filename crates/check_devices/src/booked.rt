@@ -1,4 +1,4 @@
-//! A book by itself: a transfer is submitted, taken out and submitted once more, each by `Book::record`; and the journal is
+//! A book by itself: a transfer is submitted, taken out and submitted once more, each by `JournaledCore::record`; and the journal is
 //! read place by place.
 
 ghost use Rattle.std.specs.Prelude.{◌≡◌};
@@ -16,7 +16,7 @@ use std::marker::Brand;
 use std::sync::ledger::Blank;
 use usb_core::{Setup, Stepped};
 use usb_device::Device;
-use usb_journal::{Book, Closed, Journal, Naming, PlaceImage, Position, Receipt};
+use usb_journal::{JournaledCore, Closed, Journal, Naming, PlaceImage, Position, Receipt};
 use usb_model::{Step, Verdict};
 use usb_receipts::{Keeper, Log};
 
@@ -53,7 +53,7 @@ fn booked<L: Naming, D: Device>(
     requires keeper { keeper ≡ new_keeper log }
 {
     let (total, share) = blank.open::<L>();
-    let mut book = Book::<L, u8, D, Journal>::new(alloc, setup, log, keeper, total)?;
+    let mut book = JournaledCore::<L, u8, D, Journal>::new(alloc, setup, log, keeper, total)?;
     let Some(mut position) = book.position(share) else {
         return Err(anyhow!("no number is left"));
     };
@@ -65,7 +65,7 @@ fn booked<L: Naming, D: Device>(
 
 /// One step: its receipt is put behind the others, and what came out with it is told.
 fn record<L: Naming, D: Device>(
-    book: &mut Book<L, u8, D, Journal>,
+    book: &mut JournaledCore<L, u8, D, Journal>,
     position: &mut Position<L>,
     receipts: &mut Vec<Receipt<L>>,
     step: Step,
@@ -83,7 +83,7 @@ fn record<L: Naming, D: Device>(
 /// Makes all steps. The payload of the transfer comes out with its result, and with nothing else.
 fn record_all<L: Naming, D: Device>(
     alloc: Global,
-    book: &mut Book<L, u8, D, Journal>,
+    book: &mut JournaledCore<L, u8, D, Journal>,
     position: &mut Position<L>,
     receipts: &mut Vec<Receipt<L>>,
 ) -> Result<()> {

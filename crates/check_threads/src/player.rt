@@ -8,7 +8,7 @@ use example_devices::Reader;
 use std::alloc::{AllocError, Global};
 use std::sync::Wait;
 use std::thread;
-use usb_core::Unaccepted;
+use usb_core::SubmitError;
 use usb_device::Device;
 use usb_journal::{Naming, Recorder};
 use usb_library::{Caller, Library};
@@ -242,7 +242,7 @@ fn submitted<L: Naming, C: Drop, D: Device, J: Recorder, R: Wait>(
 }
 
 /// The reply that tells a submission's number, or why it was refused.
-fn reply_of<C: Drop>(number: Result<u64, Unaccepted<Request, C>>) -> Reply {
+fn reply_of<C: Drop>(number: Result<u64, SubmitError<Request, C>>) -> Reply {
     match number {
         Ok(n) => Reply::Number(n),
         Err(refused) => Reply::Refused(refused.why),

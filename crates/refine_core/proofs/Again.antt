@@ -17,8 +17,8 @@ use Rattle.usb_model.specs.Machine.Calls.{callback_of}
 use Rattle.usb_model.specs.Setup.{Setup, endpoint_id}
 use Rattle.usb_model.specs.World.{World}
 use Rattle.usb_tables.specs.Tds.{Tds}
-use Rattle.usb_tables.specs.Caller.{Kept as Caller, is_one_of}
-use Rattle.usb_tables.specs.Callers.{SameCallbacks, SameNumbers, SameResults, callback_at, callbacks_at, is_there, number_of}
+use Rattle.usb_tables.specs.HandleState.{Kept as HandleState, is_one_of}
+use Rattle.usb_tables.specs.HandleStates.{SameCallbacks, SameNumbers, SameResults, callback_at, callbacks_at, is_there, number_of}
 use Rattle.refine_world.specs.Calls.{answer_core, called_back, step_core}
 use Rattle.refine_world.specs.Shows.{Core, Shows}
 use Rattle.refine_world.specs.Steps.{Stepped}
@@ -51,7 +51,7 @@ again_is setup c h n (AgainWith bytes) x request found is =
     ∙ ap (λ (r : Request). submits setup c h r (called_back c h x.n) (Answer h n (AgainWith bytes)) (x.round + 1)) (same_Some (record x.request { body = Out bytes }) request is)
 
 -- the callers where a callback that ended is put back
-put_callbacks : (old amid new : List Caller) (h n : ℕ) (x : InCallback) → x.n ≡ n → callback_at old h n ≡ Some x → Ended old amid h n → ((g k : ℕ) → callback_at new g k ≡ (if is_there h x.n g k then Some x else callback_at amid g k)) → SameCallbacks old new
+put_callbacks : (old amid new : List HandleState) (h n : ℕ) (x : InCallback) → x.n ≡ n → callback_at old h n ≡ Some x → Ended old amid h n → ((g k : ℕ) → callback_at new g k ≡ (if is_there h x.n g k then Some x else callback_at amid g k)) → SameCallbacks old new
 put_callbacks old amid new h n x number found ended put g k =
     put g k ∙ ap (λ (v : ℕ). if is_there h v g k then Some x else callback_at amid g k) number ∙ ap (λ (o : Option InCallback). if is_there h n g k then Some x else o) (ended.callbacks g k)
     ∙ by_test (is_there h n g k) refl
@@ -77,7 +77,7 @@ module _ {P : Type 0} where
       (submit_refused setup s c h request why (called_back c h x.n) (Answer h n verdict) (x.round + 1) keeps (refused setup w c keeps shows))
 
   -- it is accepted: the callback ends, and the transfer joins its line
-  pub again_joins : (old new : State P) (callers : List Caller) (h d n k : ℕ) (verdict : Verdict) (x : InCallback) (request : Request) (tds : Tds) → callback_at old.callers h n ≡ Some x → again_of verdict x ≡ Some request
+  pub again_joins : (old new : State P) (callers : List HandleState) (h d n k : ℕ) (verdict : Verdict) (x : InCallback) (request : Request) (tds : Tds) → callback_at old.callers h n ≡ Some x → again_of verdict x ≡ Some request
       → Ended old.callers callers h n → ((setup : Setup) (w : World) (c : Core) → Keeps setup old c → Shows setup w c → Admits setup old c h d request tds)
       → Starts (record old { callers = callers }) new h d request.ep request (x.round + 1) → k ≡ number_of callers h → DoesCoreStep old (Answer h n verdict) (says h (Number k)) new
   again_joins old new callers h d n k verdict x request tds found is ended admits starts given setup w c keeps shows =
@@ -91,7 +91,7 @@ module _ {P : Type 0} where
       here = (keeps.named h).callback n ∙ found
 
   -- it can join once its callback ended
-  pub can_again : (old : State P) (callers : List Caller) (h d n : ℕ) (request : Request) (tds : Tds) → Ended old.callers callers h n → CanStart old h d request tds → CanStart (record old { callers = callers }) h d request tds
+  pub can_again : (old : State P) (callers : List HandleState) (h d n : ℕ) (request : Request) (tds : Tds) → Ended old.callers callers h n → CanStart old h d request tds → CanStart (record old { callers = callers }) h d request tds
   can_again old callers h d n request tds ended can = record {
     context = can.context;
     there = can.there;
@@ -114,7 +114,7 @@ module _ {P : Type 0} where
       found_number n ((is.2.0).names h).in_callbacks x ((keeps.named h).callback n ∙ found)
 
   -- where memory is refused the callback is put back
-  pub put_back : (old : State P) (amid new : List Caller) (h n : ℕ) (x : InCallback) → x.n ≡ n → callback_at old.callers h n ≡ Some x → Ended old.callers amid h n
+  pub put_back : (old : State P) (amid new : List HandleState) (h n : ℕ) (x : InCallback) → x.n ≡ n → callback_at old.callers h n ≡ Some x → Ended old.callers amid h n
       → ((g k : ℕ) → callback_at new g k ≡ (if is_there h x.n g k then Some x else callback_at amid g k))
       → ((g id : ℕ) → callbacks_at new g id ≡ (if is_there h (endpoint_id x.request.ep) g id then callbacks_at amid g id + 1 else callbacks_at amid g id)) → SameNumbers amid new → SameResults amid new
       → Stays old (record old { callers = new })

@@ -11,7 +11,7 @@ use Rattle.usb_model.specs.World.{World}
 use Rattle.usb_model.specs.Kept.{KeptTransfer}
 use Rattle.usb_xhc.specs.Context.{Context}
 use Rattle.usb_tables.specs.declared.transfer.Transfer.{Transfer as InFlight}
-use Rattle.usb_tables.specs.Flights.{item_at}
+use Rattle.usb_tables.specs.TransfersInFlight.{item_at}
 use Rattle.refine_world.specs.Calls.{is_kept_it}
 use Rattle.refine_world.specs.Shows.{Core, Shows}
 use Rattle.refine_world.proofs.Bounds.{few_everywhere}

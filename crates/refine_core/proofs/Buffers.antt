@@ -14,7 +14,7 @@ use Rattle.usb_xhc.specs.Context.{Context}
 use Rattle.usb_xhc.specs.Controller.{Controller, slot_changed}
 use Rattle.usb_xhc.specs.Slots.{DeviceSlot, changed, context_by}
 use Rattle.usb_tables.specs.ByEndpoint.{lane_at}
-use Rattle.usb_tables.specs.Flights.{keys_at, line_at, with_keys, with_line}
+use Rattle.usb_tables.specs.TransfersInFlight.{keys_at, line_at, with_keys, with_line}
 use Rattle.refine_rings.proofs.Ids.{id-lt}
 use Rattle.refine_core.specs.State.{AllNameBuffers, NameBuffers, NamesBuffer, State}
 use Rattle.refine_core.specs.Works.{context_in}

@@ -11,15 +11,15 @@ use Rattle.usb_tables.specs.Holders.{Holding, device_of, owner_of}
 use Rattle.usb_tables.specs.Tables.{is_plain}
 use Rattle.usb_model.specs.Kept.{KeptEndpoint}
 use Rattle.usb_tables.specs.Outstanding.{sent_at}
-use Rattle.usb_tables.specs.Caller.{Kept as Caller}
-use Rattle.usb_tables.specs.Callers.{callback_at, callbacks_at, number_of, results_at}
+use Rattle.usb_tables.specs.HandleState.{Kept as HandleState}
+use Rattle.usb_tables.specs.HandleStates.{callback_at, callbacks_at, number_of, results_at}
 use Rattle.usb_tables.specs.ByEndpoint.{lane_at}
-use Rattle.usb_tables.specs.Flights.{line_at}
+use Rattle.usb_tables.specs.TransfersInFlight.{line_at}
 use Rattle.refine_world.specs.Shows.{Core}
 use Rattle.refine_rings.specs.Holds.{HoldsCore}
 use Rattle.refine_core.specs.State.{AllItems, Keeps, KeepsEnd, KeepsName, NameBuffers, State, result_of}
 use Rattle.refine_core.specs.Works.{IsAt}
-use Rattle.refine_core.proofs.Lanes.{lanes_apart}
+use Rattle.refine_core.proofs.EndpointQueues.{lanes_apart}
 
 module _ {P : Type 0} where
   -- of all other endpoints lines and errands are as they were
@@ -43,10 +43,10 @@ module _ {P : Type 0} where
   pub name_still : (old new : State P) (g : ℕ) (x : Handle) (results : List TransferResult) → new.claims ≡ old.claims → new.callers ≡ old.callers → KeepsName old g x results → KeepsName new g x results
   name_still old new g x results claims callers is = record {
     device = is.device ∙ ap (λ (v : Holding). device_of v g) (sym claims);
-    number = is.number ∙ ap (λ (v : List Caller). number_of v g) (sym callers);
-    callback = λ n. is.callback n ∙ ap (λ (v : List Caller). callback_at v g n) (sym callers);
-    called = λ ep plain. is.called ep plain ∙ ap (λ (v : List Caller). callbacks_at v g (endpoint_id ep)) (sym callers);
-    waiting = λ ep plain. is.waiting ep plain ∙ ap (λ (v : List Caller). results_at v g (endpoint_id ep)) (sym callers);
+    number = is.number ∙ ap (λ (v : List HandleState). number_of v g) (sym callers);
+    callback = λ n. is.callback n ∙ ap (λ (v : List HandleState). callback_at v g n) (sym callers);
+    called = λ ep plain. is.called ep plain ∙ ap (λ (v : List HandleState). callbacks_at v g (endpoint_id ep)) (sym callers);
+    waiting = λ ep plain. is.waiting ep plain ∙ ap (λ (v : List HandleState). results_at v g (endpoint_id ep)) (sym callers);
     plain = is.plain;
   }
 

@@ -12,8 +12,8 @@ use Rattle.usb_model.specs.World.Shared.{pieces_of, tagged}
 use Rattle.proof_model.proofs.Lists.Pieces.{pieces_of-append}
 use Rattle.usb_tables.specs.Holders.{Holding, device_of}
 use Rattle.usb_tables.specs.Tables.{is_plain}
-use Rattle.usb_tables.specs.Caller.{Kept as Caller}
-use Rattle.usb_tables.specs.Callers.{SameCallbacks, SameCounts, SameNumbers, is_there, results_at}
+use Rattle.usb_tables.specs.HandleState.{Kept as HandleState}
+use Rattle.usb_tables.specs.HandleStates.{SameCallbacks, SameCounts, SameNumbers, is_there, results_at}
 use Rattle.refine_rings.proofs.Ids.{same_id}
 use Rattle.refine_core.specs.State.{KeepsName, State}
 
@@ -38,7 +38,7 @@ count_one p x = by_test (p x)
     by_test false = refl
 
 -- a result that is made counts at its endpoint
-pub counted_more : (callers now : List Caller) (h e g ep : ℕ) (results : List (Tagged TransferResult)) (r : TransferResult) → is_plain e ≡ true → is_plain ep ≡ true → r.request.ep ≡ e
+pub counted_more : (callers now : List HandleState) (h e g ep : ℕ) (results : List (Tagged TransferResult)) (r : TransferResult) → is_plain e ≡ true → is_plain ep ≡ true → r.request.ep ≡ e
     → results_at now g (endpoint_id ep) ≡ (if is_there h (endpoint_id e) g (endpoint_id ep) then results_at callers g (endpoint_id ep) + 1 else results_at callers g (endpoint_id ep))
     → count_by (is_result_at ep) (pieces_of g results) ≡ results_at callers g (endpoint_id ep)
     → count_by (is_result_at ep) (pieces_of g (results ++ tagged h (r ∷ []))) ≡ results_at now g (endpoint_id ep)

@@ -20,7 +20,7 @@ use Rattle.usb_model.specs.Stands.{length_at, read_off}
 use Rattle.usb_xhc.specs.Context.{Context}
 use Rattle.refine_rings.specs.Endpoint.{IsContext}
 use Rattle.refine_rings.specs.Holds.{ring_at}
-use Rattle.usb_tables.specs.Flights.{Flights, item_at, line_at, with_item}
+use Rattle.usb_tables.specs.TransfersInFlight.{TransfersInFlight, item_at, line_at, with_item}
 use Rattle.refine_world.specs.Known.{KnowsTransfer, NoMove}
 use Rattle.refine_world.specs.Shows.{Core, RingEvent}
 use Rattle.refine_world.specs.Steps.{Stepped, deliver_core, deliver_first, delivers, handle_work, transfer_work, worked, works}
@@ -220,6 +220,6 @@ module _ {P : Type 0} where
     is_live setup c n actual code tells =
         ap (λ (u : State P). is_some (item_at u.flights d e item)) same ∙ ap is_some (told setup s c h d e item n actual code tells).flight.found
 
-    pub pauses_by : (actual : ℕ) (f : Flights (InFlight P)) → ((t : InFlight P) → item_at v.flights d e item ≡ Some t → f ≡ with_item v.flights d e item (Some (record t { moved = actual })))
+    pub pauses_by : (actual : ℕ) (f : TransfersInFlight (InFlight P)) → ((t : InFlight P) → item_at v.flights d e item ≡ Some t → f ≡ with_item v.flights d e item (Some (record t { moved = actual })))
         → Pauses s (record v { flights = f }) h d e item actual
     pauses_by actual f paused = subst (λ (u : State P). Pauses u (record v { flights = f }) h d e item actual) same (transfers.pauses v f h d e item actual paused)

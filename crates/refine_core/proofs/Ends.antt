@@ -17,8 +17,8 @@ use Rattle.usb_model.specs.Kept.{SentErrand, KeptEndpoint, KeptTransfer}
 use Rattle.usb_model.specs.Events.{errand_of, kept_result}
 use Rattle.usb_tables.specs.Orders.{without_ended}
 use Rattle.usb_tables.specs.declared.transfer.Transfer.{Transfer as InFlight}
-use Rattle.usb_tables.specs.Callers.{SameCallbacks, SameCounts, SameNumbers, is_there, results_at}
-use Rattle.usb_tables.specs.Caller.{Kept as Caller}
+use Rattle.usb_tables.specs.HandleStates.{SameCallbacks, SameCounts, SameNumbers, is_there, results_at}
+use Rattle.usb_tables.specs.HandleState.{Kept as HandleState}
 use Rattle.usb_xhc.specs.Host.{with_ring, without_first}
 use Rattle.usb_xhc.specs.Controller.{Controller, slot_changed}
 use Rattle.refine_core.proofs.Leaves.{finishes}
@@ -26,7 +26,7 @@ use Rattle.usb_xhc.specs.Context.{Context}
 use Rattle.usb_device.specs.Pipe.{pipe_at}
 use Rattle.usb_xhc.specs.Slots.{DeviceSlot, changed, context_of}
 use Rattle.usb_tables.specs.ByEndpoint.{lane_at}
-use Rattle.usb_tables.specs.Flights.{Flights, blanked_at, item_at, left_at, line_at}
+use Rattle.usb_tables.specs.TransfersInFlight.{TransfersInFlight, blanked_at, item_at, left_at, line_at}
 use Rattle.usb_tables.specs.declared.ending.Ending.{Ending}
 use Rattle.refine_rings.specs.Endpoint.{IsContext}
 use Rattle.refine_world.specs.Shows.{Core}
@@ -40,7 +40,7 @@ use Rattle.refine_core.specs.Steps.{CanPost, amid}
 use Rattle.refine_core.specs.Works.{Finishes, context_in}
 use Rattle.refine_core.proofs.Deliveries.{IsTold, ends_amid, told}
 use Rattle.refine_core.proofs.Items.{one_place}
-use Rattle.refine_core.proofs.Lanes.{has_lane}
+use Rattle.refine_core.proofs.EndpointQueues.{has_lane}
 use Rattle.refine_core.proofs.FirstEnds.{IsFirstAt, leads_line}
 use Rattle.refine_core.proofs.Lines.{as_many, index_set, index_set_other, past_blanks, set_length}
 use Rattle.refine_core.proofs.Posts.{ring_items}
@@ -152,7 +152,7 @@ module _ {P : Type 0} where
       leading = one_place ring.0.size b.line ring.0.ring.line.items b.end (prefix_len is_none xs) item tells.kept ring.2.ring.items ring.2.ring.row (leads_there b.line (prefix_len is_none xs) tells.kept first.rest leads) tells.there
 
   -- where the transfer of an item ended, its line is as long as before
-  ended_line : (s : State P) (h d e item count : ℕ) (x : Ending) (f : Flights (InFlight P)) → CanFinish s h d e item count
+  ended_line : (s : State P) (h d e item count : ℕ) (x : Ending) (f : TransfersInFlight (InFlight P)) → CanFinish s h d e item count
       → ((t : InFlight P) → item_at s.flights d e item ≡ Some t → f ≡ record (blanked_at s.flights d e item) { ended = s.flights.ended ++ record { transfer = t; ending = x } ∷ [] })
       → line_at f d e ≡ slice_set (line_at s.flights d e) item None
   ended_line s h d e item count x f can ended = by_item (item_at s.flights d e item) refl can.live
@@ -160,16 +160,16 @@ module _ {P : Type 0} where
       by_item : (o : Option (InFlight P)) → item_at s.flights d e item ≡ o → IsSome o → line_at f d e ≡ slice_set (line_at s.flights d e) item None
       by_item None is some = absurd cc
       by_item (Some t) is some =
-          ap (λ (v : Flights (InFlight P)). line_at v d e) (ended t is) ∙ index_set s.flights.lines (lane_at d e) [] (slice_set (line_at s.flights d e) item None) can.lane
+          ap (λ (v : TransfersInFlight (InFlight P)). line_at v d e) (ended t is) ∙ index_set s.flights.lines (lane_at d e) [] (slice_set (line_at s.flights d e) item None) can.lane
 
   -- so many items can leave then
-  pub leave_within : (s : State P) (h d e item count : ℕ) (x : Ending) (f : Flights (InFlight P)) → CanFinish s h d e item count
+  pub leave_within : (s : State P) (h d e item count : ℕ) (x : Ending) (f : TransfersInFlight (InFlight P)) → CanFinish s h d e item count
       → ((t : InFlight P) → item_at s.flights d e item ≡ Some t → f ≡ record (blanked_at s.flights d e item) { ended = s.flights.ended ++ record { transfer = t; ending = x } ∷ [] })
       → count ≤ length (line_at f d e)
   leave_within s h d e item count x f can ended = omega (arith, ap length (ended_line s h d e item count x f can ended), set_length (line_at s.flights d e) item None, can.within)
 
   -- and they are blanks
-  pub leave_blank : (s : State P) (h d e item count : ℕ) (x : Ending) (f : Flights (InFlight P)) → CanFinish s h d e item count
+  pub leave_blank : (s : State P) (h d e item count : ℕ) (x : Ending) (f : TransfersInFlight (InFlight P)) → CanFinish s h d e item count
       → ((t : InFlight P) → item_at s.flights d e item ≡ Some t → f ≡ record (blanked_at s.flights d e item) { ended = s.flights.ended ++ record { transfer = t; ending = x } ∷ [] })
       → (i : ℕ) → i < count → item_at f d e i ≡ None
   leave_blank s h d e item count x f can ended i lt = ap (λ (l : List (Option (InFlight P))). slice_index_or l i None) (ended_line s h d e item count x f can ended) ∙ by_place (cases_eq i item)
@@ -218,7 +218,7 @@ module _ {P : Type 0} where
       sent_errand (Some x) = refl
 
   -- the same of parts as a function finds them, v, by how many items it counted
-  module _ (s v : State P) (same : v ≡ s) (h d e item n count : ℕ) (counted : count ≡ n) (x : Ending) (f : Flights (InFlight P)) (can : CanFinish s h d e item n)
+  module _ (s v : State P) (same : v ≡ s) (h d e item n count : ℕ) (counted : count ≡ n) (x : Ending) (f : TransfersInFlight (InFlight P)) (can : CanFinish s h d e item n)
       (ended : (t : InFlight P) → item_at v.flights d e item ≡ Some t → f ≡ record (blanked_at v.flights d e item) { ended = v.flights.ended ++ record { transfer = t; ending = x } ∷ [] }) where
     seen : CanFinish v h d e item count
     seen = subst₂ (λ (u : State P) m. CanFinish u h d e item m) (sym same) (sym counted) can
@@ -229,7 +229,7 @@ module _ {P : Type 0} where
     pub leaves_blank : (i : ℕ) → i < count → item_at f d e i ≡ None
     leaves_blank = leave_blank v h d e item count x f seen ended
 
-    pub finishes_by : (k : Controller) (g : Flights (InFlight P)) (callers : List Caller) → g ≡ left_at f d e count
+    pub finishes_by : (k : Controller) (g : TransfersInFlight (InFlight P)) (callers : List HandleState) → g ≡ left_at f d e count
         → ((name id : ℕ) → results_at callers name id ≡ (if is_there h (endpoint_id e) name id then results_at v.callers name id + 1 else results_at v.callers name id))
         → SameNumbers v.callers callers → SameCallbacks v.callers callers → SameCounts v.callers callers
         → k ≡ slot_changed v.controller d (λ a. changed a (endpoint_id e) (λ b. with_ring b (without_first b.ring count)))

@@ -24,7 +24,7 @@ use Rattle.usb_xhc.specs.Posts.{posted_one}
 use Rattle.usb_xhc.specs.Controller.{Controller, slot_changed}
 use Rattle.usb_xhc.specs.Slots.{DeviceSlot, changed, context_of}
 use Rattle.usb_tables.specs.ByEndpoint.{lane_at}
-use Rattle.usb_tables.specs.Flights.{line_at}
+use Rattle.usb_tables.specs.TransfersInFlight.{line_at}
 use Rattle.refine_rings.proofs.Where.{address, cycle}
 use Rattle.refine_world.specs.Shows.{Core, order_at}
 use Rattle.refine_rings.specs.Holds.{HasRing, Holds, HoldsCore, IsPosted, ring_at, with_end}
@@ -35,7 +35,7 @@ use Rattle.refine_core.specs.State.{AllItems, KeepsEnd, State, in_ring}
 use Rattle.refine_core.specs.Works.{IsAt, Posts, Resumes, context_in, leading, order_by, with_kept}
 use Rattle.refine_core.proofs.Buffers.{buffers_same}
 use Rattle.refine_core.proofs.Changed.{keeps_with, name_still}
-use Rattle.refine_core.proofs.Lanes.{has_lane, same_trbs, sent_here, sent_other, with_other}
+use Rattle.refine_core.proofs.EndpointQueues.{has_lane, same_trbs, sent_here, sent_other, with_other}
 use Rattle.refine_core.proofs.Lines.{as_many, past_blanks, set_length}
 use Rattle.refine_core.proofs.Ringed.{rings_as, rings_changed, same_changed}
 use Rattle.refine_core.proofs.Rings.{ring_of}

@@ -20,7 +20,7 @@ use Rattle.usb_xhc.specs.Context.{Context}
 use Rattle.usb_xhc.specs.Controller.{Controller}
 use Rattle.usb_xhc.specs.Feeds.{controller_fed, slot_fed}
 use Rattle.usb_xhc.specs.Slots.{DeviceSlot, context_of}
-use Rattle.usb_tables.specs.Flights.{keys_at, line_at}
+use Rattle.usb_tables.specs.TransfersInFlight.{keys_at, line_at}
 use Rattle.refine_world.specs.Lively.{ends_from}
 use Rattle.refine_world.specs.Shows.{Core}
 use Rattle.refine_world.specs.Fed.{changed_at, device_fed, fed, fed_at}

@@ -23,7 +23,7 @@ use Rattle.usb_xhc.specs.Context.{Context}
 use Rattle.usb_xhc.specs.Transaction.{is_running, offset_by, packet_room, trb_at, working}
 use Rattle.usb_xhc.specs.Controller.{Controller}
 use Rattle.usb_xhc.specs.Slots.{DeviceSlot, context_of}
-use Rattle.usb_tables.specs.Flights.{item_at}
+use Rattle.usb_tables.specs.TransfersInFlight.{item_at}
 use Rattle.refine_core.specs.Packets.{CanServe}
 use Rattle.refine_rings.specs.EndpointLaws.{ServedAs, ServesAs, served_here}
 use Rattle.refine_rings.proofs.Serves as match

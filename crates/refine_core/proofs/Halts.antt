@@ -13,7 +13,7 @@ use Rattle.usb_model.specs.Kept.{KeptEndpoint}
 use Rattle.usb_tables.specs.Holders.{device_of}
 use Rattle.usb_device.specs.Pipe.{cleared, pipe_at}
 use Rattle.usb_xhc.specs.Controller.{Controller, slot_changed}
-use Rattle.usb_tables.specs.Flights.{line_at}
+use Rattle.usb_tables.specs.TransfersInFlight.{line_at}
 use Rattle.refine_world.specs.Shows.{Core, Shows}
 use Rattle.refine_world.specs.Steps.{handle_work, worked}
 use Rattle.refine_world.specs.Calls as calling
@@ -30,7 +30,7 @@ use Rattle.refine_core.proofs.Changed.{keeps_with, name_still}
 use Rattle.refine_core.proofs.Freed.{its_is}
 use Rattle.refine_core.proofs.Gone.{gone_is}
 use Rattle.refine_core.proofs.Held.{holder_is, is_at}
-use Rattle.refine_core.proofs.Lanes.{with_other}
+use Rattle.refine_core.proofs.EndpointQueues.{with_other}
 use Rattle.refine_core.proofs.Lines.{as_many}
 use Rattle.refine_core.proofs.Refusals.{accepted_is, refused_is}
 use Rattle.refine_core.proofs.Ringed.{rings_changed}

@@ -12,7 +12,7 @@ use Rattle.usb_model.specs.Setup.{Setup, interface_of, packet_size_of}
 use Rattle.usb_model.specs.World.{World, holder}
 use Rattle.usb_model.specs.Kept.{KeptTransfer, SentErrand}
 use Rattle.usb_device.specs.Pipe.{pipe_at}
-use Rattle.usb_tables.specs.Flights.{line_at}
+use Rattle.usb_tables.specs.TransfersInFlight.{line_at}
 use Rattle.usb_xhc.specs.Context.{Context}
 use Rattle.refine_rings.specs.Holds.{HasNone, HasRing, RingIs}
 use Rattle.refine_world.specs.ShownEndpoint.{AllKept, ShowsEnd}

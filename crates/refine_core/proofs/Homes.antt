@@ -14,7 +14,7 @@ use Rattle.usb_model.specs.Setup.{Setup, endpoints_of}
 use Rattle.usb_model.specs.World.{holder, is_its}
 use Rattle.usb_model.specs.Kept.{KeptEndpoint, KeptTransfer}
 use Rattle.usb_tables.specs.declared.transfer.Transfer.{Transfer as InFlight}
-use Rattle.usb_tables.specs.Flights.{is_number, line_at}
+use Rattle.usb_tables.specs.TransfersInFlight.{is_number, line_at}
 use Rattle.refine_world.specs.Shows.{Core}
 use Rattle.refine_world.specs.Calls.{device_of, home_by, home_in, is_kept_it, kept_home, kept_in_progress, own_kept}
 use Rattle.refine_core.specs.State.{AllItems, IsItem, Keeps, State}

@@ -13,7 +13,7 @@ use Rattle.usb_model.specs.Machine.Calls.{callback_of}
 use Rattle.usb_model.specs.Setup.{Setup}
 use Rattle.usb_model.specs.World.{Claims, World, holder}
 use Rattle.usb_tables.specs.Holders.{device_of, owner_of}
-use Rattle.usb_tables.specs.Callers.{callback_at, number_of}
+use Rattle.usb_tables.specs.HandleStates.{callback_at, number_of}
 use Rattle.refine_world.specs.Shows.{news_of, order_of, ring_event, ring_order}
 use Rattle.refine_rings.specs.Holds.{event_trb}
 use Rattle.refine_core.specs.State.{ShowsWorld, State, result_of}

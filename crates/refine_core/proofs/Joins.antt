@@ -21,8 +21,8 @@ use Rattle.usb_tables.specs.Refusal.{checked}
 use Rattle.usb_tables.specs.Tds.{Tds, tds_of}
 use Rattle.usb_xhc.specs.Context.{Context}
 use Rattle.usb_xhc.specs.Slots.{DeviceSlot, context_of}
-use Rattle.usb_tables.specs.Callers.{number_of, results_at}
-use Rattle.usb_tables.specs.Flights.{line_at}
+use Rattle.usb_tables.specs.HandleStates.{number_of, results_at}
+use Rattle.usb_tables.specs.TransfersInFlight.{line_at}
 use Rattle.refine_world.specs.Shows.{Core, Shows, at as at_here, tellings}
 use Rattle.refine_world.specs.ShownEndpoint.{StandsNear}
 use Rattle.refine_rings.specs.Holds.{HasRing}

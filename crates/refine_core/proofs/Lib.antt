@@ -1,5 +1,5 @@
 pub mod Lines
-pub mod Lanes
+pub mod EndpointQueues
 pub mod Ringed
 pub mod Buffers
 pub mod Same

@@ -3,7 +3,7 @@ use Rattle.std.proofs.Common.{◌++◌, ◌+◌, zero, ◌≡◌, ℕ, suc, ◌*
 use Rattle.std.specs.Prelude.{slice_get}
 use Rattle.std.proofs.lemmas.List.{length-map, length-replicate}
 use Rattle.usb_tables.specs.ByEndpoint.{lane_at}
-use Rattle.usb_tables.specs.Flights.{Flights, keys_at, line_at}
+use Rattle.usb_tables.specs.TransfersInFlight.{TransfersInFlight, keys_at, line_at}
 use Rattle.std.proofs.lemmas.Option.{same_Some, slice_get-map, slice_get_within}
 use Rattle.std.specs.Prelude.{option_map}
 use Rattle.std.specs.Option.{option_and_then}
@@ -235,20 +235,20 @@ module _ {P : Type 0} where
       same = setup_again setup s.claims.configs s.controller.slots keeps.set of.slots (λ d x t there at. (of.each d x t there at).scripts)
 
 -- lines as they are made
-pub record HasNoLines {T : Type 0} (f : Flights T) : Type 0 where
+pub record HasNoLines {T : Type 0} (f : TransfersInFlight T) : Type 0 where
   pub lanes : length f.lines ≡ 128
   pub lines : (d e : ℕ) → line_at f d e ≡ []
   pub keyed : length f.keys ≡ 128
   pub keys : (d e : ℕ) → keys_at f.keys d e ≡ []
   pub ended : f.ended ≡ []
 
-pub no_lines : {T : Type 0} (f : Flights T) → f ≡ record { lines = replicate 128 []; keys = replicate 128 []; ended = []; next_key = 0 } → HasNoLines f
+pub no_lines : {T : Type 0} (f : TransfersInFlight T) → f ≡ record { lines = replicate 128 []; keys = replicate 128 []; ended = []; next_key = 0 } → HasNoLines f
 no_lines {T} f is = record {
-  lanes = ap (λ (v : Flights T). length v.lines) is ∙ length-replicate 128 nothing;
-  lines = λ d e. ap (λ (v : Flights T). line_at v d e) is ∙ none 128 (lane_at d e);
-  keyed = ap (λ (v : Flights T). length v.keys) is ∙ length-replicate 128 no_keys;
-  keys = λ d e. ap (λ (v : Flights T). keys_at v.keys d e) is ∙ none 128 (lane_at d e);
-  ended = ap (λ (v : Flights T). v.ended) is;
+  lanes = ap (λ (v : TransfersInFlight T). length v.lines) is ∙ length-replicate 128 nothing;
+  lines = λ d e. ap (λ (v : TransfersInFlight T). line_at v d e) is ∙ none 128 (lane_at d e);
+  keyed = ap (λ (v : TransfersInFlight T). length v.keys) is ∙ length-replicate 128 no_keys;
+  keys = λ d e. ap (λ (v : TransfersInFlight T). keys_at v.keys d e) is ∙ none 128 (lane_at d e);
+  ended = ap (λ (v : TransfersInFlight T). v.ended) is;
 }
   where
     nothing : List (Option T)

@@ -14,9 +14,9 @@ use Rattle.refine_world.specs.Known.{NoMove}
 use Rattle.refine_world.specs.Lively.{IsFine}
 use Rattle.refine_world.specs.ShownEndpoint.{orders_sent}
 use Rattle.refine_world.specs.Shows.{At, Core, Shows, at, errands, here, ring_order}
-use Rattle.refine_world.proofs.Glue.{same_holder}
+use Rattle.refine_world.proofs.WholeSteps.{same_holder}
 use Rattle.refine_world.proofs.Links.{known}
-use Rattle.refine_world.proofs.Rests.{none_there}
+use Rattle.refine_world.proofs.StepsWithoutWork.{none_there}
 
 -- where none waits at an endpoint none moves there
 none_moves : (d e : ℕ) (xs : List (At SentErrand)) → at d e xs ≡ [] → NoMove d e (map ring_order xs)

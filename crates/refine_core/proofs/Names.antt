@@ -13,8 +13,8 @@ use Rattle.usb_tables.specs.declared.transfer.Transfer.{Transfer as InFlight}
 use Rattle.usb_tables.specs.declared.outstanding.Sent.{Sent}
 use Rattle.usb_tables.specs.Outstanding.{sent_at}
 use Rattle.usb_xhc.specs.Controller.{Controller}
-use Rattle.usb_tables.specs.Flights.{Flights, line_at}
-use Rattle.usb_tables.specs.Callers.{SameCallbacks, SameCounts, SameNumbers, SameResults}
+use Rattle.usb_tables.specs.TransfersInFlight.{TransfersInFlight, line_at}
+use Rattle.usb_tables.specs.HandleStates.{SameCallbacks, SameCounts, SameNumbers, SameResults}
 use Rattle.refine_world.specs.Shows.{Core}
 use Rattle.refine_rings.specs.Holds.{HoldsCore}
 use Rattle.refine_core.specs.Calls.{Stays}
@@ -66,6 +66,6 @@ module _ {P : Type 0} where
   pub stays : (old new : State P) → new.claims ≡ old.claims → new.controller ≡ old.controller → new.flights ≡ old.flights → new.outstanding ≡ old.outstanding
       → SameNumbers old.callers new.callers → SameCallbacks old.callers new.callers → SameResults old.callers new.callers → SameCounts old.callers new.callers → Stays old new
   stays old new claims controller flights outstanding numbers callbacks waiting counts setup c keeps =
-      keeps_named setup old new c c.names c.results keeps claims controller (ap (λ (f : Flights (InFlight P)). f.lines) flights) (ap (λ (f : Flights (InFlight P)). f.keys) flights) outstanding
+      keeps_named setup old new c c.names c.results keeps claims controller (ap (λ (f : TransfersInFlight (InFlight P)). f.lines) flights) (ap (λ (f : TransfersInFlight (InFlight P)). f.keys) flights) outstanding
       (λ g. name_same old new g (c.names g) (pieces_of g c.results) claims numbers callbacks waiting counts (keeps.named g))
-      (keeps.ended ∙ ap (λ (f : Flights (InFlight P)). map result_of f.ended) (sym flights)) keeps.ended_plain
+      (keeps.ended ∙ ap (λ (f : TransfersInFlight (InFlight P)). map result_of f.ended) (sym flights)) keeps.ended_plain

@@ -30,7 +30,7 @@ use Rattle.refine_world.specs.Shows.{at as at_end}
 use Rattle.refine_world.proofs.Links.{known}
 use Rattle.refine_world.proofs.RunningEndpoints.{Stood, found_waits}
 use Rattle.refine_world.proofs.Serves.{At, at_front, fresh_running}
-use Rattle.refine_world.proofs.Tells.{room_is}
+use Rattle.refine_world.proofs.PauseEvents.{room_is}
 use Rattle.refine_rings.specs.Endpoint.{IsPipe}
 use Rattle.refine_rings.proofs.Fronts as ring
 use Rattle.refine_core.specs.Offers.{IsNext, IsOffered, OffersNext, asks_device, bytes_ahead, bytes_next, room_next}

@@ -28,7 +28,7 @@ use Rattle.refine_world.proofs.RunningEndpoints.{fresh_while_running}
 use Rattle.refine_rings.specs.Holds.{event_trb, Holds, IsPosted, with_end}
 use Rattle.refine_rings.proofs.Ends.{here}
 use Rattle.refine_rings.proofs.Runs.{runs}
-use Rattle.usb_tables.specs.Flights.{line_at}
+use Rattle.usb_tables.specs.TransfersInFlight.{line_at}
 use Rattle.refine_core.specs.State.{AllItems, Keeps, KeepsEnd, State, in_ring}
 use Rattle.refine_core.specs.Steps.{Is, IsRun, order_in}
 use Rattle.refine_core.specs.Works.{IsAt, with_kept}
@@ -36,7 +36,7 @@ use Rattle.refine_core.proofs.Amid.{core_as, own_name}
 use Rattle.refine_core.proofs.Buffers.{buffers_same}
 use Rattle.refine_core.proofs.Changed.{keeps_with, name_still}
 use Rattle.refine_core.proofs.Held.{held_interface}
-use Rattle.refine_core.proofs.Lanes.{with_other}
+use Rattle.refine_core.proofs.EndpointQueues.{with_other}
 use Rattle.refine_core.proofs.Posts.{as_many_orders}
 use Rattle.refine_core.proofs.Ringed.{rings_run}
 use Rattle.refine_core.proofs.Transfers.{end_at}

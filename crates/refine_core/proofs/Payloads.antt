@@ -4,11 +4,11 @@ use Rattle.std.specs.Prelude.{◌==◌, ◌&&◌, IsSome, if◌then◌else◌, s
 use Rattle.std.proofs.lemmas.Bool.{eqb-true}
 use Rattle.std.proofs.lemmas.Option.{same_Some}
 use Rattle.usb_model.specs.declared.item.Ask.{Ask}
-use Rattle.usb_tables.specs.Callers.{SameNumbers, number_of}
+use Rattle.usb_tables.specs.HandleStates.{SameNumbers, number_of}
 use Rattle.usb_tables.specs.declared.transfer.Transfer.{Transfer as InFlight}
 use Rattle.usb_tables.specs.declared.ending.Ending.{Ending}
 use Rattle.usb_tables.specs.ByEndpoint.{lane_at}
-use Rattle.usb_tables.specs.Flights.{EndedOf, Flights, blanked_at, item_at, left_at, line_at, with_item, with_line}
+use Rattle.usb_tables.specs.TransfersInFlight.{EndedOf, TransfersInFlight, blanked_at, item_at, left_at, line_at, with_item, with_line}
 use Rattle.refine_core.specs.Packets.{Serves, Skims}
 use Rattle.usb_xhc.specs.Controller.{Controller}
 use Rattle.proof_model.proofs.Lists.Pieces.{same_name}
@@ -70,34 +70,34 @@ module _ {P : Type 0} (R : ℕ → ℕ → P → Type 0) where
   it_has t has u same = subst (λ (v : InFlight P). R v.name v.n v.payload) (same_Some t u same) has
 
   -- another line at an endpoint, and others that ended
-  each_by : (f g : Flights (InFlight P)) (d e : ℕ) (l : List (Option (InFlight P))) (xs : List (EndedOf (InFlight P))) → g.lines ≡ (with_line f d e l).lines → g.ended ≡ xs → EachHas R f → LineHas l → EndedHas xs → EachHas R g
+  each_by : (f g : TransfersInFlight (InFlight P)) (d e : ℕ) (l : List (Option (InFlight P))) (xs : List (EndedOf (InFlight P))) → g.lines ≡ (with_line f d e l).lines → g.ended ≡ xs → EachHas R f → LineHas l → EndedHas xs → EachHas R g
   each_by f g d e l xs lines ended each line has = record {
     in_line = λ dev ep. subst (λ (v : List (List (Option (InFlight P)))). LineHas (slice_index_or v (lane_at dev ep) [])) (sym lines) (at_set LineHas f.lines (lane_at d e) (lane_at dev ep) l [] line (each.in_line dev ep));
     ended = subst EndedHas (sym ended) has;
   }
 
   -- a transfer joins a line
-  pub has_pushed : (f g : Flights (InFlight P)) (d e : ℕ) (t : InFlight P) → g.lines ≡ (with_line f d e (line_at f d e ++ Some t ∷ [])).lines → g.ended ≡ f.ended → R t.name t.n t.payload → EachHas R f → EachHas R g
+  pub has_pushed : (f g : TransfersInFlight (InFlight P)) (d e : ℕ) (t : InFlight P) → g.lines ≡ (with_line f d e (line_at f d e ++ Some t ∷ [])).lines → g.ended ≡ f.ended → R t.name t.n t.payload → EachHas R f → EachHas R g
   has_pushed f g d e t lines ended has each = each_by f g d e (line_at f d e ++ Some t ∷ []) f.ended lines ended each (at_end ItemHas (line_at f d e) (Some t) None none_has (it_has t has) (each.in_line d e)) each.ended
 
   -- items leave
-  pub has_left : (f g : Flights (InFlight P)) (d e count : ℕ) → g ≡ left_at f d e count → EachHas R f → EachHas R g
-  has_left f g d e count is each = each_by f g d e (drop count (line_at f d e)) f.ended (ap (λ (v : Flights (InFlight P)). v.lines) is) (ap (λ (v : Flights (InFlight P)). v.ended) is) each
+  pub has_left : (f g : TransfersInFlight (InFlight P)) (d e count : ℕ) → g ≡ left_at f d e count → EachHas R f → EachHas R g
+  has_left f g d e count is each = each_by f g d e (drop count (line_at f d e)) f.ended (ap (λ (v : TransfersInFlight (InFlight P)). v.lines) is) (ap (λ (v : TransfersInFlight (InFlight P)). v.ended) is) each
       (at_drop ItemHas count (line_at f d e) None none_has (each.in_line d e)) each.ended
 
   -- an item is changed, and is still the same transfer's
-  pub has_changed : (f g : Flights (InFlight P)) (d e item : ℕ) (t : InFlight P) → g ≡ with_item f d e item (Some t) → R t.name t.n t.payload → EachHas R f → EachHas R g
-  has_changed f g d e item t is has each = each_by f g d e (slice_set (line_at f d e) item (Some t)) f.ended (ap (λ (v : Flights (InFlight P)). v.lines) is) (ap (λ (v : Flights (InFlight P)). v.ended) is) each
+  pub has_changed : (f g : TransfersInFlight (InFlight P)) (d e item : ℕ) (t : InFlight P) → g ≡ with_item f d e item (Some t) → R t.name t.n t.payload → EachHas R f → EachHas R g
+  has_changed f g d e item t is has each = each_by f g d e (slice_set (line_at f d e) item (Some t)) f.ended (ap (λ (v : TransfersInFlight (InFlight P)). v.lines) is) (ap (λ (v : TransfersInFlight (InFlight P)). v.ended) is) each
       (λ j. at_set ItemHas (line_at f d e) item j (Some t) None (it_has t has) (each.in_line d e j)) each.ended
 
   -- a transfer ends: an item is a blank
-  pub has_ended : (f g : Flights (InFlight P)) (d e item : ℕ) (t : InFlight P) (x : Ending) → item_at f d e item ≡ Some t → g ≡ record (blanked_at f d e item) { ended = f.ended ++ record { transfer = t; ending = x } ∷ [] } → EachHas R f → EachHas R g
-  has_ended f g d e item t x there is each = each_by f g d e (slice_set (line_at f d e) item None) (f.ended ++ record { transfer = t; ending = x } ∷ []) (ap (λ (v : Flights (InFlight P)). v.lines) is) (ap (λ (v : Flights (InFlight P)). v.ended) is) each
+  pub has_ended : (f g : TransfersInFlight (InFlight P)) (d e item : ℕ) (t : InFlight P) (x : Ending) → item_at f d e item ≡ Some t → g ≡ record (blanked_at f d e item) { ended = f.ended ++ record { transfer = t; ending = x } ∷ [] } → EachHas R f → EachHas R g
+  has_ended f g d e item t x there is each = each_by f g d e (slice_set (line_at f d e) item None) (f.ended ++ record { transfer = t; ending = x } ∷ []) (ap (λ (v : TransfersInFlight (InFlight P)). v.lines) is) (ap (λ (v : TransfersInFlight (InFlight P)). v.ended) is) each
       (λ j. at_set ItemHas (line_at f d e) item j None None none_has (each.in_line d e j))
       (got_end (λ (y : EndedOf (InFlight P)). R y.transfer.name y.transfer.n y.transfer.payload) f.ended (record { transfer = t; ending = x }) (each.in_line d e item t there) each.ended)
 
   -- the one that ended first is taken
-  pub has_taken : (f g : Flights (InFlight P)) → g.lines ≡ f.lines → g.ended ≡ drop 1 f.ended → EachHas R f → EachHas R g
+  pub has_taken : (f g : TransfersInFlight (InFlight P)) → g.lines ≡ f.lines → g.ended ≡ drop 1 f.ended → EachHas R f → EachHas R g
   has_taken f g lines ended each = record {
     in_line = λ dev ep. subst (λ (v : List (List (Option (InFlight P)))). LineHas (slice_index_or v (lane_at dev ep) [])) (sym lines) (each.in_line dev ep);
     ended = subst EndedHas (sym ended) (got_rest (λ (y : EndedOf (InFlight P)). R y.transfer.name y.transfer.n y.transfer.payload) f.ended each.ended);
@@ -115,11 +115,11 @@ module _ {P : Type 0} where
   one_has R t u one has = subst (λ (p : P). R u.name u.n p) (sym one.payload) (subst (λ (m : ℕ). R u.name m t.payload) (sym one.number) (subst (λ (g : ℕ). R g t.n t.payload) (sym one.name) has))
 
   -- whatever holds of each transfer of these holds of each of those
-  abbrev pub Follows : (f g : Flights (InFlight P)) → Type 1
+  abbrev pub Follows : (f g : TransfersInFlight (InFlight P)) → Type 1
   Follows f g = (R : ℕ → ℕ → P → Type 0) → EachHas R f → EachHas R g
 
   -- what is more holds of each too
-  each_so : (R S : ℕ → ℕ → P → Type 0) (f : Flights (InFlight P)) → ((h n : ℕ) (payload : P) → R h n payload → S h n payload) → EachHas R f → EachHas S f
+  each_so : (R S : ℕ → ℕ → P → Type 0) (f : TransfersInFlight (InFlight P)) → ((h n : ℕ) (payload : P) → R h n payload → S h n payload) → EachHas R f → EachHas S f
   each_so R S f so each = record {
     in_line = λ d e item t there. so t.name t.n t.payload (each.in_line d e item t there);
     ended = λ i x there. so x.transfer.name x.transfer.n x.transfer.payload (each.ended i x there);
@@ -139,7 +139,7 @@ module _ {P : Type 0} where
   still_on old mid new first behind kept carried = behind kept (first kept carried)
 
   -- a transfer that is there ends
-  pub follows_end : (f g : Flights (InFlight P)) (d e item : ℕ) (x : Ending) → IsSome (item_at f d e item)
+  pub follows_end : (f g : TransfersInFlight (InFlight P)) (d e item : ℕ) (x : Ending) → IsSome (item_at f d e item)
       → ((t : InFlight P) → item_at f d e item ≡ Some t → g ≡ record (blanked_at f d e item) { ended = f.ended ++ record { transfer = t; ending = x } ∷ [] }) → Follows f g
   follows_end f g d e item x live is R each = by_item (item_at f d e item) refl live
     where
@@ -148,7 +148,7 @@ module _ {P : Type 0} where
       by_item (Some t) at some = has_ended R f g d e item t x at (is t at) each
 
   -- one is changed, which leaves its name, its number and its payload
-  pub follows_change : (f g : Flights (InFlight P)) (d e item : ℕ) (u : InFlight P → InFlight P) → ((t : InFlight P) → IsOne t (u t)) → IsSome (item_at f d e item)
+  pub follows_change : (f g : TransfersInFlight (InFlight P)) (d e item : ℕ) (u : InFlight P → InFlight P) → ((t : InFlight P) → IsOne t (u t)) → IsSome (item_at f d e item)
       → ((t : InFlight P) → item_at f d e item ≡ Some t → g ≡ with_item f d e item (Some (u t))) → Follows f g
   follows_change f g d e item u same live is R each = by_item (item_at f d e item) refl live
     where
@@ -157,15 +157,15 @@ module _ {P : Type 0} where
       by_item (Some t) at some = has_changed R f g d e item (u t) (is t at) (one_has R t (u t) (same t) (each.in_line d e item t at)) each
 
   -- it is asked to end
-  pub follows_ask : (f g : Flights (InFlight P)) (d e item : ℕ) (why : Ask) → IsSome (item_at f d e item) → ((t : InFlight P) → item_at f d e item ≡ Some t → g ≡ with_item f d e item (Some (record t { ask = Some why }))) → Follows f g
+  pub follows_ask : (f g : TransfersInFlight (InFlight P)) (d e item : ℕ) (why : Ask) → IsSome (item_at f d e item) → ((t : InFlight P) → item_at f d e item ≡ Some t → g ≡ with_item f d e item (Some (record t { ask = Some why }))) → Follows f g
   follows_ask f g d e item why = follows_change f g d e item (λ t. record t { ask = Some why }) (λ t. record { name = refl; number = refl; payload = refl })
 
   -- so much of it moved, as was told
-  pub follows_pause : (f g : Flights (InFlight P)) (d e item moved : ℕ) → IsSome (item_at f d e item) → ((t : InFlight P) → item_at f d e item ≡ Some t → g ≡ with_item f d e item (Some (record t { moved = moved }))) → Follows f g
+  pub follows_pause : (f g : TransfersInFlight (InFlight P)) (d e item moved : ℕ) → IsSome (item_at f d e item) → ((t : InFlight P) → item_at f d e item ≡ Some t → g ≡ with_item f d e item (Some (record t { moved = moved }))) → Follows f g
   follows_pause f g d e item moved = follows_change f g d e item (λ t. record t { moved = moved }) (λ t. record { name = refl; number = refl; payload = refl })
 
   -- a packet of it is served
-  pub follows_serve : (f g : Flights (InFlight P)) (k : Controller) (d e item : ℕ) → IsSome (item_at f d e item) → ((t : InFlight P) → item_at f d e item ≡ Some t → Serves f g k d e item t) → Follows f g
+  pub follows_serve : (f g : TransfersInFlight (InFlight P)) (k : Controller) (d e item : ℕ) → IsSome (item_at f d e item) → ((t : InFlight P) → item_at f d e item ≡ Some t → Serves f g k d e item t) → Follows f g
   follows_serve f g k d e item live serves R each = by_item (item_at f d e item) refl live
     where
       one : (t : InFlight P) (s : Serves f g k d e item t) → IsOne t s.served
@@ -176,7 +176,7 @@ module _ {P : Type 0} where
       by_item (Some t) at some = has_changed R f g d e item (serves t at).served (serves t at).put (one_has R t (serves t at).served (one t (serves t at)) (each.in_line d e item t at)) each
 
   -- so many packets of it are
-  pub follows_skim : (f g : Flights (InFlight P)) (k : Controller) (d e item count : ℕ) → IsSome (item_at f d e item) → ((t : InFlight P) → item_at f d e item ≡ Some t → Skims f g k d e item count t) → Follows f g
+  pub follows_skim : (f g : TransfersInFlight (InFlight P)) (k : Controller) (d e item count : ℕ) → IsSome (item_at f d e item) → ((t : InFlight P) → item_at f d e item ≡ Some t → Skims f g k d e item count t) → Follows f g
   follows_skim f g k d e item count live skims R each = by_item (item_at f d e item) refl live
     where
       one : (t : InFlight P) (s : Skims f g k d e item count t) → IsOne t s.skimmed
@@ -187,15 +187,15 @@ module _ {P : Type 0} where
       by_item (Some t) at some = has_changed R f g d e item (skims t at).skimmed (skims t at).put (one_has R t (skims t at).skimmed (one t (skims t at)) (each.in_line d e item t at)) each
 
   -- items leave
-  pub follows_leave : (f g : Flights (InFlight P)) (d e count : ℕ) → g ≡ left_at f d e count → Follows f g
+  pub follows_leave : (f g : TransfersInFlight (InFlight P)) (d e count : ℕ) → g ≡ left_at f d e count → Follows f g
   follows_leave f g d e count is R = has_left R f g d e count is
 
   -- the one that ended first is taken
-  pub follows_take : (f g : Flights (InFlight P)) → g.lines ≡ f.lines → g.ended ≡ drop 1 f.ended → Follows f g
+  pub follows_take : (f g : TransfersInFlight (InFlight P)) → g.lines ≡ f.lines → g.ended ≡ drop 1 f.ended → Follows f g
   follows_take f g lines ended R = has_taken R f g lines ended
 
   -- one after the other
-  pub follows_on : (f g v : Flights (InFlight P)) → Follows f g → Follows g v → Follows f v
+  pub follows_on : (f g v : TransfersInFlight (InFlight P)) → Follows f g → Follows g v → Follows f v
   follows_on f g v first behind R each = behind R (first R each)
 
   -- what goes out is what is kept under its name and number

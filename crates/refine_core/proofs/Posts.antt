@@ -16,7 +16,7 @@ use Rattle.refine_rings.specs.Line.{AllItems as AllSent}
 use Rattle.usb_xhc.specs.Context.{Context}
 use Rattle.usb_xhc.specs.Controller.{Controller}
 use Rattle.usb_tables.specs.ByEndpoint.{lane_at}
-use Rattle.usb_tables.specs.Flights.{line_at}
+use Rattle.usb_tables.specs.TransfersInFlight.{line_at}
 use Rattle.refine_world.specs.Shows.{Core, RingOrder}
 use Rattle.refine_rings.specs.Holds.{AllPosted, HoldsCore}
 use Rattle.refine_core.specs.State.{Keeps, KeepsEnd, State}

@@ -14,8 +14,8 @@ use Rattle.usb_model.specs.Kept.{KeptEndpoint, KeptTransfer, SentErrand}
 use Rattle.usb_tables.specs.Tables.{is_plain}
 use Rattle.usb_tables.specs.declared.outstanding.Sent.{Sent}
 use Rattle.usb_tables.specs.Outstanding.{sent_at}
-use Rattle.usb_tables.specs.Flights.{line_at}
-use Rattle.usb_tables.specs.Callers.{callbacks_at, results_at}
+use Rattle.usb_tables.specs.TransfersInFlight.{line_at}
+use Rattle.usb_tables.specs.HandleStates.{callbacks_at, results_at}
 use Rattle.refine_world.specs.Shows.{Core}
 use Rattle.refine_world.specs.Calls.{are_quiet, is_quiet, kept_at, own_kept, results_of}
 use Rattle.refine_core.specs.Handles.{AreQuiet, FirstQuiet, IsLeft, IsQuiet, is_among, quiet_in, rests_at}

@@ -28,7 +28,7 @@ use Rattle.usb_xhc.specs.Context.{Context}
 use Rattle.usb_xhc.specs.Controller.{Controller}
 use Rattle.usb_xhc.specs.Slots.{DeviceSlot}
 use Rattle.std.specs.Option.{option_map_or}
-use Rattle.usb_tables.specs.Flights.{item_at}
+use Rattle.usb_tables.specs.TransfersInFlight.{item_at}
 use Rattle.refine_rings.proofs.Lines as lines
 use Rattle.refine_rings.proofs.Where as where_
 use Rattle.refine_rings.specs.Endpoint.{IsContext}

@@ -19,7 +19,7 @@ use Rattle.usb_tables.specs.declared.transfer.Transfer.{Transfer as InFlight}
 use Rattle.usb_tables.specs.declared.outstanding.Sent.{Sent}
 use Rattle.usb_tables.specs.Outstanding.{sent_at}
 use Rattle.usb_xhc.specs.Controller.{Controller}
-use Rattle.usb_tables.specs.Flights.{keys_at, line_at}
+use Rattle.usb_tables.specs.TransfersInFlight.{keys_at, line_at}
 use Rattle.refine_world.specs.Shows.{Core}
 use Rattle.std.specs.Option.{option_map}
 use Rattle.refine_core.specs.Handles.{IsLeft, NameRests, RestsTo, StaysHeld, StaysLeft}

@@ -23,7 +23,7 @@ use Rattle.usb_xhc.specs.Transaction.{packet_room, working}
 use Rattle.usb_xhc.specs.Controller.{Controller, served_at, told_at}
 use Rattle.usb_device.specs.Pipe.{answer_of, bytes_after, pipe_at}
 use Rattle.usb_xhc.specs.Slots.{DeviceSlot, context_of, read_after}
-use Rattle.usb_tables.specs.Flights.{Flights, item_at, keys_at, line_at, with_line}
+use Rattle.usb_tables.specs.TransfersInFlight.{TransfersInFlight, item_at, keys_at, line_at, with_line}
 use Rattle.refine_core.specs.Packets.{IsServed, Serves, bytes_for}
 use Rattle.refine_core.specs.Packets as flight
 use Rattle.refine_rings.specs.Reports.{reply_of}
@@ -41,7 +41,7 @@ use Rattle.refine_core.proofs.Buffers.{buffers_line, set_named}
 use Rattle.refine_core.proofs.Changed.{keeps_with, name_still}
 use Rattle.refine_core.proofs.Items.{found_at}
 use Rattle.refine_core.proofs.Fronts.{IsAtWork, at_work, working_runs}
-use Rattle.refine_core.proofs.Lanes.{with_other}
+use Rattle.refine_core.proofs.EndpointQueues.{with_other}
 use Rattle.refine_core.proofs.Lines.{set_item}
 use Rattle.refine_core.proofs.Ringed.{rings_as, rings_served}
 use Rattle.refine_core.proofs.Transfers.{but_line, end_at, line_is}
@@ -122,7 +122,7 @@ same_out k d e (Out bytes) = refl
 
 module _ {P : Type 0} where
   -- a packet of the item that is at work in a core is this core's
-  pub moves_at : (old : State P) (k : Controller) (f : Flights (InFlight P)) (h d e item n : ℕ) (told : ServedPacket) → (x : Context) → (first : TrbAt) → context_in old.controller d e ≡ Some x → working x ≡ Some first
+  pub moves_at : (old : State P) (k : Controller) (f : TransfersInFlight (InFlight P)) (h d e item n : ℕ) (told : ServedPacket) → (x : Context) → (first : TrbAt) → context_in old.controller d e ≡ Some x → working x ≡ Some first
       → Some told ≡ told_at old.controller d e → ((t : InFlight P) → item_at old.flights d e item ≡ Some t → t.n ≡ n)
       → ((t : InFlight P) → item_at old.flights d e item ≡ Some t → k ≡ served_at old.controller d e (flight.out_of e t.request.body))
       → ((t : InFlight P) → item_at old.flights d e item ≡ Some t → Serves old.flights f old.controller d e item t)
@@ -132,7 +132,7 @@ module _ {P : Type 0} where
   moves_at old k f h d e item n told x first there work is_told number is_k is_f ended setup w c at shows it = (
     reply,
     keeps_with setup old new c after h d e at
-        (but_line old new d e line at.keeps.lanes (ap (λ (v : Flights (InFlight P)). length v.keys) served.put ∙ at.keeps.keyed) at.keeps.cells refl refl lines)
+        (but_line old new d e line at.keeps.lanes (ap (λ (v : TransfersInFlight (InFlight P)). length v.keys) served.put ∙ at.keeps.keyed) at.keeps.cells refl refl lines)
         (record {
           same = refl;
           others = λ dev ep other. with_other c.endpoints d e a.endpoint dev ep other;
@@ -142,7 +142,7 @@ module _ {P : Type 0} where
                     (subst (λ (ys : List KeptTransfer). AllItems (Some h) e line ys) (sym left.line) (set_item (Some h) e (line_at old.flights d e) b.line item (Some served.served) (record it.y { bytes = left.bytes }) end.line flies));
                 errand = end.errand ∙ ap (λ (v : Option SentErrand). option_map in_ring v) (sym left.errand);
               });
-          buffers = buffers_line old new d e line lines (line_is setup old new c h d e line at lines) (ap (λ (v : Flights (InFlight P)). v.keys) served.put)
+          buffers = buffers_line old new d e line lines (line_is setup old new c h d e line at lines) (ap (λ (v : TransfersInFlight (InFlight P)). v.keys) served.put)
               (rings_as old.controller (served_at old.controller d e (flight.out_of e t.request.body)) k (rings_served old.controller d e (flight.out_of e t.request.body)) (is_k t it.is.found))
               (λ size kss all. set_named size (keys_at old.flights.keys d e) (line_at old.flights d e) kss item t served.served all it.is.there (ap (λ (v : InFlight P). v.request) served.behind.rest)) at.keeps.buffers;
           held = subst (λ (v : Controller). HoldsCore setup v after) (sym kept_k) packet.holds;
@@ -202,7 +202,7 @@ module _ {P : Type 0} where
       line = slice_set (line_at old.flights d e) item (Some served.served)
 
       lines : f.lines ≡ (with_line old.flights d e line).lines
-      lines = ap (λ (v : Flights (InFlight P)). v.lines) served.put
+      lines = ap (λ (v : TransfersInFlight (InFlight P)). v.lines) served.put
 
       slot_gone : it.slot.gone ≡ c.gone d
       slot_gone = (at.keeps.held.each d it.slot it.there).is_gone
@@ -245,7 +245,7 @@ module _ {P : Type 0} where
           })
 
   -- a packet of an item is the core's
-  pub moves : (old : State P) (k : Controller) (f : Flights (InFlight P)) (h d e item n : ℕ) (told : ServedPacket) → (x : Context) → (first : TrbAt) → context_in old.controller d e ≡ Some x → working x ≡ Some first
+  pub moves : (old : State P) (k : Controller) (f : TransfersInFlight (InFlight P)) (h d e item n : ℕ) (told : ServedPacket) → (x : Context) → (first : TrbAt) → context_in old.controller d e ≡ Some x → working x ≡ Some first
       → Some told ≡ told_at old.controller d e → ((t : InFlight P) → item_at old.flights d e item ≡ Some t → t.n ≡ n)
       → ((t : InFlight P) → item_at old.flights d e item ≡ Some t → k ≡ served_at old.controller d e (flight.out_of e t.request.body))
       → ((t : InFlight P) → item_at old.flights d e item ≡ Some t → Serves old.flights f old.controller d e item t)

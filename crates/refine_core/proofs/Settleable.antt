@@ -5,7 +5,7 @@ use Rattle.std.specs.List.{prefix_len}
 use Rattle.std.proofs.lemmas.List.{length-drop, length-map}
 use Rattle.std.proofs.lemmas.List.Sums.{prefix_len-le-length}
 use Rattle.std.proofs.lemmas.Option.{same_Some, slice_get_within}
-use Rattle.usb_tables.specs.Caller.{Kept as Caller}
+use Rattle.usb_tables.specs.HandleState.{Kept as HandleState}
 use Rattle.usb_tables.specs.declared.ended.Mark.{Mark}
 use Rattle.usb_tables.specs.declared.outstanding.Sent.{Sent}
 use Rattle.usb_tables.specs.Settlements.{fails_stop, mark_of, settled_by}
@@ -23,10 +23,10 @@ use Rattle.proof_model.proofs.Lists.Times.{count-cons}
 use Rattle.usb_model.specs.Kept.{KeptEndpoint, KeptTransfer}
 use Rattle.usb_tables.specs.declared.ended.Settlement.{Settlement}
 use Rattle.usb_tables.specs.declared.transfer.Transfer.{Transfer as InFlight}
-use Rattle.usb_tables.specs.Callers.{SameCallbacks, SameCounts, SameNumbers, is_there, results_at}
+use Rattle.usb_tables.specs.HandleStates.{SameCallbacks, SameCounts, SameNumbers, is_there, results_at}
 use Rattle.usb_tables.specs.declared.ending.Ending.{Ending}
 use Rattle.usb_tables.specs.ByEndpoint.{lane_at}
-use Rattle.usb_tables.specs.Flights.{Flights, blanked_at, item_at, left_at, line_at, mark_in}
+use Rattle.usb_tables.specs.TransfersInFlight.{TransfersInFlight, blanked_at, item_at, left_at, line_at, mark_in}
 use Rattle.usb_xhc.specs.Context.{Context}
 use Rattle.usb_device.specs.Pipe.{pipe_at}
 use Rattle.usb_xhc.specs.Slots.{DeviceSlot, changed, context_of}
@@ -191,12 +191,12 @@ module _ {P : Type 0} where
 
   -- the pieces, of parts as a function finds them
   module _ (s v : State P) (same : v ≡ s) (d e : ℕ) where
-    pub leaves_by : (count : ℕ) (k : Controller) (f : Flights (InFlight P)) → CanLeave s d e count → f ≡ left_at v.flights d e count → k ≡ slot_changed v.controller d (λ a. changed a (endpoint_id e) (λ b. with_ring b (without_first b.ring count)))
+    pub leaves_by : (count : ℕ) (k : Controller) (f : TransfersInFlight (InFlight P)) → CanLeave s d e count → f ≡ left_at v.flights d e count → k ≡ slot_changed v.controller d (λ a. changed a (endpoint_id e) (λ b. with_ring b (without_first b.ring count)))
         → (h : ℕ) → Leaves s (record v { controller = k; flights = f }) h d e count
     leaves_by count k f can is_f is_k h = subst (λ (u : State P). Leaves u (record v { controller = k; flights = f }) h d e count) same
         (leaves v k f h d e count (subst (λ (u : State P). CanLeave u d e count) (sym same) can).within is_f is_k)
 
-    pub withdraws_by : (h item : ℕ) (x : Ending) (k : Controller) (f : Flights (InFlight P)) (callers : List Caller)
+    pub withdraws_by : (h item : ℕ) (x : Ending) (k : Controller) (f : TransfersInFlight (InFlight P)) (callers : List HandleState)
         → ((t : InFlight P) → item_at v.flights d e item ≡ Some t → f ≡ record (blanked_at v.flights d e item) { ended = v.flights.ended ++ record { transfer = t; ending = x } ∷ [] })
         → ((g id : ℕ) → results_at callers g id ≡ (if is_there h (endpoint_id e) g id then results_at v.callers g id + 1 else results_at v.callers g id))
         → SameNumbers v.callers callers → SameCallbacks v.callers callers → SameCounts v.callers callers

@@ -17,7 +17,7 @@ use Rattle.usb_tables.specs.declared.ended.Settlement.{Settlement}
 use Rattle.usb_tables.specs.declared.ended.Mark.{Mark}
 use Rattle.usb_tables.specs.Settlements.{fails_stop, goes_on, line_by, mark_of, results_by, settled_by}
 use Rattle.usb_tables.specs.declared.transfer.Transfer.{Transfer as InFlight}
-use Rattle.usb_tables.specs.Flights.{mark_in}
+use Rattle.usb_tables.specs.TransfersInFlight.{mark_in}
 use Rattle.refine_core.specs.State.{AllItems}
 
 -- a transfer without the ask that it had before it was withdrawn

@@ -21,7 +21,7 @@ use Rattle.usb_xhc.specs.Skims.{controller_skimmed}
 use Rattle.usb_xhc.specs.Slots.{DeviceSlot, context_of, serving_at}
 use Rattle.usb_xhc.specs.Transaction.{working}
 use Rattle.usb_tables.specs.ByEndpoint.{lane_at}
-use Rattle.usb_tables.specs.Flights.{Flights, item_at, line_at, with_item}
+use Rattle.usb_tables.specs.TransfersInFlight.{TransfersInFlight, item_at, line_at, with_item}
 use Rattle.refine_world.specs.Calls.{step_core}
 use Rattle.refine_world.specs.Shows.{Core, Shows}
 use Rattle.refine_world.proofs.Calls.Whole.{whole_steps}
@@ -37,7 +37,7 @@ use Rattle.refine_core.proofs.Amid.{core_as}
 use Rattle.refine_core.proofs.Between.{put_read, put_twice, skimmed_next, skimmed_none}
 use Rattle.refine_core.proofs.Fronts.{IsAtWork, at_work, working_runs}
 use Rattle.refine_core.proofs.Held.{is_at}
-use Rattle.refine_core.proofs.Lanes.{has_lane, line_here}
+use Rattle.refine_core.proofs.EndpointQueues.{has_lane, line_here}
 use Rattle.refine_core.proofs.Lines.{index_get, kept_of}
 use Rattle.refine_core.proofs.Packets.{core_served, own_end, serves_moved}
 use Rattle.refine_core.proofs.Serves.{moves_at}
@@ -259,10 +259,10 @@ skims {P} old k f h d e item count n size held front number whole is_k is_f setu
     }
 
     start : old ≡ amid old h d e item n size count t skim.skimmed 0 t
-    start = ap (λ (v : Flights (InFlight P)). record old { flights = v }) (sym (put_read old.flights d e item (Some t) it.is.found))
+    start = ap (λ (v : TransfersInFlight (InFlight P)). record old { flights = v }) (sym (put_read old.flights d e item (Some t) it.is.found))
 
     end : amid old h d e item n size count t skim.skimmed count skim.skimmed ≡ record old { controller = k; flights = f }
-    end = ap₂ (λ (v : Controller) (x : Flights (InFlight P)). record old { controller = v; flights = x }) (sym (is_k t it.is.found)) (sym skim.put)
+    end = ap₂ (λ (v : Controller) (x : TransfersInFlight (InFlight P)). record old { controller = v; flights = x }) (sym (is_k t it.is.found)) (sym skim.put)
 
     all : count + 0 ≡ count
     all = omega arith

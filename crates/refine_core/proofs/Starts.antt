@@ -23,10 +23,10 @@ use Rattle.usb_xhc.specs.Context.{Context}
 use Rattle.usb_xhc.specs.Host.{with_pushed, with_ring}
 use Rattle.usb_xhc.specs.Controller.{Controller, slot_changed}
 use Rattle.usb_xhc.specs.Slots.{DeviceSlot, changed, context_of}
-use Rattle.usb_tables.specs.Caller.{Kept as Caller}
-use Rattle.usb_tables.specs.Callers.{SameCallbacks, SameCounts, SameResults, number_of}
+use Rattle.usb_tables.specs.HandleState.{Kept as HandleState}
+use Rattle.usb_tables.specs.HandleStates.{SameCallbacks, SameCounts, SameResults, number_of}
 use Rattle.usb_tables.specs.ByEndpoint.{lane_at}
-use Rattle.usb_tables.specs.Flights.{Flights, keys_at, line_at, with_last}
+use Rattle.usb_tables.specs.TransfersInFlight.{TransfersInFlight, keys_at, line_at, with_last}
 use Rattle.refine_world.specs.Shows.{Core}
 use Rattle.refine_rings.specs.Holds.{HasRing, HoldsCore}
 use Rattle.refine_rings.proofs.Ends.{here}
@@ -35,7 +35,7 @@ use Rattle.refine_core.specs.State.{AllItems, AllNameBuffers, IsFlight, KeepsEnd
 use Rattle.refine_core.specs.Works.{IsUnstarted, Starts, context_in, with_kept}
 use Rattle.refine_core.proofs.Buffers.{buffers_put, join_named}
 use Rattle.refine_core.proofs.Changed.{keeps_with}
-use Rattle.refine_core.proofs.Lanes.{has_lane, with_other}
+use Rattle.refine_core.proofs.EndpointQueues.{has_lane, with_other}
 use Rattle.refine_core.proofs.Lines.{index_set, join_item, set_length}
 use Rattle.refine_core.proofs.Rings.{ring_of}
 use Rattle.refine_core.proofs.Transfers.{but_line, end_at, line_is}
@@ -83,7 +83,7 @@ module _ {P : Type 0} where
       }
 
   -- a transfer joins the line under the name's next number
-  pub starts : (old : State P) (k : Controller) (f : Flights (InFlight P)) (callers : List Caller) (h d e : ℕ) (x : Context) (t : InFlight P) (key : ℕ) (request : Request) (round : ℕ) → context_in old.controller d e ≡ Some x
+  pub starts : (old : State P) (k : Controller) (f : TransfersInFlight (InFlight P)) (callers : List HandleState) (h d e : ℕ) (x : Context) (t : InFlight P) (key : ℕ) (request : Request) (round : ℕ) → context_in old.controller d e ≡ Some x
       → used x.ring.line + length (trbs_of x.size request) ≤ capacity → request.ep ≡ e → IsUnstarted h t (number_of old.callers h) request round
       → f.lines ≡ (with_last old.flights d e key t).lines → f.keys ≡ (with_last old.flights d e key t).keys → f.ended ≡ old.flights.ended
       → k ≡ slot_changed old.controller d (λ s. changed s (endpoint_id e) (λ c. with_ring c (with_pushed c.ring (normals (normals_of key (tds_of x.size request))))))

@@ -18,8 +18,8 @@ use Rattle.usb_model.specs.World.{World}
 use Rattle.usb_model.specs.World.Shared.{pieces_of}
 use Rattle.usb_tables.specs.Holders.{device_of}
 use Rattle.usb_tables.specs.Tables.{is_plain}
-use Rattle.usb_tables.specs.Caller.{Kept as Caller, is_one_of}
-use Rattle.usb_tables.specs.Callers.{SameNumbers, SameResults, callback_at, callbacks_at, is_there}
+use Rattle.usb_tables.specs.HandleState.{Kept as HandleState, is_one_of}
+use Rattle.usb_tables.specs.HandleStates.{SameNumbers, SameResults, callback_at, callbacks_at, is_there}
 use Rattle.refine_world.specs.Calls.{answer_core, called_back, step_core}
 use Rattle.refine_world.specs.Shows.{Core, Shows}
 use Rattle.refine_core.specs.Handles.{says}
@@ -31,7 +31,7 @@ use Rattle.refine_core.proofs.Names.{keeps_named}
 use Rattle.refine_core.proofs.Amid.{core_as}
 
 -- what is kept of the callers where the callback of name h and number n ended
-pub record Ended (old new : List Caller) (h n : ℕ) : Type 0 where
+pub record Ended (old new : List HandleState) (h n : ℕ) : Type 0 where
   pub callbacks : (g k : ℕ) → callback_at new g k ≡ (if is_there h n g k then None else callback_at old g k)
   pub counts : (g id : ℕ) → callbacks_at old g id ≡ callbacks_at new g id + (if (h == g) && is_one_of id (callback_at old h n) then 1 else 0)
   pub numbers : SameNumbers old new

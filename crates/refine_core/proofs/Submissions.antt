@@ -14,7 +14,7 @@ use Rattle.usb_model.specs.World.Shared.{past_first}
 use Rattle.proof_model.proofs.Lists.Pieces.{same_name}
 use Rattle.usb_model.specs.Joins.{joined}
 use Rattle.usb_tables.specs.Tds.{Tds}
-use Rattle.usb_tables.specs.Callers.{number_of}
+use Rattle.usb_tables.specs.HandleStates.{number_of}
 use Rattle.refine_world.specs.Shows.{Core}
 use Rattle.refine_world.specs.Steps.{Stepped}
 use Rattle.refine_world.specs.Calls.{calls, joins, step_core}

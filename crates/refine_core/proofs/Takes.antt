@@ -17,10 +17,10 @@ use Rattle.proof_model.proofs.Lists.Pieces.{same_name}
 use Rattle.proof_model.proofs.Lists.Times.{count-cons}
 use Rattle.usb_tables.specs.Holders.{Holding, device_of}
 use Rattle.usb_tables.specs.Tables.{is_plain}
-use Rattle.usb_tables.specs.Caller.{Kept as Caller}
-use Rattle.usb_tables.specs.Callers.{SameCallbacks, SameCounts, SameNumbers, SameResults, callback_at, callbacks_at, is_there, results_at}
+use Rattle.usb_tables.specs.HandleState.{Kept as HandleState}
+use Rattle.usb_tables.specs.HandleStates.{SameCallbacks, SameCounts, SameNumbers, SameResults, callback_at, callbacks_at, is_there, results_at}
 use Rattle.usb_tables.specs.declared.transfer.Transfer.{Transfer as InFlight}
-use Rattle.usb_tables.specs.Flights.{EndedOf}
+use Rattle.usb_tables.specs.TransfersInFlight.{EndedOf}
 use Rattle.refine_world.specs.Shows.{Core}
 use Rattle.refine_world.specs.Steps.{Stepped, idle, take_core, take_first, with_out}
 use Rattle.refine_world.specs.Calls.{step_core}
@@ -37,14 +37,14 @@ abbrev pub called_of : TransferResult → InCallback
 called_of x = record { n = x.n; request = x.request; round = x.round; status = x.status }
 
 -- what is kept of the callers where a result of name h goes out to its callback
-pub record Calls (old new : List Caller) (h : ℕ) (x : InCallback) : Type 0 where
+pub record Calls (old new : List HandleState) (h : ℕ) (x : InCallback) : Type 0 where
   pub numbers : SameNumbers old new
   pub callbacks : (g k : ℕ) → callback_at new g k ≡ (if is_there h x.n g k then Some x else callback_at old g k)
   pub counts : (g id : ℕ) → callbacks_at new g id ≡ (if is_there h (endpoint_id x.request.ep) g id then callbacks_at old g id + 1 else callbacks_at old g id)
   pub results : (g id : ℕ) → results_at new g id ≡ (if is_there h (endpoint_id x.request.ep) g id then results_at old g id - 1 else results_at old g id)
 
 -- by these: room is asked for, the result is taken, the callback is put
-pub calls_by : (old room taken new : List Caller) (h : ℕ) (x : InCallback) → SameNumbers old room → SameCallbacks old room → SameResults old room → SameCounts old room
+pub calls_by : (old room taken new : List HandleState) (h : ℕ) (x : InCallback) → SameNumbers old room → SameCallbacks old room → SameResults old room → SameCounts old room
     → ((g id : ℕ) → results_at taken g id ≡ (if is_there h (endpoint_id x.request.ep) g id then results_at room g id - 1 else results_at room g id)) → SameNumbers room taken → SameCallbacks room taken → SameCounts room taken
     → ((g k : ℕ) → callback_at new g k ≡ (if is_there h x.n g k then Some x else callback_at taken g k))
     → ((g id : ℕ) → callbacks_at new g id ≡ (if is_there h (endpoint_id x.request.ep) g id then callbacks_at taken g id + 1 else callbacks_at taken g id)) → SameNumbers taken new → SameResults taken new → Calls old new h x

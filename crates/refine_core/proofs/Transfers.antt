@@ -10,7 +10,7 @@ use Rattle.usb_tables.specs.declared.outstanding.Sent.{Sent}
 use Rattle.usb_tables.specs.Outstanding.{sent_at}
 use Rattle.usb_xhc.specs.Slots.{DeviceSlot, context_of}
 use Rattle.usb_tables.specs.ByEndpoint.{lane_at}
-use Rattle.usb_tables.specs.Flights.{Flights, item_at, keys_at, line_at, with_item, with_line}
+use Rattle.usb_tables.specs.TransfersInFlight.{TransfersInFlight, item_at, keys_at, line_at, with_item, with_line}
 use Rattle.refine_rings.specs.EndpointLaws.{HaveTrbsOf}
 use Rattle.refine_world.specs.Shows.{Core}
 use Rattle.refine_rings.proofs.Ends.{here}
@@ -19,7 +19,7 @@ use Rattle.refine_core.specs.State.{AllItems, IsFlight, IsItem, Keeps, KeepsEnd,
 use Rattle.refine_core.specs.Works.{Asks, IsAt, Pauses, with_kept}
 use Rattle.refine_core.proofs.Buffers.{buffers_line, set_named}
 use Rattle.refine_core.proofs.Changed.{IsBut, keeps_with, name_still}
-use Rattle.refine_core.proofs.Lanes.{has_lane, line_here, line_other, same_trbs, with_other}
+use Rattle.refine_core.proofs.EndpointQueues.{has_lane, line_here, line_other, same_trbs, with_other}
 use Rattle.refine_core.proofs.Rings.{no_ring_errand}
 use Rattle.refine_core.proofs.Lines.{index_get, item_of, set_item, set_length}
 
@@ -69,22 +69,22 @@ module _ {P : Type 0} where
       ∙ line_here old.flights d e l at.keeps.lanes (has_lane setup d e at.interface at.keeps.few at.there)
 
   -- a transfer in progress changed in what the core alone keeps of it
-  pub item_changes : (setup : Setup) (old : State P) (f : Flights (InFlight P)) (c : Core) (h d e item : ℕ) (y z : KeptTransfer) (t : InFlight P) → IsAt setup old c h d e → slice_get (c.endpoints d e).line item ≡ Some y
+  pub item_changes : (setup : Setup) (old : State P) (f : TransfersInFlight (InFlight P)) (c : Core) (h d e item : ℕ) (y z : KeptTransfer) (t : InFlight P) → IsAt setup old c h d e → slice_get (c.endpoints d e).line item ≡ Some y
       → f ≡ with_item old.flights d e item (Some t) → IsFlight (Some h) e t z → z.place ≡ y.place → z.lengths ≡ y.lengths → z.blank ≡ y.blank → z.request ≡ y.request
       → Keeps setup (record old { flights = f }) (with_kept d e (record (c.endpoints d e) { line = slice_set (c.endpoints d e).line item z }) c)
   item_changes setup old f c h d e item y z t at there put is place lengths blank request = keeps_with setup old new c after h d e at
-      (but_line old new d e line at.keeps.lanes (ap (λ (v : Flights (InFlight P)). length v.keys) put ∙ at.keeps.keyed) at.keeps.cells refl refl lines)
+      (but_line old new d e line at.keeps.lanes (ap (λ (v : TransfersInFlight (InFlight P)). length v.keys) put ∙ at.keeps.keyed) at.keeps.cells refl refl lines)
       (record {
         same = refl;
         others = λ dev ep other. with_other c.endpoints d e b dev ep other;
         mine = subst (λ (x : KeptEndpoint). KeepsEnd new (Some h) d e x) (sym (here c.endpoints d e b))
             (record { line = subst (λ (l : List (Option (InFlight P))). AllItems (Some h) e l b.line) (sym (line_is setup old new c h d e line at lines)) (set_item (Some h) e (line_at old.flights d e) (c.endpoints d e).line item (Some t) z end.line is); errand = end.errand });
-        buffers = buffers_line old new d e line lines (line_is setup old new c h d e line at lines) (ap (λ (v : Flights (InFlight P)). v.keys) put) (λ dev id. refl)
+        buffers = buffers_line old new d e line lines (line_is setup old new c h d e line at lines) (ap (λ (v : TransfersInFlight (InFlight P)). v.keys) put) (λ dev id. refl)
             (λ size kss all. set_named size (keys_at old.flights.keys d e) (line_at old.flights d e) kss item was.t t all was.there (is.asks_for ∙ request ∙ sym was.same.asks_for)) at.keeps.buffers;
         held = (hosts setup old.controller c.gone c.endpoints c.orders c.events c.posted d e at.interface at.keeps.plain at.keeps.held at.there).keeps b
             (trbs_set (c.endpoints d e).line item there) refl refl refl refl refl refl refl no_errand;
         named = λ g. name_still old new g (c.names g) (pieces_of g c.results) refl refl (at.keeps.named g);
-        ended = at.keeps.ended ∙ ap (λ (v : Flights (InFlight P)). map result_of v.ended) (sym put);
+        ended = at.keeps.ended ∙ ap (λ (v : TransfersInFlight (InFlight P)). map result_of v.ended) (sym put);
         ended_plain = at.keeps.ended_plain;
       })
     where
@@ -101,7 +101,7 @@ module _ {P : Type 0} where
       line = slice_set (line_at old.flights d e) item (Some t)
 
       lines : f.lines ≡ (with_line old.flights d e line).lines
-      lines = ap (λ (v : Flights (InFlight P)). v.lines) put
+      lines = ap (λ (v : TransfersInFlight (InFlight P)). v.lines) put
 
       end : KeepsEnd old (Some h) d e (c.endpoints d e)
       end = end_at setup old c h d e at
@@ -120,7 +120,7 @@ module _ {P : Type 0} where
       no_errand s in_slots none = no_ring_errand setup old c h d e s at in_slots none
 
   -- a transfer's pause is told
-  pub pauses : (old : State P) (f : Flights (InFlight P)) (h d e item actual : ℕ) → ((t : InFlight P) → item_at old.flights d e item ≡ Some t → f ≡ with_item old.flights d e item (Some (record t { moved = actual })))
+  pub pauses : (old : State P) (f : TransfersInFlight (InFlight P)) (h d e item actual : ℕ) → ((t : InFlight P) → item_at old.flights d e item ≡ Some t → f ≡ with_item old.flights d e item (Some (record t { moved = actual })))
       → Pauses old (record old { flights = f }) h d e item actual
   pauses old f h d e item actual paused setup c y at there live =
       let is = live_at setup old c h d e item y at there live in
@@ -129,7 +129,7 @@ module _ {P : Type 0} where
       refl refl refl refl
 
   -- a transfer is asked to end
-  pub asks : (old : State P) (f : Flights (InFlight P)) (h d e item : ℕ) (why : Ask) → ((t : InFlight P) → item_at old.flights d e item ≡ Some t → f ≡ with_item old.flights d e item (Some (record t { ask = Some why })))
+  pub asks : (old : State P) (f : TransfersInFlight (InFlight P)) (h d e item : ℕ) (why : Ask) → ((t : InFlight P) → item_at old.flights d e item ≡ Some t → f ≡ with_item old.flights d e item (Some (record t { ask = Some why })))
       → Asks old (record old { flights = f }) h d e item why
   asks old f h d e item why asked setup c y at there live =
       let is = live_at setup old c h d e item y at there live in

@@ -18,7 +18,7 @@ use Rattle.usb_model.specs.Events.{kept_result}
 use Rattle.usb_model.specs.Settlements.{kept_blanked, kept_withdrawn, withdrawn_results}
 use Rattle.usb_tables.specs.declared.transfer.Transfer.{Transfer as InFlight}
 use Rattle.usb_tables.specs.declared.ending.Ending.{Ending}
-use Rattle.usb_tables.specs.Flights.{item_at, line_at}
+use Rattle.usb_tables.specs.TransfersInFlight.{item_at, line_at}
 use Rattle.refine_world.specs.Shows.{Core}
 use Rattle.refine_rings.specs.Holds.{with_end}
 use Rattle.refine_rings.proofs.Ends.{here}

@@ -20,11 +20,11 @@ use Rattle.usb_trb.specs.declared.kind.TrbKind.{TrbKind}
 use Rattle.usb_model.specs.Kept.{KeptTransfer}
 use Rattle.usb_model.specs.Events.{errand_of, kept_result, reading}
 use Rattle.usb_tables.specs.declared.ending.Ending.{Ending}
-use Rattle.usb_tables.specs.Callers.{results_at}
+use Rattle.usb_tables.specs.HandleStates.{results_at}
 use Rattle.usb_xhc.specs.Controller.{Controller}
 use Rattle.usb_xhc.specs.Slots.{context_of}
 use Rattle.usb_tables.specs.ByEndpoint.{lane_at}
-use Rattle.usb_tables.specs.Flights.{item_at, line_at}
+use Rattle.usb_tables.specs.TransfersInFlight.{item_at, line_at}
 use Rattle.refine_world.specs.Shows.{Completes, Core, RingEvent, Shows, Transfers}
 use Rattle.refine_world.specs.Steps.{deliver_core, is_sent, sender}
 use Rattle.refine_rings.specs.Holds.{event_trb}

@@ -14,8 +14,8 @@ use Rattle.usb_model.specs.Kept.{KeptEndpoint}
 use Rattle.usb_tables.specs.Holders.{Holding, device_of, owner_of}
 use Rattle.usb_tables.specs.Outstanding.{sent_at}
 use Rattle.usb_xhc.specs.Controller.{Controller}
-use Rattle.usb_tables.specs.Flights.{line_at}
-use Rattle.usb_tables.specs.Callers.{callbacks_at, results_at}
+use Rattle.usb_tables.specs.TransfersInFlight.{line_at}
+use Rattle.usb_tables.specs.HandleStates.{callbacks_at, results_at}
 use Rattle.refine_world.specs.Calls as calling
 use Rattle.refine_world.specs.Shows.{Core}
 use Rattle.refine_rings.specs.Holds.{HoldsCore}

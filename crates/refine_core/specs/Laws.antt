@@ -1,7 +1,7 @@
 -- The theorems, as the contracts of src/laws.rt name them. P: what callers keep with their transfers.
 use Rattle.std.specs.Prelude.{◌≡◌, ℕ, ◌+◌, ◌-◌, ◌<◌, ◌≤◌, ◌==◌, List, [], ◌∷◌, ◌++◌, length, replicate, Option, Some, None, slice_set, if◌then◌else◌}
-use Rattle.usb_tables.specs.Caller.{Kept as Caller}
-use Rattle.usb_tables.specs.Callers.{SameCallbacks, SameCounts, SameNumbers, SameResults, is_there, number_of, results_at}
+use Rattle.usb_tables.specs.HandleState.{Kept as HandleState}
+use Rattle.usb_tables.specs.HandleStates.{SameCallbacks, SameCounts, SameNumbers, SameResults, is_there, number_of, results_at}
 use Rattle.usb_tables.specs.declared.outstanding.Sent.{Sent}
 use Rattle.usb_xhc.specs.Context.{Context}
 use Rattle.usb_xhc.specs.Host.{rung, with_blank, with_pushed, with_ring, without_first}
@@ -11,7 +11,7 @@ use Rattle.usb_xhc.specs.declared.packet.Packet.{Packet as ServedPacket}
 use Rattle.usb_xhc.specs.declared.packet.Packet.TheVariants as served
 use Rattle.usb_xhc.specs.declared.trb_at.TrbAt.{TrbAt}
 use Rattle.usb_tables.specs.ByEndpoint.{lane_at}
-use Rattle.usb_tables.specs.Flights.{Flights, blanked_at, item_at, left_at, line_at, with_item, with_last}
+use Rattle.usb_tables.specs.TransfersInFlight.{TransfersInFlight, blanked_at, item_at, left_at, line_at, with_item, with_last}
 use Rattle.refine_core.specs.Packets.{Serves, Skims}
 use Rattle.usb_tables.specs.declared.ending.Ending.{Ending}
 use Rattle.usb_model.specs.Kept.{trbs_of}
@@ -49,27 +49,27 @@ module _ (P : Type 0) where
 
   -- blanks that leave a line leave the core's
   abbrev pub LeavesBlanks : Type 0
-  LeavesBlanks = (old : State P) (k : Controller) (f : Flights (InFlight P)) (h d e count : ℕ) → count ≤ length (line_at old.flights d e) → f ≡ left_at old.flights d e count → k ≡ slot_changed old.controller d (λ s. changed s (endpoint_id e) (λ x. with_ring x (without_first x.ring count))) → Leaves old (record old { controller = k; flights = f }) h d e count
+  LeavesBlanks = (old : State P) (k : Controller) (f : TransfersInFlight (InFlight P)) (h d e count : ℕ) → count ≤ length (line_at old.flights d e) → f ≡ left_at old.flights d e count → k ≡ slot_changed old.controller d (λ s. changed s (endpoint_id e) (λ x. with_ring x (without_first x.ring count))) → Leaves old (record old { controller = k; flights = f }) h d e count
 
   -- a transfer that is withdrawn is withdrawn in the core, and its result is made
   abbrev pub WithdrawsTransfers : Type 0
-  WithdrawsTransfers = (old : State P) (k : Controller) (f : Flights (InFlight P)) (callers : List Caller) (h d e item : ℕ) (x : Ending) → ((t : InFlight P) → item_at old.flights d e item ≡ Some t → f ≡ record (blanked_at old.flights d e item) { ended = old.flights.ended ++ record { transfer = t; ending = x } ∷ [] }) → ((g id : ℕ) → results_at callers g id ≡ (if is_there h (endpoint_id e) g id then results_at old.callers g id + 1 else results_at old.callers g id)) → SameNumbers old.callers callers → SameCallbacks old.callers callers → SameCounts old.callers callers → k ≡ slot_changed old.controller d (λ s. changed s (endpoint_id e) (λ v. with_ring v (with_blank v.ring item))) → Withdraws old (record old { controller = k; flights = f; callers = callers }) h d e item x
+  WithdrawsTransfers = (old : State P) (k : Controller) (f : TransfersInFlight (InFlight P)) (callers : List HandleState) (h d e item : ℕ) (x : Ending) → ((t : InFlight P) → item_at old.flights d e item ≡ Some t → f ≡ record (blanked_at old.flights d e item) { ended = old.flights.ended ++ record { transfer = t; ending = x } ∷ [] }) → ((g id : ℕ) → results_at callers g id ≡ (if is_there h (endpoint_id e) g id then results_at old.callers g id + 1 else results_at old.callers g id)) → SameNumbers old.callers callers → SameCallbacks old.callers callers → SameCounts old.callers callers → k ≡ slot_changed old.controller d (λ s. changed s (endpoint_id e) (λ v. with_ring v (with_blank v.ring item))) → Withdraws old (record old { controller = k; flights = f; callers = callers }) h d e item x
 
   -- a transfer that ended leaves the core's line, and its result is made
   abbrev pub FinishesTransfers : Type 0
-  FinishesTransfers = (old : State P) (k : Controller) (f g : Flights (InFlight P)) (callers : List Caller) (h d e item count : ℕ) (x : Ending) → ((t : InFlight P) → item_at old.flights d e item ≡ Some t → f ≡ record (blanked_at old.flights d e item) { ended = old.flights.ended ++ record { transfer = t; ending = x } ∷ [] }) → item < count → count ≤ length (line_at old.flights d e) → g ≡ left_at f d e count → ((g id : ℕ) → results_at callers g id ≡ (if is_there h (endpoint_id e) g id then results_at old.callers g id + 1 else results_at old.callers g id)) → SameNumbers old.callers callers → SameCallbacks old.callers callers → SameCounts old.callers callers → k ≡ slot_changed old.controller d (λ s. changed s (endpoint_id e) (λ v. with_ring v (without_first v.ring count))) → Finishes old (record old { controller = k; flights = g; callers = callers }) h d e item x count
+  FinishesTransfers = (old : State P) (k : Controller) (f g : TransfersInFlight (InFlight P)) (callers : List HandleState) (h d e item count : ℕ) (x : Ending) → ((t : InFlight P) → item_at old.flights d e item ≡ Some t → f ≡ record (blanked_at old.flights d e item) { ended = old.flights.ended ++ record { transfer = t; ending = x } ∷ [] }) → item < count → count ≤ length (line_at old.flights d e) → g ≡ left_at f d e count → ((g id : ℕ) → results_at callers g id ≡ (if is_there h (endpoint_id e) g id then results_at old.callers g id + 1 else results_at old.callers g id)) → SameNumbers old.callers callers → SameCallbacks old.callers callers → SameCounts old.callers callers → k ≡ slot_changed old.controller d (λ s. changed s (endpoint_id e) (λ v. with_ring v (without_first v.ring count))) → Finishes old (record old { controller = k; flights = g; callers = callers }) h d e item x count
 
   -- what is told of a pause is told in the core
   abbrev pub PausesTransfers : Type 0
-  PausesTransfers = (old : State P) (f : Flights (InFlight P)) (h d e item actual : ℕ) → ((t : InFlight P) → item_at old.flights d e item ≡ Some t → f ≡ with_item old.flights d e item (Some (record t { moved = actual }))) → Pauses old (record old { flights = f }) h d e item actual
+  PausesTransfers = (old : State P) (f : TransfersInFlight (InFlight P)) (h d e item actual : ℕ) → ((t : InFlight P) → item_at old.flights d e item ≡ Some t → f ≡ with_item old.flights d e item (Some (record t { moved = actual }))) → Pauses old (record old { flights = f }) h d e item actual
 
   -- an ask that a transfer end is kept in the core
   abbrev pub AsksTransfers : Type 0
-  AsksTransfers = (old : State P) (f : Flights (InFlight P)) (h d e item : ℕ) (why : Ask) → ((t : InFlight P) → item_at old.flights d e item ≡ Some t → f ≡ with_item old.flights d e item (Some (record t { ask = Some why }))) → Asks old (record old { flights = f }) h d e item why
+  AsksTransfers = (old : State P) (f : TransfersInFlight (InFlight P)) (h d e item : ℕ) (why : Ask) → ((t : InFlight P) → item_at old.flights d e item ≡ Some t → f ≡ with_item old.flights d e item (Some (record t { ask = Some why }))) → Asks old (record old { flights = f }) h d e item why
 
   -- a transfer that is accepted joins the core's line
   abbrev pub StartsTransfers : Type 0
-  StartsTransfers = (old : State P) (k : Controller) (f : Flights (InFlight P)) (callers : List Caller) (h d e : ℕ) (x : Context) (t : InFlight P) (key : ℕ) (request : Request) (round : ℕ) → context_in old.controller d e ≡ Some x → used x.ring.line + length (trbs_of x.size request) ≤ capacity → request.ep ≡ e → IsUnstarted h t (number_of old.callers h) request round → f.lines ≡ (with_last old.flights d e key t).lines → f.keys ≡ (with_last old.flights d e key t).keys → f.ended ≡ old.flights.ended → k ≡ slot_changed old.controller d (λ s. changed s (endpoint_id e) (λ c. with_ring c (with_pushed c.ring (normals (normals_of key (tds_of x.size request)))))) → ((g : ℕ) → number_of callers g ≡ (if h == g then number_of old.callers g + 1 else number_of old.callers g)) → SameCallbacks old.callers callers → SameResults old.callers callers → SameCounts old.callers callers → Starts old (record old { controller = k; flights = f; callers = callers }) h d e request round
+  StartsTransfers = (old : State P) (k : Controller) (f : TransfersInFlight (InFlight P)) (callers : List HandleState) (h d e : ℕ) (x : Context) (t : InFlight P) (key : ℕ) (request : Request) (round : ℕ) → context_in old.controller d e ≡ Some x → used x.ring.line + length (trbs_of x.size request) ≤ capacity → request.ep ≡ e → IsUnstarted h t (number_of old.callers h) request round → f.lines ≡ (with_last old.flights d e key t).lines → f.keys ≡ (with_last old.flights d e key t).keys → f.ended ≡ old.flights.ended → k ≡ slot_changed old.controller d (λ s. changed s (endpoint_id e) (λ c. with_ring c (with_pushed c.ring (normals (normals_of key (tds_of x.size request)))))) → ((g : ℕ) → number_of callers g ≡ (if h == g then number_of old.callers g + 1 else number_of old.callers g)) → SameCallbacks old.callers callers → SameResults old.callers callers → SameCounts old.callers callers → Starts old (record old { controller = k; flights = f; callers = callers }) h d e request round
 
   -- of the item where the controller works one packet can be served: there is room for it, or there are bytes
   abbrev pub ServesSafely : Type 0
@@ -78,7 +78,7 @@ module _ (P : Type 0) where
 
   -- a packet is the core's: what is told of it, and what it leaves
   abbrev pub MovesPackets : Type 0
-  MovesPackets = (old : State P) (k : Controller) (f : Flights (InFlight P)) (h d e item n : ℕ) (told : ServedPacket) → (x : Context) → (first : TrbAt) → context_in old.controller d e ≡ Some x → working x ≡ Some first → Some told ≡ told_at old.controller d e → ((t : InFlight P) → item_at old.flights d e item ≡ Some t → t.n ≡ n) → ((t : InFlight P) → item_at old.flights d e item ≡ Some t → k ≡ served_at old.controller d e (flight.out_of e t.request.body)) → ((t : InFlight P) → item_at old.flights d e item ≡ Some t → Serves old.flights f old.controller d e item t) → f.ended ≡ old.flights.ended → MovesPacket old (record old { controller = k; flights = f }) h d e item n told
+  MovesPackets = (old : State P) (k : Controller) (f : TransfersInFlight (InFlight P)) (h d e item n : ℕ) (told : ServedPacket) → (x : Context) → (first : TrbAt) → context_in old.controller d e ≡ Some x → working x ≡ Some first → Some told ≡ told_at old.controller d e → ((t : InFlight P) → item_at old.flights d e item ≡ Some t → t.n ≡ n) → ((t : InFlight P) → item_at old.flights d e item ≡ Some t → k ≡ served_at old.controller d e (flight.out_of e t.request.body)) → ((t : InFlight P) → item_at old.flights d e item ≡ Some t → Serves old.flights f old.controller d e item t) → f.ended ≡ old.flights.ended → MovesPacket old (record old { controller = k; flights = f }) h d e item n told
 
   -- a step that is the core's is the world's, and leaves parts that show a world
   abbrev pub TurnsWorlds : Type 0
@@ -90,7 +90,7 @@ module _ (P : Type 0) where
 
   -- whole packets in a row are the core's
   abbrev pub SkimsPackets : Type 0
-  SkimsPackets = (old : State P) (k : Controller) (f : Flights (InFlight P)) (h d e item count n size : ℕ) → IsHolder old d e (Some h) → IsFront old d e (Some item) → ((t : InFlight P) → item_at old.flights d e item ≡ Some t → t.n ≡ n) → ((t : InFlight P) → item_at old.flights d e item ≡ Some t → (i : ℕ) → i < count → told_at (controller_skimmed d e (flight.out_of e t.request.body) i old.controller) d e ≡ Some (served.Moved size)) → ((t : InFlight P) → item_at old.flights d e item ≡ Some t → k ≡ controller_skimmed d e (flight.out_of e t.request.body) count old.controller) → ((t : InFlight P) → item_at old.flights d e item ≡ Some t → Skims old.flights f old.controller d e item count t) → DoesCoreSteps old (replicate count (Serve d e)) (replicate count (record { owner = Some h; reply = Moved n size })) (record old { controller = k; flights = f })
+  SkimsPackets = (old : State P) (k : Controller) (f : TransfersInFlight (InFlight P)) (h d e item count n size : ℕ) → IsHolder old d e (Some h) → IsFront old d e (Some item) → ((t : InFlight P) → item_at old.flights d e item ≡ Some t → t.n ≡ n) → ((t : InFlight P) → item_at old.flights d e item ≡ Some t → (i : ℕ) → i < count → told_at (controller_skimmed d e (flight.out_of e t.request.body) i old.controller) d e ≡ Some (served.Moved size)) → ((t : InFlight P) → item_at old.flights d e item ≡ Some t → k ≡ controller_skimmed d e (flight.out_of e t.request.body) count old.controller) → ((t : InFlight P) → item_at old.flights d e item ≡ Some t → Skims old.flights f old.controller d e item count t) → DoesCoreSteps old (replicate count (Serve d e)) (replicate count (record { owner = Some h; reply = Moved n size })) (record old { controller = k; flights = f })
 
   -- of the item where the controller works whole packets in a row can be served: there is room for the rest of it, or there are the TRB's bytes
   abbrev pub SkimsSafely : Type 0

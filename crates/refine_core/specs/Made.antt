@@ -8,8 +8,8 @@ use Rattle.usb_tables.specs.Holders.{device_of, owner_of}
 use Rattle.usb_tables.specs.Outstanding.{sent_at}
 use Rattle.usb_xhc.specs.Controller.{AreLawfulAll, Controller, all_renewed}
 use Rattle.usb_xhc.specs.Slots.{DeviceSlot}
-use Rattle.usb_tables.specs.Flights.{keys_at, line_at}
-use Rattle.usb_tables.specs.Callers.{callback_at, callbacks_at, number_of, results_at}
+use Rattle.usb_tables.specs.TransfersInFlight.{keys_at, line_at}
+use Rattle.usb_tables.specs.HandleStates.{callback_at, callbacks_at, number_of, results_at}
 use Rattle.refine_rings.specs.Made.{IsSlotOf}
 use Rattle.refine_core.specs.State.{State}
 

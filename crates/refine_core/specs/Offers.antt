@@ -13,7 +13,7 @@ use Rattle.usb_model.specs.Setup.{Setup, packet_size_of}
 use Rattle.usb_model.specs.World.{World, holder, turn}
 use Rattle.usb_device.specs.Pipe.{pipe_at}
 use Rattle.usb_tables.specs.declared.transfer.Transfer.{Transfer as InFlight}
-use Rattle.usb_tables.specs.Flights.{item_at}
+use Rattle.usb_tables.specs.TransfersInFlight.{item_at}
 use Rattle.usb_xhc.specs.Slots.{DeviceSlot, room_ahead, sends}
 use Rattle.refine_world.specs.Living.{is_wanting}
 use Rattle.refine_world.specs.Shows.{Core, Shows}

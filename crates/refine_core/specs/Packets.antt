@@ -11,7 +11,7 @@ use Rattle.usb_xhc.specs.Transaction.{offset_by, packet_room, working}
 use Rattle.usb_xhc.specs.Controller.{Controller}
 use Rattle.usb_xhc.specs.Slots.{DeviceSlot, context_of, read_after, sends}
 use Rattle.usb_tables.specs.declared.transfer.Transfer.{Transfer}
-use Rattle.usb_tables.specs.Flights.{Flights, with_item}
+use Rattle.usb_tables.specs.TransfersInFlight.{TransfersInFlight, with_item}
 
 -- what is sent of a transfer's body
 abbrev pub out_of : ℕ → Body → DeviceSlot → Option (List ℕ)
@@ -62,7 +62,7 @@ module _ {P : Type 0} where
     pub lent : served.bytes.lent ≡ t.bytes.lent
 
   -- that of this item alone is served
-  pub record Serves (old new : Flights (Transfer P)) (k : Controller) (d e i : ℕ) (t : Transfer P) : Type 0 where
+  pub record Serves (old new : TransfersInFlight (Transfer P)) (k : Controller) (d e i : ℕ) (t : Transfer P) : Type 0 where
     pub served : Transfer P
     pub behind : IsServed k d e t served
     pub put : new ≡ with_item old d e i (Some served)
@@ -81,7 +81,7 @@ module _ {P : Type 0} where
     pub lent : skimmed.bytes.lent ≡ t.bytes.lent
 
   -- so many whole packets of this item alone are served
-  pub record Skims (old new : Flights (Transfer P)) (k : Controller) (d e i count : ℕ) (t : Transfer P) : Type 0 where
+  pub record Skims (old new : TransfersInFlight (Transfer P)) (k : Controller) (d e i count : ℕ) (t : Transfer P) : Type 0 where
     pub skimmed : Transfer P
     pub behind : IsSkimmed k d e count t skimmed
     pub put : new ≡ with_item old d e i (Some skimmed)

@@ -24,9 +24,9 @@ use Rattle.usb_tables.specs.declared.outstanding.Sent.{Sent}
 use Rattle.usb_tables.specs.Outstanding.{sent_at}
 use Rattle.usb_xhc.specs.Controller.{Controller}
 use Rattle.usb_xhc.specs.Slots.{DeviceSlot, context_of}
-use Rattle.usb_tables.specs.Flights.{EndedOf, Flights, keys_at, line_at}
-use Rattle.usb_tables.specs.Caller.{Kept as Caller}
-use Rattle.usb_tables.specs.Callers.{callback_at, callbacks_at, number_of, results_at}
+use Rattle.usb_tables.specs.TransfersInFlight.{EndedOf, TransfersInFlight, keys_at, line_at}
+use Rattle.usb_tables.specs.HandleState.{Kept as HandleState}
+use Rattle.usb_tables.specs.HandleStates.{callback_at, callbacks_at, number_of, results_at}
 use Rattle.refine_world.specs.Lively.{IsFine, ends_of}
 use Rattle.refine_world.specs.Shows.{Core, Shows}
 use Rattle.refine_rings.specs.Holds.{HoldsCore}
@@ -86,8 +86,8 @@ in_ring x = record { errand = x.errand; index = x.index % 255 }
 pub record State (P : Type 0) : Type 0 where
   pub claims : Holding
   pub controller : Controller
-  pub flights : Flights (InFlight P)
-  pub callers : List Caller
+  pub flights : TransfersInFlight (InFlight P)
+  pub callers : List HandleState
   pub outstanding : List (Option Sent)
 
 -- of each endpoint that has a ring

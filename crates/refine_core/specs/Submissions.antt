@@ -11,8 +11,8 @@ use Rattle.usb_model.specs.Kept.{trbs_of}
 use Rattle.usb_tables.specs.Tds.{Tds, tds_of}
 use Rattle.usb_rings.specs.Line.{capacity, used}
 use Rattle.usb_xhc.specs.Context.{Context}
-use Rattle.usb_tables.specs.Callers.{number_of}
-use Rattle.usb_tables.specs.Flights.{line_at}
+use Rattle.usb_tables.specs.HandleStates.{number_of}
+use Rattle.usb_tables.specs.TransfersInFlight.{line_at}
 use Rattle.refine_world.specs.Shows.{Core}
 use Rattle.refine_world.specs.Steps.{Stepped}
 use Rattle.refine_world.specs.Calls.{calls, joins, kept_at, refuses, submit_core}

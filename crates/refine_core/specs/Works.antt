@@ -28,7 +28,7 @@ use Rattle.usb_tables.specs.Tds.{room_of}
 use Rattle.usb_xhc.specs.Context.{Context}
 use Rattle.usb_xhc.specs.Controller.{Controller}
 use Rattle.usb_xhc.specs.Slots.{context_of}
-use Rattle.usb_tables.specs.Flights.{item_at, line_at}
+use Rattle.usb_tables.specs.TransfersInFlight.{item_at, line_at}
 use Rattle.refine_core.specs.Packets.{CanServe, CanSkim}
 use Rattle.usb_tables.specs.declared.ending.Ending.{Ending}
 use Rattle.refine_rings.specs.Reports.{reply_of}

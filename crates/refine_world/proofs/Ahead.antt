@@ -16,7 +16,7 @@ use Rattle.usb_model.specs.Kept.{Completion, InRow, KeptEndpoint, KeptTransfer, 
 use Rattle.usb_model.specs.Stands.{stand}
 use Rattle.refine_world.specs.ShownEndpoint.{AllBefore, AllKept, IsBefore, IsLive, IsNear, ShowsEnd, count, front, front_of, is_stale, pause_told, tail_told, telling_of, told_by, told_of}
 use Rattle.refine_world.proofs.Fronts.{told_none}
-use Rattle.refine_world.proofs.Near.{front_behind, near_fresh}
+use Rattle.refine_world.proofs.RoomAndDequeue.{front_behind, near_fresh}
 
 -- what is before a place is before a later one
 pub before_later : (p q : ℕ) (ts : List Telling) → p ≤ q → AllBefore p ts → AllBefore q ts

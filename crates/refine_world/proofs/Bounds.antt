@@ -19,10 +19,10 @@ use Rattle.refine_world.specs.Shows.{AllHeld, At, Core, Report, Shows, at, here,
 use Rattle.refine_world.proofs.Ahead.{ServedLow, near_served}
 use Rattle.refine_world.proofs.Budget.{few_at_endpoint, fewer, split_length, ring_fits}
 use Rattle.refine_world.proofs.Links.{known}
-use Rattle.refine_world.proofs.Rests.{none_there}
+use Rattle.refine_world.proofs.StepsWithoutWork.{none_there}
 use Rattle.refine_world.proofs.Senders.{info_there, interface_there}
 use Rattle.usb_model.specs.declared.item.Item.{Item}
-use Rattle.refine_world.proofs.Near.{near_fresh}
+use Rattle.refine_world.proofs.RoomAndDequeue.{near_fresh}
 
 -- each passes the test of one of these keys
 abbrev pub Keyed : {A K : Type 0} → (K → A → Bool) → List K → List A → Type 0

@@ -35,7 +35,7 @@ use Rattle.refine_world.proofs.Asked.{asks_show}
 use Rattle.refine_world.proofs.Delivers.{IsPosting, run_posting}
 use Rattle.refine_world.proofs.Halts.{near_still}
 use Rattle.refine_world.proofs.Links.{known, turn_works}
-use Rattle.refine_world.proofs.Near.{asked_few, joined_few}
+use Rattle.refine_world.proofs.RoomAndDequeue.{asked_few, joined_few}
 use Rattle.refine_world.proofs.Renewed.{cleared_shows}
 use Rattle.refine_world.proofs.Stale.{asked_near, joined_near}
 use Rattle.refine_world.proofs.Submits.{submit_shows}

@@ -35,11 +35,11 @@ use Rattle.usb_model.specs.Settlements.{kept_blanked, leads_kept, pauses, resume
 use Rattle.refine_world.specs.Shows.{AllHeld, At, Core, InRun, Report, RingEvent, RingOrder, Shows, at, errands, event_at, events, here, news_of, order_at, ring_event, tellings, under_way}
 use Rattle.refine_world.specs.Steps.{StepsTo, complete_at, completion_work, deliver_core, deliver_first, delivers, handle_work, posted_by, sender, transfer_work, works}
 use Rattle.refine_world.proofs.Finished.{FinishedShows, finished_shows, first_end}
-use Rattle.refine_world.proofs.Glue.{idle_steps, same_gone, same_handle, same_holder}
+use Rattle.refine_world.proofs.WholeSteps.{idle_steps, same_gone, same_handle, same_holder}
 use Rattle.refine_world.proofs.Halts.{near_still}
 use Rattle.refine_world.proofs.InRun.{run_posted}
 use Rattle.refine_world.proofs.Links.{IsKnown, end_there, known, machine_parts, turn_works}
-use Rattle.refine_world.proofs.Near.{finish_few, pauses_few, read_found, settle_few}
+use Rattle.refine_world.proofs.RoomAndDequeue.{finish_few, pauses_few, read_found, settle_few}
 use Rattle.refine_world.proofs.Pauses.{PausedShows, paused_shows}
 use Rattle.refine_world.proofs.Waiters.{first_here, is_first_at}
 use Rattle.refine_world.proofs.Senders.{sender_is}

@@ -16,8 +16,8 @@ use Rattle.usb_model.specs.Kept.{KeptEndpoint}
 use Rattle.refine_world.specs.Lively.{IsFine, IsLively}
 use Rattle.refine_world.specs.ShownEndpoint.{ShowsDevice, ShowsEnd}
 use Rattle.refine_world.specs.Shows.{Core, Shows, At, AllHeld, errands, events, tellings, at}
-use Rattle.refine_world.proofs.Lives.{sound_at}
-use Rattle.refine_world.proofs.Tells.{first_open}
+use Rattle.refine_world.proofs.EndpointInvariant.{sound_at}
+use Rattle.refine_world.proofs.PauseEvents.{first_open}
 use Rattle.refine_world.specs.Living.{More, GoesOn, world_with, with_more}
 use Rattle.refine_world.specs.Wanting.{IsOpen, wanting_none}
 use Rattle.refine_world.specs.FedCore.{kept_with, core_with, ShowsFed}

@@ -15,7 +15,7 @@ use Rattle.refine_world.specs.Known.{KnowsOrder, OrdersFit}
 use Rattle.refine_world.specs.Lively.{IsFine}
 use Rattle.refine_world.specs.Shows.{AllHeld, At, Core, InRun, RingOrder, Shows, at, completed, errands, here, ring_order, under_way}
 use Rattle.usb_model.specs.Kept.{SentErrand}
-use Rattle.refine_world.proofs.Glue.{same_holder}
+use Rattle.refine_world.proofs.WholeSteps.{same_holder}
 use Rattle.refine_world.proofs.InRun.{run_length, run_once}
 use Rattle.refine_world.proofs.Links.{known}
 use Rattle.refine_world.proofs.Waiters.{first_here}

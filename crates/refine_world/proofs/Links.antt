@@ -24,7 +24,7 @@ use Rattle.proof_model.proofs.Machines.Well.{fit_at}
 use Rattle.usb_model.specs.Kept.{SentErrand}
 use Rattle.refine_world.specs.Lively.{IsFine, IsLively}
 use Rattle.refine_world.specs.Shows.{AllHeld, At, Core, Report, Shows, at, errands, events, here}
-use Rattle.refine_world.proofs.Lives.{IsSound, sound_at}
+use Rattle.refine_world.proofs.EndpointInvariant.{IsSound, sound_at}
 use Rattle.refine_world.proofs.Waiters.{is_here}
 
 -- the holder's machine has the endpoint

@@ -29,7 +29,7 @@ use Rattle.refine_world.specs.Lively.{IsFine}
 use Rattle.refine_world.specs.ShownEndpoint.{AllKept}
 use Rattle.refine_world.specs.Shows.{Core, Shows}
 use Rattle.refine_world.proofs.Bounds.{as_long}
-use Rattle.refine_world.proofs.Glue.{same_holder}
+use Rattle.refine_world.proofs.WholeSteps.{same_holder}
 use Rattle.refine_world.proofs.Links.{end_there, known, machine_parts}
 
 -- the numbers in progress of a line as it is kept

@@ -27,7 +27,7 @@ use Rattle.refine_world.specs.ShownEndpoint.{AllBefore, AllFew, IsNear, ShowsEnd
 use Rattle.refine_world.proofs.Ahead.{told_near}
 use Rattle.refine_world.proofs.FirstServed.{Less, blanks_leave}
 use Rattle.refine_world.proofs.Finished.{FirstEnd, first_end}
-use Rattle.refine_world.proofs.Near.{few_find, front_behind}
+use Rattle.refine_world.proofs.RoomAndDequeue.{few_find, front_behind}
 use Rattle.refine_world.proofs.Places.{ask_place, blanked_place, is_at, map_first, push_first, put_first}
 use Rattle.refine_world.proofs.Settled.{EndWays, end_ways, none_served}
 

@@ -23,7 +23,7 @@ use Rattle.refine_world.specs.Shows.{AllHeld, At, Core, Report, Shows, at, erran
 use Rattle.refine_world.proofs.Apart.{errands_apart}
 use Rattle.refine_world.proofs.Delivers.{code_tells, sent_there}
 use Rattle.refine_world.proofs.Finished.{FinishedShows, finished_shows}
-use Rattle.refine_world.proofs.Glue.{same_holder}
+use Rattle.refine_world.proofs.WholeSteps.{same_holder}
 use Rattle.refine_world.proofs.Links.{IsKnown, known}
 use Rattle.refine_world.proofs.Pauses.{PausedShows, paused_shows}
 use Rattle.refine_world.proofs.Waiters.{first_here}

@@ -14,9 +14,9 @@ use Rattle.proof_model.proofs.Machines.Deeds.{takes}
 use Rattle.refine_world.specs.Lively.{IsFine}
 use Rattle.refine_world.specs.Shows.{Core, Shows}
 use Rattle.refine_world.specs.Steps.{StepsTo, rested, take_core, take_first, with_out}
-use Rattle.refine_world.proofs.Glue.{idle_steps, same_handle}
+use Rattle.refine_world.proofs.WholeSteps.{idle_steps, same_handle}
 use Rattle.refine_world.proofs.Links.{machine_parts}
-use Rattle.refine_world.proofs.Rests.{rest_steps}
+use Rattle.refine_world.proofs.StepsWithoutWork.{rest_steps}
 
 -- the oldest result
 take_held : (setup : Setup) (w : World) (c : Core) → IsFine setup → Shows setup w c → (t : Tagged TransferResult) (ts : List (Tagged TransferResult)) → w.results ≡ t ∷ ts → StepsTo setup w Take (take_first setup c (t ∷ ts))

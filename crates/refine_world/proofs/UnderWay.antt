@@ -24,7 +24,7 @@ use Rattle.refine_world.proofs.Bounds.{Keyed, held_keyed, keyed_left}
 use Rattle.refine_world.proofs.Budget.{fewer, split_length}
 use Rattle.refine_world.proofs.Finished.{same_tail}
 use Rattle.refine_world.proofs.Links.{known}
-use Rattle.refine_world.proofs.Rests.{none_there}
+use Rattle.refine_world.proofs.StepsWithoutWork.{none_there}
 
 -- whether a telling is a completion
 abbrev is_end : Telling → Bool

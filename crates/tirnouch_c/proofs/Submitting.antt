@@ -1,6 +1,6 @@
 -- What a submission gave, as it is told.
 use Rattle.std.proofs.Common.{◌≡◌, ℕ, Some, Result, Ok, Err, IfErr, IfOk, OnErr, sym, subst}
-use Rattle.usb_core.specs.Public.{CarriesMore, State, Stays, StillCarries, TurnsWorld, Unaccepted}
+use Rattle.usb_core.specs.Public.{CarriesMore, State, Stays, StillCarries, TurnsWorld, SubmitError}
 use Rattle.usb_model.specs.declared.refused.Refused.{Refused}
 use Rattle.usb_model.specs.declared.refused.Refused.TheVariants.{Busy, HeldElsewhere, InvalidParam, NoDevice, NoMem, NotFound, NotSupported}
 use Rattle.usb_model.specs.declared.reply.Reply.{Reply}
@@ -25,7 +25,7 @@ module _ (h : ℕ) (request : Request) (payload : ℕ) (s t : State ℕ) where
   refused_as NotSupported turn stays still = (turn (λ is. subst Other is tt), still)
 
   -- accepted
-  pub accepted_as : {G : Type 0} (r : Result ℕ (Unaccepted G ℕ)) (n : ℕ) (reply : Reply) → r ≡ Ok n → reply ≡ Number n → IfOk r (λ k. TurnsWorld s (Submit h request) (record { owner = Some h; reply = Number k }) t)
+  pub accepted_as : {G : Type 0} (r : Result ℕ (SubmitError G ℕ)) (n : ℕ) (reply : Reply) → r ≡ Ok n → reply ≡ Number n → IfOk r (λ k. TurnsWorld s (Submit h request) (record { owner = Some h; reply = Number k }) t)
       → IfOk r (λ k. CarriesMore h k payload s t) → SubmitsAs h request payload reply s t
   accepted_as (Ok k) n reply is told turn carries =
       let same : reply ≡ Number k = cc in
@@ -33,7 +33,7 @@ module _ (h : ℕ) (request : Request) (payload : ℕ) (s t : State ℕ) where
   accepted_as (Err x) n reply is told turn carries = absurd cc
 
   -- or refused
-  pub unaccepted_as : {G : Type 0} (r : Result ℕ (Unaccepted G ℕ)) (x : Unaccepted G ℕ) (reply : Reply) → r ≡ Err x → reply ≡ IsRefused x.why
+  pub unaccepted_as : {G : Type 0} (r : Result ℕ (SubmitError G ℕ)) (x : SubmitError G ℕ) (reply : Reply) → r ≡ Err x → reply ≡ IsRefused x.why
       → IfErr r (λ y. (y.why ≡ NoMem → ⊥) → TurnsWorld s (Submit h request) (record { owner = Some h; reply = IsRefused y.why }) t) → OnErr r (Stays s t) → OnErr r (StillCarries s t)
       → SubmitsAs h request payload reply s t
   unaccepted_as (Ok k) x reply is told turn stays still = absurd cc

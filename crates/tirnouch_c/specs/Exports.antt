@@ -1,7 +1,7 @@
 -- What the exports say that make and free sessions, and that take numbers of any kind.
 use Rattle.std.specs.Prelude.{◌≡◌, ℕ, ℤ, pos, negsuc, ◌==◌, nat_lt, not, List, Option, Some, None, Err, if◌then◌else◌}
 use Rattle.std.specs.Option.{option_map}
-use Rattle.usb_devicetext.specs.Desk.{desk_of}
+use Rattle.usb_devicetext.specs.DeviceText.{desk_of}
 use Rattle.tirnouch_c.specs.declared.lent_memory.LentMemory.{LentMemory}
 use Rattle.tirnouch_c.specs.declared.session.Session.{Session}
 use Rattle.tirnouch_c.specs.declared.told.Told.{Told}
@@ -26,18 +26,18 @@ made_number (Line n) = negsuc 1
 made_number NoMemory = negsuc 10
 made_number Full = negsuc 5
 
-abbrev pub CreatesAs : Made → List ℕ → Told → (old new : Option Session) → Type 0
-CreatesAs Session-made text told None (Some s) = IsMade text s
-CreatesAs Session-made text told old new = ⊥
-CreatesAs (Line n) text told old new = (desk_of text ≡ Err n) × (told ≡ line_told n) × (old ≡ None) × (new ≡ None)
-CreatesAs NoMemory text told old new = (old ≡ None) × (new ≡ None)
-CreatesAs Full text told None new = ⊥
-CreatesAs Full text told (Some s) new = new ≡ Some s
+abbrev pub Creates : Made → List ℕ → Told → (old new : Option Session) → Type 0
+Creates Session-made text told None (Some s) = IsMade text s
+Creates Session-made text told old new = ⊥
+Creates (Line n) text told old new = (desk_of text ≡ Err n) × (told ≡ line_told n) × (old ≡ None) × (new ≡ None)
+Creates NoMemory text told old new = (old ≡ None) × (new ≡ None)
+Creates Full text told None new = ⊥
+Creates Full text told (Some s) new = new ≡ Some s
 
 pub record Creates (text : List ℕ) (answer : ℤ) (told : Told) (old new : Option Session) : Type 0 where
   pub made : Made
   pub answered : answer ≡ made_number made
-  pub is : CreatesAs made text told old new
+  pub is : Creates made text told old new
 
 -- a session is freed, if there is one
 abbrev pub Destroys : ℤ → (old new : Option Session) → Type 0

@@ -1,8 +1,8 @@
 -- A session that is made of a text.
 use Rattle.std.specs.Prelude.{◌≡◌, ℕ, List, None, Ok}
 use Rattle.usb_core.specs.Public.{Carries, Kept, ShowsWorld}
-use Rattle.usb_devicetext.specs.declared.desk.Desk.{Desk}
-use Rattle.usb_devicetext.specs.Desk.{desk_of}
+use Rattle.usb_devicetext.specs.declared.desk.DeviceText.{DeviceText}
+use Rattle.usb_devicetext.specs.DeviceText.{desk_of}
 use Rattle.trace_scenario.specs.TextResults.{IsFaultOf}
 use Rattle.trace_scenario.specs.declared.text_fault.TextFault.{TextFault}
 use Rattle.usb_model.specs.World.{new_world}
@@ -10,7 +10,7 @@ use Rattle.tirnouch_c.specs.declared.session.Session.{Session}
 
 -- a session of a text: it shows the new world of the text's devices, has what else the text says of them, carries nothing, and has nothing to be fetched
 pub record IsMade (text : List ℕ) (s : Session) : Type 0 where
-  pub desk : Desk
+  pub desk : DeviceText
   pub read : desk_of text ≡ Ok desk
   pub shows : ShowsWorld desk.scripted s.core (new_world desk.scripted)
   pub carries : (kept : Kept ℕ) → Carries kept s.core

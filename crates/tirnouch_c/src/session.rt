@@ -11,7 +11,7 @@ use std::alloc::{AllocError, Global};
 use trace_scenario::{ScriptedDevice, TextFault};
 use usb_core::{Core, Setup, Taken};
 use usb_device::TableDevice;
-use usb_devicetext::{Desk, DeskDevice, read_desk};
+use usb_devicetext::{DeviceText, DeskDevice, read_desk};
 use usb_model::Sequence;
 
 /// A core with scripted devices; with each transfer C keeps a number.
@@ -67,7 +67,7 @@ impl Session {
         ensures made { IfOk result (λ s. IsMade text.now s) }
         ensures unmade { IfErr result (λ fault. IsUnmade text.now fault) }
     {
-        let Desk { scripted, devices } = read_desk(alloc, text)?;
+        let DeviceText { scripted, devices } = read_desk(alloc, text)?;
         let Ok(setup) = setup_with(alloc, scripted) else {
             return Err(TextFault::Memory);
         };

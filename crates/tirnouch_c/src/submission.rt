@@ -12,7 +12,7 @@ use crate::session::Session;
 use crate::told::{Told, code_of};
 use bitflags::Flags as _;
 use std::alloc::{AllocError, Global};
-use usb_core::Unaccepted;
+use usb_core::SubmitError;
 use usb_model::{Body, Buffer, Bytes, Entry, EpAddr, Flags, Kind, Name, Refused, Reply, Request};
 
 /// The kind of libusb's number (libusb 1.0, `libusb_transfer_type`).
@@ -117,7 +117,7 @@ pub fn submit_into(
 {
     let reply = match session.core.submit_into(h, request, payload, memory) {
         Ok(n) => Reply::Number(n),
-        Err(Unaccepted { why, .. }) => Reply::Refused(why),
+        Err(SubmitError { why, .. }) => Reply::Refused(why),
     };
     answer(h, reply, told)
 }

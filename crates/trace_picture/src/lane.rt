@@ -1,4 +1,4 @@
-//! Lanes: the rows of the picture, one for each thing to which something happens.
+//! EndpointQueues: the rows of the picture, one for each thing to which something happens.
 
 use crate::words::Words;
 use usb_model::{DeviceNo, EpAddr, Name};

@@ -11,8 +11,8 @@ use Rattle.usb_model.specs.declared.verdict.Verdict.TheVariants.{Again}
 use Rattle.proof_model.proofs.Lists.Pieces.{same_name}
 use Rattle.usb_model.specs.Setup.{Setup}
 use Rattle.usb_model.specs.World.{World}
-use Rattle.usb_tables.specs.Caller.{Kept as Caller, is_one_of}
-use Rattle.usb_tables.specs.Callers.{SameCallbacks, SameCounts, SameNumbers, SameResults, callback_at, callbacks_at, is_there}
+use Rattle.usb_tables.specs.HandleState.{Kept as HandleState, is_one_of}
+use Rattle.usb_tables.specs.HandleStates.{SameCallbacks, SameCounts, SameNumbers, SameResults, callback_at, callbacks_at, is_there}
 use Rattle.refine_world.specs.Shows.{Core, Shows}
 use Rattle.refine_core.specs.Handles.{says}
 use Rattle.refine_core.specs.State.{Keeps, State}
@@ -20,11 +20,11 @@ use Rattle.refine_core.specs.Steps.{DoesCoreStep}
 use Rattle.refine_core.specs.Submissions.{Admits}
 use Rattle.refine_core.proofs.Again.{again_none, again_refused}
 use Rattle.refine_core.proofs.Stops.{Ended}
-use Rattle.usb_core.specs.Submissions.{AgainAt, AgainIs}
+use Rattle.usb_core.specs.Submissions.{AgainAt, IsResubmission}
 use Rattle.usb_core.specs.declared.submission.Place.{Place}
 
 -- room is asked for, and the callback is taken
-pub ended_by : (old room new : List Caller) (h n : ℕ) (o : Option InCallback) → SameNumbers old room → SameCallbacks old room → SameResults old room → SameCounts old room → o ≡ callback_at room h n
+pub ended_by : (old room new : List HandleState) (h n : ℕ) (o : Option InCallback) → SameNumbers old room → SameCallbacks old room → SameResults old room → SameCounts old room → o ≡ callback_at room h n
     → ((g k : ℕ) → callback_at new g k ≡ (if is_there h n g k then None else callback_at room g k))
     → ((g id : ℕ) → callbacks_at room g id ≡ callbacks_at new g id + (if (h == g) && is_one_of id o then 1 else 0)) → SameNumbers room new → SameResults room new → Ended old new h n
 ended_by old room new h n o numbers callbacks results counts is ended fewer numbers_now results_now = record {
@@ -36,7 +36,7 @@ ended_by old room new h n o numbers callbacks results counts is ended fewer numb
 
 module _ {P : Type 0} where
   -- what is refused
-  pub refuses_again : (s : State P) (h n : ℕ) (why : Why) → AgainIs s h n (Err why) → DoesCoreStep s (Answer h n Again) (says h (Refused why)) s
+  pub refuses_again : (s : State P) (h n : ℕ) (why : Why) → IsResubmission s h n (Err why) → DoesCoreStep s (Answer h n Again) (says h (Refused why)) s
   refuses_again s h n why is = by_found (callback_at s.callers h n) refl is
     where
       by_found : (o : Option InCallback) → callback_at s.callers h n ≡ o → AgainAt s h o (Err why) → DoesCoreStep s (Answer h n Again) (says h (Refused why)) s
@@ -46,12 +46,12 @@ module _ {P : Type 0} where
       by_found (Some x) found refused = again_refused s h n Again x x.request why found refl refused
 
   -- what is accepted
-  pub admits_again : (s : State P) (h n : ℕ) (x : InCallback) (place : Place) → callback_at s.callers h n ≡ Some x → AgainIs s h n (Ok place)
+  pub admits_again : (s : State P) (h n : ℕ) (x : InCallback) (place : Place) → callback_at s.callers h n ≡ Some x → IsResubmission s h n (Ok place)
       → (setup : Setup) (w : World) (c : Core) → Keeps setup s c → Shows setup w c → Admits setup s c h place.dev x.request place.tds
   admits_again s h n x place found is = subst (λ (o : Option InCallback). AgainAt s h o (Ok place)) found is
 
 -- it isn't in its callback once that ended
-pub absent : (amid : List Caller) (old : List Caller) (h n k : ℕ) → k ≡ n → Ended old amid h n → callback_at amid h k ≡ None
+pub absent : (amid : List HandleState) (old : List HandleState) (h n k : ℕ) → k ≡ n → Ended old amid h n → callback_at amid h k ≡ None
 absent amid old h n k number ended =
     ap (callback_at amid h) number ∙ ended.callbacks h n ∙ ap (λ (b : Bool). if b && (n == n) then None else callback_at old h n) (same_name h) ∙ ap (λ (b : Bool). if b then None else callback_at old h n) (same_name n)
 

@@ -7,7 +7,7 @@ use Rattle.usb_model.specs.declared.result.InCallback.{InCallback}
 use Rattle.usb_model.specs.Machine.Calls.{callback_of}
 use Rattle.usb_model.specs.Setup.{Setup}
 use Rattle.usb_model.specs.World.{World}
-use Rattle.usb_tables.specs.Callers.{IsOut, callback_at}
+use Rattle.usb_tables.specs.HandleStates.{IsOut, callback_at}
 use Rattle.refine_world.specs.Shows.{Core, Shows}
 use Rattle.refine_core.specs.State.{Keeps, State}
 

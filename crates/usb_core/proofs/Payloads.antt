@@ -3,7 +3,7 @@ use Rattle.std.proofs.Common.{◌≡◌, ℕ, Bool, true, false, Option, Some, R
 use Rattle.usb_model.specs.declared.entry.Entry.{Entry}
 use Rattle.usb_model.specs.declared.step.Step.{Step}
 use Rattle.usb_model.specs.Numbers.{takes_payload}
-use Rattle.usb_core.specs.declared.submission.Unaccepted.{Unaccepted}
+use Rattle.usb_core.specs.declared.submission.SubmitError.{SubmitError}
 use Rattle.refine_core.specs.Payloads.{Carries, CarriesMore, Kept, StillCarries}
 use Rattle.refine_core.specs.State.{State}
 use Rattle.usb_core.specs.Steps.{answered, kept_after, kept_by, turned_down}
@@ -26,11 +26,11 @@ module _ {P : Type 0} (old new : State P) (h : ℕ) where
   After payload entry = (kept : Kept P) → Carries kept old → Carries (kept_by kept true entry.owner entry.reply (Some payload)) new
 
   -- what it gave says where it is kept
-  pub answered_carries : {G : Type 0} → (payload : P) (r : Result ℕ (Unaccepted G P)) → IfErr r (λ x. x.payload ≡ payload) → IfOk r (λ n. CarriesMore h n payload old new) → OnErr r (StillCarries old new) → IfOk (answered h r) (λ x. After payload x.entry)
+  pub answered_carries : {G : Type 0} → (payload : P) (r : Result ℕ (SubmitError G P)) → IfErr r (λ x. x.payload ≡ payload) → IfOk r (λ n. CarriesMore h n payload old new) → OnErr r (StillCarries old new) → IfOk (answered h r) (λ x. After payload x.entry)
   answered_carries payload (Ok n) back more still = more
   answered_carries payload (Err x) back more still = subst (λ (p : P). IfOk (turned_down h x.why x.payload) (λ y. After p y.entry)) back (turned_down_ok h (After x.payload) x.why x.payload (λ _. still))
 
   -- where it gave nothing, nothing of it changed
-  pub answered_still : {G : Type 0} → (r : Result ℕ (Unaccepted G P)) → OnErr r (StillCarries old new) → OnErr (answered h r) (StillCarries old new)
+  pub answered_still : {G : Type 0} → (r : Result ℕ (SubmitError G P)) → OnErr r (StillCarries old new) → OnErr (answered h r) (StillCarries old new)
   answered_still (Ok n) still = tt
   answered_still (Err x) still = turned_down_err h (StillCarries old new) x.why x.payload still

@@ -12,7 +12,7 @@ use Rattle.usb_xhc.specs.Transaction.{working}
 use Rattle.usb_tables.specs.declared.transfer.Transfer.{Transfer as InFlight}
 use Rattle.usb_xhc.specs.Controller.{Controller, served_at, told_at}
 use Rattle.usb_xhc.specs.Slots.{DeviceSlot, context_of, serving, serving_at}
-use Rattle.usb_tables.specs.Flights.{Flights, item_at}
+use Rattle.usb_tables.specs.TransfersInFlight.{TransfersInFlight, item_at}
 use Rattle.refine_core.specs.Packets.{Serves, out_of}
 use Rattle.refine_rings.specs.Reports.{reply_of}
 use Rattle.refine_world.specs.Calls.{step_core}
@@ -70,7 +70,7 @@ module _ {P : Type 0} where
       told_some s.controller d e known.0 known.1 known.2 known.3 (sym is ∙ ap (option_map (λ (x : ℕ × ServedPacket). x.1)) none)
 
   -- it is the core's
-  pub packet : (old : State P) (k : Controller) (f : Flights (InFlight P)) (h d e item : ℕ) (o : Option (ℕ × ServedPacket)) (x : ℕ × ServedPacket) → IsState old → IsHolder old d e (Some h) → IsFront old d e (Some item) → o ≡ Some x
+  pub packet : (old : State P) (k : Controller) (f : TransfersInFlight (InFlight P)) (h d e item : ℕ) (o : Option (ℕ × ServedPacket)) (x : ℕ × ServedPacket) → IsState old → IsHolder old d e (Some h) → IsFront old d e (Some item) → o ≡ Some x
       → option_map (λ x. x.1) o ≡ told_at old.controller d e → IfSome o (λ x. (t : InFlight P) → item_at old.flights d e item ≡ Some t → t.n ≡ x.0)
       → ((t : InFlight P) → item_at old.flights d e item ≡ Some t → k ≡ served_at old.controller d e (out_of e t.request.body))
       → ((t : InFlight P) → item_at old.flights d e item ≡ Some t → Serves old.flights f old.controller d e item t)
@@ -83,4 +83,4 @@ module _ {P : Type 0} where
       serves_packet setup w old (record old { controller = k; flights = f }) c h d e item x.0 x.1 at shows front
       (moves old k f h d e item x.0 x.1 known.0 known.1 known.2 known.3 (sym (ap (option_map (λ (y : ℕ × ServedPacket). y.1)) some) ∙ told)
       (subst (λ (y : Option (ℕ × ServedPacket)). IfSome y (λ z. (t : InFlight P) → item_at old.flights d e item ≡ Some t → t.n ≡ z.0)) some number) is_k is_f
-      (ap (λ (v : Flights (InFlight P)). v.ended) (is_f work.is.t work.is.found).put))
+      (ap (λ (v : TransfersInFlight (InFlight P)). v.ended) (is_f work.is.t work.is.found).put))

@@ -21,10 +21,10 @@ use Rattle.proof_model.proofs.Lists.Pieces.{same_name}
 use Rattle.proof_model.proofs.Lists.Times.{count-cons}
 use Rattle.usb_tables.specs.Holders.{Holding, device_of}
 use Rattle.usb_tables.specs.Tables.{is_plain}
-use Rattle.usb_tables.specs.Caller.{Kept as Caller}
-use Rattle.usb_tables.specs.Callers.{SameCallbacks, SameCounts, SameNumbers, is_there, results_at}
+use Rattle.usb_tables.specs.HandleState.{Kept as HandleState}
+use Rattle.usb_tables.specs.HandleStates.{SameCallbacks, SameCounts, SameNumbers, is_there, results_at}
 use Rattle.usb_tables.specs.declared.transfer.Transfer.{Transfer as InFlight}
-use Rattle.usb_tables.specs.Flights.{EndedOf}
+use Rattle.usb_tables.specs.TransfersInFlight.{EndedOf}
 use Rattle.refine_world.specs.Calls.{answer_core, called_back, step_core}
 use Rattle.refine_world.specs.Shows.{Core}
 use Rattle.refine_world.specs.Steps.{Stepped, take_core, take_first, with_out}
@@ -69,7 +69,7 @@ first_of [] x first = absurd cc
 first_of (y ∷ ys) x first = ap (λ v. v ∷ ys) (same_Some y x first)
 
 -- what is kept of the callers where one of the results of name h at the endpoint of this id was taken
-pub record Drops (old new : List Caller) (h id : ℕ) : Type 0 where
+pub record Drops (old new : List HandleState) (h id : ℕ) : Type 0 where
   pub numbers : SameNumbers old new
   pub callbacks : SameCallbacks old new
   pub counts : SameCounts old new

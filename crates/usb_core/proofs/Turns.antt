@@ -5,7 +5,7 @@ use Rattle.usb_model.specs.declared.refused.Refused.{Refused}
 use Rattle.usb_model.specs.declared.refused.Refused.TheVariants.{Busy, HeldElsewhere, InvalidParam, NoDevice, NoMem, NotFound, NotSupported}
 use Rattle.usb_model.specs.declared.reply.Reply.TheVariants.{Number, Refused as IsRefused}
 use Rattle.usb_model.specs.declared.step.Step.{Step}
-use Rattle.usb_core.specs.declared.submission.Unaccepted.{Unaccepted}
+use Rattle.usb_core.specs.declared.submission.SubmitError.{SubmitError}
 use Rattle.refine_core.specs.Calls.{Stays}
 use Rattle.refine_core.specs.State.{IsState, State}
 use Rattle.refine_core.specs.Steps.{DoesCoreStep, TurnsWorld}
@@ -66,12 +66,12 @@ module _ {P : Type 0} where
 
 module _ {P : Type 0} (old new : State P) (step : Step) (h : ℕ) where
   -- what a submission gave is a turn, but for want of memory
-  pub answered_turns : {G : Type 0} → (r : Result ℕ (Unaccepted G P)) → IfOk r (λ n. TurnsWorld old step (record { owner = Some h; reply = Number n }) new)
+  pub answered_turns : {G : Type 0} → (r : Result ℕ (SubmitError G P)) → IfOk r (λ n. TurnsWorld old step (record { owner = Some h; reply = Number n }) new)
       → IfErr r (λ x. (x.why ≡ NoMem → ⊥) → TurnsWorld old step (record { owner = Some h; reply = IsRefused x.why }) new) → IfOk (answered h r) (λ x. TurnsWorld old step x.entry new)
   answered_turns (Ok n) accepted refused = accepted
   answered_turns (Err x) accepted refused = turned_down_ok h (λ e. TurnsWorld old step e new) x.why x.payload refused
 
   -- where it gave nothing, nothing changed
-  pub answered_stays : {G : Type 0} → (r : Result ℕ (Unaccepted G P)) → OnErr r (Stays old new) → OnErr (answered h r) (Stays old new)
+  pub answered_stays : {G : Type 0} → (r : Result ℕ (SubmitError G P)) → OnErr r (Stays old new) → OnErr (answered h r) (Stays old new)
   answered_stays (Ok n) kept = tt
   answered_stays (Err x) kept = turned_down_err h (Stays old new) x.why x.payload kept

@@ -8,7 +8,7 @@ use Rattle.usb_model.specs.Setup.{Setup, packet_size_of}
 use Rattle.usb_model.specs.World.{World, holder}
 use Rattle.usb_model.specs.Kept.{KeptTransfer}
 use Rattle.usb_device.specs.Pipe.{pipe_at}
-use Rattle.usb_tables.specs.Flights.{EndedOf, item_at, line_at}
+use Rattle.usb_tables.specs.TransfersInFlight.{EndedOf, item_at, line_at}
 use Rattle.usb_tables.specs.declared.transfer.Transfer.{Transfer as InFlight}
 use Rattle.usb_xhc.specs.Context.{Context}
 use Rattle.usb_xhc.specs.Slots.{DeviceSlot}

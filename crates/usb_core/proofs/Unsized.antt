@@ -38,7 +38,7 @@ use Rattle.proof_model.proofs.Machines.Done.{is_done}
 use Rattle.proof_model.proofs.Machines.Idle.{at_device_of}
 use Rattle.proof_model.proofs.Machines.Well.{first_news, first_order, fit_at}
 use Rattle.refine_world.specs.Lively.{IsFine, IsSized}
-use Rattle.refine_world.proofs.Lives.{IsSound, sound_at, sound_turn}
+use Rattle.refine_world.proofs.EndpointInvariant.{IsSound, sound_at, sound_turn}
 use Rattle.refine_world.proofs.Sizes.{asked_sized, ordered_sized, submits_supported, told_sized}
 use Rattle.usb_core.specs.Runs.{IsCutAt}
 

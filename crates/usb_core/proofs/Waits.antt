@@ -17,13 +17,13 @@ use Rattle.usb_model.specs.Endpoint.Deliver.{needs_reset}
 use Rattle.usb_model.specs.Events.{Reading, errand_of, finish, past_kept_blanks}
 use Rattle.usb_model.specs.Settlements.{leads_kept, pauses, kept_blanked, resume_kept, settle}
 use Rattle.usb_tables.specs.declared.transfer.Transfer.{Transfer as InFlight}
-use Rattle.usb_tables.specs.Flights.{EndedOf}
+use Rattle.usb_tables.specs.TransfersInFlight.{EndedOf}
 use Rattle.refine_world.specs.Known.{KnowsEvent}
 use Rattle.refine_world.specs.Shows.{Completes, Core, RingEvent, RingOrder, Shows, Transfers}
 use Rattle.refine_world.specs.Steps.{command_core, command_first, complete_at, completion_work, deliver_core, deliver_first, delivers, take_core, take_first, transfer_work}
 use Rattle.refine_world.proofs.Delivers.{deliver_steps}
 use Rattle.refine_world.proofs.FirstOrders.{orders_fit}
-use Rattle.refine_world.proofs.Glue.{command_steps}
+use Rattle.refine_world.proofs.WholeSteps.{command_steps}
 use Rattle.refine_world.proofs.Strays.{never_stray}
 use Rattle.refine_world.proofs.Takes.{take_steps}
 use Rattle.refine_rings.specs.Holds.{event_trb}

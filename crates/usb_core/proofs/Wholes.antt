@@ -9,7 +9,7 @@ use Rattle.usb_xhc.specs.declared.packet.Packet.TheVariants.{Moved}
 use Rattle.usb_xhc.specs.Controller.{Controller, told_at}
 use Rattle.usb_xhc.specs.Skims.{controller_skimmed, size_at}
 use Rattle.usb_xhc.specs.Slots.{DeviceSlot, sends}
-use Rattle.usb_tables.specs.Flights.{Flights, item_at}
+use Rattle.usb_tables.specs.TransfersInFlight.{TransfersInFlight, item_at}
 use Rattle.refine_core.specs.Packets.{Skims, out_of}
 use Rattle.refine_core.specs.State.{IsState, State}
 use Rattle.refine_core.specs.Steps.{DoesCoreSteps}
@@ -33,7 +33,7 @@ module _ {P : Type 0} where
   can_skim s d e item x is at = skims_safely s x.owner d e item is at.held at.front
 
   -- so many are the core's
-  pub skimmed : (old : State P) (k : Controller) (f : Flights (InFlight P)) (d e item count : ℕ) (x : Whole) → IsWholeAt old d e x item
+  pub skimmed : (old : State P) (k : Controller) (f : TransfersInFlight (InFlight P)) (d e item count : ℕ) (x : Whole) → IsWholeAt old d e x item
       → ((t : InFlight P) → item_at old.flights d e item ≡ Some t → (i : ℕ) → i < count → told_at (controller_skimmed d e (out_of e t.request.body) i old.controller) d e ≡ Some (Moved (size_at old.controller d e)))
       → ((t : InFlight P) → item_at old.flights d e item ≡ Some t → k ≡ controller_skimmed d e (out_of e t.request.body) count old.controller)
       → ((t : InFlight P) → item_at old.flights d e item ≡ Some t → Skims old.flights f old.controller d e item count t)

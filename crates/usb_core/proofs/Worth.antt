@@ -19,11 +19,11 @@ use Rattle.usb_xhc.specs.Context.{Context}
 use Rattle.usb_xhc.specs.Transaction.{packet_in, served, served_by, served_gone, working}
 use Rattle.usb_xhc.specs.Controller.{Controller, told_at}
 use Rattle.usb_xhc.specs.Slots.{DeviceSlot, context_of, serving, serving_at}
-use Rattle.usb_tables.specs.Flights.{line_at}
+use Rattle.usb_tables.specs.TransfersInFlight.{line_at}
 use Rattle.refine_rings.specs.Reports.{reply_of}
 use Rattle.refine_world.specs.Shows.{Core, Shows}
 use Rattle.refine_world.specs.Steps.{serve_core, serve_held}
-use Rattle.refine_world.proofs.Glue.{serve_steps}
+use Rattle.refine_world.proofs.WholeSteps.{serve_steps}
 use Rattle.refine_world.proofs.RunningEndpoints.{fresh_while_running}
 use Rattle.refine_rings.specs.Laws as slots
 use Rattle.refine_rings.proofs.SlotServes as slot

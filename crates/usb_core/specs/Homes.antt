@@ -2,7 +2,7 @@
 use Rattle.std.specs.Prelude.{◌≡◌, ℕ, ◌==◌, Bool, false, not, ◌&&◌, ◌||◌, is_some, Option, Some, None}
 use Rattle.std.specs.Option.{option_map_or}
 use Rattle.usb_model.specs.Setup.{Setup, endpoints_of}
-use Rattle.usb_tables.specs.Flights.{item_at}
+use Rattle.usb_tables.specs.TransfersInFlight.{item_at}
 use Rattle.refine_world.specs.Shows.{Core}
 use Rattle.refine_world.specs.Calls.{KeptHome, device_of, kept_home}
 use Rattle.refine_core.specs.State.{State}

@@ -7,7 +7,7 @@ pub use Rattle.refine_core.specs.State.{State, ShowsWorld, result_of}
 -- a call is a turn of the world; one that ends a callback, or is refused
 pub use Rattle.refine_core.specs.Steps.{TurnsInRow, TurnsWorld}
 pub use Rattle.refine_core.specs.Calls.{Stays, called_entry}
-pub use Rattle.usb_core.specs.declared.submission.Unaccepted.{Unaccepted}
+pub use Rattle.usb_core.specs.declared.submission.SubmitError.{SubmitError}
 -- the steps that take memory
 pub use Rattle.usb_core.specs.Calls.{takes_memory}
 -- what callers keep with their transfers: it stays, one more joins, one goes out

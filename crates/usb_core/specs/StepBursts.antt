@@ -3,7 +3,7 @@ use Rattle.std.specs.Prelude.{◌≡◌, ℕ, List, [], ◌∷◌, ◌++◌, rep
 use Rattle.usb_model.specs.declared.entry.Entry.{Entry}
 use Rattle.usb_model.specs.declared.reply.Reply.TheVariants.{Moved}
 use Rattle.usb_tables.specs.declared.transfer.Transfer.{Transfer as InFlight}
-use Rattle.usb_tables.specs.Flights.{item_at}
+use Rattle.usb_tables.specs.TransfersInFlight.{item_at}
 use Rattle.usb_xhc.specs.Skims.{size_at}
 use Rattle.refine_core.specs.State.{State}
 use Rattle.refine_core.specs.Works.{IsFront, IsHolder}

@@ -8,7 +8,7 @@ use Rattle.usb_model.specs.declared.reply.Reply.TheVariants.{Called, Number, Ref
 use Rattle.usb_model.specs.declared.step.Step.{Step}
 use Rattle.usb_model.specs.declared.step.Step.TheVariants.{Take}
 use Rattle.usb_model.specs.Numbers.{takes_payload}
-use Rattle.usb_core.specs.declared.submission.Unaccepted.{Unaccepted}
+use Rattle.usb_core.specs.declared.submission.SubmitError.{SubmitError}
 use Rattle.refine_core.specs.Payloads.{Kept, kept_with}
 use Rattle.refine_core.specs.State.{State}
 use Rattle.refine_core.specs.Steps.{TurnsWorld}
@@ -53,7 +53,7 @@ module _ {P : Type 0} where
   turned_down h why payload = Ok (record { entry = record { owner = Some h; reply = IsRefused why }; out = None; back = Some payload })
 
   -- what a submission of name h gave, whatever it was to send
-  abbrev pub answered : {G : Type 0} → ℕ → Result ℕ (Unaccepted G P) → Result (Stepped P) (NoMemory P)
+  abbrev pub answered : {G : Type 0} → ℕ → Result ℕ (SubmitError G P) → Result (Stepped P) (NoMemory P)
   answered h (Ok n) = Ok (record { entry = record { owner = Some h; reply = Number n }; out = None; back = None })
   answered h (Err x) = turned_down h x.why x.payload
 

@@ -6,7 +6,7 @@ use Rattle.usb_model.specs.declared.request.Request.{Request}
 use Rattle.usb_model.specs.declared.result.InCallback.{InCallback}
 use Rattle.usb_model.specs.Setup.{Setup}
 use Rattle.usb_model.specs.World.{World}
-use Rattle.usb_tables.specs.Callers.{callback_at}
+use Rattle.usb_tables.specs.HandleStates.{callback_at}
 use Rattle.refine_world.specs.Shows.{Core, Shows}
 use Rattle.refine_core.specs.State.{Keeps, State}
 use Rattle.refine_core.specs.Submissions.{Admits, RefusesIt}
@@ -22,5 +22,5 @@ abbrev pub AgainAt : {P : Type 0} → State P → ℕ → Option InCallback → 
 AgainAt s h None r = r ≡ Err NotFound
 AgainAt s h (Some x) r = (setup : Setup) (w : World) (c : Core) → Keeps setup s c → Shows setup w c → PlaceIs setup s c h x.request r
 
-abbrev pub AgainIs : {P : Type 0} → State P → (h n : ℕ) → Result Place Refused → Type 0
-AgainIs s h n r = AgainAt s h (callback_at s.callers h n) r
+abbrev pub IsResubmission : {P : Type 0} → State P → (h n : ℕ) → Result Place Refused → Type 0
+IsResubmission s h n r = AgainAt s h (callback_at s.callers h n) r

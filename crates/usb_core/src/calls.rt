@@ -15,7 +15,7 @@ ghost use Rattle.refine_core.specs.Steps.{TurnsWorld};
 ghost use Rattle.usb_core.specs.Calls.{takes_memory};
 ghost use Rattle.usb_core.specs.Results.{CarriesOut};
 
-use crate::{Parts, Setup, Taken, Unaccepted};
+use crate::{Parts, Setup, Taken, SubmitError};
 use std::alloc::{AllocError, Global};
 use std::marker::Model;
 use usb_device::Device;
@@ -77,7 +77,7 @@ impl<P, D: Device> Core<P, D> {
         h: Name,
         request: Request,
         payload: P,
-    ) -> Result<u64, Unaccepted<Request, P>>
+    ) -> Result<u64, SubmitError<Request, P>>
         ensures accepted { IfOk result (λ n. TurnsWorld self.old (Submit h request) (record { owner = Some h; reply = Number n }) self.new) }
         ensures given { IfErr result (λ x. x.given ≡ request) }
         ensures back { IfErr result (λ x. x.payload ≡ payload) }
@@ -100,7 +100,7 @@ impl<P, D: Device> Core<P, D> {
         request: Request,
         payload: P,
         memory: &mut Buffer,
-    ) -> Result<u64, Unaccepted<Request, P>>
+    ) -> Result<u64, SubmitError<Request, P>>
         ensures accepted { IfOk result (λ n. TurnsWorld self.old (Submit h request) (record { owner = Some h; reply = Number n }) self.new) }
         ensures given { IfErr result (λ x. x.given ≡ request) }
         ensures back { IfErr result (λ x. x.payload ≡ payload) }
@@ -170,7 +170,7 @@ impl<P, D: Device> Core<P, D> {
     /// `libusb_transfer_cb_fn`, `libusb_submit_transfer`). Refused as a submission is, and NotFound where the name has
     /// no such transfer in its callback: the callback then goes on. NoMem, with nothing changed, where memory is
     /// refused. The payload then comes back.
-    pub fn again(&mut self, h: Name, n: u64, payload: P) -> Result<u64, Unaccepted<(), P>>
+    pub fn again(&mut self, h: Name, n: u64, payload: P) -> Result<u64, SubmitError<(), P>>
         ensures accepted { IfOk result (λ k. TurnsWorld self.old (Answer h n Again) (record { owner = Some h; reply = Number k }) self.new) }
         ensures back { IfErr result (λ x. x.payload ≡ payload) }
         ensures refused { IfErr result (λ x. (x.why ≡ NoMem → ⊥) → TurnsWorld self.old (Answer h n Again) (record { owner = Some h; reply = IsRefused x.why }) self.new) }
@@ -188,7 +188,7 @@ impl<P, D: Device> Core<P, D> {
         n: u64,
         bytes: Bytes,
         payload: P,
-    ) -> Result<u64, Unaccepted<Bytes, P>>
+    ) -> Result<u64, SubmitError<Bytes, P>>
         ensures accepted { IfOk result (λ k. TurnsWorld self.old (Answer h n (AgainWith bytes)) (record { owner = Some h; reply = Number k }) self.new) }
         ensures given { IfErr result (λ x. x.given ≡ bytes) }
         ensures back { IfErr result (λ x. x.payload ≡ payload) }

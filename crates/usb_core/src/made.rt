@@ -11,7 +11,7 @@ use crate::parts::Parts;
 use crate::setup::Setup;
 use std::alloc::{AllocError, Global};
 use usb_device::Device;
-use usb_tables::{Callers, Claims, Flights, Outstanding};
+use usb_tables::{HandleStates, Claims, TransfersInFlight, Outstanding};
 
 impl<P, D: Device> Parts<P, D> {
     /// No name has a device open, nothing is submitted, and each device is there, at the beginning of its scripts. The
@@ -26,9 +26,9 @@ impl<P, D: Device> Parts<P, D> {
         } = setup;
         controller.renew_all();
         let claims = Claims::new(alloc, configs)?;
-        let callers = Callers::new(alloc)?;
+        let callers = HandleStates::new(alloc)?;
         let outstanding = Outstanding::new(alloc)?;
-        let flights = Flights::new(alloc)?;
+        let flights = TransfersInFlight::new(alloc)?;
         Ok(Parts {
             claims,
             controller,

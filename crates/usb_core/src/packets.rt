@@ -1,7 +1,7 @@
 //! The device answers one packet (USB 2.0, 8.5).
 
 ghost use Rattle.std.specs.Prelude.{◌≡◌, ◌<◌, IfSome, IsSome, Some, length, option_map};
-ghost use Rattle.usb_tables.specs.Flights.{item_at};
+ghost use Rattle.usb_tables.specs.TransfersInFlight.{item_at};
 ghost use Rattle.usb_model.specs.declared.step.Step.TheVariants.{Serve};
 ghost use Rattle.usb_tables.specs.declared.transfer.Transfer.{Transfer as InFlight};
 ghost use Rattle.usb_xhc.specs.Controller.{served_at, told_at};
@@ -15,7 +15,7 @@ ghost use Rattle.refine_core.specs.Works.{IsFront};
 use crate::parts::Parts;
 use usb_device::Device;
 use usb_model::{Body, DeviceNo, Entry, EpAddr, Reply};
-use usb_tables::{Flights, Transfer};
+use usb_tables::{TransfersInFlight, Transfer};
 use usb_xhc::{Controller, Packet};
 
 impl<P, D: Device> Parts<P, D> {
@@ -62,7 +62,7 @@ impl<P, D: Device> Parts<P, D> {
 /// before, or the next ones of those to be sent are sent. The transfer's number, and what the host is told; None where
 /// there is nothing to serve.
 fn serve_item<P, D: Device>(
-    flights: &mut Flights<P>,
+    flights: &mut TransfersInFlight<P>,
     dev: DeviceNo,
     ep: EpAddr,
     item: usize,

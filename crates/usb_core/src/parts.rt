@@ -3,7 +3,7 @@
 use std::alloc::Global;
 use std::marker::Model;
 use usb_device::Device;
-use usb_tables::{Callers, Claims, Flights, Outstanding};
+use usb_tables::{HandleStates, Claims, TransfersInFlight, Outstanding};
 use usb_xhc::Controller;
 
 /// Who holds what; the controller with its devices and rings; the transfers in flight; what is kept of each handle; the
@@ -13,8 +13,8 @@ use usb_xhc::Controller;
 pub struct Parts<P, D: Device> {
     pub(crate) claims: Claims,
     pub(crate) controller: Controller<D>,
-    pub(crate) flights: Flights<P>,
-    pub(crate) callers: Callers,
+    pub(crate) flights: TransfersInFlight<P>,
+    pub(crate) callers: HandleStates,
     pub(crate) outstanding: Outstanding,
     pub(crate) alloc: Global,
 }

@@ -2,7 +2,7 @@
 
 ghost use Rattle.std.specs.Prelude.{◌≡◌, IfOk, OnErr, option_map, slice_get};
 ghost use Rattle.usb_model.specs.declared.step.Step.TheVariants.{Take};
-ghost use Rattle.usb_tables.specs.Flights.{ended_of};
+ghost use Rattle.usb_tables.specs.TransfersInFlight.{ended_of};
 ghost use Rattle.refine_core.specs.Calls.{Stays, called_entry, returned_of};
 ghost use Rattle.refine_core.specs.Payloads.{Carries, Kept, StillCarries};
 ghost use Rattle.refine_core.specs.State.{IsState, result_of};

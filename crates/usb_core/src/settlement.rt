@@ -3,7 +3,7 @@
 
 ghost use Rattle.std.specs.Prelude.{◌≡◌, ℕ, Some, None, true, false};
 ghost use Rattle.usb_model.specs.declared.errand.Errand.{Errand};
-ghost use Rattle.usb_tables.specs.Flights.{item_at};
+ghost use Rattle.usb_tables.specs.TransfersInFlight.{item_at};
 ghost use Rattle.refine_core.specs.Payloads.{StillCarries};
 ghost use Rattle.refine_core.specs.Deliveries.{CanLeave, CanSettle, IsCompletion, Settled, WithdrawsAll, asked_ending};
 ghost use Rattle.refine_core.specs.Steps.{CanPost};

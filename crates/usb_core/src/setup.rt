@@ -40,7 +40,7 @@ impl<D: Device> Model for Setup<D> {
 /// A device that wasn't added, and why: InvalidParam where there are four, NoMem where memory was refused.
 #[derive(Drop, Error)]
 #[error("{why}")]
-pub struct Unadded<D: Device> {
+pub struct AddError<D: Device> {
     /// Why.
     pub why: Refused,
     /// Its configuration.
@@ -50,9 +50,9 @@ pub struct Unadded<D: Device> {
 }
 
 /// Shows why: what comes back may have no form that can be shown.
-impl<D: Device> fmt::Debug for Unadded<D> {
+impl<D: Device> fmt::Debug for AddError<D> {
     fn fmt<W: fmt::Write>(&self, f: &mut fmt::Formatter<W>) -> fmt::Result {
-        write!(f, "Unadded({:?})", self.why)
+        write!(f, "AddError({:?})", self.why)
     }
 }
 
@@ -69,7 +69,7 @@ impl<D: Device> Setup<D> {
 
     /// A device of this configuration. It takes packets as long as the configuration says. Where it isn't added it comes
     /// back: InvalidParam where there are four, NoMem where memory was refused.
-    pub fn add(&mut self, alloc: Global, config: Config, device: D) -> Result<(), Unadded<D>>
+    pub fn add(&mut self, alloc: Global, config: Config, device: D) -> Result<(), AddError<D>>
         requires { Takes config (D.pipes device) }
         ensures added { OnOk result (setup_of self.new ≡ setup_of self.old ++ record { config = config; scripts = map (λ p. p.script) (D.pipes device) } ∷ []) }
         ensures room { OnOk result (length self.old.configs < 4) }
@@ -79,7 +79,7 @@ impl<D: Device> Setup<D> {
         ensures kept { OnErr result (self.new ≡ self.old) }
     {
         if self.configs.is_full() {
-            return Err(Unadded {
+            return Err(AddError {
                 why: Refused::InvalidParam,
                 config,
                 device,
@@ -91,7 +91,7 @@ impl<D: Device> Setup<D> {
                 self.configs.push(config);
                 Ok(())
             }
-            Err(device) => Err(Unadded {
+            Err(device) => Err(AddError {
                 why: Refused::NoMem,
                 config,
                 device,

@@ -10,7 +10,7 @@ ghost use Rattle.usb_core.specs.Calls.{takes_memory};
 ghost use Rattle.usb_core.specs.Steps.{GoesOut, answered, first_payload, handed_out, kept_after, left_over};
 
 use crate::calls::Core;
-use crate::{Taken, Unaccepted};
+use crate::{Taken, SubmitError};
 use std::fmt;
 use thiserror::Error;
 use usb_device::Device;
@@ -66,13 +66,13 @@ fn told<P>(entry: Entry, back: Option<P>) -> Stepped<P>
 /// What a submission of this name gave. What was to be sent is dropped where it is refused.
 fn submitted<G: Drop, P>(
     h: Name,
-    given: Result<u64, Unaccepted<G, P>>,
+    given: Result<u64, SubmitError<G, P>>,
 ) -> Result<Stepped<P>, NoMemory<P>>
     ensures { result ≡ answered h given }
 {
     match given {
         Ok(n) => Ok(told(entry_of(h, Reply::Number(n)), None)),
-        Err(Unaccepted { why, payload, .. }) => match why {
+        Err(SubmitError { why, payload, .. }) => match why {
             Refused::NoMem => Err(NoMemory {
                 payload: Some(payload),
             }),

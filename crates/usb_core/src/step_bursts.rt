@@ -1,7 +1,7 @@
 //! Packets in a row at an endpoint, in one call.
 
 ghost use Rattle.std.specs.Prelude.{◌≡◌, ◌+◌, ◌≤◌, ◌<◌, ◌∷◌, [], ◌++◌, ℕ, max, replicate, false, true, IfNone, IfSome, IsSome, Some};
-ghost use Rattle.usb_tables.specs.Flights.{item_at};
+ghost use Rattle.usb_tables.specs.TransfersInFlight.{item_at};
 ghost use Rattle.usb_model.specs.declared.step.Step.TheVariants.{Serve};
 ghost use Rattle.usb_tables.specs.declared.transfer.Transfer.{Transfer as InFlight};
 ghost use Rattle.usb_xhc.specs.declared.packet.Packet.TheVariants.{Moved};
@@ -16,7 +16,7 @@ ghost use Rattle.usb_core.specs.StepBursts.{Differs, IsWholeAt, burst_entries, w
 use crate::parts::Parts;
 use usb_device::Device;
 use usb_model::{Body, DeviceNo, Entry, EpAddr, Name, Reply};
-use usb_tables::{Flights, Transfer};
+use usb_tables::{TransfersInFlight, Transfer};
 use usb_xhc::Controller;
 
 /// A packet that moved so many bytes of a transfer, which goes on.
@@ -173,7 +173,7 @@ impl<P, D: Device> Parts<P, D> {
 /// none that ends a TRB. The bytes that come join those read before, or the next ones of those to be sent are sent. How
 /// many they were.
 fn skim_item<P, D: Device>(
-    flights: &mut Flights<P>,
+    flights: &mut TransfersInFlight<P>,
     dev: DeviceNo,
     ep: EpAddr,
     item: usize,

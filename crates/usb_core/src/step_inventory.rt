@@ -5,8 +5,8 @@ ghost use Rattle.std.specs.Option.{option_copied};
 ghost use Rattle.usb_model.specs.Setup.{Setup};
 ghost use Rattle.usb_model.specs.World.{holder};
 ghost use Rattle.usb_tables.specs.Holders.{IsSetup, device_of, owner_of};
-ghost use Rattle.usb_tables.specs.Callers.{callback_at, number_of};
-ghost use Rattle.usb_tables.specs.Flights.{item_at, line_at};
+ghost use Rattle.usb_tables.specs.HandleStates.{callback_at, number_of};
+ghost use Rattle.usb_tables.specs.TransfersInFlight.{item_at, line_at};
 ghost use Rattle.usb_core.specs.StepInventory.{answers_in, halted_in, stalled_in};
 
 use crate::parts::Parts;

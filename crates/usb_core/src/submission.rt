@@ -9,7 +9,7 @@ ghost use Rattle.usb_model.specs.Buffer.{no_memory};
 ghost use Rattle.usb_model.specs.Setup.{Setup};
 ghost use Rattle.usb_model.specs.World.{World};
 ghost use Rattle.usb_tables.specs.Tds.{memory_left};
-ghost use Rattle.usb_tables.specs.Callers.{number_of};
+ghost use Rattle.usb_tables.specs.HandleStates.{number_of};
 ghost use Rattle.refine_world.specs.Shows.{Core, Shows};
 ghost use Rattle.refine_core.specs.Calls.{Stays};
 ghost use Rattle.refine_core.specs.Payloads.{CarriesMore, StillCarries};
@@ -30,7 +30,7 @@ use usb_tables::{Tds, Transfer, Unmade, check};
 /// What isn't accepted: all that was given comes back. As an error it says why.
 #[derive(Drop, Error)]
 #[error("{why}")]
-pub struct Unaccepted<G, P> {
+pub struct SubmitError<G, P> {
     /// Why.
     pub why: Refused,
     /// What was to be sent: a request, or the bytes of one.
@@ -40,9 +40,9 @@ pub struct Unaccepted<G, P> {
 }
 
 /// Shows why: what comes back may have no form that can be shown.
-impl<G, P> fmt::Debug for Unaccepted<G, P> {
+impl<G, P> fmt::Debug for SubmitError<G, P> {
     fn fmt<W: fmt::Write>(&self, f: &mut fmt::Formatter<W>) -> fmt::Result {
-        write!(f, "Unaccepted({:?})", self.why)
+        write!(f, "SubmitError({:?})", self.why)
     }
 }
 
@@ -84,7 +84,7 @@ impl<P, D: Device> Parts<P, D> {
         request: Request,
         payload: P,
         memory: &mut Buffer,
-    ) -> Result<u64, Unaccepted<Request, P>>
+    ) -> Result<u64, SubmitError<Request, P>>
         requires { IsState self.old }
         ensures accepted { IfOk result (λ n. DoesCoreStep self.old (Submit h request) (record { owner = Some h; reply = Number n }) self.new) }
         ensures given { IfErr result (λ x. x.given ≡ request) }
@@ -99,7 +99,7 @@ impl<P, D: Device> Parts<P, D> {
         let place = match self.place(h, &request) {
             Ok(place) => place,
             Err(why) => {
-                return Err(Unaccepted {
+                return Err(SubmitError {
                     why,
                     given: request,
                     payload,
@@ -108,7 +108,7 @@ impl<P, D: Device> Parts<P, D> {
         };
         match self.start_into(h, place, request, 0, payload, memory) {
             Ok(n) => Ok(n),
-            Err(unmade) => Err(Unaccepted {
+            Err(unmade) => Err(SubmitError {
                 why: Refused::NoMem,
                 given: unmade.request,
                 payload: unmade.payload,

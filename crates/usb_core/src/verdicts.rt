@@ -11,10 +11,10 @@ ghost use Rattle.refine_core.specs.Calls.{Stays};
 ghost use Rattle.refine_core.specs.Payloads.{CarriesMore, StillCarries};
 ghost use Rattle.refine_core.specs.State.{IsState};
 ghost use Rattle.refine_core.specs.Steps.{DoesCoreStep};
-ghost use Rattle.usb_core.specs.Submissions.{AgainIs};
+ghost use Rattle.usb_core.specs.Submissions.{IsResubmission};
 
 use crate::parts::Parts;
-use crate::submission::{Place, Unaccepted};
+use crate::submission::{Place, SubmitError};
 use usb_device::Device;
 use usb_model::{Body, Bytes, InCallback, Name, Refused, Reply, Request};
 
@@ -59,7 +59,7 @@ impl<P, D: Device> Parts<P, D> {
     /// Submits the transfer of a callback once more, under a new number; the callback ends. Refused as a submission is,
     /// and NotFound where the name has no such transfer in its callback: the callback then goes on. NoMem, with nothing
     /// changed, where memory is refused.
-    pub fn again(&mut self, h: Name, n: u64, payload: P) -> Result<u64, Unaccepted<(), P>>
+    pub fn again(&mut self, h: Name, n: u64, payload: P) -> Result<u64, SubmitError<(), P>>
         requires { IsState self.old }
         ensures accepted { IfOk result (λ k. DoesCoreStep self.old (Answer h n Again) (record { owner = Some h; reply = Number k }) self.new) }
         ensures back { IfErr result (λ x. x.payload ≡ payload) }
@@ -71,7 +71,7 @@ impl<P, D: Device> Parts<P, D> {
         let place = match self.place_again(h, n) {
             Ok(place) => place,
             Err(why) => {
-                return Err(Unaccepted {
+                return Err(SubmitError {
                     why,
                     given: (),
                     payload,
@@ -79,7 +79,7 @@ impl<P, D: Device> Parts<P, D> {
             }
         };
         if self.callers.reserve_callback(h).is_err() {
-            return Err(Unaccepted {
+            return Err(SubmitError {
                 why: Refused::NoMem,
                 given: (),
                 payload,
@@ -101,7 +101,7 @@ impl<P, D: Device> Parts<P, D> {
                         status,
                     },
                 );
-                Err(Unaccepted {
+                Err(SubmitError {
                     why: Refused::NoMem,
                     given: (),
                     payload: unmade.payload,
@@ -117,7 +117,7 @@ impl<P, D: Device> Parts<P, D> {
         n: u64,
         bytes: Bytes,
         payload: P,
-    ) -> Result<u64, Unaccepted<Bytes, P>>
+    ) -> Result<u64, SubmitError<Bytes, P>>
         requires { IsState self.old }
         ensures accepted { IfOk result (λ k. DoesCoreStep self.old (Answer h n (AgainWith bytes)) (record { owner = Some h; reply = Number k }) self.new) }
         ensures given { IfErr result (λ x. x.given ≡ bytes) }
@@ -130,7 +130,7 @@ impl<P, D: Device> Parts<P, D> {
         let request = match self.callers.callback(h, n) {
             Some(called) => with_bytes(&called.request, bytes),
             None => {
-                return Err(Unaccepted {
+                return Err(SubmitError {
                     why: Refused::NotFound,
                     given: bytes,
                     payload,
@@ -140,7 +140,7 @@ impl<P, D: Device> Parts<P, D> {
         let place = match self.place(h, &request) {
             Ok(place) => place,
             Err(why) => {
-                return Err(Unaccepted {
+                return Err(SubmitError {
                     why,
                     given: bytes_of(request),
                     payload,
@@ -148,7 +148,7 @@ impl<P, D: Device> Parts<P, D> {
             }
         };
         if self.callers.reserve_callback(h).is_err() {
-            return Err(Unaccepted {
+            return Err(SubmitError {
                 why: Refused::NoMem,
                 given: bytes_of(request),
                 payload,
@@ -161,7 +161,7 @@ impl<P, D: Device> Parts<P, D> {
             Ok(k) => Ok(k),
             Err(unmade) => {
                 self.callers.put_callback(h, called);
-                Err(Unaccepted {
+                Err(SubmitError {
                     why: Refused::NoMem,
                     given: bytes_of(unmade.request),
                     payload: unmade.payload,
@@ -173,7 +173,7 @@ impl<P, D: Device> Parts<P, D> {
     /// Where the transfer of a callback is to join its line once more, or what it is refused for.
     fn place_again(&self, h: Name, n: u64) -> Result<Place, Refused>
         requires { IsState self.now }
-        ensures { AgainIs self.now h n result }
+        ensures { IsResubmission self.now h n result }
     {
         match self.callers.callback(h, n) {
             Some(called) => self.place(h, &called.request),

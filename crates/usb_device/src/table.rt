@@ -45,7 +45,7 @@ impl Model for TableDevice {
 /// Why no device was made, with the scripts as they were.
 #[derive(Debug, Drop, Error)]
 #[error("{why}")]
-pub struct Unmade {
+pub struct MakeDeviceError {
     /// InvalidParam or NoMem.
     pub why: Refused,
     /// The scripts that were given.
@@ -89,7 +89,7 @@ impl TableDevice {
         alloc: Global,
         config: &Config,
         scripts: Sequence<Script>,
-    ) -> Result<TableDevice, Unmade>
+    ) -> Result<TableDevice, MakeDeviceError>
         ensures made { IfOk result (λ d. ⟦<TableDevice as Device>⟧.pipes d ≡ pipes_of config.now scripts) }
         ensures takes { IfOk result (λ d. Takes config.now (⟦<TableDevice as Device>⟧.pipes d)) }
         ensures fit { OnOk result (are_scripts config.now scripts ≡ true) }
@@ -98,15 +98,15 @@ impl TableDevice {
     {
         if !are_scripts(config, scripts.as_slice()) {
             let why = Refused::InvalidParam;
-            return Err(Unmade { why, scripts });
+            return Err(MakeDeviceError { why, scripts });
         }
         let Ok(rooms) = make_rooms(alloc, config, scripts.as_slice()) else {
             let why = Refused::NoMem;
-            return Err(Unmade { why, scripts });
+            return Err(MakeDeviceError { why, scripts });
         };
         let Ok(mut pipes) = Vec::with_capacity(alloc, IDS) else {
             let why = Refused::NoMem;
-            return Err(Unmade { why, scripts });
+            return Err(MakeDeviceError { why, scripts });
         };
         let mut scripts = scripts.into_vec().into_iter();
         for room in rooms {

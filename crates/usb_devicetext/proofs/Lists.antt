@@ -4,7 +4,7 @@ use Rattle.std.specs.List.{flat_map}
 use Rattle.std.proofs.lemmas.List.{take_more, flat_map_more, get_or-map, length-map, take-map}
 use denote.Ref.{Bor}
 use Rattle.trace_scenario.specs.Words.{words_of}
-use Rattle.usb_devicetext.specs.Desk.{kept_line}
+use Rattle.usb_devicetext.specs.DeviceText.{kept_line}
 use Rattle.usb_devicetext.specs.Text.{spaced, wide}
 
 -- one piece more

@@ -13,6 +13,6 @@ pub mod Sense
 pub mod Wanted
 pub mod Form
 pub mod FormFault
-pub mod Desk
+pub mod DeviceText
 pub mod PlaceFault
 pub mod Reason

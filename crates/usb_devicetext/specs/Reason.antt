@@ -8,14 +8,14 @@ use Rattle.usb_model.specs.declared.setup.DeviceSetup.{DeviceSetup}
 use Rattle.trace_scenario.specs.Line.{is_ascii}
 use Rattle.trace_scenario.specs.Scenario.{scenario_of}
 use Rattle.trace_scenario.specs.Words.{words_in}
-use Rattle.usb_devicetext.specs.declared.desk.Desk.{Desk}
+use Rattle.usb_devicetext.specs.declared.desk.DeviceText.{DeviceText}
 use Rattle.usb_devicetext.specs.declared.complaint.Complaint.{Complaint}
 use Rattle.usb_devicetext.specs.declared.line.DeskLine.{DeskLine}
 use Rattle.usb_devicetext.specs.declared.line.DeskLine.TheVariants as line
 use Rattle.usb_devicetext.specs.declared.reason.Reason.{Reason}
 use Rattle.usb_devicetext.specs.declared.reason.Reason.TheVariants as reason
 use Rattle.usb_devicetext.specs.declared.sense.Saying.{Saying}
-use Rattle.usb_devicetext.specs.Desk.{desk_of, kept_line, setup_in, spelled_of}
+use Rattle.usb_devicetext.specs.DeviceText.{desk_of, kept_line, setup_in, spelled_of}
 use Rattle.usb_devicetext.specs.Form.{word_at}
 use Rattle.usb_devicetext.specs.FormFault.{FitsForm, form_fault_place, form_fault_text}
 use Rattle.usb_devicetext.specs.Line.{line_of_text}
@@ -56,7 +56,7 @@ abbrev pub devices_before : List (List ℕ) → List DeviceSetup
 devices_before texts = known (setup_in (scenario_of (flat_map kept_line texts)))
 
 -- the devices beside which a line that isn't taken is judged: those of the whole text, where each line is taken behind those before it; else those of the lines before it
-abbrev pub seen : Result Desk ℕ → List (List ℕ) → List DeviceSetup
+abbrev pub seen : Result DeviceText ℕ → List (List ℕ) → List DeviceSetup
 seen (Ok desk) earlier = desk.scripted
 seen (Err at) earlier = devices_before earlier
 

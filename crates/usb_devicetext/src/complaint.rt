@@ -3,7 +3,7 @@
 ghost use Rattle.std.specs.Prelude.{◌≡◌, IfOk, take};
 ghost use Rattle.std.specs.List.{flat_map};
 ghost use Rattle.trace_scenario.specs.Words.{words_of};
-ghost use Rattle.usb_devicetext.specs.Desk.{kept_line, spelled_of};
+ghost use Rattle.usb_devicetext.specs.DeviceText.{kept_line, spelled_of};
 ghost use Rattle.usb_devicetext.specs.Form.{word_at};
 ghost use Rattle.usb_devicetext.specs.Lines.{lines_in};
 ghost use Rattle.usb_devicetext.specs.Reason.{Complains, Fits, IsWhy, devices_before, seen};

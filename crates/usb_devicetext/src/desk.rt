@@ -5,7 +5,7 @@ ghost use Rattle.std.specs.List.{AllByRecursion};
 ghost use Rattle.trace_scenario.specs.Runnable.{CanBeMade};
 ghost use Rattle.trace_scenario.specs.Scenario.{scenario_of};
 ghost use Rattle.trace_scenario.specs.TextResults.{AnswersAs, fault_at};
-ghost use Rattle.usb_devicetext.specs.Desk.{as_scenario, desk_of, devices_of, first_of, is_scenarios, judged, kept_line, scripts_of, spelled_of};
+ghost use Rattle.usb_devicetext.specs.DeviceText.{as_scenario, desk_of, devices_of, first_of, is_scenarios, judged, kept_line, scripts_of, spelled_of};
 ghost use Rattle.usb_devicetext.specs.Sense.{sayings_of};
 
 use crate::device::DeskDevice;
@@ -17,7 +17,7 @@ use usb_model::Sequence;
 
 /// The devices of a text.
 #[derive(Drop)]
-pub struct Desk {
+pub struct DeviceText {
     /// What each answers to transfers.
     pub scripted: Sequence<ScriptedDevice>,
     /// What else is said of each.
@@ -113,13 +113,13 @@ fn first_of(one: TextFault, other: TextFault) -> TextFault
 
 /// The devices of a text, or the fault in it: its first line that isn't taken behind those before it, or want of memory. Each can be
 /// made.
-pub(crate) fn read_spelled(alloc: Global, text: &[u8]) -> Result<Desk, TextFault>
+pub(crate) fn read_spelled(alloc: Global, text: &[u8]) -> Result<DeviceText, TextFault>
     ensures desk { AnswersAs result (spelled_of text.now) }
     ensures few { IfOk result (λ desk. length desk.scripted ≤ 4) }
     ensures each { IfOk result (λ desk. AllByRecursion CanBeMade desk.scripted) }
 {
     match (read_scripts(alloc, text), read_devices(alloc, text)) {
-        (Ok(scripted), Ok(devices)) => Ok(Desk { scripted, devices }),
+        (Ok(scripted), Ok(devices)) => Ok(DeviceText { scripted, devices }),
         (Ok(_), Err(fault)) => Err(fault),
         (Err(fault), Ok(_)) => Err(fault),
         (Err(one), Err(other)) => Err(first_of(one, other)),
@@ -146,7 +146,7 @@ fn read_sayings(
 }
 
 /// The devices of a text, where each of its lines can mean something of them.
-fn judge(alloc: Global, text: &[u8], desk: Desk) -> Result<Desk, TextFault>
+fn judge(alloc: Global, text: &[u8], desk: DeviceText) -> Result<DeviceText, TextFault>
     ensures judged { AnswersAs result (judged text.now (Ok desk)) }
     ensures same { IfOk result (λ same. same ≡ desk) }
 {
@@ -158,7 +158,7 @@ fn judge(alloc: Global, text: &[u8], desk: Desk) -> Result<Desk, TextFault>
 
 /// The devices of a text, or the fault in it: its first line that isn't taken, else the first that can't mean anything, or want of
 /// memory. Each can be made.
-pub fn read_desk(alloc: Global, text: &[u8]) -> Result<Desk, TextFault>
+pub fn read_desk(alloc: Global, text: &[u8]) -> Result<DeviceText, TextFault>
     ensures desk { AnswersAs result (desk_of text.now) }
     ensures few { IfOk result (λ desk. length desk.scripted ≤ 4) }
     ensures each { IfOk result (λ desk. AllByRecursion CanBeMade desk.scripted) }

@@ -4,7 +4,7 @@ ghost use Rattle.std.specs.Prelude.{◌≡◌, []};
 ghost use Rattle.usb_devicetext.specs.declared.line.DeskLine.TheVariants as DeskLine;
 ghost use Rattle.trace_scenario.specs.Scenario.{says_nothing};
 ghost use Rattle.trace_scenario.specs.TextResults.{Becomes};
-ghost use Rattle.usb_devicetext.specs.Desk.{with_line, with_statement, with_text};
+ghost use Rattle.usb_devicetext.specs.DeviceText.{with_line, with_statement, with_text};
 
 use crate::device::DeskDevice;
 use crate::line::DeskLine;

@@ -16,7 +16,7 @@
 //! - `form_fault.rt`, `place_fault.rt`, `reason.rt`, `complaint.rt`: what is wrong with the words of a line by themselves, and beside
 //!   the devices; why a line isn't taken, in a sentence; which line that is
 //! - `packet.rt`, `control.rt`: setup packets, and what a host has to hold for one; what a device answers to it
-//! - specs/ by the same names; Desk has the whole text
+//! - specs/ by the same names; DeviceText has the whole text
 //!
 //! # Contracts
 //!
@@ -57,7 +57,7 @@ mod word;
 pub use answer::{ControlAnswer, MOST_DATA};
 pub use complaint::{Complaint, complain};
 pub use control::ControlReply;
-pub use desk::{Desk, read_desk};
+pub use desk::{DeviceText, read_desk};
 pub use device::DeskDevice;
 pub use form_fault::FormFault;
 pub use line::DeskLine;

@@ -25,7 +25,7 @@ use Rattle.usb_model.specs.declared.request.Request.{Request}
 use Rattle.usb_model.specs.declared.verdict.Verdict.TheVariants.{Again, AgainWith, Stop}
 use Rattle.usb_core.specs.Reads.{is_done}
 use Rattle.usb_core.specs.Steps.{kept_after}
-use Rattle.usb_core.specs.Public.{Carries, CarriesMore, Kept, State, StillCarries, TurnsWorld, Unaccepted, called_entry, takes_memory}
+use Rattle.usb_core.specs.Public.{Carries, CarriesMore, Kept, State, StillCarries, TurnsWorld, SubmitError, called_entry, takes_memory}
 use Rattle.usb_journal.specs.declared.place.Place.{Place}
 use Rattle.usb_journal.specs.declared.timer.Timer.{Timer}
 use Rattle.usb_journal.specs.Booked.{Replays, answer_entry, world_where}
@@ -149,7 +149,7 @@ plain_timers ts step (reply.Settled ep errand ok) moment e = nothing_stops ts (e
 plain_timers ts step (reply.Called r) moment e = nothing_stops ts (ending step) (reply.Called r) refl
 
 -- a submission keeps its own
-pub submit_keeps : {G P : Type 0} (old new : State P) (kept : Kept P) (h : ℕ) (request : Request) (payload : P) (a : Result ℕ (Unaccepted G P)) → IfOk a (λ n. CarriesMore h n payload old new) → OnErr a (StillCarries old new) → Carries kept old
+pub submit_keeps : {G P : Type 0} (old new : State P) (kept : Kept P) (h : ℕ) (request : Request) (payload : P) (a : Result ℕ (SubmitError G P)) → IfOk a (λ n. CarriesMore h n payload old new) → OnErr a (StillCarries old new) → Carries kept old
     → Carries (kept_after kept (Submit h request) (answer_entry h a) (Some payload)) new
 submit_keeps old new kept h request payload (Ok n) more still has = more kept has
 submit_keeps old new kept h request payload (Err x) more still has = still kept has

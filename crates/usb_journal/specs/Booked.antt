@@ -12,10 +12,10 @@ use Rattle.usb_model.specs.Setup.{Setup}
 use Rattle.usb_model.specs.World.{World, new_world, turn, world_from}
 use Rattle.usb_model.specs.World.Due.{Dated}
 use Rattle.usb_model.specs.World.Journal.{world_run}
-use Rattle.usb_core.specs.Public.{ShowsWorld, State, Stays, StillCarries, Unaccepted, does_something}
+use Rattle.usb_core.specs.Public.{ShowsWorld, State, Stays, StillCarries, SubmitError, does_something}
 use Rattle.usb_journal.specs.declared.events.Events.{Events}
 use Rattle.usb_journal.specs.declared.place.Place.{Place}
-use Rattle.usb_journal.specs.declared.record.NotRecorded.{NotRecorded}
+use Rattle.usb_journal.specs.declared.record.RecordError.{RecordError}
 use Rattle.usb_receipts.specs.Rule.{BeginsWith}
 use Rattle.usb_journal.specs.Seen.{Positioned, Receipted}
 
@@ -68,7 +68,7 @@ next_receipt b step caller entry = record {
 }
 
 -- the entry of a submission of name h that is answered so
-abbrev pub answer_entry : {G P : Type 0} → ℕ → Result ℕ (Unaccepted G P) → Entry
+abbrev pub answer_entry : {G P : Type 0} → ℕ → Result ℕ (SubmitError G P) → Entry
 answer_entry h (Ok n) = record { owner = Some h; reply = Number n }
 answer_entry h (Err x) = record { owner = Some h; reply = IsRefused x.why }
 
@@ -83,17 +83,17 @@ new_bytes_in (Answer h n (AgainWith bytes)) = Some bytes
 new_bytes_in step = None
 
 -- the payload that comes back of a submission
-abbrev pub payload_back : {G P : Type 0} → Result ℕ (Unaccepted G P) → Option P
+abbrev pub payload_back : {G P : Type 0} → Result ℕ (SubmitError G P) → Option P
 payload_back (Ok n) = None
 payload_back (Err x) = Some x.payload
 
 -- a submission was turned down for this
-abbrev pub turned_down : {G P : Type 0} → Refused → G → P → Result (Result ℕ (Unaccepted G P)) (NotRecorded G P)
+abbrev pub turned_down : {G P : Type 0} → Refused → G → P → Result (Result ℕ (SubmitError G P)) (RecordError G P)
 turned_down NoMem given payload = Err (record { given = given; payload = payload })
 turned_down why given payload = Ok (Err (record { why = why; given = given; payload = payload }))
 
 -- what a submission is answered, unless memory was wanting
-abbrev pub unless_no_memory : {G P : Type 0} → Result ℕ (Unaccepted G P) → Result (Result ℕ (Unaccepted G P)) (NotRecorded G P)
+abbrev pub unless_no_memory : {G P : Type 0} → Result ℕ (SubmitError G P) → Result (Result ℕ (SubmitError G P)) (RecordError G P)
 unless_no_memory (Ok n) = Ok (Ok n)
 unless_no_memory (Err x) = turned_down x.why x.given x.payload
 

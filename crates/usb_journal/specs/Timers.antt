@@ -5,7 +5,7 @@ use Rattle.usb_model.specs.declared.reply.Reply.TheVariants.{Done, Number}
 use Rattle.usb_model.specs.declared.step.Step.{Step}
 use Rattle.usb_model.specs.declared.step.Step.TheVariants.{Answer, Expire, Submit}
 use Rattle.usb_model.specs.declared.verdict.Verdict.TheVariants.{Again, AgainWith, Stop}
-use Rattle.usb_core.specs.Public.{Unaccepted}
+use Rattle.usb_core.specs.Public.{SubmitError}
 use Rattle.std.specs.List.{filter, flat_map}
 use Rattle.usb_model.specs.Setup.{Setup}
 use Rattle.usb_model.specs.World.{World}
@@ -29,12 +29,12 @@ stopped h n [] = []
 stopped h n (t ∷ ts) = if is_timer_of h n t then ts else t ∷ stopped h n ts
 
 -- a submission of name h was answered so
-abbrev pub started_if : {G P : Type 0} → (h timeout given : ℕ) → Result ℕ (Unaccepted G P) → List Timer → List Timer
+abbrev pub started_if : {G P : Type 0} → (h timeout given : ℕ) → Result ℕ (SubmitError G P) → List Timer → List Timer
 started_if h timeout given (Ok n) ts = ts ++ record { h = h; n = n; timeout = timeout; given = given } ∷ []
 started_if h timeout given (Err x) ts = ts
 
 -- or that of a callback's transfer
-abbrev pub started_again_if : {G P : Type 0} → (h n given : ℕ) → Result ℕ (Unaccepted G P) → List Timer → List Timer
+abbrev pub started_again_if : {G P : Type 0} → (h n given : ℕ) → Result ℕ (SubmitError G P) → List Timer → List Timer
 started_again_if h n given (Ok k) ts = stopped h n ts ++ record { h = h; n = k; timeout = timeout_in h n ts; given = given } ∷ []
 started_again_if h n given (Err x) ts = ts
 

@@ -27,7 +27,7 @@ use usb_receipts::Keeper;
 /// The core, the moment, and the journal of the core's steps. The journal stands in the proofs; at run time there is
 /// what the recorder keeps of it.
 #[derive(Drop)]
-pub struct Book<L: Naming, P, D: Device, J: Recorder> {
+pub struct JournaledCore<L: Naming, P, D: Device, J: Recorder> {
     pub(crate) core: Core<P, D>,
     pub(crate) moment: u64,
     pub(crate) log: Log<L, J>,
@@ -37,7 +37,7 @@ pub struct Book<L: Naming, P, D: Device, J: Recorder> {
 
 /// Contracts see the devices, the journal, the moment in milliseconds, and what the core keeps. The entries of the journal
 /// are those of the run of its steps, and the core shows the world where that ends.
-impl<L: Naming, P, D: Device, J: Recorder> Model for Book<L, P, D, J> {
+impl<L: Naming, P, D: Device, J: Recorder> Model for JournaledCore<L, P, D, J> {
     ghost use Rattle.std.specs.Prelude.{◌≡◌};
     ghost use Rattle.usb_journal.specs.Booked.{Booked, Replays};
     ghost use Rattle.usb_journal.specs.Timers.{timers_of};
@@ -49,15 +49,15 @@ impl<L: Naming, P, D: Device, J: Recorder> Model for Book<L, P, D, J> {
     ghost invariant = { λ b. Replays L.setup b.log.journal b.core × (b.timers.items ≡ timers_of b.log.journal) };
 }
 
-impl<L: Naming, P, D: Device, J: Recorder> Book<L, P, D, J> {
+impl<L: Naming, P, D: Device, J: Recorder> JournaledCore<L, P, D, J> {
     /// No step was made, at moment 0. Log and ledger are the library's, with nothing in them. An error where memory is wanting.
     pub fn new(
         alloc: Global,
         setup: Setup<D>,
         log: usb_receipts::Log<PlaceImage>,
         keeper: Keeper<PlaceImage>,
-        total: ledger::Book<L>,
-    ) -> Result<Book<L, P, D, J>, AllocError>
+        total: ledger::JournaledCore<L>,
+    ) -> Result<JournaledCore<L, P, D, J>, AllocError>
         requires setup { setup_of setup ≡ L.setup }
         requires log { log ≡ L.table }
         requires keeper { keeper ≡ new_keeper log }
@@ -70,7 +70,7 @@ impl<L: Naming, P, D: Device, J: Recorder> Book<L, P, D, J> {
         let core = Core::new(alloc, setup)?;
         let log = Log::new(alloc, log, keeper, total);
         let timers = Vec::new(alloc);
-        Ok(Book {
+        Ok(JournaledCore {
             core,
             moment: 0,
             log,
@@ -154,7 +154,7 @@ impl<L: Naming, P, D: Device, J: Recorder> Book<L, P, D, J> {
     pub fn close(self) -> Closing<L, P, D, J>
         ensures { result ≡ record { setup = L.setup; journal = self.journal; core = self.core; back = [] } }
     {
-        let Book { core, log, .. } = self;
+        let JournaledCore { core, log, .. } = self;
         let Log {
             recorder,
             places,

@@ -33,7 +33,7 @@
 //!
 //! Every clause is of the journal in the proofs, whatever the recorder keeps of it at run time.
 //!
-//! - `Book`'s invariant: the journal's entries are those of the definitions' run of its steps (`world_run`), and the
+//! - `JournaledCore`'s invariant: the journal's entries are those of the definitions' run of its steps (`world_run`), and the
 //!   core shows the world where that run ends (`ShowsWorld`)
 //! - `record`, `submit`, `again`, `again_with`, `take`: just one place behind the others: the step, the caller, the
 //!   moment, and the entry that the definitions have for the step in that world; the receipt has its number and all
@@ -84,7 +84,7 @@ mod submissions;
 mod ticks;
 mod timer;
 
-pub use book::Book;
+pub use book::JournaledCore;
 pub use closed::{Closed, Closing, Whole};
 pub use events::Events;
 pub use journal::{Draft, Journal};
@@ -92,7 +92,7 @@ pub use naming::Naming;
 pub use place::{Place, PlaceImage};
 pub use position::Position;
 pub use receipt::Receipt;
-pub use record::NotRecorded;
+pub use record::RecordError;
 pub use recorder::{Recorder, Unrecorded};
 pub use rows::{Delivered, Outgoing, Row, Served};
-pub use usb_core::{Pending, Setup, Stepped, Taken, Unaccepted};
+pub use usb_core::{Pending, Setup, Stepped, Taken, SubmitError};

@@ -8,7 +8,7 @@ ghost use Rattle.usb_core.specs.Public.{Carries, Kept, StillCarries, called_entr
 ghost use Rattle.usb_journal.specs.Booked.{IsMoved, IsSame, Sees, answer_entry, next_entry, next_receipt, payload_back};
 ghost use Rattle.usb_journal.specs.Timers.{ending};
 
-use crate::book::Book;
+use crate::book::JournaledCore;
 use crate::naming::Naming;
 use crate::position::Position;
 use crate::receipt::Receipt;
@@ -17,7 +17,7 @@ use crate::submissions::enter;
 use crate::timer::stop_if;
 use std::fmt;
 use thiserror::Error;
-use usb_core::{Stepped, Taken, Unaccepted};
+use usb_core::{Stepped, Taken, SubmitError};
 use usb_device::Device;
 use usb_model::{Entry, Name, Reply, Step, Verdict};
 use usb_receipts::Image;
@@ -25,7 +25,7 @@ use usb_receipts::Image;
 /// A step that found no memory. Nothing changed, and all that was given comes back.
 #[derive(Drop, Error)]
 #[error("there is no memory")]
-pub struct NotRecorded<G, P> {
+pub struct RecordError<G, P> {
     /// What was to be done: a step, or what was to be sent.
     pub given: G,
     /// The payload that was given with it.
@@ -33,13 +33,13 @@ pub struct NotRecorded<G, P> {
 }
 
 /// Shows nothing of what comes back, which may have no form that can be shown.
-impl<G, P> fmt::Debug for NotRecorded<G, P> {
+impl<G, P> fmt::Debug for RecordError<G, P> {
     fn fmt<W: fmt::Write>(&self, f: &mut fmt::Formatter<W>) -> fmt::Result {
-        f.write_str("NotRecorded")
+        f.write_str("RecordError")
     }
 }
 
-impl<L: Naming, P: Drop, D: Device, J: Recorder> Book<L, P, D, J> {
+impl<L: Naming, P: Drop, D: Device, J: Recorder> JournaledCore<L, P, D, J> {
     /// Makes one step, at the next place of the journal. With a payload where the step takes one (`Step::takes_payload`);
     /// one that isn't kept with a transfer comes back. Where memory is wanting nothing changed, and the step comes back.
     pub fn record(
@@ -47,7 +47,7 @@ impl<L: Naming, P: Drop, D: Device, J: Recorder> Book<L, P, D, J> {
         step: Step,
         position: &mut Position<L>,
         payload: Option<P>,
-    ) -> Result<(Receipt<L>, Stepped<P>), NotRecorded<Step, Option<P>>>
+    ) -> Result<(Receipt<L>, Stepped<P>), RecordError<Step, Option<P>>>
         requires { takes_payload step ≡ true → is_some payload ≡ true }
         ensures receipt { IfOk result (λ r. r.0 ≡ next_receipt self.old step position.old.number r.1.entry) }
         ensures journal { IfOk result (λ r. self.new.journal ≡ self.old.journal ++ r.0.entry ∷ []) }
@@ -69,7 +69,7 @@ impl<L: Naming, P: Drop, D: Device, J: Recorder> Book<L, P, D, J> {
                 };
                 match self.submit(h, request, payload, position) {
                     Ok((receipt, answer)) => Ok((receipt, answered(h, answer))),
-                    Err(NotRecorded { given, payload }) => Err(NotRecorded {
+                    Err(RecordError { given, payload }) => Err(RecordError {
                         given: Step::Submit { h, request: given },
                         payload: Some(payload),
                     }),
@@ -88,7 +88,7 @@ impl<L: Naming, P: Drop, D: Device, J: Recorder> Book<L, P, D, J> {
         &mut self,
         position: &mut Position<L>,
         payload: Option<P>,
-    ) -> Result<(Receipt<L>, Stepped<P>), NotRecorded<Step, Option<P>>>
+    ) -> Result<(Receipt<L>, Stepped<P>), RecordError<Step, Option<P>>>
         ensures receipt { IfOk result (λ r. r.0 ≡ next_receipt self.old Take position.old.number r.1.entry) }
         ensures journal { IfOk result (λ r. self.new.journal ≡ self.old.journal ++ r.0.entry ∷ []) }
         ensures entry { IfOk result (λ r. r.1.entry ≡ next_entry self.old.setup self.old.journal Take) }
@@ -104,7 +104,7 @@ impl<L: Naming, P: Drop, D: Device, J: Recorder> Book<L, P, D, J> {
     {
         match self.take(position) {
             Ok((receipt, taken)) => Ok((receipt, called(taken, payload))),
-            Err(_) => Err(NotRecorded {
+            Err(_) => Err(RecordError {
                 given: Step::Take,
                 payload,
             }),
@@ -119,7 +119,7 @@ impl<L: Naming, P: Drop, D: Device, J: Recorder> Book<L, P, D, J> {
         verdict: Verdict,
         position: &mut Position<L>,
         payload: Option<P>,
-    ) -> Result<(Receipt<L>, Stepped<P>), NotRecorded<Step, Option<P>>>
+    ) -> Result<(Receipt<L>, Stepped<P>), RecordError<Step, Option<P>>>
         requires { takes_payload (Answer h n verdict) ≡ true → is_some payload ≡ true }
         ensures receipt { IfOk result (λ r. r.0 ≡ next_receipt self.old (Answer h n verdict) position.old.number r.1.entry) }
         ensures journal { IfOk result (λ r. self.new.journal ≡ self.old.journal ++ r.0.entry ∷ []) }
@@ -149,7 +149,7 @@ impl<L: Naming, P: Drop, D: Device, J: Recorder> Book<L, P, D, J> {
                 };
                 match self.again(h, n, payload, position) {
                     Ok((receipt, answer)) => Ok((receipt, answered(h, answer))),
-                    Err(NotRecorded { payload, .. }) => Err(NotRecorded {
+                    Err(RecordError { payload, .. }) => Err(RecordError {
                         given: Step::Answer {
                             h,
                             n,
@@ -165,7 +165,7 @@ impl<L: Naming, P: Drop, D: Device, J: Recorder> Book<L, P, D, J> {
                 };
                 match self.again_with(h, n, bytes, payload, position) {
                     Ok((receipt, answer)) => Ok((receipt, answered(h, answer))),
-                    Err(NotRecorded { given, payload }) => Err(NotRecorded {
+                    Err(RecordError { given, payload }) => Err(RecordError {
                         given: Step::Answer {
                             h,
                             n,
@@ -184,7 +184,7 @@ impl<L: Naming, P: Drop, D: Device, J: Recorder> Book<L, P, D, J> {
         step: Step,
         position: &mut Position<L>,
         payload: Option<P>,
-    ) -> Result<(Receipt<L>, Stepped<P>), NotRecorded<Step, Option<P>>>
+    ) -> Result<(Receipt<L>, Stepped<P>), RecordError<Step, Option<P>>>
         requires { takes_memory step ≡ false }
         ensures receipt { IfOk result (λ r. r.0 ≡ next_receipt self.old step position.old.number r.1.entry) }
         ensures journal { IfOk result (λ r. self.new.journal ≡ self.old.journal ++ r.0.entry ∷ []) }
@@ -200,7 +200,7 @@ impl<L: Naming, P: Drop, D: Device, J: Recorder> Book<L, P, D, J> {
         ensures err { IfErr result (λ x. (x.given ≡ step) × (x.payload ≡ payload) × IsSame self.old self.new × (position.new ≡ position.old)) }
     {
         let caller = position.number();
-        let Book {
+        let JournaledCore {
             core,
             moment,
             log,
@@ -208,7 +208,7 @@ impl<L: Naming, P: Drop, D: Device, J: Recorder> Book<L, P, D, J> {
             ..
         } = self;
         let Ok(draft) = log.prepare(&step) else {
-            return Err(NotRecorded {
+            return Err(RecordError {
                 given: step,
                 payload,
             });
@@ -225,7 +225,7 @@ impl<L: Naming, P: Drop, D: Device, J: Recorder> Book<L, P, D, J> {
 }
 
 /// What a submission of this name gave. What was to be sent is dropped where it is refused.
-fn answered<G: Drop, P>(h: Name, answer: Result<u64, Unaccepted<G, P>>) -> Stepped<P>
+fn answered<G: Drop, P>(h: Name, answer: Result<u64, SubmitError<G, P>>) -> Stepped<P>
     ensures entry { result.entry ≡ answer_entry h answer }
     ensures out { result.out ≡ None }
     ensures back { result.back ≡ payload_back answer }
@@ -239,7 +239,7 @@ fn answered<G: Drop, P>(h: Name, answer: Result<u64, Unaccepted<G, P>>) -> Stepp
             out: None,
             back: None,
         },
-        Err(Unaccepted { why, payload, .. }) => Stepped {
+        Err(SubmitError { why, payload, .. }) => Stepped {
             entry: Entry {
                 owner: Some(h),
                 reply: Reply::Refused(why),

@@ -7,7 +7,7 @@ ghost use Rattle.usb_core.specs.Public.{Carries, CarriesOut, Kept, called_entry}
 ghost use Rattle.usb_journal.specs.Records.{bytes_in};
 ghost use Rattle.usb_journal.specs.Booked.{IsMoved, IsSame, Sees, next_entry, next_receipt};
 
-use crate::book::Book;
+use crate::book::JournaledCore;
 use crate::log::Log;
 use crate::naming::Naming;
 use crate::position::Position;
@@ -18,7 +18,7 @@ use usb_core::Taken;
 use usb_device::Device;
 use usb_model::{Entry, Reply, Step};
 
-impl<L: Naming, P, D: Device, J: Recorder> Book<L, P, D, J> {
+impl<L: Naming, P, D: Device, J: Recorder> JournaledCore<L, P, D, J> {
     /// The oldest result goes out to its callback (libusb 1.0, `libusb_transfer_cb_fn`), with the payload of its
     /// transfer; None where none waits. A place is made in any case. Where memory is wanting nothing changed. Inlined, as `enter`
     /// is: else the result is copied twice.
@@ -39,7 +39,7 @@ impl<L: Naming, P, D: Device, J: Recorder> Book<L, P, D, J> {
         ensures err { OnErr result (IsSame self.old self.new × (position.new ≡ position.old)) }
     {
         let caller = position.number();
-        let Book {
+        let JournaledCore {
             core,
             moment,
             log,

@@ -6,7 +6,7 @@ ghost use Rattle.usb_model.specs.declared.verdict.Verdict.TheVariants.{Stop};
 ghost use Rattle.usb_core.specs.Public.{StillCarries};
 ghost use Rattle.usb_journal.specs.Booked.{IsMoved, IsSame, Sees, next_entry, next_receipt};
 
-use crate::book::Book;
+use crate::book::JournaledCore;
 use crate::naming::Naming;
 use crate::position::Position;
 use crate::receipt::Receipt;
@@ -16,7 +16,7 @@ use std::alloc::AllocError;
 use usb_device::Device;
 use usb_model::{DeviceNo, Entry, EpAddr, Name, Step, Verdict};
 
-impl<L: Naming, P, D: Device, J: Recorder> Book<L, P, D, J> {
+impl<L: Naming, P, D: Device, J: Recorder> JournaledCore<L, P, D, J> {
     /// A device answers one packet (USB 2.0, 8.5), at the next place of the journal. Where memory is wanting nothing
     /// changed.
     pub fn serve(
@@ -36,7 +36,7 @@ impl<L: Naming, P, D: Device, J: Recorder> Book<L, P, D, J> {
         ensures err { OnErr result (IsSame self.old self.new × (position.new ≡ position.old)) }
     {
         let caller = position.number();
-        let Book {
+        let JournaledCore {
             core,
             moment,
             log,
@@ -62,7 +62,7 @@ impl<L: Naming, P, D: Device, J: Recorder> Book<L, P, D, J> {
         ensures err { OnErr result (IsSame self.old self.new × (position.new ≡ position.old)) }
     {
         let caller = position.number();
-        let Book {
+        let JournaledCore {
             core,
             moment,
             log,
@@ -93,7 +93,7 @@ impl<L: Naming, P, D: Device, J: Recorder> Book<L, P, D, J> {
         ensures err { OnErr result (IsSame self.old self.new × (position.new ≡ position.old)) }
     {
         let caller = position.number();
-        let Book {
+        let JournaledCore {
             core,
             moment,
             log,

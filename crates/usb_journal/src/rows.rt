@@ -11,7 +11,7 @@ ghost use Rattle.usb_journal.specs.Entered.{DoesRow, IsRow, StandsIn, TakesRow};
 ghost use Rattle.usb_journal.specs.Records.{bytes_in};
 ghost use Rattle.usb_journal.specs.Rows.{AreKept, EntersRow, GoOn, MayStop, MayStopBehind, are_quiet, ends_any, is_end, is_progress, is_quiet, is_settled, new_places};
 
-use crate::book::Book;
+use crate::book::JournaledCore;
 use crate::log::Log;
 use crate::naming::Naming;
 use crate::position::Position;
@@ -57,7 +57,7 @@ pub struct Outgoing {
     pub lacked: bool,
 }
 
-impl<L: Naming, P, D: Device, J: Recorder> Book<L, P, D, J> {
+impl<L: Naming, P, D: Device, J: Recorder> JournaledCore<L, P, D, J> {
     /// A device answers packets in a row at an endpoint (USB 2.0, 8.5), at the next places of the journal: at most so many,
     /// and at least one. They end behind the first that moved no bytes; one that ended a transfer is the last only where no other
     /// packet does anything there. Where memory is wanting nothing changed.
@@ -81,7 +81,7 @@ impl<L: Naming, P, D: Device, J: Recorder> Book<L, P, D, J> {
         self.log.reserve(most as usize, 0)?;
         self.log.look(position);
         let first = self.log.len();
-        let Book {
+        let JournaledCore {
             core,
             moment,
             log,
@@ -116,7 +116,7 @@ impl<L: Naming, P, D: Device, J: Recorder> Book<L, P, D, J> {
         self.log.reserve(most as usize, 0)?;
         self.log.look(position);
         let first = self.log.len();
-        let Book {
+        let JournaledCore {
             core,
             moment,
             log,

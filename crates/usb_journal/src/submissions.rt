@@ -7,22 +7,22 @@ ghost use Rattle.usb_core.specs.Public.{CarriesMore, StillCarries};
 ghost use Rattle.usb_journal.specs.Records.{bytes_in};
 ghost use Rattle.usb_journal.specs.Booked.{IsMoved, IsSame, Sees, answer_entry, new_bytes_in, next_entry, next_receipt, request_in, unless_no_memory};
 
-use crate::book::Book;
+use crate::book::JournaledCore;
 use crate::log::Log;
 use crate::naming::Naming;
 use crate::place::PlaceImage;
 use crate::position::Position;
 use crate::receipt::Receipt;
-use crate::record::NotRecorded;
+use crate::record::RecordError;
 use crate::recorder::Recorder;
 use crate::timer::{Timer, start_again_if, start_if};
 use std::alloc::AllocError;
-use usb_core::Unaccepted;
+use usb_core::SubmitError;
 use usb_device::Device;
 use usb_model::{Bytes, Entry, Name, Refused, Reply, Request, Step, Verdict};
 use usb_receipts::Image;
 
-impl<L: Naming, P, D: Device, J: Recorder> Book<L, P, D, J> {
+impl<L: Naming, P, D: Device, J: Recorder> JournaledCore<L, P, D, J> {
     /// Submits a transfer (libusb 1.0, `libusb_submit_transfer`), at the next place of the journal: its number, or why it
     /// is refused, with what was given. Where memory is wanting nothing changed, and what was given comes back.
     pub fn submit(
@@ -31,7 +31,7 @@ impl<L: Naming, P, D: Device, J: Recorder> Book<L, P, D, J> {
         request: Request,
         payload: P,
         position: &mut Position<L>,
-    ) -> Result<(Receipt<L>, Result<u64, Unaccepted<Request, P>>), NotRecorded<Request, P>>
+    ) -> Result<(Receipt<L>, Result<u64, SubmitError<Request, P>>), RecordError<Request, P>>
         ensures receipt { IfOk result (λ r. r.0 ≡ next_receipt self.old (Submit h request) position.old.number (answer_entry h r.1)) }
         ensures journal { IfOk result (λ r. self.new.journal ≡ self.old.journal ++ r.0.entry ∷ []) }
         ensures entry { IfOk result (λ r. answer_entry h r.1 ≡ next_entry self.old.setup self.old.journal (Submit h request)) }
@@ -45,7 +45,7 @@ impl<L: Naming, P, D: Device, J: Recorder> Book<L, P, D, J> {
         ensures err { IfErr result (λ x. (x.given ≡ request) × (x.payload ≡ payload) × IsSame self.old self.new × (position.new ≡ position.old)) }
     {
         let caller = position.number();
-        let Book {
+        let JournaledCore {
             core,
             moment,
             log,
@@ -59,7 +59,7 @@ impl<L: Naming, P, D: Device, J: Recorder> Book<L, P, D, J> {
             unreachable!()
         };
         let Ok(draft) = prepared else {
-            return Err(NotRecorded {
+            return Err(RecordError {
                 given: request,
                 payload,
             });
@@ -83,7 +83,7 @@ impl<L: Naming, P, D: Device, J: Recorder> Book<L, P, D, J> {
         n: u64,
         payload: P,
         position: &mut Position<L>,
-    ) -> Result<(Receipt<L>, Result<u64, Unaccepted<(), P>>), NotRecorded<(), P>>
+    ) -> Result<(Receipt<L>, Result<u64, SubmitError<(), P>>), RecordError<(), P>>
         ensures receipt { IfOk result (λ r. r.0 ≡ next_receipt self.old (Answer h n Again) position.old.number (answer_entry h r.1)) }
         ensures journal { IfOk result (λ r. self.new.journal ≡ self.old.journal ++ r.0.entry ∷ []) }
         ensures entry { IfOk result (λ r. answer_entry h r.1 ≡ next_entry self.old.setup self.old.journal (Answer h n Again)) }
@@ -97,7 +97,7 @@ impl<L: Naming, P, D: Device, J: Recorder> Book<L, P, D, J> {
         ensures err { IfErr result (λ x. (x.payload ≡ payload) × IsSame self.old self.new × (position.new ≡ position.old)) }
     {
         let caller = position.number();
-        let Book {
+        let JournaledCore {
             core,
             moment,
             log,
@@ -110,7 +110,7 @@ impl<L: Naming, P, D: Device, J: Recorder> Book<L, P, D, J> {
             verdict: Verdict::Again,
         };
         let Ok(draft) = prepare(log, timers, &step) else {
-            return Err(NotRecorded { given: (), payload });
+            return Err(RecordError { given: (), payload });
         };
         let asked = Image::of(&step);
         let answer = match unless_no_memory(core.again(h, n, payload)) {
@@ -130,7 +130,7 @@ impl<L: Naming, P, D: Device, J: Recorder> Book<L, P, D, J> {
         bytes: Bytes,
         payload: P,
         position: &mut Position<L>,
-    ) -> Result<(Receipt<L>, Result<u64, Unaccepted<Bytes, P>>), NotRecorded<Bytes, P>>
+    ) -> Result<(Receipt<L>, Result<u64, SubmitError<Bytes, P>>), RecordError<Bytes, P>>
         ensures receipt { IfOk result (λ r. r.0 ≡ next_receipt self.old (Answer h n (AgainWith bytes)) position.old.number (answer_entry h r.1)) }
         ensures journal { IfOk result (λ r. self.new.journal ≡ self.old.journal ++ r.0.entry ∷ []) }
         ensures entry { IfOk result (λ r. answer_entry h r.1 ≡ next_entry self.old.setup self.old.journal (Answer h n (AgainWith bytes))) }
@@ -144,7 +144,7 @@ impl<L: Naming, P, D: Device, J: Recorder> Book<L, P, D, J> {
         ensures err { IfErr result (λ x. (x.given ≡ bytes) × (x.payload ≡ payload) × IsSame self.old self.new × (position.new ≡ position.old)) }
     {
         let caller = position.number();
-        let Book {
+        let JournaledCore {
             core,
             moment,
             log,
@@ -162,7 +162,7 @@ impl<L: Naming, P, D: Device, J: Recorder> Book<L, P, D, J> {
             unreachable!()
         };
         let Ok(draft) = prepared else {
-            return Err(NotRecorded {
+            return Err(RecordError {
                 given: bytes,
                 payload,
             });
@@ -227,7 +227,7 @@ fn enter_answer<L: Naming, J: Recorder, G, P>(
     asked: Image<Step>,
     caller: u32,
     h: Name,
-    answer: &Result<u64, Unaccepted<G, P>>,
+    answer: &Result<u64, SubmitError<G, P>>,
     moment: u64,
 ) -> Receipt<L>
     requires bearer { caller ≡ position.old.number }
@@ -243,7 +243,7 @@ fn enter_answer<L: Naming, J: Recorder, G, P>(
 }
 
 /// The entry of a submission of a name.
-fn answer_entry<G, P>(h: Name, answer: &Result<u64, Unaccepted<G, P>>) -> Entry
+fn answer_entry<G, P>(h: Name, answer: &Result<u64, SubmitError<G, P>>) -> Entry
     ensures entry { result ≡ answer_entry h answer.now }
     ensures bytes { bytes_in result.reply ≡ 0 }
 {
@@ -259,21 +259,21 @@ fn answer_entry<G, P>(h: Name, answer: &Result<u64, Unaccepted<G, P>>) -> Entry
 
 /// What a submission is answered, unless memory was wanting.
 fn unless_no_memory<G, P>(
-    answer: Result<u64, Unaccepted<G, P>>,
-) -> Result<Result<u64, Unaccepted<G, P>>, NotRecorded<G, P>>
+    answer: Result<u64, SubmitError<G, P>>,
+) -> Result<Result<u64, SubmitError<G, P>>, RecordError<G, P>>
     ensures { result ≡ unless_no_memory answer }
 {
     match answer {
         Ok(n) => Ok(Ok(n)),
         Err(
-            Unaccepted {
+            SubmitError {
                 why,
                 given,
                 payload,
             },
         ) => match why {
-            Refused::NoMem => Err(NotRecorded { given, payload }),
-            _ => Ok(Err(Unaccepted {
+            Refused::NoMem => Err(RecordError { given, payload }),
+            _ => Ok(Err(SubmitError {
                 why,
                 given,
                 payload,

@@ -10,7 +10,7 @@ ghost use Rattle.usb_journal.specs.Booked.{IsSame, Replays, Sees, asked, asks, d
 ghost use Rattle.usb_journal.specs.Seen.{receipts_from};
 ghost use Rattle.usb_journal.specs.Timers.{by_name, expires, is_over, timers_of};
 
-use crate::book::Book;
+use crate::book::JournaledCore;
 use crate::log::Log;
 use crate::naming::Naming;
 use crate::position::Position;
@@ -22,7 +22,7 @@ use usb_core::Core;
 use usb_device::Device;
 use usb_model::{Entry, Step};
 
-impl<L: Naming, P, D: Device, J: Recorder> Book<L, P, D, J> {
+impl<L: Naming, P, D: Device, J: Recorder> JournaledCore<L, P, D, J> {
     /// Moves the moment on to `now`, in milliseconds, or leaves it where it is later. Then makes one Expire for each
     /// transfer that is due (libusb 1.0, `libusb_transfer`, `timeout`), by rising name and number, at consecutive
     /// places. Where memory is wanting nothing changed.
@@ -50,7 +50,7 @@ impl<L: Naming, P, D: Device, J: Recorder> Book<L, P, D, J> {
         self.log.reserve(due.len(), 0)?;
         self.log.look(position);
         self.moment = later;
-        let Book { core, log, .. } = self;
+        let JournaledCore { core, log, .. } = self;
         expire_all(core, log, position, caller, later, &due, &mut receipts);
         Ok(receipts)
     }

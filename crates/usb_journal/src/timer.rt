@@ -4,7 +4,7 @@ ghost use Rattle.std.specs.Prelude.{◌≡◌, ◌++◌, ◌+◌, ◌<◌, ◌�
 ghost use Rattle.usb_model.specs.World.Due.{deadline};
 ghost use Rattle.usb_journal.specs.Timers.{is_timer_of, started_again_if, started_if, stopped, stopped_if, timeout_in};
 
-use usb_core::Unaccepted;
+use usb_core::SubmitError;
 use usb_model::{Entry, Name, Reply};
 
 /// Of a transfer, from its submission on until its callback ends: when it was submitted, and its timeout.
@@ -89,7 +89,7 @@ pub(crate) fn stop_if(timers: &mut Vec<Timer>, ending: Option<(Name, u64)>, entr
 pub(crate) fn start_if<G, P>(
     timers: &mut Vec<Timer>,
     h: Name,
-    answer: &Result<u64, Unaccepted<G, P>>,
+    answer: &Result<u64, SubmitError<G, P>>,
     timeout: u32,
     given: u64,
 )
@@ -111,7 +111,7 @@ pub(crate) fn start_again_if<G, P>(
     timers: &mut Vec<Timer>,
     h: Name,
     n: u64,
-    answer: &Result<u64, Unaccepted<G, P>>,
+    answer: &Result<u64, SubmitError<G, P>>,
     given: u64,
 )
     requires room { vec_len timers.old < vec_capacity timers.old }

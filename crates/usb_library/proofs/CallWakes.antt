@@ -10,7 +10,7 @@ use Rattle.usb_model.specs.declared.entry.Entry.{Entry}
 use Rattle.usb_model.specs.Setup.{Setup}
 use Rattle.usb_model.specs.World.{new_world, turn, world_from}
 use Rattle.usb_journal.specs.declared.place.Place.{Place}
-use Rattle.usb_core.specs.Public.{Unaccepted, does_something}
+use Rattle.usb_core.specs.Public.{SubmitError, does_something}
 use Rattle.usb_journal.specs.Booked.{Booked, answer_entry, next_entry, next_receipt, steps_of, world_where}
 use Rattle.usb_journal.specs.Seen.{Receipted}
 use Rattle.usb_receipts.specs.Rule.{BeginsWith}
@@ -125,12 +125,12 @@ pub take_wakes : (setup : Setup) (seen : List Place) (r : Receipted) (entry : En
 take_wakes setup seen r entry changed m = subst (λ k. WakesSince setup seen r.place k) (nobody (changes entry.reply) changed) (call_wakes setup Take seen r entry m)
 
 -- a submission that is accepted is the controller's
-submitted_wakes : {G P : Type 0} (h : ℕ) (number : Result ℕ (Unaccepted G P)) → if_changed (changes (answer_entry h number).reply) (Of Controller) ≡ if_changed (is_ok number) (Of Controller)
+submitted_wakes : {G P : Type 0} (h : ℕ) (number : Result ℕ (SubmitError G P)) → if_changed (changes (answer_entry h number).reply) (Of Controller) ≡ if_changed (is_ok number) (Of Controller)
 submitted_wakes h (Ok n) = refl
 submitted_wakes h (Err x) = refl
 
 -- so is one from within a callback
-pub submission_wakes : {G P : Type 0} (setup : Setup) (step : Step) (h : ℕ) (seen : List Place) (r : Receipted) (number : Result ℕ (Unaccepted G P)) (changed : Bool) → ((reply : Reply) (b : Bool) → of_change step reply b ≡ Of Controller)
+pub submission_wakes : {G P : Type 0} (setup : Setup) (step : Step) (h : ℕ) (seen : List Place) (r : Receipted) (number : Result ℕ (SubmitError G P)) (changed : Bool) → ((reply : Reply) (b : Bool) → of_change step reply b ≡ Of Controller)
     → IsLast setup step seen r (answer_entry h number) → changed ≡ is_ok number → WakesSince setup seen r.place (if_changed changed (Of Controller))
 submission_wakes setup step h seen r number changed its m is =
     let b : Bool = does_something setup (world_where setup seen) Command in

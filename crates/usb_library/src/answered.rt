@@ -3,7 +3,7 @@
 ghost use Rattle.std.specs.Prelude.{◌≡◌, IfErr, IfOk, None, Some};
 ghost use Rattle.usb_library.specs.Calls.{changes, refusal};
 
-use usb_core::Unaccepted;
+use usb_core::SubmitError;
 use usb_journal::{Naming, Receipt};
 use usb_model::{Entry, Refused, Reply};
 
@@ -42,5 +42,5 @@ pub struct Submitted<L: Naming, G, P> {
     /// For the place where the step stands.
     pub receipt: Receipt<L>,
     /// The transfer's number; or why it was refused, with all that was given.
-    pub number: Result<u64, Unaccepted<G, P>>,
+    pub number: Result<u64, SubmitError<G, P>>,
 }

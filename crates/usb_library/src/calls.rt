@@ -16,12 +16,12 @@ use crate::wakes::{of_event, of_packet};
 use std::alloc::AllocError;
 use std::sync::Wait;
 use usb_device::Device;
-use usb_journal::{Book, Naming, Recorder};
+use usb_journal::{JournaledCore, Naming, Recorder};
 use usb_model::{DeviceNo, EpAddr, Name, Step};
 
 /// The oldest event is handled, for a caller; and whether an order waits then.
 fn delivered<L: Naming, P: Drop, D: Device, J: Recorder>(
-    book: &mut Book<L, P, D, J>,
+    book: &mut JournaledCore<L, P, D, J>,
     caller: &mut Caller<L>,
 ) -> Result<(Answered<L>, bool), AllocError>
     ensures made { IfOk result (λ x. Makes L.setup Deliver caller.old caller.new x.0.receipt) }

@@ -17,7 +17,7 @@ use crossbeam_utils::Backoff;
 use std::alloc::{AllocError, Global};
 use std::sync::{Mutex, MutexGuard, Wait};
 use usb_device::Device;
-use usb_journal::{Book, Naming, Receipt, Recorder};
+use usb_journal::{JournaledCore, Naming, Receipt, Recorder};
 use usb_model::{Refused, Step};
 
 /// How often a call that found the lock taken looks whether it is free, before it sleeps: by pauses that double up to 64, for some five
@@ -28,7 +28,7 @@ const LOOKS: u32 = 32;
 #[derive(Drop)]
 pub struct Guarded<L: Naming, P, D: Device, J: Recorder> {
     /// The core with its journal.
-    pub(crate) book: Book<L, P, D, J>,
+    pub(crate) book: JournaledCore<L, P, D, J>,
     /// How many callers were made.
     pub(crate) callers: Callers<L>,
     /// Where the next packet is looked for.
@@ -67,7 +67,7 @@ impl<L: Naming, P: Drop, D: Device, J: Recorder> Library<L, P, D, J> {
             setup,
         } = opening;
         let (total, spare) = blank.open::<L>();
-        let book = Book::new(alloc, setup, log, keeper, total)?;
+        let book = JournaledCore::new(alloc, setup, log, keeper, total)?;
         Ok(Library {
             guarded: Mutex::new(Guarded {
                 book,

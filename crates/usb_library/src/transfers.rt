@@ -15,7 +15,7 @@ use std::alloc::AllocError;
 use std::sync::Wait;
 use usb_core::Taken;
 use usb_device::Device;
-use usb_journal::{Naming, NotRecorded, Receipt, Recorder};
+use usb_journal::{Naming, RecordError, Receipt, Recorder};
 use usb_model::{Bytes, Name, Request};
 
 impl<L: Naming, P: Drop, D: Device, J: Recorder> Library<L, P, D, J> {
@@ -30,7 +30,7 @@ impl<L: Naming, P: Drop, D: Device, J: Recorder> Library<L, P, D, J> {
         h: Name,
         request: Request,
         callback: P,
-    ) -> Result<Submitted<L, Request, P>, NotRecorded<Request, P>>
+    ) -> Result<Submitted<L, Request, P>, RecordError<Request, P>>
         ensures made { IfOk result (λ x. Makes L.setup (Submit h request) caller.old caller.new x.receipt) }
         ensures entry { IfOk result (λ x. x.receipt.entry.entry ≡ answer_entry h x.number) }
         ensures back { IfOk result (λ x. IfErr x.number (λ y. (y.given ≡ request) × (y.payload ≡ callback))) }
@@ -95,7 +95,7 @@ impl<L: Naming, P: Drop, D: Device, J: Recorder> Library<L, P, D, J> {
         h: Name,
         n: u64,
         callback: P,
-    ) -> Result<Submitted<L, (), P>, NotRecorded<(), P>>
+    ) -> Result<Submitted<L, (), P>, RecordError<(), P>>
         ensures made { IfOk result (λ x. Makes L.setup (Answer h n Again) caller.old caller.new x.receipt) }
         ensures entry { IfOk result (λ x. x.receipt.entry.entry ≡ answer_entry h x.number) }
         ensures back { IfOk result (λ x. IfErr x.number (λ y. y.payload ≡ callback)) }
@@ -120,7 +120,7 @@ impl<L: Naming, P: Drop, D: Device, J: Recorder> Library<L, P, D, J> {
         n: u64,
         bytes: Bytes,
         callback: P,
-    ) -> Result<Submitted<L, Bytes, P>, NotRecorded<Bytes, P>>
+    ) -> Result<Submitted<L, Bytes, P>, RecordError<Bytes, P>>
         ensures made { IfOk result (λ x. Makes L.setup (Answer h n (AgainWith bytes)) caller.old caller.new x.receipt) }
         ensures entry { IfOk result (λ x. x.receipt.entry.entry ≡ answer_entry h x.number) }
         ensures back { IfOk result (λ x. IfErr x.number (λ y. (y.given ≡ bytes) × (y.payload ≡ callback))) }

@@ -41,7 +41,7 @@ use Rattle.refine_world.specs.Kept.{outcome_now}
 use Rattle.refine_world.specs.Lively.{IsSized}
 use Rattle.refine_world.proofs.Links.{known}
 use Rattle.refine_world.proofs.Packets.{NextIs, next_is}
-use Rattle.refine_world.proofs.Tells.{first_open}
+use Rattle.refine_world.proofs.PauseEvents.{first_open}
 use Rattle.refine_world.specs.Living.{GoesOn, More, is_empty, is_running, is_wanting, with_more, world_with}
 use Rattle.refine_world.proofs.Effects.{size_same}
 use Rattle.refine_world.proofs.Worlds.{holder_same}

@@ -25,7 +25,7 @@ use Rattle.proof_model.proofs.Handles.Isolation.{effect_to, blocked_turn, turn_b
 use Rattle.usb_plans.specs.Holders.{HasInterface, AnotherHolds, IsHeldByAnother}
 use Rattle.usb_plans.specs.Laws.{TellsOfAnother, ChangesNothingForAnother}
 use Rattle.usb_plans.proofs.Endpoints.{all_quiet, quiet_all}
-use Rattle.usb_plans.proofs.Gentle.{gentle_else}
+use Rattle.usb_plans.proofs.UnblockedSteps.{gentle_else}
 
 -- where an interface of the device passes a test, the device has one that does
 some_interface : (setup : Setup) (dev : ℕ) (test : ℕ → Bool) → list_any test (interfaces_of setup dev) ≡ true → (i : ℕ) × HasInterface setup dev i × (test i ≡ true)

@@ -2,7 +2,7 @@ mod Calls
 mod Given
 mod Order
 mod Runs
-mod Gentle
+mod UnblockedSteps
 mod Verdicts
 mod Expansion
 pub mod Plans

@@ -37,7 +37,7 @@ use Rattle.proof_model.proofs.Machines.Done.{is_done}
 use Rattle.proof_model.proofs.Places.Placed.{IsPlaced}
 use Rattle.proof_model.proofs.Places.Runs.{IsKept, kept_at}
 use Rattle.usb_plans.specs.Returns.{AnswerEnds, IsReached, KeepsCallbacks, SameCallbacks, TakeCalls, callback_at, ends_callback, is_answer, is_of_callback}
-use Rattle.usb_plans.proofs.Gentle.{gentle_else}
+use Rattle.usb_plans.proofs.UnblockedSteps.{gentle_else}
 use Rattle.usb_plans.proofs.Verdicts.{answer_others, answer_own}
 
 -- what a step leaves of the callbacks of its machine

@@ -6,7 +6,7 @@ use Rattle.usb_model.specs.declared.verdict.Verdict.{Verdict}
 use Rattle.usb_model.specs.Setup.{Setup}
 use Rattle.usb_model.specs.World.{World, machine_of, turn}
 use Rattle.proof_model.proofs.Handles.Isolation.{IsOwnTurn, IsNothing, IsEither, turn_free, free_own, turn_to}
-use Rattle.usb_plans.proofs.Gentle.{gentle_else}
+use Rattle.usb_plans.proofs.UnblockedSteps.{gentle_else}
 
 -- it is its handle's own
 pub answer_own : (setup : Setup) (h : ℕ) (w : World) (n : ℕ) (v : Verdict) → IsOwnTurn setup h w (Answer h n v) (turn setup w (Answer h n v))

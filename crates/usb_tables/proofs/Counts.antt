@@ -10,7 +10,7 @@ use Rattle.std.proofs.lemmas.List.{get_or-set_same, get_or-set_other}
 use Rattle.std.proofs.lemmas.Map.Entries.{sum_by_puts_entry, sum_by_values_permutation, sum_by-remove_entry}
 use Rattle.usb_model.specs.declared.result.InCallback.{InCallback}
 use Rattle.usb_model.specs.Setup.{endpoint_id, is_in}
-use Rattle.usb_tables.specs.Caller.{AreCounted, is_of, running_of}
+use Rattle.usb_tables.specs.HandleState.{AreCounted, is_of, running_of}
 
 -- how much a transfer counts at an endpoint id
 abbrev pub weight : ℕ → InCallback → ℕ

@@ -1,7 +1,7 @@
 -- Names of which nothing is kept.
 use Rattle.std.proofs.Common.{◌≡◌, ℕ, List, [], ◌∷◌, ◌++◌, None, zero, suc}
-use Rattle.usb_tables.specs.Caller.{Kept, callback_in, results_in, callbacks_in}
-use Rattle.usb_tables.specs.Callers.{kept_of}
+use Rattle.usb_tables.specs.HandleState.{Kept, callback_in, results_in, callbacks_in}
+use Rattle.usb_tables.specs.HandleStates.{kept_of}
 
 -- nothing is kept of a name that can be looked up
 pub record IsBlank (c : Kept) : Type 0 where

@@ -4,8 +4,8 @@ use Rattle.std.specs.Prelude.{nat_eq, slice_index_or, if◌then◌else◌}
 use Rattle.std.specs.Map.{lookup}
 use Rattle.std.proofs.lemmas.Bool.{eq-eqb}
 use Rattle.usb_model.specs.declared.result.InCallback.{InCallback}
-use Rattle.usb_tables.specs.Caller.{Kept}
-use Rattle.usb_tables.specs.Callers.{IsOut, kept_of}
+use Rattle.usb_tables.specs.HandleState.{Kept}
+use Rattle.usb_tables.specs.HandleStates.{IsOut, kept_of}
 
 -- what is kept of the name of a place
 there : (v : List Kept) (i : ℕ) (c : Kept) → i < length v → c ≡ slice_index_or v i c → kept_of v i ≡ c

@@ -4,7 +4,7 @@ use Rattle.std.proofs.lemmas.List.{set-set, set-get_or, get_or-set_same, get_or-
 use Rattle.usb_tables.specs.Store.{Slots, count, transfer_at, Updates, with_transfer}
 use Rattle.usb_tables.specs.declared.ending.Waiting.{Waiting}
 use Rattle.usb_tables.specs.ByEndpoint.{lane_at}
-use Rattle.usb_tables.specs.Flights.{Flights, blanked_at, keys_at, left_at, line_at, item_at, with_item, with_keys, with_last}
+use Rattle.usb_tables.specs.TransfersInFlight.{TransfersInFlight, blanked_at, keys_at, left_at, line_at, item_at, with_item, with_keys, with_last}
 use Rattle.usb_tables.specs.Places.{Stands, seen, seen_line, seen_lines, seen_ended, seen_flights, lines_weight, ended_weight, one_at}
 use Rattle.usb_tables.proofs.Kept.{KeptBut, lines-kept, ended-kept}
 use Rattle.usb_tables.proofs.Seen.{line-length, line-at, line-append, line-put, line-rest, lines-at, lines-put, lines-empty, ended-append, ended-none}
@@ -96,17 +96,17 @@ take-shown s r lanes waits w stands updates =
     (lines-kept s r w.key updates.others lanes (omega arith), ended-kept s r w.key updates.others waits (omega arith))
 
 -- where there is no key there is no transfer
-pub none-shown : {T : Type 0} (s : Slots T) (lanes : List (List (Option ℕ))) (waits : List Waiting) (v : Flights T) (d e i : ℕ) → seen_flights s lanes waits ≡ v
+pub none-shown : {T : Type 0} (s : Slots T) (lanes : List (List (Option ℕ))) (waits : List Waiting) (v : TransfersInFlight T) (d e i : ℕ) → seen_flights s lanes waits ≡ v
     → slice_index_or (keys_at lanes d e) i None ≡ None → item_at v d e i ≡ None
 none-shown s lanes waits v d e i is none = ap (λ w. item_at w d e i) (sym is) ∙ item-shown s lanes waits d e i ∙ ap (seen s) none
 
 -- the transfer with an item's key is the item
-pub live-shown : {T : Type 0} (s : Slots T) (lanes : List (List (Option ℕ))) (waits : List Waiting) (v : Flights T) (d e i key : ℕ) → seen_flights s lanes waits ≡ v
+pub live-shown : {T : Type 0} (s : Slots T) (lanes : List (List (Option ℕ))) (waits : List Waiting) (v : TransfersInFlight T) (d e i key : ℕ) → seen_flights s lanes waits ≡ v
     → slice_index_or (keys_at lanes d e) i None ≡ Some key → item_at v d e i ≡ transfer_at s key
 live-shown s lanes waits v d e i key is at = ap (λ w. item_at w d e i) (sym is) ∙ item-shown s lanes waits d e i ∙ ap (seen s) at
 
 -- a transfer changes in the store, and so where it stands
-pub put-shown : {T : Type 0} (s : Slots T) (lanes : List (List (Option ℕ))) (waits : List Waiting) (v : Flights T) (d e i key : ℕ) → seen_flights s lanes waits ≡ v
+pub put-shown : {T : Type 0} (s : Slots T) (lanes : List (List (Option ℕ))) (waits : List Waiting) (v : TransfersInFlight T) (d e i key : ℕ) → seen_flights s lanes waits ≡ v
     → Stands s lanes waits → lane_at d e < length lanes → slice_index_or (keys_at lanes d e) i None ≡ Some key → (was now : T) → transfer_at s key ≡ Some was
     → seen_flights (with_transfer s key now) lanes waits ≡ with_item v d e i (Some now)
 put-shown s lanes waits v d e i key is stands within at was now live =
@@ -116,7 +116,7 @@ put-shown s lanes waits v d e i key is stands within at was now live =
     ∙ ap (λ w. with_item w d e i (Some now)) is
 
 -- and the same where the change is of what the transfer was
-pub change-shown : {T : Type 0} (s : Slots T) (lanes : List (List (Option ℕ))) (waits : List Waiting) (v : Flights T) (d e i key : ℕ) → seen_flights s lanes waits ≡ v
+pub change-shown : {T : Type 0} (s : Slots T) (lanes : List (List (Option ℕ))) (waits : List Waiting) (v : TransfersInFlight T) (d e i key : ℕ) → seen_flights s lanes waits ≡ v
     → Stands s lanes waits → lane_at d e < length lanes → slice_index_or (keys_at lanes d e) i None ≡ Some key → (f : T → T) (was t : T) → transfer_at s key ≡ Some was → item_at v d e i ≡ Some t
     → seen_flights (with_transfer s key (f was)) lanes waits ≡ with_item v d e i (Some (f t))
 change-shown s lanes waits v d e i key is stands within at f was t live there =
@@ -147,7 +147,7 @@ lent-stands {T} s lanes waits d e i key stands within at now = by_case (transfer
     by_case None none = absurd (key-live s lanes waits stands d e within i key at none)
     by_case (Some was) live = written-stands s lanes waits stands key was now live
 
-pub lent-shown : {T : Type 0} (s : Slots T) (lanes : List (List (Option ℕ))) (waits : List Waiting) (v : Flights T) (d e i key : ℕ) → seen_flights s lanes waits ≡ v
+pub lent-shown : {T : Type 0} (s : Slots T) (lanes : List (List (Option ℕ))) (waits : List Waiting) (v : TransfersInFlight T) (d e i key : ℕ) → seen_flights s lanes waits ≡ v
     → Stands s lanes waits → lane_at d e < length lanes → slice_index_or (keys_at lanes d e) i None ≡ Some key → (now : T)
     → seen_flights (with_transfer s key now) lanes waits ≡ with_item v d e i (Some now)
 lent-shown {T} s lanes waits v d e i key is stands within at now = by_case (transfer_at s key) refl

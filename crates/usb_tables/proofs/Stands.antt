@@ -7,7 +7,7 @@ use Rattle.std.proofs.lemmas.List.Sums.{sum_by-cons}
 use Rattle.usb_tables.specs.Store.{Slots, count, transfer_at, Updates, with_transfer}
 use Rattle.usb_tables.specs.declared.ending.Waiting.{Waiting}
 use Rattle.usb_tables.specs.ByEndpoint.{lane_at}
-use Rattle.usb_tables.specs.Flights.{keys_at, with_keys}
+use Rattle.usb_tables.specs.TransfersInFlight.{keys_at, with_keys}
 use Rattle.usb_tables.specs.Places.{Stands, lines_weight, ended_weight, one_at, one_each, seen, seen_ended}
 use Rattle.usb_tables.proofs.Kept.{one-same}
 use Rattle.usb_tables.proofs.Seen.{ended-at}

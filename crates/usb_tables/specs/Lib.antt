@@ -11,11 +11,11 @@ pub mod Trbs
 pub mod Store
 pub mod LendsTransfer
 pub mod Vectors
-pub mod Caller
-pub mod Callers
+pub mod HandleState
+pub mod HandleStates
 pub mod ByEndpoint
 pub mod LendsValue
 pub mod Outstanding
-pub mod Flights
+pub mod TransfersInFlight
 pub mod Places
 pub mod Lends

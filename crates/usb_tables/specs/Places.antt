@@ -2,7 +2,7 @@
 use Rattle.std.specs.Prelude.{◌≡◌, ℕ, ◌+◌, ◌==◌, List, [], ◌∷◌, Option, Some, None, is_some, if◌then◌else◌}
 use Rattle.usb_tables.specs.Store.{Slots, count, transfer_at}
 use Rattle.usb_tables.specs.declared.ending.Waiting.{Waiting}
-use Rattle.usb_tables.specs.Flights.{EndedOf, Flights}
+use Rattle.usb_tables.specs.TransfersInFlight.{EndedOf, TransfersInFlight}
 
 module _ {T : Type 0} where
   -- the transfer with a line's key; none where the line has a blank
@@ -31,7 +31,7 @@ module _ {T : Type 0} where
   seen_ended s (w ∷ ws) = joins (transfer_at s w.key) w (seen_ended s ws)
 
   -- what a caller sees
-  abbrev pub seen_flights : Slots T → List (List (Option ℕ)) → List Waiting → Flights T
+  abbrev pub seen_flights : Slots T → List (List (Option ℕ)) → List Waiting → TransfersInFlight T
   seen_flights s lanes waits = record { lines = seen_lines s lanes; keys = lanes; ended = seen_ended s waits; next_key = s.vacant_key }
 
 -- what an item counts, where each key counts so much

@@ -3,7 +3,7 @@
 ghost use Rattle.std.specs.Prelude.{◌≡◌, ◌↔◌, ℕ, [], IsTrue, ◌+◌, ◌-◌, ◌<◌, ◌≤◌, ◌==◌, None, Some, OnOk, option_copied, if◌then◌else◌};
 ghost use Rattle.usb_model.specs.Limits.{last_number};
 ghost use Rattle.usb_model.specs.Setup.{endpoint_id};
-ghost use Rattle.usb_tables.specs.Caller.{callback_in, callbacks_in, results_in, is_of, is_one_of};
+ghost use Rattle.usb_tables.specs.HandleState.{callback_in, callbacks_in, results_in, is_of, is_one_of};
 
 use std::alloc::{AllocError, Global};
 use std::collections::HashMap;
@@ -13,16 +13,16 @@ use usb_model::{EpAddr, InCallback};
 /// The number of a name's next transfer, its transfers that are in their callbacks, by number, and by endpoint id (0 to 31)
 /// how many of its results wait and how many of its transfers are in callbacks. Contracts see the record of these.
 #[derive(Drop)]
-pub struct Caller {
+pub struct HandleState {
     next_number: u64,
     results: [usize; 32],
     callbacks: [usize; 32],
     running: HashMap<u64, InCallback>,
 }
 
-impl Model for Caller {
+impl Model for HandleState {
     ghost use Rattle.std.specs.HashMap.{spare};
-    ghost use Rattle.usb_tables.specs.Caller.{AreCounted, Kept};
+    ghost use Rattle.usb_tables.specs.HandleState.{AreCounted, Kept};
 
     ghost Value = { Kept };
 
@@ -45,15 +45,15 @@ fn id_of(x: &InCallback) -> usize
     usize::from(x.request.ep.id())
 }
 
-impl Caller {
+impl HandleState {
     /// The first transfer has number 0; none is in its callback, and no result waits. Takes no memory.
-    pub fn new(alloc: Global) -> Caller
+    pub fn new(alloc: Global) -> HandleState
         ensures number { result.next_number ≡ 0 }
         ensures results { (id : ℕ) → results_in result id ≡ 0 }
         ensures callbacks { (n : ℕ) → callback_in result n ≡ None }
         ensures counts { (id : ℕ) → callbacks_in result id ≡ 0 }
     {
-        Caller {
+        HandleState {
             next_number: 0,
             results: [0; 32],
             callbacks: [0; 32],

@@ -3,10 +3,10 @@
 ghost use Rattle.std.specs.Prelude.{◌≡◌, true, false, ℕ, ◌+◌, ◌-◌, ◌<◌, ◌≤◌, ◌==◌, ◌&&◌, None, Some, IfOk, OnOk, option_copied, if◌then◌else◌};
 ghost use Rattle.usb_model.specs.Limits.{last_number};
 ghost use Rattle.usb_model.specs.Setup.{endpoint_id};
-ghost use Rattle.usb_tables.specs.Caller.{is_one_of};
-ghost use Rattle.usb_tables.specs.Callers.{number_of, callback_at, results_at, callbacks_at, room_of, has_room, IsOut, is_there, SameNumbers, SameCallbacks, SameResults, SameCounts, SameRooms};
+ghost use Rattle.usb_tables.specs.HandleState.{is_one_of};
+ghost use Rattle.usb_tables.specs.HandleStates.{number_of, callback_at, results_at, callbacks_at, room_of, has_room, IsOut, is_there, SameNumbers, SameCallbacks, SameResults, SameCounts, SameRooms};
 
-use crate::caller::Caller;
+use crate::caller::HandleState;
 use std::alloc::{AllocError, Global};
 use std::marker::Model;
 use usb_model::{EpAddr, InCallback, Name};
@@ -15,13 +15,13 @@ use usb_model::{EpAddr, InCallback, Name};
 /// of its endpoints, by id, how many results wait and how many transfers are in callbacks. Contracts see what each look-up
 /// answers.
 #[derive(Drop)]
-pub struct Callers {
-    callers: Vec<Caller>,
+pub struct HandleStates {
+    callers: Vec<HandleState>,
 }
 
-impl Model for Callers {
+impl Model for HandleStates {
     ghost use Rattle.std.specs.Prelude.{◌≡◌, List, length};
-    ghost use Rattle.usb_tables.specs.Caller.{Kept};
+    ghost use Rattle.usb_tables.specs.HandleState.{Kept};
 
     ghost Value = { List Kept };
 
@@ -30,9 +30,9 @@ impl Model for Callers {
     ghost invariant = { λ t. length t.callers.items ≡ 64 };
 }
 
-impl Callers {
+impl HandleStates {
     /// Each name's first transfer has number 0; none is in its callback, and no result waits.
-    pub fn new(alloc: Global) -> Result<Callers, AllocError>
+    pub fn new(alloc: Global) -> Result<HandleStates, AllocError>
         ensures numbers { IfOk result (λ t. (h : ℕ) → number_of t h ≡ 0) }
         ensures callbacks { IfOk result (λ t. (h n : ℕ) → callback_at t h n ≡ None) }
         ensures results { IfOk result (λ t. (h id : ℕ) → results_at t h id ≡ 0) }
@@ -40,9 +40,9 @@ impl Callers {
     {
         let mut callers = Vec::with_capacity(alloc, 64)?;
         for _ in 0..64_usize {
-            callers.push(Caller::new(alloc))?;
+            callers.push(HandleState::new(alloc))?;
         }
-        Ok(Callers { callers })
+        Ok(HandleStates { callers })
     }
 
     /// The number of a name's next transfer.

@@ -6,10 +6,10 @@ ghost use Rattle.std.specs.List.{prefix_len};
 ghost use Rattle.std.specs.Option.{option_copied_mut};
 ghost use Rattle.std.specs.VecDeque.{deque_capacity};
 ghost use Rattle.usb_tables.specs.Store.{count};
-ghost use Rattle.usb_tables.specs.Flights.{blanked_at, ended_of, is_number, item_at, left_at, line_at, mark_in, with_item, with_last};
+ghost use Rattle.usb_tables.specs.TransfersInFlight.{blanked_at, ended_of, is_number, item_at, left_at, line_at, mark_in, with_item, with_last};
 
 use crate::ending::{Ended, Ending, Waiting};
-use crate::lanes::Lanes;
+use crate::lanes::EndpointQueues;
 use crate::line::MOST;
 use crate::{Mark, Store, Transfer};
 use arrayvec::ArrayVec;
@@ -21,18 +21,18 @@ use usb_model::{Ask, DeviceNo, EpAddr};
 /// The transfers in flight at the endpoints of at most 4 devices, in lines of at most 16 items, and those that ended and
 /// wait to be taken. An item is a transfer, or a blank where its transfer was withdrawn. Contracts see a record of these.
 #[derive(Drop)]
-pub struct Flights<P> {
-    lanes: Lanes,
+pub struct TransfersInFlight<P> {
+    lanes: EndpointQueues,
     ended: VecDeque<Waiting>,
     store: Store<P>,
 }
 
-impl<P> Model for Flights<P> {
+impl<P> Model for TransfersInFlight<P> {
     ghost use Rattle.std.specs.Prelude.{◌≤◌};
     ghost use Rattle.std.specs.VecDeque.{deque_capacity};
     ghost use Rattle.usb_tables.specs.Store.{count};
     ghost use Rattle.usb_tables.specs.declared.transfer.Transfer.{Transfer as InFlight};
-    ghost use Rattle.usb_tables.specs.Flights.{Flights as View};
+    ghost use Rattle.usb_tables.specs.TransfersInFlight.{TransfersInFlight as View};
     ghost use Rattle.usb_tables.specs.Places.{Stands, seen_flights};
 
     ghost Value = { View (InFlight P) };
@@ -42,16 +42,16 @@ impl<P> Model for Flights<P> {
     ghost invariant = { λ f. Stands f.store f.lanes f.ended.items × (count f.store ≤ deque_capacity f.ended) };
 }
 
-impl<P> Flights<P> {
+impl<P> TransfersInFlight<P> {
     ghost use Rattle.usb_tables.specs.Lends.{lends_item};
     ghost use Rattle.usb_tables.specs.declared.transfer.Transfer.{Transfer as InFlight};
 
     /// No item at any endpoint, and no transfer that ended. The first transfer has key 0.
-    pub fn new(alloc: Global) -> Result<Flights<P>, AllocError>
+    pub fn new(alloc: Global) -> Result<TransfersInFlight<P>, AllocError>
         ensures { IfOk result (λ f. f ≡ record { lines = replicate 128 []; keys = replicate 128 []; ended = []; next_key = 0 }) }
     {
-        Ok(Flights {
-            lanes: Lanes::new(alloc)?,
+        Ok(TransfersInFlight {
+            lanes: EndpointQueues::new(alloc)?,
             ended: VecDeque::new(alloc),
             store: Store::new(alloc),
         })

@@ -2,7 +2,7 @@
 
 ghost use Rattle.std.specs.Prelude.{◌≡◌, ◌<◌, ◌≤◌, ◌++◌, ◌∷◌, [], Some, None, IfOk, length, drop, replicate, slice_index_or, slice_set};
 ghost use Rattle.usb_tables.specs.ByEndpoint.{lane_at};
-ghost use Rattle.usb_tables.specs.Flights.{keys_at, with_keys};
+ghost use Rattle.usb_tables.specs.TransfersInFlight.{keys_at, with_keys};
 
 use crate::by_endpoint::{ByEndpoint, ENDPOINTS};
 use crate::line::Line;
@@ -12,11 +12,11 @@ use usb_model::{DeviceNo, EpAddr};
 
 /// The line of each endpoint, by its lane, 0 to 127. Contracts see the list of them.
 #[derive(Drop)]
-pub(crate) struct Lanes {
+pub(crate) struct EndpointQueues {
     lines: ByEndpoint<Line>,
 }
 
-impl Model for Lanes {
+impl Model for EndpointQueues {
     ghost use Rattle.std.specs.Prelude.{ℕ, List, Option};
 
     ghost Value = { List (List (Option ℕ)) };
@@ -24,16 +24,16 @@ impl Model for Lanes {
     ghost view = { λ l. l.lines };
 }
 
-impl Lanes {
+impl EndpointQueues {
     /// No item at any endpoint.
-    pub(crate) fn new(alloc: Global) -> Result<Lanes, AllocError>
+    pub(crate) fn new(alloc: Global) -> Result<EndpointQueues, AllocError>
         ensures { IfOk result (λ l. l ≡ replicate 128 []) }
     {
         let mut lines = Vec::with_capacity(alloc, ENDPOINTS)?;
         for _ in 0..ENDPOINTS {
             lines.push_reserved(Line::new(alloc)?);
         }
-        Ok(Lanes {
+        Ok(EndpointQueues {
             lines: ByEndpoint::of(lines),
         })
     }

@@ -96,7 +96,7 @@
 //!
 //! - `refusal.rt`: `check`, `check_at`: the first refusal of a request, or its TDs
 //! - `tds.rt`, `trbs.rt`: `Tds`: of, length, count, span, trbs; `Trbs`: at most five TRBs in the value itself
-//! - `transfer.rt`: `Transfer`, with room for what it reads; `Unmade`, what it was to be made of
+//! - `transfer.rt`: `Transfer`, with room for what it reads; `MakeTransferError`, what it was to be made of
 //! - `store.rt`: `Store`: insert, get, get_mut, remove, len
 //! - `laws.rt`, specs/Vectors: the TRBs' lengths are those of `usb_model`; three requests worked out
 //! - specs/ Refusal, Tds, Trbs, Store, Lends: the refusals in their order; length, empty packet and direction; the
@@ -129,11 +129,11 @@
 //!
 //! # Files
 //!
-//! - `callers.rt`, `caller.rt`, specs/Callers, Caller: by handle, the number of its next transfer and its transfers that
+//! - `callers.rt`, `caller.rt`, specs/HandleStates, HandleState: by handle, the number of its next transfer and its transfers that
 //!   are in their callbacks; by its endpoints, how many results wait and how many transfers are in callbacks
 //! - `by_endpoint.rt`, specs/ByEndpoint: a value for each endpoint of each device
 //! - `outstanding.rt`, specs/Outstanding: by endpoint, the errand that is outstanding
-//! - `flights.rt`, specs/Flights: the transfers in flight, in the line of their endpoint, and those that ended and wait
+//! - `flights.rt`, specs/TransfersInFlight: the transfers in flight, in the line of their endpoint, and those that ended and wait
 //!   to be taken (libusb 1.0, `libusb_submit_transfer`)
 //! - `lanes.rt`, `line.rt`, specs/Places: by endpoint, the keys of its transfers; each key has one place
 //! - `ending.rt`: what came of a transfer
@@ -144,11 +144,11 @@
 //!   that all others answer as before, for every handle, number and endpoint
 //! - `reserve_callback`: there is room for one more callback, and no look-up changes, with memory or without
 //! - `Outstanding::get`, `set`: the errand that is outstanding at an endpoint is the one that was set last
-//! - `Flights`: contracts see the lines of transfers and blanks, the keys of both, and those that ended. `push`, `end`,
+//! - `TransfersInFlight`: contracts see the lines of transfers and blanks, the keys of both, and those that ended. `push`, `end`,
 //!   `leave`, `ask`, `pause`, `take`: the lines with their keys and the list of the ended, whole, behind the call
-//! - `Flights::ended_at`, `first_ended`: one of those that ended, by its place, and the first
-//! - `Flights::get_mut`: the item is what was last written through the loan, and nothing else changes
-//! - invariant of `Flights`: each key of the store stands at exactly one place, and no other does; there is room for
+//! - `TransfersInFlight::ended_at`, `first_ended`: one of those that ended, by its place, and the first
+//! - `TransfersInFlight::get_mut`: the item is what was last written through the loan, and nothing else changes
+//! - invariant of `TransfersInFlight`: each key of the store stands at exactly one place, and no other does; there is room for
 //!   each transfer to end
 //!
 //! It doesn't say: which lines there may be, nor when a transfer ends.
@@ -181,12 +181,12 @@ mod transfer;
 pub mod transfer_laws;
 mod trbs;
 
-pub use callers::Callers;
+pub use callers::HandleStates;
 pub use claims::Claims;
 pub use ended::{Mark, Settlement, settle};
 pub use ending::{Ended, Ending};
 pub use event::read_event;
-pub use flights::Flights;
+pub use flights::TransfersInFlight;
 pub use held::HeldEndpoint;
 pub use order::{ask, next_order};
 pub use outstanding::{Outstanding, Sent};
@@ -196,5 +196,5 @@ pub use status::result;
 pub use store::Store;
 pub use target::{Reading, Target};
 pub use tds::{Span, Tds};
-pub use transfer::{Transfer, Unmade};
+pub use transfer::{Transfer, MakeTransferError};
 pub use trbs::Trbs;

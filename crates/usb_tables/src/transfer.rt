@@ -29,7 +29,7 @@ pub struct Transfer<P> {
 
 /// What a transfer was to be made of, where memory was refused.
 #[derive(Drop)]
-pub struct Unmade<P> {
+pub struct MakeTransferError<P> {
     /// What was asked.
     pub request: Request,
     /// What the caller keeps with it.
@@ -38,7 +38,7 @@ pub struct Unmade<P> {
 
 impl<P> Transfer<P> {
     /// A transfer as it is accepted: not asked to end, no bytes moved, with room for those that it is to read: `memory`, where that
-    /// has room for just these, and is then left without. None is taken for OUT. Unmade, with what was given, where memory is refused.
+    /// has room for just these, and is then left without. None is taken for OUT. MakeTransferError, with what was given, where memory is refused.
     pub fn new(
         alloc: Global,
         name: Name,
@@ -47,7 +47,7 @@ impl<P> Transfer<P> {
         round: u64,
         payload: P,
         memory: &mut Buffer,
-    ) -> Result<Transfer<P>, Unmade<P>>
+    ) -> Result<Transfer<P>, MakeTransferError<P>>
         ensures made { IfOk result (λ t. t ≡ record { n = n; round = round; request = request; bytes = t.bytes; payload = payload; moved = 0; ask = None; name = name }) }
         ensures empty { IfOk result (λ t. t.bytes.items ≡ []) }
         ensures room { IfOk result (λ t. t.bytes.capacity ≡ room_of request.body) }
@@ -68,7 +68,7 @@ impl<P> Transfer<P> {
                 ask: None,
                 name,
             }),
-            Err(_) => Err(Unmade { request, payload }),
+            Err(_) => Err(MakeTransferError { request, payload }),
         }
     }
 }

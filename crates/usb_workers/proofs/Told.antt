@@ -9,7 +9,7 @@ use Rattle.usb_model.specs.declared.verdict.Verdict.{Verdict}
 use Rattle.usb_model.specs.declared.verdict.Verdict.TheVariants.{Stop}
 use Rattle.usb_model.specs.Numbers.{is_stop}
 use Rattle.usb_model.specs.Setup.{Setup}
-use Rattle.usb_core.specs.Public.{Taken, Unaccepted, called_entry, does_something}
+use Rattle.usb_core.specs.Public.{Taken, SubmitError, called_entry, does_something}
 use Rattle.usb_journal.specs.declared.rows.Outgoing.{Outgoing}
 use Rattle.usb_journal.specs.declared.rows.Row.{Row}
 use Rattle.usb_journal.specs.Booked.{answer_entry, world_where}
@@ -35,7 +35,7 @@ module _ (setup : Setup) where
   does_either step old new (Ok a) receipt m e = R.Does.made (receipt a) m
   does_either step old new (Err x) receipt m e = R.Does.missed e
 
-  accepted_is : {G P : Type 0} (h : ℕ) (x : Result ℕ (Unaccepted G P)) (r : Receipted) → r.entry.entry ≡ answer_entry h x → (left : Bool) → left ≡ is_err x → (left ≡ false → is_accepted r.entry.entry.reply ≡ true) × (left ≡ true → is_accepted r.entry.entry.reply ≡ false)
+  accepted_is : {G P : Type 0} (h : ℕ) (x : Result ℕ (SubmitError G P)) (r : Receipted) → r.entry.entry ≡ answer_entry h x → (left : Bool) → left ≡ is_err x → (left ≡ false → is_accepted r.entry.entry.reply ≡ true) × (left ≡ true → is_accepted r.entry.entry.reply ≡ false)
   accepted_is h (Ok n) r e left l = (λ _. ap (λ (y : Entry). is_accepted y.reply) e, λ t. absurd (cc))
   accepted_is h (Err u) r e left l = (λ f. absurd (cc), λ _. ap (λ (y : Entry). is_accepted y.reply) e)
 
@@ -45,7 +45,7 @@ module _ (setup : Setup) where
   by_left h n v old new r false asks m a = R.Resubmits.accepted asks refl r m (a.0 refl)
 
   -- a resubmission has its place, or memory is refused to it
-  pub resubmits_either : {X E G P : Type 0} (h n : ℕ) (v : Verdict) (old new : Calling) (x : Result X E) (receipt : X → Receipted) (number : X → Result ℕ (Unaccepted G P)) (back : E → Type 0) (left : Bool) → is_stop v ≡ false
+  pub resubmits_either : {X E G P : Type 0} (h n : ℕ) (v : Verdict) (old new : Calling) (x : Result X E) (receipt : X → Receipted) (number : X → Result ℕ (SubmitError G P)) (back : E → Type 0) (left : Bool) → is_stop v ≡ false
       → IfOk x (λ a. Makes setup (Answer h n v) old new (receipt a)) → IfOk x (λ a. (receipt a).entry.entry ≡ answer_entry h (number a)) → IfErr x back → ((e : E) → back e → new ≡ misses old)
       → IfOk x (λ a. left ≡ is_err (number a)) → OnErr x (left ≡ true) → Resubmits setup h n v left old new
   resubmits_either h n v old new (Ok a) receipt number back left asks m entry missed pick known lacked = by_left h n v old new (receipt a) left asks m (accepted_is h (number a) (receipt a) entry left known)

@@ -6,35 +6,35 @@ ghost use Rattle.usb_workers.specs.Rounds.{AreCounted, Ends, Resubmits, Tells};
 
 use crate::tries::Tries;
 use std::sync::Wait;
-use usb_core::{Callback, End, Unaccepted};
+use usb_core::{Callback, End, SubmitError};
 use usb_device::Device;
-use usb_journal::{Naming, NotRecorded, Recorder};
+use usb_journal::{Naming, RecordError, Recorder};
 use usb_library::{Caller, Library, Submitted};
 use usb_model::{Bytes, Name, Verdict};
 
 /// A callback that isn't called again, and how it ended.
 #[derive(Drop)]
-struct Over<C> {
+struct EndedCallback<C> {
     callback: C,
     end: End,
 }
 
 /// What is left of a resubmission: nothing where it was accepted, else its callback, which isn't called again.
 fn left<L: Naming, G: Drop, C: Drop>(
-    made: Result<Submitted<L, G, C>, NotRecorded<G, C>>,
-) -> Option<Over<C>>
+    made: Result<Submitted<L, G, C>, RecordError<G, C>>,
+) -> Option<EndedCallback<C>>
     ensures refused { IfOk made (λ x. is_some result ≡ is_err x.number) }
     ensures lacked { OnErr made (is_some result ≡ true) }
 {
     match made {
         Ok(submitted) => {
-            let Unaccepted { why, payload, .. } = submitted.number.err()?;
-            Some(Over {
+            let SubmitError { why, payload, .. } = submitted.number.err()?;
+            Some(EndedCallback {
                 callback: payload,
                 end: End::Refused(why),
             })
         }
-        Err(back) => Some(Over {
+        Err(back) => Some(EndedCallback {
             callback: back.payload,
             end: End::NoMemory,
         }),
@@ -49,7 +49,7 @@ fn again<L: Naming, C: Callback, D: Device, J: Recorder, R: Wait>(
     h: Name,
     n: u64,
     callback: C,
-) -> Option<Over<C>>
+) -> Option<EndedCallback<C>>
     ensures { Resubmits L.setup h n Again (is_some result) caller.old caller.new }
 {
     left(library.again(rt, caller, h, n, callback))
@@ -64,7 +64,7 @@ fn again_with<L: Naming, C: Callback, D: Device, J: Recorder, R: Wait>(
     n: u64,
     bytes: Bytes,
     callback: C,
-) -> Option<Over<C>>
+) -> Option<EndedCallback<C>>
     ensures { Resubmits L.setup h n (AgainWith bytes) (is_some result) caller.old caller.new }
 {
     left(library.again_with(rt, caller, h, n, bytes, callback))
@@ -79,11 +79,11 @@ fn resubmit<L: Naming, C: Callback, D: Device, J: Recorder, R: Wait>(
     n: u64,
     verdict: Verdict,
     callback: C,
-) -> Option<Over<C>>
+) -> Option<EndedCallback<C>>
     ensures { Resubmits L.setup h n verdict (is_some result) caller.old caller.new }
 {
     match verdict {
-        Verdict::Stop => Some(Over {
+        Verdict::Stop => Some(EndedCallback {
             callback,
             end: End::ByVerdict,
         }),
@@ -149,7 +149,7 @@ pub(crate) fn answer<L: Naming, C: Callback, D: Device, J: Recorder, R: Wait>(
         stop(rt, library, caller, tries, h, n);
         return;
     };
-    if let Some(Over { callback, end }) = resubmit(rt, library, caller, h, n, verdict, callback) {
+    if let Some(EndedCallback { callback, end }) = resubmit(rt, library, caller, h, n, verdict, callback) {
         stop(rt, library, caller, tries, h, n);
         note(library, end);
         callback.ended(end);

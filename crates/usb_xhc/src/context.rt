@@ -46,7 +46,7 @@ impl Model for EndpointContext {
 
 /// Where a transfer stands some bytes on: which TRB from dequeue on, and how many of its bytes moved.
 #[derive(Clone, Copy, PartialEq, Eq, Debug)]
-pub(crate) struct Standing {
+pub(crate) struct TrbPosition {
     pub(crate) at: TrbAt,
     pub(crate) index: usize,
     pub(crate) within: u32,
@@ -135,7 +135,7 @@ impl EndpointContext {
     }
 
     /// Where the transfer stands so many bytes on, which it has left.
-    pub(crate) fn standing(&self, first: &TrbAt, count: u32) -> Standing
+    pub(crate) fn standing(&self, first: &TrbAt, count: u32) -> TrbPosition
         requires some { trb_at self.now 0 ≡ Some first.now }
         requires few { count < 65536 }
         requires left { count ≤ room (trbs self.now) self.now.within }
@@ -154,7 +154,7 @@ impl EndpointContext {
             at = next;
             index += 1;
         }
-        Standing { at, index, within }
+        TrbPosition { at, index, within }
     }
 
     /// How many TRBs the transfer at dequeue has from there on.
@@ -172,7 +172,7 @@ impl EndpointContext {
     }
 
     /// The event of the TRB where the transfer stands.
-    pub(crate) fn event(&self, standing: &Standing, code: u8) -> TrbKind
+    pub(crate) fn event(&self, standing: &TrbPosition, code: u8) -> TrbKind
         requires { trb_at self.now standing.now.index ≡ Some standing.now.at }
         ensures { result ≡ event_by self.now (record { index = standing.now.index; within = standing.now.within }) code }
     {
@@ -186,7 +186,7 @@ impl EndpointContext {
     }
 
     /// So many bytes moved, and the transfer stands there.
-    pub(crate) fn go_on(&mut self, standing: &Standing, count: u32)
+    pub(crate) fn go_on(&mut self, standing: &TrbPosition, count: u32)
         requires at { trb_at self.old standing.now.index ≡ Some standing.now.at }
         requires stands { record { index = standing.now.index; within = standing.now.within } ≡ stand_by self.old count }
         requires few { standing.now.within ≤ 65536 }

@@ -10,7 +10,7 @@ ghost use Rattle.usb_xhc.specs.Context.{trbs, stand_by};
 ghost use Rattle.usb_xhc.specs.Posts.{posted_all, posted_one};
 ghost use Rattle.usb_xhc.specs.Transaction.{trb_at, served, served_gone, ended_by, packet_room, packet_out, offset_by};
 
-use crate::context::{EndpointContext, Standing};
+use crate::context::{EndpointContext, TrbPosition};
 use crate::outcome::{Reach, decide};
 use crate::packet::Packet;
 use crate::trb_at::TrbAt;
@@ -69,7 +69,7 @@ impl EndpointContext {
     }
 
     /// The transfer ended with this code, so many bytes on.
-    fn end(&mut self, first: &TrbAt, standing: &Standing, count: u32, code: u8)
+    fn end(&mut self, first: &TrbAt, standing: &TrbPosition, count: u32, code: u8)
         requires first { trb_at self.old 0 ≡ Some first.now }
         requires at { trb_at self.old standing.now.index ≡ Some standing.now.at }
         requires stands { record { index = standing.now.index; within = standing.now.within } ≡ stand_by self.old count }

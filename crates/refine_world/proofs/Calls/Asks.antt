@@ -29,7 +29,7 @@ use Rattle.refine_world.proofs.Calls.Refusals.{refused_steps, unless_steps}
 use Rattle.refine_world.proofs.Calls.Tables.{with_tables}
 use Rattle.refine_world.proofs.Calls.Tests.{AreSeen, are_seen, seen, unseen}
 use Rattle.refine_world.proofs.CallWorks.{IsCall, ask_steps}
-use Rattle.refine_world.proofs.Seen.{Looked, look_item, look_kept, seen_item}
+use Rattle.refine_world.proofs.CallTests.{Looked, look_item, look_kept, seen_item}
 
 -- where a transfer is in progress, as the name has it and as the core keeps it: nowhere, or at an endpoint that the name holds, with the same ask and request
 data AreHomes (setup : Setup) (w : World) (c : Core) (h dev : ℕ) : Option Home → Option KeptHome → Type 0 where

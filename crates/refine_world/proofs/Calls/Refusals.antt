@@ -26,7 +26,7 @@ use Rattle.refine_world.specs.Shows.{Core, Shows}
 use Rattle.refine_world.specs.Steps.{Stepped, StepsTo}
 use Rattle.refine_world.proofs.CallWorks.{IsCall}
 use Rattle.refine_world.proofs.Links.{all_sound}
-use Rattle.refine_world.proofs.Rests.{blocked_steps, rest_steps}
+use Rattle.refine_world.proofs.StepsWithoutWork.{blocked_steps, rest_steps}
 
 -- a call that only says something leaves the world as it was
 world_stays : (setup : Setup) (h : ℕ) (w : World) (step : Step) (r : Reply) → IsCall step → world_after setup h w step (says (machine_of setup h w) r) ≡ w

@@ -14,7 +14,7 @@ use Rattle.refine_world.specs.Calls.{are_quiet, device_of, is_quiet, kept_at, ow
 use Rattle.refine_world.specs.Shows.{Core, Shows}
 use Rattle.refine_world.proofs.Bounds.{as_long}
 use Rattle.refine_world.proofs.Calls.Tables.{with_tables}
-use Rattle.refine_world.proofs.Seen.{seen_errand}
+use Rattle.refine_world.proofs.CallTests.{seen_errand}
 
 -- an endpoint of a device, as the name has it and as the core keeps it: neither is there, or both are, and the name holds it
 pub data AreSeen (setup : Setup) (w : World) (c : Core) (h dev ep : ℕ) : Option Endpoint → Option KeptEndpoint → Type 0 where

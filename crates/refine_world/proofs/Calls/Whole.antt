@@ -11,8 +11,8 @@ use Rattle.refine_world.proofs.Calls.Openings.{close_steps, open_steps}
 use Rattle.refine_world.proofs.Calls.Submissions.{submit_call_steps}
 use Rattle.refine_world.proofs.Calls.Tables.{by_tables}
 use Rattle.refine_world.proofs.Delivers.{deliver_steps}
-use Rattle.refine_world.proofs.Glue.{command_steps, serve_steps}
-use Rattle.refine_world.proofs.Rests.{unplug_steps}
+use Rattle.refine_world.proofs.WholeSteps.{command_steps, serve_steps}
+use Rattle.refine_world.proofs.StepsWithoutWork.{unplug_steps}
 use Rattle.refine_world.proofs.Takes.{take_steps}
 
 -- each step of a core that shows a world is the world's turn

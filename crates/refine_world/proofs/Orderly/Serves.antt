@@ -21,7 +21,7 @@ use Rattle.usb_model.specs.Endpoint.Serve.{acknowledged, is_stall, next_answer, 
 use Rattle.proof_model.proofs.Shares.Next.{next_there}
 use Rattle.proof_model.proofs.Work.Sound.{first_waits}
 use Rattle.refine_world.specs.Kept.{grown, outcome_now}
-use Rattle.refine_world.proofs.Tells.{first_new, first_open}
+use Rattle.refine_world.proofs.PauseEvents.{first_new, first_open}
 use Rattle.proof_model.proofs.Shares.OpenShares.{halted_outcome, open_at, open_if}
 use Rattle.usb_model.specs.Coherence.{IsCoherent, IsPhase, ended, move_ran, move_waits, reset_ran, reset_waits, runs, served_events, stop_failed, stop_ran, stop_ran_paused, stop_waits, stop_waits_halted}
 use Rattle.std.proofs.lemmas.Option.{same_Some}

@@ -1,5 +1,5 @@
 use Rattle.refine_world.proofs.Commands.{command_shows}
-use Rattle.refine_world.proofs.Tells.{pause_told_if_open}
+use Rattle.refine_world.proofs.PauseEvents.{pause_told_if_open}
 use Rattle.refine_world.proofs.laws.carried.Goals as goal
 
 pub returns : goal.returns

@@ -1,4 +1,4 @@
-use Rattle.refine_world.proofs.Lives.{sound_at}
+use Rattle.refine_world.proofs.EndpointInvariant.{sound_at}
 use Rattle.refine_world.proofs.laws.lively.Goals as goal
 
 pub returns : goal.returns

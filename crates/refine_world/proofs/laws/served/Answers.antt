@@ -1,5 +1,5 @@
 use Rattle.refine_world.proofs.Serves.{serve_shows}
-use Rattle.refine_world.proofs.Tells.{packet_told}
+use Rattle.refine_world.proofs.PauseEvents.{packet_told}
 use Rattle.refine_world.proofs.laws.served.Goals as goal
 
 pub returns : goal.returns

@@ -1,7 +1,7 @@
 use Rattle.refine_world.proofs.Delivers.{deliver_steps}
-use Rattle.refine_world.proofs.Glue.{command_steps, serve_steps}
+use Rattle.refine_world.proofs.WholeSteps.{command_steps, serve_steps}
 use Rattle.refine_world.proofs.NewCore.{new_shows}
-use Rattle.refine_world.proofs.Rests.{unplug_steps}
+use Rattle.refine_world.proofs.StepsWithoutWork.{unplug_steps}
 use Rattle.refine_world.proofs.Takes.{take_steps}
 use Rattle.refine_world.proofs.laws.stepped.Goals as goal
 

@@ -2,7 +2,7 @@
 use Rattle.std.proofs.Common.{◌≡◌, take}
 use Rattle.std.specs.List.{flat_map}
 use Rattle.trace_scenario.specs.Words.{words_of}
-use Rattle.usb_devicetext.specs.Desk.{kept_line}
+use Rattle.usb_devicetext.specs.DeviceText.{kept_line}
 use Rattle.usb_devicetext.proofs.complaint.scenario_in.Given as goal
 
 abbrev pub invariant-loop-line : goal.invariant-loop-line

@@ -4,7 +4,7 @@ use Rattle.std.specs.List.{flat_map, slice_split}
 use Rattle.std.proofs.lemmas.List.{length_push, take_all}
 use Rattle.std.proofs.lemmas.Iterator.Splits.{YieldsList-from_slice_split}
 use Rattle.std.proofs.lemmas.Iterator.Consumers.{YieldsList-turn, YieldsList-end}
-use Rattle.usb_devicetext.specs.Desk.{kept_line}
+use Rattle.usb_devicetext.specs.DeviceText.{kept_line}
 use Rattle.usb_devicetext.proofs.Lists.{one_more}
 use Rattle.usb_devicetext.proofs.desk.as_scenario.Goals as goal
 

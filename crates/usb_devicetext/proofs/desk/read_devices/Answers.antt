@@ -6,7 +6,7 @@ use Rattle.std.proofs.lemmas.Iterator.Consumers.{YieldsList-turn, YieldsList-end
 use Rattle.trace_scenario.specs.TextResults.{AnswersAs, fault_at}
 use Rattle.trace_scenario.proofs.Scenarios.{counted}
 use Rattle.usb_devicetext.specs.declared.device.DeskDevice.{DeskDevice}
-use Rattle.usb_devicetext.specs.Desk.{devices_of, with_text}
+use Rattle.usb_devicetext.specs.DeviceText.{devices_of, with_text}
 use Rattle.usb_devicetext.specs.Lines.{from_lines, lines_in, taken_at}
 use Rattle.usb_devicetext.proofs.Lines.{lines-more, lines-end, faulty}
 use Rattle.usb_devicetext.proofs.desk.read_devices.Goals as goal

@@ -1,6 +1,6 @@
 -- What is left says the rest of the devices.
 use Rattle.std.proofs.Common.{◌≡◌, ◌+◌, length, drop}
-use Rattle.usb_devicetext.specs.Desk.{devices_of, with_text}
+use Rattle.usb_devicetext.specs.DeviceText.{devices_of, with_text}
 use Rattle.usb_devicetext.specs.Lines.{from_lines, lines_in}
 use Rattle.usb_devicetext.proofs.desk.read_devices.Given as goal
 

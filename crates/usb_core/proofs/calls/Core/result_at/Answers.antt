@@ -1,6 +1,6 @@
 use Rattle.std.proofs.Common.{ap, subst, sym, ◌∙◌}
 use Rattle.std.specs.Option.{option_map}
-use Rattle.usb_tables.specs.Flights.{EndedOf}
+use Rattle.usb_tables.specs.TransfersInFlight.{EndedOf}
 use Rattle.usb_tables.specs.declared.transfer.Transfer.{Transfer}
 use Rattle.refine_core.specs.State.{ShowsWorld, State, result_of}
 use Rattle.usb_core.specs.Inventory.{waiting_result}

@@ -4,8 +4,8 @@ use Rattle.usb_model.specs.declared.reply.Reply.TheVariants.{Number}
 use Rattle.usb_model.specs.declared.result.InCallback.{InCallback}
 use Rattle.usb_model.specs.declared.step.Step.TheVariants.{Answer}
 use Rattle.usb_model.specs.declared.verdict.Verdict.TheVariants.{Again}
-use Rattle.usb_tables.specs.Caller.{Kept as Caller}
-use Rattle.usb_tables.specs.Callers.{callback_at}
+use Rattle.usb_tables.specs.HandleState.{Kept as HandleState}
+use Rattle.usb_tables.specs.HandleStates.{callback_at}
 use Rattle.refine_core.specs.Calls.{Stays}
 use Rattle.refine_core.specs.Handles.{says}
 use Rattle.refine_core.specs.State.{IsState, State}
@@ -13,7 +13,7 @@ use Rattle.refine_core.specs.Steps.{DoesCoreStep}
 use Rattle.refine_core.specs.Submissions.{CanStart}
 use Rattle.refine_core.proofs.Again.{again_joins, can_again, number_found, put_back, round_fits}
 use Rattle.refine_core.proofs.Stops.{Ended}
-use Rattle.usb_core.specs.Submissions.{AgainIs}
+use Rattle.usb_core.specs.Submissions.{IsResubmission}
 use Rattle.usb_core.proofs.Callbacks.{admits_again, ended_by, refuses_again}
 use Rattle.usb_core.proofs.Views.{parts}
 use Rattle.usb_core.proofs.Carried.{callers_follow}
@@ -28,7 +28,7 @@ overflow_add-round g c =
     let old : State g.row.P.Denot = parts c.self.inside.claims c.self.inside.controller c.self.inside.flights c.self.inside.callers c.self.inside.outstanding in
     let is : IsState old = subst (λ (s : State g.row.P.Denot). IsState s) (sym c.self.view_is) c.requires in
     let found : callback_at old.callers c.args.h c.args.n ≡ Some c.in-Some.called = sym (c.reserve_callback.ensures.callbacks c.args.h c.args.n) ∙ sym c.remove_callback.ensures.value ∙ c.in-Some.is in
-    let again : AgainIs old c.args.h c.args.n (Ok c.in-Ok.place) = subst (λ (s : State g.row.P.Denot). AgainIs s c.args.h c.args.n (Ok c.in-Ok.place)) (sym c.self.view_is) c.in-Ok.ensures in
+    let again : IsResubmission old c.args.h c.args.n (Ok c.in-Ok.place) = subst (λ (s : State g.row.P.Denot). IsResubmission s c.args.h c.args.n (Ok c.in-Ok.place)) (sym c.self.view_is) c.in-Ok.ensures in
     let can : CanStart old c.args.h c.in-Ok.place.dev c.in-Some.called.request c.in-Ok.place.tds = (admits_again old c.args.h c.args.n c.in-Some.called c.in-Ok.place found again is.0 is.1 is.2.0 is.2.1 is.2.2).can in
     omega (arith, round_fits old c.args.h c.args.n c.in-Some.called is found can.number)
 
@@ -37,7 +37,7 @@ start-requires g c =
     let old : State g.row.P.Denot = parts c.self.inside.claims c.self.inside.controller c.self.inside.flights c.self.inside.callers c.self.inside.outstanding in
     let is : IsState old = subst (λ (s : State g.row.P.Denot). IsState s) (sym c.self.view_is) c.requires in
     let found : callback_at old.callers c.args.h c.args.n ≡ Some c.in-Some.called = sym (c.reserve_callback.ensures.callbacks c.args.h c.args.n) ∙ sym c.remove_callback.ensures.value ∙ c.in-Some.is in
-    let again : AgainIs old c.args.h c.args.n (Ok c.in-Ok.place) = subst (λ (s : State g.row.P.Denot). AgainIs s c.args.h c.args.n (Ok c.in-Ok.place)) (sym c.self.view_is) c.in-Ok.ensures in
+    let again : IsResubmission old c.args.h c.args.n (Ok c.in-Ok.place) = subst (λ (s : State g.row.P.Denot). IsResubmission s c.args.h c.args.n (Ok c.in-Ok.place)) (sym c.self.view_is) c.in-Ok.ensures in
     let can : CanStart old c.args.h c.in-Ok.place.dev c.in-Some.called.request c.in-Ok.place.tds = (admits_again old c.args.h c.args.n c.in-Some.called c.in-Ok.place found again is.0 is.1 is.2.0 is.2.1 is.2.2).can in
     let ended : Ended old.callers c.remove_callback.new.self c.args.h c.args.n = ended_by old.callers c.reserve_callback.new.self c.remove_callback.new.self c.args.h c.args.n c.remove_callback.result
     c.reserve_callback.ensures.numbers c.reserve_callback.ensures.callbacks c.reserve_callback.ensures.results c.reserve_callback.ensures.counts
@@ -48,7 +48,7 @@ pub returns-in-Ok-start-clause-accepted : goal.returns-in-Ok-start-clause-accept
 returns-in-Ok-start-clause-accepted g c =
     let old : State g.row.P.Denot = parts c.self.inside.claims c.self.inside.controller c.self.inside.flights c.self.inside.callers c.self.inside.outstanding in
     let found : callback_at old.callers c.args.h c.args.n ≡ Some c.in-Some.called = sym (c.reserve_callback.ensures.callbacks c.args.h c.args.n) ∙ sym c.remove_callback.ensures.value ∙ c.in-Some.is in
-    let again : AgainIs old c.args.h c.args.n (Ok c.in-Ok.place) = subst (λ (s : State g.row.P.Denot). AgainIs s c.args.h c.args.n (Ok c.in-Ok.place)) (sym c.self.view_is) c.in-Ok.ensures in
+    let again : IsResubmission old c.args.h c.args.n (Ok c.in-Ok.place) = subst (λ (s : State g.row.P.Denot). IsResubmission s c.args.h c.args.n (Ok c.in-Ok.place)) (sym c.self.view_is) c.in-Ok.ensures in
     let ended : Ended old.callers c.remove_callback.new.self c.args.h c.args.n = ended_by old.callers c.reserve_callback.new.self c.remove_callback.new.self c.args.h c.args.n c.remove_callback.result
     c.reserve_callback.ensures.numbers c.reserve_callback.ensures.callbacks c.reserve_callback.ensures.results c.reserve_callback.ensures.counts
     c.remove_callback.ensures.value c.remove_callback.ensures.callbacks c.remove_callback.ensures.counts c.remove_callback.ensures.numbers c.remove_callback.ensures.results in
@@ -71,7 +71,7 @@ returns-in-Err-start-clause-kept g c =
     c.reserve_callback.ensures.numbers c.reserve_callback.ensures.callbacks c.reserve_callback.ensures.results c.reserve_callback.ensures.counts
     c.remove_callback.ensures.value c.remove_callback.ensures.callbacks c.remove_callback.ensures.counts c.remove_callback.ensures.numbers c.remove_callback.ensures.results in
     let kept : Stays old (record old { callers = c.put_callback.new.self }) = put_back old again.callers c.put_callback.new.self c.args.h c.args.n put refl (found ∙ ap (λ (x : InCallback). Some x) was)
-    (subst (λ (l : List Caller). Ended old.callers l c.args.h c.args.n) (sym (ap (λ (s : State g.row.P.Denot). s.callers) same)) ended)
+    (subst (λ (l : List HandleState). Ended old.callers l c.args.h c.args.n) (sym (ap (λ (s : State g.row.P.Denot). s.callers) same)) ended)
     c.put_callback.ensures.callbacks c.put_callback.ensures.counts c.put_callback.ensures.numbers c.put_callback.ensures.results in
     subst (λ (s : State g.row.P.Denot). Stays c.args.self.now (record s { callers = c.put_callback.new.self })) (sym same)
     (subst (λ (s : State g.row.P.Denot). Stays s (record old { callers = c.put_callback.new.self })) c.self.view_is kept)

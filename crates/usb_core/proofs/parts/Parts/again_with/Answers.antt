@@ -4,8 +4,8 @@ use Rattle.usb_model.specs.declared.reply.Reply.TheVariants.{Number}
 use Rattle.usb_model.specs.declared.result.InCallback.{InCallback}
 use Rattle.usb_model.specs.declared.step.Step.TheVariants.{Answer}
 use Rattle.usb_model.specs.declared.verdict.Verdict.TheVariants.{AgainWith}
-use Rattle.usb_tables.specs.Caller.{Kept as Caller}
-use Rattle.usb_tables.specs.Callers.{callback_at}
+use Rattle.usb_tables.specs.HandleState.{Kept as HandleState}
+use Rattle.usb_tables.specs.HandleStates.{callback_at}
 use Rattle.refine_core.specs.Calls.{Stays}
 use Rattle.refine_core.specs.Handles.{says}
 use Rattle.refine_core.specs.State.{IsState, State}
@@ -90,7 +90,7 @@ returns-in-Err-start-clause-kept g c =
     c.reserve_callback.ensures.numbers c.reserve_callback.ensures.callbacks c.reserve_callback.ensures.results c.reserve_callback.ensures.counts
     c.remove_callback.ensures.value c.remove_callback.ensures.callbacks c.remove_callback.ensures.counts c.remove_callback.ensures.numbers c.remove_callback.ensures.results in
     let kept : Stays old (record old { callers = c.put_callback.new.self }) = put_back old again.callers c.put_callback.new.self c.args.h c.args.n c.in-Some-remove_callback.called (number_found old c.args.h c.args.n c.in-Some-remove_callback.called is found) found
-    (subst (λ (l : List Caller). Ended old.callers l c.args.h c.args.n) (sym (ap (λ (s : State g.row.P.Denot). s.callers) same)) ended)
+    (subst (λ (l : List HandleState). Ended old.callers l c.args.h c.args.n) (sym (ap (λ (s : State g.row.P.Denot). s.callers) same)) ended)
     c.put_callback.ensures.callbacks c.put_callback.ensures.counts c.put_callback.ensures.numbers c.put_callback.ensures.results in
     subst (λ (s : State g.row.P.Denot). Stays c.args.self.now (record s { callers = c.put_callback.new.self })) (sym same)
     (subst (λ (s : State g.row.P.Denot). Stays s (record old { callers = c.put_callback.new.self })) c.self.view_is kept)

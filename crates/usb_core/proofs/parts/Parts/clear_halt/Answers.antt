@@ -1,7 +1,7 @@
 -- The step of the core, case by case.
 use Rattle.std.proofs.Common.{subst, ap, sym, ◌∙◌, ◌<◌, ◌≤◌, ℕ, length}
 use Rattle.usb_tables.specs.Holders.{device_of}
-use Rattle.usb_tables.specs.Flights.{line_at}
+use Rattle.usb_tables.specs.TransfersInFlight.{line_at}
 use Rattle.refine_core.specs.State.{State}
 use Rattle.refine_core.specs.Works.{IsHolder}
 use Rattle.refine_core.proofs.Halts.{halts_busy, halts_gone, halts_none, halts_now, halts_others}

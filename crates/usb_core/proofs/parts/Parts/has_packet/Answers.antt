@@ -1,7 +1,7 @@
 -- Without a line, or a holder, there is nothing to do.
 use Rattle.std.proofs.Common.{ap, subst, sym, ◌∙◌}
 use Rattle.std.specs.Prelude.{length}
-use Rattle.usb_tables.specs.Flights.{line_at}
+use Rattle.usb_tables.specs.TransfersInFlight.{line_at}
 use Rattle.refine_core.specs.State.{State}
 use Rattle.refine_core.specs.Works.{IsHolder}
 use Rattle.usb_core.proofs.Worth.{with_holder, without_holder, without_line}

@@ -2,7 +2,7 @@
 use Rattle.std.proofs.Common.{Some, ap, sym, subst, ◌≡◌, ◌∙◌}
 use Rattle.std.specs.Prelude.{position}
 use Rattle.proof_model.proofs.Handles.Alone.{is_its-some}
-use Rattle.usb_tables.specs.Flights.{is_number, line_at}
+use Rattle.usb_tables.specs.TransfersInFlight.{is_number, line_at}
 use Rattle.refine_core.specs.State.{State}
 use Rattle.refine_core.specs.Works.{IsHolder}
 use Rattle.refine_core.proofs.Held.{is_at}

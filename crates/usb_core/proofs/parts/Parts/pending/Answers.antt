@@ -1,7 +1,7 @@
 -- Each step for itself.
 use Rattle.std.proofs.Common.{ap, subst, ◌≡◌, ◌∙◌, ℕ, None}
 use Rattle.std.specs.Prelude.{find}
-use Rattle.usb_tables.specs.Callers.{IsOut, callback_at}
+use Rattle.usb_tables.specs.HandleStates.{IsOut, callback_at}
 use Rattle.refine_core.specs.State.{State}
 use Rattle.usb_core.specs.Pending.{ends_from, serves}
 use Rattle.usb_core.proofs.Called.{out_shown}

@@ -6,8 +6,8 @@ use Rattle.usb_model.specs.declared.refused.Refused.{Refused}
 use Rattle.usb_model.specs.Limits.{last_number}
 use Rattle.usb_model.specs.Setup.{endpoint_id}
 use Rattle.usb_tables.specs.Holders.{device_of as device_at}
-use Rattle.usb_tables.specs.Callers.{number_of, results_at}
-use Rattle.usb_tables.specs.Flights.{line_at}
+use Rattle.usb_tables.specs.HandleStates.{number_of, results_at}
+use Rattle.usb_tables.specs.TransfersInFlight.{line_at}
 use Rattle.usb_tables.specs.Refusal.{checked}
 use Rattle.refine_core.specs.State.{State}
 use Rattle.refine_core.specs.Works.{IsHolder}

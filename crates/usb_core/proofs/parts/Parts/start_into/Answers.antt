@@ -1,7 +1,7 @@
 -- What joins line and ring is the transfer, as its TRBs.
 use Rattle.std.proofs.Common.{ap, refl, sym, subst, subst₂, ◌∙◌, List}
 use Rattle.usb_model.specs.Setup.{endpoint_id}
-use Rattle.usb_tables.specs.Callers.{number_of}
+use Rattle.usb_tables.specs.HandleStates.{number_of}
 use Rattle.usb_trb.specs.declared.kind.Normal.{Normal as NormalTrb}
 use Rattle.usb_rings.specs.Line.{normals}
 use Rattle.usb_tables.specs.declared.transfer.Transfer.{Transfer as InFlight}

@@ -5,8 +5,8 @@ use Rattle.usb_model.specs.declared.reply.Reply.{Reply}
 use Rattle.usb_model.specs.declared.result.InCallback.{InCallback}
 use Rattle.usb_model.specs.declared.step.Step.TheVariants.{Answer}
 use Rattle.usb_model.specs.declared.verdict.Verdict.TheVariants.{Stop}
-use Rattle.usb_tables.specs.Caller.{is_one_of}
-use Rattle.usb_tables.specs.Callers.{callbacks_at}
+use Rattle.usb_tables.specs.HandleState.{is_one_of}
+use Rattle.usb_tables.specs.HandleStates.{callbacks_at}
 use Rattle.refine_core.specs.Handles.{says}
 use Rattle.refine_core.specs.State.{State}
 use Rattle.refine_core.specs.Steps.{DoesCoreStep}

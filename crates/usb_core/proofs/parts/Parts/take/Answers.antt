@@ -4,9 +4,9 @@ use Rattle.std.specs.Prelude.{OnErr, slice_get}
 use Rattle.std.proofs.lemmas.Option.{same_Some}
 use Rattle.usb_model.specs.declared.step.Step.TheVariants.{Take}
 use Rattle.usb_model.specs.Setup.{endpoint_id}
-use Rattle.usb_tables.specs.Callers.{callback_at, results_at}
+use Rattle.usb_tables.specs.HandleStates.{callback_at, results_at}
 use Rattle.usb_tables.specs.declared.transfer.Transfer.{Transfer as InFlight}
-use Rattle.usb_tables.specs.Flights.{EndedOf, ended_of}
+use Rattle.usb_tables.specs.TransfersInFlight.{EndedOf, ended_of}
 use Rattle.refine_core.specs.Calls.{Stays, called_entry, returned_of}
 use Rattle.refine_core.specs.State.{IsState, State, result_of}
 use Rattle.refine_core.specs.Steps.{DoesCoreStep}

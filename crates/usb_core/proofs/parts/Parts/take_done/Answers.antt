@@ -6,9 +6,9 @@ use Rattle.usb_model.specs.declared.reply.Returned.{Returned}
 use Rattle.usb_model.specs.declared.step.Step.TheVariants.{Answer, Take}
 use Rattle.usb_model.specs.declared.verdict.Verdict.TheVariants.{Stop}
 use Rattle.usb_model.specs.Setup.{endpoint_id}
-use Rattle.usb_tables.specs.Callers.{results_at}
+use Rattle.usb_tables.specs.HandleStates.{results_at}
 use Rattle.usb_tables.specs.declared.transfer.Transfer.{Transfer as InFlight}
-use Rattle.usb_tables.specs.Flights.{EndedOf, Flights, ended_of}
+use Rattle.usb_tables.specs.TransfersInFlight.{EndedOf, TransfersInFlight, ended_of}
 use Rattle.refine_core.specs.Calls.{called_entry}
 use Rattle.refine_core.specs.Handles.{says}
 use Rattle.refine_core.specs.Payloads.{Carries}
@@ -25,7 +25,7 @@ use Rattle.usb_core.proofs.parts.Parts.take_done.Goals as goal
 pub returns-in_default-clause-taken : goal.returns-in_default-clause-taken
 returns-in_default-clause-taken g c =
     let old : State g.row.P.Denot = parts c.self.inside.claims c.self.inside.controller c.self.inside.flights c.self.inside.callers c.self.inside.outstanding in
-    let same : record old { flights = c.take.new.self } ≡ c.args.self.now = ap (λ (f : Flights (InFlight g.row.P.Denot)). record old { flights = f }) c.in_default.ensures.none ∙ c.self.view_is in (
+    let same : record old { flights = c.take.new.self } ≡ c.args.self.now = ap (λ (f : TransfersInFlight (InFlight g.row.P.Denot)). record old { flights = f }) c.in_default.ensures.none ∙ c.self.view_is in (
       subst (λ (s : State g.row.P.Denot). DoesCoreStep c.args.self.now Take (called_entry None) s) (sym same) (takes_none c.args.self.now (ap (λ (s : State g.row.P.Denot). slice_get s.flights.ended 0) (sym c.self.view_is) ∙ sym c.in_default.ensures.value)),
       same,
     )

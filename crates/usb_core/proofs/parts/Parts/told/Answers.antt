@@ -5,7 +5,7 @@ use Rattle.usb_tables.specs.declared.target.Target.{Target}
 use Rattle.usb_core.specs.Reports.{target_of}
 use Rattle.usb_core.proofs.Readings.{is_told}
 use Rattle.usb_tables.specs.Tds.{lengths, tds_of}
-use Rattle.usb_tables.specs.Flights.{item_at}
+use Rattle.usb_tables.specs.TransfersInFlight.{item_at}
 use Rattle.refine_core.proofs.Reports.{FindsHeld, FindsPlace, at_held, at_place, found_by, no_held}
 use Rattle.usb_core.proofs.parts.Parts.told.Goals as goal
 

@@ -1,7 +1,7 @@
 use Rattle.refine_core.proofs.Settleable.{can_settle_on, can_withdraw, withdraws_by}
 use Rattle.usb_core.proofs.Carried.{live_asked, live_seen, parts_follow}
 use Rattle.refine_core.proofs.Payloads.{follows_end}
-use Rattle.usb_tables.specs.Flights.{item_at}
+use Rattle.usb_tables.specs.TransfersInFlight.{item_at}
 use Rattle.usb_core.proofs.parts.Parts.withdraw.Goals as goal
 
 pub result_made-requires : goal.result_made-requires

@@ -1,6 +1,6 @@
 use Rattle.std.proofs.Common.{sym, subst, subst₂, ◌∙◌, ap, ◌≡◌, ◌+◌, length, suc, arith}
 use Rattle.std.proofs.lemmas.Option.{same_Some}
-use Rattle.usb_tables.specs.Flights.{line_at}
+use Rattle.usb_tables.specs.TransfersInFlight.{line_at}
 use Rattle.refine_core.specs.Payloads.{StillCarries}
 use Rattle.refine_core.specs.Deliveries.{CanSettle, WithdrawsTo}
 use Rattle.refine_core.specs.Works.{Withdraws}
