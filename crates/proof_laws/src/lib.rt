@@ -1,6 +1,8 @@
-//! Worked rows: scenarios with the lines that a reader of the rules expects.
+//! What the definitions mean: laws on packets, outcomes of shares, statuses, steps that change nothing, and whose time is over; and
+//! worked rows, with the lines that a reader of the rules expects.
 //!
-//! The one promise: the definitions compute these lines.
+//! The one promise: the definitions compute these lines, and meet the rules of the standards, which are said here once more as
+//! relations.
 //!
 //! # Contracts
 //!
@@ -12,13 +14,6 @@
 //! - `rows::dues`: `due` at 21 moments of six runs: two names at two devices, no timeout, the largest moment, a
 //!   transfer that is submitted again, and transfers that were asked to end or have ended
 //! - `rows::alone`: seven times they print those of one handle, shared and alone over its own steps
-//!
-//! What the definitions mean: small laws on packets, outcomes of shares, statuses, steps that change nothing, and
-//! whose time is over.
-//!
-//! The one promise: rules of the standards are said here once more, as relations, and the definitions meet them.
-//!
-//! # Contracts
 //!
 //! - `laws::packets`: the packets of an OUT transfer, joined, are its bytes; all but the last are full; the last is
 //!   empty just where there are no bytes, or where ADD_ZERO_PACKET is set and the bytes are a multiple of the packet

@@ -1,9 +1,11 @@
-//! One endpoint's part of the plain program: its line of transfers, the outcome of a share of answers, and the steps of
-//! device, controller, event loop and handle at it (USB 2.0, 8.5; xHCI 1.2, 4.6 and 4.10).
+//! The plain program: runs and plans over a whole system by value, slow and simple (USB 2.0, 8.5; xHCI 1.2, 4.6 and 4.10). Every
+//! other body is compared with it.
 //!
-//! The one promise: each step gives what its definition says of the endpoint, or finds no memory.
+//! The one promise: its entries are those of the definitions, step by step, or a beginning of them where it found no memory.
 //!
 //! # Files
+//!
+//! One endpoint's part:
 //!
 //! - `share.rt`, `packet.rt`, `outcome.rt`: the answers that a transfer took; an OUT transfer's bytes in packets;
 //!   what the share did
@@ -12,22 +14,11 @@
 //! - `device.rt`: `serve`: a device answers one packet
 //! - `moved.rt`, specs/Moved: the packets that move then
 //! - `laws.rt`, specs/Laws: what these are to the device
-//! - `controller.rt`: `command`: an order is carried out
+//! - `endpoint_controller.rt`: `command`: an order is carried out
 //! - `events.rt`: `deliver`: a piece of news is handled
 //! - `calls.rt`: `submit`, `set_ask`, `unhalt`: what a handle asks of the endpoint
 //!
-//! # Contracts
-//!
-//! - `reference`: `serve`, `command`, `deliver`, `submit`, `set_ask`, `unhalt`: where memory is found, the
-//!   effect at the endpoint is that of the definition of the same subject, for every endpoint, packet size and news
-//! - `moved::packets_moved`: the packets of the definition: those of the outcome behind the answer that aren't of the one before
-//! - `laws::moved`: of a transfer that writes, the device receives the packets that move, and no other
-//!
-//! All handles over one system, by value: what is kept of names, devices and endpoints, and one step of it.
-//!
-//! The one promise: a step's entry, and the world after it, are those of the definitions' turn.
-//!
-//! # Files
+//! All handles over one system, by value:
 //!
 //! - `table.rt`, `handles.rt`, `system.rt`: a value for each device and byte; what is kept of each name; all of it
 //!   together, and how it is looked up
@@ -39,18 +30,7 @@
 //! - `controller.rt`, `effect.rt`, `change.rt`, `turn.rt`: the steps of device, controller and event loop; a step's
 //!   effect; its change; one step of the whole system
 //!
-//! # Contracts
-//!
-//! - `reference`: `System::new`, `System::turn`: where memory is found, a system is the new world, and a step
-//!   gives the entry of the world's turn, and is the world after it. What a step that finds no memory leaves of the
-//!   system isn't said
-//!
-//! The plain program: runs and plans over a system by value, slow and simple. Every later body is compared with it.
-//!
-//! The one promise: its entries are those of the definitions, step by step, or a beginning of them where it found no
-//! memory.
-//!
-//! # Files
+//! Runs and plans:
 //!
 //! - `journal.rt`: runs
 //! - `rule_book.rt`, `plan_run.rt`: the rule of each number; plans
@@ -58,20 +38,29 @@
 //!
 //! # Contracts
 //!
-//! - `crate::run`: at Ok the entries are `world_run` of setup and steps; at Err, those of `Stopped` are a
+//! - `serve`, `command`, `deliver`, `submit`, `set_ask`, `unhalt`: where memory is found, the
+//!   effect at the endpoint is that of the definition of the same subject, for every endpoint, packet size and news
+//! - `moved::packets_moved`: the packets of the definition: those of the outcome behind the answer that aren't of the one before
+//! - `laws::moved`: of a transfer that writes, the device receives the packets that move, and no other
+//!
+//! - `System::new`, `System::turn`: where memory is found, a system is the new world, and a step
+//!   gives the entry of the world's turn, and is the world after it. What a step that finds no memory leaves of the
+//!   system isn't said
+//!
+//! - `run`: at Ok the entries are `world_run` of setup and steps; at Err, those of `Stopped` are a
 //!   beginning of them: just the entries of the first so many steps, as many as there are entries. A step is left
 //!   then, or no entry is there
-//! - `crate::drive`: the same of the steps that a plan and its rules stand for (`expand`; a rule that is Free
+//! - `drive`: the same of the steps that a plan and its rules stand for (`expand`; a rule that is Free
 //!   counts as one that stops)
-//! - `crate::alone`, `drive_alone`: at Ok `shared` is the handle's entries amid the others, `alone` what the
+//! - `alone`, `drive_alone`: at Ok `shared` is the handle's entries amid the others, `alone` what the
 //!   definitions say of it alone over its own steps, and what a world of its own gives over these; and the two lists
 //!   are the same
 //!
 //! - `PlanRun`: the same piece by piece, for whoever looks at the system between them
 //!
-//! No public call of `reference` has a precondition.
+//! No public call has a precondition.
 //!
-//! The specs/, and those of `reference`, are the program's own words: docs/MODEL.md, "The plain program".
+//! The specs/ are the program's own words: docs/MODEL.md, "The plain program".
 #![tactic(auto)]
 
 mod ask;

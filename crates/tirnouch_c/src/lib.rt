@@ -1,28 +1,17 @@
-//! Memory that C lends: a pointer, its room and what of it stands written, as a `Vec` that never grows and frees nothing.
-//!
-//! The one promise: nothing is copied and nothing is lost: the `Vec` has the bytes, the place and the room of what was lent,
-//! and what goes back to C has those of the `Vec`.
-//!
-//! # Files
-//!
-//! - `lent.rt`: `LentMemory`: into_vec, from_vec; both stand on a walk, `from_vec` by `emptied`
-//! - proofs/ Calls: the kit's `lodge` and `dislodge` at a call, for bytes
-//! - proofs/ Values: the machine value of a `LentMemory`
-//!
-//! # Contracts
-//!
-//! - `LentMemory::into_vec`: the items are the bytes; length, capacity and pointer are those that were lent
-//! - `LentMemory::from_vec`: the same the other way round
-//!
-//! It doesn't say: that C lends what it says it lends, and leaves it alone until it is given back. A `LentMemory` that is
-//! dropped, or a `Vec` of it, is memory that C never gets back.
-//!
-//! The core behind a C interface: numbers, structs of numbers and buffers, over a slot that holds a session.
+//! The core behind a C interface: numbers, structs of numbers and buffers, over a slot that holds a session; and memory that C lends.
 //!
 //! The one promise: each call of a slot is a turn of the world that its core shows, or several of them in a fixed order; what C
-//! is answered and told is that, in libusb's numbers.
+//! is answered and told is that, in libusb's numbers; and of memory that is lent nothing is copied and nothing is lost.
 //!
 //! # Files
+//!
+//! Memory that C lends: a pointer, its room and what of it stands written, as a `Vec` that never grows and frees nothing:
+//!
+//! - `lent_memory.rt`: `LentMemory`: into_vec, from_vec; both stand on a walk, `from_vec` by `emptied`
+//! - proofs/ LentCalls: the kit's `lodge` and `dislodge` at a call, for bytes
+//! - proofs/ LentValues: the machine value of a `LentMemory`
+//!
+//! The session:
 //!
 //! - `exports.rt`: what C calls. c/include/tirnouch_core.h has the same, and tools/c_header.py asks whether it is so
 //! - `session.rt`: a core with the devices of a text; `held.rt`, `loose.rt`: the slot that C holds, a pointer whose type it
@@ -39,6 +28,12 @@
 //!   row, and row after row; that where nothing is to be done each transfer that was asked to end has ended
 //!
 //! # Contracts
+//!
+//! - `LentMemory::into_vec`: the items are the bytes; length, capacity and pointer are those that were lent
+//! - `LentMemory::from_vec`: the same the other way round
+//!
+//! Of memory it doesn't say: that C lends what it says it lends, and leaves it alone until it is given back. A `LentMemory` that is
+//! dropped, or a `Vec` of it, is memory that C never gets back.
 //!
 //! - each export: of an empty slot -99 and nothing else; of a number out of range -2, with the session as it was
 //! - `tirnouch_create`: a session that shows the new world of the text's devices (`IsMade`), or the number of the line that isn't

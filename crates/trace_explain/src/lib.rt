@@ -1,10 +1,12 @@
-//! Why each entry of a run says what it says, in a sentence: which test refused a call, why there was nothing to do, and
-//! what ended a transfer.
+//! A scenario's run with what there is to say of its entries: why each came, in a sentence, or which packets moved.
 //!
-//! The one promise: the reason of a step is that of its definition in the world that the system is; and in every world it
-//! is of the reply's sort.
+//! The one promise: what is told of a run are its entries, all or those of refused lines, and below the first of a line the reason of its
+//! step in the world before it, where there is one, or the packets that this step moves; and in every world a reason is of the reply's
+//! sort.
 //!
 //! # Files
+//!
+//! Reasons:
 //!
 //! - `refusal.rt`, `sentence.rt`, `names.rt`, `endpoints.rt`: reasons and their sentences; how these name handles, devices,
 //!   transfers and the endpoints of a device
@@ -16,6 +18,12 @@
 //!   its answers without a copy of their bytes
 //! - `step.rt`, `laws.rt`: the reason of a step; what it has to do with the reply
 //!
+//! The text of a run:
+//!
+//! - `telling.rt`: what is told: reasons, of all lines or of those that are refused, or packets
+//! - `packets.rt`, specs/Packets: the packets that a step moves, as lines
+//! - `explained.rt`, specs/Explained: the text of a run
+//!
 //! # Contracts
 //!
 //! - `reason`: the definition's reason of a step in the world that a system is, asked before the step is made
@@ -24,21 +32,7 @@
 //! - `sorts`, `refusals`, `others`: a refused step has a reason, of a test that refuses with what the reply says; an idle
 //!   step, a packet that wasn't ready, an end, an order that failed and a callback have one of their sorts; no other has
 //!
-//! A scenario's run with what there is to say of its entries: why each came, or which packets moved.
-//!
-//! The one promise: what is told of a run are its entries, all or those of refused lines, and below the first of a line the reason of its
-//! step in the world before it, where there is one, or the packets that this step moves.
-//!
-//! # Files
-//!
-//! - `telling.rt`: what is told: reasons, of all lines or of those that are refused, or packets
-//! - `packets.rt`, specs/Packets: the packets that a step moves, as lines
-//! - `explained.rt`, specs/Explained: the text of a run
-//!
-//! # Contracts
-//!
-//! - `explained_run`: the text is that of the definition (`explained_text`): entries of the plan's run, and reasons (`reason_of` of
-//!   `trace_explain`) or packets (`packets_moved` of `reference`) of the very steps that the plan stands for. The plain program makes
+//! - `explained_run`: the text is that of the definition (`explained_text`): entries of the plan's run, and reasons (`reason_of`) or packets (`packets_moved` of `reference`) of the very steps that the plan stands for. The plain program makes
 //!   the run, since between two of its steps all that handles have can be looked at
 #![tactic(auto)]
 

@@ -1,11 +1,15 @@
-//! What handles haven't finished, read off the core.
+//! A scenario's run by the core on rings, printed as it arises, drawn, or written as a capture; and what its handles haven't
+//! finished where it ends.
 //!
-//! The one promise: what is told to be left is what the core's world has, all of it, in order.
+//! The one promise: what is printed is the text of the entries of the plan's run, or of a handle's alone, or the capture of
+//! its events, or a beginning of it where memory ran out; and what is told to be left is what the core's world has, all of it, in order.
 //!
 //! # Files
 //!
+//! What handles haven't finished:
+//!
 //! - `left.rt`: one thing that isn't finished, and its text
-//! - `lines.rt`: printed lines
+//! - `left_lines.rt`: printed lines
 //! - `inventory.rt`: what is read of each handle without a step: its device, interfaces, lines, halts, answers and
 //!   callbacks
 //! - `gather.rt`: what waits, whosever it is: results are read; orders and events come out of Commands and Delivers
@@ -15,22 +19,7 @@
 //! - proofs/: one file a subject: lists (Lists), what is read (ReadParts), what the first order and the first event tell
 //!   (Turns), what was gathered so far (Gathers), which transfers have ended (Events), and all of it together (Joined)
 //!
-//! # Contracts
-//!
-//! - `left_behind`: of each setup and world that the core shows, what is told is `all_left`: for each handle, by rising
-//!   name, the device that it has open, each interface of it that it holds, and at each endpoint that it holds each
-//!   transfer in line, waiting or ended, a halt, and how many answers are unused; then its orders, events and results,
-//!   and its callbacks by rising number. All of it, in order, and nothing else. The core is used up: its orders are
-//!   carried out and its events handled, since their entries tell them. No premise
-//! - `lines_of`, the text of `Left`: a line each, byte for byte
-//!
-//! A scenario's run by the core on rings, printed as it arises, drawn, or written as a capture: one part of the program
-//! `usbtrace`.
-//!
-//! The one promise: what is printed is the text of the entries of the plan's run, or of a handle's alone, or the capture of
-//! its events, or a beginning of it where memory ran out.
-//!
-//! # Files
+//! The run:
 //!
 //! - `devices.rt`: a scenario's devices and callbacks as the core has them
 //! - `lines.rt`, specs/Printed: the entries of a plan, all or one handle's alone, printed as the core comes to
@@ -41,10 +30,14 @@
 //! - `ending.rt`: a plan run by the core to its end, for what is left there
 //! - proofs/Printed: how far a run is, and what of its lines is written
 //!
-//! The part of `trace_main` that needs no threads: it doesn't wait for the library's proofs. A run's lines are
-//! gathered as its steps are made, and no entry is kept; `print_alone` runs two cores side by side. Stands on
-//! `usb_plans`, `trace_run`, `usb_core`, `usb_core` with what it stands on, `trace_io`, `trace_scenario`, and on
-//! `trace_picture` and `trace_capture` for pictures and captures.
+//! # Contracts
+//!
+//! - `left_behind`: of each setup and world that the core shows, what is told is `all_left`: for each handle, by rising
+//!   name, the device that it has open, each interface of it that it holds, and at each endpoint that it holds each
+//!   transfer in line, waiting or ended, a halt, and how many answers are unused; then its orders, events and results,
+//!   and its callbacks by rising number. All of it, in order, and nothing else. The core is used up: its orders are
+//!   carried out and its events handled, since their entries tell them. No premise
+//! - `lines_of`, the text of `Left`: a line each, byte for byte
 #![tactic(auto)]
 
 mod behind;

@@ -1,9 +1,12 @@
-//! Stored callbacks: boxed closures, each beside the rule that its verdicts fit (libusb 1.0, `libusb_transfer_cb_fn`).
+//! The core of the library, in which every step of every handle is made, over the memory of real rings; the parts in which it keeps
+//! its state; the callbacks that it stores; and the laws that each run obeys (libusb 1.0; USB 2.0, 8; xHCI 1.2, 4).
 //!
-//! The one promise: a call's verdict is the closure's own and fits the rule; a repeating callback comes back, one that
-//! is called once is used up.
+//! The one promise: each step is the turn of the world that the core shows, so no transfer is lost, none is doubled, and
+//! none is told what its device didn't do.
 //!
 //! # Files
+//!
+//! Stored callbacks: boxed closures, each beside the rule that its verdicts fit:
 //!
 //! - `callback.rt`: `Callback`: the law of what is stored with a transfer; what runs callbacks is generic in it
 //! - `end.rt`: `End`: how a callback ended, which it is told
@@ -11,6 +14,39 @@
 //! - `ruled.rt`: `Ruled`: a callback without code, which answers by its rule
 //! - specs/Callbacks: numbers in their types' range; a verdict that fits the rule
 //! - specs/Props: a verdict fits a rule in one way at most
+//!
+//! The parts, and each step on them:
+//!
+//! - parts, setup, made: the parts: claims, controller, transfers in flight, callers, errands; devices, and the
+//!   parts made of them
+//! - packets, step_bursts, orders: a packet; packets in a row; the oldest order
+//! - events, reports, ends, settlement, sender: the oldest event; what it tells of a transfer; a transfer's
+//!   end; the end of an errand; whose order an event is of
+//! - submission, results, verdicts: a transfer joins its line; the oldest result goes out to its callback; a callback
+//!   ends, or its transfer is submitted once more
+//! - ask: a transfer is looked for, and asked to end
+//! - handles, halts, quiet: opens, closes, releases; a halt is cleared; whether anything is under way
+//! - claim, reset, renewal: an interface is claimed; a device is reset; endpoints are made new
+//! - errands: an errand is ordered
+//! - call: a step that takes no memory, whichever it is
+//! - drain: events and orders in a row
+//! - step_reads, pending: how long the next result is; whether a transfer can expire; what is to be done next
+//! - step_inventory, step_feeds: who holds what, and what isn't finished at an endpoint or waits in a ring
+//!
+//! The core, whose invariant is that its parts show some world:
+//!
+//! - `calls.rt`: `Core`: its parts, of which the invariant is that they show some world; a function a step
+//! - `bursts.rt`: steps in a row, in one call
+//! - `step.rt`: any step, with its payload
+//! - `runs.rt`: a list of steps, from a core in which nothing is open; of its run the laws hold with nothing asked
+//!   of the devices
+//! - `feeds.rt`: a device is fed, and the packet that it is to answer next
+//! - `inventory.rt`: what handles haven't finished, part by part
+//! - `reads.rt`: what can be asked without a step; the controller, with its rings; the devices handed back
+//!   (`into_setup`)
+//! - specs/ Steps, Bursts, Runs, Reads, Inventory: what comes of a step and its payload; of steps in a row; the laws
+//!   of a run, together; what can be asked of a world; what handles haven't finished in it
+//! - `laws.rt`: the laws, and `instances`: bounds, calls and cuts, computed at worked rows
 //!
 //! # Contracts
 //!
@@ -27,31 +63,6 @@
 //!
 //! That a `StoredCallback` may cross threads is said by its type. That a call of a closure changes what the closure
 //! has captured (an atomic, say) is only tested.
-//!
-//! The parts in which the core keeps its state, and each of its steps on them.
-//!
-//! The one promise: a step does what the core of lists does that the parts keep, whichever that is: its reply, and the
-//! core that is then kept. What a caller keeps with a transfer stays with it, until both go out to the callback.
-//!
-//! # Files
-//!
-//! - parts, setup, made: the parts: claims, controller, transfers in flight, callers, errands; devices, and the
-//!   parts made of them
-//! - packets, bursts, orders: a packet; packets in a row; the oldest order
-//! - events, reports, ends, settlement, sender: the oldest event; what it tells of a transfer; a transfer's
-//!   end; the end of an errand; whose order an event is of
-//! - submission, results, verdicts: a transfer joins its line; the oldest result goes out to its callback; a callback
-//!   ends, or its transfer is submitted once more
-//! - ask: a transfer is looked for, and asked to end
-//! - handles, halts, quiet: opens, closes, releases; a halt is cleared; whether anything is under way
-//! - claim, reset, renewal: an interface is claimed; a device is reset; endpoints are made new
-//! - errands: an errand is ordered
-//! - call: a step that takes no memory, whichever it is
-//! - drain: events and orders in a row
-//! - reads, pending: how long the next result is; whether a transfer can expire; what is to be done next
-//! - inventory: who holds what, and what isn't finished at an endpoint or waits in a ring
-//!
-//! # Contracts
 //!
 //! `DoesCoreStep`: for every core that the old parts keep and that shows a world, the entry is that of the core's step, and
 //! the new parts keep the core behind it. The only premise of each call is that the parts show some world, which each
@@ -108,29 +119,6 @@
 //! - `Setup::taken`: the packet of a number that a device took at an endpoint since it was made new
 //! - `Parts::into_setup`: the setup of each world that the parts show, and the controller as it is
 //! - `Parts::new`: the parts show the new world of the setup
-//!
-//! The core of the library, in which every step of every handle is made, over the memory of real rings; and the laws that
-//! each run obeys (libusb 1.0; USB 2.0, 8; xHCI 1.2, 4).
-//!
-//! The one promise: each step is the turn of the world that the core shows, so no transfer is lost, none is doubled, and
-//! none is told what its device didn't do.
-//!
-//! # Files
-//!
-//! - `calls.rt`: `Core`: its parts, of which the invariant is that they show some world; a function a step
-//! - `bursts.rt`: steps in a row, in one call
-//! - `step.rt`: any step, with its payload
-//! - `runs.rt`: a list of steps, from a core in which nothing is open; of its run the laws hold with nothing asked
-//!   of the devices
-//! - `feeds.rt`: a device is fed, and the packet that it is to answer next
-//! - `inventory.rt`: what handles haven't finished, part by part
-//! - `reads.rt`: what can be asked without a step; the controller, with its rings; the devices handed back
-//!   (`into_setup`)
-//! - specs/ Steps, Bursts, Runs, Reads, Inventory: what comes of a step and its payload; of steps in a row; the laws
-//!   of a run, together; what can be asked of a world; what handles haven't finished in it
-//! - `laws.rt`: the laws, and `instances`: bounds, calls and cuts, computed at worked rows
-//!
-//! # Contracts
 //!
 //! - `laws::cut`: at each endpoint, since it was last made new: there is one share of the device's script for each
 //!   transfer, in order of submission, and each end, each result with its number, request, round, status, length and

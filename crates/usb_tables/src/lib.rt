@@ -1,15 +1,57 @@
-//! The errands of an endpoint: when the controller is asked to stop, reset or move it, and which transfers are withdrawn
-//! meanwhile (xHCI 1.2, 4.6.8 to 4.6.10; `libusb_cancel_transfer`).
+//! The tables of the core, and what is decided by one look at them: who holds which interface, the transfers in flight and the TRBs
+//! that they are sent as, the errand of each endpoint, and what an event tells of a transfer.
 //!
-//! The one promise: at most one errand is outstanding at an endpoint, and each answer of the controller is followed by
-//! what `usb_model` says of the whole endpoint.
+//! The one promise: each look-up answers what was put there last, in constant time; each call changes its table by one equation, or is
+//! refused and changes nothing; and each transfer in flight stands at exactly one place.
 //!
 //! # Files
+//!
+//! The errands of an endpoint: when the controller is asked to stop, reset or move it, and which transfers are withdrawn:
 //!
 //! - `order.rt`: `ask`, `next_order`: what is ordered, by the errand that is outstanding
 //! - `ended.rt`: `settle`: how many blanks leave the line, whether asked transfers are withdrawn, and what is
 //!   ordered, or that the doorbell is rung; it reads a `Mark` of each transfer
 //! - specs/ Orders, Settlements: the endpoint after an order, and after a settlement
+//!
+//! What an event tells of a transfer:
+//!
+//! - `target.rt`: `Target`, `Reading`: the transfer and the TRB at which an event points, and what the event tells of
+//!   it. The core reads each event by it
+//! - `event.rt`, `placed.rt`: `read_event`: the same against a line of transfers with the addresses of their TRBs
+//!   (`Placed`, `PlacedTrb`), five at most, in room of its own
+//! - `status.rt`: `result`: the status by a code
+//! - `event_laws.rt`, specs/Lines: where the addresses of a line's places differ, a reading is that of `usb_model`
+//! - specs/ Events, Statuses: what an event tells; which ends have which status, read from the status
+//!
+//! Who has which device open, and who holds which interface:
+//!
+//! - `claims.rt`: `Claims`: new, into_configs; config, is_device, device_of, owner, holder, held_at, holds,
+//!   others_hold; open, close, claim, release
+//! - `held.rt`: `HeldEndpoint`: device, address and name, what `held_at` gives
+//! - `endpoint_table.rt`: the interface of each endpoint, by device and endpoint id, made from the configurations
+//! - `open_table.rt`, `owner_table.rt`: the device that each name has open; the name that holds each interface
+//! - specs/ Holders, Tables: what contracts see, and when each call is refused; how the tables are read
+//!
+//! A transfer from its request on: its check, its TRBs, and the store of those in flight:
+//!
+//! - `refusal.rt`: `check`, `check_at`: the first refusal of a request, or its TDs
+//! - `tds.rt`, `trbs.rt`: `Tds`: of, length, count, span, trbs; `Trbs`: at most five TRBs in the value itself
+//! - `transfer.rt`: `Transfer`, with room for what it reads; `MakeTransferError`, what it was to be made of
+//! - `store.rt`: `Store`: insert, get, get_mut, remove, len
+//! - `transfer_laws.rt`, specs/Vectors: the TRBs' lengths are those of `usb_model`; three requests worked out
+//! - specs/ Refusal, Tds, Trbs, Store, LendsTransfer: the refusals in their order; length, empty packet and direction; the
+//!   TRBs of a TD; the store, and what it is after a write through `get_mut`
+//!
+//! What the core keeps by handle, and by endpoint:
+//!
+//! - `callers.rt`, `caller.rt`, specs/HandleStates, HandleState: by handle, the number of its next transfer and its transfers that
+//!   are in their callbacks; by its endpoints, how many results wait and how many transfers are in callbacks
+//! - `by_endpoint.rt`, specs/ByEndpoint: a value for each endpoint of each device
+//! - `outstanding.rt`, specs/Outstanding: by endpoint, the errand that is outstanding
+//! - `flights.rt`, specs/TransfersInFlight: the transfers in flight, in the line of their endpoint, and those that ended and wait
+//!   to be taken (libusb 1.0, `libusb_submit_transfer`)
+//! - `lanes.rt`, `line.rt`, specs/Places: by endpoint, the keys of its transfers; each key has one place
+//! - `ending.rt`: what came of a transfer
 //!
 //! # Contracts
 //!
@@ -19,25 +61,8 @@
 //! - `settle`: over every kept endpoint whose line has these marks: what `usb_model` does at the end of the errand
 //!   is this settlement. No more leave than the line has; asked transfers are withdrawn but after a Stop that failed
 //!
-//! It doesn't say: where an order stands in the command ring, nor what a withdrawn transfer's result is; both are in
+//! Of errands it doesn't say: where an order stands in the command ring, nor what a withdrawn transfer's result is; both are in
 //! `usb_model`'s endpoint, and the core's to do.
-//!
-//! What an event of the controller tells of a transfer (xHCI 1.2, 4.11.3 and 6.4.2.1).
-//!
-//! The one promise: an event is read as that of the transfer whose TRB its pointer names, with the bytes that the residual
-//! leaves and the status of its code; or it is stray.
-//!
-//! # Files
-//!
-//! - `target.rt`: `Target`, `Reading`: the transfer and the TRB at which an event points, and what the event tells of
-//!   it. The core reads each event by it
-//! - `event.rt`, `placed.rt`: `read_event`: the same against a line of transfers with the addresses of their TRBs
-//!   (`Placed`, `PlacedTrb`), five at most, in room of its own
-//! - `status.rt`: `result`: the status by a code
-//! - `laws.rt`, specs/Lines: where the addresses of a line's places differ, a reading is that of `usb_model`
-//! - specs/ Events, Statuses: what an event tells; which ends have which status, read from the status
-//!
-//! # Contracts
 //!
 //! - `Target::read`: what an event tells of the transfer at whose TRB it points, by one equation: the bytes of its
 //!   TRBs before that one, and of that one without the residual; the status by code, ask, flags and length, or that
@@ -49,25 +74,8 @@
 //!   over its TRB's length, and where the event is of another kind
 //! - `result`: the status is that of the definitions; and, read the other way, each status is given for just the ends
 //!   that it stands for (clause `exact`)
-//! - `crate::event_laws::reads_as_kept`: an event at a place of a line is read as `usb_model` reads it, and is
+//! - `event_laws::reads_as_kept`: an event at a place of a line is read as `usb_model` reads it, and is
 //!   stray just where that finds nothing; premise: no other place of the line has its address
-//!
-//! Who has which device open, and who holds which interface (libusb_open, libusb_close, libusb_claim_interface,
-//! libusb_release_interface).
-//!
-//! The one promise: each call changes devices and owners by one equation, or is refused and changes nothing; and an
-//! endpoint's holder, and what a slot and an endpoint id name, are as the setup of these configurations has them.
-//!
-//! # Files
-//!
-//! - `claims.rt`: `Claims`: new, into_configs; config, is_device, device_of, owner, holder, held_at, holds,
-//!   others_hold; open, close, claim, release
-//! - `held.rt`: `HeldEndpoint`: device, address and name, what `held_at` gives
-//! - `endpoint_table.rt`: the interface of each endpoint, by device and endpoint id, made from the configurations
-//! - `open_table.rt`, `owner_table.rt`: the device that each name has open; the name that holds each interface
-//! - specs/ Holders, Tables: what contracts see, and when each call is refused; how the tables are read
-//!
-//! # Contracts
 //!
 //! - `Claims::open`, `close`, `claim`, `release`, clause `answer`: each answers Err(why) exactly where the first test
 //!   of its list that holds says why, and else Ok
@@ -83,26 +91,8 @@
 //! - `Claims::new`, `into_configs`, `config`, `is_device`: at first nothing is open and nobody holds anything; the
 //!   configurations come back as they came; a device is there exactly where the setup has it
 //!
-//! It doesn't say: whether endpoints are quiet, whether a device is gone (both are asked before the call), that an
+//! Of claims it doesn't say: whether endpoints are quiet, whether a device is gone (both are asked before the call), that an
 //! owner has the device open, what a claim does to endpoints.
-//!
-//! A transfer from its request on (libusb 1.0, `libusb_submit_transfer`; xHCI 1.2, 4.9.1): the check of a request, the
-//! TRBs that it is sent as, and the store of the transfers in flight.
-//!
-//! The one promise: a request that isn't refused is sent as the TRBs that its length, its direction and its endpoint's
-//! packet size say, and what is stored under a key is found there, and nowhere else, until it is removed.
-//!
-//! # Files
-//!
-//! - `refusal.rt`: `check`, `check_at`: the first refusal of a request, or its TDs
-//! - `tds.rt`, `trbs.rt`: `Tds`: of, length, count, span, trbs; `Trbs`: at most five TRBs in the value itself
-//! - `transfer.rt`: `Transfer`, with room for what it reads; `MakeTransferError`, what it was to be made of
-//! - `store.rt`: `Store`: insert, get, get_mut, remove, len
-//! - `laws.rt`, specs/Vectors: the TRBs' lengths are those of `usb_model`; three requests worked out
-//! - specs/ Refusal, Tds, Trbs, Store, Lends: the refusals in their order; length, empty packet and direction; the
-//!   TRBs of a TD; the store, and what it is after a write through `get_mut`
-//!
-//! # Contracts
 //!
 //! - `check`, `check_at`: one equation each: the first refusal in its order, else the TDs of the request by the
 //!   endpoint's packet size. `check` finds the endpoint, `check_at` is told kind and size
@@ -117,28 +107,10 @@
 //! - `Store::insert`, `remove`: the next key had nothing and has the transfer now; what stood at a key, where nothing
 //!   stands then; each other key what it had. Refused, the transfer comes back and nothing changed
 //! - `Store::get`, `get_mut`: what stands at the key; a write through `get_mut` changes that key alone
-//! - `laws::lengths_are_kept`, `vectors`: the lengths are those of `usb_model`; the TRBs of three requests, computed
+//! - `transfer_laws::lengths_are_kept`, `vectors`: the lengths are those of `usb_model`; the TRBs of three requests, computed
 //!
-//! It doesn't say: that the line has a place, the device is there or a number is left, which the core tests before
+//! Of transfers it doesn't say: that the line has a place, the device is there or a number is left, which the core tests before
 //! and after; nor that buffers of two keys don't overlap, since nothing is found by an address.
-//!
-//! The tables of the core: what it keeps by handle, and by endpoint.
-//!
-//! The one promise: each look-up answers what was put there last, in constant time, and each transfer in flight stands
-//! at exactly one place.
-//!
-//! # Files
-//!
-//! - `callers.rt`, `caller.rt`, specs/HandleStates, HandleState: by handle, the number of its next transfer and its transfers that
-//!   are in their callbacks; by its endpoints, how many results wait and how many transfers are in callbacks
-//! - `by_endpoint.rt`, specs/ByEndpoint: a value for each endpoint of each device
-//! - `outstanding.rt`, specs/Outstanding: by endpoint, the errand that is outstanding
-//! - `flights.rt`, specs/TransfersInFlight: the transfers in flight, in the line of their endpoint, and those that ended and wait
-//!   to be taken (libusb 1.0, `libusb_submit_transfer`)
-//! - `lanes.rt`, `line.rt`, specs/Places: by endpoint, the keys of its transfers; each key has one place
-//! - `ending.rt`: what came of a transfer
-//!
-//! # Contracts
 //!
 //! - `count_up`, `result_made`, `result_taken`, `put_callback`, `remove_callback`: the one look-up that changes, and
 //!   that all others answer as before, for every handle, number and endpoint
@@ -151,7 +123,7 @@
 //! - invariant of `TransfersInFlight`: each key of the store stands at exactly one place, and no other does; there is room for
 //!   each transfer to end
 //!
-//! It doesn't say: which lines there may be, nor when a transfer ends.
+//! Of lines it doesn't say: which there may be, nor when a transfer ends. there may be, nor when a transfer ends.
 #![tactic(auto)]
 
 mod by_endpoint;

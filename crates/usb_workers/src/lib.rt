@@ -1,15 +1,29 @@
-//! The two workers of a library: one does the controller's part, the other handles events and calls callbacks.
+//! The two workers of a library, one for the controller's part and one for events and callbacks; and a library that lives: both of
+//! them and some drivers beside them, each in a thread of its own.
 //!
-//! The one promise: each makes of every look just what it showed, with its own caller, and gives that caller back; and
-//! whoever handles events calls each callback that it takes out, and tells their verdicts in order, right behind that.
+//! The one promise: each worker makes of every look just what it showed, and tells the verdict of each callback that it takes out,
+//! in order; what is kept of the journal is that of the definitions' run of its steps, and each of its places is that of a worker, by what
+//! its look showed, or of a driver, by what it may make.
 //!
 //! # Files
+//!
+//! The workers:
 //!
 //! - `controller.rt`, `event.rt`: the two loops
 //! - `answers.rt`: what a callback answered is told
 //! - `gate.rt`, `park.rt`, `tries.rt`: what a worker passes before each act; how it waits; how often it tries again
 //! - `moments.rt`: a clock's milliseconds, for those who want to tick by one; nothing is promised of time
 //! - specs/Rounds: what is made of a look; how a verdict is told
+//!
+//! A library from its opening to its end:
+//!
+//! - `driver.rt`, `gates.rt`: what a driver is; the gates of both workers
+//! - `life.rt`: the library from its opening to its end
+//! - `threads.rt`, `seat.rt`: the threads; a driver with its caller, on its way into one and back
+//! - `promises.rt`: what is promised of each thread: what comes back, by what went in
+//! - `calls.rt`: a handle's step, by the call that it is
+//! - specs/Life, Steps: what is left, and who made it; which steps a handle makes by a call of its own
+//! - proofs/Homes: what comes back of one thread more
 //!
 //! # Contracts
 //!
@@ -35,31 +49,14 @@
 //! refused it says so and tries again, until it gives up once it was asked to stop; a callback that can't be submitted once more has
 //! ended, and is told how.
 //!
-//! A library that lives: its two workers and some drivers beside them, each in a thread of its own.
-//!
-//! The one promise: what is kept of the journal is that of the definitions' run of its steps over the devices that were given, and each of
-//! its places is that of a worker, by what its look showed, or of a driver, by what it may make.
-//!
-//! # Files
-//!
-//! - `driver.rt`, `gates.rt`: what a driver is; the gates of both workers
-//! - `life.rt`: the library from its opening to its end
-//! - `threads.rt`, `seat.rt`: the threads; a driver with its caller, on its way into one and back
-//! - `promises.rt`: what is promised of each thread: what comes back, by what went in
-//! - `calls.rt`: a handle's step, by the call that it is
-//! - specs/Life, Steps: what is left, and who made it; which steps a handle makes by a call of its own
-//! - proofs/Homes: what comes back of one thread more
-//!
-//! # Contracts
-//!
-//! - `live`, `live_gated` of `usb_workers`: the entries of the journal that is handed out are the definitions' run of
-//! its   steps over the devices that were given; what is kept is of it, it has as many places as are told, and the core
+//! - `live`, `live_gated`: the entries of the journal that is handed out are the definitions' run of
+//! its steps over the devices that were given; what is kept is of it, it has as many places as are told, and the core
 //!   shows the world where it ends (`KeepsRun`). Its places are those of the two workers and the drivers, and of nobody else
-//!   (`LivedBy`): look by look the workers made what was there to be seen (`Rounds` of usb_workers), and each ended only where its last look
+//!   (`LivedBy`): look by look the workers made what was there to be seen (`Rounds`), and each ended only where its last look
 //!   showed nothing of its part, or memory was refused to it a hundred times; each
 //!   driver made what it may make (`Driver::makes`) with what it left; no two callers have one
 //!   number, and each caller's places are those of its number. Whether nothing was left to be done where the run ends is told (`TellsRest`)
-//! - `make`, `handle_of` of `usb_workers`: where something is answered, the step was made and its receipt has it
+//! - `make`, `handle_of`: where something is answered, the step was made and its receipt has it
 //!   (`Makes`), else nothing changed; whose its entry is, in any world, where a handle is named; and that there is
 //!   none just for steps that submit, and for those of workers, clocks and callbacks
 //!
