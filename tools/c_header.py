@@ -13,7 +13,7 @@ import textwrap
 
 ROOT = pathlib.Path(__file__).resolve().parent.parent
 CRATE = ROOT / "crates" / "tirnouch_c" / "src"
-LENT = ROOT / "crates" / "tirnouch_c" / "src" / "lent.rt"
+LENT = ROOT / "crates" / "tirnouch_c" / "src" / "lent_memory.rt"
 HEADER = ROOT / "c" / "include" / "tirnouch_core.h"
 WIDTH = 112
 NUMBERS = {"u8": "uint8_t", "u32": "uint32_t", "u64": "uint64_t", "i32": "int32_t", "usize": "size_t", "bool": "bool"}

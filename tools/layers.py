@@ -18,8 +18,9 @@ ROLES = [
     ("usb_", "What ships, lowest first"),
     ("trace_", "Parts of `usbtrace`"),
     ("usbtrace", "The program"),
-    ("proof_", "No code: laws, lemmas, refinement"),
-    ("plain_", "The program that runs the definitions"),
+    ("proof_", "No code: lemmas on the definitions, and their laws"),
+    ("refine_", "No code: what the core keeps shows the world"),
+    ("reference", "The program that runs the definitions"),
     ("check_", "Scenes that the gate runs"),
     ("example_", "Programs to copy"),
 ]
@@ -90,7 +91,7 @@ def page():
     ]
     placed = {}
     for crate in uses:
-        role = "usb_" if crate == "trace_main" else next(it for it, _ in ROLES if crate.startswith(it))
+        role = next(it for it, _ in ROLES if crate.startswith(it))
         placed.setdefault(role, []).append(crate)
     for role, title in ROLES:
         lines += [f"## {title}", ""]
