@@ -141,7 +141,7 @@
 //!   made; scripts are cut behind a stall, and at a gone device. At the packet size 0 a read is accepted, and with an
 //!   empty packet its script isn't cut
 //!
-//! The proofs of these laws stand in `proof_model` and `proof_model`, which have no contracts of their own.
+//! The proofs of these laws stand in `proof_model`, which has no contracts of their own.
 //!
 //! The core: `ShowsWorld setup s w` is said of what it keeps. Its invariant: it shows some world. `TurnsWorld old step
 //! entry new`: for each world that the core shows before the call, the entry is that of the world's turn, and the
