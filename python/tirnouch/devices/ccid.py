@@ -44,7 +44,7 @@ class Reader(Renewed):
 
     product = 0x000D
     interfaces = (Interface(0x0B, 0, 0, "", FUNCTIONAL),)
-    strings = ("Works", "Reader", "R1")
+    strings = ("Works", "Reader", "READER-1")
     speed = "full"
     replies = bulk_in(REPLIES, PACKET)
 
