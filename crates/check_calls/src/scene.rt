@@ -12,7 +12,7 @@ use std::result;
 use std::sync::Wait;
 use usb_core::Taken;
 use usb_device::TableDevice;
-use usb_journal::{Naming, RecordError, Receipt, Recorder};
+use usb_journal::{Naming, Receipt, RecordError, Recorder};
 use usb_library::{Answered, Caller, Ended, Library, Missing, Opening, Submitted};
 use usb_model::{Bytes, Entry, EpAddr, Reply, Request};
 

@@ -16,7 +16,7 @@ use std::marker::Brand;
 use std::sync::ledger::Blank;
 use usb_core::{Setup, Stepped};
 use usb_device::Device;
-use usb_journal::{JournaledCore, Closed, Journal, Naming, PlaceImage, Position, Receipt};
+use usb_journal::{Closed, Journal, JournaledCore, Naming, PlaceImage, Position, Receipt};
 use usb_model::{Step, Verdict};
 use usb_receipts::{Keeper, Log};
 

@@ -64,12 +64,12 @@
 #![tactic(auto)]
 
 pub use usb_core::{
-    Callback, Core, Once, Pending, Repeat, Setup, StoredCallback, Taken, SubmitError, AddError,
+    AddError, Callback, Core, Once, Pending, Repeat, Setup, StoredCallback, SubmitError, Taken,
 };
 pub use usb_descriptors::{Config, read_config};
 pub use usb_device::{BoxedDevice, Device, TableDevice};
 pub use usb_journal::{
-    Journal, Naming, RecordError, Outgoing, Place, Receipt, Recorder, Row, Unrecorded,
+    Journal, Naming, Outgoing, Place, Receipt, RecordError, Recorder, Row, Unrecorded,
 };
 pub use usb_library::{Answered, CALLERS, Caller, Ended, Library, Missing, Opening, Submitted};
 pub use usb_model::{

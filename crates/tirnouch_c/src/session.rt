@@ -11,7 +11,7 @@ use std::alloc::{AllocError, Global};
 use trace_scenario::{ScriptedDevice, TextFault};
 use usb_core::{Core, Setup, Taken};
 use usb_device::TableDevice;
-use usb_devicetext::{DeviceText, DeskDevice, read_desk};
+use usb_devicetext::{DeskDevice, DeviceText, read_desk};
 use usb_model::Sequence;
 
 /// A core with scripted devices; with each transfer C keeps a number.

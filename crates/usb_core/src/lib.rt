@@ -258,7 +258,7 @@ pub use pending::Pending;
 pub use results::Taken;
 pub use ruled::Ruled;
 pub use runs::{Stopped, run};
-pub use setup::{Setup, AddError};
+pub use setup::{AddError, Setup};
 pub use step::{NoMemory, Stepped};
 pub use step_bursts::{Burst, Whole};
 pub use stored::{Once, Repeat, StoredCallback, Told};

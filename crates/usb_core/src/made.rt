@@ -11,7 +11,7 @@ use crate::parts::Parts;
 use crate::setup::Setup;
 use std::alloc::{AllocError, Global};
 use usb_device::Device;
-use usb_tables::{HandleStates, Claims, TransfersInFlight, Outstanding};
+use usb_tables::{Claims, HandleStates, Outstanding, TransfersInFlight};
 
 impl<P, D: Device> Parts<P, D> {
     /// No name has a device open, nothing is submitted, and each device is there, at the beginning of its scripts. The

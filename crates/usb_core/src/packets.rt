@@ -15,7 +15,7 @@ ghost use Rattle.refine_core.specs.Works.{IsFront};
 use crate::parts::Parts;
 use usb_device::Device;
 use usb_model::{Body, DeviceNo, Entry, EpAddr, Reply};
-use usb_tables::{TransfersInFlight, Transfer};
+use usb_tables::{Transfer, TransfersInFlight};
 use usb_xhc::{Controller, Packet};
 
 impl<P, D: Device> Parts<P, D> {

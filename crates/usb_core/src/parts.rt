@@ -3,7 +3,7 @@
 use std::alloc::Global;
 use std::marker::Model;
 use usb_device::Device;
-use usb_tables::{HandleStates, Claims, TransfersInFlight, Outstanding};
+use usb_tables::{Claims, HandleStates, Outstanding, TransfersInFlight};
 use usb_xhc::Controller;
 
 /// Who holds what; the controller with its devices and rings; the transfers in flight; what is kept of each handle; the

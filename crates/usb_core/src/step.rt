@@ -10,7 +10,7 @@ ghost use Rattle.usb_core.specs.Calls.{takes_memory};
 ghost use Rattle.usb_core.specs.Steps.{GoesOut, answered, first_payload, handed_out, kept_after, left_over};
 
 use crate::calls::Core;
-use crate::{Taken, SubmitError};
+use crate::{SubmitError, Taken};
 use std::fmt;
 use thiserror::Error;
 use usb_device::Device;

@@ -16,7 +16,7 @@ ghost use Rattle.usb_core.specs.StepBursts.{Differs, IsWholeAt, burst_entries, w
 use crate::parts::Parts;
 use usb_device::Device;
 use usb_model::{Body, DeviceNo, Entry, EpAddr, Name, Reply};
-use usb_tables::{TransfersInFlight, Transfer};
+use usb_tables::{Transfer, TransfersInFlight};
 use usb_xhc::Controller;
 
 /// A packet that moved so many bytes of a transfer, which goes on.

@@ -25,7 +25,7 @@ use thiserror::Error;
 use usb_device::Device;
 use usb_model::limits::{LAST_NUMBER, MOST_PLACES};
 use usb_model::{Buffer, DeviceNo, Name, Refused, Request};
-use usb_tables::{Tds, Transfer, Unmade, check};
+use usb_tables::{MakeTransferError, Tds, Transfer, check};
 
 /// What isn't accepted: all that was given comes back. As an error it says why.
 #[derive(Drop, Error)]
@@ -56,7 +56,7 @@ pub(crate) struct Place {
 }
 
 /// What a transfer was to be made of, where no place was had for it. `held` is the room that its caller's memory had, which goes back.
-fn unmade_of<P>(transfer: Transfer<P>, held: usize, memory: &mut Buffer) -> Unmade<P>
+fn unmade_of<P>(transfer: Transfer<P>, held: usize, memory: &mut Buffer) -> MakeTransferError<P>
     ensures back { result ≡ record { request = transfer.request; payload = transfer.payload } }
     ensures given { transfer.bytes.capacity ≡ held → memory.new ≡ transfer.bytes }
     ensures kept { (transfer.bytes.capacity ≡ held → ⊥) → memory.new ≡ memory.old }
@@ -70,7 +70,7 @@ fn unmade_of<P>(transfer: Transfer<P>, held: usize, memory: &mut Buffer) -> Unma
     if bytes.capacity() == held {
         mem::swap(memory, &mut bytes);
     }
-    Unmade { request, payload }
+    MakeTransferError { request, payload }
 }
 
 impl<P, D: Device> Parts<P, D> {
@@ -152,7 +152,7 @@ impl<P, D: Device> Parts<P, D> {
         Ok(Place { dev, tds })
     }
 
-    /// A transfer joins a line, under the name's next number. Unmade, with nothing changed, where memory is refused.
+    /// A transfer joins a line, under the name's next number. Not made, with nothing changed, where memory is refused.
     pub(crate) fn start(
         &mut self,
         h: Name,
@@ -160,7 +160,7 @@ impl<P, D: Device> Parts<P, D> {
         request: Request,
         round: u64,
         payload: P,
-    ) -> Result<u64, Unmade<P>>
+    ) -> Result<u64, MakeTransferError<P>>
         requires { CanStart self.old h place.dev request place.tds }
         ensures number { IfOk result (λ n. n ≡ number_of self.old.callers h) }
         ensures started { IfOk result (λ _. Starts self.old self.new h place.dev request.ep request round) }
@@ -180,7 +180,7 @@ impl<P, D: Device> Parts<P, D> {
         round: u64,
         payload: P,
         memory: &mut Buffer,
-    ) -> Result<u64, Unmade<P>>
+    ) -> Result<u64, MakeTransferError<P>>
         requires { CanStart self.old h place.dev request place.tds }
         ensures number { IfOk result (λ n. n ≡ number_of self.old.callers h) }
         ensures started { IfOk result (λ _. Starts self.old self.new h place.dev request.ep request round) }

@@ -53,4 +53,4 @@ pub use device::{Act, Device};
 pub use feed::Feed;
 pub use scripted::Scripted;
 pub use scripts::info_by;
-pub use table::{TableDevice, MakeDeviceError};
+pub use table::{MakeDeviceError, TableDevice};

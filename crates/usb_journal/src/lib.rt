@@ -95,4 +95,4 @@ pub use receipt::Receipt;
 pub use record::RecordError;
 pub use recorder::{Recorder, Unrecorded};
 pub use rows::{Delivered, Outgoing, Row, Served};
-pub use usb_core::{Pending, Setup, Stepped, Taken, SubmitError};
+pub use usb_core::{Pending, Setup, Stepped, SubmitError, Taken};

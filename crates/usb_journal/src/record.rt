@@ -17,7 +17,7 @@ use crate::submissions::enter;
 use crate::timer::stop_if;
 use std::fmt;
 use thiserror::Error;
-use usb_core::{Stepped, Taken, SubmitError};
+use usb_core::{Stepped, SubmitError, Taken};
 use usb_device::Device;
 use usb_model::{Entry, Name, Reply, Step, Verdict};
 use usb_receipts::Image;

@@ -15,7 +15,7 @@ use std::alloc::AllocError;
 use std::sync::Wait;
 use usb_core::Taken;
 use usb_device::Device;
-use usb_journal::{Naming, RecordError, Receipt, Recorder};
+use usb_journal::{Naming, Receipt, RecordError, Recorder};
 use usb_model::{Bytes, Name, Request};
 
 impl<L: Naming, P: Drop, D: Device, J: Recorder> Library<L, P, D, J> {

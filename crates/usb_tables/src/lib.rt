@@ -168,5 +168,5 @@ pub use status::result;
 pub use store::Store;
 pub use target::{Reading, Target};
 pub use tds::{Span, Tds};
-pub use transfer::{Transfer, MakeTransferError};
+pub use transfer::{MakeTransferError, Transfer};
 pub use trbs::Trbs;

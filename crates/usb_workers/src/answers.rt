@@ -149,7 +149,9 @@ pub(crate) fn answer<L: Naming, C: Callback, D: Device, J: Recorder, R: Wait>(
         stop(rt, library, caller, tries, h, n);
         return;
     };
-    if let Some(EndedCallback { callback, end }) = resubmit(rt, library, caller, h, n, verdict, callback) {
+    if let Some(EndedCallback { callback, end }) = resubmit(
+        rt, library, caller, h, n, verdict, callback,
+    ) {
         stop(rt, library, caller, tries, h, n);
         note(library, end);
         callback.ended(end);
