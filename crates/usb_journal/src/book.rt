@@ -56,7 +56,7 @@ impl<L: Naming, P, D: Device, J: Recorder> JournaledCore<L, P, D, J> {
         setup: Setup<D>,
         log: usb_receipts::Log<PlaceImage>,
         keeper: Keeper<PlaceImage>,
-        total: ledger::JournaledCore<L>,
+        total: ledger::Book<L>,
     ) -> Result<JournaledCore<L, P, D, J>, AllocError>
         requires setup { setup_of setup ≡ L.setup }
         requires log { log ≡ L.table }

@@ -25,7 +25,7 @@ pub struct Closing<L: Naming, P, D: Device, J: Recorder> {
     pub(crate) places: u64,
     pub(crate) log: usb_receipts::Log<PlaceImage>,
     pub(crate) keeper: Keeper<PlaceImage>,
-    pub(crate) total: ledger::JournaledCore<L>,
+    pub(crate) total: ledger::Book<L>,
     pub(crate) core: Core<P, D>,
 }
 
@@ -119,7 +119,7 @@ pub struct Closed<L: Naming, P, D: Device, J> {
     /// How many places it has.
     pub places: u64,
     /// The ledger that counts them. It has no bytes.
-    pub total: ledger::JournaledCore<L>,
+    pub total: ledger::Book<L>,
     /// The core, with its devices.
     pub core: Core<P, D>,
 }

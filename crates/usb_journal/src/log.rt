@@ -28,7 +28,7 @@ pub(crate) struct Log<L: Naming, J: Recorder> {
     bearers: u32,
     pub(crate) log: usb_receipts::Log<PlaceImage>,
     pub(crate) keeper: Keeper<PlaceImage>,
-    pub(crate) total: ledger::JournaledCore<L>,
+    pub(crate) total: ledger::Book<L>,
 }
 
 /// Contracts see the places, and the recorder for the room that it has.
@@ -49,7 +49,7 @@ impl<L: Naming, J: Recorder> Log<L, J> {
         alloc: Global,
         log: usb_receipts::Log<PlaceImage>,
         keeper: Keeper<PlaceImage>,
-        total: ledger::JournaledCore<L>,
+        total: ledger::Book<L>,
     ) -> Log<L, J>
         requires log { log ≡ L.table }
         requires keeper { keeper ≡ new_keeper log }
