@@ -1,4 +1,4 @@
-//! EndpointQueues: the rows of the picture, one for each thing to which something happens.
+//! Lanes: the rows of the picture, one for each thing to which something happens.
 
 use crate::words::Words;
 use usb_model::{DeviceNo, EpAddr, Name};

@@ -16,7 +16,7 @@ use Rattle.usb_model.specs.Setup.{Setup}
 use Rattle.usb_model.specs.Machine.Calls.{callback_of}
 use Rattle.usb_model.specs.World.{machine_of, is_its, turn}
 use Rattle.usb_model.specs.World.Journal.{journal_from, journal, is_held_elsewhere, is_unplug}
-use Rattle.usb_model.specs.World.Plans.{JournaledCore, noted_by, noted, verdict_by, needs_stop, return_steps, is_submit, rules_past, rules_after, first_rule, rule_for, once_only, Stage, first_stage, returning, steps_of, stage_after, expand_from, is_own_piece, is_submission, own_plan_from, own_rules_from}
+use Rattle.usb_model.specs.World.Plans.{Book, noted_by, noted, verdict_by, needs_stop, return_steps, is_submit, rules_past, rules_after, first_rule, rule_for, once_only, Stage, first_stage, returning, steps_of, stage_after, expand_from, is_own_piece, is_submission, own_plan_from, own_rules_from}
 use Rattle.proof_model.proofs.Handles.Isolation.{is_own_step, IsEither, turn_to, own_from}
 use Rattle.usb_plans.specs.Laws.{ExpandsAlone}
 use Rattle.proof_model.proofs.Handles.Alone.{OnlyOf, turn_again, only_new}
@@ -24,11 +24,11 @@ use Rattle.usb_plans.proofs.Runs.{own-append, AllOwn, NoneOwn, own_all, own_none
 use Rattle.usb_plans.proofs.Verdicts.{answer_own, answer_others}
 
 -- books that have the same rules for a name
-abbrev pub SameBook : ℕ → JournaledCore → JournaledCore → Type 0
+abbrev pub SameBook : ℕ → Book → Book → Type 0
 SameBook h book other = (n : ℕ) → book h n ≡ other h n
 
 -- the same entry under the same rule keeps them so
-noted_same : (h : ℕ) (book other : JournaledCore) (entry : Entry) (rule : Rule) → SameBook h book other → SameBook h (noted book entry rule) (noted other entry rule)
+noted_same : (h : ℕ) (book other : Book) (entry : Entry) (rule : Rule) → SameBook h book other → SameBook h (noted book entry rule) (noted other entry rule)
 noted_same h book other entry rule same n = by_owner entry.owner entry.reply
   where
     by_test : (b : Bool) → (if b then rule else book h n) ≡ (if b then rule else other h n)
@@ -41,7 +41,7 @@ noted_same h book other entry rule same n = by_owner entry.owner entry.reply
     by_owner (Some g) _ = same n
 
 -- an entry that is not the name's own leaves its rules
-noted_nothing : (h : ℕ) (book : JournaledCore) (step : Step) (entry : Entry) (rule : Rule) → is_own_step h step entry ≡ false → SameBook h (noted book entry rule) book
+noted_nothing : (h : ℕ) (book : Book) (step : Step) (entry : Entry) (rule : Rule) → is_own_step h step entry ≡ false → SameBook h (noted book entry rule) book
 noted_nothing h book step entry rule e n = by_owner entry.owner entry.reply (or_parts (is_unplug step) (is_its h entry.owner && not (is_held_elsewhere entry.reply)) e).1
   where
     by_test : (b c : Bool) → (b && true) ≡ false → (if b && c then rule else book h n) ≡ book h n

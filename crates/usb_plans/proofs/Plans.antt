@@ -15,7 +15,7 @@ use Rattle.usb_model.specs.declared.result.InCallback.{InCallback}
 use Rattle.usb_model.specs.Setup.{Setup}
 use Rattle.usb_model.specs.World.{turn}
 use Rattle.usb_plans.specs.PlanRuns.{StandsFor}
-use Rattle.usb_model.specs.World.Plans.{verdict_of, FitsRule, once_only, JournaledCore, noted_by, verdict_by, FitsReturn, return_steps, is_submit, rules_past, rules_after, first_rule, rule_for, Stage, first_stage, returning, steps_of, stage_after, expand_from, ExpandsFrom}
+use Rattle.usb_model.specs.World.Plans.{verdict_of, FitsRule, once_only, Book, noted_by, verdict_by, FitsReturn, return_steps, is_submit, rules_past, rules_after, first_rule, rule_for, Stage, first_stage, returning, steps_of, stage_after, expand_from, ExpandsFrom}
 use Rattle.usb_plans.specs.Laws.{MayExpand, ExpandsOnly}
 
 -- what a callback under a rule answers, fits the rule
@@ -52,7 +52,7 @@ abbrev pub AreFixed : List Rule → Type 0
 AreFixed rules = AllByRecursion IsFixed rules
 
 -- a book of such rules
-abbrev pub IsFixedBook : JournaledCore → Type 0
+abbrev pub IsFixedBook : Book → Type 0
 IsFixedBook book = (h n : ℕ) → IsFixed (book h n)
 
 -- a callback that is called once isn't Free
@@ -65,7 +65,7 @@ fixed_if true a b x y = x
 fixed_if false a b x y = y
 
 -- a book with one rule more
-fixed_noted : (book : JournaledCore) (o : Option ℕ) (reply : Reply) (r : Rule) → IsFixedBook book → IsFixed r → IsFixedBook (noted_by book o reply r)
+fixed_noted : (book : Book) (o : Option ℕ) (reply : Reply) (r : Rule) → IsFixedBook book → IsFixed r → IsFixedBook (noted_by book o reply r)
 fixed_noted book (Some h) (Number n) r all fixed g k = fixed_if ((h == g) && (n == k)) r (book g k) fixed (all g k)
 fixed_noted book _ _ r all fixed g k = all g k
 
@@ -75,7 +75,7 @@ fixed_first [] all = fixed_once
 fixed_first (r ∷ rules) all = all.0
 
 -- the rule of the number that a piece may give
-fixed_for : (book : JournaledCore) (rules : List Rule) (piece : Plan) → IsFixedBook book → AreFixed rules → IsFixed (rule_for book rules piece)
+fixed_for : (book : Book) (rules : List Rule) (piece : Plan) → IsFixedBook book → AreFixed rules → IsFixed (rule_for book rules piece)
 fixed_for book rules (Do step) noted all = fixed_if (is_submit step) (first_rule rules) once_only (fixed_first rules all) fixed_once
 fixed_for book rules (Return h n) noted all = noted h n
 

@@ -17,7 +17,7 @@ use Rattle.usb_model.specs.Setup.{Setup}
 use Rattle.usb_model.specs.Machine.Calls.{callback_of}
 use Rattle.usb_model.specs.World.{World, new_world, turn, turn_of_nobody}
 use Rattle.usb_model.specs.Laws.Places.{call_of}
-use Rattle.usb_model.specs.World.Plans.{JournaledCore, Stage, first_stage, noted, noted_by, returning}
+use Rattle.usb_model.specs.World.Plans.{Book, Stage, first_stage, noted, noted_by, returning}
 use Rattle.usb_core.specs.Public.{Carries, Kept, ShowsWorld, State, Taken, TurnsWorld, result_of}
 use Rattle.usb_tables.specs.declared.transfer.Transfer.{Transfer as InFlight}
 use Rattle.usb_tables.specs.TransfersInFlight.{EndedOf}
@@ -50,11 +50,11 @@ GivesFresh w step entry = (h n : ℕ) → entry.owner ≡ Some h → entry.reply
 
 module _ {P : Type 0} (rule : P → Rule) where
   -- what is kept has the rules of the book
-  abbrev AreUnder : Kept P → JournaledCore → Type 0
+  abbrev AreUnder : Kept P → Book → Type 0
   AreUnder kept book = (h n : ℕ) (c : P) → kept h n ≡ Some c → rule c ≡ book h n
 
   -- also behind an entry
-  under_by : (kept : Kept P) (book : JournaledCore) (takes : Bool) (owner : Option ℕ) (r : Reply) (payload : Option P) (its : Rule) → ((h n : ℕ) → owner ≡ Some h → r ≡ reply.Number n → takes ≡ true)
+  under_by : (kept : Kept P) (book : Book) (takes : Bool) (owner : Option ℕ) (r : Reply) (payload : Option P) (its : Rule) → ((h n : ℕ) → owner ≡ Some h → r ≡ reply.Number n → takes ≡ true)
       → (takes ≡ true → is_some payload ≡ true) → (takes ≡ true → IsUnder rule its payload) → AreUnder kept book → AreUnder (kept_by kept takes owner r payload) (noted_by book owner r its)
   under_by kept book true None r payload its gives given under all = all
   under_by kept book false None r payload its gives given under all = all

@@ -26,7 +26,7 @@ use Rattle.usb_model.specs.Numbers.{is_stop, takes_payload}
 use Rattle.usb_model.specs.Setup.{Setup}
 use Rattle.usb_model.specs.World.{World, machine_of, turn, world_from}
 use Rattle.usb_model.specs.World.Journal.{journal_from, run_from}
-use Rattle.usb_model.specs.World.Plans.{JournaledCore, FitsReturn, FitsRule, Stage, is_other_refusal, is_submit, needs_stop, noted_by, return_steps, returning, rule_for, rules_after, stage_after}
+use Rattle.usb_model.specs.World.Plans.{Book, FitsReturn, FitsRule, Stage, is_other_refusal, is_submit, needs_stop, noted_by, return_steps, returning, rule_for, rules_after, stage_after}
 use Rattle.usb_core.specs.Callbacks.{Fits}
 use Rattle.usb_core.specs.Public.{Taken}
 use Rattle.usb_plans.specs.declared.plan_run.Performed.{Performed}
@@ -112,7 +112,7 @@ refusal_goes_on (reply.Number n) other = absurd cc
 refusal_goes_on _ other = refl
 
 -- an entry that gives no number leaves the book
-noted_done : (book : JournaledCore) (owner : Option ℕ) (r : Reply) (rule : Rule) → r ≡ reply.Done → noted_by book owner r rule ≡ book
+noted_done : (book : Book) (owner : Option ℕ) (r : Reply) (rule : Rule) → r ≡ reply.Done → noted_by book owner r rule ≡ book
 noted_done book None r rule done = refl
 noted_done book (Some h) r rule done = rw done refl
 
@@ -126,7 +126,7 @@ behind_two : (setup : Setup) (s t : Stage) (h n : ℕ) (v w : Verdict) → t ≡
     → stage_behind setup t (Answer h n w) (s.book h n) s.rules ≡ stage_after setup s (Return h n) (Answer h n v ∷ Answer h n w ∷ [])
 unfolding stage_after world_from
 behind_two setup s t h n v w is done =
-    ap (λ (b : JournaledCore). record { world = (turn setup t.world (Answer h n w)).world; book = b; rules = s.rules }) (noted_done t.book (turn setup t.world (Answer h n w)).entry.owner _ (s.book h n) done)
+    ap (λ (b : Book). record { world = (turn setup t.world (Answer h n w)).world; book = b; rules = s.rules }) (noted_done t.book (turn setup t.world (Answer h n w)).entry.owner _ (s.book h n) done)
     ∙ ap (λ (u : Stage). record { world = (turn setup u.world (Answer h n w)).world; book = u.book; rules = s.rules }) is
 
 -- the entries of one verdict, and of two

@@ -50,18 +50,18 @@ abbrev pub once_only : Rule
 once_only = rule.Again (record { 0 = 0 }) 0
 
 -- the rule of each number of each name
-abbrev pub JournaledCore : Type 0
-JournaledCore = ℕ → ℕ → Rule
+abbrev pub Book : Type 0
+Book = ℕ → ℕ → Rule
 
-abbrev pub with_rule : JournaledCore → ℕ → ℕ → Rule → JournaledCore
+abbrev pub with_rule : Book → ℕ → ℕ → Rule → Book
 with_rule book h n rule g k = if (h == g) && (n == k) then rule else book g k
 
-abbrev pub noted_by : JournaledCore → Option ℕ → Reply → Rule → JournaledCore
+abbrev pub noted_by : Book → Option ℕ → Reply → Rule → Book
 noted_by book (Some h) (Number n) rule = with_rule book h n rule
 noted_by book _ _ rule = book
 
 -- the book after an entry that may have given a number, under the rule
-abbrev pub noted : JournaledCore → Entry → Rule → JournaledCore
+abbrev pub noted : Book → Entry → Rule → Book
 noted book entry rule = noted_by book entry.owner entry.reply rule
 
 -- a transfer in its callback returns; without one the verdict is Stop
@@ -109,14 +109,14 @@ first_rule [] = once_only
 first_rule (r ∷ rs) = r
 
 -- the rule of the number that a piece may give: its own, or kept through Again and AgainWith
-abbrev pub rule_for : JournaledCore → List Rule → Plan → Rule
+abbrev pub rule_for : Book → List Rule → Plan → Rule
 rule_for book rules (Do step) = if is_submit step then first_rule rules else once_only
 rule_for book rules (Return h n) = book h n
 
 -- what stands in the midst of a plan: the world, the rules of the numbers that were given, and the rules of the Submits to come
 pub record Stage : Type 0 where
   pub world : World
-  pub book : JournaledCore
+  pub book : Book
   pub rules : List Rule
 
 abbrev pub first_stage : Setup → List Rule → Stage
