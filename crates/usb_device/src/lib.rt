@@ -31,8 +31,7 @@
 //!   can't have it, or its script is full; else NoMem; refused, nothing changed. `TableDevice` does
 //! - `TableDevice::new`: the endpoints of the configuration with the scripts, at their beginning; InvalidParam just
 //!   where a script isn't fit, else NoMem; refused, the scripts come back as they were
-//! - `TableDevice::packet_size`, `BoxedDevice::new`: the most bytes of a packet that an endpoint takes; a box answers
-//!   as the device in it
+//! - `BoxedDevice::new`: a box answers as the device in it
 //!
 //! It doesn't say: which transfer a transaction is of, when one is tried again, how long anything takes. A device's
 //! answers are settled when it is made, or fed.

@@ -114,13 +114,6 @@ impl TableDevice {
         }
         Ok(TableDevice { pipes })
     }
-
-    /// The most bytes of a packet that an endpoint takes: its packet size (USB 2.0, 9.6.6), and 0 where there is no such endpoint.
-    pub fn packet_size(&self, ep: EpAddr) -> u16
-        ensures { result ≡ (pipe_at (⟦<TableDevice as Device>⟧.pipes self.now) ep).size }
-    {
-        self.pipes[usize::from(ep.id())].size()
-    }
 }
 
 impl Device for TableDevice {

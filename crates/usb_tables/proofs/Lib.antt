@@ -1,7 +1,6 @@
 pub mod Ordered
 pub mod Settlements
 pub mod Positions
-pub mod Readings
 pub mod Statuses
 mod Endpoints
 mod Holders

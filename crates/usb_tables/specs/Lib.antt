@@ -2,7 +2,6 @@ pub mod Orders
 pub mod Settlements
 pub mod Statuses
 pub mod Events
-pub mod Lines
 pub mod Tables
 pub mod Holders
 pub mod Refusal

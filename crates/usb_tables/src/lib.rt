@@ -17,10 +17,7 @@
 //!
 //! - `target.rt`: `Target`, `Reading`: the transfer and the TRB at which an event points, and what the event tells of
 //!   it. The core reads each event by it
-//! - `event.rt`, `placed.rt`: `read_event`: the same against a line of transfers with the addresses of their TRBs
-//!   (`Placed`, `PlacedTrb`), five at most, in room of its own
 //! - `status.rt`: `result`: the status by a code
-//! - `event_laws.rt`, specs/Lines: where the addresses of a line's places differ, a reading is that of `usb_model`
 //! - specs/ Events, Statuses: what an event tells; which ends have which status, read from the status
 //!
 //! Who has which device open, and who holds which interface:
@@ -68,15 +65,8 @@
 //!   TRBs before that one, and of that one without the residual; the status by code, ask, flags and length, or that
 //!   there is no device; a pause by the code Stopped; stray where the residual is over its TRB's length.
 //!   `Parts::deliver` reads by it
-//! - `read_event`: what an event of any kind tells of a line, by one equation: the first transfer with a TRB at the
-//!   pointer; the bytes of its TRBs before that one, and of that one without the residual; the status by code, ask,
-//!   flags and length, or a pause by the code Stopped; stray where no TRB has that address, where the residual is
-//!   over its TRB's length, and where the event is of another kind
 //! - `result`: the status is that of the definitions; and, read the other way, each status is given for just the ends
 //!   that it stands for (clause `exact`)
-//! - `event_laws::reads_as_kept`: an event at a place of a line is read as `usb_model` reads it, and is
-//!   stray just where that finds nothing; premise: no other place of the line has its address
-//!
 //! - `Claims::open`, `close`, `claim`, `release`, clause `answer`: each answers Err(why) exactly where the first test
 //!   of its list that holds says why, and else Ok
 //! - the same, `devices`, `owners`, `configs`: after Ok devices and owners are those of the definitions'
@@ -133,8 +123,6 @@ mod claims;
 mod ended;
 mod ending;
 mod endpoint_table;
-mod event;
-pub mod event_laws;
 mod flights;
 mod held;
 mod lanes;
@@ -143,7 +131,6 @@ mod open_table;
 mod order;
 mod outstanding;
 mod owner_table;
-mod placed;
 mod refusal;
 mod status;
 mod store;
@@ -157,12 +144,10 @@ pub use callers::HandleStates;
 pub use claims::Claims;
 pub use ended::{Mark, Settlement, settle};
 pub use ending::{Ended, Ending};
-pub use event::read_event;
 pub use flights::TransfersInFlight;
 pub use held::HeldEndpoint;
 pub use order::{ask, next_order};
 pub use outstanding::{Outstanding, Sent};
-pub use placed::{Placed, PlacedTrb};
 pub use refusal::{check, check_at};
 pub use status::result;
 pub use store::Store;

@@ -29,8 +29,7 @@ pub enum Reading {
         /// How many of its bytes moved until then.
         actual: u32,
     },
-    /// The event tells of no transfer of the line: it is no Transfer Event, or its pointer names none of the line's TRBs,
-    /// or its residual is over that TRB's length.
+    /// The event tells nothing of it: its residual is over the length of the TRB.
     Stray,
 }
 
