@@ -39,10 +39,10 @@ MAIN = """//! A program that calls each export of `tirnouch_c`, so that they are
 
 {modules}
 use crate::held::Slot;
+use crate::lent_memory::LentMemory;
 use crate::told::Told;
 use std::io;
 use std::ptr::null_mut;
-use tirnouch_c::LentMemory;
 
 fn main(rt: HostRuntime) -> io::Result<()> {{
     let alloc = rt.alloc();
