@@ -3,18 +3,18 @@
 ghost use Rattle.std.specs.Prelude.{◌≡◌, ◌++◌, ◌+◌, ◌-◌, ◌^◌, ◌<◌, ◌≤◌, ◌==◌, ◌∷◌, ℕ, List, [], IfOk, IfSome, OnOk, length, slice_get, vec_capacity, vec_len};
 ghost use Rattle.usb_model.specs.declared.reply.Reply.TheVariants.{Called};
 ghost use Rattle.usb_model.specs.declared.step.Step.TheVariants.{Take};
-ghost use Rattle.usb_journal.specs.declared.kept.Asked.TheVariants.{Take as TakeAsked};
-ghost use Rattle.usb_journal.specs.declared.kept.Kept.{Kept};
+ghost use Rattle.usb_journal.specs.declared.kept.CompactStep.TheVariants.{Take as TakeAsked};
+ghost use Rattle.usb_journal.specs.declared.kept.LongEntry.{LongEntry};
 ghost use Rattle.usb_journal.specs.declared.place.Place.{Place};
-ghost use Rattle.usb_journal.specs.declared.short.Rest.{Rest};
+ghost use Rattle.usb_journal.specs.declared.short.ResultTail.{ResultTail};
 ghost use Rattle.usb_journal.specs.Kept.{HasRoom, IsThere, of_name, place_in, reply_of, step_of};
 ghost use Rattle.usb_journal.specs.Records.{bytes_in};
 
-use crate::kept::{Asked, Kept, Replied, given_by, sent_by};
+use crate::kept::{CompactReply, CompactStep, LongEntry, given_by, sent_by};
 use crate::place::Place;
 use crate::reader;
 use crate::recorder::Recorder;
-use crate::short::{Rest, Short};
+use crate::short::{PackedEntry, ResultTail};
 use std::alloc::{AllocError, Global};
 use std::marker::Model;
 use usb_model::{Entry, Name, Reply, Returned, Step};
@@ -23,9 +23,9 @@ use usb_model::{Entry, Name, Reply, Returned, Step};
 /// and the bytes of all places stand in one buffer.
 #[derive(Drop)]
 pub struct Journal {
-    shorts: Vec<Short>,
-    rests: Vec<Rest>,
-    longs: Vec<Kept>,
+    shorts: Vec<PackedEntry>,
+    rests: Vec<ResultTail>,
+    longs: Vec<LongEntry>,
     bytes: Vec<u8>,
     used: usize,
     /// For how many more places there is room, of whichever kind they are.
@@ -38,7 +38,7 @@ const AHEAD: usize = 64;
 /// A step without its bytes, which stand in the buffer.
 #[derive(Drop)]
 pub struct Draft {
-    asked: Asked,
+    asked: CompactStep,
 }
 
 /// Contracts see the places. Behind the bytes of these stand those of a step that is drafted.
@@ -119,10 +119,10 @@ impl Journal {
 
     /// Keeps one place more, where that is short.
     #[inline(always)]
-    fn keep_short(&mut self, short: Short)
+    fn keep_short(&mut self, short: PackedEntry)
         requires room { 1 ≤ self.old.room }
         requires here { (rests longs : ℕ) → IsThere rests longs short }
-        ensures places { (p : Place) → ((bytes : List ℕ) (rests : List Rest) (longs : List Kept) → place_in bytes rests longs short ≡ p) → self.new.places ≡ self.old.places ++ p ∷ [] }
+        ensures places { (p : Place) → ((bytes : List ℕ) (rests : List ResultTail) (longs : List LongEntry) → place_in bytes rests longs short ≡ p) → self.new.places ≡ self.old.places ++ p ∷ [] }
         ensures room { (places bytes : ℕ) → HasRoom self.old places bytes → HasRoom self.new (places - 1) bytes }
     {
         self.shorts.push_reserved(short);
@@ -140,7 +140,7 @@ impl Journal {
         let bytes = returned.bytes.as_slice();
         let from = self.bytes.len();
         append(&mut self.bytes, bytes);
-        self.shorts.push_reserved(Short::Called {
+        self.shorts.push_reserved(PackedEntry::Called {
             h: returned.h,
             ep: returned.ep,
             status: returned.status,
@@ -149,7 +149,7 @@ impl Journal {
             n: returned.n,
             at: self.rests.len(),
         });
-        self.rests.push_reserved(Rest {
+        self.rests.push_reserved(ResultTail {
             round: returned.round,
             from,
             count: bytes.len() as u32,
@@ -163,10 +163,10 @@ impl Journal {
     #[inline(never)]
     fn keep_long(
         &mut self,
-        asked: Asked,
+        asked: CompactStep,
         caller: u32,
         owner: Option<Name>,
-        replied: Replied,
+        replied: CompactReply,
         given: &[u8],
         moment: u64,
     )
@@ -177,8 +177,9 @@ impl Journal {
         let from = self.used;
         let sent = self.bytes.len() - from;
         append(&mut self.bytes, given);
-        self.shorts.push_reserved(Short::Long(self.longs.len()));
-        self.longs.push_reserved(Kept {
+        self.shorts
+            .push_reserved(PackedEntry::Long(self.longs.len()));
+        self.longs.push_reserved(LongEntry {
             from,
             sent,
             given: given.len(),
@@ -194,19 +195,19 @@ impl Journal {
 
     /// The same with its entry, taken apart.
     #[inline(always)]
-    fn keep_any(&mut self, asked: Asked, caller: u32, entry: &Entry, moment: u64)
+    fn keep_any(&mut self, asked: CompactStep, caller: u32, entry: &Entry, moment: u64)
         requires room { HasRoom self.old 1 (bytes_in entry.now.reply) }
         ensures places { self.new.places ≡ self.old.places ++ record { step = step_of asked self.old.drafted; caller = caller; entry = entry.now; moment = moment } ∷ [] }
         ensures room { (places bytes : ℕ) → HasRoom self.old places bytes → HasRoom self.new (places - 1) (bytes - bytes_in entry.now.reply) }
     {
-        let replied = Replied::of(&entry.reply);
+        let replied = CompactReply::of(&entry.reply);
         let given = given_by(&entry.reply);
         self.keep_long(asked, caller, entry.owner, replied, given, moment);
     }
 
     /// The same with an entry that stands in memory as a whole: it is taken apart out of line, else it would be wherever a step is made.
     #[inline(never)]
-    fn keep_handed(&mut self, asked: Asked, caller: u32, entry: &Entry, moment: u64)
+    fn keep_handed(&mut self, asked: CompactStep, caller: u32, entry: &Entry, moment: u64)
         requires room { HasRoom self.old 1 (bytes_in entry.now.reply) }
         ensures places { self.new.places ≡ self.old.places ++ record { step = step_of asked self.old.drafted; caller = caller; entry = entry.now; moment = moment } ∷ [] }
         ensures room { (places bytes : ℕ) → HasRoom self.old places bytes → HasRoom self.new (places - 1) (bytes - bytes_in entry.now.reply) }
@@ -230,17 +231,20 @@ fn append(bytes: &mut Vec<u8>, more: &[u8])
 
 /// Whether the core hands out the entry of a step whole, and no part of it is made here.
 #[inline(always)]
-fn is_handed_on(asked: &Asked) -> bool {
-    matches!(asked, Asked::Serve { .. } | Asked::Deliver | Asked::Take)
+fn is_handed_on(asked: &CompactStep) -> bool {
+    matches!(
+        asked,
+        CompactStep::Serve { .. } | CompactStep::Deliver | CompactStep::Take
+    )
 }
 
 /// The result that goes out, if it is one of its name's own, of fewer than 2^32 bytes.
 #[inline(always)]
-fn result_in<'a>(asked: &Asked, entry: &'a Entry) -> Option<&'a Returned>
+fn result_in<'a>(asked: &CompactStep, entry: &'a Entry) -> Option<&'a Returned>
     ensures { IfSome result (λ r. (asked.now ≡ TakeAsked) × (entry.now ≡ of_name r.now.h (Called r.now)) × (length r.now.bytes < 2 ^ 32)) }
 {
     match asked {
-        Asked::Take => match &entry.reply {
+        CompactStep::Take => match &entry.reply {
             Reply::Called(returned)
                 if returned.h.is_its(entry.owner)
                     && returned.bytes.as_slice().len() <= u32::MAX as usize => { Some(returned) }
@@ -287,7 +291,7 @@ impl Recorder for Journal {
         self.bytes.truncate(self.used);
         append(&mut self.bytes, sent_by(step));
         Draft {
-            asked: Asked::of(step),
+            asked: CompactStep::of(step),
         }
     }
 
@@ -298,7 +302,7 @@ impl Recorder for Journal {
             self.keep_result(caller, returned, moment);
             return;
         }
-        match Short::of(&asked, caller, entry, moment) {
+        match PackedEntry::of(&asked, caller, entry, moment) {
             Some(short) => self.keep_short(short),
             None if is_handed_on(&asked) => self.keep_handed(asked, caller, entry, moment),
             None => self.keep_any(asked, caller, entry, moment),

@@ -12,7 +12,7 @@ use usb_model::{
 
 /// A step without its bytes.
 #[derive(Clone, Copy)]
-pub(crate) enum Asked {
+pub(crate) enum CompactStep {
     Open {
         h: Name,
         dev: DeviceNo,
@@ -86,7 +86,7 @@ pub(crate) enum Asked {
 
 /// A reply without its bytes.
 #[derive(Clone, Copy)]
-pub(crate) enum Replied {
+pub(crate) enum CompactReply {
     Done,
     Number(u64),
     Refused(Refused),
@@ -130,7 +130,7 @@ pub(crate) enum Replied {
 
 /// A place. Its bytes stand together in the journal's buffer: those of the step, and behind them those of the reply.
 #[derive(Clone, Copy)]
-pub(crate) struct Kept {
+pub(crate) struct LongEntry {
     /// Where its bytes begin.
     pub(crate) from: usize,
     /// How many the step has.
@@ -139,8 +139,8 @@ pub(crate) struct Kept {
     pub(crate) given: usize,
     /// When it was made, in milliseconds.
     pub(crate) moment: u64,
-    pub(crate) asked: Asked,
-    pub(crate) replied: Replied,
+    pub(crate) asked: CompactStep,
+    pub(crate) replied: CompactReply,
     /// Who asked for it.
     pub(crate) caller: u32,
     /// Whose it was.
@@ -148,7 +148,7 @@ pub(crate) struct Kept {
 }
 
 /// A submission without its bytes.
-fn submission(h: Name, request: &Request) -> Asked
+fn submission(h: Name, request: &Request) -> CompactStep
     ensures { step_of result (sent_by (Submit h request.now)) ≡ Submit h request.now }
 {
     let Request {
@@ -159,7 +159,7 @@ fn submission(h: Name, request: &Request) -> Asked
         body,
     } = request;
     match body {
-        Body::In(length) => Asked::Read {
+        Body::In(length) => CompactStep::Read {
             length: *length,
             timeout: *timeout,
             h,
@@ -167,7 +167,7 @@ fn submission(h: Name, request: &Request) -> Asked
             kind: *kind,
             flags: *flags,
         },
-        Body::Out(_) => Asked::Write {
+        Body::Out(_) => CompactStep::Write {
             timeout: *timeout,
             h,
             ep: *ep,
@@ -177,66 +177,66 @@ fn submission(h: Name, request: &Request) -> Asked
     }
 }
 
-impl Asked {
+impl CompactStep {
     /// A step without its bytes. Inlined where the step is known, so that nothing is left of the match.
     #[inline(always)]
-    pub(crate) fn of(step: &Step) -> Asked
+    pub(crate) fn of(step: &Step) -> CompactStep
         ensures { step_of result (sent_by step.now) ≡ step.now }
     {
         match step {
-            Step::Open { h, dev } => Asked::Open { h: *h, dev: *dev },
-            Step::Close { h } => Asked::Close { h: *h },
-            Step::Claim { h, i } => Asked::Claim { h: *h, i: *i },
-            Step::Release { h, i } => Asked::Release { h: *h, i: *i },
-            Step::Reset { h } => Asked::Reset { h: *h },
-            Step::ClearHalt { h, ep } => Asked::ClearHalt { h: *h, ep: *ep },
+            Step::Open { h, dev } => CompactStep::Open { h: *h, dev: *dev },
+            Step::Close { h } => CompactStep::Close { h: *h },
+            Step::Claim { h, i } => CompactStep::Claim { h: *h, i: *i },
+            Step::Release { h, i } => CompactStep::Release { h: *h, i: *i },
+            Step::Reset { h } => CompactStep::Reset { h: *h },
+            Step::ClearHalt { h, ep } => CompactStep::ClearHalt { h: *h, ep: *ep },
             Step::Submit { h, request } => submission(*h, request),
-            Step::Cancel { h, n } => Asked::Cancel { n: *n, h: *h },
-            Step::Expire { h, n } => Asked::Expire { n: *n, h: *h },
-            Step::Serve { dev, ep } => Asked::Serve { dev: *dev, ep: *ep },
-            Step::Command => Asked::Command,
-            Step::Deliver => Asked::Deliver,
-            Step::Take => Asked::Take,
+            Step::Cancel { h, n } => CompactStep::Cancel { n: *n, h: *h },
+            Step::Expire { h, n } => CompactStep::Expire { n: *n, h: *h },
+            Step::Serve { dev, ep } => CompactStep::Serve { dev: *dev, ep: *ep },
+            Step::Command => CompactStep::Command,
+            Step::Deliver => CompactStep::Deliver,
+            Step::Take => CompactStep::Take,
             Step::Answer { h, n, verdict } => match verdict {
-                Verdict::Stop => Asked::Stop { n: *n, h: *h },
-                Verdict::Again => Asked::Again { n: *n, h: *h },
-                Verdict::AgainWith(_) => Asked::AgainWith { n: *n, h: *h },
+                Verdict::Stop => CompactStep::Stop { n: *n, h: *h },
+                Verdict::Again => CompactStep::Again { n: *n, h: *h },
+                Verdict::AgainWith(_) => CompactStep::AgainWith { n: *n, h: *h },
             },
-            Step::Unplug { dev } => Asked::Unplug { dev: *dev },
+            Step::Unplug { dev } => CompactStep::Unplug { dev: *dev },
         }
     }
 }
 
-impl Replied {
+impl CompactReply {
     /// A reply without its bytes. Inlined where the reply is known, as that of a submission is.
     #[inline(always)]
-    pub(crate) fn of(reply: &Reply) -> Replied
+    pub(crate) fn of(reply: &Reply) -> CompactReply
         ensures { reply_of result (given_by reply.now) ≡ reply.now }
     {
         match reply {
-            Reply::Done => Replied::Done,
-            Reply::Number(n) => Replied::Number(*n),
-            Reply::Refused(why) => Replied::Refused(*why),
-            Reply::Idle => Replied::Idle,
-            Reply::Nak { n } => Replied::Nak { n: *n },
-            Reply::Moved { n, bytes } => Replied::Moved {
+            Reply::Done => CompactReply::Done,
+            Reply::Number(n) => CompactReply::Number(*n),
+            Reply::Refused(why) => CompactReply::Refused(*why),
+            Reply::Idle => CompactReply::Idle,
+            Reply::Nak { n } => CompactReply::Nak { n: *n },
+            Reply::Moved { n, bytes } => CompactReply::Moved {
                 n: *n,
                 count: *bytes,
             },
-            Reply::Ended { n, code } => Replied::Ended { n: *n, code: *code },
-            Reply::Ran { ep, errand, ok } => Replied::Ran {
+            Reply::Ended { n, code } => CompactReply::Ended { n: *n, code: *code },
+            Reply::Ran { ep, errand, ok } => CompactReply::Ran {
                 ep: *ep,
                 errand: *errand,
                 ok: *ok,
             },
-            Reply::Finished { n } => Replied::Finished { n: *n },
-            Reply::Paused { n } => Replied::Paused { n: *n },
-            Reply::Settled { ep, errand, ok } => Replied::Settled {
+            Reply::Finished { n } => CompactReply::Finished { n: *n },
+            Reply::Paused { n } => CompactReply::Paused { n: *n },
+            Reply::Settled { ep, errand, ok } => CompactReply::Settled {
                 ep: *ep,
                 errand: *errand,
                 ok: *ok,
             },
-            Reply::Called(returned) => Replied::Called {
+            Reply::Called(returned) => CompactReply::Called {
                 n: returned.n,
                 round: returned.round,
                 actual: returned.actual,

@@ -1,12 +1,13 @@
 //! A place of the journal, read back.
 
 ghost use Rattle.std.specs.Prelude.{◌≡◌, ◌+◌, ◌≤◌, [], IfOk, IfSome, length, slice_get};
-ghost use Rattle.usb_journal.specs.declared.kept.Asked.TheVariants.{Read};
-ghost use Rattle.usb_journal.specs.Kept.{AreAmong, AreWithin, found, nothing, of_name, part, place_in, place_of, reply_of, step_of};
+ghost use Rattle.usb_model.specs.declared.step.Step.TheVariants.{Answer, Submit};
+ghost use Rattle.usb_journal.specs.declared.kept.CompactStep.TheVariants.{Read};
+ghost use Rattle.usb_journal.specs.Kept.{AreAmong, AreWithin, ending_place, found, nothing, of_name, packet_place, part, place_in, place_of, reply_of, step_of, submitted_place};
 
-use crate::kept::{Asked, Kept, Replied};
+use crate::kept::{CompactReply, CompactStep, LongEntry};
 use crate::place::Place;
-use crate::short::{Rest, Short};
+use crate::short::{PackedEntry, ResultTail};
 use std::alloc::{AllocError, Global};
 use usb_model::{
     Body, Bytes, BytesRead, Entry, EpAddr, Flags, Kind, Name, Reply, Request, Returned, Step,
@@ -30,92 +31,99 @@ fn copied(alloc: Global, bytes: &[u8]) -> Result<Bytes, AllocError>
     Ok(Bytes::from_vec(copy))
 }
 
+/// A submission.
+fn submission(h: Name, ep: EpAddr, kind: Kind, flags: Flags, timeout: u32, body: Body) -> Step
+    ensures { result ≡ Submit h (record { ep = ep; kind = kind; flags = flags; timeout = timeout; body = body }) }
+{
+    Step::Submit {
+        h,
+        request: Request {
+            ep,
+            kind,
+            flags,
+            timeout,
+            body,
+        },
+    }
+}
+
+/// The submission of a read.
+fn read(h: Name, ep: EpAddr, kind: Kind, flags: Flags, length: u32, timeout: u32) -> Step
+    ensures { result ≡ step_of (Read h ep kind flags length timeout) [] }
+{
+    submission(h, ep, kind, flags, timeout, Body::In(length))
+}
+
+/// A callback's answer.
+fn answer(h: Name, n: u64, verdict: Verdict) -> Step
+    ensures { result ≡ Answer h n verdict }
+{
+    Step::Answer { h, n, verdict }
+}
+
 /// A step with its bytes.
-fn step_of(alloc: Global, asked: Asked, bytes: &[u8]) -> Result<Step, AllocError>
+fn step_of(alloc: Global, asked: CompactStep, bytes: &[u8]) -> Result<Step, AllocError>
     ensures { IfOk result (λ step. step ≡ step_of asked bytes.now) }
 {
     Ok(match asked {
-        Asked::Open { h, dev } => Step::Open { h, dev },
-        Asked::Close { h } => Step::Close { h },
-        Asked::Claim { h, i } => Step::Claim { h, i },
-        Asked::Release { h, i } => Step::Release { h, i },
-        Asked::Reset { h } => Step::Reset { h },
-        Asked::ClearHalt { h, ep } => Step::ClearHalt { h, ep },
-        Asked::Read {
+        CompactStep::Open { h, dev } => Step::Open { h, dev },
+        CompactStep::Close { h } => Step::Close { h },
+        CompactStep::Claim { h, i } => Step::Claim { h, i },
+        CompactStep::Release { h, i } => Step::Release { h, i },
+        CompactStep::Reset { h } => Step::Reset { h },
+        CompactStep::ClearHalt { h, ep } => Step::ClearHalt { h, ep },
+        CompactStep::Read {
             length,
             timeout,
             h,
             ep,
             kind,
             flags,
-        } => Step::Submit {
-            h,
-            request: Request {
-                ep,
-                kind,
-                flags,
-                timeout,
-                body: Body::In(length),
-            },
-        },
-        Asked::Write {
+        } => read(h, ep, kind, flags, length, timeout),
+        CompactStep::Write {
             timeout,
             h,
             ep,
             kind,
             flags,
-        } => Step::Submit {
+        } => submission(
             h,
-            request: Request {
-                ep,
-                kind,
-                flags,
-                timeout,
-                body: Body::Out(copied(alloc, bytes)?),
-            },
-        },
-        Asked::Cancel { n, h } => Step::Cancel { h, n },
-        Asked::Expire { n, h } => Step::Expire { h, n },
-        Asked::Serve { dev, ep } => Step::Serve { dev, ep },
-        Asked::Command => Step::Command,
-        Asked::Deliver => Step::Deliver,
-        Asked::Take => Step::Take,
-        Asked::Stop { n, h } => Step::Answer {
-            h,
-            n,
-            verdict: Verdict::Stop,
-        },
-        Asked::Again { n, h } => Step::Answer {
-            h,
-            n,
-            verdict: Verdict::Again,
-        },
-        Asked::AgainWith { n, h } => Step::Answer {
-            h,
-            n,
-            verdict: Verdict::AgainWith(copied(alloc, bytes)?),
-        },
-        Asked::Unplug { dev } => Step::Unplug { dev },
+            ep,
+            kind,
+            flags,
+            timeout,
+            Body::Out(copied(alloc, bytes)?),
+        ),
+        CompactStep::Cancel { n, h } => Step::Cancel { h, n },
+        CompactStep::Expire { n, h } => Step::Expire { h, n },
+        CompactStep::Serve { dev, ep } => Step::Serve { dev, ep },
+        CompactStep::Command => Step::Command,
+        CompactStep::Deliver => Step::Deliver,
+        CompactStep::Take => Step::Take,
+        CompactStep::Stop { n, h } => answer(h, n, Verdict::Stop),
+        CompactStep::Again { n, h } => answer(h, n, Verdict::Again),
+        CompactStep::AgainWith { n, h } => answer(h, n, Verdict::AgainWith(copied(alloc, bytes)?)),
+        CompactStep::Unplug { dev } => Step::Unplug { dev },
     })
 }
 
 /// A reply with its bytes.
-fn reply_of(alloc: Global, replied: Replied, bytes: &[u8]) -> Result<Reply, AllocError>
+fn reply_of(alloc: Global, replied: CompactReply, bytes: &[u8]) -> Result<Reply, AllocError>
     ensures { IfOk result (λ reply. reply ≡ reply_of replied bytes.now) }
 {
     Ok(match replied {
-        Replied::Done => Reply::Done,
-        Replied::Number(n) => Reply::Number(n),
-        Replied::Refused(why) => Reply::Refused(why),
-        Replied::Idle => Reply::Idle,
-        Replied::Nak { n } => Reply::Nak { n },
-        Replied::Moved { n, count } => Reply::Moved { n, bytes: count },
-        Replied::Ended { n, code } => Reply::Ended { n, code },
-        Replied::Ran { ep, errand, ok } => Reply::Ran { ep, errand, ok },
-        Replied::Finished { n } => Reply::Finished { n },
-        Replied::Paused { n } => Reply::Paused { n },
-        Replied::Settled { ep, errand, ok } => Reply::Settled { ep, errand, ok },
-        Replied::Called {
+        CompactReply::Done => Reply::Done,
+        CompactReply::Number(n) => Reply::Number(n),
+        CompactReply::Refused(why) => Reply::Refused(why),
+        CompactReply::Idle => Reply::Idle,
+        CompactReply::Nak { n } => Reply::Nak { n },
+        CompactReply::Moved { n, count } => Reply::Moved { n, bytes: count },
+        CompactReply::Ended { n, code } => Reply::Ended { n, code },
+        CompactReply::Ran { ep, errand, ok } => Reply::Ran { ep, errand, ok },
+        CompactReply::Finished { n } => Reply::Finished { n },
+        CompactReply::Paused { n } => Reply::Paused { n },
+        CompactReply::Settled { ep, errand, ok } => Reply::Settled { ep, errand, ok },
+        CompactReply::Called {
             n,
             round,
             actual,
@@ -135,7 +143,7 @@ fn reply_of(alloc: Global, replied: Replied, bytes: &[u8]) -> Result<Reply, Allo
 }
 
 /// The place that is kept so, with its bytes among these.
-pub(crate) fn place_of(alloc: Global, kept: &Kept, bytes: &[u8]) -> Result<Place, AllocError>
+pub(crate) fn place_of(alloc: Global, kept: &LongEntry, bytes: &[u8]) -> Result<Place, AllocError>
     requires { kept.now.from + kept.now.sent + kept.now.given ≤ length bytes.now }
     ensures { IfOk result (λ place. place ≡ place_of bytes.now kept.now) }
 {
@@ -151,22 +159,6 @@ pub(crate) fn place_of(alloc: Global, kept: &Kept, bytes: &[u8]) -> Result<Place
         },
         moment: kept.moment,
     })
-}
-
-/// The submission of a read.
-fn read(h: Name, ep: EpAddr, kind: Kind, flags: Flags, length: u32, timeout: u32) -> Step
-    ensures { result ≡ step_of (Read h ep kind flags length timeout) [] }
-{
-    Step::Submit {
-        h,
-        request: Request {
-            ep,
-            kind,
-            flags,
-            timeout,
-            body: Body::In(length),
-        },
-    }
 }
 
 /// A place of a name.
@@ -210,7 +202,7 @@ fn item<T: Copy>(items: &[T], at: usize) -> Option<T>
 }
 
 /// The place that is found, with its bytes among these.
-fn found(alloc: Global, kept: Option<Kept>, bytes: &[u8]) -> Result<Place, AllocError>
+fn found(alloc: Global, kept: Option<LongEntry>, bytes: &[u8]) -> Result<Place, AllocError>
     requires { IfSome kept (λ k. k.from + k.sent + k.given ≤ length bytes.now) }
     ensures { IfOk result (λ place. place ≡ found bytes.now kept) }
 {
@@ -221,27 +213,19 @@ fn found(alloc: Global, kept: Option<Kept>, bytes: &[u8]) -> Result<Place, Alloc
 }
 
 /// The bytes of a result's rest.
-fn bytes_of(alloc: Global, rest: Rest, bytes: &[u8]) -> Result<Bytes, AllocError>
+fn bytes_of(alloc: Global, rest: ResultTail, bytes: &[u8]) -> Result<Bytes, AllocError>
     requires { rest.from + rest.count ≤ length bytes.now }
     ensures { IfOk result (λ b. b ≡ part bytes.now rest.from rest.count) }
 {
     copied(alloc, part(bytes, rest.from, rest.count as usize))
 }
 
-/// The place that is kept so, with these rests and long ones, and its bytes among these.
-pub(crate) fn place_in(
-    alloc: Global,
-    short: &Short,
-    rests: &[Rest],
-    longs: &[Kept],
-    bytes: &[u8],
-) -> Result<Place, AllocError>
-    requires rests { AreAmong (length bytes.now) rests.now }
-    requires longs { AreWithin (length bytes.now) longs.now }
-    ensures { IfOk result (λ place. place ≡ place_in bytes.now rests.now longs.now short.now) }
+/// The place of a submission that was given a number.
+fn submitted_place(short: &PackedEntry) -> Place
+    ensures { result ≡ submitted_place short.now }
 {
-    Ok(match *short {
-        Short::Bulk {
+    match *short {
+        PackedEntry::Bulk {
             h,
             ep,
             flags,
@@ -250,14 +234,11 @@ pub(crate) fn place_in(
             caller,
             moment,
             n,
-        } => owned(
-            h,
-            read(h, ep, Kind::Bulk, flags, length, timeout),
-            Reply::Number(n),
-            caller,
-            moment,
-        ),
-        Short::Interrupt {
+        } => {
+            let step = read(h, ep, Kind::Bulk, flags, length, timeout);
+            owned(h, step, Reply::Number(n), caller, moment)
+        }
+        PackedEntry::Interrupt {
             h,
             ep,
             flags,
@@ -266,14 +247,20 @@ pub(crate) fn place_in(
             caller,
             moment,
             n,
-        } => owned(
-            h,
-            read(h, ep, Kind::Interrupt, flags, length, timeout),
-            Reply::Number(n),
-            caller,
-            moment,
-        ),
-        Short::Moved {
+        } => {
+            let step = read(h, ep, Kind::Interrupt, flags, length, timeout);
+            owned(h, step, Reply::Number(n), caller, moment)
+        }
+        _ => nothing(),
+    }
+}
+
+/// The place of a packet.
+fn packet_place(short: &PackedEntry) -> Place
+    ensures { result ≡ packet_place short.now }
+{
+    match *short {
+        PackedEntry::Moved {
             h,
             dev,
             ep,
@@ -281,14 +268,11 @@ pub(crate) fn place_in(
             caller,
             moment,
             n,
-        } => owned(
-            h,
-            Step::Serve { dev, ep },
-            Reply::Moved { n, bytes: count },
-            caller,
-            moment,
-        ),
-        Short::Ended {
+        } => {
+            let reply = Reply::Moved { n, bytes: count };
+            owned(h, Step::Serve { dev, ep }, reply, caller, moment)
+        }
+        PackedEntry::Ended {
             h,
             dev,
             ep,
@@ -296,53 +280,66 @@ pub(crate) fn place_in(
             caller,
             moment,
             n,
-        } => owned(
-            h,
-            Step::Serve { dev, ep },
-            Reply::Ended { n, code },
-            caller,
-            moment,
-        ),
-        Short::Finished {
+        } => {
+            let reply = Reply::Ended { n, code };
+            owned(h, Step::Serve { dev, ep }, reply, caller, moment)
+        }
+        _ => nothing(),
+    }
+}
+
+/// The place of a transfer's end, or of its callback's answer.
+fn ending_place(short: &PackedEntry) -> Place
+    ensures { result ≡ ending_place short.now }
+{
+    match *short {
+        PackedEntry::Finished {
             h,
             caller,
             moment,
             n,
         } => owned(h, Step::Deliver, Reply::Finished { n }, caller, moment),
-        Short::Stopped {
+        PackedEntry::Stopped {
             h,
             caller,
             moment,
             n,
-        } => owned(
-            h,
-            Step::Answer {
-                h,
-                n,
-                verdict: Verdict::Stop,
-            },
-            Reply::Done,
-            caller,
-            moment,
-        ),
-        Short::Renewed {
+        } => owned(h, answer(h, n, Verdict::Stop), Reply::Done, caller, moment),
+        PackedEntry::Renewed {
             h,
             caller,
             moment,
             n,
             number,
-        } => owned(
-            h,
-            Step::Answer {
-                h,
-                n,
-                verdict: Verdict::Again,
-            },
-            Reply::Number(number),
-            caller,
-            moment,
-        ),
-        Short::Called {
+        } => {
+            let step = answer(h, n, Verdict::Again);
+            owned(h, step, Reply::Number(number), caller, moment)
+        }
+        _ => nothing(),
+    }
+}
+
+/// The place that is kept so, with these rests and long ones, and its bytes among these.
+pub(crate) fn place_in(
+    alloc: Global,
+    short: &PackedEntry,
+    rests: &[ResultTail],
+    longs: &[LongEntry],
+    bytes: &[u8],
+) -> Result<Place, AllocError>
+    requires rests { AreAmong (length bytes.now) rests.now }
+    requires longs { AreWithin (length bytes.now) longs.now }
+    ensures { IfOk result (λ place. place ≡ place_in bytes.now rests.now longs.now short.now) }
+{
+    Ok(match *short {
+        PackedEntry::Bulk { .. } => submitted_place(short),
+        PackedEntry::Interrupt { .. } => submitted_place(short),
+        PackedEntry::Moved { .. } => packet_place(short),
+        PackedEntry::Ended { .. } => packet_place(short),
+        PackedEntry::Finished { .. } => ending_place(short),
+        PackedEntry::Stopped { .. } => ending_place(short),
+        PackedEntry::Renewed { .. } => ending_place(short),
+        PackedEntry::Called {
             h,
             ep,
             status,
@@ -366,6 +363,6 @@ pub(crate) fn place_in(
             });
             owned(h, Step::Take, reply, caller, moment)
         }
-        Short::Long(at) => found(alloc, item(longs, at), bytes)?,
+        PackedEntry::Long(at) => found(alloc, item(longs, at), bytes)?,
     })
 }

@@ -1,17 +1,17 @@
 //! A place that transfers make again and again, in few bytes.
 
 ghost use Rattle.std.specs.Prelude.{◌≡◌, ℕ, List, IfSome, Some};
-ghost use Rattle.usb_journal.specs.declared.kept.Kept.{Kept};
-ghost use Rattle.usb_journal.specs.declared.short.Rest.{Rest};
+ghost use Rattle.usb_journal.specs.declared.kept.LongEntry.{LongEntry};
+ghost use Rattle.usb_journal.specs.declared.short.ResultTail.{ResultTail};
 ghost use Rattle.usb_journal.specs.Kept.{IsThere, place_in, step_of};
 
-use crate::kept::Asked;
+use crate::kept::CompactStep;
 use usb_model::{DeviceNo, Entry, EpAddr, Flags, Kind, Name, Reply, Status};
 
 /// A place in 32 bytes: whole where it is one that each transfer has and no bytes go or come, else by where it stands among the long
 /// ones. What takes one byte stands first, and what takes eight last, so that no kind is wider.
 #[derive(Clone, Copy)]
-pub(crate) enum Short {
+pub(crate) enum PackedEntry {
     /// A read from a bulk endpoint was accepted.
     Bulk {
         h: Name,
@@ -92,7 +92,7 @@ pub(crate) enum Short {
 
 /// What a result has that its short place has no room for.
 #[derive(Clone, Copy)]
-pub(crate) struct Rest {
+pub(crate) struct ResultTail {
     pub(crate) round: u64,
     /// Where its bytes begin in the journal's buffer.
     pub(crate) from: usize,
@@ -102,19 +102,24 @@ pub(crate) struct Rest {
     pub(crate) actual: u32,
 }
 
-impl Short {
+impl PackedEntry {
     /// The place of a step with this entry, if it is one that is kept whole. Inlined where the step is known, so that nothing is left of
     /// the match.
     #[inline(always)]
-    pub(crate) fn of(asked: &Asked, caller: u32, entry: &Entry, moment: u64) -> Option<Short>
+    pub(crate) fn of(
+        asked: &CompactStep,
+        caller: u32,
+        entry: &Entry,
+        moment: u64,
+    ) -> Option<PackedEntry>
         ensures here { IfSome result (λ s. (rests longs : ℕ) → IsThere rests longs s) }
-        ensures place { IfSome result (λ s. (bytes sent : List ℕ) (rests : List Rest) (longs : List Kept) → place_in bytes rests longs s ≡ record { step = step_of asked.now sent; caller = caller; entry = entry.now; moment = moment }) }
+        ensures place { IfSome result (λ s. (bytes sent : List ℕ) (rests : List ResultTail) (longs : List LongEntry) → place_in bytes rests longs s ≡ record { step = step_of asked.now sent; caller = caller; entry = entry.now; moment = moment }) }
     {
         let h = entry.owner?;
         match asked {
-            Asked::Read { .. } => Short::read(asked, h, caller, entry, moment),
-            Asked::Serve { dev, ep } => match &entry.reply {
-                Reply::Moved { n, bytes } => Some(Short::Moved {
+            CompactStep::Read { .. } => PackedEntry::read(asked, h, caller, entry, moment),
+            CompactStep::Serve { dev, ep } => match &entry.reply {
+                Reply::Moved { n, bytes } => Some(PackedEntry::Moved {
                     h,
                     dev: *dev,
                     ep: *ep,
@@ -123,7 +128,7 @@ impl Short {
                     moment,
                     n: *n,
                 }),
-                Reply::Ended { n, code } => Some(Short::Ended {
+                Reply::Ended { n, code } => Some(PackedEntry::Ended {
                     h,
                     dev: *dev,
                     ep: *ep,
@@ -134,8 +139,8 @@ impl Short {
                 }),
                 _ => None,
             },
-            Asked::Deliver => match &entry.reply {
-                Reply::Finished { n } => Some(Short::Finished {
+            CompactStep::Deliver => match &entry.reply {
+                Reply::Finished { n } => Some(PackedEntry::Finished {
                     h,
                     caller,
                     moment,
@@ -143,8 +148,8 @@ impl Short {
                 }),
                 _ => None,
             },
-            Asked::Stop { h: of, n } => match &entry.reply {
-                Reply::Done if *of == h => Some(Short::Stopped {
+            CompactStep::Stop { h: of, n } => match &entry.reply {
+                Reply::Done if *of == h => Some(PackedEntry::Stopped {
                     h,
                     caller,
                     moment,
@@ -152,8 +157,8 @@ impl Short {
                 }),
                 _ => None,
             },
-            Asked::Again { h: of, n } => match &entry.reply {
-                Reply::Number(number) if *of == h => Some(Short::Renewed {
+            CompactStep::Again { h: of, n } => match &entry.reply {
+                Reply::Number(number) if *of == h => Some(PackedEntry::Renewed {
                     h,
                     caller,
                     moment,
@@ -168,12 +173,18 @@ impl Short {
 
     /// The place of a read that was accepted, if its endpoint's kind is one of these.
     #[inline(always)]
-    fn read(asked: &Asked, owner: Name, caller: u32, entry: &Entry, moment: u64) -> Option<Short>
+    fn read(
+        asked: &CompactStep,
+        owner: Name,
+        caller: u32,
+        entry: &Entry,
+        moment: u64,
+    ) -> Option<PackedEntry>
         requires { entry.now.owner ≡ Some owner }
         ensures here { IfSome result (λ s. (rests longs : ℕ) → IsThere rests longs s) }
-        ensures place { IfSome result (λ s. (bytes sent : List ℕ) (rests : List Rest) (longs : List Kept) → place_in bytes rests longs s ≡ record { step = step_of asked.now sent; caller = caller; entry = entry.now; moment = moment }) }
+        ensures place { IfSome result (λ s. (bytes sent : List ℕ) (rests : List ResultTail) (longs : List LongEntry) → place_in bytes rests longs s ≡ record { step = step_of asked.now sent; caller = caller; entry = entry.now; moment = moment }) }
     {
-        let Asked::Read {
+        let CompactStep::Read {
             h,
             ep,
             kind,
@@ -186,7 +197,7 @@ impl Short {
         };
         match &entry.reply {
             Reply::Number(n) if owner == h => match kind {
-                Kind::Bulk => Some(Short::Bulk {
+                Kind::Bulk => Some(PackedEntry::Bulk {
                     h,
                     ep,
                     flags,
@@ -196,7 +207,7 @@ impl Short {
                     moment,
                     n: *n,
                 }),
-                Kind::Interrupt => Some(Short::Interrupt {
+                Kind::Interrupt => Some(PackedEntry::Interrupt {
                     h,
                     ep,
                     flags,

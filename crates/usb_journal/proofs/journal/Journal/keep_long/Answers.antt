@@ -1,6 +1,6 @@
 use Rattle.std.proofs.Common.{◌≡◌, ◌∙◌, ◌++◌, ◌+◌, ◌-◌, ◌≤◌, [], ◌∷◌, ap, arith, length, map, refl, subst, sym, vec_len}
-use Rattle.usb_journal.specs.declared.kept.Kept.{Kept}
-use Rattle.usb_journal.specs.declared.short.Short.TheVariants.{Long}
+use Rattle.usb_journal.specs.declared.kept.LongEntry.{LongEntry}
+use Rattle.usb_journal.specs.declared.short.PackedEntry.TheVariants.{Long}
 use Rattle.usb_journal.specs.Kept.{AreThere, AreWithin, IsThere, Journaled, place_in, reply_of, step_of}
 use Rattle.usb_journal.proofs.KeptPlaces.{among_more, long_kept, there_more, there_push, within_more, within_push}
 use Rattle.usb_journal.proofs.journal.Journal.keep_long.Goals as goal
@@ -37,7 +37,7 @@ returns-clause-places c =
     let longs = c.self.inside.longs.items in
     let given = c.args.given.now in
     let le : used ≤ length bytes = omega (arith, is.0, c.self.inside.bytes.ok.0) in
-    let k : Kept = record { from = used; sent = c.len.result - used; given = length given; moment = c.args.moment; asked = c.args.asked; replied = c.args.replied; caller = c.args.caller; owner = c.args.owner } in
+    let k : LongEntry = record { from = used; sent = c.len.result - used; given = length given; moment = c.args.moment; asked = c.args.asked; replied = c.args.replied; caller = c.args.caller; owner = c.args.owner } in
     let sent : used + k.sent ≡ length bytes = omega (arith, le, c.len.ensures, c.self.inside.bytes.ok.0) in
     let there : AreThere (length rests) (length longs) shorts = there_more (vec_len c.self.inside.rests) (vec_len c.self.inside.longs) (length rests) (length longs) shorts (omega (arith, c.self.inside.rests.ok.0)) (omega (arith, c.self.inside.longs.ok.0)) is.3 in
     let at : c.len-2.result ≡ length longs = omega (arith, c.len-2.ensures, c.self.inside.longs.ok.0) in

@@ -1,6 +1,6 @@
 use Rattle.std.proofs.Common.{◌≡◌, ◌∙◌, ◌++◌, ◌+◌, ◌≤◌, ℕ, List, [], ◌∷◌, ap, arith, length, map, refl, subst, sym, vec_len}
-use Rattle.usb_journal.specs.declared.short.Rest.{Rest}
-use Rattle.usb_journal.specs.declared.short.Short.TheVariants.{Called}
+use Rattle.usb_journal.specs.declared.short.ResultTail.{ResultTail}
+use Rattle.usb_journal.specs.declared.short.PackedEntry.TheVariants.{Called}
 use Rattle.usb_journal.specs.Kept.{AreAmong, AreThere, Journaled, place_in, result_with}
 use Rattle.usb_journal.proofs.KeptPlaces.{among_more, among_push, result_kept, there_more, there_push, within_more}
 use Rattle.usb_journal.proofs.journal.Journal.keep_result.Goals as goal
@@ -38,7 +38,7 @@ returns-clause-places c =
     let given = c.as_slice-bytes.result.now in
     let it = c.args.returned.now in
     let le : used ≤ length bytes = omega (arith, is.0, c.self.inside.bytes.ok.0) in
-    let r : Rest = record { round = it.round; from = c.len-from.result; count = length given; actual = it.actual } in
+    let r : ResultTail = record { round = it.round; from = c.len-from.result; count = length given; actual = it.actual } in
     let from : c.len-from.result ≡ length bytes = omega (arith, c.len-from.ensures, c.self.inside.bytes.ok.0) in
     let there : AreThere (length rests) (length longs) shorts = there_more (vec_len c.self.inside.rests) (vec_len c.self.inside.longs) (length rests) (length longs) shorts (omega (arith, c.self.inside.rests.ok.0)) (omega (arith, c.self.inside.longs.ok.0)) is.3 in
     let at : c.len.result ≡ length rests = omega (arith, c.len.ensures, c.self.inside.rests.ok.0) in
