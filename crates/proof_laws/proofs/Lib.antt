@@ -10,3 +10,4 @@ mod ReadShares
 mod SentShares
 mod ToldOutcomes
 mod ToldStatuses
+mod Instances

@@ -4,3 +4,4 @@ pub mod Nothing
 pub mod Outcomes
 pub mod Packets
 pub mod Statuses
+pub mod Instances

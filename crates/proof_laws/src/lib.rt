@@ -1,5 +1,5 @@
-//! What the definitions mean: laws on packets, outcomes of shares, statuses, steps that change nothing, and whose time is over; and
-//! worked rows, with the lines that a reader of the rules expects.
+//! What the definitions mean: laws on packets, outcomes of shares, statuses, steps that change nothing, and whose time is over; laws that
+//! every run obeys; and worked rows, with the lines that a reader of the rules expects.
 //!
 //! The one promise: the definitions compute these lines, and meet the rules of the standards, which are said here once more as
 //! relations.
@@ -32,7 +32,29 @@
 //!   name has open, of an interface that the name holds, and isn't blank; nobody asked it to end; its timeout isn't
 //!   0; and the moment of the first place that gave its number, plus the timeout, but 2^64 - 1 at most, isn't after
 //!   this one. It has nothing else, each once, by rising name, and for one name by rising number
+//! - `runs::cut`: at each endpoint, since it was last made new: there is one share of the device's script for each
+//!   transfer, in order of submission, and each end, each result with its number, request, round, status, length and
+//!   bytes, and each packet that the device took is read off that share; what ended at a gone device is told as of
+//!   one; and no result and no ask is of a transfer that wasn't accepted there (docs/MODEL.md has the law in full).
+//!   Premises: no acknowledgement in an IN script, no data in an OUT script; a packet size of at least 1, or no empty
+//!   packet in the script
+//! - `runs::places`: each number that was given is in progress, or in one result that waits, or was called back: just one of these,
+//!   once; no other number is anywhere
+//! - `runs::called`: over every run, the results that a handle's steps made are, in order, those of its `Called`
+//!   entries and then those that wait: handle, number, endpoint, round, status, actual length and bytes, field by
+//!   field. Each transfer that is in its callback has number, request, round and status of one of the results that
+//!   were called back
+//! - `runs::asked_ends`: a transfer for which a Cancel or Expire was accepted has its one result by its endpoint's
+//!   17th Deliver since; while it is in progress an order or a piece of news of its endpoint waits, and at most 2
+//!   Commands and 16 Delivers were the endpoint's. That they are made isn't promised
+//! - `runs::bounds`: where any run ends, of each endpoint of a handle: at most 16 transfers are in its line, 1 order
+//!   and 17 pieces of news wait, and the transfers in progress and the results that wait are at most 16 together. A
+//!   transfer's round is at most its number, in each line, result and callback
+//! - `runs::instances`: computed at worked rows: the bounds are reached; three rounds are called back as they were
+//!   made; scripts are cut behind a stall, and at a gone device. At the packet size 0 a read is accepted, and with an
+//!   empty packet its script isn't cut
 #![tactic(auto)]
 
 pub mod laws;
 pub mod rows;
+pub mod runs;

@@ -13,7 +13,6 @@ mod Readings
 mod Drains
 mod TakesDone
 pub mod NextPackets
-mod Instances
 mod Turns
 mod InRows
 mod Reached

@@ -13,7 +13,6 @@ pub mod StepBursts
 pub mod Drains
 pub mod Reads
 pub mod Inventory
-pub mod Instances
 pub mod Steps
 pub mod Bursts
 pub mod Runs

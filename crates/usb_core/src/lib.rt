@@ -1,5 +1,5 @@
 //! The core of the library, in which every step of every handle is made, over the memory of real rings; the parts in which it keeps
-//! its state; the callbacks that it stores; and the laws that each run obeys (libusb 1.0; USB 2.0, 8; xHCI 1.2, 4).
+//! its state; and the callbacks that it stores (libusb 1.0; USB 2.0, 8; xHCI 1.2, 4).
 //!
 //! The one promise: each step is the turn of the world that the core shows, so no transfer is lost, none is doubled, and
 //! none is told what its device didn't do.
@@ -46,7 +46,6 @@
 //!   (`into_setup`)
 //! - specs/ Steps, Bursts, Runs, Reads, Inventory: what comes of a step and its payload; of steps in a row; the laws
 //!   of a run, together; what can be asked of a world; what handles haven't finished in it
-//! - `laws.rt`: the laws, and `instances`: bounds, calls and cuts, computed at worked rows
 //!
 //! # Contracts
 //!
@@ -120,29 +119,6 @@
 //! - `Parts::into_setup`: the setup of each world that the parts show, and the controller as it is
 //! - `Parts::new`: the parts show the new world of the setup
 //!
-//! - `laws::cut`: at each endpoint, since it was last made new: there is one share of the device's script for each
-//!   transfer, in order of submission, and each end, each result with its number, request, round, status, length and
-//!   bytes, and each packet that the device took is read off that share; what ended at a gone device is told as of
-//!   one; and no result and no ask is of a transfer that wasn't accepted there (docs/MODEL.md has the law in full).
-//!   Premises: no acknowledgement in an IN script, no data in an OUT script; a packet size of at least 1, or no empty
-//!   packet in the script
-//! - `laws::places`: see above
-//! - `laws::called`: over every run, the results that a handle's steps made are, in order, those of its `Called`
-//!   entries and then those that wait: handle, number, endpoint, round, status, actual length and bytes, field by
-//!   field. Each transfer that is in its callback has number, request, round and status of one of the results that
-//!   were called back
-//! - `laws::asked_ends`: a transfer for which a Cancel or Expire was accepted has its one result by its endpoint's
-//!   17th Deliver since; while it is in progress an order or a piece of news of its endpoint waits, and at most 2
-//!   Commands and 16 Delivers were the endpoint's. That they are made isn't promised
-//! - `laws::bounds`: where any run ends, of each endpoint of a handle: at most 16 transfers are in its line, 1 order
-//!   and 17 pieces of news wait, and the transfers in progress and the results that wait are at most 16 together. A
-//!   transfer's round is at most its number, in each line, result and callback
-//! - `laws::instances`: computed at worked rows: the bounds are reached; three rounds are called back as they were
-//!   made; scripts are cut behind a stall, and at a gone device. At the packet size 0 a read is accepted, and with an
-//!   empty packet its script isn't cut
-//!
-//! The proofs of these laws stand in `proof_model`, which has no contracts of their own.
-//!
 //! The core: `ShowsWorld setup s w` is said of what it keeps. Its invariant: it shows some world. `TurnsWorld old step
 //! entry new`: for each world that the core shows before the call, the entry is that of the world's turn, and the
 //! core then shows the world after it. `P` is what callers keep with their transfers: no code of these crates can
@@ -199,7 +175,7 @@
 //!   whether it is halted, at its device or at the controller; how many answers its device has left
 //! - `run`: at Ok the entries are `world_run` of the setup and the steps; at Err those of `Stopped` are the entries
 //!   of the first so many steps, as many as there are entries, and a step is left, or no entry is there. Every run
-//!   obeys `laws::cut`, `places` and `asked_ends`. At Ok, and at Err for the steps so far where there is an entry,
+//!   obeys `runs::cut`, `places` and `asked_ends` of `proof_laws`. At Ok, and at Err for the steps so far where there is an entry,
 //!   the cut is there at each endpoint with no premise: devices keep their law, and an endpoint without a packet size
 //!   takes no transfer. Each handle's transfers are called back at most once, and at each endpoint in order unless
 //!   cancelled or timed out
@@ -220,7 +196,6 @@ mod feeds;
 mod halts;
 mod handles;
 mod inventory;
-pub mod laws;
 mod made;
 mod offers;
 mod orders;

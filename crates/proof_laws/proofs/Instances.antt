@@ -18,7 +18,7 @@ use Rattle.proof_laws.specs.Rows.Unplugs.{unplug_amid_transfers}
 use Rattle.proof_laws.proofs.Computed.{computed}
 use Rattle.proof_model.proofs.Shares.Cuts.{ends_now}
 use Rattle.proof_model.proofs.Shares.OpenShares.{open_if, outcome_nothing}
-use Rattle.usb_core.specs.Instances.{CallsBack, ReachesBound, ReachesBounds, IsCutInto, IsNotCut, stalled_cells, unplugged_cells}
+use Rattle.proof_laws.specs.Instances.{CallsBack, ReachesBound, ReachesBounds, IsCutInto, IsNotCut, stalled_cells, unplugged_cells}
 
 -- the bound is reached: the 17th Deliver makes the result, and no earlier one
 pub reaches_bound : ReachesBound

@@ -1,5 +1,5 @@
 use Rattle.proof_model.proofs.Places.Runs.{keeps_places}
-use Rattle.usb_core.proofs.laws.places.Goals as goal
+use Rattle.proof_laws.proofs.runs.places.Goals as goal
 
 pub returns : goal.returns
 returns c = keeps_places

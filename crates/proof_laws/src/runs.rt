@@ -11,7 +11,7 @@ ghost use Rattle.usb_model.specs.Laws.Places.{KeepsPlaces};
 ghost use Rattle.proof_laws.specs.Rows.Halts.{stall_and_clear_halt};
 ghost use Rattle.proof_laws.specs.Rows.Unplugs.{unplug_amid_transfers};
 ghost use Rattle.usb_model.specs.Setup.{Setup};
-ghost use Rattle.usb_core.specs.Instances.{CallsBack, ReachesBound, ReachesBounds, IsCutInto, IsNotCut, stalled_cells, unplugged_cells};
+ghost use Rattle.proof_laws.specs.Instances.{CallsBack, ReachesBound, ReachesBounds, IsCutInto, IsNotCut, stalled_cells, unplugged_cells};
 
 /// What the transfers of an endpoint moved is a cut of its device's answers, in order of submission: each result, each
 /// end and each packet that the device took is read off one transfer's share.

@@ -1,5 +1,5 @@
 use Rattle.proof_model.proofs.Calls.{callbacks_are_of_calls, calls_what_was_made}
-use Rattle.usb_core.proofs.laws.called.Goals as goal
+use Rattle.proof_laws.proofs.runs.called.Goals as goal
 
 pub returns-clause-in_order : goal.returns-clause-in_order
 returns-clause-in_order c = calls_what_was_made

@@ -1,5 +1,5 @@
 use Rattle.proof_model.proofs.Cut.Runs.{cuts_at}
-use Rattle.usb_core.proofs.laws.cut.Goals as goal
+use Rattle.proof_laws.proofs.runs.cut.Goals as goal
 
 pub returns : goal.returns
 returns c = cuts_at

@@ -1,5 +1,5 @@
-use Rattle.usb_core.proofs.Instances.{calls_back, reaches_bounds, is_not_cut, reaches_bound, stalled_is_cut, unplugged_is_cut}
-use Rattle.usb_core.proofs.laws.instances.Goals as goal
+use Rattle.proof_laws.proofs.Instances.{calls_back, reaches_bounds, is_not_cut, reaches_bound, stalled_is_cut, unplugged_is_cut}
+use Rattle.proof_laws.proofs.runs.instances.Goals as goal
 
 pub returns-clause-bound : goal.returns-clause-bound
 returns-clause-bound c = reaches_bound
