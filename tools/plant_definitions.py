@@ -17,7 +17,7 @@ import sys
 import tempfile
 
 ROOT = pathlib.Path(__file__).resolve().parent.parent
-CRATES = ["usb_model", "proof_laws", "proof_model", "proof_model", "proof_laws", "usb_core", "usb_plans"]
+CRATES = ["usb_model", "proof_model", "proof_laws", "usb_core", "usb_plans"]
 
 
 def libraries(root):
