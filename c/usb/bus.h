@@ -302,7 +302,7 @@ extern struct process {
     pthread_mutex_t lock;
     struct bus bus;
     struct device hub, absent[DEVICES]; /* there without a bus; and in place of what a text doesn't have. Held by it */
-    struct libusb_context *usual, *fallback, *contexts;
+    struct libusb_context *default_context, *fallback, *contexts;
     struct libusb_device_handle *handles; /* of all buses */
     struct libusb_context nobody;     /* the default context where none is open */
     struct defaults defaults;
@@ -372,8 +372,8 @@ static inline void unlock_read(bool is_locked)
 /* How many of the program's callbacks this thread is in, one within the other. */
 extern _Thread_local int callbacks_within;
 
-static inline struct libusb_transfer *seen(struct transfer *transfer) { return (struct libusb_transfer *)(void *)(transfer + 1); }
-static inline struct transfer *kept(struct libusb_transfer *transfer) { return (struct transfer *)(void *)transfer - 1; }
+static inline struct libusb_transfer *public_of(struct transfer *transfer) { return (struct libusb_transfer *)(void *)(transfer + 1); }
+static inline struct transfer *private_of(struct libusb_transfer *transfer) { return (struct transfer *)(void *)transfer - 1; }
 
 static inline bool is_in(uint8_t ep) { return ep & LIBUSB_ENDPOINT_DIR_MASK; }
 static inline unsigned two_bytes(const uint8_t *at) { return (unsigned)at[0] | (unsigned)at[1] << 8; }
@@ -381,7 +381,7 @@ static inline unsigned two_bytes(const uint8_t *at) { return (unsigned)at[0] | (
 static inline unsigned place_of(uint8_t ep) { return (ep & 15u) * 2 + (ep >> 7); }
 
 #include "calls.h"
-#include "quick.h"
+#include "inline.h"
 #include "living.h"
 #include "judged.h"
 

@@ -74,7 +74,7 @@ void go_on_with_limit(void);
 void leave_limit(void);
 
 /* context.c */
-struct libusb_context *usual_context(void);
+struct libusb_context *default_context(void);
 void tell_configurations(struct libusb_context *context);
 void release_context(struct libusb_context *context);
 
@@ -133,7 +133,7 @@ int pull_out(struct device *device);
 
 /* dice.c: the same by single steps, where a seed is given */
 bool work_by_dice(bool waits);
-void shake_by_dice(void);
+void random_steps_by_dice(void);
 
 /* transfers.c */
 void end_transfer(struct transfer *transfer, enum libusb_transfer_status status, int moved);

@@ -136,7 +136,7 @@ int libusb_claim_interface(libusb_device_handle *handle, int interface)
         return LIBUSB_ERROR_INVALID_PARAM;
     if (!lock_unless_asked())
         return LIBUSB_ERROR_BUSY;
-    shake();
+    random_steps();
     int r = claim(handle, interface);
     if (!r)
         handle->asked |= 1u << interface;
@@ -168,7 +168,7 @@ int libusb_release_interface(libusb_device_handle *handle, int interface)
         return LIBUSB_ERROR_INVALID_PARAM;
     if (!lock_unless_asked())
         return LIBUSB_ERROR_BUSY;
-    shake();
+    random_steps();
     int r = release(handle, interface);
     note_interface(handle, interface, r, __func__);
     unlock();

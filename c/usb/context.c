@@ -7,10 +7,10 @@
 #include <unistd.h>
 
 /* The default context; and where the program has none, the first other one that is open, which is its mistake. */
-struct libusb_context *usual_context(void)
+struct libusb_context *default_context(void)
 {
-    if (process.usual)
-        return process.usual;
+    if (process.default_context)
+        return process.default_context;
     if (!process.fallback)
         return &process.nobody;
     if (!process.was_misused)
@@ -146,8 +146,8 @@ static void leave_list(struct libusb_context *context)
         *at = context->next;
     if (process.fallback == context)
         process.fallback = NULL;
-    if (process.usual == context)
-        process.usual = NULL;
+    if (process.default_context == context)
+        process.default_context = NULL;
 }
 
 /* Those who handle events leave first; a program's own thread is told to go. */
@@ -246,9 +246,9 @@ static int init(libusb_context **out, const struct libusb_init_option options[],
     static pthread_once_t watched = PTHREAD_ONCE_INIT;
     if (out)
         *out = NULL;
-    if (!out && process.usual) {
+    if (!out && process.default_context) {
         int r = bus_begin();
-        process.usual->users += !r;
+        process.default_context->users += !r;
         return r;
     }
     pthread_once(&watched, watch_forks);
@@ -259,7 +259,7 @@ static int init(libusb_context **out, const struct libusb_init_option options[],
     if (r)
         return r;
     if (!out) {
-        process.usual = context;
+        process.default_context = context;
     } else {
         *out = context;
         if (!process.fallback)
@@ -290,7 +290,7 @@ int libusb_init(libusb_context **context)
 void libusb_exit(libusb_context *context)
 {
     lock();
-    struct libusb_context *x = context ? context : process.usual;
+    struct libusb_context *x = context ? context : process.default_context;
     if (x && is_told(x, 0))
         note_call(x, 0, __func__, "%s", x->users > 1 ? "used by others still" : "the last use");
     if (x && x->is_open && !--x->users)

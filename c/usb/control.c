@@ -26,7 +26,7 @@ static int hold(struct libusb_device_handle *handle, const uint8_t *setup)
 
 int submit_control(struct transfer *transfer)
 {
-    const struct libusb_transfer *it = seen(transfer);
+    const struct libusb_transfer *it = public_of(transfer);
     if (it->length < SETUP || it->length - SETUP > MOST_DATA || (int)two_bytes(it->buffer + 6) > it->length - SETUP)
         return LIBUSB_ERROR_INVALID_PARAM;
     int r = hold(transfer->handle, it->buffer);
@@ -119,7 +119,7 @@ static int ask(struct transfer *transfer, const uint8_t *setup, uint8_t *data, i
 
 static int answer_of(struct transfer *transfer)
 {
-    uint8_t *setup = seen(transfer)->buffer;
+    uint8_t *setup = public_of(transfer)->buffer;
     int length = (int)two_bytes(setup + 6);
     if (!transfer->naks) {
         keep_request(transfer->handle->device, setup, length);
@@ -158,8 +158,8 @@ static void trace_request(const struct device *device, const uint8_t *setup, int
 static void end_request(struct transfer *transfer, int answer)
 {
     struct device *device = transfer->handle->device;
-    const uint8_t *setup = seen(transfer)->buffer;
-    bool is_short = answer < (int)two_bytes(setup + 6) && seen(transfer)->flags & LIBUSB_TRANSFER_SHORT_NOT_OK;
+    const uint8_t *setup = public_of(transfer)->buffer;
+    bool is_short = answer < (int)two_bytes(setup + 6) && public_of(transfer)->flags & LIBUSB_TRANSFER_SHORT_NOT_OK;
     leave(&process.bus.controls, transfer);
     if (process.bus.is_traced)
         trace_request(device, setup, answer);

@@ -71,7 +71,7 @@ static void trace_request(struct transfer *transfer, int length, uint8_t flags)
     } else {
         trace_text("x:");
         if (length)
-            trace_hex(seen(transfer)->buffer + transfer->moved, length);
+            trace_hex(public_of(transfer)->buffer + transfer->moved, length);
     }
     if (flags & LIBUSB_TRANSFER_SHORT_NOT_OK)
         trace_text(flags & LIBUSB_TRANSFER_ADD_ZERO_PACKET ? " flags=SHORT_NOT_OK+ADD_ZERO_PACKET" : " flags=SHORT_NOT_OK");

@@ -102,7 +102,7 @@ bool work_by_dice(bool waits)
 
 /* Before each call a few steps, rarely many. Requests are left to those who handle events, since a function of the program may answer; so are
  * packets that one is asked for. */
-void shake_by_dice(void)
+void random_steps_by_dice(void)
 {
     for (unsigned left = dice(4) ? dice(4) : dice(LONG_SHAKE); left; left--)
         make_step((enum kind)dice(A_REQUEST), false);

@@ -63,7 +63,7 @@ void tell_lockers(struct libusb_context *context)
 
 static void call_back(struct libusb_context *context, struct transfer *transfer)
 {
-    struct libusb_transfer *it = seen(transfer);
+    struct libusb_transfer *it = public_of(transfer);
     uint8_t flags = it->flags;
     context->calling = transfer->handle;
     context->is_calling = true;

@@ -28,7 +28,7 @@ int libusb_open(libusb_device *device, libusb_device_handle **out)
         free(handle);
         return LIBUSB_ERROR_BUSY;
     }
-    shake();
+    random_steps();
     int r = open_device(device, handle);
     if (is_told(device->context, r))
         note_call(device->context, r, __func__, "device %d, handle %u", device->device->number, handle->number);
@@ -106,7 +106,7 @@ void libusb_close(libusb_device_handle *handle)
         return;
     lock();
     struct libusb_context *context = handle->context;
-    shake();
+    random_steps();
     note_handle(handle, 0, __func__);
     handle->is_shut = true;
     await_callbacks(handle);
@@ -187,7 +187,7 @@ int libusb_clear_halt(libusb_device_handle *handle, unsigned char ep)
 {
     if (!lock_unless_asked())
         return LIBUSB_ERROR_BUSY;
-    shake();
+    random_steps();
     int r = clear_halt(handle, ep);
     if (is_told(handle->context, r))
         note_call(handle->context, r, __func__, "handle %u, endpoint %02x", handle->number, ep);
@@ -226,7 +226,7 @@ int libusb_reset_device(libusb_device_handle *handle)
 {
     if (!lock_unless_asked())
         return LIBUSB_ERROR_BUSY;
-    shake();
+    random_steps();
     int r = reset(handle);
     note_handle(handle, r, __func__);
     unlock();

@@ -40,7 +40,7 @@ int submit_piece(struct transfer *transfer)
     bool is_last = left <= pipe->most;
     int piece = is_last ? left : pipe->most;
     uint8_t flags = LIBUSB_TRANSFER_SHORT_NOT_OK | (is_last ? LIBUSB_TRANSFER_ADD_ZERO_PACKET : 0);
-    int r = core_submit(transfer, piece, seen(transfer)->flags & flags);
+    int r = core_submit(transfer, piece, public_of(transfer)->flags & flags);
     if (r)
         return r;
     transfer->piece = piece;

@@ -35,7 +35,7 @@ void libusb_set_log_cb(libusb_context *context, libusb_log_cb callback, int mode
 /* With the lock. Without a context an option is every later one's too. */
 static int set_option(libusb_context *context, enum libusb_option option, int level, libusb_log_cb callback)
 {
-    struct libusb_context *x = context || process.usual || process.fallback ? context_of(context) : NULL;
+    struct libusb_context *x = context || process.default_context || process.fallback ? context_of(context) : NULL;
     switch (option) {
     case LIBUSB_OPTION_LOG_LEVEL:
         if (level < LIBUSB_LOG_LEVEL_NONE || level > LIBUSB_LOG_LEVEL_DEBUG)

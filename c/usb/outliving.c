@@ -78,7 +78,7 @@ static void end_flights(struct libusb_context *context)
 {
     struct transfer *it;
     while ((it = context->flying.first)) {
-        const struct libusb_transfer *shown = seen(it);
+        const struct libusb_transfer *shown = public_of(it);
         bool has_ended = it->stage == ENDED;
         end_transfer(it, has_ended ? shown->status : LIBUSB_TRANSFER_NO_DEVICE, has_ended ? shown->actual_length : it->moved);
     }

@@ -11,8 +11,8 @@ struct libusb_transfer *libusb_alloc_transfer(int packets)
     struct transfer *transfer = calloc(1, sizeof *transfer + seen_size);
     if (!transfer)
         return NULL;
-    seen(transfer)->num_iso_packets = packets;
-    return seen(transfer);
+    public_of(transfer)->num_iso_packets = packets;
+    return public_of(transfer);
 }
 
 static void take_off(struct transfer *transfer)
@@ -58,8 +58,8 @@ void end_transfer(struct transfer *transfer, enum libusb_transfer_status status,
         return;
     }
     transfer->stage = ENDED;
-    seen(transfer)->status = status;
-    seen(transfer)->actual_length = moved;
+    public_of(transfer)->status = status;
+    public_of(transfer)->actual_length = moved;
     if (stays)
         return;
     join(&context->ended, transfer);
@@ -113,7 +113,7 @@ static void drop_ended(struct libusb_device_handle *handle)
             continue;
         leave(ended, it);
         it->stage = AT_REST;
-        __atomic_store_n(&seen(it)->dev_handle, NULL, __ATOMIC_RELEASE);
+        __atomic_store_n(&public_of(it)->dev_handle, NULL, __ATOMIC_RELEASE);
     }
 }
 
@@ -131,9 +131,9 @@ void withdraw(struct libusb_device_handle *handle, int interface, bool drops)
             if (context->is_open)
                 tell_why(it, "is in flight as its handle is closed", true);
             note(context, LIBUSB_LOG_LEVEL_ERROR, "a handle is closed with a transfer in flight at %02x: it is dropped",
-                 seen(it)->endpoint);
+                 public_of(it)->endpoint);
             it->is_dropped = true;
-            __atomic_store_n(&seen(it)->dev_handle, NULL, __ATOMIC_RELEASE);
+            __atomic_store_n(&public_of(it)->dev_handle, NULL, __ATOMIC_RELEASE);
         }
         cancel(it, ASKED_TO_CANCEL);
     }
@@ -158,7 +158,7 @@ static int submit_to_stopped(struct transfer *transfer)
 
 static int submit_to_pipe(struct transfer *transfer)
 {
-    const struct libusb_transfer *it = seen(transfer);
+    const struct libusb_transfer *it = public_of(transfer);
     struct pipe *pipe = &transfer->handle->device->pipes[place_of(it->endpoint)];
     if (it->endpoint != pipe->ep || !pipe->kind)
         return LIBUSB_ERROR_NOT_FOUND;
@@ -186,7 +186,7 @@ static void begin_anew(struct transfer *transfer, struct libusb_device_handle *h
 
 static int submit(struct transfer *transfer)
 {
-    struct libusb_transfer *it = seen(transfer);
+    struct libusb_transfer *it = public_of(transfer);
     struct libusb_device_handle *handle = it->dev_handle;
     if (transfer->stage != AT_REST)
         return LIBUSB_ERROR_BUSY;
@@ -220,9 +220,9 @@ int libusb_submit_transfer(struct libusb_transfer *transfer)
 {
     if (!lock_unless_asked())
         return LIBUSB_ERROR_BUSY;
-    shake();
+    random_steps();
     const struct libusb_device_handle *handle = transfer->dev_handle;
-    int r = handle ? submit(kept(transfer)) : LIBUSB_ERROR_NO_DEVICE;
+    int r = handle ? submit(private_of(transfer)) : LIBUSB_ERROR_NO_DEVICE;
     if (handle && is_told(handle->context, r))
         note_submission(transfer, r);
     unlock();
@@ -232,10 +232,10 @@ int libusb_submit_transfer(struct libusb_transfer *transfer)
 /* One at rest may have outlived its context. */
 int libusb_cancel_transfer(struct libusb_transfer *transfer)
 {
-    struct transfer *it = kept(transfer);
+    struct transfer *it = private_of(transfer);
     if (!lock_unless_asked())
         return LIBUSB_ERROR_BUSY;
-    shake();
+    random_steps();
     struct libusb_context *context = it->stage == AT_REST ? NULL : it->context;
     if (context && it->stage != ENDED && !it->ask)
         tell_why(it, "is cancelled", false);
@@ -252,7 +252,7 @@ void libusb_free_transfer(struct libusb_transfer *transfer)
 {
     if (!transfer)
         return;
-    struct transfer *it = kept(transfer);
+    struct transfer *it = private_of(transfer);
     lock();
     unsigned char *buffer = transfer->flags & LIBUSB_TRANSFER_FREE_BUFFER ? transfer->buffer : NULL;
     transfer->buffer = NULL;

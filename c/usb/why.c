@@ -11,7 +11,7 @@
 
 static void say_which(struct sentence *it, struct transfer *transfer)
 {
-    const struct libusb_transfer *shown = seen(transfer);
+    const struct libusb_transfer *shown = public_of(transfer);
     const uint8_t *setup = shown->buffer;
     if (transfer->pipe)
         append(it, "the transfer of %d byte%s at %02x", shown->length, plural((uint64_t)shown->length), transfer->pipe->ep);

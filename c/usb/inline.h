@@ -1,14 +1,14 @@
 /* What each transfer comes by, inline. Where most often nothing is to be done, that is found out here, and only the rest is a call.
  * bus.h includes this file. */
-#ifndef QUICK_H
-#define QUICK_H
+#ifndef INLINE_H
+#define INLINE_H
 
 #include "bus.h"
 
 /* The context that a call is for: NULL stands for the default one, and for another where that one wasn't begun. */
 static inline struct libusb_context *context_of(struct libusb_context *context)
 {
-    return context ? context : usual_context();
+    return context ? context : default_context();
 }
 
 /* A hold of a context is given back: the last one ends its memory. */
@@ -84,10 +84,10 @@ static inline void step_down(struct libusb_context *context)
 }
 
 /* With a seed: before each call a few single steps, by dice, so that races come out; for the same number the same. */
-static inline void shake(void)
+static inline void random_steps(void)
 {
     if (process.bus.seed)
-        shake_by_dice();
+        random_steps_by_dice();
 }
 
 static inline uint64_t deadline_of(unsigned milliseconds)
@@ -125,7 +125,7 @@ static inline void leave(struct transfers *queue, struct transfer *transfer)
 
 static inline int left_of(struct transfer *transfer)
 {
-    return seen(transfer)->length - transfer->moved;
+    return public_of(transfer)->length - transfer->moved;
 }
 
 static inline bool may_go(const struct pipe *pipe, struct transfer *transfer)
@@ -165,7 +165,7 @@ static inline int core_submit(struct transfer *transfer, int length, uint8_t fla
 {
     const struct pipe *pipe = transfer->pipe;
     struct tirnouch_slot *core = &pipe->core->slot;
-    uint8_t name = (uint8_t)pipe->name, *at = length ? seen(transfer)->buffer + transfer->moved : process.nowhere;
+    uint8_t name = (uint8_t)pipe->name, *at = length ? public_of(transfer)->buffer + transfer->moved : process.nowhere;
     uint32_t timeout = transfer->deadline ? 1 : 0;
     uint64_t payload = (uint64_t)(uintptr_t)transfer;
     bool lends = length && is_in(pipe->ep);
