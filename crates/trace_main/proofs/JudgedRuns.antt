@@ -11,8 +11,8 @@ use Rattle.trace_io.specs.Faults.{IsOfRun}
 use Rattle.trace_io.specs.Output.{AppendsSome}
 use Rattle.trace_io.proofs.Beginnings.{all_of, joined, kept, some_behind, some_of_front, stays}
 use Rattle.trace_judged.specs.Text.{judged_text}
-use Rattle.trace_run.specs.declared.tasks.Ending.{Ending}
-use Rattle.trace_run.specs.declared.tasks.Ending.TheVariants.{Good, BadLines, NoDevices, Differs, Unexpected}
+use Rattle.trace_run.specs.declared.tasks.TaskEnd.{TaskEnd}
+use Rattle.trace_run.specs.declared.tasks.TaskEnd.TheVariants.{Good, BadLines, NoDevices, Differs, Unexpected}
 use Rattle.trace_main.specs.Program.{BeginsEntries, EndsJudged, FindsJudged, FindsUnexpected, IsDone, Performs, run_printed, with_judged}
 
 -- a fault of a run ends no task but early
@@ -28,7 +28,7 @@ of_run t text old new (Capture fault) is = absurd is
 of_run t text old new (Descriptor fault) is = absurd is
 
 -- how such a task ends: it is done, where nothing differs; else that is told behind what it printed
-pub ends_by : (t : Task) (text : List ℕ) (s : Scenario) (printed : List ℕ) (old mid new : Option (List ℕ)) (result : Result Ending Fault)
+pub ends_by : (t : Task) (text : List ℕ) (s : Scenario) (printed : List ℕ) (old mid new : Option (List ℕ)) (result : Result TaskEnd Fault)
     → scenario_of text ≡ Ok s → length text ≤ longest_input → run_printed t text s ≡ Some printed
     → (judged_text text s ≡ [] → Appends old new printed → IsDone t text [] old new)
     → (FindsJudged t text old new → FindsUnexpected t text old new)
@@ -42,7 +42,7 @@ ends_by t text s printed old mid new (Ok Differs) said short of done found put t
 ends_by t text s printed old mid new (Err fault) said short of done found put told = of_run t text old new fault told.0
 
 -- a beginning of what is told is written, however that ends
-some_told : (text : List ℕ) (s : Scenario) (mid new : Option (List ℕ)) (result : Result Ending Fault) → EndsJudged text s mid new result → AppendsSome (judged_text text s) mid new
+some_told : (text : List ℕ) (s : Scenario) (mid new : Option (List ℕ)) (result : Result TaskEnd Fault) → EndsJudged text s mid new result → AppendsSome (judged_text text s) mid new
 some_told text s mid new (Ok Good) told =
     some_of_front (judged_text text s) [] (judged_text text s) mid new refl (all_of [] mid new (stays mid mid new [] (kept mid) told.1))
 some_told text s mid new (Ok Unexpected) told = all_of (judged_text text s) mid new told.1
@@ -52,7 +52,7 @@ some_told text s mid new (Ok Differs) told = absurd told
 some_told text s mid new (Err fault) told = told.1
 
 -- so of all, behind what was printed
-pub begun_by : (text : List ℕ) (s : Scenario) (printed : List ℕ → Scenario → List ℕ) (old mid new : Option (List ℕ)) (result : Result Ending Fault)
+pub begun_by : (text : List ℕ) (s : Scenario) (printed : List ℕ → Scenario → List ℕ) (old mid new : Option (List ℕ)) (result : Result TaskEnd Fault)
     → scenario_of text ≡ Ok s → Appends old mid (printed text s) → EndsJudged text s mid new result
     → BeginsEntries (with_judged printed text) (scenario_of text) old new
 begun_by text s printed old mid new result said put told =

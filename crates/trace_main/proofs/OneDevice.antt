@@ -10,8 +10,8 @@ use Rattle.trace_recorded.specs.declared.choice.DeviceChoice.{DeviceChoice}
 use Rattle.trace_recorded.specs.declared.reader.TextReader.{TextReader}
 use Rattle.trace_recorded.specs.DescribedText.{described_scenario}
 use Rattle.trace_recorded.specs.Faults.{IsCaptureFault}
-use Rattle.trace_run.specs.declared.tasks.Ending.{Ending}
-use Rattle.trace_run.specs.declared.tasks.Ending.TheVariants.{Good, BadLines, NoDevices, Differs, Unexpected}
+use Rattle.trace_run.specs.declared.tasks.TaskEnd.{TaskEnd}
+use Rattle.trace_run.specs.declared.tasks.TaskEnd.TheVariants.{Good, BadLines, NoDevices, Differs, Unexpected}
 use Rattle.trace_main.specs.Described.{EndsDescribed, FindsDescribed, IsOfDevices, PerformsDescribed, TellsRefusal}
 use Rattle.trace_main.specs.Program.{status_of}
 
@@ -26,7 +26,7 @@ described_refused reader choice text (capture.NoDevice ids) old new is kept = (i
 described_refused reader choice text capture.Memory old new is kept = tt
 
 -- a run with status 0 found the device
-pub described_done : (reader : TextReader) (choice : DeviceChoice) (input old new : Option (List ℕ)) (ended : Result Ending Fault) (status : ℕ)
+pub described_done : (reader : TextReader) (choice : DeviceChoice) (input old new : Option (List ℕ)) (ended : Result TaskEnd Fault) (status : ℕ)
     → IfSome input (λ text. PerformsDescribed reader choice text old new ended) → status ≡ status_of ended → status ≡ 0
     → IfSome input (λ text. FindsDescribed reader choice true text old new)
 described_done reader choice None old new ended status ends same zero = tt
@@ -38,7 +38,7 @@ described_done reader choice (Some text) old new (Ok Unexpected) status ends sam
 described_done reader choice (Some text) old new (Err fault) status ends same zero = absurd (omega arith)
 
 -- the status is 0 or 1
-pub described_status : (ended : Result Ending Fault) (status : ℕ) → IfOk ended IsOfDevices → status ≡ status_of ended → status ≤ 1
+pub described_status : (ended : Result TaskEnd Fault) (status : ℕ) → IfOk ended IsOfDevices → status ≡ status_of ended → status ≤ 1
 described_status (Ok Good) status is same = omega (arith, same)
 described_status (Ok BadLines) status is same = absurd is
 described_status (Ok NoDevices) status is same = omega (arith, same)
@@ -47,12 +47,12 @@ described_status (Ok Unexpected) status is same = absurd is
 described_status (Err fault) status is same = omega (arith, same)
 
 -- nothing is told of a run with status 0
-pub described_quiet : (ended : Result Ending Fault) (status : ℕ) (err_old err_new : Option (List ℕ)) → OnOk ended (◌≡◌ {A = List ℕ} [] [] → Keeps err_old err_new) → status ≡ status_of ended → status ≡ 0 → Keeps err_old err_new
+pub described_quiet : (ended : Result TaskEnd Fault) (status : ℕ) (err_old err_new : Option (List ℕ)) → OnOk ended (◌≡◌ {A = List ℕ} [] [] → Keeps err_old err_new) → status ≡ status_of ended → status ≡ 0 → Keeps err_old err_new
 described_quiet (Ok ending) status err_old err_new quiet same zero = quiet refl
 described_quiet (Err fault) status err_old err_new quiet same zero = absurd (omega (arith, same, zero))
 
 -- what stands behind status 1
-pub described_told : (reader : TextReader) (choice : DeviceChoice) (input old new err_old err_new : Option (List ℕ)) (ended : Result Ending Fault) (status : ℕ) → IfOk ended IsOfDevices
+pub described_told : (reader : TextReader) (choice : DeviceChoice) (input old new err_old err_new : Option (List ℕ)) (ended : Result TaskEnd Fault) (status : ℕ) → IfOk ended IsOfDevices
     → IfSome input (λ text. PerformsDescribed reader choice text old new ended) → OnOk ended (◌≡◌ {A = List ℕ} [] [] → Keeps err_old err_new)
     → IfErr ended (λ fault. AppendsSome (message_of fault ++ []) err_old err_new) → status ≡ status_of ended → status ≡ 1
     → TellsRefusal reader choice input old new err_old err_new

@@ -33,8 +33,8 @@ use Rattle.trace_recorded.specs.Scenario.{recorded_scenario}
 use Rattle.trace_scenario.specs.declared.scenario.Scenario.{Scenario}
 use Rattle.trace_main.specs.Lived.{lived_of, AppendsCallbacks, GoesOn, IsOfLive}
 use Rattle.trace_main.specs.Program.{status_of, AskForOther, AskForThreads, Begins, BeginsCheck, Draws, EndsLate, FindsDifference, FindsNone, IsAlone, IsBadDescriptor, IsBadLine, IsDone, IsReported, IsSilentAtBad, IsThreaded, Performs, ReadsOther, TellsRest, TellsWhy, FindsUnexpected}
-use Rattle.trace_run.specs.declared.tasks.Ending.{Ending}
-use Rattle.trace_run.specs.declared.tasks.Ending.TheVariants.{Good, BadLines, NoDevices, Differs, Unexpected}
+use Rattle.trace_run.specs.declared.tasks.TaskEnd.{TaskEnd}
+use Rattle.trace_run.specs.declared.tasks.TaskEnd.TheVariants.{Good, BadLines, NoDevices, Differs, Unexpected}
 use Rattle.trace_main.proofs.Begun.{keeps_same, nothing_begun, told_front}
 use Rattle.trace_io.specs.declared.words.Task.{Task}
 use Rattle.trace_io.specs.declared.words.Task.TheVariants.{Run, Steps, Packets, Alone, Live, Left, Check, Draw, Page, Capture, Devices, Explain, Test, Device, Describe}
@@ -86,7 +86,7 @@ some_bad text [] numbers some = absurd (some refl)
 some_bad text (f ∷ fs) numbers some = λ none. let gone : f.line ∷ map (λ (g : Finding). g.line) fs ≡ [] = numbers ∙ none in cc
 
 -- a run in threads ends as it may
-pub lived : (text : List ℕ) (rounds : ℕ) (s : Scenario) (notes : List ℕ) (old new : Option (List ℕ)) (r : Result Ending Fault) → lived_of text ≡ Ok s
+pub lived : (text : List ℕ) (rounds : ℕ) (s : Scenario) (notes : List ℕ) (old new : Option (List ℕ)) (r : Result TaskEnd Fault) → lived_of text ≡ Ok s
     → length text ≤ longest_input → OnOk r (AppendsCallbacks s notes old new) → IfOk r (λ ending. ending ≡ Good) → IfErr r (IsOfLive s rounds notes)
     → IfErr r (λ fault. fault ≡ Rounds rounds → Keeps old new) → Performs (Live rounds) text notes old new r
 lived text rounds s notes old new (Ok Good) read short lines good fault silent = (s, read, short, lines)
@@ -109,7 +109,7 @@ lived text rounds s notes old new (Err (why.Capture refused)) read short lines g
 lived text rounds s notes old new (Err (why.Descriptor refused)) read short lines good fault silent = absurd fault
 
 -- a run ends as it may whose capture is written
-pub captured : (text : List ℕ) (s : Scenario) (old new : Option (List ℕ)) (r : Result Ending Fault) → scenario_of text ≡ Ok s → length text ≤ longest_input
+pub captured : (text : List ℕ) (s : Scenario) (old new : Option (List ℕ)) (r : Result TaskEnd Fault) → scenario_of text ≡ Ok s → length text ≤ longest_input
     → OnOk r (Appends old new (capture_bytes text s)) → IfOk r (λ ending. ending ≡ Good) → IfErr r (λ fault. IsOfRun fault) → Performs Capture text [] old new r
 captured text s old new (Ok Good) read short file good fault = (s, read, short, (file, refl))
 captured text s old new (Ok BadLines) read short file good fault = cc
@@ -135,7 +135,7 @@ not_zero : (status : ℕ) → status ≡ 1 → status ≢ 0
 not_zero status one zero = absurd (omega arith)
 
 -- where a check finds a bad line, the status isn't 0
-bad_status : (text notes : List ℕ) (ended : Result Ending Fault) (status : ℕ) (old new : Option (List ℕ)) → Performs Check text notes old new ended
+bad_status : (text notes : List ℕ) (ended : Result TaskEnd Fault) (status : ℕ) (old new : Option (List ℕ)) → Performs Check text notes old new ended
     → status ≡ status_of ended → bad_lines text ≢ [] → status ≢ 0
 bad_status text notes (Ok Good) status old new done same bad = absurd (bad (done_is_good text notes old new done))
 bad_status text notes (Ok BadLines) status old new done same bad = not_zero status same
@@ -149,7 +149,7 @@ one_task : (words : List Text) (t s : Task) → AskFor words t → AskFor words 
 one_task words t s asks other = let same : Some t ≡ Some s = sym asks.1 ∙ other.1 in cc
 
 -- the same of words that ask for a check, whatever the input has
-pub bad_input : (words : List Text) (input : Option (List ℕ)) (t : Task) (notes : List ℕ) (ended : Result Ending Fault) (status : ℕ) (old new : Option (List ℕ))
+pub bad_input : (words : List Text) (input : Option (List ℕ)) (t : Task) (notes : List ℕ) (ended : Result TaskEnd Fault) (status : ℕ) (old new : Option (List ℕ))
     → AskFor words t → AskFor words Check → IfSome input (λ text. Performs t text notes old new ended) → status ≡ status_of ended
     → IfSome input (λ text. bad_lines text ≢ [] → status ≢ 0)
 bad_input words None t notes ended status old new asks check ends same = tt
@@ -157,7 +157,7 @@ bad_input words (Some text) t notes ended status old new asks check ends same =
     bad_status text notes ended status old new (subst (λ (x : Task). Performs x text notes old new ended) (one_task words t Check asks check) ends) same
 
 -- what is told of a task that is done
-done_rest : (t : Task) (text notes : List ℕ) (ended : Result Ending Fault) (status : ℕ) (old new err_old err_new : Option (List ℕ)) → Performs t text notes old new ended
+done_rest : (t : Task) (text notes : List ℕ) (ended : Result TaskEnd Fault) (status : ℕ) (old new err_old err_new : Option (List ℕ)) → Performs t text notes old new ended
     → status ≡ status_of ended → OnOk ended (AppendsSome notes err_old err_new) → status ≡ 0 → TellsRest t text old new err_old err_new
 done_rest t text notes (Ok Good) status old new err_old err_new ends same noted zero = (notes, ends, noted)
 done_rest t text notes (Ok BadLines) status old new err_old err_new ends same noted zero = absurd (omega arith)
@@ -167,14 +167,14 @@ done_rest t text notes (Ok Unexpected) status old new err_old err_new ends same 
 done_rest t text notes (Err fault) status old new err_old err_new ends same noted zero = absurd (omega arith)
 
 -- the same, whatever the input has
-pub rest_of : (input : Option (List ℕ)) (t : Task) (notes : List ℕ) (ended : Result Ending Fault) (status : ℕ) (old new err_old err_new : Option (List ℕ))
+pub rest_of : (input : Option (List ℕ)) (t : Task) (notes : List ℕ) (ended : Result TaskEnd Fault) (status : ℕ) (old new err_old err_new : Option (List ℕ))
     → IfSome input (λ text. Performs t text notes old new ended) → status ≡ status_of ended → OnOk ended (AppendsSome notes err_old err_new)
     → status ≡ 0 → IfSome input (λ text. TellsRest t text old new err_old err_new)
 rest_of None t notes ended status old new err_old err_new ends same noted zero = tt
 rest_of (Some text) t notes ended status old new err_old err_new ends same noted zero = done_rest t text notes ended status old new err_old err_new ends same noted zero
 
 -- nothing is told of a task without notes that ended well
-quiet_done : (notes : List ℕ) (ended : Result Ending Fault) (status : ℕ) (err_old err_new : Option (List ℕ)) → notes ≡ [] → OnOk ended (notes ≡ [] → Keeps err_old err_new)
+quiet_done : (notes : List ℕ) (ended : Result TaskEnd Fault) (status : ℕ) (err_old err_new : Option (List ℕ)) → notes ≡ [] → OnOk ended (notes ≡ [] → Keeps err_old err_new)
     → status ≡ status_of ended → status ≡ 0 → Keeps err_old err_new
 quiet_done notes (Ok ending) status err_old err_new none quiet same zero = quiet none
 quiet_done notes (Err fault) status err_old err_new none quiet same zero = absurd (omega arith)
@@ -197,7 +197,7 @@ threads_asked words Device asks threaded = absurd threaded
 threads_asked words Describe asks threaded = absurd threaded
 
 -- so nothing is told behind status 0 but by a run in threads
-pub quiet_unless_threads : (words : List Text) (t : Task) (notes : List ℕ) (ended : Result Ending Fault) (status : ℕ) (err_old err_new : Option (List ℕ)) → AskFor words t
+pub quiet_unless_threads : (words : List Text) (t : Task) (notes : List ℕ) (ended : Result TaskEnd Fault) (status : ℕ) (err_old err_new : Option (List ℕ)) → AskFor words t
     → IsThreaded t ⊎ (notes ≡ []) → OnOk ended (notes ≡ [] → Keeps err_old err_new) → status ≡ status_of ended → status ≡ 0 → AskForThreads words ⊎ Keeps err_old err_new
 quiet_unless_threads words t notes ended status err_old err_new asks (inl threaded) quiet same zero = inl (threads_asked words t asks threaded)
 quiet_unless_threads words t notes ended status err_old err_new asks (inr none) quiet same zero = inr (quiet_done notes ended status err_old err_new none quiet same zero)
@@ -305,7 +305,7 @@ silent_unless words (Some text) t old new asks (inl other) = inr (inr (t, asks, 
 silent_unless words (Some text) t old new asks (inr silent) = inl silent
 
 -- what is told of a task that ended so
-pub told_of : (words : List Text) (input : Option (List ℕ)) (t : Task) (notes : List ℕ) (ended : Result Ending Fault) (status : ℕ) (old new err_old err_new : Option (List ℕ))
+pub told_of : (words : List Text) (input : Option (List ℕ)) (t : Task) (notes : List ℕ) (ended : Result TaskEnd Fault) (status : ℕ) (old new err_old err_new : Option (List ℕ))
     → AskFor words t → IfSome input (λ text. Performs t text notes old new ended) → IfErr ended (IsAlone notes) → status ≡ status_of ended
     → OnOk ended (notes ≡ [] → Keeps err_old err_new) → (ended ≡ Ok BadLines → notes ≡ []) → (ended ≡ Ok NoDevices → notes ≡ []) → (ended ≡ Ok Differs → notes ≡ []) → IfErr ended (λ fault. AppendsSome (message_of fault ++ notes) err_old err_new)
     → status ≡ 1 → TellsWhy words input old new err_old err_new
@@ -338,7 +338,7 @@ found_in : (input : Option (List ℕ)) (t : Task) (notes : List ℕ) (old new : 
 found_in None t notes old new ends = tt
 found_in (Some text) t notes old new ends = ends.0
 
-pub unexpected_found : (words : List Text) (input : Option (List ℕ)) (t : Task) (notes : List ℕ) (ended : Result Ending Fault) (status : ℕ) (old new : Option (List ℕ))
+pub unexpected_found : (words : List Text) (input : Option (List ℕ)) (t : Task) (notes : List ℕ) (ended : Result TaskEnd Fault) (status : ℕ) (old new : Option (List ℕ))
     → AskFor words t → IfSome input (λ text. Performs t text notes old new ended) → status ≡ status_of ended → status ≡ 3
     → (task : Task) × AskFor words task × IfSome input (λ text. FindsUnexpected task text old new)
 unexpected_found words input t notes (Ok Unexpected) status old new asks ends same three = (t, asks, found_in input t notes old new ends)

@@ -10,8 +10,8 @@ use Rattle.trace_recorded.specs.declared.choice.DeviceChoice.{DeviceChoice}
 use Rattle.trace_recorded.specs.declared.reader.TextReader.{TextReader}
 use Rattle.trace_recorded.specs.declared.scenario.RecordedScenario.{RecordedScenario}
 use Rattle.trace_recorded.specs.DescribedText.{described_scenario}
-use Rattle.trace_run.specs.declared.tasks.Ending.{Ending}
-use Rattle.trace_run.specs.declared.tasks.Ending.TheVariants.{Good, BadLines, NoDevices, Differs, Unexpected}
+use Rattle.trace_run.specs.declared.tasks.TaskEnd.{TaskEnd}
+use Rattle.trace_run.specs.declared.tasks.TaskEnd.TheVariants.{Good, BadLines, NoDevices, Differs, Unexpected}
 
 -- the text is a capture of the longest length at most, and the text of the device that is meant is written; and the device is kept or isn't
 abbrev pub FindsDescribed : TextReader → DeviceChoice → Bool → List ℕ → Option (List ℕ) → Option (List ℕ) → Type 0
@@ -31,7 +31,7 @@ EndsDescribed reader choice text old new (Wide steps) = ⊥
 EndsDescribed reader choice text old new (Descriptor fault) = ⊥
 
 -- how it ends
-abbrev pub PerformsDescribed : TextReader → DeviceChoice → List ℕ → Option (List ℕ) → Option (List ℕ) → Result Ending Fault → Type 0
+abbrev pub PerformsDescribed : TextReader → DeviceChoice → List ℕ → Option (List ℕ) → Option (List ℕ) → Result TaskEnd Fault → Type 0
 PerformsDescribed reader choice text old new (Ok Good) = FindsDescribed reader choice true text old new
 PerformsDescribed reader choice text old new (Ok NoDevices) = FindsDescribed reader choice false text old new
 PerformsDescribed reader choice text old new (Ok BadLines) = ⊥
@@ -40,7 +40,7 @@ PerformsDescribed reader choice text old new (Ok Unexpected) = ⊥
 PerformsDescribed reader choice text old new (Err fault) = EndsDescribed reader choice text old new fault
 
 -- it is kept or isn't
-abbrev pub IsOfDevices : Ending → Type 0
+abbrev pub IsOfDevices : TaskEnd → Type 0
 IsOfDevices Good = ⊤
 IsOfDevices NoDevices = ⊤
 IsOfDevices _ = ⊥

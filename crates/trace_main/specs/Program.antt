@@ -3,8 +3,8 @@ use Rattle.std.specs.Prelude.{◌≡◌, ◌≢◌, ◌≤◌, ◌<◌, ◌⊎�
 use Rattle.std.specs.Io.KnownBytes.{Appends, Keeps}
 use Rattle.trace_io.specs.declared.fault.Fault.{Fault}
 use Rattle.trace_io.specs.declared.fault.Fault.TheVariants.{Line, Memory, InputOutput, Closed, TooLong, Rounds, Wide, Capture, Descriptor}
-use Rattle.trace_run.specs.declared.tasks.Ending.{Ending}
-use Rattle.trace_run.specs.declared.tasks.Ending.TheVariants.{Good, BadLines, NoDevices, Differs, Unexpected}
+use Rattle.trace_run.specs.declared.tasks.TaskEnd.{TaskEnd}
+use Rattle.trace_run.specs.declared.tasks.TaskEnd.TheVariants.{Good, BadLines, NoDevices, Differs, Unexpected}
 use Rattle.trace_run.specs.Tasks.{AppendsAny, alone_text, capture_bytes, left_lines, run_text, steps_text}
 use Rattle.trace_recorded.specs.declared.capture_fault.CaptureFault.{CaptureFault}
 use Rattle.trace_recorded.specs.declared.scenario.RecordedScenario.{RecordedScenario}
@@ -20,8 +20,8 @@ use Rattle.trace_judged.specs.Text.{judged_text}
 use Rattle.trace_judged.specs.declared.unexpected.Unexpected as judged
 use Rattle.trace_test.specs.Tests.{IsOfTest, IsOutcome, outcome_text}
 use Rattle.trace_test.specs.declared.difference.Difference.{Difference}
-use Rattle.trace_test.specs.declared.difference.Outcome.{Outcome}
-use Rattle.trace_test.specs.declared.difference.Outcome.TheVariants as outcome
+use Rattle.trace_test.specs.declared.difference.TestOutcome.{TestOutcome}
+use Rattle.trace_test.specs.declared.difference.TestOutcome.TheVariants as outcome
 use Rattle.trace_scenario.specs.declared.scenario.Scenario.{Scenario}
 use Rattle.clap.specs.Walk.{Text}
 use Rattle.trace_io.specs.CommandLine.{AskFor}
@@ -113,17 +113,17 @@ abbrev pub with_judged : (List ℕ → Scenario → List ℕ) → List ℕ → S
 with_judged printed text s = printed text s ++ judged_text text s
 
 -- behind a run it is told what it wrote that isn't as expected: nothing, where it ends well, and else that
-abbrev pub EndsTold : (told : List ℕ) → Option (List ℕ) → Option (List ℕ) → Result Ending Fault → Type 0
+abbrev pub EndsTold : (told : List ℕ) → Option (List ℕ) → Option (List ℕ) → Result TaskEnd Fault → Type 0
 EndsTold told old new (Ok Good) = (told ≡ []) × Keeps old new
 EndsTold told old new (Ok Unexpected) = (told ≢ []) × Appends old new told
 EndsTold told old new (Ok ending) = ⊥
 EndsTold told old new (Err fault) = IsOfRun fault × AppendsSome told old new
 
-abbrev pub EndsJudged : List ℕ → Scenario → Option (List ℕ) → Option (List ℕ) → Result Ending Fault → Type 0
+abbrev pub EndsJudged : List ℕ → Scenario → Option (List ℕ) → Option (List ℕ) → Result TaskEnd Fault → Type 0
 EndsJudged text s old new result = EndsTold (judged_text text s) old new result
 
 -- the text is a test of the longest length at most, this came of it, and that is written
-abbrev pub WritesOutcome : List ℕ → Outcome → Option (List ℕ) → Option (List ℕ) → Type 0
+abbrev pub WritesOutcome : List ℕ → TestOutcome → Option (List ℕ) → Option (List ℕ) → Type 0
 WritesOutcome text outcome old new = IsOutcome text outcome × (length text ≤ longest_input) × Appends old new (outcome_text outcome)
 
 -- what is done with a run that wrote something else than its scenario expects: what the task prints of it is written, and that behind it
@@ -138,7 +138,7 @@ FindsUnexpected task.Test text old new = (unexpected : judged.Unexpected) × Wri
 FindsUnexpected t text old new = FindsJudged t text old new
 
 -- how a test ends, by what came of it
-abbrev pub ending_of : Outcome → Ending
+abbrev pub ending_of : TestOutcome → TaskEnd
 ending_of outcome.Passed = Good
 ending_of (outcome.Differs difference) = Differs
 ending_of (outcome.Unexpected unexpected) = Unexpected
@@ -197,7 +197,7 @@ IsBadDescriptor task.Describe text fault = ⊤
 IsBadDescriptor t text fault = ⊥
 
 -- how a task over a text ends, and what is to be told behind that: it is done; or it is a check, and the bad lines are reported; or the text's first bad line is told of and nothing is written; or the text is too long, and nothing is written; or it is run in threads, and more callbacks are told something than may be, and nothing is written; or it draws, there are too many steps, and nothing is written; or it reads a capture, no device is kept, and that is told; or a test differs, and that is told; or the capture or the descriptor is refused, and nothing is written; or a stream or memory failed
-abbrev pub Performs : Task → List ℕ → (notes : List ℕ) → Option (List ℕ) → Option (List ℕ) → Result Ending Fault → Type 0
+abbrev pub Performs : Task → List ℕ → (notes : List ℕ) → Option (List ℕ) → Option (List ℕ) → Result TaskEnd Fault → Type 0
 Performs t text notes old new (Ok Good) = IsDone t text notes old new
 Performs t text notes old new (Ok BadLines) = (t ≡ task.Check) × IsReported text old new
 Performs t text notes old new (Ok NoDevices) = (reader : TextReader) × (t ≡ task.Devices reader) × FindsNone reader text old new
@@ -240,7 +240,7 @@ BeginsCheck text (Err line) old new = AppendsSomeReport (bad_lines text) (counts
 
 -- what a test may have written: a beginning of what came of it
 abbrev pub BeginsOutcome : List ℕ → Option (List ℕ) → Option (List ℕ) → Type 0
-BeginsOutcome text old new = Keeps old new ⊎ ((outcome : Outcome) × IsOutcome text outcome × AppendsSome (outcome_text outcome) old new)
+BeginsOutcome text old new = Keeps old new ⊎ ((outcome : TestOutcome) × IsOutcome text outcome × AppendsSome (outcome_text outcome) old new)
 
 -- what a task that prints a device's lines may have written: a beginning of them, and nothing where the descriptor is refused
 abbrev pub BeginsDevice : Result (List ℕ) DescriptorFault → Option (List ℕ) → Option (List ℕ) → Type 0
@@ -308,7 +308,7 @@ IsThreaded (task.Live rounds) = ⊤
 IsThreaded t = ⊥
 
 -- the status of a task that ended so
-abbrev pub status_of : Result Ending Fault → ℕ
+abbrev pub status_of : Result TaskEnd Fault → ℕ
 status_of (Ok Good) = 0
 status_of (Ok BadLines) = 1
 status_of (Ok NoDevices) = 1

@@ -17,11 +17,11 @@ use std::io::Write;
 use trace_explain::{Telling, explained_run};
 use trace_io::Fault;
 use trace_io::print::print_findings;
-use trace_run::Ending;
+use trace_run::TaskEnd;
 use trace_scenario::{Counts, Lined, NumberedLine, Scenario, check, into_setups, read_lined};
 
 /// Checks a text: prints its bad lines, and how much the good ones say; and of a text without a bad line which lines its run refuses, and why.
-pub(crate) fn report<W: Write>(alloc: Global, text: &[u8], out: &mut W) -> Result<Ending, Fault>
+pub(crate) fn report<W: Write>(alloc: Global, text: &[u8], out: &mut W) -> Result<TaskEnd, Fault>
     requires { length text.now ≤ longest_input }
     ensures ends { Performs Check text.now [] (W.contents out.old) (W.contents out.new) result }
     ensures begun { Begins Check text.now (W.contents out.old) (W.contents out.new) }
@@ -33,7 +33,7 @@ pub(crate) fn report<W: Write>(alloc: Global, text: &[u8], out: &mut W) -> Resul
         return report_good(alloc, text, &findings.counts, out);
     }
     print_findings(alloc, out, &findings)?;
-    Ok(Ending::BadLines)
+    Ok(TaskEnd::BadLines)
 }
 
 /// How much a scenario says, and which lines its run refuses. An error where memory is refused.
@@ -63,7 +63,7 @@ fn report_good<W: Write>(
     text: &[u8],
     counts: &Counts,
     out: &mut W,
-) -> Result<Ending, Fault>
+) -> Result<TaskEnd, Fault>
     requires short { length text.now ≤ longest_input }
     requires good { bad_lines text.now ≡ [] }
     requires counts { counts.now ≡ counts_of (good_lines text.now) }
@@ -82,5 +82,5 @@ fn report_good<W: Write>(
     };
     let said = said(alloc, counts, scenario, lines.as_slice())?;
     write_all(out, said.as_slice())?;
-    Ok(Ending::Good)
+    Ok(TaskEnd::Good)
 }

@@ -12,7 +12,7 @@ use std::alloc::Global;
 use std::io::{Read, Write};
 use trace_io::{Fault, read_whole, write_bytes};
 use trace_recorded::{DeviceChoice, RecordedScenario, TextReader, described_scenario};
-use trace_run::Ending;
+use trace_run::TaskEnd;
 
 /// Prints the device that is meant, for who reads it. Nothing is printed where the capture isn't read or has no such device.
 #[tactic(auto, using(crate::proofs::Begun::no_recorded, crate::proofs::OneDevice::described_refused))]
@@ -22,7 +22,7 @@ fn device<W: Write>(
     choice: &DeviceChoice,
     capture: &[u8],
     out: &mut W,
-) -> Result<Ending, Fault>
+) -> Result<TaskEnd, Fault>
     requires { length capture.now ≤ longest_input }
     ensures ends { PerformsDescribed reader choice.now capture.now (W.contents out.old) (W.contents out.new) result }
     ensures ending { IfOk result IsOfDevices }
@@ -34,9 +34,9 @@ fn device<W: Write>(
     write_bytes(out, text.as_slice())?;
     out.flush()?;
     if has_devices {
-        return Ok(Ending::Good);
+        return Ok(TaskEnd::Good);
     }
-    Ok(Ending::NoDevices)
+    Ok(TaskEnd::NoDevices)
 }
 
 /// Reads the capture and prints the device.
@@ -47,7 +47,7 @@ fn perform<R: Read, W: Write>(
     choice: &DeviceChoice,
     input: &mut R,
     out: &mut W,
-) -> Result<Ending, Fault>
+) -> Result<TaskEnd, Fault>
     ensures ends { IfSome (R.remaining input.old) (λ text. PerformsDescribed reader choice.now text (W.contents out.old) (W.contents out.new) result) }
     ensures ending { IfOk result IsOfDevices }
     ensures begun { IfSome (R.remaining input.old) (λ text. BeginsRecorded (described_scenario reader choice.now text) (W.contents out.old) (W.contents out.new)) }

@@ -9,11 +9,11 @@ use std::alloc::Global;
 use std::io::Write;
 use trace_descriptor::{description, device_lines};
 use trace_io::{Fault, write_bytes};
-use trace_run::Ending;
+use trace_run::TaskEnd;
 
 /// Prints the lines of a device. Nothing is printed where its descriptor is refused.
 #[tactic(auto, using(crate::proofs::Begun::no_device, crate::proofs::Reports::device_refused))]
-pub(crate) fn device<W: Write>(alloc: Global, file: &[u8], out: &mut W) -> Result<Ending, Fault>
+pub(crate) fn device<W: Write>(alloc: Global, file: &[u8], out: &mut W) -> Result<TaskEnd, Fault>
     requires { length file.now ≤ longest_input }
     ensures ends { Performs Device file.now [] (W.contents out.old) (W.contents out.new) result }
     ensures begun { Begins Device file.now (W.contents out.old) (W.contents out.new) }
@@ -21,12 +21,12 @@ pub(crate) fn device<W: Write>(alloc: Global, file: &[u8], out: &mut W) -> Resul
     let lines = device_lines(alloc, file)?;
     write_bytes(out, lines.as_slice())?;
     out.flush()?;
-    Ok(Ending::Good)
+    Ok(TaskEnd::Good)
 }
 
 /// Prints descriptors as a table. Nothing is printed where they are refused.
 #[tactic(auto, using(crate::proofs::Begun::no_table, crate::proofs::Reports::table_refused))]
-pub(crate) fn describe<W: Write>(alloc: Global, file: &[u8], out: &mut W) -> Result<Ending, Fault>
+pub(crate) fn describe<W: Write>(alloc: Global, file: &[u8], out: &mut W) -> Result<TaskEnd, Fault>
     requires { length file.now ≤ longest_input }
     ensures ends { Performs Describe file.now [] (W.contents out.old) (W.contents out.new) result }
     ensures begun { Begins Describe file.now (W.contents out.old) (W.contents out.new) }
@@ -34,5 +34,5 @@ pub(crate) fn describe<W: Write>(alloc: Global, file: &[u8], out: &mut W) -> Res
     let table = description(alloc, file)?;
     write_bytes(out, table.as_slice())?;
     out.flush()?;
-    Ok(Ending::Good)
+    Ok(TaskEnd::Good)
 }

@@ -13,7 +13,7 @@ use std::alloc::Global;
 use std::io::Write;
 use trace_io::Fault;
 use trace_judged::judged_text;
-use trace_run::{Ending, print_left, print_steps, run};
+use trace_run::{TaskEnd, print_left, print_steps, run};
 use trace_scenario::{Lined, TextFault, read_lined, read_scenario};
 
 /// What is told of a text's scenario behind its run: what it wrote that isn't as expected, if there is any. It is known before anything is
@@ -30,18 +30,18 @@ fn judged(alloc: Global, text: &[u8]) -> Result<Vec<u8>, Fault>
 }
 
 /// Tells it behind the run, if there is any.
-fn tell_judged<W: Write>(told: Vec<u8>, out: &mut W) -> Result<Ending, Fault>
+fn tell_judged<W: Write>(told: Vec<u8>, out: &mut W) -> Result<TaskEnd, Fault>
     ensures { EndsTold told.items (W.contents out.old) (W.contents out.new) result }
 {
     if told.is_empty() {
-        return Ok(Ending::Good);
+        return Ok(TaskEnd::Good);
     }
     write_all(out, told.as_slice())?;
-    Ok(Ending::Unexpected)
+    Ok(TaskEnd::Unexpected)
 }
 
 /// Prints the entries of a text's scenario.
-pub(crate) fn entries<W: Write>(alloc: Global, text: &[u8], out: &mut W) -> Result<Ending, Fault>
+pub(crate) fn entries<W: Write>(alloc: Global, text: &[u8], out: &mut W) -> Result<TaskEnd, Fault>
     requires { length text.now ≤ longest_input }
     ensures ends { Performs Run text.now [] (W.contents out.old) (W.contents out.new) result }
     ensures silent { IsSilentAtBad text.now (W.contents out.old) (W.contents out.new) }
@@ -54,7 +54,7 @@ pub(crate) fn entries<W: Write>(alloc: Global, text: &[u8], out: &mut W) -> Resu
 }
 
 /// Prints the entries of a text's scenario, each behind the number and the text of its step's line.
-pub(crate) fn steps<W: Write>(alloc: Global, text: &[u8], out: &mut W) -> Result<Ending, Fault>
+pub(crate) fn steps<W: Write>(alloc: Global, text: &[u8], out: &mut W) -> Result<TaskEnd, Fault>
     requires { length text.now ≤ longest_input }
     ensures ends { Performs Steps text.now [] (W.contents out.old) (W.contents out.new) result }
     ensures silent { IsSilentAtBad text.now (W.contents out.old) (W.contents out.new) }
@@ -71,7 +71,7 @@ pub(crate) fn steps<W: Write>(alloc: Global, text: &[u8], out: &mut W) -> Result
 }
 
 /// Prints what the run of a text's scenario leaves behind.
-pub(crate) fn left<W: Write>(alloc: Global, text: &[u8], out: &mut W) -> Result<Ending, Fault>
+pub(crate) fn left<W: Write>(alloc: Global, text: &[u8], out: &mut W) -> Result<TaskEnd, Fault>
     requires { length text.now ≤ longest_input }
     ensures ends { Performs Left text.now [] (W.contents out.old) (W.contents out.new) result }
     ensures silent { IsSilentAtBad text.now (W.contents out.old) (W.contents out.new) }

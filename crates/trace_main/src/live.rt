@@ -8,7 +8,7 @@ ghost use Rattle.trace_io.specs.declared.fault.Fault.TheVariants.{Rounds};
 ghost use Rattle.trace_io.specs.declared.words.Task.TheVariants.{Live};
 ghost use Rattle.trace_main.specs.Lived.{AppendsCallbacks, AppendsSomeCallbacks, IsOfLive};
 ghost use Rattle.trace_main.specs.Program.{Begins, IsAlone, IsSilentAtBad, Performs};
-ghost use Rattle.trace_run.specs.declared.tasks.Ending.TheVariants.{BadLines, NoDevices};
+ghost use Rattle.trace_run.specs.declared.tasks.TaskEnd.TheVariants.{BadLines, NoDevices};
 
 use crate::lived::read_lived;
 use std::alloc::Global;
@@ -18,7 +18,7 @@ use std::thread::Threads;
 use trace_io::Fault;
 use trace_io::print::print;
 use trace_live::{Performance, perform};
-use trace_run::{Ending, devices_of, lines_of};
+use trace_run::{TaskEnd, devices_of, lines_of};
 use trace_scenario::Scenario;
 
 /// Runs a scenario in threads, and prints what its callbacks were told, by handle and number; nothing where more than so many are
@@ -30,12 +30,12 @@ fn live_scenario<T: Threads + Wait + Sync, W: Write>(
     rounds: u64,
     out: &mut W,
     notes: &mut Vec<u8>,
-) -> Result<Ending, Fault>
+) -> Result<TaskEnd, Fault>
     requires runnable { IsRunnable scenario }
     requires none { notes.old.items ≡ [] }
     ensures lines { OnOk result (AppendsCallbacks scenario notes.new.items (W.contents out.old) (W.contents out.new)) }
     ensures begun { AppendsSomeCallbacks scenario (W.contents out.old) (W.contents out.new) }
-    ensures good { IfOk result (λ ending. ending ≡ Ending.Good) }
+    ensures good { IfOk result (λ ending. ending ≡ TaskEnd.Good) }
     ensures fault { IfErr result (IsOfLive scenario rounds notes.new.items) }
     ensures alone { IfErr result (IsAlone notes.new.items) }
     ensures silent { IfErr result (λ fault. fault ≡ Rounds rounds → Keeps (W.contents out.old) (W.contents out.new)) }
@@ -57,7 +57,7 @@ fn live_scenario<T: Threads + Wait + Sync, W: Write>(
     }
     print(alloc, out, told.as_slice())?;
     *notes = unfinished;
-    Ok(Ending::Good)
+    Ok(TaskEnd::Good)
 }
 
 /// Runs the scenario of a text in threads, and prints what its callbacks were told, by handle and number; nothing where a
@@ -69,7 +69,7 @@ pub(crate) fn live<T: Threads + Wait + Sync, W: Write>(
     rounds: u64,
     out: &mut W,
     notes: &mut Vec<u8>,
-) -> Result<Ending, Fault>
+) -> Result<TaskEnd, Fault>
     requires short { length text.now ≤ longest_input }
     requires none { notes.old.items ≡ [] }
     ensures ends { Performs (Live rounds) text.now notes.new.items (W.contents out.old) (W.contents out.new) result }

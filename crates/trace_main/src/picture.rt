@@ -9,7 +9,7 @@ use std::alloc::Global;
 use std::io::Write;
 use trace_io::Fault;
 use trace_picture::Form;
-use trace_run::{Ending, draw_run};
+use trace_run::{TaskEnd, draw_run};
 use trace_scenario::{Lined, read_lined};
 
 /// Prints a picture of the run of a text's scenario, or a page with one.
@@ -20,7 +20,7 @@ pub(crate) fn drawn<W: Write>(
     from: u64,
     to: u64,
     out: &mut W,
-) -> Result<Ending, Fault>
+) -> Result<TaskEnd, Fault>
     requires { length text.now ≤ longest_input }
     ensures picture { Performs (Draw from to) text.now [] (W.contents out.old) (W.contents out.new) result }
     ensures page { Performs (Page from to) text.now [] (W.contents out.old) (W.contents out.new) result }

@@ -13,7 +13,7 @@ ghost use Rattle.trace_io.specs.Input.{longest_input};
 ghost use Rattle.trace_io.specs.Output.{AppendsSome};
 ghost use Rattle.trace_main.specs.Program.{status_of, AskForOther, AskForThreads, Begins, FindsUnexpected, IsAlone, IsSilentAtBad, IsThreaded, Performs, ReadsOther, TellsRest, TellsWhy};
 ghost use Rattle.trace_io.specs.declared.words.Task.{Task};
-ghost use Rattle.trace_run.specs.declared.tasks.Ending.TheVariants.{BadLines, Differs, NoDevices};
+ghost use Rattle.trace_run.specs.declared.tasks.TaskEnd.TheVariants.{BadLines, Differs, NoDevices};
 ghost use Rattle.trace_io.specs.declared.words.Task.TheVariants.{Capture, Check, Devices};
 
 use crate::checked::report;
@@ -32,7 +32,7 @@ use std::sync::Wait;
 use std::thread::Threads;
 use trace_io::{Fault, Task, read_whole, read_words, write_bytes};
 use trace_picture::Form;
-use trace_run::{Ending, capture_run, run_alone};
+use trace_run::{TaskEnd, capture_run, run_alone};
 use trace_scenario::{Lined, Scenario, read_lined, read_scenario};
 
 /// The status of a run that ended early, of a check that found bad lines, and of a capture without devices.
@@ -102,22 +102,22 @@ fn answer<W: Write, E: Write>(error: &Error, out: &mut W, err: &mut E) -> u8
 }
 
 /// The status of a task that ended so. A fault is told, and the notes behind it, or alone where there is none.
-pub(crate) fn status_of<E: Write>(ended: Result<Ending, Fault>, notes: &[u8], err: &mut E) -> u8
+pub(crate) fn status_of<E: Write>(ended: Result<TaskEnd, Fault>, notes: &[u8], err: &mut E) -> u8
     ensures status { result ≡ status_of ended }
     ensures noted { OnOk ended (AppendsSome notes.now (E.contents err.old) (E.contents err.new)) }
     ensures quiet { OnOk ended (notes.now ≡ [] → Keeps (E.contents err.old) (E.contents err.new)) }
     ensures told { IfErr ended (λ fault. AppendsSome (message_of fault ++ notes.now) (E.contents err.old) (E.contents err.new)) }
 {
     match ended {
-        Ok(Ending::Good) => {
+        Ok(TaskEnd::Good) => {
             tell_notes(notes, err);
             0
         }
-        Ok(Ending::BadLines | Ending::NoDevices | Ending::Differs) => {
+        Ok(TaskEnd::BadLines | TaskEnd::NoDevices | TaskEnd::Differs) => {
             tell_notes(notes, err);
             FAILED
         }
-        Ok(Ending::Unexpected) => {
+        Ok(TaskEnd::Unexpected) => {
             tell_notes(notes, err);
             UNEXPECTED
         }
@@ -149,7 +149,7 @@ fn perform<T: Threads + Wait + Sync, R: Read, W: Write>(
     input: &mut R,
     out: &mut W,
     notes: &mut Vec<u8>,
-) -> Result<Ending, Fault>
+) -> Result<TaskEnd, Fault>
     requires { notes.old.items ≡ [] }
     ensures ends { IfSome (R.remaining input.old) (λ text. Performs task text notes.new.items (W.contents out.old) (W.contents out.new) result) }
     ensures quiet { IsThreaded task ⊎ (notes.new.items ≡ []) }
@@ -185,7 +185,7 @@ fn perform<T: Threads + Wait + Sync, R: Read, W: Write>(
 }
 
 /// Writes the run of a text's scenario as a capture.
-fn capture<W: Write>(alloc: Global, text: &[u8], out: &mut W) -> Result<Ending, Fault>
+fn capture<W: Write>(alloc: Global, text: &[u8], out: &mut W) -> Result<TaskEnd, Fault>
     requires { length text.now ≤ longest_input }
     ensures ends { Performs Capture text.now [] (W.contents out.old) (W.contents out.new) result }
     ensures silent { IsSilentAtBad text.now (W.contents out.old) (W.contents out.new) }
@@ -200,13 +200,13 @@ fn capture<W: Write>(alloc: Global, text: &[u8], out: &mut W) -> Result<Ending, 
 }
 
 /// Prints the help that the words ask for.
-fn help<W: Write>(out: &mut W, error: &Error) -> Result<Ending, Fault>
-    ensures good { IfOk result (λ ending. ending ≡ Ending.Good) }
+fn help<W: Write>(out: &mut W, error: &Error) -> Result<TaskEnd, Fault>
+    ensures good { IfOk result (λ ending. ending ≡ TaskEnd.Good) }
     ensures fault { IfErr result (λ fault. IsOfRun fault) }
 {
     write!(out, "{error}")?;
     out.flush()?;
-    Ok(Ending::Good)
+    Ok(TaskEnd::Good)
 }
 
 /// Says why the words are bad. The status is the same where that can't be said.

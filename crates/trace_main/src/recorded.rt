@@ -9,7 +9,7 @@ use std::alloc::Global;
 use std::io::Write;
 use trace_io::{Fault, write_bytes};
 use trace_recorded::{RecordedScenario, TextReader, recorded_scenario};
-use trace_run::Ending;
+use trace_run::TaskEnd;
 
 /// Prints the devices of a capture, and what they answered, for who reads it. Nothing is printed where the capture isn't read.
 #[tactic(auto, using(crate::proofs::Begun::no_recorded, crate::proofs::Reports::capture_refused))]
@@ -18,7 +18,7 @@ pub(crate) fn devices<W: Write>(
     reader: TextReader,
     capture: &[u8],
     out: &mut W,
-) -> Result<Ending, Fault>
+) -> Result<TaskEnd, Fault>
     requires { length capture.now ≤ longest_input }
     ensures ends { Performs (Devices reader) capture.now [] (W.contents out.old) (W.contents out.new) result }
     ensures begun { Begins (Devices reader) capture.now (W.contents out.old) (W.contents out.new) }
@@ -27,7 +27,7 @@ pub(crate) fn devices<W: Write>(
     write_bytes(out, text.as_slice())?;
     out.flush()?;
     if has_devices {
-        return Ok(Ending::Good);
+        return Ok(TaskEnd::Good);
     }
-    Ok(Ending::NoDevices)
+    Ok(TaskEnd::NoDevices)
 }

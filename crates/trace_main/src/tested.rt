@@ -13,22 +13,22 @@ use crate::told::write_all;
 use std::alloc::Global;
 use std::io::Write;
 use trace_io::Fault;
-use trace_run::Ending;
-use trace_test::{Outcome, report, test};
+use trace_run::TaskEnd;
+use trace_test::{TestOutcome, report, test};
 
 /// How a test ends, by what came of it.
-fn ending_of(outcome: &Outcome) -> Ending
+fn ending_of(outcome: &TestOutcome) -> TaskEnd
     ensures { result ≡ ending_of outcome.now }
 {
     match outcome {
-        Outcome::Passed => Ending::Good,
-        Outcome::Differs(_) => Ending::Differs,
-        Outcome::Unexpected(_) => Ending::Unexpected,
+        TestOutcome::Passed => TaskEnd::Good,
+        TestOutcome::Differs(_) => TaskEnd::Differs,
+        TestOutcome::Unexpected(_) => TaskEnd::Unexpected,
     }
 }
 
 /// Prints what came of a test.
-fn tell_outcome<W: Write>(alloc: Global, outcome: &Outcome, out: &mut W) -> Result<(), Fault>
+fn tell_outcome<W: Write>(alloc: Global, outcome: &TestOutcome, out: &mut W) -> Result<(), Fault>
     ensures told { IfOk result (λ _. Appends (W.contents out.old) (W.contents out.new) (outcome_text outcome.now)) }
     ensures begun { AppendsSome (outcome_text outcome.now) (W.contents out.old) (W.contents out.new) }
     ensures fault { IfErr result (λ fault. IsOfRun fault) }
@@ -39,7 +39,7 @@ fn tell_outcome<W: Write>(alloc: Global, outcome: &Outcome, out: &mut W) -> Resu
 
 /// Runs a test, and prints what came of it.
 #[tactic(auto, using(crate::proofs::Begun::no_outcome, crate::proofs::JudgedRuns::of_run, crate::proofs::Reports::test_fails, crate::proofs::Outcomes::test_ends, crate::proofs::Outcomes::outcome_begun))]
-pub(crate) fn run_test<W: Write>(alloc: Global, text: &[u8], out: &mut W) -> Result<Ending, Fault>
+pub(crate) fn run_test<W: Write>(alloc: Global, text: &[u8], out: &mut W) -> Result<TaskEnd, Fault>
     requires { length text.now ≤ longest_input }
     ensures ends { Performs Test text.now [] (W.contents out.old) (W.contents out.new) result }
     ensures begun { Begins Test text.now (W.contents out.old) (W.contents out.new) }

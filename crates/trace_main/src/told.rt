@@ -15,7 +15,7 @@ use std::alloc::Global;
 use std::io::Write;
 use trace_explain::{Telling, explained_run};
 use trace_io::{Fault, write_bytes};
-use trace_run::Ending;
+use trace_run::TaskEnd;
 use trace_scenario::{Lined, Scenario, into_setups, read_lined};
 
 /// Writes a text, and all that is to be written with it.
@@ -57,7 +57,7 @@ fn packets_told(steps: bool) -> Telling
 }
 
 /// Prints the entries of a text's scenario, each behind its line, with their reasons.
-pub(crate) fn explain<W: Write>(alloc: Global, text: &[u8], out: &mut W) -> Result<Ending, Fault>
+pub(crate) fn explain<W: Write>(alloc: Global, text: &[u8], out: &mut W) -> Result<TaskEnd, Fault>
     requires { length text.now ≤ longest_input }
     ensures ends { Performs Explain text.now [] (W.contents out.old) (W.contents out.new) result }
     ensures silent { IsSilentAtBad text.now (W.contents out.old) (W.contents out.new) }
@@ -65,7 +65,7 @@ pub(crate) fn explain<W: Write>(alloc: Global, text: &[u8], out: &mut W) -> Resu
 {
     let told = told_run(alloc, Telling::Reasons, text)?;
     write_all(out, told.as_slice())?;
-    Ok(Ending::Good)
+    Ok(TaskEnd::Good)
 }
 
 /// Prints the entries of a text's scenario with the packets that moved, each behind its line where the lines are asked for.
@@ -74,7 +74,7 @@ pub(crate) fn packets<W: Write>(
     steps: bool,
     text: &[u8],
     out: &mut W,
-) -> Result<Ending, Fault>
+) -> Result<TaskEnd, Fault>
     requires { length text.now ≤ longest_input }
     ensures ends { Performs (Packets steps) text.now [] (W.contents out.old) (W.contents out.new) result }
     ensures silent { IsSilentAtBad text.now (W.contents out.old) (W.contents out.new) }
@@ -82,5 +82,5 @@ pub(crate) fn packets<W: Write>(
 {
     let told = told_run(alloc, packets_told(steps), text)?;
     write_all(out, told.as_slice())?;
-    Ok(Ending::Good)
+    Ok(TaskEnd::Good)
 }

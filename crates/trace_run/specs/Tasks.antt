@@ -17,8 +17,8 @@ use Rattle.trace_run.specs.Left.{all_left}
 use Rattle.trace_run.specs.LeftText.{lines_left}
 use Rattle.trace_run.specs.declared.lines.Reach.{Reach}
 use Rattle.trace_run.specs.declared.lines.Reach.TheVariants.{End, NoMemory}
-use Rattle.trace_run.specs.declared.tasks.Ending.{Ending}
-use Rattle.trace_run.specs.declared.tasks.Ending.TheVariants.{Good}
+use Rattle.trace_run.specs.declared.tasks.TaskEnd.{TaskEnd}
+use Rattle.trace_run.specs.declared.tasks.TaskEnd.TheVariants.{Good}
 use Rattle.trace_run.specs.Capture.{plan_events}
 use Rattle.trace_run.specs.Stepwise.{stepwise_text}
 
@@ -51,6 +51,6 @@ abbrev pub AppendsAny : Option (List ℕ) → Option (List ℕ) → Type 0
 AppendsAny old new = (text : List ℕ) × Appends old new text
 
 -- how a task ends whose run came so far
-abbrev pub ending_of : Reach → Result Ending Fault
+abbrev pub ending_of : Reach → Result TaskEnd Fault
 ending_of End = Ok Good
 ending_of NoMemory = Err Memory

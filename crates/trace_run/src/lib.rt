@@ -59,4 +59,4 @@ pub use ending::run_to_end;
 pub use left::{Left, Thing};
 pub use left_lines::lines_of;
 pub use lines::{Parts, write_rest};
-pub use tasks::{Ending, capture_run, draw_run, print_left, print_steps, run, run_alone};
+pub use tasks::{TaskEnd, capture_run, draw_run, print_left, print_steps, run, run_alone};

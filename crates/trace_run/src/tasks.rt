@@ -29,7 +29,7 @@ use usb_model::{Name, Sequence};
 
 /// How a task ends that no fault ends.
 #[derive(Clone, Copy, PartialEq, Eq, Debug)]
-pub enum Ending {
+pub enum TaskEnd {
     /// Each line of the input was taken, and the task is done.
     Good,
     /// A check found bad lines, and told of them.
@@ -43,21 +43,21 @@ pub enum Ending {
 }
 
 /// How a task ends whose run came so far.
-fn ending_of(reach: Reach) -> Result<Ending, Fault>
+fn ending_of(reach: Reach) -> Result<TaskEnd, Fault>
     ensures { result ≡ ending_of reach }
 {
     match reach {
-        Reach::End => Ok(Ending::Good),
+        Reach::End => Ok(TaskEnd::Good),
         Reach::NoMemory => Err(Fault::Memory),
     }
 }
 
 /// Prints the entries of a scenario, as the core on rings runs it; where memory ran out, those before.
-pub fn run<W: Write>(alloc: Global, scenario: Scenario, out: &mut W) -> Result<Ending, Fault>
+pub fn run<W: Write>(alloc: Global, scenario: Scenario, out: &mut W) -> Result<TaskEnd, Fault>
     requires { IsRunnable scenario }
     ensures lines { OnOk result (Appends (W.contents out.old) (W.contents out.new) (run_text scenario)) }
     ensures begun { AppendsSome (run_text scenario) (W.contents out.old) (W.contents out.new) }
-    ensures good { IfOk result (λ ending. ending ≡ Ending.Good) }
+    ensures good { IfOk result (λ ending. ending ≡ TaskEnd.Good) }
     ensures fault { IfErr result (λ fault. IsOfRun fault) }
 {
     let Scenario { setup, plan, rules } = scenario;
@@ -71,12 +71,12 @@ pub fn print_steps<W: Write>(
     scenario: Scenario,
     lines: &[NumberedLine<'_>],
     out: &mut W,
-) -> Result<Ending, Fault>
+) -> Result<TaskEnd, Fault>
     requires runnable { IsRunnable scenario }
     requires each { length lines.now ≡ length scenario.plan }
     ensures lines { OnOk result (Appends (W.contents out.old) (W.contents out.new) (stepwise_text scenario.setup scenario.plan scenario.rules (map numbered lines.now))) }
     ensures begun { AppendsSome (stepwise_text scenario.setup scenario.plan scenario.rules (map numbered lines.now)) (W.contents out.old) (W.contents out.new) }
-    ensures good { IfOk result (λ ending. ending ≡ Ending.Good) }
+    ensures good { IfOk result (λ ending. ending ≡ TaskEnd.Good) }
     ensures fault { IfErr result (λ fault. IsOfRun fault) }
 {
     let Scenario { setup, plan, rules } = scenario;
@@ -92,12 +92,12 @@ pub fn capture_run<W: Write>(
     devices: &[DescribedDevice],
     lines: &[NumberedLine<'_>],
     out: &mut W,
-) -> Result<Ending, Fault>
+) -> Result<TaskEnd, Fault>
     requires runnable { IsRunnable scenario }
     requires each { length lines.now ≡ length scenario.plan }
     ensures file { OnOk result (Appends (W.contents out.old) (W.contents out.new) (file_bytes (plan_events devices.now scenario.setup scenario.plan scenario.rules (map numbered lines.now)))) }
     ensures begun { AppendsSome (file_bytes (plan_events devices.now scenario.setup scenario.plan scenario.rules (map numbered lines.now))) (W.contents out.old) (W.contents out.new) }
-    ensures good { IfOk result (λ ending. ending ≡ Ending.Good) }
+    ensures good { IfOk result (λ ending. ending ≡ TaskEnd.Good) }
     ensures fault { IfErr result (λ fault. IsOfRun fault) }
 {
     let Scenario { setup, plan, rules } = scenario;
@@ -118,17 +118,21 @@ fn lines_left(alloc: Global, scenario: Scenario) -> Result<Vec<u8>, AllocError>
 }
 
 /// Prints what the run of a scenario leaves behind; nothing where memory ran out.
-pub fn print_left<W: Write>(alloc: Global, scenario: Scenario, out: &mut W) -> Result<Ending, Fault>
+pub fn print_left<W: Write>(
+    alloc: Global,
+    scenario: Scenario,
+    out: &mut W,
+) -> Result<TaskEnd, Fault>
     requires { IsRunnable scenario }
     ensures lines { OnOk result (Appends (W.contents out.old) (W.contents out.new) (left_lines scenario)) }
     ensures begun { AppendsSome (left_lines scenario) (W.contents out.old) (W.contents out.new) }
-    ensures good { IfOk result (λ ending. ending ≡ Ending.Good) }
+    ensures good { IfOk result (λ ending. ending ≡ TaskEnd.Good) }
     ensures fault { IfErr result (λ fault. IsOfRun fault) }
 {
     let lines = lines_left(alloc, scenario)?;
     write_bytes(out, lines.as_slice())?;
     out.flush()?;
-    Ok(Ending::Good)
+    Ok(TaskEnd::Good)
 }
 
 /// Prints the entries of a handle alone, as a core of its own runs them; where memory ran out, those before. Takes the
@@ -139,12 +143,12 @@ pub fn run_alone<W: Write>(
     other_setup: Sequence<ScriptedDevice>,
     h: Name,
     out: &mut W,
-) -> Result<Ending, Fault>
+) -> Result<TaskEnd, Fault>
     requires runnable { IsRunnable scenario }
     requires same_devices { other_setup ≡ scenario.setup }
     ensures lines { OnOk result (Appends (W.contents out.old) (W.contents out.new) (alone_text h scenario)) }
     ensures begun { AppendsSome (alone_text h scenario) (W.contents out.old) (W.contents out.new) }
-    ensures good { IfOk result (λ ending. ending ≡ Ending.Good) }
+    ensures good { IfOk result (λ ending. ending ≡ TaskEnd.Good) }
     ensures fault { IfErr result (λ fault. IsOfRun fault) }
 {
     let Scenario { setup, plan, rules } = scenario;
@@ -177,11 +181,11 @@ pub fn draw_run<W: Write>(
     to: u64,
     form: Form,
     out: &mut W,
-) -> Result<Ending, Fault>
+) -> Result<TaskEnd, Fault>
     requires runnable { IsRunnable scenario }
     requires each { length lines.now ≡ length scenario.plan }
     ensures drawn { AppendsAny (W.contents out.old) (W.contents out.new) }
-    ensures good { IfOk result (λ ending. ending ≡ Ending.Good) }
+    ensures good { IfOk result (λ ending. ending ≡ TaskEnd.Good) }
     ensures fault { IfErr result (λ fault. IsOfPicture fault) }
     ensures silent { IfErr result (λ fault. IfWide fault (λ _. Keeps (W.contents out.old) (W.contents out.new))) }
 {
@@ -201,5 +205,5 @@ pub fn draw_run<W: Write>(
     let text = text_of(&drawing, form)?;
     write_bytes(out, text.as_bytes())?;
     out.flush()?;
-    Ok(Ending::Good)
+    Ok(TaskEnd::Good)
 }

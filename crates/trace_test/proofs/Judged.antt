@@ -12,9 +12,9 @@ use Rattle.trace_test.specs.Comparison.{difference_from}
 use Rattle.trace_test.specs.Expanded.{Expansion, Expands, lines_in}
 use Rattle.trace_test.specs.Macros.{unrolled}
 use Rattle.trace_test.specs.Tests.{IsOfPlainTest, IsOfTest, IsOutcome, IsPlainOutcome, by_origin, fault_by_origin, origin_lines, outcome_by, printed_text, uncompared, written}
-use Rattle.trace_test.specs.declared.difference.Outcome.{Outcome}
+use Rattle.trace_test.specs.declared.difference.TestOutcome.{TestOutcome}
 
-pub outcome_told : (text bytes : List ℕ) (u : Expansion) (plain outcome : Outcome) → u ≡ unrolled text → bytes ≡ u.text → IsPlainOutcome bytes plain → outcome ≡ by_origin u plain → IsOutcome text outcome
+pub outcome_told : (text bytes : List ℕ) (u : Expansion) (plain outcome : TestOutcome) → u ≡ unrolled text → bytes ≡ u.text → IsPlainOutcome bytes plain → outcome ≡ by_origin u plain → IsOutcome text outcome
 outcome_told text bytes u plain outcome is at came told =
     (plain, subst (λ (b : List ℕ). IsPlainOutcome b plain) (at ∙ ap (λ (e : Expansion). e.text) is) came, told ∙ ap (λ (e : Expansion). by_origin e plain) is)
 
@@ -35,7 +35,7 @@ fault_told text bytes u plain fault is at of told =
     by_fault (Descriptor f) h = h
 
 -- what came of a test without macros, of which the scenario was read three times
-pub judged_plainly : (text : List ℕ) (e : Expansion) (s again judged : Scenario) (lines : List (ℕ × List ℕ)) (printed left : List ℕ) (unexpected : Option told.Unexpected) (o : Outcome)
+pub judged_plainly : (text : List ℕ) (e : Expansion) (s again judged : Scenario) (lines : List (ℕ × List ℕ)) (printed left : List ℕ) (unexpected : Option told.Unexpected) (o : TestOutcome)
     → Expands text e → scenario_of e.text ≡ Ok s → scenario_of e.text ≡ Ok again → scenario_of e.text ≡ Ok judged
     → lines ≡ origin_lines e → printed ≡ stepwise_text s.setup s.plan s.rules lines → left ≡ left_lines again → unexpected ≡ unexpected_by e.text judged lines
     → o ≡ outcome_by (difference_from 1 (lines_in text) (record { of = 0; printed = lines_in printed; left = lines_in left })) unexpected

@@ -18,8 +18,8 @@ use Rattle.trace_test.specs.Comparison.{Uncompared, difference_from}
 use Rattle.trace_test.specs.Expanded.{Expansion, Expands, lines_in, origin_of}
 use Rattle.trace_test.specs.Macros.{unrolled}
 use Rattle.trace_test.specs.declared.difference.Difference.{Difference}
-use Rattle.trace_test.specs.declared.difference.Outcome.{Outcome}
-use Rattle.trace_test.specs.declared.difference.Outcome.TheVariants.{Passed, Differs, Unexpected}
+use Rattle.trace_test.specs.declared.difference.TestOutcome.{TestOutcome}
+use Rattle.trace_test.specs.declared.difference.TestOutcome.TheVariants.{Passed, Differs, Unexpected}
 
 -- for each step's line of the scenario, the number of the line that it comes from in what the test stands for without macros, and no text
 abbrev pub origin_lines : Expansion → List (ℕ × List ℕ)
@@ -38,13 +38,13 @@ abbrev pub written : Expansion → Scenario → Option told.Unexpected
 written e s = unexpected_by e.text s (origin_lines e)
 
 -- what came of a test whose first difference is this, if there is one, and of which this is told, if something is
-abbrev pub outcome_by : Option Difference → Option told.Unexpected → Outcome
+abbrev pub outcome_by : Option Difference → Option told.Unexpected → TestOutcome
 outcome_by (Some difference) unexpected = Differs difference
 outcome_by None None = Passed
 outcome_by None (Some unexpected) = Unexpected unexpected
 
 -- this came of a test without macros: its lines stand for a scenario, with whose run they were compared
-abbrev pub IsPlainOutcome : List ℕ → Outcome → Type 0
+abbrev pub IsPlainOutcome : List ℕ → TestOutcome → Type 0
 IsPlainOutcome text outcome =
     (e : Expansion) × (s : Scenario) × Expands text e × (scenario_of e.text ≡ Ok s)
     × (outcome ≡ outcome_by (difference_from 1 (lines_in text) (uncompared e s)) (written e s))
@@ -59,7 +59,7 @@ abbrev pub packet_by_origin : Expansion → packet.Difference → packet.Differe
 packet_by_origin u difference = record difference { line = origin_of u difference.line }
 
 -- a difference of either kind
-abbrev pub by_origin : Expansion → Outcome → Outcome
+abbrev pub by_origin : Expansion → TestOutcome → TestOutcome
 by_origin u Passed = Passed
 by_origin u (Differs difference) = Differs (record difference { line = origin_of u difference.line })
 by_origin u (Unexpected unexpected) = Unexpected (record unexpected { first = option_map (packet_by_origin u) unexpected.first })
@@ -70,8 +70,8 @@ fault_by_origin u (Line line) = Line (origin_of u line)
 fault_by_origin u fault = fault
 
 -- this came of a test: of what it stands for without macros came the same, and a difference is told by the line of the test
-abbrev pub IsOutcome : List ℕ → Outcome → Type 0
-IsOutcome text outcome = (plain : Outcome) × IsPlainOutcome (unrolled text).text plain × (outcome ≡ by_origin (unrolled text) plain)
+abbrev pub IsOutcome : List ℕ → TestOutcome → Type 0
+IsOutcome text outcome = (plain : TestOutcome) × IsPlainOutcome (unrolled text).text plain × (outcome ≡ by_origin (unrolled text) plain)
 
 -- a fault of a test: a line is bad of what it stands for without macros, by its number in the test, or memory or a stream failed
 abbrev pub IsOfTest : List ℕ → Fault → Type 0
@@ -79,7 +79,7 @@ IsOfTest text (Line at) = (line : ℕ) × IsOfPlainTest (unrolled text).text (Li
 IsOfTest text fault = IsOfRun fault
 
 -- what is told of a test
-abbrev pub outcome_text : Outcome → List ℕ
+abbrev pub outcome_text : TestOutcome → List ℕ
 outcome_text Passed = codes "passed\n"
 outcome_text (Differs d) =
     codes "line " ++ (decimal d.line ++ (codes " differs\n  wanted " ++ (d.wanted ++ (codes "\n  got    " ++ (d.got ++ codes "\n")))))

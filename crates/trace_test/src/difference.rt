@@ -16,7 +16,7 @@ pub struct Difference {
 
 /// What came of a test.
 #[derive(Drop)]
-pub enum Outcome {
+pub enum TestOutcome {
     /// Each line that expects something found it.
     Passed,
     /// This is the first that didn't.

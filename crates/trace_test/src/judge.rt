@@ -2,7 +2,7 @@
 
 ghost use Rattle.std.specs.Prelude.{◌≡◌, ◌++◌, [], IfErr, IfOk, length, map};
 ghost use Rattle.std.specs.Option.{option_map};
-ghost use Rattle.trace_test.specs.declared.difference.Outcome.TheVariants.{Differs};
+ghost use Rattle.trace_test.specs.declared.difference.TestOutcome.TheVariants.{Differs};
 ghost use Rattle.trace_io.specs.Faults.{IsOfRun};
 ghost use Rattle.trace_scenario.specs.StepLines.{numbered};
 ghost use Rattle.trace_scenario.specs.Runnable.{IsRunnable};
@@ -12,7 +12,7 @@ ghost use Rattle.trace_test.specs.Comparison.{difference_from, texts_of};
 ghost use Rattle.trace_test.specs.Expanded.{lines_in, origin_of};
 ghost use Rattle.trace_test.specs.Tests.{IsOfPlainTest, IsOfTest, IsOutcome, IsPlainOutcome, by_origin, fault_by_origin, outcome_by, outcome_text, packet_by_origin};
 
-use crate::difference::{Difference, Outcome};
+use crate::difference::{Difference, TestOutcome};
 use crate::expanded::{Expanded, expand};
 use crate::macros::unroll;
 use crate::unmet::Unmet;
@@ -95,15 +95,15 @@ fn outcome(
     printed: &[u8],
     left: &[u8],
     unexpected: Option<Unexpected>,
-) -> Result<Outcome, AllocError>
+) -> Result<TestOutcome, AllocError>
     ensures { IfOk result (λ o. o ≡ outcome_by (difference_from 1 (lines_in text.now) (record { of = 0; printed = lines_in printed.now; left = lines_in left.now })) unexpected) }
 {
     let (printed, left) = (lines_in(alloc, printed)?, lines_in(alloc, left)?);
     let mut unmet = Unmet::new(printed.as_slice(), left.as_slice());
     match (difference(alloc, text, &mut unmet)?, unexpected) {
-        (Some(difference), _) => Ok(Outcome::Differs(difference)),
-        (None, None) => Ok(Outcome::Passed),
-        (None, Some(unexpected)) => Ok(Outcome::Unexpected(unexpected)),
+        (Some(difference), _) => Ok(TestOutcome::Differs(difference)),
+        (None, None) => Ok(TestOutcome::Passed),
+        (None, Some(unexpected)) => Ok(TestOutcome::Unexpected(unexpected)),
     }
 }
 
@@ -124,16 +124,16 @@ fn packet_by_origin(
 }
 
 /// What came of a test, where a difference is told by the line that its line comes from.
-fn by_origin(unrolled: &Expanded, outcome: Outcome) -> Outcome
+fn by_origin(unrolled: &Expanded, outcome: TestOutcome) -> TestOutcome
     ensures { result ≡ by_origin unrolled.now outcome }
 {
     match outcome {
-        Outcome::Passed => Outcome::Passed,
-        Outcome::Differs(difference) => Outcome::Differs(Difference {
+        TestOutcome::Passed => TestOutcome::Passed,
+        TestOutcome::Differs(difference) => TestOutcome::Differs(Difference {
             line: unrolled.origin(difference.line),
             ..difference
         }),
-        Outcome::Unexpected(unexpected) => Outcome::Unexpected(Unexpected {
+        TestOutcome::Unexpected(unexpected) => TestOutcome::Unexpected(Unexpected {
             first: packet_by_origin(unrolled, unexpected.first),
             missing: unexpected.missing,
             total: unexpected.total,
@@ -152,7 +152,7 @@ fn fault_by_origin(unrolled: &Expanded, fault: Fault) -> Fault
 }
 
 /// What came of a test without macros. A fault where a line is bad, by its number, or memory is refused.
-fn judge(alloc: Global, text: &[u8]) -> Result<Outcome, Fault>
+fn judge(alloc: Global, text: &[u8]) -> Result<TestOutcome, Fault>
     ensures outcome { IfOk result (IsPlainOutcome text.now) }
     ensures fault { IfErr result (IsOfPlainTest text.now) }
 {
@@ -183,7 +183,7 @@ fn judge(alloc: Global, text: &[u8]) -> Result<Outcome, Fault>
 /// Runs a test: what came of it. A fault where a line is bad, by its number in the test, or memory is refused. What a call of a macro
 /// stands for is told by the number of the call's line.
 #[tactic(auto, using(crate::proofs::Judged::outcome_told, crate::proofs::Judged::fault_told))]
-pub fn test(alloc: Global, text: &[u8]) -> Result<Outcome, Fault>
+pub fn test(alloc: Global, text: &[u8]) -> Result<TestOutcome, Fault>
     ensures outcome { IfOk result (IsOutcome text.now) }
     ensures fault { IfErr result (IsOfTest text.now) }
 {
@@ -195,14 +195,14 @@ pub fn test(alloc: Global, text: &[u8]) -> Result<Outcome, Fault>
 }
 
 /// The text of what came of a test. An error where memory is refused.
-pub fn report(alloc: Global, outcome: &Outcome) -> Result<Vec<u8>, AllocError>
+pub fn report(alloc: Global, outcome: &TestOutcome) -> Result<Vec<u8>, AllocError>
     ensures { IfOk result (λ text. text.items ≡ outcome_text outcome.now) }
 {
     let mut text = Vec::new(alloc);
     match outcome {
-        Outcome::Passed => text.extend_from_slice(b"passed\n")?,
-        Outcome::Differs(d) => put_difference(alloc, &mut text, d)?,
-        Outcome::Unexpected(unexpected) => text = unexpected.lines(alloc)?,
+        TestOutcome::Passed => text.extend_from_slice(b"passed\n")?,
+        TestOutcome::Differs(d) => put_difference(alloc, &mut text, d)?,
+        TestOutcome::Unexpected(unexpected) => text = unexpected.lines(alloc)?,
     }
     Ok(text)
 }

@@ -36,7 +36,7 @@ mod macros;
 mod settling;
 mod unmet;
 
-pub use difference::{Difference, Outcome};
+pub use difference::{Difference, TestOutcome};
 pub use expanded::{Expanded, expand};
 pub use judge::{report, test};
 pub use macros::unroll;

@@ -15,7 +15,7 @@ use Rattle.usb_journal.specs.Booked.{Booked, answer_entry, next_entry, next_rece
 use Rattle.usb_journal.specs.Seen.{Receipted}
 use Rattle.usb_receipts.specs.Rule.{BeginsWith}
 use Rattle.proof_model.proofs.Handles.Runs.{world_append}
-use Rattle.usb_library.specs.declared.wakes.Part.TheVariants.{Controller}
+use Rattle.usb_library.specs.declared.wakes.WorkerPart.TheVariants.{Controller}
 use Rattle.usb_library.specs.declared.wakes.Work.{Work}
 use Rattle.usb_library.specs.declared.wakes.Work.TheVariants.{Any, None, Of}
 use Rattle.usb_library.specs.Calls.{Calling, Makes, changes}

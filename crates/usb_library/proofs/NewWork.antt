@@ -44,8 +44,8 @@ use Rattle.proof_model.proofs.Places.Runs.{kept_at}
 use Rattle.proof_model.proofs.Handles.Isolation.{effect_to, gone_stays, takes_its_news, takes_its_order, takes_its_result, turn_blocked, turn_free}
 use Rattle.proof_model.proofs.Lists.Pieces.{same_name}
 use Rattle.usb_core.specs.Public.{does_something, serves as serves_at}
-use Rattle.usb_library.specs.declared.wakes.Part.{Part}
-use Rattle.usb_library.specs.declared.wakes.Part.TheVariants.{Controller, Events}
+use Rattle.usb_library.specs.declared.wakes.WorkerPart.{WorkerPart}
+use Rattle.usb_library.specs.declared.wakes.WorkerPart.TheVariants.{Controller, Events}
 use Rattle.usb_library.specs.declared.wakes.Work.{Work}
 use Rattle.usb_library.specs.declared.wakes.Work.TheVariants as work
 use Rattle.usb_library.specs.Wakes.{HasWork, NamesNewWork, Wakes, names, work_of}
@@ -109,7 +109,7 @@ idle_names setup h w step r named well own t = by_part
     results : waits v.results ≡ true → waits w.results ≡ true
     results there = subst (λ l. waits l ≡ true) (untouched h (takes_result step) w.results (takes_its_result setup h w step own) t.results) (waits_still h (past_first (takes_result step) w.results) [] refl there)
 
-    by_part : (part : Part) → HasWork setup v part → HasWork setup w part ⊎ (names named part ≡ true)
+    by_part : (part : WorkerPart) → HasWork setup v part → HasWork setup w part ⊎ (names named part ≡ true)
     by_part Controller has = inl (controller setup w v well packets orders has)
     by_part Events has = inl (events setup w v well news results has)
 
@@ -130,7 +130,7 @@ rest_names setup h w step done b well own (stops g k x in_call) = by_part
     v : World
     v = world_after setup h w (Answer g k Stop) (does (called_back (machine_of setup h w) x.n) Keeps)
 
-    by_part : (part : Part) → HasWork setup v part → HasWork setup w part ⊎ (names work.None part ≡ true)
+    by_part : (part : WorkerPart) → HasWork setup v part → HasWork setup w part ⊎ (names work.None part ≡ true)
     by_part Controller has = inl (controller setup w v well (λ d e s. inl (d, e, sym (same_serves setup w v d e refl refl refl) ∙ s)) (waits_still h w.orders [] refl) has)
     by_part Events has = inl (events setup w v well (waits_still h w.news [] refl) (waits_still h w.results [] refl) has)
 rest_names setup h w step done b well own (takes x xs is) = by_part
@@ -138,7 +138,7 @@ rest_names setup h w step done b well own (takes x xs is) = by_part
     v : World
     v = world_after setup h w Take (take_effect h (machine_of setup h w) (x ∷ xs))
 
-    by_part : (part : Part) → HasWork setup v part → HasWork setup w part ⊎ (names work.None part ≡ true)
+    by_part : (part : WorkerPart) → HasWork setup v part → HasWork setup w part ⊎ (names work.None part ≡ true)
     by_part Controller has = inl (controller setup w v well (λ d e s. inl (d, e, sym (same_serves setup w v d e refl refl refl) ∙ s)) (waits_still h w.orders [] refl) has)
     by_part Events has = inl (inr (takes_does setup w (first_waits h w.results own)))
 
@@ -247,7 +247,7 @@ serve_names setup h w dev ep e b well here = by_part
     by_news (inl ended) has = inr (ended_names dev ep x.reply b ended)
     by_news (inr none) has = inl (events setup w v well (waits_still h w.news (news_at ep x.news) (ap (news_at ep) none)) (waits_still h w.results x.results posts.results) has)
 
-    by_part : (part : Part) → HasWork setup v part → HasWork setup w part ⊎ (names (work_of (Serve dev ep) x.reply b) part ≡ true)
+    by_part : (part : WorkerPart) → HasWork setup v part → HasWork setup w part ⊎ (names (work_of (Serve dev ep) x.reply b) part ≡ true)
     by_part Controller has = inl (controller setup w v well (packets_at setup h w (Serve dev ep) (w.names h) at ep e x refl (held_at setup h w ep e here) (by_test (is_served size (w.gone at) e) refl)) (waits_still h w.orders (orders_at ep x.orders) (ap (orders_at ep) posts.orders)) has)
     by_part Events has = by_news posts.news has
 
@@ -281,7 +281,7 @@ deliver_names setup h w ep e event ns well own here is x means = by_part
     by_packet (inr same) d a s =
         inl (packets_at setup h w Deliver (w.names h) at ep e x refl (held_at setup h w ep e here) (λ q. packet_there setup h w at ep e (held_at setup h w ep e here) (sym same ∙ (ap (λ y. is_served size (w.gone at) y.endpoint) (sym means) ∙ q))) d a s)
 
-    by_part : (part : Part) → HasWork setup v part → HasWork setup w part ⊎ (names (work_of Deliver x.reply (does_something setup v Command)) part ≡ true)
+    by_part : (part : WorkerPart) → HasWork setup v part → HasWork setup w part ⊎ (names (work_of Deliver x.reply (does_something setup v Command)) part ≡ true)
     by_part Controller (inl (d, a, s)) = by_packet (deliver_leaves size size ep (w.gone at) (w.gone at) e (errands_of ep m.orders) event (events_of ep (past_first true m.news)) fits) d a s
     by_part Controller (inr c) = inr (order_names x.reply (does_something setup v Command) ep event says_it c)
     by_part Events has = inl (inl (delivers_does setup w well (first_waits h w.news own)))
@@ -295,7 +295,7 @@ submit_names setup h w ep e step handle request round b well no_news no_result i
     v : World
     v = world_after setup h w step (at_endpoint handle (device_of (machine_of setup h w)) ep (submitted (w.names h).next_number request round e))
 
-    by_part : (part : Part) → HasWork setup v part → HasWork setup w part ⊎ (names (work_of step (reply.Number (w.names h).next_number) b) part ≡ true)
+    by_part : (part : WorkerPart) → HasWork setup v part → HasWork setup w part ⊎ (names (work_of step (reply.Number (w.names h).next_number) b) part ≡ true)
     by_part Controller has = inr (rw its refl)
     by_part Events has =
         inl (events setup w v well
@@ -344,7 +344,7 @@ unplug_names setup w dev well = by_device (is_device setup dev) refl (w.gone dev
     v : World
     v = record w { gone = λ d. gone_after setup w.gone (Unplug dev) d }
 
-    same : ((d : ℕ) → v.gone d ≡ w.gone d) → (part : Part) → HasWork setup v part → HasWork setup w part ⊎ (names work.None part ≡ true)
+    same : ((d : ℕ) → v.gone d ≡ w.gone d) → (part : WorkerPart) → HasWork setup v part → HasWork setup w part ⊎ (names work.None part ≡ true)
     same gone Controller has = inl (controller setup w v well (λ d e s. inl (d, e, sym (same_serves setup w v d e refl (gone d) refl) ∙ s)) (λ there. there) has)
     same gone Events has = inl (events setup w v well (λ there. there) (λ there. there) has)
 

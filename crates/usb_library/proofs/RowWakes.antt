@@ -16,8 +16,8 @@ use Rattle.usb_journal.specs.declared.place.Place.{Place}
 use Rattle.usb_journal.specs.Booked.{entries_of, steps_of, world_where}
 use Rattle.usb_journal.specs.Rows.{are_quiet, ends_any, is_end, is_quiet, is_settled}
 use Rattle.proof_model.proofs.Handles.Runs.{world_append}
-use Rattle.usb_library.specs.declared.wakes.Part.{Part}
-use Rattle.usb_library.specs.declared.wakes.Part.TheVariants.{Controller, Events}
+use Rattle.usb_library.specs.declared.wakes.WorkerPart.{WorkerPart}
+use Rattle.usb_library.specs.declared.wakes.WorkerPart.TheVariants.{Controller, Events}
 use Rattle.usb_library.specs.declared.wakes.Work.{Work}
 use Rattle.usb_library.specs.declared.wakes.Work.TheVariants.{None, Of}
 use Rattle.usb_library.specs.Calls.{changes}
@@ -44,7 +44,7 @@ step_wakes setup w step (steps, is) = rw is (names_new_work setup steps step)
 
 -- whoever is named by less is named by more
 abbrev Covers : (less more : Work) → Type 0
-Covers less more = (part : Part) → names less part ≡ true → names more part ≡ true
+Covers less more = (part : WorkerPart) → names less part ≡ true → names more part ≡ true
 
 -- each of these steps, from a world on, names nobody beside
 abbrev pub NameNoMore : Setup → World → List Step → Work → Type 0
@@ -57,11 +57,11 @@ unfolding world_from
 all_wake setup work w [] reached no_more = λ part has. inl has
 all_wake setup work w (step ∷ steps) reached no_more = λ part has. by_rest part (all_wake setup work (turn setup w step).world steps (reached_on setup w step reached) no_more.1 part has)
   where
-    by_first : (part : Part) → HasWork setup w part ⊎ (names (makes_work setup w step) part ≡ true) → HasWork setup w part ⊎ (names work part ≡ true)
+    by_first : (part : WorkerPart) → HasWork setup w part ⊎ (names (makes_work setup w step) part ≡ true) → HasWork setup w part ⊎ (names work part ≡ true)
     by_first part (inl had) = inl had
     by_first part (inr named) = inr (no_more.0 part named)
 
-    by_rest : (part : Part) → HasWork setup (turn setup w step).world part ⊎ (names work part ≡ true) → HasWork setup w part ⊎ (names work part ≡ true)
+    by_rest : (part : WorkerPart) → HasWork setup (turn setup w step).world part ⊎ (names work part ≡ true) → HasWork setup w part ⊎ (names work part ≡ true)
     by_rest part (inl had) = by_first part (step_wakes setup w step reached part had)
     by_rest part (inr named) = inr named
 

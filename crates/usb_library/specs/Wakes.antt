@@ -9,8 +9,8 @@ use Rattle.usb_model.specs.declared.verdict.Verdict.TheVariants.{Stop}
 use Rattle.usb_model.specs.Setup.{Setup}
 use Rattle.usb_model.specs.World.{World, new_world, turn, world_from}
 use Rattle.usb_core.specs.Public.{does_something, serves}
-use Rattle.usb_library.specs.declared.wakes.Part.{Part}
-use Rattle.usb_library.specs.declared.wakes.Part.TheVariants.{Controller, Events}
+use Rattle.usb_library.specs.declared.wakes.WorkerPart.{WorkerPart}
+use Rattle.usb_library.specs.declared.wakes.WorkerPart.TheVariants.{Controller, Events}
 use Rattle.usb_library.specs.declared.wakes.Work.{Work}
 use Rattle.usb_library.specs.declared.wakes.Work.TheVariants.{Any, None, Of}
 use Rattle.usb_journal.specs.declared.place.Place.{Place}
@@ -18,25 +18,25 @@ use Rattle.usb_journal.specs.Booked.{world_where}
 use Rattle.usb_library.specs.Calls.{changes}
 
 -- there is something to do for a worker: a packet or an order for the controller's, an event or a result for that of events
-abbrev pub HasWork : Setup → World → Part → Type 0
+abbrev pub HasWork : Setup → World → WorkerPart → Type 0
 HasWork setup w Controller = ((d e : ℕ) × (serves setup w d e ≡ true)) ⊎ (does_something setup w Command ≡ true)
 HasWork setup w Events = (does_something setup w Deliver ≡ true) ⊎ (does_something setup w Take ≡ true)
 
 -- whether one of the workers is that of a part
-abbrev pub is_part : Part → Part → Bool
+abbrev pub is_part : WorkerPart → WorkerPart → Bool
 is_part Controller Controller = true
 is_part Events Events = true
 is_part _ _ = false
 
 -- whether work is said to be for a part
-abbrev pub names : Work → Part → Bool
+abbrev pub names : Work → WorkerPart → Bool
 names None part = false
 names (Of p) part = is_part p part
 names Any part = true
 
 -- each worker that has work afterwards had some before, or is named
 abbrev pub Wakes : Setup → (before after : World) → Work → Type 0
-Wakes setup before after work = (part : Part) → HasWork setup after part → HasWork setup before part ⊎ (names work part ≡ true)
+Wakes setup before after work = (part : WorkerPart) → HasWork setup after part → HasWork setup before part ⊎ (names work part ≡ true)
 
 -- the same of the steps of a journal from a place on: of the worlds where its run stood before that place, and where it ends
 abbrev pub WakesSince : Setup → List Place → ℕ → Work → Type 0

@@ -95,4 +95,4 @@ pub use callers::CALLERS;
 pub use finish::{Ended, Missing};
 pub use library::Library;
 pub use opening::Opening;
-pub use wakes::Part;
+pub use wakes::WorkerPart;

@@ -14,7 +14,7 @@ ghost use Rattle.usb_library.specs.Wakes.{WakesSince};
 
 use crate::caller::Caller;
 use crate::library::Library;
-use crate::wakes::{Part, Work};
+use crate::wakes::{Work, WorkerPart};
 use std::alloc::AllocError;
 use std::sync::Wait;
 use usb_core::Taken;
@@ -45,7 +45,7 @@ impl<L: Naming, P: Drop, D: Device, J: Recorder> Library<L, P, D, J> {
         drop(guarded);
         let served = caller.counted(made)?;
         let work = if served.ended {
-            Work::Of(Part::Events)
+            Work::Of(WorkerPart::Events)
         } else {
             Work::None
         };
@@ -71,7 +71,7 @@ impl<L: Naming, P: Drop, D: Device, J: Recorder> Library<L, P, D, J> {
         let work = if delivered.quiet {
             Work::None
         } else {
-            Work::Of(Part::Controller)
+            Work::Of(WorkerPart::Controller)
         };
         self.wake_row(rt, caller, delivered.row, work);
         Ok(delivered.row)

@@ -10,7 +10,7 @@ ghost use Rattle.usb_library.specs.Calls.{Makes, Ticks, misses};
 use crate::answered::{Answered, Submitted};
 use crate::caller::Caller;
 use crate::library::Library;
-use crate::wakes::{Part, Work};
+use crate::wakes::{Work, WorkerPart};
 use std::alloc::AllocError;
 use std::sync::Wait;
 use usb_core::Taken;
@@ -42,7 +42,13 @@ impl<L: Naming, P: Drop, D: Device, J: Recorder> Library<L, P, D, J> {
             .submit(h, request, callback, &mut caller.position);
         let (receipt, number) = caller.counted(made)?;
         let accepted = number.is_ok();
-        self.wake_if(rt, caller, &receipt, accepted, Work::Of(Part::Controller));
+        self.wake_if(
+            rt,
+            caller,
+            &receipt,
+            accepted,
+            Work::Of(WorkerPart::Controller),
+        );
         Ok(Submitted { receipt, number })
     }
 
@@ -107,7 +113,13 @@ impl<L: Naming, P: Drop, D: Device, J: Recorder> Library<L, P, D, J> {
             .again(h, n, callback, &mut caller.position);
         let (receipt, number) = caller.counted(made)?;
         let renewed = number.is_ok();
-        self.wake_if(rt, caller, &receipt, renewed, Work::Of(Part::Controller));
+        self.wake_if(
+            rt,
+            caller,
+            &receipt,
+            renewed,
+            Work::Of(WorkerPart::Controller),
+        );
         Ok(Submitted { receipt, number })
     }
 
@@ -132,7 +144,13 @@ impl<L: Naming, P: Drop, D: Device, J: Recorder> Library<L, P, D, J> {
             .again_with(h, n, bytes, callback, &mut caller.position);
         let (receipt, number) = caller.counted(made)?;
         let refilled = number.is_ok();
-        self.wake_if(rt, caller, &receipt, refilled, Work::Of(Part::Controller));
+        self.wake_if(
+            rt,
+            caller,
+            &receipt,
+            refilled,
+            Work::Of(WorkerPart::Controller),
+        );
         Ok(Submitted { receipt, number })
     }
 

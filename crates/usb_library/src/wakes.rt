@@ -17,7 +17,7 @@ use usb_model::Reply;
 
 /// A worker, by its part of the work.
 #[derive(Clone, Copy, PartialEq, Eq, Debug)]
-pub enum Part {
+pub enum WorkerPart {
     /// Packets and orders.
     Controller,
     /// Events, results and their callbacks.
@@ -30,7 +30,7 @@ pub(crate) enum Work {
     /// For nobody: a packet that ends no transfer, a result that goes out, a callback that ends.
     None,
     /// For one of the workers: a submission for the controller's, a transfer that ended for that of events.
-    Of(Part),
+    Of(WorkerPart),
     /// For either: whatever isn't part of each transfer.
     Any,
 }
@@ -40,7 +40,7 @@ pub(crate) fn of_packet(reply: &Reply) -> Work
     ensures { result ≡ packet_work reply.now }
 {
     match reply {
-        Reply::Ended { .. } => Work::Of(Part::Events),
+        Reply::Ended { .. } => Work::Of(WorkerPart::Events),
         _ => Work::None,
     }
 }
@@ -50,8 +50,8 @@ pub(crate) fn of_event(reply: &Reply, has_order: bool) -> Work
     ensures { result ≡ event_work reply.now has_order }
 {
     match reply {
-        Reply::Settled { .. } => Work::Of(Part::Controller),
-        _ if has_order => Work::Of(Part::Controller),
+        Reply::Settled { .. } => Work::Of(WorkerPart::Controller),
+        _ if has_order => Work::Of(WorkerPart::Controller),
         _ => Work::None,
     }
 }
@@ -135,10 +135,10 @@ impl Watchers {
     }
 
     /// Those of one part.
-    fn of(&self, part: Part) -> &Waiting {
+    fn of(&self, part: WorkerPart) -> &Waiting {
         match part {
-            Part::Controller => &self.controllers,
-            Part::Events => &self.events,
+            WorkerPart::Controller => &self.controllers,
+            WorkerPart::Events => &self.events,
         }
     }
 
@@ -228,14 +228,14 @@ impl<L: Naming, P: Drop, D: Device, J: Recorder> Library<L, P, D, J> {
     pub fn watch_part<R: Wait>(
         &self,
         rt: &R,
-        part: Part,
+        part: WorkerPart,
         unparker: Unparker,
     ) -> Result<(), AllocError> {
         self.watchers.add(rt, self.watchers.of(part), unparker)
     }
 
     /// How often the workers of a part were woken: where it isn't what it was, they have a token. No lock is taken.
-    pub fn wakes(&self, part: Part) -> u64 {
+    pub fn wakes(&self, part: WorkerPart) -> u64 {
         self.watchers.of(part).wakes.load(Ordering::SeqCst)
     }
 

@@ -13,7 +13,7 @@ use std::sync::Wait;
 use usb_core::Pending;
 use usb_device::Device;
 use usb_journal::{Naming, Recorder};
-use usb_library::{Caller, Library, Part};
+use usb_library::{Caller, Library, WorkerPart};
 
 /// A device answers packets at the endpoint that the look showed, in a row, as many as the gate lets by. Where memory is refused, the
 /// next look shows them again.
@@ -96,7 +96,7 @@ pub fn controller_loop<L: Naming, P: Drop, D: Device, J: Recorder, G: Gate, R: W
 {
     let mut caller = caller;
     let mut tries = Tries::new();
-    let mut parking = Parking::new(rt, alloc, library, Part::Controller);
+    let mut parking = Parking::new(rt, alloc, library, WorkerPart::Controller);
     for _ in rt.forever() {
         let Some(pending) = library.work(rt, &mut caller) else {
             return caller;

@@ -15,7 +15,7 @@ use std::sync::Wait;
 use usb_core::{Callback, Taken};
 use usb_device::Device;
 use usb_journal::{Events, Naming, Recorder};
-use usb_library::{Caller, Library, Part};
+use usb_library::{Caller, Library, WorkerPart};
 
 /// Events are handled in a row, if the look showed one, as many as wait and as the gate lets by. Where memory is refused, the next look
 /// shows them again.
@@ -166,7 +166,7 @@ pub fn event_loop<L: Naming, C: Callback, D: Device, J: Recorder, G: Gate, R: Wa
 {
     let mut caller = caller;
     let mut tries = Tries::new();
-    let mut parking = Parking::new(rt, alloc, library, Part::Events);
+    let mut parking = Parking::new(rt, alloc, library, WorkerPart::Events);
     let mut taken = Vec::new(alloc);
     for _ in rt.forever() {
         let Some(events) = library.events(rt, &mut caller) else {

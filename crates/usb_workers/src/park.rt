@@ -6,7 +6,7 @@ use std::alloc::Global;
 use std::sync::Wait;
 use usb_device::Device;
 use usb_journal::{Naming, Recorder};
-use usb_library::{Library, Part};
+use usb_library::{Library, WorkerPart};
 
 /// How often a worker looks whether it was woken before it sleeps: some fifty microseconds, by pauses that double up to 64, and
 /// then by yields. What comes at all mostly comes within ten, and to be woken from sleep takes some more.
@@ -16,7 +16,7 @@ const LOOKS: u32 = 128;
 /// again and again.
 #[derive(Drop)]
 pub(crate) struct Parking {
-    part: Part,
+    part: WorkerPart,
     parker: Option<Parker>,
     /// How often its part had been woken when it went on last.
     wakes: u64,
@@ -28,7 +28,7 @@ impl Parking {
         rt: &R,
         alloc: Global,
         library: &Library<L, P, D, J>,
-        part: Part,
+        part: WorkerPart,
     ) -> Parking {
         Parking {
             part,
@@ -55,7 +55,7 @@ impl Parking {
 /// Waits without sleeping until the part is woken once more than so often, but not for long: most often the next work comes soon.
 fn watch_for_a_while<L: Naming, P: Drop, D: Device, J: Recorder>(
     library: &Library<L, P, D, J>,
-    part: Part,
+    part: WorkerPart,
     wakes: u64,
 ) {
     let backoff = Backoff::new();
@@ -72,7 +72,7 @@ fn watched<L: Naming, P: Drop, D: Device, J: Recorder, R: Wait>(
     rt: &R,
     alloc: Global,
     library: &Library<L, P, D, J>,
-    part: Part,
+    part: WorkerPart,
 ) -> Option<Parker> {
     let parker = Parker::new(alloc).ok()?;
     let unparker = parker.unparker().clone().ok()?;

@@ -6,7 +6,7 @@ use std::io::{Read, Write};
 use std::rt::Files;
 use std::{fs, io};
 use trace_io::{Fault, read_whole};
-use trace_test::{Outcome, report, test};
+use trace_test::{TestOutcome, report, test};
 
 /// The words of a command line, and the files that it names.
 #[derive(Drop)]
@@ -68,11 +68,11 @@ pub fn command_line<'a>(alloc: Global, texts: &[&'a str]) -> Result<CommandLine<
 }
 
 /// Whether a test is passed.
-fn is_passed(outcome: &Outcome, is_lenient: bool) -> bool {
+fn is_passed(outcome: &TestOutcome, is_lenient: bool) -> bool {
     match outcome {
-        Outcome::Passed => true,
-        Outcome::Differs(_) => false,
-        Outcome::Unexpected(_) => is_lenient,
+        TestOutcome::Passed => true,
+        TestOutcome::Differs(_) => false,
+        TestOutcome::Unexpected(_) => is_lenient,
     }
 }
 

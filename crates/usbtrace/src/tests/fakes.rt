@@ -175,13 +175,13 @@ impl Write for Held {
 
 /// What a run answered and wrote.
 #[derive(Drop)]
-pub(crate) struct Outcome {
+pub(crate) struct TestOutcome {
     status: u8,
     out: Vec<u8>,
     err: Vec<u8>,
 }
 
-impl Outcome {
+impl TestOutcome {
     /// Whether the status and both texts are these.
     pub(crate) fn is(&self, status: u8, out: &str, err: &str) -> bool {
         self.status == status && self.wrote(out, err)
@@ -222,7 +222,7 @@ pub(crate) fn run<X: Threads + Wait + Sync>(
     alloc: Global,
     words: &[&str],
     mut input: Input<'_>,
-) -> Outcome {
+) -> TestOutcome {
     run_into(
         rt,
         alloc,
@@ -239,12 +239,12 @@ pub(crate) fn run_line<X: Threads + Wait + Sync + Files>(
     alloc: Global,
     texts: &[&str],
     mut input: Input<'_>,
-) -> Result<Outcome, AllocError> {
+) -> Result<TestOutcome, AllocError> {
     let line = command_line(alloc, texts)?;
     let mut out = Output::new(alloc, usize::MAX, ErrorKind::BrokenPipe);
     let mut err = Output::new(alloc, usize::MAX, ErrorKind::BrokenPipe);
     let status = perform(rt, alloc, &line, &mut input, &mut out, &mut err);
-    Ok(Outcome {
+    Ok(TestOutcome {
         status,
         out: out.taken,
         err: err.taken,
@@ -256,7 +256,7 @@ pub(crate) fn run_files<X: Threads + Wait + Sync + Files>(
     rt: &X,
     alloc: Global,
     texts: &[&str],
-) -> Result<Outcome, AllocError> {
+) -> Result<TestOutcome, AllocError> {
     let unread = Input::failing(b"", 1, ErrorKind::ConnectionReset);
     run_line(rt, alloc, texts, unread)
 }
@@ -269,9 +269,9 @@ pub(crate) fn run_into<X: Threads + Wait + Sync, R: Read>(
     input: &mut R,
     mut out: Output,
     mut err: Output,
-) -> Outcome {
+) -> TestOutcome {
     let status = trace(rt, alloc, words, input, &mut out, &mut err);
-    Outcome {
+    TestOutcome {
         status,
         out: out.taken,
         err: err.taken,
@@ -285,7 +285,7 @@ pub(crate) fn run_until_flushed<X: Threads + Wait + Sync>(
     words: &[&str],
     mut input: Input<'_>,
     error: Option<ErrorKind>,
-) -> Outcome {
+) -> TestOutcome {
     let mut out = Held {
         held: Vec::new(alloc),
         world_of: Vec::new(alloc),
@@ -293,7 +293,7 @@ pub(crate) fn run_until_flushed<X: Threads + Wait + Sync>(
     };
     let mut err = Output::new(alloc, usize::MAX, ErrorKind::BrokenPipe);
     let status = trace(rt, alloc, words, &mut input, &mut out, &mut err);
-    Outcome {
+    TestOutcome {
         status,
         out: out.world_of,
         err: err.taken,

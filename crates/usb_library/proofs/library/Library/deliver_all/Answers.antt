@@ -3,7 +3,7 @@ use Rattle.std.specs.Prelude.{if◌then◌else◌, replicate}
 use Rattle.usb_model.specs.declared.step.Step.TheVariants.{Deliver}
 use Rattle.usb_journal.specs.Booked.{world_where}
 use Rattle.usb_journal.specs.Rows.{are_quiet, new_places}
-use Rattle.usb_library.specs.declared.wakes.Part.TheVariants.{Controller}
+use Rattle.usb_library.specs.declared.wakes.WorkerPart.TheVariants.{Controller}
 use Rattle.usb_library.specs.declared.wakes.Work.TheVariants.{None, Of}
 use Rattle.usb_library.proofs.CallWakes.{at_ok}
 use Rattle.usb_library.proofs.RowMade.{makes_row, row_of_book}
