@@ -44,24 +44,6 @@ ReadsOther task.Device = ⊤
 ReadsOther task.Describe = ⊤
 ReadsOther t = ⊥
 
--- the scenario that a task reads in a text; of one that reads something else it isn't asked
-abbrev pub scenario_for : Task → List ℕ → Result Scenario ℕ
-scenario_for task.Run text = scenario_of text
-scenario_for task.Steps text = scenario_of text
-scenario_for (task.Packets steps) text = scenario_of text
-scenario_for (task.Alone h) text = scenario_of text
-scenario_for (task.Live rounds) text = lived_of text
-scenario_for task.Left text = scenario_of text
-scenario_for task.Check text = scenario_of text
-scenario_for (task.Draw from to) text = scenario_of text
-scenario_for (task.Page from to) text = scenario_of text
-scenario_for task.Capture text = scenario_of text
-scenario_for (task.Devices reader) text = scenario_of text
-scenario_for task.Explain text = scenario_of text
-scenario_for task.Test text = scenario_of text
-scenario_for task.Device text = scenario_of text
-scenario_for task.Describe text = scenario_of text
-
 -- what is told of the run of this text's scenario
 abbrev pub told_text : Telling → List ℕ → Scenario → List ℕ
 told_text telling text s = explained_text telling s.setup s.plan s.rules (step_lines text)
@@ -82,24 +64,6 @@ packets_text steps text s = told_text (packets_told steps) text s
 -- what a check says of a text without a bad line: how much the scenario says, and which lines its run refuses, with the reasons
 abbrev pub check_text : List ℕ → Scenario → List ℕ
 check_text text s = counts_line (counts_of s) ++ explained_text Refusals s.setup s.plan s.rules (step_lines text)
-
--- what a task writes of the scenario of a text: all entries, perhaps behind their lines, those of one handle alone, what callbacks were told in threads, what is left behind, how much the scenario says and what its run refuses, a picture, of which no more is said, a capture, or all entries with their reasons or their packets; and what is to be told behind it: of a run in threads what wasn't finished, and else nothing
-abbrev pub Writes : Task → List ℕ → Scenario → (notes : List ℕ) → Option (List ℕ) → Option (List ℕ) → Type 0
-Writes task.Run text s notes old new = (judged_text text s ≡ []) × Appends old new (run_text s) × (notes ≡ [])
-Writes task.Steps text s notes old new = (judged_text text s ≡ []) × Appends old new (steps_text text s) × (notes ≡ [])
-Writes (task.Packets steps) text s notes old new = Appends old new (packets_text steps text s) × (notes ≡ [])
-Writes (task.Alone h) text s notes old new = Appends old new (alone_text h s) × (notes ≡ [])
-Writes (task.Live rounds) text s notes old new = AppendsCallbacks s notes old new
-Writes task.Left text s notes old new = (judged_text text s ≡ []) × Appends old new (left_lines s) × (notes ≡ [])
-Writes task.Check text s notes old new = Appends old new (check_text text s) × (notes ≡ [])
-Writes (task.Draw from to) text s notes old new = AppendsAny old new × (notes ≡ [])
-Writes (task.Page from to) text s notes old new = AppendsAny old new × (notes ≡ [])
-Writes task.Capture text s notes old new = Appends old new (capture_bytes text s) × (notes ≡ [])
-Writes (task.Devices reader) text s notes old new = ⊥
-Writes task.Explain text s notes old new = Appends old new (reasons_text text s) × (notes ≡ [])
-Writes task.Test text s notes old new = ⊥
-Writes task.Device text s notes old new = ⊥
-Writes task.Describe text s notes old new = ⊥
 
 -- what a task prints of a run that is judged: entries, alone or behind their lines, or what is left behind; of another nothing is judged
 abbrev pub run_printed : Task → List ℕ → Scenario → Option (List ℕ)
@@ -151,73 +115,6 @@ WritesRecorded reader text r old new = (recorded_scenario reader text ≡ Ok r) 
 abbrev pub WritesDevice : List ℕ → Option (List ℕ) → Option (List ℕ) → Type 0
 WritesDevice text old new = (lines : List ℕ) × (device_text text ≡ Ok lines) × (length text ≤ longest_input) × Appends old new lines
 
--- what a task does that ends well: the text is a scenario of the longest length at most, and what the task makes of it is written; or the task prints that of a capture, in which a device is kept; or a test is passed; or a device's lines are written, or a table, of which no more is said
-abbrev pub IsDone : Task → List ℕ → (notes : List ℕ) → Option (List ℕ) → Option (List ℕ) → Type 0
-IsDone (task.Devices reader) text notes old new = (r : RecordedScenario) × WritesRecorded reader text r old new × (r.has_devices ≡ true) × (notes ≡ [])
-IsDone task.Test text notes old new = WritesOutcome text outcome.Passed old new × (notes ≡ [])
-IsDone task.Device text notes old new = WritesDevice text old new × (notes ≡ [])
-IsDone task.Describe text notes old new = (length text ≤ longest_input) × AppendsAny old new × (notes ≡ [])
-IsDone t text notes old new = (s : Scenario) × (scenario_for t text ≡ Ok s) × (length text ≤ longest_input) × Writes t text s notes old new
-
--- what a check does that finds bad lines: a line with the number of each is written, and then how much the good ones say
-abbrev pub IsReported : List ℕ → Option (List ℕ) → Option (List ℕ) → Type 0
-IsReported text old new = (bad_lines text ≢ []) × (length text ≤ longest_input) × AppendsReport (bad_lines text) (counts_of (good_lines text)) old new
-
--- what is done with a capture in which no device is kept: what is said of the others is written
-abbrev pub FindsNone : TextReader → List ℕ → Option (List ℕ) → Option (List ℕ) → Type 0
-FindsNone reader text old new = (r : RecordedScenario) × WritesRecorded reader text r old new × (r.has_devices ≡ false)
-
--- what is done with a test of which a line differs: that is told
-abbrev pub FindsDifference : List ℕ → Option (List ℕ) → Option (List ℕ) → Type 0
-FindsDifference text old new = (difference : Difference) × WritesOutcome text (outcome.Differs difference) old new
-
--- the scenario of a text that is run in threads goes on for more callbacks than so many; and this wasn't finished then
-abbrev pub EndsLate : List ℕ → ℕ → (notes : List ℕ) → Type 0
-EndsLate text rounds notes = (s : Scenario) × (lived_of text ≡ Ok s) × GoesOn s rounds notes
-
--- a task draws
-abbrev pub Draws : Task → Type 0
-Draws (task.Draw from to) = ⊤
-Draws (task.Page from to) = ⊤
-Draws t = ⊥
-
--- a line of the text is bad, and ends the task: the first of its scenario, or of the one that a test stands for
-abbrev pub IsBadLine : Task → List ℕ → ℕ → Type 0
-IsBadLine task.Check text line = ⊥
-IsBadLine (task.Devices reader) text line = ⊥
-IsBadLine task.Test text line = IsOfTest text (Line line)
-IsBadLine task.Device text line = ⊥
-IsBadLine task.Describe text line = ⊥
-IsBadLine t text line = scenario_for t text ≡ Err line
-
--- a fault of a file of descriptors: that of its device's lines, or, of a table, any
-abbrev pub IsBadDescriptor : Task → List ℕ → DescriptorFault → Type 0
-IsBadDescriptor task.Device text fault = device_text text ≡ Err fault
-IsBadDescriptor task.Describe text fault = ⊤
-IsBadDescriptor t text fault = ⊥
-
--- how a task over a text ends, and what is to be told behind that: it is done; or it is a check, and the bad lines are reported; or the text's first bad line is told of and nothing is written; or the text is too long, and nothing is written; or it is run in threads, and more callbacks are told something than may be, and nothing is written; or it draws, there are too many steps, and nothing is written; or it reads a capture, no device is kept, and that is told; or a test differs, and that is told; or the capture or the descriptor is refused, and nothing is written; or a stream or memory failed
-abbrev pub Performs : Task → List ℕ → (notes : List ℕ) → Option (List ℕ) → Option (List ℕ) → Result TaskEnd Fault → Type 0
-Performs t text notes old new (Ok Good) = IsDone t text notes old new
-Performs t text notes old new (Ok BadLines) = (t ≡ task.Check) × IsReported text old new
-Performs t text notes old new (Ok NoDevices) = (reader : TextReader) × (t ≡ task.Devices reader) × FindsNone reader text old new
-Performs t text notes old new (Ok Differs) = (t ≡ task.Test) × FindsDifference text old new
-Performs t text notes old new (Ok Unexpected) = FindsUnexpected t text old new × (notes ≡ [])
-Performs t text notes old new (Err (Line line)) = IsBadLine t text line × Keeps old new
-Performs t text notes old new (Err Memory) = ⊤
-Performs t text notes old new (Err InputOutput) = ⊤
-Performs t text notes old new (Err Closed) = ⊤
-Performs t text notes old new (Err TooLong) = (longest_input < length text) × Keeps old new
-Performs t text notes old new (Err (Rounds rounds)) = (t ≡ task.Live rounds) × Keeps old new × EndsLate text rounds notes
-Performs t text notes old new (Err (Wide steps)) = (most_drawn < steps) × Keeps old new × Draws t
-Performs t text notes old new (Err (Capture fault)) = (reader : TextReader) × (t ≡ task.Devices reader) × Keeps old new × (recorded_scenario reader text ≡ Err fault)
-Performs t text notes old new (Err (Descriptor fault)) = IsBadDescriptor t text fault × Keeps old new
-
--- nothing is to be told behind a fault, but where a run in threads goes on for too long
-abbrev pub IsAlone : (notes : List ℕ) → Fault → Type 0
-IsAlone notes (Rounds rounds) = ⊤
-IsAlone notes fault = notes ≡ []
-
 -- what a task that prints such lines may have written, however it ends: a beginning of their text, and nothing where a line is bad
 abbrev pub BeginsEntries : (Scenario → List ℕ) → Result Scenario ℕ → Option (List ℕ) → Option (List ℕ) → Type 0
 BeginsEntries said (Ok s) old new = AppendsSome (said s) old new
@@ -247,23 +144,142 @@ abbrev pub BeginsDevice : Result (List ℕ) DescriptorFault → Option (List ℕ
 BeginsDevice (Ok lines) old new = AppendsSome lines old new
 BeginsDevice (Err fault) old new = Keeps old new
 
--- what a task over a text may have written, however it ends: a beginning of what it prints
+-- what a word does over a text
+pub record Word : Type 1 where
+  -- what was done where it ended well, and what is to be told behind it: of a run in threads what wasn't finished, and else nothing
+  pub done : (text notes : List ℕ) → (old new : Option (List ℕ)) → Type 0
+  -- what it may have written, however it ended: a beginning of what it prints
+  pub begun : (text : List ℕ) → (old new : Option (List ℕ)) → Type 0
+  -- a line of the text is bad, and ends it
+  pub bad_line : (text : List ℕ) → (line : ℕ) → Type 0
+  -- a fault of a file of descriptors ends it
+  pub bad_descriptor : (text : List ℕ) → DescriptorFault → Type 0
+
+-- one that reads a scenario of the longest length at most, in this way, and makes this of it: its first bad line ends it
+abbrev pub of_scenario : (read : List ℕ → Result Scenario ℕ) → (List ℕ → Scenario → List ℕ → Option (List ℕ) → Option (List ℕ) → Type 0) → (List ℕ → Option (List ℕ) → Option (List ℕ) → Type 0) → Word
+of_scenario read writes begins = record {
+  done = λ text notes old new. (s : Scenario) × (read text ≡ Ok s) × (length text ≤ longest_input) × writes text s notes old new;
+  begun = begins;
+  bad_line = λ text line. read text ≡ Err line;
+  bad_descriptor = λ text fault. ⊥;
+}
+
+-- one that prints this of a scenario
+abbrev pub prints : (List ℕ → Scenario → List ℕ) → Word
+prints said = of_scenario scenario_of (λ text s notes old new. Appends old new (said text s) × (notes ≡ [])) (λ text old new. BeginsEntries (said text) (scenario_of text) old new)
+
+-- one that prints this of a run that is judged: it ends well where all that was written is as expected
+abbrev pub prints_judged : (List ℕ → Scenario → List ℕ) → Word
+prints_judged said =
+    of_scenario
+    scenario_of
+    (λ text s notes old new. (judged_text text s ≡ []) × Appends old new (said text s) × (notes ≡ []))
+    (λ text old new. BeginsEntries (with_judged said text) (scenario_of text) old new)
+
+-- one that draws, of which no more is said than that it writes something
+abbrev pub draws : Word
+draws = of_scenario scenario_of (λ text s notes old new. AppendsAny old new × (notes ≡ [])) (λ text old new. BeginsPicture (scenario_of text) old new)
+
+-- one that reads something else, does this with it, and may have written so much
+abbrev pub of_another : (List ℕ → List ℕ → Option (List ℕ) → Option (List ℕ) → Type 0) → (List ℕ → Option (List ℕ) → Option (List ℕ) → Type 0) → Word
+of_another does begins = record { done = does; begun = begins; bad_line = λ text line. ⊥; bad_descriptor = λ text fault. ⊥ }
+
+-- the devices of a capture, for who reads them: one of them is kept
+abbrev pub prints_devices : TextReader → Word
+prints_devices reader =
+    of_another
+    (λ text notes old new. (r : RecordedScenario) × WritesRecorded reader text r old new × (r.has_devices ≡ true) × (notes ≡ []))
+    (λ text old new. BeginsRecorded (recorded_scenario reader text) old new)
+
+-- a test that is passed
+abbrev pub tests : Word
+tests = record (of_another (λ text notes old new. WritesOutcome text outcome.Passed old new × (notes ≡ [])) (λ text old new. BeginsOutcome text old new)) { bad_line = λ text line. IsOfTest text (Line line) }
+
+-- the lines of a device
+abbrev pub prints_device : Word
+prints_device = record (of_another (λ text notes old new. WritesDevice text old new × (notes ≡ [])) (λ text old new. BeginsDevice (device_text text) old new)) { bad_descriptor = λ text fault. device_text text ≡ Err fault }
+
+-- a table, of which no more is said than that something is written
+abbrev pub describes : Word
+describes = record (of_another (λ text notes old new. (length text ≤ longest_input) × AppendsAny old new × (notes ≡ [])) (λ text old new. AppendsAny old new)) { bad_descriptor = λ text fault. ⊤ }
+
+-- all entries, perhaps behind their lines, those of one handle alone, what callbacks were told in threads, what is left behind, how much the scenario says and what its run refuses, a picture, a capture, the devices of one, all entries with their reasons or their packets, what came of a test, a device's lines or a table
+abbrev pub word_of : Task → Word
+word_of task.Run = prints_judged (λ text. run_text)
+word_of task.Steps = prints_judged steps_text
+word_of (task.Packets steps) = prints (packets_text steps)
+word_of (task.Alone h) = prints (λ text. alone_text h)
+word_of (task.Live rounds) = of_scenario lived_of (λ text. AppendsCallbacks) (λ text old new. BeginsCallbacks (lived_of text) old new)
+word_of task.Left = prints_judged (λ text. left_lines)
+word_of task.Check = record (prints check_text) { begun = λ text old new. BeginsCheck text (scenario_of text) old new; bad_line = λ text line. ⊥ }
+word_of (task.Draw from to) = draws
+word_of (task.Page from to) = draws
+word_of task.Capture = prints capture_bytes
+word_of (task.Devices reader) = prints_devices reader
+word_of task.Explain = prints reasons_text
+word_of task.Test = tests
+word_of task.Device = prints_device
+word_of task.Describe = describes
+
+-- what was done by a task that ended well, and is to be told behind it
+abbrev pub IsDone : Task → List ℕ → (notes : List ℕ) → Option (List ℕ) → Option (List ℕ) → Type 0
+IsDone t text notes old new = (word_of t).done text notes old new
+
+-- what a task may have written, however it ends
 abbrev pub Begins : Task → List ℕ → Option (List ℕ) → Option (List ℕ) → Type 0
-Begins task.Run text old new = BeginsEntries (with_judged (λ text. run_text) text) (scenario_of text) old new
-Begins task.Steps text old new = BeginsEntries (with_judged steps_text text) (scenario_of text) old new
-Begins (task.Packets steps) text old new = BeginsEntries (packets_text steps text) (scenario_of text) old new
-Begins (task.Alone h) text old new = BeginsEntries (alone_text h) (scenario_of text) old new
-Begins (task.Live rounds) text old new = BeginsCallbacks (lived_of text) old new
-Begins task.Left text old new = BeginsEntries (with_judged (λ text. left_lines) text) (scenario_of text) old new
-Begins task.Check text old new = BeginsCheck text (scenario_of text) old new
-Begins (task.Draw from to) text old new = BeginsPicture (scenario_of text) old new
-Begins (task.Page from to) text old new = BeginsPicture (scenario_of text) old new
-Begins task.Capture text old new = BeginsEntries (capture_bytes text) (scenario_of text) old new
-Begins (task.Devices reader) text old new = BeginsRecorded (recorded_scenario reader text) old new
-Begins task.Explain text old new = BeginsEntries (reasons_text text) (scenario_of text) old new
-Begins task.Test text old new = BeginsOutcome text old new
-Begins task.Device text old new = BeginsDevice (device_text text) old new
-Begins task.Describe text old new = AppendsAny old new
+Begins t text old new = (word_of t).begun text old new
+
+-- a bad line that ends a task: the first of its scenario, or of the one that a test stands for
+abbrev pub IsBadLine : Task → List ℕ → ℕ → Type 0
+IsBadLine t text line = (word_of t).bad_line text line
+
+-- a fault of a file of descriptors that ends one: that of its device's lines, or, of a table, any
+abbrev pub IsBadDescriptor : Task → List ℕ → DescriptorFault → Type 0
+IsBadDescriptor t text fault = (word_of t).bad_descriptor text fault
+
+-- what a check does that finds bad lines: a line with the number of each is written, and then how much the good ones say
+abbrev pub IsReported : List ℕ → Option (List ℕ) → Option (List ℕ) → Type 0
+IsReported text old new = (bad_lines text ≢ []) × (length text ≤ longest_input) × AppendsReport (bad_lines text) (counts_of (good_lines text)) old new
+
+-- what is done with a capture in which no device is kept: what is said of the others is written
+abbrev pub FindsNone : TextReader → List ℕ → Option (List ℕ) → Option (List ℕ) → Type 0
+FindsNone reader text old new = (r : RecordedScenario) × WritesRecorded reader text r old new × (r.has_devices ≡ false)
+
+-- what is done with a test of which a line differs: that is told
+abbrev pub FindsDifference : List ℕ → Option (List ℕ) → Option (List ℕ) → Type 0
+FindsDifference text old new = (difference : Difference) × WritesOutcome text (outcome.Differs difference) old new
+
+-- the scenario of a text that is run in threads goes on for more callbacks than so many; and this wasn't finished then
+abbrev pub EndsLate : List ℕ → ℕ → (notes : List ℕ) → Type 0
+EndsLate text rounds notes = (s : Scenario) × (lived_of text ≡ Ok s) × GoesOn s rounds notes
+
+-- a task draws
+abbrev pub Draws : Task → Type 0
+Draws (task.Draw from to) = ⊤
+Draws (task.Page from to) = ⊤
+Draws t = ⊥
+
+-- how a task over a text ends, and what is to be told behind that: it is done; or it is a check, and the bad lines are reported; or the text's first bad line is told of and nothing is written; or the text is too long, and nothing is written; or it is run in threads, and more callbacks are told something than may be, and nothing is written; or it draws, there are too many steps, and nothing is written; or it reads a capture, no device is kept, and that is told; or a test differs, and that is told; or the capture or the descriptor is refused, and nothing is written; or a stream or memory failed
+abbrev pub Performs : Task → List ℕ → (notes : List ℕ) → Option (List ℕ) → Option (List ℕ) → Result TaskEnd Fault → Type 0
+Performs t text notes old new (Ok Good) = IsDone t text notes old new
+Performs t text notes old new (Ok BadLines) = (t ≡ task.Check) × IsReported text old new
+Performs t text notes old new (Ok NoDevices) = (reader : TextReader) × (t ≡ task.Devices reader) × FindsNone reader text old new
+Performs t text notes old new (Ok Differs) = (t ≡ task.Test) × FindsDifference text old new
+Performs t text notes old new (Ok Unexpected) = FindsUnexpected t text old new × (notes ≡ [])
+Performs t text notes old new (Err (Line line)) = IsBadLine t text line × Keeps old new
+Performs t text notes old new (Err Memory) = ⊤
+Performs t text notes old new (Err InputOutput) = ⊤
+Performs t text notes old new (Err Closed) = ⊤
+Performs t text notes old new (Err TooLong) = (longest_input < length text) × Keeps old new
+Performs t text notes old new (Err (Rounds rounds)) = (t ≡ task.Live rounds) × Keeps old new × EndsLate text rounds notes
+Performs t text notes old new (Err (Wide steps)) = (most_drawn < steps) × Keeps old new × Draws t
+Performs t text notes old new (Err (Capture fault)) = (reader : TextReader) × (t ≡ task.Devices reader) × Keeps old new × (recorded_scenario reader text ≡ Err fault)
+Performs t text notes old new (Err (Descriptor fault)) = IsBadDescriptor t text fault × Keeps old new
+
+-- nothing is to be told behind a fault, but where a run in threads goes on for too long
+abbrev pub IsAlone : (notes : List ℕ) → Fault → Type 0
+IsAlone notes (Rounds rounds) = ⊤
+IsAlone notes fault = notes ≡ []
 
 -- why what is to be told of a text's run can't be: its first bad line, or memory
 abbrev pub IsUntold : List ℕ → Fault → Type 0
