@@ -205,7 +205,7 @@ static bool answer_control(struct transfer *transfer, bool *waits)
     return !*waits;
 }
 
-/* Requests of each device in order, behind one for which it isn't ready none; whether one ended. */
+/* Serves each device's requests in order, up to the first that isn't ready. Returns whether one completed. */
 bool answer_controls(void)
 {
     bool any = false, waits[DEVICES] = { false };

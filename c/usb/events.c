@@ -149,7 +149,7 @@ static bool wait_on(struct libusb_context *context, uint64_t end, uint64_t stirs
     return false;
 }
 
-/* Until something was called back, that moment, or an interruption. With the lock, as the one who handles events. A moment of 0 is now. */
+/* Handles events until a callback ran, `end` passed or the loop was interrupted; 0 is now. Lock held, by the one who handles events. */
 static int handle_events(struct libusb_context *context, uint64_t end)
 {
     int r = 0;

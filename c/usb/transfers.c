@@ -246,7 +246,7 @@ int libusb_cancel_transfer(struct libusb_transfer *transfer)
     return r;
 }
 
-/* One that is in progress is the program's error. It is told, cancelled and dropped; its memory goes when it ended, and so does a buffer
+/* Freeing a transfer in progress is a program error: it is logged, cancelled and dropped; its memory goes when it ended, and so does a buffer
  * that is to be freed. One that the program freed before isn't written to: as in `withdraw`, no packet is served until it ended. */
 void libusb_free_transfer(struct libusb_transfer *transfer)
 {
