@@ -142,6 +142,47 @@ static struct libusb_transfer *doubled(const struct libusb_transfer *transfer)
     return copy;
 }
 
+/* What a transfer was before a flipped copy of its bytes took their place. */
+struct original {
+    unsigned char *buffer;
+    libusb_transfer_cb_fn callback;
+    void *user_data;
+};
+
+static void make_original(struct libusb_transfer *transfer)
+{
+    struct original *original = transfer->user_data;
+    free(transfer->buffer);
+    transfer->buffer = original->buffer;
+    transfer->callback = original->callback;
+    transfer->user_data = original->user_data;
+    free(original);
+}
+
+static void on_flipped(struct libusb_transfer *transfer)
+{
+    make_original(transfer);
+    if (transfer->callback)
+        transfer->callback(transfer);
+}
+
+/* The program's own bytes stay as they are: they may stand where nobody may write, and may be sent once more. */
+static int submit_flipped(int (*submit)(struct libusb_transfer *), struct libusb_transfer *transfer, int head)
+{
+    struct original *original = malloc(sizeof *original);
+    if (!original)
+        abort();
+    *original = (struct original){ transfer->buffer, transfer->callback, transfer->user_data };
+    transfer->buffer = copy_of(transfer->buffer, transfer->length);
+    transfer->buffer[head] ^= 1;
+    transfer->callback = on_flipped;
+    transfer->user_data = original;
+    int r = submit(transfer);
+    if (r)
+        make_original(transfer);
+    return r;
+}
+
 int libusb_submit_transfer(struct libusb_transfer *transfer)
 {
     int (*submit)(struct libusb_transfer *) = NULL;
@@ -152,7 +193,7 @@ int libusb_submit_transfer(struct libusb_transfer *transfer)
     if (change == LOSE)
         return submit(question_for(transfer));
     if (change == FLIP)
-        transfer->buffer[head] ^= 1;
+        return submit_flipped(submit, transfer, head);
     if (change == DOUBLE)
         submit(doubled(transfer));
     return submit(transfer);

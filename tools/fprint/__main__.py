@@ -7,12 +7,12 @@ Each test runs its driver under umockdev-run, which fakes the kernel by a captur
 stands before it in PATH: tools/tirnouch-run makes a device of the capture, and the driver runs against that, over bin/libusb-1.0.so.0, once
 with each seed from 1 to N (3). A recording of ioctls is first made a capture, by tools/tirnouch-record under umockdev-run itself. At last one
 bit of the driver's third write is flipped (c/clients/changed.c), which has to fail the test: of a driver that writes by requests alone, of
-its third request that writes.
+its third request that writes. Where the driver crashes then, nothing has noticed it.
 
 libgusb's self-test is the client gusb_suite of c/clients, where its sources are below /usr/src: its devices are a text.
 
 A row is printed for each test, and what a run printed is kept in DIR, as NAME.SEED.out. What the machine lacks is said, and the status is 0;
-else it is 1 where a run failed or a flipped bit wasn't noticed."""
+else it is 1 where a run failed, or a flipped bit wasn't noticed or made a driver crash."""
 import argparse
 import os
 import pathlib
@@ -31,6 +31,10 @@ SECONDS = 300
 GUSB_TESTS = 5
 # Which write is flipped: of the transfers, and where a driver makes none, of the requests.
 FLIPS = ("flip 3", "flip 3 requests")
+# What libfprint's test says of a driver that used memory, or numbers, as nobody may.
+CRASHED = re.compile(r"died with <Signals\.SIG(?:SEGV|BUS|ILL|FPE)\b")
+# The cells of rows that aren't well.
+FAULTS = {"FAILED", "NOT NOTICED", "CRASHED"}
 
 
 class Test(NamedTuple):
@@ -107,9 +111,17 @@ class Runs:
             is_passed, text = self.run(test, "flipped", FPRINT_CHANGED=str(self.changed), TIRNOUCH_CHANGED=flip,
                                        TIRNOUCH_CHANGED_DONE=str(done))
             if done.exists():
-                by = "told" if "isn't what the devices' text expects" in text else "the test fails"
-                return "NOT NOTICED" if is_passed else f"noticed: {by}"
+                return self.came_of_flip(is_passed, text)
         return "fewer than three writes"
+
+    @staticmethod
+    def came_of_flip(is_passed: bool, text: str) -> str:
+        """What a flipped bit made of a run: told is what the library told, before the test's own end."""
+        if is_passed:
+            return "NOT NOTICED"
+        if "isn't what the devices' text expects" in text:
+            return "noticed: told"
+        return "CRASHED" if CRASHED.search(text) else "noticed: the test fails"
 
     def row(self, test: Test, seeds: int) -> List[str]:
         if test.kind == "not USB":
@@ -160,7 +172,7 @@ def main() -> int:
         if not asked.names or "gusb" in asked.names:
             rows.append(runs.self_test_row(asked.seeds))
             print("".join(f"| {it} " for it in rows[-1]) + "|", flush=True)
-    failed = sum(bool({"FAILED", "NOT NOTICED"} & set(row)) for row in rows)
+    failed = sum(bool(FAULTS & set(row)) for row in rows)
     print(f"{len(rows) - failed} tests well, {failed} not")
     return 1 if failed else 0
 
