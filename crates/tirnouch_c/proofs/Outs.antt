@@ -1,6 +1,7 @@
 -- A result that goes out, and whose callback ends.
 use Rattle.std.proofs.Common.{◌≡◌, ◌∷◌, ℕ, false, List, Option, Some, None, is_some, refl, sym}
-use Rattle.usb_core.specs.Public.{Carries, CarriesOut, Kept, State, Taken, TakesAndStops}
+use Rattle.usb_core.specs.Public.{Carries, CarriesOut, Kept, State, TakesAndStops}
+use Rattle.usb_core.specs.declared.results.Taken.{Taken}
 use Rattle.usb_model.specs.World.{world_from}
 use Rattle.usb_model.specs.World.Journal.{journal_from}
 use Rattle.tirnouch_c.specs.declared.session.Session.{Session}

@@ -2,7 +2,9 @@
 use Rattle.std.proofs.Common.{◌≡◌, ℕ, zero, suc, ◌+◌, ◌<◌, ◌≤◌, Bool, true, Option, Some, None, List, [], ◌∷◌, ◌++◌, refl, sym, ap, ◌∙◌, subst, arith}
 use Rattle.std.specs.Prelude.{max, replicate}
 use Rattle.refine_core.specs.Steps.{TurnsInRow}
-use Rattle.usb_core.specs.Public.{Burst, ShowsWorld, StillCarries, Whole, burst_entries, whole_entries}
+use Rattle.usb_core.specs.Public.{ShowsWorld, StillCarries, burst_entries, whole_entries}
+use Rattle.usb_core.specs.declared.step_bursts.Burst.{Burst}
+use Rattle.usb_core.specs.declared.step_bursts.Whole.{Whole}
 use Rattle.usb_model.specs.declared.entry.Entry.{Entry}
 use Rattle.usb_model.specs.declared.step.Step.TheVariants.{Serve}
 use Rattle.usb_model.specs.Setup.{Setup}

@@ -1,6 +1,7 @@
 -- What a submission gave, as it is told.
 use Rattle.std.proofs.Common.{◌≡◌, ℕ, Some, Result, Ok, Err, IfErr, IfOk, OnErr, sym, subst}
-use Rattle.usb_core.specs.Public.{CarriesMore, State, Stays, StillCarries, TurnsWorld, SubmitError}
+use Rattle.usb_core.specs.Public.{CarriesMore, State, Stays, StillCarries, TurnsWorld}
+use Rattle.usb_core.specs.declared.submission.SubmitError.{SubmitError}
 use Rattle.usb_model.specs.declared.refused.Refused.{Refused}
 use Rattle.usb_model.specs.declared.refused.Refused.TheVariants.{Busy, HeldElsewhere, InvalidParam, NoDevice, NoMem, NotFound, NotSupported}
 use Rattle.usb_model.specs.declared.reply.Reply.{Reply}

@@ -1,6 +1,6 @@
 -- Memory that C lends, on its way into a transfer and back.
 use Rattle.std.specs.Prelude.{◌≡◌, ℕ, ℤ, pos, Bool, true, false, Option, Some, None}
-use Rattle.usb_core.specs.Public.{Taken}
+use Rattle.usb_core.specs.declared.results.Taken.{Taken}
 use Rattle.tirnouch_c.specs.declared.lent_memory.LentMemory.{LentMemory}
 use Rattle.usb_model.specs.Buffer.{Buffer}
 

@@ -1,7 +1,7 @@
 -- What calls of a slot leave, one behind the other, where some of them feed devices.
 use Rattle.std.specs.Prelude.{◌≡◌, ℕ, ℤ, zero, suc, Bool, List, [], ◌∷◌, ◌++◌, replicate, Some}
 use Rattle.std.specs.Option.{option_to_list}
-use Rattle.usb_core.specs.Public.{Taken}
+use Rattle.usb_core.specs.declared.results.Taken.{Taken}
 use Rattle.usb_model.specs.declared.reply.Reply.{Reply}
 use Rattle.usb_model.specs.declared.reply.Reply.TheVariants as reply
 use Rattle.usb_model.specs.declared.refused.Refused.TheVariants.{NoMem}

@@ -1,7 +1,8 @@
 -- What can be asked without a step.
 use Rattle.std.specs.Prelude.{◌≡◌, ℕ, ℤ, negsuc, ◌+◌, ◌*◌, Bool, List, length, slice_get, Option, Some, None}
 use Rattle.usb_core.specs.Inventory.{halted}
-use Rattle.usb_core.specs.Public.{IsPending, Pending, ShowsWorld, does_something, serves}
+use Rattle.usb_core.specs.Public.{IsPending, ShowsWorld, does_something, serves}
+use Rattle.usb_core.specs.declared.pending.Pending.{Pending}
 use Rattle.usb_model.specs.declared.step.Step.TheVariants.{Command, Deliver, Take}
 use Rattle.usb_model.specs.Setup.{Setup, interface_of}
 use Rattle.usb_model.specs.World.{World, holder}

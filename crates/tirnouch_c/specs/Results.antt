@@ -1,6 +1,7 @@
 -- What is said of results.
 use Rattle.std.specs.Prelude.{◌≡◌, ℕ, ℤ, pos, List, [], Option, Some, None}
-use Rattle.usb_core.specs.Public.{Carries, Kept, ShowsWorld, State, StillCarries, Taken, TurnsWorld, called_entry}
+use Rattle.usb_core.specs.Public.{Carries, Kept, ShowsWorld, State, StillCarries, TurnsWorld, called_entry}
+use Rattle.usb_core.specs.declared.results.Taken.{Taken}
 use Rattle.usb_model.specs.declared.step.Step.TheVariants.{Answer, Take}
 use Rattle.usb_model.specs.declared.verdict.Verdict.TheVariants.{Stop}
 use Rattle.usb_model.specs.Setup.{Setup}

@@ -7,7 +7,8 @@ use Rattle.usb_model.specs.declared.request.Request.{Request}
 use Rattle.usb_model.specs.declared.step.Step.{Step}
 use Rattle.usb_model.specs.declared.step.Step.TheVariants.{Answer, Submit}
 use Rattle.usb_model.specs.declared.verdict.Verdict.TheVariants.{Again, AgainWith}
-use Rattle.usb_core.specs.Public.{State, TurnsWorld, SubmitError}
+use Rattle.usb_core.specs.Public.{State, TurnsWorld}
+use Rattle.usb_core.specs.declared.submission.SubmitError.{SubmitError}
 use Rattle.usb_journal.specs.declared.record.RecordError.{RecordError}
 use Rattle.usb_journal.specs.declared.timer.Timer.{Timer}
 use Rattle.usb_journal.specs.Booked.{answer_entry, turned_down, unless_no_memory}

@@ -9,7 +9,9 @@ use Rattle.usb_model.specs.Setup.{Setup}
 use Rattle.usb_model.specs.World.{World, turn}
 use Rattle.usb_model.specs.World.Journal.{journal_from, run_from}
 use Rattle.usb_model.specs.Machine.Turns.{takes_result}
-use Rattle.usb_core.specs.Public.{Burst, State, Whole, burst_entries, whole_entries}
+use Rattle.usb_core.specs.Public.{State, burst_entries, whole_entries}
+use Rattle.usb_core.specs.declared.step_bursts.Burst.{Burst}
+use Rattle.usb_core.specs.declared.step_bursts.Whole.{Whole}
 use Rattle.usb_core.specs.StepBursts.{whole_entry}
 use Rattle.usb_journal.specs.declared.place.Place.{Place}
 use Rattle.usb_journal.specs.Booked.{world_where}

@@ -25,7 +25,8 @@ use Rattle.usb_model.specs.declared.request.Request.{Request}
 use Rattle.usb_model.specs.declared.verdict.Verdict.TheVariants.{Again, AgainWith, Stop}
 use Rattle.usb_core.specs.Reads.{is_done}
 use Rattle.usb_core.specs.Steps.{kept_after}
-use Rattle.usb_core.specs.Public.{Carries, CarriesMore, Kept, State, StillCarries, TurnsWorld, SubmitError, called_entry, takes_memory}
+use Rattle.usb_core.specs.Public.{Carries, CarriesMore, Kept, State, StillCarries, TurnsWorld, called_entry, takes_memory}
+use Rattle.usb_core.specs.declared.submission.SubmitError.{SubmitError}
 use Rattle.usb_journal.specs.declared.place.Place.{Place}
 use Rattle.usb_journal.specs.declared.timer.Timer.{Timer}
 use Rattle.usb_journal.specs.Booked.{Replays, answer_entry, world_where}

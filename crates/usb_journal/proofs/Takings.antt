@@ -8,7 +8,8 @@ use Rattle.usb_model.specs.declared.step.Step.TheVariants.{Take}
 use Rattle.usb_model.specs.Setup.{Setup}
 use Rattle.usb_model.specs.World.{World}
 use Rattle.usb_model.specs.World.Journal.{journal_from, run_from}
-use Rattle.usb_core.specs.Public.{Carries, CarriesOut, Kept, Taken, called_entry}
+use Rattle.usb_core.specs.Public.{Carries, CarriesOut, Kept, called_entry}
+use Rattle.usb_core.specs.declared.results.Taken.{Taken}
 use Rattle.usb_receipts.specs.Rule.{BeginsWith}
 use Rattle.usb_journal.specs.declared.place.Place.{Place}
 use Rattle.usb_journal.specs.declared.rows.Row.{Row}

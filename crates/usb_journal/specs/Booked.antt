@@ -12,7 +12,8 @@ use Rattle.usb_model.specs.Setup.{Setup}
 use Rattle.usb_model.specs.World.{World, new_world, turn, world_from}
 use Rattle.usb_model.specs.World.Due.{Dated}
 use Rattle.usb_model.specs.World.Journal.{world_run}
-use Rattle.usb_core.specs.Public.{ShowsWorld, State, Stays, StillCarries, SubmitError, does_something}
+use Rattle.usb_core.specs.Public.{ShowsWorld, State, Stays, StillCarries, does_something}
+use Rattle.usb_core.specs.declared.submission.SubmitError.{SubmitError}
 use Rattle.usb_journal.specs.declared.events.Events.{Events}
 use Rattle.usb_journal.specs.declared.place.Place.{Place}
 use Rattle.usb_journal.specs.declared.record.RecordError.{RecordError}

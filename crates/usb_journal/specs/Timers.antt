@@ -5,7 +5,7 @@ use Rattle.usb_model.specs.declared.reply.Reply.TheVariants.{Done, Number}
 use Rattle.usb_model.specs.declared.step.Step.{Step}
 use Rattle.usb_model.specs.declared.step.Step.TheVariants.{Answer, Expire, Submit}
 use Rattle.usb_model.specs.declared.verdict.Verdict.TheVariants.{Again, AgainWith, Stop}
-use Rattle.usb_core.specs.Public.{SubmitError}
+use Rattle.usb_core.specs.declared.submission.SubmitError.{SubmitError}
 use Rattle.std.specs.List.{filter, flat_map}
 use Rattle.usb_model.specs.Setup.{Setup}
 use Rattle.usb_model.specs.World.{World}

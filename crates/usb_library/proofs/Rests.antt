@@ -3,7 +3,8 @@ use Rattle.std.proofs.Common.{◌≡◌, ◌∙◌, Bool, true, false, true≢fa
 use Rattle.std.specs.Prelude.{is_some}
 use Rattle.usb_model.specs.Setup.{Setup}
 use Rattle.usb_model.specs.World.{World}
-use Rattle.usb_core.specs.Public.{IsPending, Pending}
+use Rattle.usb_core.specs.Public.{IsPending}
+use Rattle.usb_core.specs.declared.pending.Pending.{Pending}
 use Rattle.usb_library.specs.Calls.{IsAtRest, is_nothing}
 
 none_if : {A : Type 0} (o : Option A) → is_some o ≡ false → o ≡ None

@@ -14,7 +14,8 @@ use Rattle.usb_model.specs.World.Journal.{run_from}
 use Rattle.usb_journal.specs.declared.events.Events.{Events}
 use Rattle.usb_journal.specs.declared.place.Place.{Place}
 use Rattle.usb_journal.specs.declared.rows.Row.{Row}
-use Rattle.usb_core.specs.Public.{IsPending, Pending, does_something, serves}
+use Rattle.usb_core.specs.Public.{IsPending, does_something, serves}
+use Rattle.usb_core.specs.declared.pending.Pending.{Pending}
 use Rattle.usb_core.specs.Pending.{in_circle}
 use Rattle.usb_journal.specs.Booked.{HasEvents, IsRun, asked, asks, dated, entries_of, next_entry, world_where}
 use Rattle.usb_journal.specs.Seen.{Receipted, places_of, receipts_from}

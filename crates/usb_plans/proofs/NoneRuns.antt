@@ -1,6 +1,6 @@
 -- Names of which no callback runs.
 use Rattle.std.proofs.Common.{◌≡◌, ℕ, List, [], ◌∷◌, ◌++◌, None, zero, suc}
-use Rattle.usb_core.specs.Public.{Taken}
+use Rattle.usb_core.specs.declared.results.Taken.{Taken}
 use Rattle.usb_plans.specs.PlanRuns.{running_at, running_in}
 
 module _ {P : Type 0} where

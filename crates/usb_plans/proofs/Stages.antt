@@ -18,7 +18,8 @@ use Rattle.usb_model.specs.Machine.Calls.{callback_of}
 use Rattle.usb_model.specs.World.{World, new_world, turn, turn_of_nobody}
 use Rattle.usb_model.specs.Laws.Places.{call_of}
 use Rattle.usb_model.specs.World.Plans.{Book, Stage, first_stage, noted, noted_by, returning}
-use Rattle.usb_core.specs.Public.{Carries, Kept, ShowsWorld, State, Taken, TurnsWorld, result_of}
+use Rattle.usb_core.specs.Public.{Carries, Kept, ShowsWorld, State, TurnsWorld, result_of}
+use Rattle.usb_core.specs.declared.results.Taken.{Taken}
 use Rattle.usb_tables.specs.declared.transfer.Transfer.{Transfer as InFlight}
 use Rattle.usb_tables.specs.TransfersInFlight.{EndedOf}
 use Rattle.usb_core.specs.Steps.{GoesOut, first_payload, handed_out, kept_after, kept_by}

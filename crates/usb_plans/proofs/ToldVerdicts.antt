@@ -28,7 +28,7 @@ use Rattle.usb_model.specs.World.{World, machine_of, turn, world_from}
 use Rattle.usb_model.specs.World.Journal.{journal_from, run_from}
 use Rattle.usb_model.specs.World.Plans.{Book, FitsReturn, FitsRule, Stage, is_other_refusal, is_submit, needs_stop, noted_by, return_steps, returning, rule_for, rules_after, stage_after}
 use Rattle.usb_core.specs.Callbacks.{Fits}
-use Rattle.usb_core.specs.Public.{Taken}
+use Rattle.usb_core.specs.declared.results.Taken.{Taken}
 use Rattle.usb_plans.specs.declared.plan_run.Performed.{Performed}
 use Rattle.usb_plans.specs.PlanRuns.{CallsThere, GivesVerdict, IsUnder, MakesAnswer, MakesStep, Performs, PlanState, Returns, ReturnsBy, RunBehindReturn, ShowsBut, ShowsStage, entries_of, of_option, running_at, stage_behind, still_called}
 use Rattle.usb_plans.specs.Returns.{AnswerEnds, IsReached, IsTold, callback_at, ends_callback, is_answer, is_there}

@@ -16,7 +16,8 @@ use Rattle.usb_model.specs.Setup.{Setup}
 use Rattle.usb_model.specs.World.{World, turn}
 use Rattle.usb_model.specs.World.Journal.{run_from}
 use Rattle.usb_model.specs.World.Plans.{FitsReturn, Stage, first_rule, is_submission, noted, return_steps, returning, stage_after}
-use Rattle.usb_core.specs.Public.{Carries, Kept, ShowsWorld, State, Taken}
+use Rattle.usb_core.specs.Public.{Carries, Kept, ShowsWorld, State}
+use Rattle.usb_core.specs.declared.results.Taken.{Taken}
 use Rattle.usb_plans.specs.declared.plan_run.Performed.{Performed}
 use Rattle.usb_plans.specs.Returns.{IsTold, ends_callback, is_answer, is_there}
 

@@ -18,7 +18,7 @@ struct NameCallbacks<C> {
 
 impl<C> Model for NameCallbacks<C> {
     ghost use Rattle.std.specs.Prelude.{ℕ, List};
-    ghost use Rattle.usb_core.specs.Public.{Taken};
+    ghost use Rattle.usb_core.specs.declared.results.Taken.{Taken};
 
     ghost Value = { List (ℕ × Taken C) };
 
@@ -60,7 +60,7 @@ pub(crate) struct RunningCallbacks<C> {
 
 impl<C> Model for RunningCallbacks<C> {
     ghost use Rattle.std.specs.Prelude.{◌≡◌, ℕ, List, length};
-    ghost use Rattle.usb_core.specs.Public.{Taken};
+    ghost use Rattle.usb_core.specs.declared.results.Taken.{Taken};
 
     ghost Value = { List (List (ℕ × Taken C)) };
 

@@ -9,7 +9,9 @@ use Rattle.usb_model.specs.declared.verdict.Verdict.{Verdict}
 use Rattle.usb_model.specs.declared.verdict.Verdict.TheVariants.{Stop}
 use Rattle.usb_model.specs.Numbers.{is_stop}
 use Rattle.usb_model.specs.Setup.{Setup}
-use Rattle.usb_core.specs.Public.{Taken, SubmitError, called_entry, does_something}
+use Rattle.usb_core.specs.Public.{called_entry, does_something}
+use Rattle.usb_core.specs.declared.results.Taken.{Taken}
+use Rattle.usb_core.specs.declared.submission.SubmitError.{SubmitError}
 use Rattle.usb_journal.specs.declared.rows.Outgoing.{Outgoing}
 use Rattle.usb_journal.specs.declared.rows.Row.{Row}
 use Rattle.usb_journal.specs.Booked.{answer_entry, world_where}

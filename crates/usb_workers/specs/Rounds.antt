@@ -10,7 +10,8 @@ use Rattle.usb_model.specs.declared.verdict.Verdict.{Verdict}
 use Rattle.usb_model.specs.declared.verdict.Verdict.TheVariants.{Stop}
 use Rattle.usb_model.specs.Numbers.{is_stop}
 use Rattle.usb_model.specs.Setup.{Setup}
-use Rattle.usb_core.specs.Public.{Pending, called_entry, does_something}
+use Rattle.usb_core.specs.Public.{called_entry, does_something}
+use Rattle.usb_core.specs.declared.pending.Pending.{Pending}
 use Rattle.usb_core.specs.Callbacks.{Fits}
 use Rattle.usb_journal.specs.declared.events.Events.{Events}
 use Rattle.usb_journal.specs.declared.place.Place.{Place}

@@ -1,6 +1,6 @@
 -- A result that went out is told.
 use Rattle.std.proofs.Common.{ℕ, Some, refl}
-use Rattle.usb_core.specs.Public.{Taken}
+use Rattle.usb_core.specs.declared.results.Taken.{Taken}
 use Rattle.tirnouch_c.proofs.Outs.{out_at_once}
 use Rattle.tirnouch_c.proofs.results.take.Goals as goal
 

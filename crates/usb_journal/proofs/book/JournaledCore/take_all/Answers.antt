@@ -2,7 +2,8 @@ use Rattle.std.proofs.Common.{◌≡◌, ◌∙◌, ◌+◌, ◌++◌, ℕ, [], 
 use Rattle.std.specs.Prelude.{replicate}
 use Rattle.std.proofs.lemmas.List.{length-replicate}
 use Rattle.usb_model.specs.declared.step.Step.TheVariants.{Take}
-use Rattle.usb_core.specs.Public.{Taken, called_entry}
+use Rattle.usb_core.specs.Public.{called_entry}
+use Rattle.usb_core.specs.declared.results.Taken.{Taken}
 use Rattle.usb_journal.specs.Booked.{Booked, entries_of}
 use Rattle.usb_journal.specs.Rows.{EntersRow, new_places}
 use Rattle.usb_journal.specs.Seen.{Logged, Positioned, positioned}

@@ -1,5 +1,5 @@
 use Rattle.std.proofs.Common.{◌≡◌, ◌++◌, List, length}
-use Rattle.usb_core.specs.Public.{Taken}
+use Rattle.usb_core.specs.declared.results.Taken.{Taken}
 use Rattle.usb_journal.specs.Entered.{TakesRow}
 use Rattle.usb_journal.proofs.book.JournaledCore.take_more.Given as goal
 
