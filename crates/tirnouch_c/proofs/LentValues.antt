@@ -12,7 +12,7 @@ use denote.Param.{layout}
 use denote.RawPtr.{Ptr, RawPtr, block_ptr, null_ptr, ptr_val}
 use denote.Shadow.{shadow, makes_shadow}
 use denote.Struct.Struct.{Struct}
-use Rattle.tirnouch_c.specs.contracts.lent.LentMemory.{the_row as R}
+use Rattle.tirnouch_c.specs.contracts.lent_memory.LentMemory.{the_row as R}
 
 abbrev pub lent_val : Ptr → ℕ → ℕ → Val
 lent_val p k n = vstruct (vcons (ptr_val p) (vcons (vint w64 k) (vcons (vint w64 n) vnil)))

@@ -26,18 +26,18 @@ made_number (Line n) = negsuc 1
 made_number NoMemory = negsuc 10
 made_number Full = negsuc 5
 
-abbrev pub Creates : Made → List ℕ → Told → (old new : Option Session) → Type 0
-Creates Session-made text told None (Some s) = IsMade text s
-Creates Session-made text told old new = ⊥
-Creates (Line n) text told old new = (desk_of text ≡ Err n) × (told ≡ line_told n) × (old ≡ None) × (new ≡ None)
-Creates NoMemory text told old new = (old ≡ None) × (new ≡ None)
-Creates Full text told None new = ⊥
-Creates Full text told (Some s) new = new ≡ Some s
+abbrev pub CreatesBy : Made → List ℕ → Told → (old new : Option Session) → Type 0
+CreatesBy Session-made text told None (Some s) = IsMade text s
+CreatesBy Session-made text told old new = ⊥
+CreatesBy (Line n) text told old new = (desk_of text ≡ Err n) × (told ≡ line_told n) × (old ≡ None) × (new ≡ None)
+CreatesBy NoMemory text told old new = (old ≡ None) × (new ≡ None)
+CreatesBy Full text told None new = ⊥
+CreatesBy Full text told (Some s) new = new ≡ Some s
 
 pub record Creates (text : List ℕ) (answer : ℤ) (told : Told) (old new : Option Session) : Type 0 where
   pub made : Made
   pub answered : answer ≡ made_number made
-  pub is : Creates made text told old new
+  pub is : CreatesBy made text told old new
 
 -- a session is freed, if there is one
 abbrev pub Destroys : ℤ → (old new : Option Session) → Type 0

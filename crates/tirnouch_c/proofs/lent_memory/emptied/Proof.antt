@@ -25,8 +25,8 @@ use Rattle.std_alloc.specs.Vec.Ownership.{lodged}
 use Rattle.std_alloc.proofs.vec.lodged.Vec+T+Lodged.dislodge.Met as callee
 use Rattle.tirnouch_c.proofs.LentCalls.{byte_laws, Housed, housed-laws, tells, Dislodges, at_dislodge, dislodge_goes, dislodge_gives}
 use Rattle.tirnouch_c.proofs.LentValues.{lent_val, lent_own, lent_made, lent_typed, ptr_typed}
-use Rattle.tirnouch_c.specs.contracts.lent.LentMemory.{the_row as R}
-use Rattle.tirnouch_c.specs.contracts.lent.emptied as f
+use Rattle.tirnouch_c.specs.contracts.lent_memory.LentMemory.{the_row as R}
+use Rattle.tirnouch_c.specs.contracts.lent_memory.emptied as f
 use Rattle.tirnouch_c.proofs.lent_memory.emptied.Statement.{statement}
 use Rattle.tirnouch_c.proofs.lent_memory.emptied.Code as code
 

@@ -28,8 +28,8 @@ use Rattle.std_alloc.specs.declared.vec.lodged.Lodged.{Lodged}
 use Rattle.std_alloc.proofs.vec.lodge.Met as callee
 use Rattle.tirnouch_c.proofs.LentCalls.{byte_laws, Housed, housed-laws, Good, tells, Lodges, at_lodge, IsLodged, lodge_goes, lodge_gives}
 use Rattle.tirnouch_c.proofs.LentValues.{lent_val, lent_told}
-use Rattle.tirnouch_c.specs.contracts.lent.LentMemory.{the_row as R}
-use Rattle.tirnouch_c.specs.contracts.lent.LentMemory.into_vec as f
+use Rattle.tirnouch_c.specs.contracts.lent_memory.LentMemory.{the_row as R}
+use Rattle.tirnouch_c.specs.contracts.lent_memory.LentMemory.into_vec as f
 use Rattle.tirnouch_c.proofs.lent_memory.LentMemory.into_vec.Statement.{statement}
 use Rattle.tirnouch_c.proofs.lent_memory.LentMemory.into_vec.Code as code
 
