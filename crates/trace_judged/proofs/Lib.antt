@@ -2,3 +2,5 @@ mod Judges
 mod Places
 mod Unjudged
 mod Found
+mod Entries
+mod Alike

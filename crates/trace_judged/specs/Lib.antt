@@ -1,4 +1,5 @@
 pub mod Expected
+pub mod Gathered
 pub mod Differences
 pub mod Missing
 pub mod Report

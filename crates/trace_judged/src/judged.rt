@@ -133,8 +133,9 @@ fn judge_all(
     Ok(())
 }
 
-/// The run of a plan under these rules, judged by what is expected: there is a line for each piece, in order. An error
-/// where memory is refused.
+/// The run of a plan under these rules, judged by what is expected: there is a line for each piece, in order. Each packet
+/// that a device takes is looked for among all of `expected`, which is short where its lines are joined by endpoint. An
+/// error where memory is refused.
 pub fn judge(
     alloc: Global,
     expected: &[ExpectedPackets],

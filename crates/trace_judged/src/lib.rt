@@ -7,6 +7,7 @@
 //! # Files
 //!
 //! - `expected.rt`, specs/Expected: what is expected of the packets of an endpoint, and where one differs
+//! - `gathered.rt`, specs/Gathered: the lines joined by endpoint, of which a run is judged
 //! - `difference.rt`, specs/Differences: the packet that a step's device takes, and those of a run that differ
 //! - `missing.rt`, specs/Missing: what never came at an endpoint
 //! - `judged.rt`: a run, and what came of it
@@ -25,6 +26,7 @@
 
 mod difference;
 mod expected;
+mod gathered;
 mod judged;
 mod missing;
 mod sentence;

@@ -8,6 +8,7 @@ ghost use Rattle.trace_scenario.specs.StepLines.{numbered};
 ghost use Rattle.trace_judged.specs.Missing.{is_wanted};
 ghost use Rattle.trace_judged.specs.Text.{expects, judged_text, line_expects, told_text, unexpected_by, unexpected_in};
 
+use crate::gathered::gathered;
 use crate::judged::judge;
 use crate::unexpected::Unexpected;
 use std::alloc::{AllocError, Global};
@@ -62,6 +63,7 @@ fn unexpected_in(
 }
 
 /// What is told of the run of a text's scenario, where its steps' lines have these numbers: nothing where each packet is as expected.
+/// The lines that expect packets are joined by endpoint first.
 pub fn unexpected_by(
     alloc: Global,
     text: &[u8],
@@ -74,8 +76,9 @@ pub fn unexpected_by(
     let Scenario { setup, plan, rules } = scenario;
     let setup = into_setups(alloc, setup)?;
     let expected = read_expected(alloc, text)?;
+    let entries = gathered(alloc, expected)?;
     let (plan, rules) = (plan.as_slice(), rules.as_slice());
-    unexpected_in(alloc, expected.as_slice(), &setup, plan, rules, lines)
+    unexpected_in(alloc, entries.as_slice(), &setup, plan, rules, lines)
 }
 
 /// Its lines; none where there is nothing.
